@@ -1,0 +1,12 @@
+-- How the fields of a `Cell` give the cell.
+use Rattle.std.specs.Prelude.{ℕ, List, Option, Some, None, String, string_bytes}
+use Rattle.termwiz_cell.specs.declared.cell.Cell.TheInside.{Inside}
+use Rattle.termwiz_cell.specs.CellValue.{CellValue, space}
+
+-- the bytes of a text, where none is a space
+abbrev pub text_of : {A : Type 0} → Option (String A) → List ℕ
+text_of None = space
+text_of (Some text) = string_bytes text
+
+abbrev pub cell_value : Inside → CellValue
+cell_value c = record { text = text_of c.text; wide = c.wide; attrs = c.attrs }

@@ -1,0 +1,14 @@
+pub mod Digits
+pub mod StyleWord
+pub mod StyleLaws
+pub mod Link
+pub mod LinkLayout
+pub mod LinkLaws
+pub mod Attributes
+pub mod AttributesLayout
+pub mod Width
+pub mod WidthLaws
+pub mod CellValue
+pub mod CellLayout
+pub mod Lending
+pub mod ChangeValue

@@ -133,3 +133,11 @@ default_attributes = record {
   underline_color = color.Default;
   hyperlink = None;
 }
+
+-- default attributes with this background
+abbrev pub with_background : ColorAttribute → Attributes
+with_background color = record default_attributes { background = color }
+
+-- the attributes are default but for the background
+abbrev pub is_plain : Attributes → Bool
+is_plain a = attributes_eq a (with_background a.background)

@@ -9,12 +9,11 @@ mod attributes;
 mod style;
 mod text;
 
-pub use attributes::CellAttributes;
-pub use style::{Blink, Intensity, SemanticType, Underline, VerticalAlign};
-
 use crate::emoji::{Presentation, UnicodeVersion, Widths};
+pub use attributes::CellAttributes;
 use std::alloc::{AllocError, Global};
 use std::marker::Model;
+pub use style::{Blink, Intensity, SemanticType, Underline, VerticalAlign};
 use text::{cleaned, copied_text, shown_text, stored_text};
 
 /// One cell of a screen: a text, which takes one or two columns, and its attributes.
@@ -128,8 +127,7 @@ impl Cell {
     }
 
     /// How the text is shown: by its variation, where it has one.
-    pub fn presentation<W: Widths>(&self, widths: &W) -> Presentation
-    {
+    pub fn presentation<W: Widths>(&self, widths: &W) -> Presentation {
         let (presentation, variation) = widths.presentation(self.str());
         variation.unwrap_or(presentation)
     }

@@ -4,9 +4,9 @@ ghost use Rattle.std.specs.Cmp.{decided, partial_equiv_from_equiv};
 ghost use Rattle.termwiz_cell.specs.Attributes.{color_eq, option_link_eq};
 ghost use Rattle.termwiz_cell.specs.AttributesLayout as spec;
 
+use super::style::{Blink, Intensity, SemanticType, Style, StyleWord, Underline, VerticalAlign};
 use crate::color::ColorAttribute;
 use crate::hyperlink::Hyperlink;
-use super::style::{Blink, Intensity, SemanticType, Style, StyleWord, Underline, VerticalAlign};
 use std::alloc::{AllocError, Global};
 use std::marker::Model;
 use std::rc::Rc;

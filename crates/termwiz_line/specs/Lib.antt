@@ -1,0 +1,4 @@
+pub mod LineValue
+pub mod Row
+pub mod Shows
+pub mod Entries

@@ -1,0 +1,4 @@
+//! Surfaces: screens that are changed by lists of changes.
+#![tactic(auto)]
+
+pub mod surface;

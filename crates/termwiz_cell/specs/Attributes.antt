@@ -1,5 +1,5 @@
 -- The attributes of a cell, as contracts see them.
-use Rattle.std.specs.Prelude.{◌≡◌, ℕ, Bool, true, false, ◌&&◌, List, [], ◌∷◌, Option, Some, None, bytes_eq, refl}
+use Rattle.std.specs.Prelude.{◌≡◌, ℕ, Bool, true, false, not, ◌&&◌, ◌||◌, is_some, List, [], ◌∷◌, Option, Some, None, bytes_eq, refl}
 use Rattle.std.specs.Bool.{Decides}
 use Rattle.std.specs.Cmp.Lexicographic.{bytes_decides}
 use Rattle.std.proofs.Common.{get_or, ap, ◌∙◌, sym}
@@ -84,25 +84,59 @@ option_link_eq-Decides None (Some b) = (λ e. cc, λ e. cc)
 option_link_eq-Decides (Some a) None = (λ e. cc, λ e. cc)
 option_link_eq-Decides (Some a) (Some b) = Decides-like (link_eq a b) (λ e i. Some (e i)) (λ e. cc) (link_eq-Decides a b)
 
+-- the same attributes with default colours and no link
+abbrev pub without_colors : Attributes → Attributes
+without_colors a = record a { foreground = color.Default; background = color.Default; underline_color = color.Default; hyperlink = None }
+
+-- the attributes that an escape sequence of colours and styles restores: no zone, underline, overline, strike or link
+abbrev pub sgr_only : Attributes → Attributes
+sgr_only a = record a { semantic_type = semantic_at 0; underline = underline_at 0; overline = false; strikethrough = false; hyperlink = None }
+
+abbrev pub is_default : ColorAttribute → Bool
+is_default color.Default = true
+is_default _ = false
+
+abbrev pub is_true_color : ColorAttribute → Bool
+is_true_color (color.TrueColorWithPaletteFallback _ _) = true
+is_true_color (color.TrueColorWithDefaultFallback _) = true
+is_true_color (color.PaletteIndex _) = false
+is_true_color color.Default = false
+
+-- the attributes that take memory: a true colour, an underline colour or a link
+abbrev pub needs_box : Attributes → Bool
+needs_box a = is_true_color a.foreground || (is_true_color a.background || (not (is_default a.underline_color) || is_some a.hyperlink))
+
 module _ (a b : Attributes) where
   bits_inj-at : {T : Type 0} (number : T → ℕ) (at : ℕ → T) (back : (v : T) → at (number v) ≡ v) (k : ℕ) (x y : T) → get_or (bits_of a) k 0 ≡ number x → get_or (bits_of b) k 0 ≡ number y → bits_of a ≡ bits_of b → x ≡ y
   bits_inj-at number at back k x y ex ey e = sym (back x) ∙ ap at (sym ex ∙ ap (λ l. get_or l k 0) e ∙ ey) ∙ back y
 
+  bits_inj : bits_of a ≡ bits_of b → without_colors a ≡ without_colors b
+  bits_inj e i = record {
+    intensity = bits_inj-at intensity_number intensity_at intensity-back 0 a.intensity b.intensity refl refl e i;
+    underline = bits_inj-at underline_number underline_at underline-back 1 a.underline b.underline refl refl e i;
+    blink = bits_inj-at blink_number blink_at blink-back 2 a.blink b.blink refl refl e i;
+    italic = bits_inj-at flag_number flag_at flag-back 3 a.italic b.italic refl refl e i;
+    reverse = bits_inj-at flag_number flag_at flag-back 4 a.reverse b.reverse refl refl e i;
+    strikethrough = bits_inj-at flag_number flag_at flag-back 5 a.strikethrough b.strikethrough refl refl e i;
+    invisible = bits_inj-at flag_number flag_at flag-back 6 a.invisible b.invisible refl refl e i;
+    wrapped = bits_inj-at flag_number flag_at flag-back 7 a.wrapped b.wrapped refl refl e i;
+    overline = bits_inj-at flag_number flag_at flag-back 8 a.overline b.overline refl refl e i;
+    semantic_type = bits_inj-at semantic_number semantic_at semantic-back 9 a.semantic_type b.semantic_type refl refl e i;
+    vertical_align = bits_inj-at vertical_number vertical_at vertical-back 10 a.vertical_align b.vertical_align refl refl e i;
+    foreground = color.Default;
+    background = color.Default;
+    underline_color = color.Default;
+    hyperlink = None;
+  }
+
+  -- attributes of the same numbers differ in colours and link alone
+  pub same-bits : (bits_of a ≡ bits_of b → without_colors a ≡ without_colors b) × (without_colors a ≡ without_colors b → bits_of a ≡ bits_of b)
+  same-bits = (bits_inj, ap bits_of)
+
   pub attributes_eq-Decides : Decides (attributes_eq a b) (a ≡ b)
   attributes_eq-Decides =
       Decides-like (attributes_eq a b)
-      (λ e i. record {
-        intensity = bits_inj-at intensity_number intensity_at intensity-back 0 a.intensity b.intensity refl refl e.0 i;
-        underline = bits_inj-at underline_number underline_at underline-back 1 a.underline b.underline refl refl e.0 i;
-        blink = bits_inj-at blink_number blink_at blink-back 2 a.blink b.blink refl refl e.0 i;
-        italic = bits_inj-at flag_number flag_at flag-back 3 a.italic b.italic refl refl e.0 i;
-        reverse = bits_inj-at flag_number flag_at flag-back 4 a.reverse b.reverse refl refl e.0 i;
-        strikethrough = bits_inj-at flag_number flag_at flag-back 5 a.strikethrough b.strikethrough refl refl e.0 i;
-        invisible = bits_inj-at flag_number flag_at flag-back 6 a.invisible b.invisible refl refl e.0 i;
-        wrapped = bits_inj-at flag_number flag_at flag-back 7 a.wrapped b.wrapped refl refl e.0 i;
-        overline = bits_inj-at flag_number flag_at flag-back 8 a.overline b.overline refl refl e.0 i;
-        semantic_type = bits_inj-at semantic_number semantic_at semantic-back 9 a.semantic_type b.semantic_type refl refl e.0 i;
-        vertical_align = bits_inj-at vertical_number vertical_at vertical-back 10 a.vertical_align b.vertical_align refl refl e.0 i;
+      (λ e i. record (bits_inj e.0 i) {
         foreground = e.1.0 i;
         background = e.1.1.0 i;
         underline_color = e.1.1.1.0 i;

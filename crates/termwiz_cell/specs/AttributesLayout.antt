@@ -3,10 +3,11 @@ use Rattle.std.specs.Prelude.{◌≡◌, ℕ, Bool, true, false, ◌&&◌, Optio
 use Rattle.std.specs.declared.rc.Rc.{Rc}
 use Rattle.termwiz_cell.specs.declared.color.ColorAttribute.{ColorAttribute}
 use Rattle.termwiz_cell.specs.declared.color.ColorAttribute.TheVariants as color
-use Rattle.termwiz_cell.specs.declared.cell.attributes.FatAttributes.{FatAttributes}
+use Rattle.termwiz_cell.specs.declared.cell.fat.FatAttributes.{FatAttributes}
 use Rattle.termwiz_cell.specs.declared.cell.attributes.CellAttributes.TheInside.{Inside}
 use Rattle.termwiz_cell.specs.Link.{Link}
-use Rattle.termwiz_cell.specs.Attributes.{Attributes}
+use Rattle.termwiz_cell.specs.declared.cell.style.Style.{Style}
+use Rattle.termwiz_cell.specs.Attributes.{Attributes, is_default, color_eq, option_link_eq}
 
 -- the attributes that few cells have
 pub record Rare : Type 0 where
@@ -18,6 +19,10 @@ pub record Rare : Type 0 where
 abbrev pub rare_default : Rare
 rare_default = record { foreground = color.Default; background = color.Default; underline_color = color.Default; hyperlink = None }
 
+-- `==` of rare attributes
+abbrev pub rare_eq : Rare → Rare → Bool
+rare_eq a b = color_eq a.foreground b.foreground && (color_eq a.background b.background && (color_eq a.underline_color b.underline_color && option_link_eq a.hyperlink b.hyperlink))
+
 abbrev pub linked : {A : Type 0} → Option (Rc Link A) → Option Link
 linked link = option_map (λ rc. rc.value) link
 
@@ -27,10 +32,6 @@ fat_rare f = record { foreground = f.foreground; background = f.background; unde
 abbrev pub rare_of : {A : Type 0} → Option (Box FatAttributes A) → Rare
 rare_of None = rare_default
 rare_of (Some b) = fat_rare b.value
-
-abbrev pub is_default : ColorAttribute → Bool
-is_default color.Default = true
-is_default _ = false
 
 abbrev pub is_rare_default : Rare → Bool
 is_rare_default r = is_default r.foreground && (is_default r.background && (is_default r.underline_color && is_none r.hyperlink))
@@ -48,21 +49,49 @@ shown (color.TrueColorWithPaletteFallback c index) _ = color.TrueColorWithPalett
 shown (color.TrueColorWithDefaultFallback c) _ = color.TrueColorWithDefaultFallback c
 shown (color.PaletteIndex index) _ = color.PaletteIndex index
 
-abbrev pub attributes_of : Inside → Attributes
-attributes_of a = record {
-  intensity = a.style.intensity;
-  underline = a.style.underline;
-  blink = a.style.blink;
-  italic = a.style.italic;
-  reverse = a.style.reverse;
-  strikethrough = a.style.strikethrough;
-  invisible = a.style.invisible;
-  wrapped = a.style.wrapped;
-  overline = a.style.overline;
-  semantic_type = a.style.semantic_type;
-  vertical_align = a.style.vertical_align;
-  foreground = shown (rare_of a.fat).foreground a.style.foreground;
-  background = shown (rare_of a.fat).background a.style.background;
-  underline_color = (rare_of a.fat).underline_color;
-  hyperlink = (rare_of a.fat).hyperlink;
+-- the part of a colour that is rare
+abbrev pub rare_part : ColorAttribute → ColorAttribute
+rare_part (color.TrueColorWithPaletteFallback c index) = color.TrueColorWithPaletteFallback c index
+rare_part (color.TrueColorWithDefaultFallback c) = color.TrueColorWithDefaultFallback c
+rare_part (color.PaletteIndex _) = color.Default
+rare_part color.Default = color.Default
+
+-- the part of a colour that the word has
+abbrev pub palette_part : ColorAttribute → Option ℕ
+palette_part (color.PaletteIndex index) = Some index
+palette_part _ = None
+
+-- a rare colour is a true one, and then the palette has none
+abbrev pub is_apart : ColorAttribute → Option ℕ → Bool
+is_apart color.Default _ = true
+is_apart (color.TrueColorWithPaletteFallback _ _) index = is_none index
+is_apart (color.TrueColorWithDefaultFallback _) index = is_none index
+is_apart (color.PaletteIndex _) _ = false
+
+abbrev pub attributes_from : Style → Rare → Attributes
+attributes_from style rare = record {
+  intensity = style.intensity;
+  underline = style.underline;
+  blink = style.blink;
+  italic = style.italic;
+  reverse = style.reverse;
+  strikethrough = style.strikethrough;
+  invisible = style.invisible;
+  wrapped = style.wrapped;
+  overline = style.overline;
+  semantic_type = style.semantic_type;
+  vertical_align = style.vertical_align;
+  foreground = shown rare.foreground style.foreground;
+  background = shown rare.background style.background;
+  underline_color = rare.underline_color;
+  hyperlink = rare.hyperlink;
 }
+
+abbrev pub attributes_of : Inside → Attributes
+attributes_of a = attributes_from a.style (rare_of a.fat)
+
+-- attributes have one form
+pub record IsSound (a : Inside) : Type 0 where
+  pub needed : IsNeeded a.fat
+  pub foreground : is_apart (rare_of a.fat).foreground a.style.foreground ≡ true
+  pub background : is_apart (rare_of a.fat).background a.style.background ≡ true

@@ -1,5 +1,5 @@
 -- How the fields of a `Cell` give the cell.
-use Rattle.std.specs.Prelude.{ℕ, List, Option, Some, None, String, string_bytes}
+use Rattle.std.specs.Prelude.{◌≡◌, ℕ, false, List, Option, Some, None, String, string_bytes, bytes_eq, ⊤}
 use Rattle.termwiz_cell.specs.declared.cell.Cell.TheInside.{Inside}
 use Rattle.termwiz_cell.specs.CellValue.{CellValue, space}
 
@@ -7,6 +7,11 @@ use Rattle.termwiz_cell.specs.CellValue.{CellValue, space}
 abbrev pub text_of : {A : Type 0} → Option (String A) → List ℕ
 text_of None = space
 text_of (Some text) = string_bytes text
+
+-- a space is stored as none
+abbrev pub IsStoredText : {A : Type 0} → Option (String A) → Type 0
+IsStoredText None = ⊤
+IsStoredText (Some text) = bytes_eq (string_bytes text) space ≡ false
 
 abbrev pub cell_value : Inside → CellValue
 cell_value c = record { text = text_of c.text; wide = c.wide; attrs = c.attrs }

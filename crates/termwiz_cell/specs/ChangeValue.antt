@@ -1,18 +1,22 @@
 -- What a change says, with its texts as bytes and its attributes as values.
-use Rattle.std.specs.Prelude.{◌≡◌, ℕ, ℤ, Bool, false, ◌&&◌, List, Option, string_bytes, bytes_eq}
-use Rattle.std.specs.Bool.{Decides, beq}
-use Rattle.std.specs.Cmp.{booleans_Decides}
+use Rattle.std.specs.Prelude.{◌≡◌, ℕ, Bool, true, false, ◌&&◌, ◌==◌, List, string_bytes, bytes_eq, refl}
+use Rattle.std.specs.Bool.{Decides}
+use Rattle.std.specs.Ordering.{int_eq}
 use Rattle.std.specs.Cmp.Lexicographic.{bytes_decides}
-use Rattle.std.proofs.lemmas.Bool.Decides.{Decides-like}
+use Rattle.std.proofs.lemmas.Bool.Decides.{Decides-like, Decides-and, Decides-eqb, Decides-int_eq}
 use Rattle.std.proofs.Common.{ap}
 use Rattle.termwiz_cell.specs.declared.color.ColorAttribute.{ColorAttribute}
-use Rattle.termwiz_cell.specs.Attributes.{Attributes}
+use Rattle.termwiz_cell.specs.Attributes.{Attributes, color_eq, color_eq-Decides, attributes_eq, attributes_eq-Decides}
+use Rattle.termwiz_cell.specs.AttributeChangeValue.{AttributeChangeValue, attribute_change_value, attribute_change_eq, attribute_change_eq-Decides}
 use Rattle.termwiz_cell.specs.declared.change.Position.{Position}
+use Rattle.termwiz_cell.specs.declared.change.Position.TheVariants.{Relative, Absolute, EndRelative}
 use Rattle.termwiz_cell.specs.declared.change.CursorVisibility as cursor
+use Rattle.termwiz_cell.specs.declared.change.CursorVisibility.TheVariants.{Hidden, Visible}
 use Rattle.termwiz_cell.specs.declared.change.Change.{Change}
 use Rattle.termwiz_cell.specs.declared.change.Change.TheVariants as code
 
 pub data ChangeValue : Type 0 where
+  Attribute : (change : AttributeChangeValue) → ChangeValue
   AllAttributes : (attrs : Attributes) → ChangeValue
   Text : (text : List ℕ) → ChangeValue
   ClearScreen : (color : ColorAttribute) → ChangeValue
@@ -22,6 +26,7 @@ pub data ChangeValue : Type 0 where
   CursorVisibility : (visibility : cursor.CursorVisibility) → ChangeValue
 
 abbrev pub change_value : Change → ChangeValue
+change_value (code.Attribute change) = Attribute (attribute_change_value change)
 change_value (code.AllAttributes attrs) = AllAttributes attrs
 change_value (code.Text text) = Text (string_bytes text)
 change_value (code.ClearScreen color) = ClearScreen color
@@ -29,3 +34,59 @@ change_value (code.ClearToEndOfLine color) = ClearToEndOfLine color
 change_value (code.ClearToEndOfScreen color) = ClearToEndOfScreen color
 change_value (code.CursorPosition x y) = CursorPosition x y
 change_value (code.CursorVisibility visibility) = CursorVisibility visibility
+
+-- the change prints a text
+abbrev pub is_text : ChangeValue → Bool
+is_text (Text text) = true
+is_text _ = false
+
+-- `==` of positions
+abbrev pub position_eq : Position → Position → Bool
+position_eq (Relative a) (Relative b) = int_eq a b
+position_eq (Absolute a) (Absolute b) = a == b
+position_eq (EndRelative a) (EndRelative b) = a == b
+position_eq _ _ = false
+
+pub position_eq-Decides : (a b : Position) → Decides (position_eq a b) (a ≡ b)
+position_eq-Decides (Relative a) (Relative b) = Decides-like (int_eq a b) (ap Relative) (λ e. cc) (Decides-int_eq a b)
+position_eq-Decides (Absolute a) (Absolute b) = Decides-like (a == b) (ap Absolute) (λ e. cc) (Decides-eqb a b)
+position_eq-Decides (EndRelative a) (EndRelative b) = Decides-like (a == b) (ap EndRelative) (λ e. cc) (Decides-eqb a b)
+position_eq-Decides _ _ = ((λ e. cc), (λ e. cc))
+
+-- `==` of visibilities
+abbrev pub visibility_eq : cursor.CursorVisibility → cursor.CursorVisibility → Bool
+visibility_eq Hidden Hidden = true
+visibility_eq Visible Visible = true
+visibility_eq _ _ = false
+
+pub visibility_eq-Decides : (a b : cursor.CursorVisibility) → Decides (visibility_eq a b) (a ≡ b)
+visibility_eq-Decides Hidden Hidden = ((λ _. refl), (λ _. refl))
+visibility_eq-Decides Visible Visible = ((λ _. refl), (λ _. refl))
+visibility_eq-Decides _ _ = ((λ e. cc), (λ e. cc))
+
+-- `==` of changes
+abbrev pub change_eq : ChangeValue → ChangeValue → Bool
+change_eq (Attribute a) (Attribute b) = attribute_change_eq a b
+change_eq (AllAttributes a) (AllAttributes b) = attributes_eq a b
+change_eq (Text a) (Text b) = bytes_eq a b
+change_eq (ClearScreen a) (ClearScreen b) = color_eq a b
+change_eq (ClearToEndOfLine a) (ClearToEndOfLine b) = color_eq a b
+change_eq (ClearToEndOfScreen a) (ClearToEndOfScreen b) = color_eq a b
+change_eq (CursorPosition a b) (CursorPosition c d) = position_eq a c && position_eq b d
+change_eq (CursorVisibility a) (CursorVisibility b) = visibility_eq a b
+change_eq _ _ = false
+
+pub change_eq-Decides : (a b : ChangeValue) → Decides (change_eq a b) (a ≡ b)
+change_eq-Decides (Attribute a) (Attribute b) = Decides-like (attribute_change_eq a b) (ap Attribute) (λ e. cc) (attribute_change_eq-Decides a b)
+change_eq-Decides (AllAttributes a) (AllAttributes b) = Decides-like (attributes_eq a b) (ap AllAttributes) (λ e. cc) (attributes_eq-Decides a b)
+change_eq-Decides (Text a) (Text b) = Decides-like (bytes_eq a b) (ap Text) (λ e. cc) (bytes_decides a b)
+change_eq-Decides (ClearScreen a) (ClearScreen b) = Decides-like (color_eq a b) (ap ClearScreen) (λ e. cc) (color_eq-Decides a b)
+change_eq-Decides (ClearToEndOfLine a) (ClearToEndOfLine b) = Decides-like (color_eq a b) (ap ClearToEndOfLine) (λ e. cc) (color_eq-Decides a b)
+change_eq-Decides (ClearToEndOfScreen a) (ClearToEndOfScreen b) = Decides-like (color_eq a b) (ap ClearToEndOfScreen) (λ e. cc) (color_eq-Decides a b)
+change_eq-Decides (CursorPosition a b) (CursorPosition c d) =
+    Decides-like (position_eq a c && position_eq b d)
+    (λ e i. CursorPosition (e.0 i) (e.1 i))
+    (λ e. (cc, cc))
+    (Decides-and (position_eq a c) (position_eq b d) (position_eq-Decides a c) (position_eq-Decides b d))
+change_eq-Decides (CursorVisibility a) (CursorVisibility b) = Decides-like (visibility_eq a b) (ap CursorVisibility) (λ e. cc) (visibility_eq-Decides a b)
+change_eq-Decides _ _ = ((λ e. cc), (λ e. cc))

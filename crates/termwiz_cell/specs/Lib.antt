@@ -4,6 +4,9 @@ pub mod StyleLaws
 pub mod Link
 pub mod LinkLayout
 pub mod LinkLaws
+pub mod LinkText
+pub mod LinkPairs
+pub mod LinkParse
 pub mod Attributes
 pub mod AttributesLayout
 pub mod Width
@@ -11,4 +14,10 @@ pub mod WidthLaws
 pub mod CellValue
 pub mod CellLayout
 pub mod Lending
+pub mod AttributeChangeValue
 pub mod ChangeValue
+pub mod AnsiColor
+pub mod ColorSpec
+pub mod ColorText
+pub mod Rgb
+pub mod Reads

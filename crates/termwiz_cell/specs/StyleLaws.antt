@@ -1,5 +1,8 @@
 -- A packed style reads back.
-use Rattle.std.proofs.Common.{◌≡◌, ℕ, ◌/◌, ◌%◌, ◌^◌, ◌<◌, arith, refl, Bool, true, false, Option, Some, None, ap, ◌∙◌}
+use Rattle.std.proofs.Common.{◌≡◌, ℕ, zero, suc, List, [], ◌∷◌, get_or, ◌/◌, ◌%◌, ◌^◌, ◌<◌, ◌==◌, arith, refl, Bool, true, false, Option, Some, None, ap, sym, ◌∙◌}
+use Rattle.std.specs.Bool.{Decides}
+use Rattle.std.proofs.Math.Dec.{eqb-suc-zero}
+use Rattle.std.proofs.lemmas.Bool.Decides.{Decides-like, Decides-eqb}
 use Rattle.termwiz_cell.specs.Digits as digits
 use Rattle.termwiz_cell.specs.declared.cell.style.Intensity.{Intensity}
 use Rattle.termwiz_cell.specs.declared.cell.style.Intensity.TheVariants.{Normal, Bold, Half}
@@ -12,7 +15,7 @@ use Rattle.termwiz_cell.specs.declared.cell.style.SemanticType.TheVariants.{Outp
 use Rattle.termwiz_cell.specs.declared.cell.style.VerticalAlign.{VerticalAlign}
 use Rattle.termwiz_cell.specs.declared.cell.style.VerticalAlign.TheVariants.{BaseLine, SuperScript, SubScript}
 use Rattle.termwiz_cell.specs.declared.cell.style.Style.{Style}
-use Rattle.termwiz_cell.specs.StyleWord.{intensity_number, intensity_at, underline_number, underline_at, blink_number, blink_at, semantic_number, semantic_at, vertical_number, vertical_at, flag_number, flag_at, palette_number, palette_at, style_at, word_of, IsStyleWord, HasPalette, IsPalette}
+use Rattle.termwiz_cell.specs.StyleWord.{intensity_number, intensity_at, underline_number, underline_at, blink_number, blink_at, intensity_eq, underline_eq, blink_eq, semantic_number, semantic_at, vertical_number, vertical_at, flag_number, flag_at, palette_number, palette_at, style_at, word_of, bits_at, IsStyleWord, HasPalette, IsPalette}
 
 intensity-lt : (v : Intensity) → intensity_number v < 3
 intensity-lt Normal = omega arith
@@ -85,6 +88,111 @@ palette-lt (Some n) h = omega arith
 palette-back : (v : Option ℕ) → palette_at (palette_number v) ≡ v
 palette-back None = refl
 palette-back (Some n) = grind arith
+
+intensity-there : (n : ℕ) → n < 3 → intensity_number (intensity_at n) ≡ n
+intensity-there zero h = refl
+intensity-there (suc zero) h = refl
+intensity-there (suc (suc zero)) h = refl
+intensity-there (suc (suc (suc n))) h = absurd (omega arith)
+
+underline-there : (n : ℕ) → n < 6 → underline_number (underline_at n) ≡ n
+underline-there zero h = refl
+underline-there (suc zero) h = refl
+underline-there (suc (suc zero)) h = refl
+underline-there (suc (suc (suc zero))) h = refl
+underline-there (suc (suc (suc (suc zero)))) h = refl
+underline-there (suc (suc (suc (suc (suc zero))))) h = refl
+underline-there (suc (suc (suc (suc (suc (suc n)))))) h = absurd (omega arith)
+
+blink-there : (n : ℕ) → n < 3 → blink_number (blink_at n) ≡ n
+blink-there zero h = refl
+blink-there (suc zero) h = refl
+blink-there (suc (suc zero)) h = refl
+blink-there (suc (suc (suc n))) h = absurd (omega arith)
+
+semantic-there : (n : ℕ) → n < 3 → semantic_number (semantic_at n) ≡ n
+semantic-there zero h = refl
+semantic-there (suc zero) h = refl
+semantic-there (suc (suc zero)) h = refl
+semantic-there (suc (suc (suc n))) h = absurd (omega arith)
+
+vertical-there : (n : ℕ) → n < 3 → vertical_number (vertical_at n) ≡ n
+vertical-there zero h = refl
+vertical-there (suc zero) h = refl
+vertical-there (suc (suc zero)) h = refl
+vertical-there (suc (suc (suc n))) h = absurd (omega arith)
+
+flag-there : (n : ℕ) → n < 2 → flag_number (flag_at n) ≡ n
+flag-there zero h = refl
+flag-there (suc zero) h = refl
+flag-there (suc (suc n)) h = absurd (omega arith)
+
+palette-there : (n : ℕ) → palette_number (palette_at n) ≡ n
+palette-there zero = refl
+palette-there (suc n) = rw (eqb-suc-zero n) (omega arith)
+
+-- a word is the one that spells its style
+pub word_of-style_at : (w : ℕ) → IsStyleWord w → word_of (style_at w) ≡ w
+word_of-style_at w h =
+    (λ i. digits.whole
+    (intensity-there (w % 4) h.intensity i) (underline-there (w / 2 ^ 2 % 8) h.underline i) (blink-there (w / 2 ^ 5 % 4) h.blink i)
+    (flag-there (w / 2 ^ 7 % 2) (omega arith) i) (flag-there (w / 2 ^ 8 % 2) (omega arith) i) (flag-there (w / 2 ^ 9 % 2) (omega arith) i)
+    (flag-there (w / 2 ^ 10 % 2) (omega arith) i) (flag-there (w / 2 ^ 11 % 2) (omega arith) i) (flag-there (w / 2 ^ 12 % 2) (omega arith) i)
+    (semantic-there (w / 2 ^ 13 % 4) h.semantic_type i) (vertical-there (w / 2 ^ 15 % 4) h.vertical_align i)
+    (palette-there (w / 2 ^ 17 % 512) i) (palette-there (w / 2 ^ 26 % 512) i))
+    ∙ digits.whole-digits w h.whole
+
+-- words that spell one style are the same
+pub same-words : (w v : ℕ) → IsStyleWord w → IsStyleWord v → Decides (w == v) (style_at w ≡ style_at v)
+same-words w v hw hv = Decides-like (w == v) (ap style_at) (λ e. sym (word_of-style_at w hw) ∙ ap word_of e ∙ word_of-style_at v hv) (Decides-eqb w v)
+
+module _ (w v : ℕ) (hw : IsStyleWord w) (hv : IsStyleWord v) where
+  digit-at : {T : Type 0} (number : T → ℕ) (at : ℕ → T) (k x y : ℕ) → number (at x) ≡ x → number (at y) ≡ y → get_or (bits_at (style_at w)) k 0 ≡ number (at x) → get_or (bits_at (style_at v)) k 0 ≡ number (at y) → bits_at (style_at w) ≡ bits_at (style_at v) → x ≡ y
+  digit-at number at k x y tx ty ex ey e = sym tx ∙ sym ex ∙ ap (λ l. get_or l k 0) e ∙ ey ∙ ty
+
+  low-from_bits : bits_at (style_at w) ≡ bits_at (style_at v) → w % 2 ^ 17 ≡ v % 2 ^ 17
+  low-from_bits e =
+      digits.low_digits w v
+      (digit-at intensity_number intensity_at 0 (w % 4) (v % 4) (intensity-there (w % 4) hw.intensity) (intensity-there (v % 4) hv.intensity) refl refl e)
+      (digit-at underline_number underline_at 1 (w / 2 ^ 2 % 8) (v / 2 ^ 2 % 8) (underline-there (w / 2 ^ 2 % 8) hw.underline) (underline-there (v / 2 ^ 2 % 8) hv.underline) refl refl e)
+      (digit-at blink_number blink_at 2 (w / 2 ^ 5 % 4) (v / 2 ^ 5 % 4) (blink-there (w / 2 ^ 5 % 4) hw.blink) (blink-there (v / 2 ^ 5 % 4) hv.blink) refl refl e)
+      (digit-at flag_number flag_at 3 (w / 2 ^ 7 % 2) (v / 2 ^ 7 % 2) (flag-there (w / 2 ^ 7 % 2) (omega arith)) (flag-there (v / 2 ^ 7 % 2) (omega arith)) refl refl e)
+      (digit-at flag_number flag_at 4 (w / 2 ^ 8 % 2) (v / 2 ^ 8 % 2) (flag-there (w / 2 ^ 8 % 2) (omega arith)) (flag-there (v / 2 ^ 8 % 2) (omega arith)) refl refl e)
+      (digit-at flag_number flag_at 5 (w / 2 ^ 9 % 2) (v / 2 ^ 9 % 2) (flag-there (w / 2 ^ 9 % 2) (omega arith)) (flag-there (v / 2 ^ 9 % 2) (omega arith)) refl refl e)
+      (digit-at flag_number flag_at 6 (w / 2 ^ 10 % 2) (v / 2 ^ 10 % 2) (flag-there (w / 2 ^ 10 % 2) (omega arith)) (flag-there (v / 2 ^ 10 % 2) (omega arith)) refl refl e)
+      (digit-at flag_number flag_at 7 (w / 2 ^ 11 % 2) (v / 2 ^ 11 % 2) (flag-there (w / 2 ^ 11 % 2) (omega arith)) (flag-there (v / 2 ^ 11 % 2) (omega arith)) refl refl e)
+      (digit-at flag_number flag_at 8 (w / 2 ^ 12 % 2) (v / 2 ^ 12 % 2) (flag-there (w / 2 ^ 12 % 2) (omega arith)) (flag-there (v / 2 ^ 12 % 2) (omega arith)) refl refl e)
+      (digit-at semantic_number semantic_at 9 (w / 2 ^ 13 % 4) (v / 2 ^ 13 % 4) (semantic-there (w / 2 ^ 13 % 4) hw.semantic_type) (semantic-there (v / 2 ^ 13 % 4) hv.semantic_type) refl refl e)
+      (digit-at vertical_number vertical_at 10 (w / 2 ^ 15 % 4) (v / 2 ^ 15 % 4) (vertical-there (w / 2 ^ 15 % 4) hw.vertical_align) (vertical-there (v / 2 ^ 15 % 4) hv.vertical_align) refl refl e)
+
+-- the small attributes of a word, by its low bits
+abbrev low_bits : ℕ → List ℕ
+low_bits n = bits_at (style_at n)
+
+low_bits-mod : (w : ℕ) → low_bits (w % 2 ^ 17) ≡ low_bits w
+low_bits-mod w =
+    λ i. intensity_number (intensity_at (digits.low-a w i)) ∷ underline_number (underline_at (digits.low-b w i)) ∷ blink_number (blink_at (digits.low-c w i)) ∷ flag_number (flag_at (digits.low-d w i)) ∷ flag_number (flag_at (digits.low-e w i)) ∷ flag_number (flag_at (digits.low-f w i)) ∷ flag_number (flag_at (digits.low-g w i)) ∷ flag_number (flag_at (digits.low-h w i)) ∷ flag_number (flag_at (digits.low-i w i)) ∷ semantic_number (semantic_at (digits.low-j w i)) ∷ vertical_number (vertical_at (digits.low-k w i)) ∷ []
+
+-- words of the same small attributes agree below the palettes
+pub same-bits : (w v : ℕ) → IsStyleWord w → IsStyleWord v → Decides (w % 2 ^ 17 == v % 2 ^ 17) (bits_at (style_at w) ≡ bits_at (style_at v))
+same-bits w v hw hv =
+    Decides-like (w % 2 ^ 17 == v % 2 ^ 17)
+    (λ e. sym (low_bits-mod w) ∙ ap low_bits e ∙ low_bits-mod v)
+    (low-from_bits w v hw hv)
+    (Decides-eqb (w % 2 ^ 17) (v % 2 ^ 17))
+
+-- values that their numbers tell apart are compared by them
+numbers-Decide : {T : Type 0} (number : T → ℕ) (at : ℕ → T) (back : (v : T) → at (number v) ≡ v) (a b : T) → Decides (number a == number b) (a ≡ b)
+numbers-Decide number at back a b = Decides-like (number a == number b) (λ e. sym (back a) ∙ ap at e ∙ back b) (ap number) (Decides-eqb (number a) (number b))
+
+pub intensity_eq-Decides : (a b : Intensity) → Decides (intensity_eq a b) (a ≡ b)
+intensity_eq-Decides = numbers-Decide intensity_number intensity_at intensity-back
+
+pub underline_eq-Decides : (a b : Underline) → Decides (underline_eq a b) (a ≡ b)
+underline_eq-Decides = numbers-Decide underline_number underline_at underline-back
+
+pub blink_eq-Decides : (a b : Blink) → Decides (blink_eq a b) (a ≡ b)
+blink_eq-Decides = numbers-Decide blink_number blink_at blink-back
 
 module _ (s : Style) (h : HasPalette s) where
   intensity-digit : word_of s % 4 ≡ intensity_number s.intensity

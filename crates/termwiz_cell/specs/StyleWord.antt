@@ -21,6 +21,9 @@ intensity_number Half = 2
 abbrev pub intensity_at : ℕ → Intensity
 intensity_at n = if n == 0 then Normal else if n == 1 then Bold else Half
 
+abbrev pub intensity_eq : Intensity → Intensity → Bool
+intensity_eq a b = intensity_number a == intensity_number b
+
 abbrev pub underline_number : Underline → ℕ
 underline_number underline.None = 0
 underline_number underline.Single = 1
@@ -38,6 +41,14 @@ underline_at n =
     else if n == 4 then underline.Dotted
     else underline.Dashed
 
+abbrev pub underline_eq : Underline → Underline → Bool
+underline_eq a b = underline_number a == underline_number b
+
+-- there is a line
+abbrev pub is_underlined : Underline → Bool
+is_underlined underline.None = false
+is_underlined _ = true
+
 abbrev pub blink_number : Blink → ℕ
 blink_number blink.None = 0
 blink_number blink.Slow = 1
@@ -45,6 +56,14 @@ blink_number blink.Rapid = 2
 
 abbrev pub blink_at : ℕ → Blink
 blink_at n = if n == 0 then blink.None else if n == 1 then blink.Slow else blink.Rapid
+
+abbrev pub blink_eq : Blink → Blink → Bool
+blink_eq a b = blink_number a == blink_number b
+
+-- there is a rhythm
+abbrev pub is_blinking : Blink → Bool
+is_blinking blink.None = false
+is_blinking _ = true
 
 abbrev pub semantic_number : SemanticType → ℕ
 semantic_number Output = 0
@@ -124,3 +143,7 @@ HasPalette s = IsPalette s.foreground × IsPalette s.background
 -- the attributes that are no colour and no link, as numbers
 abbrev pub bits_at : Style → List ℕ
 bits_at a = intensity_number a.intensity ∷ underline_number a.underline ∷ blink_number a.blink ∷ flag_number a.italic ∷ flag_number a.reverse ∷ flag_number a.strikethrough ∷ flag_number a.invisible ∷ flag_number a.wrapped ∷ flag_number a.overline ∷ semantic_number a.semantic_type ∷ vertical_number a.vertical_align ∷ []
+
+-- the style with no zone, underline, overline and strike through
+abbrev pub style_sgr_only : Style → Style
+style_sgr_only a = record a { semantic_type = Output; underline = underline.None; overline = false; strikethrough = false }

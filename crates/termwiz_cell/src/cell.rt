@@ -1,22 +1,31 @@
 //! Cells.
-ghost use Rattle.std.specs.Prelude.{◌≡◌, ◌↔◌, ◌≤◌, IsTrue, IfOk, encode_utf8};
+ghost use Rattle.std.specs.Prelude.{◌≡◌, ◌↔◌, ◌≤◌, false, IsTrue, IfOk, IsOk, encode_utf8, unwrap_or};
 ghost use Rattle.std.specs.Borrow.{sem};
 ghost use Rattle.std.specs.Cmp.{decided, partial_equiv_from_equiv};
-ghost use Rattle.termwiz_cell.specs.CellValue.{blank, blank_of, clean, cell_of, measured, columns, cell_eq, cell_eq-Decides};
-ghost use Rattle.termwiz_cell.specs.Width.{at_version};
+ghost use Rattle.termwiz_cell.specs.CellValue.{space, blank, blank_of, clean, cell_of, measured, columns, cell_eq, cell_eq-Decides};
+ghost use Rattle.termwiz_cell.specs.Attributes.{needs_box};
+ghost use Rattle.termwiz_cell.specs.Width.{at_version, unversioned};
 
+mod attribute_change;
 mod attributes;
+mod fat;
 mod style;
+mod style_word;
 mod text;
 
 use crate::emoji::{Presentation, UnicodeVersion, Widths};
+pub use attribute_change::AttributeChange;
 pub use attributes::CellAttributes;
 use std::alloc::{AllocError, Global};
 use std::marker::Model;
 pub use style::{Blink, Intensity, SemanticType, Underline, VerticalAlign};
-use text::{cleaned, copied_text, shown_text, stored_text};
+use text::{cleaned, copied_text, is_same_text, shown_text, stored_text};
 
 /// One cell of a screen: a text, which takes one or two columns, and its attributes.
+///
+/// The text is mostly one grapheme. The empty text, CR LF and each single control character
+/// become a space, so each cell can be shown, and a width of 0 becomes 1. A space takes no
+/// memory.
 #[derive(Drop, Debug)]
 pub struct Cell {
     // None for one space, which then takes no memory.
@@ -27,15 +36,31 @@ pub struct Cell {
 
 impl Model for Cell {
     ghost use Rattle.termwiz_cell.specs.CellValue.{CellValue};
-    ghost use Rattle.termwiz_cell.specs.CellLayout.{cell_value};
+    ghost use Rattle.termwiz_cell.specs.CellLayout.{cell_value, IsStoredText};
 
     ghost Value = { CellValue };
 
     ghost view = { cell_value };
+
+    ghost invariant = { λ c. IsStoredText c.text };
 }
 
 impl Cell {
     ghost use Rattle.termwiz_cell.specs.Lending.{LendsAttrs};
+
+    /// The cell of a character, as wide as the width value says.
+    pub fn new<W: Widths>(
+        alloc: Global,
+        widths: &W,
+        c: char,
+        attrs: CellAttributes,
+    ) -> Result<Cell, AllocError>
+        ensures { IfOk result (λ cell. cell ≡ measured (unversioned (W.width_of widths.now)) (encode_utf8 c) attrs) }
+    {
+        let mut buffer = [0; 4];
+        let text = c.encode_utf8(&mut buffer);
+        Cell::new_grapheme(alloc, widths, text, attrs, None)
+    }
 
     /// A space with default attributes. It takes no memory.
     pub fn blank() -> Cell
@@ -55,7 +80,8 @@ impl Cell {
         }
     }
 
-    /// The cell of a text, as wide as the width value says by that version.
+    /// The cell of a text, as wide as the width value says by that version of Unicode. It can
+    /// only fail where the text is no space.
     pub fn new_grapheme<W: Widths>(
         alloc: Global,
         widths: &W,
@@ -63,14 +89,16 @@ impl Cell {
         attrs: CellAttributes,
         version: Option<UnicodeVersion>,
     ) -> Result<Cell, AllocError>
-        ensures { IfOk result (λ cell. cell ≡ measured (at_version (W.width_of widths.now) version) text.now attrs) }
+        ensures ok { IfOk result (λ cell. cell ≡ measured (at_version (W.width_of widths.now) version) text.now attrs) }
+        ensures succeeds { clean text.now ≡ space → IsOk result }
     {
         let text = cleaned(text);
         let width = widths.width(text, version);
         Cell::with_clean_text(alloc, text, width > 1, attrs)
     }
 
-    /// The cell of a text that was given a width, where 0 becomes 1.
+    /// The cell of a text that was given a width, of which 0 becomes 1. It can only fail where
+    /// the text is no space.
     pub fn new_grapheme_with_width(
         alloc: Global,
         text: &str,
@@ -78,7 +106,8 @@ impl Cell {
         attrs: CellAttributes,
     ) -> Result<Cell, AllocError>
         requires { width ≤ 2 }
-        ensures { IfOk result (λ cell. cell ≡ cell_of text.now width attrs) }
+        ensures ok { IfOk result (λ cell. cell ≡ cell_of text.now width attrs) }
+        ensures succeeds { clean text.now ≡ space → IsOk result }
     {
         Cell::with_clean_text(alloc, cleaned(text), width > 1, attrs)
     }
@@ -89,7 +118,8 @@ impl Cell {
         wide: bool,
         attrs: CellAttributes,
     ) -> Result<Cell, AllocError>
-        ensures { IfOk result (λ cell. cell ≡ record { text = text.now; wide = wide; attrs = attrs }) }
+        ensures ok { IfOk result (λ cell. cell ≡ record { text = text.now; wide = wide; attrs = attrs }) }
+        ensures succeeds { text.now ≡ space → IsOk result }
     {
         let text = stored_text(alloc, text)?;
         Ok(Cell { text, wide, attrs })
@@ -118,7 +148,7 @@ impl Cell {
         &self.attrs
     }
 
-    /// The attributes, for writing.
+    /// The attributes, for writing: what is left behind the reference stands in the cell.
     pub fn attrs_mut(&mut self) -> &mut CellAttributes
         ensures* writes_back { sem 𝓛 (LendsAttrs self.entry result) }
         ensures value { result.now ≡ self.old.attrs }
@@ -126,8 +156,17 @@ impl Cell {
         &mut self.attrs
     }
 
+    /// Whether this is a space of one column with default attributes.
+    pub fn is_blank(&self) -> bool
+        ensures { IsTrue result ↔ (self.now ≡ blank) }
+    {
+        self.text.is_none() && !self.wide && self.attrs.is_blank()
+    }
+
     /// How the text is shown: by its variation, where it has one.
-    pub fn presentation<W: Widths>(&self, widths: &W) -> Presentation {
+    pub fn presentation<W: Widths>(&self, widths: &W) -> Presentation
+        ensures { let shown = W.presentation_of widths.now self.now.text in result ≡ unwrap_or shown.1 shown.0 }
+    {
         let (presentation, variation) = widths.presentation(self.str());
         variation.unwrap_or(presentation)
     }
@@ -135,6 +174,8 @@ impl Cell {
 
 impl Clone for Cell {
     ghost is_clone = { λ a b. b ≡ a };
+
+    ghost is_infallible = { λ cell. (cell.text ≡ space) × (needs_box cell.attrs ≡ false) };
 
     fn clone(&self) -> Result<Cell, AllocError> {
         let text = copied_text(&self.text)?;
@@ -168,7 +209,8 @@ impl Cell {
     fn is_same(&self, other: &Cell) -> bool
         ensures { result ≡ cell_eq self.now other.now }
     {
-        self.str() == other.str() && (self.wide == other.wide && self.attrs == other.attrs)
+        is_same_text(&self.text, &other.text)
+            && (self.wide == other.wide && self.attrs == other.attrs)
     }
 }
 

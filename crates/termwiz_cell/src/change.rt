@@ -1,12 +1,15 @@
-//! The changes of a surface.
-ghost use Rattle.std.specs.Prelude.{◌≡◌, IfOk, string_bytes};
-ghost use Rattle.termwiz_cell.specs.ChangeValue.{change_value};
+//! The changes of a surface, and how places and changes are numbered.
+ghost use Rattle.std.specs.Prelude.{◌≡◌, ◌↔◌, IfOk, IsTrue, string_bytes};
+ghost use Rattle.std.specs.Cmp.{decided, on_equiv, on_per, partial_equiv_from_equiv};
+ghost use Rattle.termwiz_cell.specs.AttributeChangeValue.{attribute_change_value};
+ghost use Rattle.termwiz_cell.specs.Attributes.{color_eq};
+ghost use Rattle.termwiz_cell.specs.ChangeValue.{Attribute, Text, change_value, change_eq, change_eq-Decides, is_text, position_eq, visibility_eq};
 
-use crate::cell::CellAttributes;
+use crate::cell::{AttributeChange, CellAttributes};
 use crate::color::ColorAttribute;
 use std::alloc::{AllocError, Global};
 
-/// A column or a row.
+/// A column or a row of a surface. Whatever it asks for, the cursor stays on the surface.
 #[derive(Clone, Copy, PartialEq, Eq, Debug)]
 pub enum Position {
     /// From the current place: below 0 to the left, or up.
@@ -31,9 +34,15 @@ pub type SequenceNo = usize;
 /// The number before any change.
 pub const SEQ_ZERO: SequenceNo = 0;
 
-/// A change of a surface.
+/// One change of a surface. Changes are added to a surface, which logs them for its viewers, and
+/// are what a viewer is given to follow it.
+///
+/// Two changes are equal where they say the same: texts are compared by their bytes, and links
+/// by what they name.
 #[derive(Drop, Debug)]
 pub enum Change {
+    /// One attribute of coming texts.
+    Attribute(AttributeChange),
     /// The attributes of coming texts.
     AllAttributes(CellAttributes),
     /// Prints a text at the cursor, with CR, LF and CR LF as moves.
@@ -55,6 +64,10 @@ impl Clone for Change {
 
     fn clone(&self) -> Result<Change, AllocError> {
         match self {
+            Change::Attribute(change) => {
+                let copy = change.clone()?;
+                Ok(Change::Attribute(copy))
+            }
             Change::AllAttributes(attrs) => {
                 let copy = attrs.clone()?;
                 Ok(Change::AllAttributes(copy))
@@ -73,8 +86,6 @@ impl Clone for Change {
 }
 
 impl Change {
-    ghost use Rattle.termwiz_cell.specs.ChangeValue.{Text};
-
     /// The change that prints a copy of this text.
     pub fn text_from(alloc: Global, text: &str) -> Result<Change, AllocError>
         ensures { IfOk result (λ change. change_value change ≡ Text text.now) }
@@ -82,4 +93,97 @@ impl Change {
         let text = String::from_str(alloc, text)?;
         Ok(Change::Text(text))
     }
+
+    /// Whether this prints a text.
+    pub fn is_text(&self) -> bool
+        ensures { result ≡ is_text (change_value self.now) }
+    {
+        matches!(self, Change::Text(_))
+    }
+
+    /// The text that this prints.
+    pub fn text(&self) -> &str
+        requires { IsTrue (is_text (change_value self.now)) }
+        ensures { change_value self.now ≡ Text result.now }
+    {
+        match self {
+            Change::Text(text) => text.as_str(),
+            _ => unreachable!(),
+        }
+    }
+}
+
+impl From<String> for Change {
+    ghost from_gives = { λ text change. change_value change ≡ Text (string_bytes text) };
+
+    fn from(text: String) -> Change {
+        Change::Text(text)
+    }
+}
+
+impl From<AttributeChange> for Change {
+    ghost from_gives = { λ attribute change. change_value change ≡ Attribute (attribute_change_value attribute) };
+
+    fn from(change: AttributeChange) -> Change {
+        Change::Attribute(change)
+    }
+}
+
+impl PartialEq for Change {
+    ghost eq = { λ a b. change_eq (change_value a) (change_value b) };
+
+    ghost laws = { on_per change_value (partial_equiv_from_equiv (decided change_eq change_eq-Decides)) };
+
+    fn eq(&self, other: &Change) -> bool
+        ensures value { result ≡ change_eq (change_value self.now) (change_value other.now) }
+        ensures same { IsTrue result ↔ (change_value self.now ≡ change_value other.now) }
+    {
+        self.is_same(other)
+    }
+}
+
+impl Eq for Change {
+    ghost laws = { on_equiv change_value (decided change_eq change_eq-Decides) };
+}
+
+impl Change {
+    fn is_same(&self, other: &Change) -> bool
+        ensures { result ≡ change_eq (change_value self.now) (change_value other.now) }
+    {
+        match (self, other) {
+            (Change::Attribute(a), Change::Attribute(b)) => *a == *b,
+            (Change::AllAttributes(a), Change::AllAttributes(b)) => *a == *b,
+            (Change::Text(a), Change::Text(b)) => *a == *b,
+            (Change::ClearScreen(a), Change::ClearScreen(b)) => is_same_color(*a, *b),
+            (Change::ClearToEndOfLine(a), Change::ClearToEndOfLine(b)) => is_same_color(*a, *b),
+            (Change::ClearToEndOfScreen(a), Change::ClearToEndOfScreen(b)) => {
+                is_same_color(*a, *b)
+            }
+            (Change::CursorPosition { x: a, y: b }, Change::CursorPosition { x: c, y: d }) => {
+                is_same_position(*a, *c) && is_same_position(*b, *d)
+            }
+            (Change::CursorVisibility(a), Change::CursorVisibility(b)) => {
+                is_same_visibility(*a, *b)
+            }
+            _ => false,
+        }
+    }
+}
+
+fn is_same_color(a: ColorAttribute, b: ColorAttribute) -> bool
+    ensures { result ≡ color_eq a b }
+{
+    a == b
+}
+
+fn is_same_position(a: Position, b: Position) -> bool
+    ensures { result ≡ position_eq a b }
+{
+    a == b
+}
+
+fn is_same_visibility(a: CursorVisibility, b: CursorVisibility) -> bool
+    ensures { result ≡ visibility_eq a b }
+{
+    a == b
 }

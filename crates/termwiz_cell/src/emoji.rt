@@ -1,24 +1,83 @@
 //! How wide texts are, and how they are shown.
-ghost use Rattle.std.specs.Prelude.{◌≡◌, ℕ, ◌+◌, ◌≤◌, List, [], ◌∷◌, length, Option, None, Some, find, chars};
+ghost use Rattle.std.specs.Prelude.{◌≡◌, false};
+ghost use Rattle.std.specs.Char.{is_whitespace};
+ghost use Rattle.std.specs.List.{list_all};
+ghost use Rattle.std.specs.Str.{chars};
 ghost use Rattle.termwiz_cell.specs.Width as spec;
+ghost use Rattle.termwiz_cell.specs.Width.{at_version, columns_of};
 
+use unicode_segmentation::UnicodeSegmentation;
 use unicode_width::UnicodeWidthStr;
 
-/// How a text is shown.
+/// How a character is shown, where it has two forms.
 #[derive(Clone, Copy, PartialEq, Eq, Debug)]
 pub enum Presentation {
+    /// As a letter, in the colour of the text.
     Text,
+    /// As a picture.
     Emoji,
 }
 
-/// A version of Unicode.
+impl Presentation {
+    /// How a grapheme is shown, and behind it the form that a variation selector in it asks
+    /// for, if one does.
+    pub fn for_grapheme<W: Widths>(
+        widths: &W,
+        grapheme: &str,
+    ) -> (Presentation, Option<Presentation>)
+        ensures { result ≡ W.presentation_of widths.now grapheme.now }
+    {
+        widths.presentation(grapheme)
+    }
+
+    /// How a character is shown.
+    pub fn for_char<W: Widths>(widths: &W, c: char) -> Presentation
+        ensures { result ≡ W.char_presentation_of widths.now c }
+    {
+        widths.char_presentation(c)
+    }
+}
+
+/// A version of Unicode, and how it takes the characters of ambiguous width.
 #[derive(Clone, Copy, PartialEq, Eq, Debug)]
 pub struct UnicodeVersion {
+    /// The major version.
     pub version: u8,
+    /// Whether characters of ambiguous width take two columns.
     pub ambiguous_are_wide: bool,
 }
 
-/// The widths of texts.
+/// The newest version that is told apart from earlier ones.
+pub const LATEST_UNICODE_VERSION: UnicodeVersion = UnicodeVersion {
+    version: 14,
+    ambiguous_are_wide: false,
+};
+
+impl UnicodeVersion {
+    /// A version, in which characters of ambiguous width take one column.
+    pub fn new(version: u8) -> UnicodeVersion
+        ensures { result ≡ record { version = version; ambiguous_are_wide = false } }
+    {
+        UnicodeVersion {
+            version,
+            ambiguous_are_wide: false,
+        }
+    }
+
+    /// The place of a width among those of the four kinds of version: 2 above version 9, and
+    /// 1 more where characters of ambiguous width are wide.
+    pub fn idx(&self) -> usize
+        ensures { result ≡ spec.version_index self.now }
+    {
+        let newer = if self.version > 9 { 2 } else { 0 };
+        let wide = if self.ambiguous_are_wide { 1 } else { 0 };
+        newer + wide
+    }
+}
+
+/// The widths of texts, and how they are shown.
+///
+/// A width is 0 to 2, a single space has 1, and the same arguments have always the same answer.
 pub trait Widths: Copy {
     ghost use Rattle.std.specs.Prelude.{◌≡◌, ℕ, ◌≤◌, List, [], ◌∷◌, Option};
     ghost use Rattle.termwiz_cell.specs.declared.emoji.Presentation.{Presentation};
@@ -30,11 +89,11 @@ pub trait Widths: Copy {
 
     ghost char_presentation_of: { Self → ℕ → Presentation };
 
-    /// The columns of the text.
+    /// The columns of the text, by that version of Unicode.
     fn width(&self, text: &str, version: Option<UnicodeVersion>) -> usize
         ensures { result ≡ width_of self.now text.now version };
 
-    /// How the text is shown, and its variation.
+    /// How the text is shown, and the form that a variation selector in it asks for.
     fn presentation(&self, text: &str) -> (Presentation, Option<Presentation>)
         ensures { result ≡ presentation_of self.now text.now };
 
@@ -79,7 +138,8 @@ impl Widths for OneColumn {
     }
 }
 
-/// The widths of the Unicode tables, whatever the version.
+/// The widths of the Unicode tables, at most 2, whatever the version. Texts are shown as text,
+/// unless a variation selector asks for more.
 #[derive(Clone, Copy, PartialEq, Eq, Debug)]
 pub struct UnicodeWidths;
 
@@ -110,6 +170,46 @@ impl Widths for UnicodeWidths {
     fn char_presentation(&self, _c: char) -> Presentation {
         Presentation::Text
     }
+}
+
+/// The columns of a grapheme.
+pub fn grapheme_column_width<W: Widths>(
+    widths: &W,
+    grapheme: &str,
+    version: Option<UnicodeVersion>,
+) -> usize
+    ensures { result ≡ W.width_of widths.now grapheme.now version }
+{
+    widths.width(grapheme, version)
+}
+
+/// The columns of a text: those of its graphemes together.
+pub fn unicode_column_width<W: Widths>(
+    widths: &W,
+    text: &str,
+    version: Option<UnicodeVersion>,
+) -> usize
+    ensures { result ≡ columns_of (at_version (W.width_of widths.now) version) text.now }
+{
+    let mut columns = 0;
+    for grapheme in text.graphemes(true) {
+        columns += widths.width(grapheme, version);
+    }
+    columns
+}
+
+/// Whether the character is white space.
+pub fn is_white_space_char(c: char) -> bool
+    ensures { result ≡ is_whitespace c }
+{
+    c.is_whitespace()
+}
+
+/// Whether all characters of the text are white space. The empty text has no other.
+pub fn is_white_space_grapheme(text: &str) -> bool
+    ensures { result ≡ list_all is_whitespace (chars text.now) }
+{
+    text.chars().all(is_white_space_char)
 }
 
 fn variation(text: &str) -> Option<Presentation>

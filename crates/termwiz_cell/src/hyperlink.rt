@@ -1,20 +1,53 @@
-//! Links.
-ghost use Rattle.std.specs.Prelude.{◌≡◌, ℕ, ◌↔◌, IsTrue, [], true, false, map, string_bytes, IfOk};
-ghost use Rattle.std.specs.Cmp.{decided, partial_equiv_from_equiv};
-ghost use Rattle.termwiz_cell.specs.Link.{param_eq, link_eq, link_eq-Decides};
-ghost use Rattle.std.specs.Cmp.Lexicographic.{pointwise};
-ghost use Rattle.termwiz_cell.specs.LinkLayout.{param_bytes};
+//! Links: a target, parameters, and the texts in which escape sequences carry them.
+mod params;
 
+ghost use Rattle.std.specs.Prelude.{◌≡◌, ◌≢◌, ℕ, ◌↔◌, IsTrue, IfOk, IfSome, IsUtf8, MatchResult, None, Some, [], ◌∷◌, true, false, length, map, string_bytes, codes};
+ghost use Rattle.std.specs.Cmp.{decided, partial_equiv_from_equiv};
+ghost use Rattle.termwiz_cell.specs.Link.{Link, link_eq, link_eq-Decides};
+ghost use Rattle.termwiz_cell.specs.LinkLayout.{param_bytes};
+ghost use Rattle.termwiz_cell.specs.LinkParse.{AreEmpty, ArePrinted, AreTexts, HasPairs, Reads, SpellsOnly, part};
+ghost use Rattle.termwiz_cell.specs.LinkText.{AreInOrder, IsReadable, link_text};
+
+use params::{clone_params, has_same_params, is_pairs, read_params, write_params};
 use std::alloc::{AllocError, Global};
 use std::collections::BTreeMap;
+use std::fmt;
 use std::marker::Model;
+use thiserror::Error;
 
-/// A link.
+/// A link: its target, its parameters in the order of their keys, and whether a rule made it.
 #[derive(Drop, Debug)]
 pub struct Hyperlink {
     params: BTreeMap<String, String>,
     uri: String,
     implicit: bool,
+}
+
+/// Why a text is no link. The first fault that applies, in this order, is the one that is named.
+#[derive(Debug, Clone, Copy, PartialEq, Eq, Error)]
+pub enum LinkError {
+    /// There are not three parts.
+    #[error("a link has three parts")]
+    WrongParamCount,
+    /// The params or the uri are not UTF-8.
+    #[error("a link is UTF-8")]
+    NotUtf8,
+    /// A param has no `=`.
+    #[error("a link's params are `key=value` between `:`")]
+    BadParams,
+    /// Memory was refused.
+    #[error("out of memory")]
+    Memory,
+}
+
+impl From<AllocError> for LinkError {
+    ghost use Rattle.termwiz_cell.specs.declared.hyperlink.LinkError.TheVariants.{Memory};
+
+    ghost from_gives = { λ _ e. e ≡ Memory };
+
+    fn from(_refused: AllocError) -> LinkError {
+        LinkError::Memory
+    }
 }
 
 impl Model for Hyperlink {
@@ -28,16 +61,37 @@ impl Model for Hyperlink {
 }
 
 impl Hyperlink {
+    /// A link with no params.
     pub fn new(alloc: Global, uri: String) -> Hyperlink
         ensures { result ≡ record { uri = string_bytes uri; params = []; implicit = false } }
+    {
+        Hyperlink::new_with_params(uri, BTreeMap::new(alloc))
+    }
+
+    /// A link with no params that a rule made of the text on the screen.
+    pub fn new_implicit(alloc: Global, uri: String) -> Hyperlink
+        ensures { result ≡ record { uri = string_bytes uri; params = []; implicit = true } }
     {
         Hyperlink {
             params: BTreeMap::new(alloc),
             uri,
-            implicit: false,
+            implicit: true,
         }
     }
 
+    /// A link whose one param is `id`.
+    pub fn new_with_id(alloc: Global, uri: String, id: String) -> Result<Hyperlink, AllocError>
+        ensures { IfOk result (λ link. link ≡ record {
+          uri = string_bytes uri;
+          params = (codes "id", string_bytes id) ∷ [];
+          implicit = false;
+        }) }
+    {
+        let params = id_params(alloc, id)?;
+        Ok(Hyperlink::new_with_params(uri, params))
+    }
+
+    /// A link with these params.
     pub fn new_with_params(uri: String, params: BTreeMap<String, String>) -> Hyperlink
         ensures { result ≡ record { uri = string_bytes uri; params = map param_bytes params.entries; implicit = false } }
     {
@@ -48,22 +102,55 @@ impl Hyperlink {
         }
     }
 
+    /// The link's target.
     pub fn uri(&self) -> &str
         ensures { result.now ≡ self.now.uri }
     {
         self.uri.as_str()
     }
 
+    /// The link's parameters.
     pub fn params(&self) -> &BTreeMap<String, String>
-        ensures { map param_bytes result.now.entries ≡ self.now.params }
+        ensures params { map param_bytes result.now.entries ≡ self.now.params }
+        ensures ordered { AreInOrder self.now.params }
     {
+        // The length of a map says that its keys ascend.
+        prove!(self.params.len() < usize::MAX);
         &self.params
     }
 
+    /// Whether a rule made the link of the text on the screen.
     pub fn is_implicit(&self) -> bool
         ensures { result ≡ self.now.implicit }
     {
         self.implicit
+    }
+
+    /// Reads the parts of a link's escape sequence: one that is not looked at, the params and the
+    /// uri. Where both are empty there is no link. The faults are found in the order of
+    /// `LinkError`, and all but `Memory` before anything is stored.
+    pub fn parse(alloc: Global, osc: &[&[u8]]) -> Result<Option<Hyperlink>, LinkError>
+        // Each fault, and no link, comes exactly where it should.
+        ensures count { (result ≡ Err LinkError.WrongParamCount) ↔ (length osc.now ≢ 3) }
+        ensures utf8 { (result ≡ Err LinkError.NotUtf8)
+            ↔ ((length osc.now ≡ 3) × ¬ (AreTexts (part osc.now 1) (part osc.now 2))) }
+        ensures pairs { (result ≡ Err LinkError.BadParams)
+            ↔ ((length osc.now ≡ 3) × AreTexts (part osc.now 1) (part osc.now 2) × ¬ (HasPairs (part osc.now 1))) }
+        ensures none { (result ≡ Ok None)
+            ↔ ((length osc.now ≡ 3) × AreEmpty (part osc.now 1) (part osc.now 2)) }
+
+        // A link is the one that the params and the uri spell.
+        ensures link { IfOk result (λ found.
+            IfSome found (SpellsOnly (part osc.now 1) (part osc.now 2))) }
+
+        // What a link prints is read back.
+        ensures back { (link : Link) → IsReadable link → ArePrinted osc.now link
+            → MatchResult result (λ found. found ≡ Some link) (λ e. e ≡ LinkError.Memory) }
+    {
+        match osc {
+            [_, params, uri] => read_link(alloc, params, uri),
+            _ => Err(LinkError::WrongParamCount),
+        }
     }
 
     fn is_same(&self, other: &Hyperlink) -> bool
@@ -72,6 +159,16 @@ impl Hyperlink {
         self.uri == other.uri
             && has_same_params(&self.params, &other.params)
             && self.implicit == other.implicit
+    }
+}
+
+impl fmt::Display for Hyperlink {
+    ghost output = { λ link. Some (link_text link) };
+
+    fn fmt<W: fmt::Write>(&self, f: &mut fmt::Formatter<W>) -> fmt::Result {
+        f.write_str("8;")?;
+        write_params(&self.params, f)?;
+        write!(f, ";{}", self.uri)
     }
 }
 
@@ -106,14 +203,44 @@ impl Eq for Hyperlink {
     ghost laws = { decided link_eq link_eq-Decides };
 }
 
-fn clone_params(params: &BTreeMap<String, String>) -> Result<BTreeMap<String, String>, AllocError>
-    ensures { IfOk result (λ copy. map param_bytes copy.entries ≡ map param_bytes params.now.entries) }
+/// The link of a params text and a uri, if one of them is not empty.
+fn read_link(alloc: Global, params: &[u8], uri: &[u8]) -> Result<Option<Hyperlink>, LinkError>
+    ensures { Reads params.now uri.now result }
 {
-    params.clone()
+    if are_empty(params, uri) {
+        return Ok(None);
+    }
+    let params = as_text(params)?;
+    let uri = as_text(uri)?;
+    if !is_pairs(params) {
+        return Err(LinkError::BadParams);
+    }
+    let params = read_params(alloc, params)?;
+    let uri = String::from_str(alloc, uri)?;
+    Ok(Some(Hyperlink::new_with_params(uri, params)))
 }
 
-fn has_same_params(a: &BTreeMap<String, String>, b: &BTreeMap<String, String>) -> bool
-    ensures { result ≡ pointwise param_eq (map param_bytes a.now.entries) (map param_bytes b.now.entries) }
+fn are_empty(params: &[u8], uri: &[u8]) -> bool
+    ensures { IsTrue result ↔ AreEmpty params.now uri.now }
 {
-    *a == *b
+    params.is_empty() && uri.is_empty()
 }
+
+fn as_text(bytes: &[u8]) -> Result<&str, LinkError>
+    ensures { MatchResult result
+        (λ text. (text.now ≡ bytes.now) × IsUtf8 bytes.now)
+        (λ e. (e ≡ LinkError.NotUtf8) × ¬ (IsUtf8 bytes.now)) }
+{
+    str::from_utf8(bytes).map_err(|_| LinkError::NotUtf8)
+}
+
+fn id_params(alloc: Global, id: String) -> Result<BTreeMap<String, String>, AllocError>
+    ensures { IfOk result (λ params. map param_bytes params.entries ≡ (codes "id", string_bytes id) ∷ []) }
+{
+    let mut params = BTreeMap::new(alloc);
+    params.insert(String::from_str(alloc, "id")?, id)?;
+    Ok(params)
+}
+
+#[cfg(test)]
+mod tests;

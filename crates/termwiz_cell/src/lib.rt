@@ -6,3 +6,5 @@ pub mod change;
 pub mod color;
 pub mod emoji;
 pub mod hyperlink;
+#[cfg(test)]
+mod tests;

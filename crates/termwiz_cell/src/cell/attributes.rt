@@ -1,26 +1,23 @@
 //! The attributes of a cell.
-ghost use Rattle.std.specs.Prelude.{◌≡◌, ◌↔◌, ◌⊎◌, IsTrue, false, true, option_map, IfOk, OnOk, OnErr, IsOk, IsNone, None, Some, bytes_eq};
+ghost use Rattle.std.specs.Prelude.{◌≡◌, ◌↔◌, IsTrue, false, true, option_map, IfOk, OnOk, OnErr, IsOk};
 ghost use Rattle.std.specs.Cmp.{decided, partial_equiv_from_equiv};
-ghost use Rattle.termwiz_cell.specs.Attributes.{color_eq, option_link_eq};
+ghost use Rattle.termwiz_cell.specs.Attributes.{default_attributes, attributes_eq, attributes_eq-Decides, needs_box};
 ghost use Rattle.termwiz_cell.specs.AttributesLayout as spec;
 
-use super::style::{Blink, Intensity, SemanticType, Style, StyleWord, Underline, VerticalAlign};
+use super::attribute_change::AttributeChange;
+use super::fat::{self, FatAttributes};
+use super::style::{Blink, Intensity, SemanticType, Underline, VerticalAlign};
+use super::style_word::StyleWord;
 use crate::color::ColorAttribute;
 use crate::hyperlink::Hyperlink;
 use std::alloc::{AllocError, Global};
 use std::marker::Model;
 use std::rc::Rc;
 
-/// The attributes that few cells have.
-#[derive(Drop, Debug)]
-struct FatAttributes {
-    foreground: ColorAttribute,
-    background: ColorAttribute,
-    underline_color: ColorAttribute,
-    hyperlink: Option<Rc<Hyperlink>>,
-}
-
-/// The attributes of a cell.
+/// The attributes of a cell: how its text is drawn, what it is to its reader, and its link.
+///
+/// All but true colours, the underline colour and the link stand in one word. Those take
+/// memory, which is given back once all of them have their defaults again.
 #[derive(Drop, Debug)]
 pub struct CellAttributes {
     style: StyleWord,
@@ -29,21 +26,21 @@ pub struct CellAttributes {
 
 impl Model for CellAttributes {
     ghost use Rattle.termwiz_cell.specs.Attributes.{Attributes};
+    ghost use Rattle.termwiz_cell.specs.AttributesLayout.{attributes_of, IsSound};
 
     ghost Value = { Attributes };
 
-    ghost use Rattle.termwiz_cell.specs.AttributesLayout.{attributes_of, IsNeeded};
-
     ghost view = { attributes_of };
 
-    ghost invariant = { λ a. IsNeeded a.fat };
+    ghost invariant = { IsSound };
 }
 
 impl CellAttributes {
-    ghost use Rattle.termwiz_cell.specs.Attributes.{default_attributes, bits_of, attributes_eq};
+    ghost use Rattle.termwiz_cell.specs.Attributes.{without_colors, sgr_only};
+    ghost use Rattle.termwiz_cell.specs.AttributeChangeValue.{attribute_change_value, with_attribute, takes_memory};
     ghost use Rattle.termwiz_cell.specs.AttributesLayout.{linked};
 
-    /// The default attributes.
+    /// The default attributes. They take no memory.
     pub fn blank() -> CellAttributes
         ensures { result ≡ default_attributes }
     {
@@ -53,21 +50,36 @@ impl CellAttributes {
         }
     }
 
-    pub fn italic(&self) -> bool
-        ensures { result ≡ self.now.italic }
+    /// Sets all attributes to their defaults.
+    pub fn clear(&mut self)
+        ensures { self.new ≡ default_attributes }
     {
-        self.style.italic()
+        *self = CellAttributes::blank();
     }
 
-    pub fn set_italic(&mut self, value: bool) -> &mut Self
-        ensures same_reference { result.ghost_name ≡ self.entry.ghost_name }
-        ensures value { result.now ≡ record self.old { italic = value } }
+    /// Whether all attributes have their defaults.
+    pub fn is_blank(&self) -> bool
+        ensures { IsTrue result ↔ (self.now ≡ default_attributes) }
     {
-        let style = &mut self.style;
-        style.set_italic(value);
+        self.style.is_blank() && self.fat.is_none()
+    }
+
+    /// How strong the text is.
+    pub fn intensity(&self) -> Intensity
+        ensures { result ≡ self.now.intensity }
+    {
+        self.style.intensity()
+    }
+
+    pub fn set_intensity(&mut self, value: Intensity) -> &mut Self
+        ensures same_reference { result.ghost_name ≡ self.entry.ghost_name }
+        ensures value { result.now ≡ record self.old { intensity = value } }
+    {
+        self.style.set_intensity(value);
         self
     }
 
+    /// How the text is underlined.
     pub fn underline(&self) -> Underline
         ensures { result ≡ self.now.underline }
     {
@@ -82,21 +94,149 @@ impl CellAttributes {
         self
     }
 
+    /// How fast the text blinks.
+    pub fn blink(&self) -> Blink
+        ensures { result ≡ self.now.blink }
+    {
+        self.style.blink()
+    }
+
+    pub fn set_blink(&mut self, value: Blink) -> &mut Self
+        ensures same_reference { result.ghost_name ≡ self.entry.ghost_name }
+        ensures value { result.now ≡ record self.old { blink = value } }
+    {
+        self.style.set_blink(value);
+        self
+    }
+
+    /// Whether the text is slanted.
+    pub fn italic(&self) -> bool
+        ensures { result ≡ self.now.italic }
+    {
+        self.style.italic()
+    }
+
+    pub fn set_italic(&mut self, value: bool) -> &mut Self
+        ensures same_reference { result.ghost_name ≡ self.entry.ghost_name }
+        ensures value { result.now ≡ record self.old { italic = value } }
+    {
+        self.style.set_italic(value);
+        self
+    }
+
+    /// Whether the colours of text and background are exchanged.
+    pub fn reverse(&self) -> bool
+        ensures { result ≡ self.now.reverse }
+    {
+        self.style.reverse()
+    }
+
+    pub fn set_reverse(&mut self, value: bool) -> &mut Self
+        ensures same_reference { result.ghost_name ≡ self.entry.ghost_name }
+        ensures value { result.now ≡ record self.old { reverse = value } }
+    {
+        self.style.set_reverse(value);
+        self
+    }
+
+    /// Whether the text is struck through.
+    pub fn strikethrough(&self) -> bool
+        ensures { result ≡ self.now.strikethrough }
+    {
+        self.style.strikethrough()
+    }
+
+    pub fn set_strikethrough(&mut self, value: bool) -> &mut Self
+        ensures same_reference { result.ghost_name ≡ self.entry.ghost_name }
+        ensures value { result.now ≡ record self.old { strikethrough = value } }
+    {
+        self.style.set_strikethrough(value);
+        self
+    }
+
+    /// Whether the text is hidden.
+    pub fn invisible(&self) -> bool
+        ensures { result ≡ self.now.invisible }
+    {
+        self.style.invisible()
+    }
+
+    pub fn set_invisible(&mut self, value: bool) -> &mut Self
+        ensures same_reference { result.ghost_name ≡ self.entry.ghost_name }
+        ensures value { result.now ≡ record self.old { invisible = value } }
+    {
+        self.style.set_invisible(value);
+        self
+    }
+
+    /// Whether the row was wrapped behind this cell, so that the next row goes on with its text.
+    pub fn wrapped(&self) -> bool
+        ensures { result ≡ self.now.wrapped }
+    {
+        self.style.wrapped()
+    }
+
+    pub fn set_wrapped(&mut self, value: bool) -> &mut Self
+        ensures same_reference { result.ghost_name ≡ self.entry.ghost_name }
+        ensures value { result.now ≡ record self.old { wrapped = value } }
+    {
+        self.style.set_wrapped(value);
+        self
+    }
+
+    /// Whether a line stands above the text.
+    pub fn overline(&self) -> bool
+        ensures { result ≡ self.now.overline }
+    {
+        self.style.overline()
+    }
+
+    pub fn set_overline(&mut self, value: bool) -> &mut Self
+        ensures same_reference { result.ghost_name ≡ self.entry.ghost_name }
+        ensures value { result.now ≡ record self.old { overline = value } }
+    {
+        self.style.set_overline(value);
+        self
+    }
+
+    /// What the text is to its reader.
+    pub fn semantic_type(&self) -> SemanticType
+        ensures { result ≡ self.now.semantic_type }
+    {
+        self.style.semantic_type()
+    }
+
+    pub fn set_semantic_type(&mut self, value: SemanticType) -> &mut Self
+        ensures same_reference { result.ghost_name ≡ self.entry.ghost_name }
+        ensures value { result.now ≡ record self.old { semantic_type = value } }
+    {
+        self.style.set_semantic_type(value);
+        self
+    }
+
+    /// Where the text stands on its line.
+    pub fn vertical_align(&self) -> VerticalAlign
+        ensures { result ≡ self.now.vertical_align }
+    {
+        self.style.vertical_align()
+    }
+
+    pub fn set_vertical_align(&mut self, value: VerticalAlign) -> &mut Self
+        ensures same_reference { result.ghost_name ≡ self.entry.ghost_name }
+        ensures value { result.now ≡ record self.old { vertical_align = value } }
+    {
+        self.style.set_vertical_align(value);
+        self
+    }
+
+    /// The colour of the text.
     pub fn foreground(&self) -> ColorAttribute
         ensures { result ≡ self.now.foreground }
     {
-        shown(fat_foreground(&self.fat), self.style.foreground())
+        shown(fat::foreground(&self.fat), self.style.foreground())
     }
 
-    pub fn hyperlink(&self) -> Option<&Rc<Hyperlink>>
-        ensures { option_map (λ rc. rc.now.value) result ≡ self.now.hyperlink }
-    {
-        match &self.fat {
-            Some(fat) => fat.hyperlink.as_ref(),
-            None => None,
-        }
-    }
-
+    /// Sets the foreground. At an error nothing changed.
     pub fn set_foreground(
         &mut self,
         alloc: Global,
@@ -104,33 +244,116 @@ impl CellAttributes {
     ) -> Result<&mut Self, AllocError>
         ensures same_reference { IfOk result (λ r. r.ghost_name ≡ self.entry.ghost_name) }
         ensures ok { IfOk result (λ r. r.now ≡ record self.old { foreground = value }) }
+        ensures boxed { needs_box self.old ≡ true → IsOk result }
+        ensures succeeds { needs_box (record self.old { foreground = value }) ≡ false → IsOk result }
     {
         self.change_foreground(alloc, value)?;
         Ok(self)
     }
 
+    /// Sets the foreground, and answers nothing else. It can only fail where the attributes need
+    /// a box that they did not need before.
+    pub fn change_foreground(
+        &mut self,
+        alloc: Global,
+        value: ColorAttribute,
+    ) -> Result<(), AllocError>
+        ensures ok { OnOk result (self.new ≡ record self.old { foreground = value }) }
+        ensures err { OnErr result (self.new ≡ self.old) }
+        ensures boxed { needs_box self.old ≡ true → IsOk result }
+        ensures succeeds { needs_box (record self.old { foreground = value }) ≡ false → IsOk result }
+    {
+        let palette = palette_part(&value);
+        fat::set_foreground(&mut self.fat, alloc, rare_part(value))?;
+        self.style.set_foreground(palette);
+        Ok(())
+    }
+
+    /// The colour behind the text.
     pub fn background(&self) -> ColorAttribute
         ensures { result ≡ self.now.background }
     {
-        shown(fat_background(&self.fat), self.style.background())
+        shown(fat::background(&self.fat), self.style.background())
     }
 
+    /// Sets the background. At an error nothing changed.
+    pub fn set_background(
+        &mut self,
+        alloc: Global,
+        value: ColorAttribute,
+    ) -> Result<&mut Self, AllocError>
+        ensures same_reference { IfOk result (λ r. r.ghost_name ≡ self.entry.ghost_name) }
+        ensures ok { IfOk result (λ r. r.now ≡ record self.old { background = value }) }
+        ensures boxed { needs_box self.old ≡ true → IsOk result }
+        ensures succeeds { needs_box (record self.old { background = value }) ≡ false → IsOk result }
+    {
+        self.change_background(alloc, value)?;
+        Ok(self)
+    }
+
+    /// Sets the background, and answers nothing else. It can only fail where the attributes need
+    /// a box that they did not need before.
+    pub fn change_background(
+        &mut self,
+        alloc: Global,
+        value: ColorAttribute,
+    ) -> Result<(), AllocError>
+        ensures ok { OnOk result (self.new ≡ record self.old { background = value }) }
+        ensures err { OnErr result (self.new ≡ self.old) }
+        ensures boxed { needs_box self.old ≡ true → IsOk result }
+        ensures succeeds { needs_box (record self.old { background = value }) ≡ false → IsOk result }
+    {
+        let palette = palette_part(&value);
+        fat::set_background(&mut self.fat, alloc, rare_part(value))?;
+        self.style.set_background(palette);
+        Ok(())
+    }
+
+    /// The colour of the line under the text.
     pub fn underline_color(&self) -> ColorAttribute
         ensures { result ≡ self.now.underline_color }
     {
-        match &self.fat {
-            Some(fat) => fat.underline_color,
-            None => ColorAttribute::Default,
-        }
+        fat::underline_color(&self.fat)
     }
 
-    /// Whether all attributes are equal but the colours and the link.
-    pub fn attribute_bits_equal(&self, other: &CellAttributes) -> bool
-        ensures { result ≡ bytes_eq (bits_of self.now) (bits_of other.now) }
+    /// Sets the underline colour. At an error nothing changed.
+    pub fn set_underline_color(
+        &mut self,
+        alloc: Global,
+        value: ColorAttribute,
+    ) -> Result<&mut Self, AllocError>
+        ensures same_reference { IfOk result (λ r. r.ghost_name ≡ self.entry.ghost_name) }
+        ensures ok { IfOk result (λ r. r.now ≡ record self.old { underline_color = value }) }
+        ensures boxed { needs_box self.old ≡ true → IsOk result }
+        ensures succeeds { needs_box (record self.old { underline_color = value }) ≡ false → IsOk result }
     {
-        self.style.has_same_bits(&other.style)
+        self.change_underline_color(alloc, value)?;
+        Ok(self)
     }
 
+    /// Sets the underline colour, and answers nothing else. It can only fail where the attributes need
+    /// a box that they did not need before.
+    pub fn change_underline_color(
+        &mut self,
+        alloc: Global,
+        value: ColorAttribute,
+    ) -> Result<(), AllocError>
+        ensures ok { OnOk result (self.new ≡ record self.old { underline_color = value }) }
+        ensures err { OnErr result (self.new ≡ self.old) }
+        ensures boxed { needs_box self.old ≡ true → IsOk result }
+        ensures succeeds { needs_box (record self.old { underline_color = value }) ≡ false → IsOk result }
+    {
+        fat::set_underline_color(&mut self.fat, alloc, value)
+    }
+
+    /// The link of the text.
+    pub fn hyperlink(&self) -> Option<&Rc<Hyperlink>>
+        ensures { option_map (λ rc. rc.now.value) result ≡ self.now.hyperlink }
+    {
+        fat::hyperlink(&self.fat)
+    }
+
+    /// Sets the link. At an error nothing changed.
     pub fn set_hyperlink(
         &mut self,
         alloc: Global,
@@ -138,51 +361,95 @@ impl CellAttributes {
     ) -> Result<&mut Self, AllocError>
         ensures same_reference { IfOk result (λ r. r.ghost_name ≡ self.entry.ghost_name) }
         ensures ok { IfOk result (λ r. r.now ≡ record self.old { hyperlink = linked value }) }
+        ensures boxed { needs_box self.old ≡ true → IsOk result }
+        ensures succeeds { needs_box (record self.old { hyperlink = linked value }) ≡ false → IsOk result }
     {
         self.change_hyperlink(alloc, value)?;
         Ok(self)
     }
 
-    fn change_hyperlink(
+    /// Sets the link, and answers nothing else. It can only fail where the attributes need
+    /// a box that they did not need before.
+    pub fn change_hyperlink(
         &mut self,
         alloc: Global,
         value: Option<Rc<Hyperlink>>,
     ) -> Result<(), AllocError>
         ensures ok { OnOk result (self.new ≡ record self.old { hyperlink = linked value }) }
         ensures err { OnErr result (self.new ≡ self.old) }
+        ensures boxed { needs_box self.old ≡ true → IsOk result }
+        ensures succeeds { needs_box (record self.old { hyperlink = linked value }) ≡ false → IsOk result }
     {
-        set_fat_hyperlink(&mut self.fat, alloc, value)
+        fat::set_hyperlink(&mut self.fat, alloc, value)
+    }
+
+    /// A copy with no zone, underline, overline, strike through and link: the attributes with
+    /// which a cleared cell goes on. It can only fail where the copy needs a box.
+    pub fn clone_sgr_only(&self, alloc: Global) -> Result<CellAttributes, AllocError>
+        ensures ok { IfOk result (λ copy. copy ≡ sgr_only self.now) }
+        ensures succeeds { needs_box (sgr_only self.now) ≡ false → IsOk result }
+    {
+        let fat = fat::clone_colors(alloc, &self.fat)?;
+        Ok(CellAttributes {
+            style: self.style.sgr_only(),
+            fat,
+        })
+    }
+
+    /// Applies a change of one attribute. At an error nothing changed. It can only fail where
+    /// the attributes need a box that they did not need before, or at the copy of a link.
+    pub fn apply_change(
+        &mut self,
+        alloc: Global,
+        change: &AttributeChange,
+    ) -> Result<(), AllocError>
+        ensures ok { OnOk result (self.new ≡ with_attribute self.old (attribute_change_value change.now)) }
+        ensures err { OnErr result (self.new ≡ self.old) }
+        ensures succeeds { takes_memory self.old (attribute_change_value change.now) ≡ false → IsOk result }
+    {
+        match change {
+            AttributeChange::Intensity(value) => {
+                self.set_intensity(*value);
+            }
+            AttributeChange::Underline(value) => {
+                self.set_underline(*value);
+            }
+            AttributeChange::Italic(value) => {
+                self.set_italic(*value);
+            }
+            AttributeChange::Blink(value) => {
+                self.set_blink(*value);
+            }
+            AttributeChange::Reverse(value) => {
+                self.set_reverse(*value);
+            }
+            AttributeChange::StrikeThrough(value) => {
+                self.set_strikethrough(*value);
+            }
+            AttributeChange::Invisible(value) => {
+                self.set_invisible(*value);
+            }
+            AttributeChange::Foreground(value) => self.change_foreground(alloc, *value)?,
+            AttributeChange::Background(value) => self.change_background(alloc, *value)?,
+            AttributeChange::Hyperlink(value) => {
+                let link = fat::clone_link(value)?;
+                self.change_hyperlink(alloc, link)?;
+            }
+        }
+        Ok(())
+    }
+
+    /// Whether all attributes are equal but the colours and the link.
+    pub fn attribute_bits_equal(&self, other: &CellAttributes) -> bool
+        ensures { IsTrue result ↔ (without_colors self.now ≡ without_colors other.now) }
+    {
+        self.style.has_same_bits(&other.style)
     }
 
     fn is_same(&self, other: &CellAttributes) -> bool
         ensures { result ≡ attributes_eq self.now other.now }
     {
-        self.attribute_bits_equal(other)
-            && is_same_color(self.foreground(), other.foreground())
-            && is_same_color(self.background(), other.background())
-            && is_same_color(self.underline_color(), other.underline_color())
-            && is_same_link(self.hyperlink(), other.hyperlink())
-    }
-
-    fn change_foreground(&mut self, alloc: Global, value: ColorAttribute) -> Result<(), AllocError>
-        ensures ok { OnOk result (self.new ≡ record self.old { foreground = value }) }
-        ensures err { OnErr result (self.new ≡ self.old) }
-    {
-        match value {
-            ColorAttribute::Default => {
-                set_fat_foreground(&mut self.fat, alloc, ColorAttribute::Default)?;
-                self.style.set_foreground(None);
-            }
-            ColorAttribute::PaletteIndex(index) => {
-                set_fat_foreground(&mut self.fat, alloc, ColorAttribute::Default)?;
-                self.style.set_foreground(Some(index));
-            }
-            value => {
-                set_fat_foreground(&mut self.fat, alloc, value)?;
-                self.style.set_foreground(None);
-            }
-        }
-        Ok(())
+        self.style.is_same(&other.style) && fat::is_same_fat(&self.fat, &other.fat)
     }
 }
 
@@ -198,161 +465,31 @@ fn shown(rare: ColorAttribute, index: Option<u8>) -> ColorAttribute
     }
 }
 
-fn fat_foreground(fat: &Option<Box<FatAttributes>>) -> ColorAttribute
-    ensures { result ≡ (spec.rare_of fat.now).foreground }
+fn rare_part(color: ColorAttribute) -> ColorAttribute
+    ensures { result ≡ spec.rare_part color }
 {
-    match fat {
-        Some(fat) => fat.foreground,
-        None => ColorAttribute::Default,
+    match color {
+        ColorAttribute::PaletteIndex(_) => ColorAttribute::Default,
+        color => color,
     }
 }
 
-fn is_default_color(color: ColorAttribute) -> bool
-    ensures { result ≡ spec.is_default color }
+fn palette_part(color: &ColorAttribute) -> Option<u8>
+    ensures { result ≡ spec.palette_part color.now }
 {
-    matches!(color, ColorAttribute::Default)
-}
-
-impl FatAttributes {
-    fn is_default(&self) -> bool
-        ensures { result ≡ spec.is_rare_default (spec.fat_rare self.now) }
-    {
-        is_default_color(self.foreground)
-            && is_default_color(self.background)
-            && is_default_color(self.underline_color)
-            && self.hyperlink.is_none()
-    }
-}
-
-fn set_fat_foreground(
-    fat: &mut Option<Box<FatAttributes>>,
-    alloc: Global,
-    value: ColorAttribute,
-) -> Result<(), AllocError>
-    requires { spec.IsNeeded fat.old }
-    ensures ok { OnOk result (spec.rare_of fat.new ≡ record (spec.rare_of fat.old) { foreground = value }) }
-    ensures err { OnErr result (spec.rare_of fat.new ≡ spec.rare_of fat.old) }
-    ensures needed { spec.IsNeeded fat.new }
-    ensures succeeds { spec.is_default value ≡ true → IsOk result }
-{
-    match fat {
-        Some(found) => {
-            found.foreground = value;
-            if found.is_default() {
-                *fat = None;
-            }
-        }
-        None => {
-            if !is_default_color(value) {
-                let made = FatAttributes {
-                    foreground: value,
-                    background: ColorAttribute::Default,
-                    underline_color: ColorAttribute::Default,
-                    hyperlink: None,
-                };
-                *fat = Some(Box::new(alloc, made)?);
-            }
-        }
-    }
-    Ok(())
-}
-
-fn fat_background(fat: &Option<Box<FatAttributes>>) -> ColorAttribute
-    ensures { result ≡ (spec.rare_of fat.now).background }
-{
-    match fat {
-        Some(fat) => fat.background,
-        None => ColorAttribute::Default,
-    }
-}
-
-fn is_same_color(a: ColorAttribute, b: ColorAttribute) -> bool
-    ensures { result ≡ color_eq a b }
-{
-    a == b
-}
-
-fn is_same_link(a: Option<&Rc<Hyperlink>>, b: Option<&Rc<Hyperlink>>) -> bool
-    ensures { result ≡ option_link_eq (option_map (λ rc. rc.now.value) a.entry) (option_map (λ rc. rc.now.value) b.entry) }
-{
-    match (a, b) {
-        (None, None) => true,
-        (Some(a), Some(b)) => **a == **b,
-        _ => false,
-    }
-}
-
-fn set_fat_hyperlink(
-    fat: &mut Option<Box<FatAttributes>>,
-    alloc: Global,
-    value: Option<Rc<Hyperlink>>,
-) -> Result<(), AllocError>
-    requires { spec.IsNeeded fat.old }
-    ensures ok { OnOk result (spec.rare_of fat.new ≡ record (spec.rare_of fat.old) { hyperlink = spec.linked value }) }
-    ensures err { OnErr result (spec.rare_of fat.new ≡ spec.rare_of fat.old) }
-    ensures needed { spec.IsNeeded fat.new }
-    ensures succeeds { IsNone value → IsOk result }
-{
-    match fat {
-        Some(found) => {
-            found.hyperlink = value;
-            if found.is_default() {
-                *fat = None;
-            }
-        }
-        None => {
-            if value.is_some() {
-                let made = FatAttributes {
-                    foreground: ColorAttribute::Default,
-                    background: ColorAttribute::Default,
-                    underline_color: ColorAttribute::Default,
-                    hyperlink: value,
-                };
-                *fat = Some(Box::new(alloc, made)?);
-            }
-        }
-    }
-    Ok(())
-}
-
-fn clone_fat(fat: &Option<Box<FatAttributes>>) -> Result<Option<Box<FatAttributes>>, AllocError>
-    requires { spec.IsNeeded fat.now }
-    ensures ok { IfOk result (λ copy. spec.rare_of copy ≡ spec.rare_of fat.now) }
-    ensures needed { IfOk result (λ copy. spec.IsNeeded copy) }
-    ensures succeeds { IsNone fat.now → IsOk result }
-{
-    match fat {
-        None => Ok(None),
-        Some(fat) => {
-            let hyperlink = clone_link(&fat.hyperlink)?;
-            let copy = FatAttributes {
-                foreground: fat.foreground,
-                background: fat.background,
-                underline_color: fat.underline_color,
-                hyperlink,
-            };
-            Ok(Some(Box::new(*Box::allocator(fat), copy)?))
-        }
-    }
-}
-
-fn clone_link(link: &Option<Rc<Hyperlink>>) -> Result<Option<Rc<Hyperlink>>, AllocError>
-    ensures { IfOk result (λ copy. spec.linked copy ≡ spec.linked link.now) }
-{
-    match link {
-        None => Ok(None),
-        Some(link) => {
-            let copy = link.clone()?;
-            Ok(Some(copy))
-        }
+    match color {
+        ColorAttribute::PaletteIndex(index) => Some(*index),
+        _ => None,
     }
 }
 
 impl Clone for CellAttributes {
     ghost is_clone = { λ a b. b ≡ a };
 
+    ghost is_infallible = { λ a. needs_box a ≡ false };
+
     fn clone(&self) -> Result<CellAttributes, AllocError> {
-        let fat = clone_fat(&self.fat)?;
+        let fat = fat::clone_fat(&self.fat)?;
         Ok(CellAttributes {
             style: self.style.copied(),
             fat,
@@ -361,8 +498,6 @@ impl Clone for CellAttributes {
 }
 
 impl PartialEq for CellAttributes {
-    ghost use Rattle.termwiz_cell.specs.Attributes.{attributes_eq, attributes_eq-Decides};
-
     ghost eq = { attributes_eq };
 
     ghost laws = { partial_equiv_from_equiv (decided attributes_eq attributes_eq-Decides) };
@@ -376,14 +511,10 @@ impl PartialEq for CellAttributes {
 }
 
 impl Eq for CellAttributes {
-    ghost use Rattle.termwiz_cell.specs.Attributes.{attributes_eq, attributes_eq-Decides};
-
     ghost laws = { decided attributes_eq attributes_eq-Decides };
 }
 
 impl Default for CellAttributes {
-    ghost use Rattle.termwiz_cell.specs.Attributes.{default_attributes};
-
     ghost is_default = { λ a. a ≡ default_attributes };
 
     fn default() -> CellAttributes {

@@ -1,8 +1,6 @@
-//! The small attributes, in one word.
-ghost use Rattle.std.specs.Prelude.{◌≡◌, ℕ, ◌+◌, ◌*◌, ◌/◌, ◌%◌, ◌^◌, ◌<◌, ◌≤◌, ◌↔◌, IsTrue, bytes_eq};
-ghost use Rattle.termwiz_cell.specs.StyleWord.{intensity_number, intensity_at, underline_number, underline_at, blink_number, blink_at, semantic_number, semantic_at, vertical_number, vertical_at, flag_number, palette_number, palette_at, IsPalette, style_at, bits_at};
-
-use std::marker::Model;
+//! The small attributes, and their numbers.
+ghost use Rattle.std.specs.Prelude.{◌≡◌, ◌<◌};
+ghost use Rattle.termwiz_cell.specs.StyleWord.{intensity_number, intensity_at, underline_number, underline_at, blink_number, blink_at, semantic_number, semantic_at, vertical_number, vertical_at};
 
 /// How strong a text is.
 #[derive(Clone, Copy, PartialEq, Eq, Debug, Default)]
@@ -25,12 +23,34 @@ pub enum Underline {
     Dashed,
 }
 
+/// Whether there is a line.
+impl From<Underline> for bool {
+    ghost use Rattle.termwiz_cell.specs.StyleWord.{is_underlined};
+
+    ghost from_gives = { λ underline on. on ≡ is_underlined underline };
+
+    fn from(underline: Underline) -> bool {
+        !matches!(underline, Underline::None)
+    }
+}
+
 /// How fast a text blinks.
 #[derive(Clone, Copy, PartialEq, Eq, Debug)]
 pub enum Blink {
     None,
     Slow,
     Rapid,
+}
+
+/// Whether it blinks.
+impl From<Blink> for bool {
+    ghost use Rattle.termwiz_cell.specs.StyleWord.{is_blinking};
+
+    ghost from_gives = { λ blink on. on ≡ is_blinking blink };
+
+    fn from(blink: Blink) -> bool {
+        !matches!(blink, Blink::None)
+    }
 }
 
 /// What a text is to its reader.
@@ -68,26 +88,8 @@ pub struct Style {
     pub background: Option<u8>,
 }
 
-/// The small attributes in a word.
-#[derive(Drop, Clone, Debug)]
-pub struct StyleWord {
-    word: u64,
-}
-
-impl Model for StyleWord {
-    ghost use Rattle.termwiz_cell.specs.declared.cell.style.Style.{Style};
-
-    ghost Value = { Style };
-
-    ghost use Rattle.termwiz_cell.specs.StyleWord.{style_at, IsStyleWord};
-
-    ghost view = { λ s. style_at s.word };
-
-    ghost invariant = { λ s. IsStyleWord s.word };
-}
-
 impl Intensity {
-    fn number(self) -> u64
+    pub(super) fn number(self) -> u64
         ensures value { result ≡ intensity_number self }
         ensures bound { result < 3 }
     {
@@ -98,7 +100,7 @@ impl Intensity {
         }
     }
 
-    fn from_number(number: u64) -> Intensity
+    pub(super) fn from_number(number: u64) -> Intensity
         requires { number < 3 }
         ensures { result ≡ intensity_at number }
     {
@@ -112,7 +114,7 @@ impl Intensity {
 }
 
 impl Underline {
-    fn number(self) -> u64
+    pub(super) fn number(self) -> u64
         ensures value { result ≡ underline_number self }
         ensures bound { result < 6 }
     {
@@ -126,7 +128,7 @@ impl Underline {
         }
     }
 
-    fn from_number(number: u64) -> Underline
+    pub(super) fn from_number(number: u64) -> Underline
         requires { number < 6 }
         ensures { result ≡ underline_at number }
     {
@@ -143,7 +145,7 @@ impl Underline {
 }
 
 impl Blink {
-    fn number(self) -> u64
+    pub(super) fn number(self) -> u64
         ensures value { result ≡ blink_number self }
         ensures bound { result < 3 }
     {
@@ -154,7 +156,7 @@ impl Blink {
         }
     }
 
-    fn from_number(number: u64) -> Blink
+    pub(super) fn from_number(number: u64) -> Blink
         requires { number < 3 }
         ensures { result ≡ blink_at number }
     {
@@ -168,7 +170,7 @@ impl Blink {
 }
 
 impl SemanticType {
-    fn number(self) -> u64
+    pub(super) fn number(self) -> u64
         ensures value { result ≡ semantic_number self }
         ensures bound { result < 3 }
     {
@@ -179,7 +181,7 @@ impl SemanticType {
         }
     }
 
-    fn from_number(number: u64) -> SemanticType
+    pub(super) fn from_number(number: u64) -> SemanticType
         requires { number < 3 }
         ensures { result ≡ semantic_at number }
     {
@@ -193,7 +195,7 @@ impl SemanticType {
 }
 
 impl VerticalAlign {
-    fn number(self) -> u64
+    pub(super) fn number(self) -> u64
         ensures value { result ≡ vertical_number self }
         ensures bound { result < 3 }
     {
@@ -204,7 +206,7 @@ impl VerticalAlign {
         }
     }
 
-    fn from_number(number: u64) -> VerticalAlign
+    pub(super) fn from_number(number: u64) -> VerticalAlign
         requires { number < 3 }
         ensures { result ≡ vertical_at number }
     {
@@ -214,307 +216,5 @@ impl VerticalAlign {
             2 => VerticalAlign::SubScript,
             _ => unreachable!(),
         }
-    }
-}
-
-fn flag_digit(flag: bool) -> u64
-    ensures value { result ≡ flag_number flag }
-    ensures bound { result < 2 }
-{
-    if flag { 1 } else { 0 }
-}
-
-fn palette_digit(index: Option<u8>) -> u64
-    ensures value { result ≡ palette_number index }
-    ensures palette { IsPalette index }
-    ensures bound { result < 257 }
-{
-    match index {
-        None => 0,
-        Some(index) => index as u64 + 1,
-    }
-}
-
-fn palette_from(digit: u64) -> Option<u8>
-    requires { digit < 257 }
-    ensures { result ≡ palette_at digit }
-{
-    if digit == 0 {
-        None
-    } else {
-        Some((digit - 1) as u8)
-    }
-}
-
-impl StyleWord {
-    pub fn blank() -> StyleWord
-        ensures { result ≡ style_at 0 }
-    {
-        StyleWord { word: 0 }
-    }
-
-    #[tactic(auto, using(crate::specs::StyleLaws::laws))]
-    pub fn pack(style: Style) -> StyleWord
-        ensures { result ≡ style }
-    {
-        let intensity = style.intensity.number();
-        let underline = style.underline.number();
-        let blink = style.blink.number();
-        let italic = flag_digit(style.italic);
-        let reverse = flag_digit(style.reverse);
-        let strikethrough = flag_digit(style.strikethrough);
-        let invisible = flag_digit(style.invisible);
-        let wrapped = flag_digit(style.wrapped);
-        let overline = flag_digit(style.overline);
-        let semantic_type = style.semantic_type.number();
-        let vertical_align = style.vertical_align.number();
-        let foreground = palette_digit(style.foreground);
-        let background = palette_digit(style.background);
-        let word = intensity
-            + underline * 4
-            + blink * 32
-            + italic * 128
-            + reverse * 256
-            + strikethrough * 512
-            + invisible * 1024
-            + wrapped * 2048
-            + overline * 4096
-            + semantic_type * 8192
-            + vertical_align * 32768
-            + foreground * 131072
-            + background * 67108864;
-        StyleWord { word }
-    }
-
-    pub fn copied(&self) -> StyleWord
-        ensures { result ≡ self.now }
-    {
-        StyleWord { word: self.word }
-    }
-
-    pub fn has_same_bits(&self, other: &StyleWord) -> bool
-        ensures { result ≡ bytes_eq (bits_at self.now) (bits_at other.now) }
-    {
-        self.bits() == other.bits()
-    }
-
-    fn bits(&self) -> [u64; 11]
-        ensures { result ≡ bits_at self.now }
-    {
-        [
-            self.intensity().number(),
-            self.underline().number(),
-            self.blink().number(),
-            flag_digit(self.italic()),
-            flag_digit(self.reverse()),
-            flag_digit(self.strikethrough()),
-            flag_digit(self.invisible()),
-            flag_digit(self.wrapped()),
-            flag_digit(self.overline()),
-            self.semantic_type().number(),
-            self.vertical_align().number(),
-        ]
-    }
-
-    pub fn style(&self) -> Style
-        ensures { result ≡ self.now }
-    {
-        Style {
-            intensity: self.intensity(),
-            underline: self.underline(),
-            blink: self.blink(),
-            italic: self.italic(),
-            reverse: self.reverse(),
-            strikethrough: self.strikethrough(),
-            invisible: self.invisible(),
-            wrapped: self.wrapped(),
-            overline: self.overline(),
-            semantic_type: self.semantic_type(),
-            vertical_align: self.vertical_align(),
-            foreground: self.foreground(),
-            background: self.background(),
-        }
-    }
-
-    pub fn intensity(&self) -> Intensity
-        ensures { result ≡ self.now.intensity }
-    {
-        Intensity::from_number(self.word & 3)
-    }
-
-    pub fn set_intensity(&mut self, value: Intensity)
-        ensures { self.new ≡ record self.old { intensity = value } }
-    {
-        let mut style = self.style();
-        style.intensity = value;
-        *self = StyleWord::pack(style);
-    }
-
-    pub fn underline(&self) -> Underline
-        ensures { result ≡ self.now.underline }
-    {
-        Underline::from_number(self.word >> 2 & 7)
-    }
-
-    pub fn set_underline(&mut self, value: Underline)
-        ensures { self.new ≡ record self.old { underline = value } }
-    {
-        let mut style = self.style();
-        style.underline = value;
-        *self = StyleWord::pack(style);
-    }
-
-    pub fn blink(&self) -> Blink
-        ensures { result ≡ self.now.blink }
-    {
-        Blink::from_number(self.word >> 5 & 3)
-    }
-
-    pub fn set_blink(&mut self, value: Blink)
-        ensures { self.new ≡ record self.old { blink = value } }
-    {
-        let mut style = self.style();
-        style.blink = value;
-        *self = StyleWord::pack(style);
-    }
-
-    pub fn italic(&self) -> bool
-        ensures { result ≡ self.now.italic }
-    {
-        self.word >> 7 & 1 == 1
-    }
-
-    pub fn set_italic(&mut self, value: bool)
-        ensures { self.new ≡ record self.old { italic = value } }
-    {
-        let mut style = self.style();
-        style.italic = value;
-        *self = StyleWord::pack(style);
-    }
-
-    pub fn reverse(&self) -> bool
-        ensures { result ≡ self.now.reverse }
-    {
-        self.word >> 8 & 1 == 1
-    }
-
-    pub fn set_reverse(&mut self, value: bool)
-        ensures { self.new ≡ record self.old { reverse = value } }
-    {
-        let mut style = self.style();
-        style.reverse = value;
-        *self = StyleWord::pack(style);
-    }
-
-    pub fn strikethrough(&self) -> bool
-        ensures { result ≡ self.now.strikethrough }
-    {
-        self.word >> 9 & 1 == 1
-    }
-
-    pub fn set_strikethrough(&mut self, value: bool)
-        ensures { self.new ≡ record self.old { strikethrough = value } }
-    {
-        let mut style = self.style();
-        style.strikethrough = value;
-        *self = StyleWord::pack(style);
-    }
-
-    pub fn invisible(&self) -> bool
-        ensures { result ≡ self.now.invisible }
-    {
-        self.word >> 10 & 1 == 1
-    }
-
-    pub fn set_invisible(&mut self, value: bool)
-        ensures { self.new ≡ record self.old { invisible = value } }
-    {
-        let mut style = self.style();
-        style.invisible = value;
-        *self = StyleWord::pack(style);
-    }
-
-    pub fn wrapped(&self) -> bool
-        ensures { result ≡ self.now.wrapped }
-    {
-        self.word >> 11 & 1 == 1
-    }
-
-    pub fn set_wrapped(&mut self, value: bool)
-        ensures { self.new ≡ record self.old { wrapped = value } }
-    {
-        let mut style = self.style();
-        style.wrapped = value;
-        *self = StyleWord::pack(style);
-    }
-
-    pub fn overline(&self) -> bool
-        ensures { result ≡ self.now.overline }
-    {
-        self.word >> 12 & 1 == 1
-    }
-
-    pub fn set_overline(&mut self, value: bool)
-        ensures { self.new ≡ record self.old { overline = value } }
-    {
-        let mut style = self.style();
-        style.overline = value;
-        *self = StyleWord::pack(style);
-    }
-
-    pub fn semantic_type(&self) -> SemanticType
-        ensures { result ≡ self.now.semantic_type }
-    {
-        SemanticType::from_number(self.word >> 13 & 3)
-    }
-
-    pub fn set_semantic_type(&mut self, value: SemanticType)
-        ensures { self.new ≡ record self.old { semantic_type = value } }
-    {
-        let mut style = self.style();
-        style.semantic_type = value;
-        *self = StyleWord::pack(style);
-    }
-
-    pub fn vertical_align(&self) -> VerticalAlign
-        ensures { result ≡ self.now.vertical_align }
-    {
-        VerticalAlign::from_number(self.word >> 15 & 3)
-    }
-
-    pub fn set_vertical_align(&mut self, value: VerticalAlign)
-        ensures { self.new ≡ record self.old { vertical_align = value } }
-    {
-        let mut style = self.style();
-        style.vertical_align = value;
-        *self = StyleWord::pack(style);
-    }
-
-    pub fn foreground(&self) -> Option<u8>
-        ensures { result ≡ self.now.foreground }
-    {
-        palette_from(self.word >> 17 & 511)
-    }
-
-    pub fn set_foreground(&mut self, value: Option<u8>)
-        ensures { self.new ≡ record self.old { foreground = value } }
-    {
-        let mut style = self.style();
-        style.foreground = value;
-        *self = StyleWord::pack(style);
-    }
-
-    pub fn background(&self) -> Option<u8>
-        ensures { result ≡ self.now.background }
-    {
-        palette_from(self.word >> 26 & 511)
-    }
-
-    pub fn set_background(&mut self, value: Option<u8>)
-        ensures { self.new ≡ record self.old { background = value } }
-    {
-        let mut style = self.style();
-        style.background = value;
-        *self = StyleWord::pack(style);
     }
 }

@@ -1,11 +1,12 @@
 //! The text of a cell, where none is a space.
-ghost use Rattle.std.specs.Prelude.{◌≡◌, IfOk};
-ghost use Rattle.termwiz_cell.specs.CellLayout.{text_of};
-ghost use Rattle.termwiz_cell.specs.CellValue.{clean};
+ghost use Rattle.std.specs.Prelude.{◌≡◌, ◌↔◌, IsTrue, IfOk, IsNone, IsOk, bytes_eq};
+ghost use Rattle.termwiz_cell.specs.CellLayout.{text_of, IsStoredText};
+ghost use Rattle.termwiz_cell.specs.CellValue.{clean, space};
 
 use std::alloc::{AllocError, Global};
 
-pub(crate) fn cleaned(text: &str) -> &str
+/// The text without controls: each control character, CR LF and the empty text is a space.
+pub(super) fn cleaned(text: &str) -> &str
     ensures { result.now ≡ clean text.now }
 {
     match text.as_bytes() {
@@ -15,8 +16,10 @@ pub(crate) fn cleaned(text: &str) -> &str
     }
 }
 
-pub(crate) fn stored_text(alloc: Global, text: &str) -> Result<Option<String>, AllocError>
-    ensures { IfOk result (λ stored. text_of stored ≡ text.now) }
+pub(super) fn stored_text(alloc: Global, text: &str) -> Result<Option<String>, AllocError>
+    ensures text { IfOk result (λ stored. text_of stored ≡ text.now) }
+    ensures stored { IfOk result (λ stored. IsStoredText stored) }
+    ensures succeeds { text.now ≡ space → IsOk result }
 {
     if text == " " {
         return Ok(None);
@@ -25,7 +28,7 @@ pub(crate) fn stored_text(alloc: Global, text: &str) -> Result<Option<String>, A
     Ok(Some(stored))
 }
 
-pub(crate) fn shown_text(text: &Option<String>) -> &str
+pub(super) fn shown_text(text: &Option<String>) -> &str
     ensures { result.now ≡ text_of text.now }
 {
     match text {
@@ -34,8 +37,23 @@ pub(crate) fn shown_text(text: &Option<String>) -> &str
     }
 }
 
-pub(crate) fn copied_text(text: &Option<String>) -> Result<Option<String>, AllocError>
-    ensures { IfOk result (λ copy. text_of copy ≡ text_of text.now) }
+pub(super) fn is_same_text(a: &Option<String>, b: &Option<String>) -> bool
+    requires a_stored { IsStoredText a.now }
+    requires b_stored { IsStoredText b.now }
+    ensures { result ≡ bytes_eq (text_of a.now) (text_of b.now) }
+{
+    match (a, b) {
+        (None, None) => true,
+        (Some(a), Some(b)) => *a == *b,
+        _ => false,
+    }
+}
+
+pub(super) fn copied_text(text: &Option<String>) -> Result<Option<String>, AllocError>
+    requires { IsStoredText text.now }
+    ensures text { IfOk result (λ copy. text_of copy ≡ text_of text.now) }
+    ensures stored { IfOk result (λ copy. IsStoredText copy) }
+    ensures succeeds { IsNone text.now → IsOk result }
 {
     match text {
         None => Ok(None),

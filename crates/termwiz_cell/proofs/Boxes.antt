@@ -1,0 +1,85 @@
+-- The one form of attributes: what stands in the word, and what in the box.
+use Rattle.std.proofs.Common.{◌≡◌, ℕ, Bool, true, false, Option, Some, None, refl, ap, sym, ◌∙◌}
+use Rattle.std.specs.Prelude.{◌&&◌}
+use Rattle.std.specs.Bool.{Decides}
+use Rattle.std.proofs.lemmas.Bool.Decides.{Decides-like, Decides-and, same_from_decides}
+use Rattle.termwiz_cell.specs.declared.color.ColorAttribute.{ColorAttribute}
+use Rattle.termwiz_cell.specs.declared.color.ColorAttribute.TheVariants as color
+use Rattle.termwiz_cell.specs.declared.cell.style.Style.{Style}
+use Rattle.termwiz_cell.specs.declared.cell.attributes.CellAttributes.TheInside.{Inside}
+use Rattle.termwiz_cell.specs.Attributes.{Attributes, color_eq-Decides, attributes_eq, attributes_eq-Decides, option_link_eq-Decides}
+use Rattle.termwiz_cell.specs.AttributesLayout.{Rare, rare_of, rare_eq, shown, is_apart, rare_part, palette_part, attributes_from, attributes_of, IsSound}
+
+rare_part-shown : (rare : ColorAttribute) (index : Option ℕ) → is_apart rare index ≡ true → rare_part (shown rare index) ≡ rare
+rare_part-shown color.Default None h = refl
+rare_part-shown color.Default (Some n) h = refl
+rare_part-shown (color.TrueColorWithPaletteFallback c n) index h = refl
+rare_part-shown (color.TrueColorWithDefaultFallback c) index h = refl
+rare_part-shown (color.PaletteIndex n) index h = cc
+
+palette_part-shown : (rare : ColorAttribute) (index : Option ℕ) → is_apart rare index ≡ true → palette_part (shown rare index) ≡ index
+palette_part-shown color.Default None h = refl
+palette_part-shown color.Default (Some n) h = refl
+palette_part-shown (color.TrueColorWithPaletteFallback c n) None h = refl
+palette_part-shown (color.TrueColorWithPaletteFallback c n) (Some m) h = cc
+palette_part-shown (color.TrueColorWithDefaultFallback c) None h = refl
+palette_part-shown (color.TrueColorWithDefaultFallback c) (Some m) h = cc
+palette_part-shown (color.PaletteIndex n) index h = cc
+
+-- the small attributes
+abbrev style_of : Attributes → Style
+style_of a = record {
+  intensity = a.intensity;
+  underline = a.underline;
+  blink = a.blink;
+  italic = a.italic;
+  reverse = a.reverse;
+  strikethrough = a.strikethrough;
+  invisible = a.invisible;
+  wrapped = a.wrapped;
+  overline = a.overline;
+  semantic_type = a.semantic_type;
+  vertical_align = a.vertical_align;
+  foreground = palette_part a.foreground;
+  background = palette_part a.background;
+}
+
+-- the rare attributes
+abbrev rare_from : Attributes → Rare
+rare_from a = record { foreground = rare_part a.foreground; background = rare_part a.background; underline_color = a.underline_color; hyperlink = a.hyperlink }
+
+module _ (style : Style) (rare : Rare) (hf : is_apart rare.foreground style.foreground ≡ true) (hb : is_apart rare.background style.background ≡ true) where
+  style_of-attributes_from : style_of (attributes_from style rare) ≡ style
+  style_of-attributes_from i = record style { foreground = palette_part-shown rare.foreground style.foreground hf i; background = palette_part-shown rare.background style.background hb i }
+
+  rare_from-attributes_from : rare_from (attributes_from style rare) ≡ rare
+  rare_from-attributes_from i = record rare { foreground = rare_part-shown rare.foreground style.foreground hf i; background = rare_part-shown rare.background style.background hb i }
+
+-- rare attributes are equal exactly where their parts are
+pub rare_eq-Decides : (a b : Rare) → Decides (rare_eq a b) (a ≡ b)
+rare_eq-Decides a b =
+    Decides-like (rare_eq a b)
+    (λ e i. record { foreground = e.0 i; background = e.1.0 i; underline_color = e.1.1.0 i; hyperlink = e.1.1.1 i })
+    (λ e. ((λ i. (e i).foreground), ((λ i. (e i).background), ((λ i. (e i).underline_color), (λ i. (e i).hyperlink)))))
+    (Decides-and _ _ (color_eq-Decides a.foreground b.foreground)
+    (Decides-and _ _ (color_eq-Decides a.background b.background)
+    (Decides-and _ _ (color_eq-Decides a.underline_color b.underline_color) (option_link_eq-Decides a.hyperlink b.hyperlink))))
+
+-- attributes are equal exactly where word and box are
+pub same-parts : (a b : Inside) → IsSound a → IsSound b → (styles rares : Bool) → Decides styles (a.style ≡ b.style) → Decides rares (rare_of a.fat ≡ rare_of b.fat) → Decides (styles && rares) (attributes_of a ≡ attributes_of b)
+same-parts a b ha hb styles rares hs hr =
+    Decides-like (styles && rares)
+    (λ e i. attributes_from (e.0 i) (e.1 i))
+    (λ e. (sym (style_of-attributes_from a.style (rare_of a.fat) ha.foreground ha.background) ∙ ap style_of e ∙ style_of-attributes_from b.style (rare_of b.fat) hb.foreground hb.background, sym (rare_from-attributes_from a.style (rare_of a.fat) ha.foreground ha.background) ∙ ap rare_from e ∙ rare_from-attributes_from b.style (rare_of b.fat) hb.foreground hb.background))
+    (Decides-and styles rares hs hr)
+
+-- the answer of a test that compares the words first
+module _ (a b : Inside) (ha : IsSound a) (hb : IsSound b) (styles : Bool) (hs : Decides styles (a.style ≡ b.style)) where
+  pub eq-where_styles_agree : (rares : Bool) → Decides rares (rare_of a.fat ≡ rare_of b.fat) → styles ≡ true → rares ≡ attributes_eq (attributes_of a) (attributes_of b)
+  eq-where_styles_agree rares hr e =
+      sym (ap (λ s. s && rares) e) ∙ same_from_decides (styles && rares) _ (same-parts a b ha hb styles rares hs hr) (attributes_eq-Decides (attributes_of a) (attributes_of b))
+
+  pub eq-where_styles_differ : styles ≡ false → styles ≡ attributes_eq (attributes_of a) (attributes_of b)
+  eq-where_styles_differ e =
+      let rares = rare_eq (rare_of a.fat) (rare_of b.fat) in
+      e ∙ sym (ap (λ s. s && rares) e) ∙ same_from_decides (styles && rares) _ (same-parts a b ha hb styles rares hs (rare_eq-Decides (rare_of a.fat) (rare_of b.fat))) (attributes_eq-Decides (attributes_of a) (attributes_of b))

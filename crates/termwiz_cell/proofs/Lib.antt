@@ -1,0 +1,9 @@
+pub mod Boxes
+mod ColorPrinted
+mod ColorRead
+mod Readers
+pub mod ParamLists
+pub mod ParamOrder
+pub mod PairTexts
+pub mod LinkGrammar
+pub mod LinkOutcomes

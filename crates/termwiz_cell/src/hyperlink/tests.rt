@@ -1,0 +1,64 @@
+use super::*;
+use std::test::Fail;
+
+/// A sequence's params and uri, read and printed again.
+fn reprinted(alloc: Global, params: &str, uri: &str) -> Result<Option<String>, Fail> {
+    let osc = [b"8".as_slice(), params.as_bytes(), uri.as_bytes()];
+    match Hyperlink::parse(alloc, &osc)? {
+        Some(link) => Ok(Some(link.to_string(alloc)?)),
+        None => Ok(None),
+    }
+}
+
+#[test]
+fn params_are_printed_in_the_order_of_their_keys(rt: HostRuntime) -> Result<(), Fail> {
+    let text = reprinted(rt.alloc(), "b=2:a=1", "u")?.ok_or("no link")?;
+    assert_eq!(rt; text.as_str(), "8;a=1:b=2;u");
+    Ok(())
+}
+
+#[test]
+fn a_later_equal_key_replaces(rt: HostRuntime) -> Result<(), Fail> {
+    let text = reprinted(rt.alloc(), "k=a=b:k=c", "u")?.ok_or("no link")?;
+    assert_eq!(rt; text.as_str(), "8;k=c;u");
+    Ok(())
+}
+
+#[test]
+fn a_key_may_be_empty(rt: HostRuntime) -> Result<(), Fail> {
+    let text = reprinted(rt.alloc(), "=v", "u")?.ok_or("no link")?;
+    assert_eq!(rt; text.as_str(), "8;=v;u");
+    Ok(())
+}
+
+#[test]
+fn empty_params_and_uri_are_no_link(rt: HostRuntime) -> Result<(), Fail> {
+    assert!(rt; reprinted(rt.alloc(), "", "")?.is_none());
+    Ok(())
+}
+
+#[test]
+fn faults_are_named_in_their_order(rt: HostRuntime) {
+    let alloc = rt.alloc();
+    let two = Hyperlink::parse(alloc, &[b"8".as_slice(), b"a"]);
+    assert_eq!(rt; two.err(), Some(LinkError::WrongParamCount));
+    let no_text = Hyperlink::parse(alloc, &[b"8".as_slice(), b"a", &[0xff]]);
+    assert_eq!(rt; no_text.err(), Some(LinkError::NotUtf8));
+    let no_pair = Hyperlink::parse(alloc, &[b"8".as_slice(), b"a", b"u"]);
+    assert_eq!(rt; no_pair.err(), Some(LinkError::BadParams));
+}
+
+#[test]
+fn made_links_are_printed(rt: HostRuntime) -> Result<(), Fail> {
+    let alloc = rt.alloc();
+    let uri = String::from_str(alloc, "http://a")?;
+    let with_id = Hyperlink::new_with_id(alloc, uri, String::from_str(alloc, "7")?)?;
+    assert_eq!(rt; with_id.to_string(alloc)?.as_str(), "8;id=7;http://a");
+    assert_eq!(rt; with_id.uri(), "http://a");
+    let plain = Hyperlink::new(alloc, String::from_str(alloc, "u")?);
+    assert_eq!(rt; plain.to_string(alloc)?.as_str(), "8;;u");
+    assert!(rt; plain.params().is_empty() && !plain.is_implicit());
+    let implicit = Hyperlink::new_implicit(alloc, String::from_str(alloc, "u")?);
+    assert!(rt; implicit.is_implicit() && implicit != plain);
+    Ok(())
+}

@@ -1,4 +1,0 @@
-pub mod LineValue
-pub mod Row
-pub mod Shows
-pub mod Entries

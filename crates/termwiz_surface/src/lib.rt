@@ -1,4 +1,0 @@
-//! Surfaces: screens that are changed by lists of changes.
-#![tactic(auto)]
-
-pub mod surface;

@@ -1,0 +1,62 @@
+-- Setting a cell where the one before it was torn alone, and what half_of says.
+use Rattle.std.proofs.Common.{[], ◌∷◌, ◌++◌, length, take, length-append, length-set, le-leb, ◌≡◌, ◌≢◌, ℕ, ◌+◌, ◌-◌, ◌<◌, ◌≤◌, inl, inr, Bool, true, false, ◌&&◌, List, Option, set, refl, sym, ◌∙◌, ap, arith}
+use Rattle.std.specs.Prelude.{nat_lt, if◌then◌else◌}
+use Rattle.std.specs.Option.{ForSome}
+use Rattle.std.proofs.lemmas.Bool.{cases_Bool, lt-ltb, le-ltb, lt-leb}
+use Rattle.std.proofs.lemmas.List.{set-set, set_comm, append-nil, length-replicate}
+use Rattle.termwiz_cell.specs.CellValue.{CellValue, half, is_wide, columns}
+use Rattle.termwiz_storage.specs.Stored.{stored, padded, free, put, set_cell}
+use Rattle.termwiz_storage.specs.Halves.{half_of, torn, with_half, overhang, missing_half, resized}
+
+pub half-has_room : (c : CellValue) (o : Option CellValue) (i n : ℕ) → o ≡ half_of c → i + columns c ≤ n → ForSome o (λ _. i + 1 < n)
+half-has_room c o i n e l = elim (cases_Bool (is_wide c)) [
+  | inl w ↦ rw (e, w) (let two : i + 2 ≤ n = rw w at l in omega arith)
+  | inr f ↦ rw (e, f) (λ x n. absurd (cc))
+]
+
+pub put-halves : (i : ℕ) (c : CellValue) (o : Option CellValue) (cs : List CellValue) → o ≡ half_of c → set (with_half (i + 1) o cs) i c ≡ put i c cs
+put-halves i c o cs e = elim (cases_Bool (is_wide c)) [
+  | inl w ↦ rw (e, w) refl
+  | inr f ↦ rw (e, f) refl
+]
+
+over : (i : ℕ) (b : Bool) (c h k : CellValue) (cs : List CellValue) → (if b then set (set (set cs i h) (i + 1) k) i c else set (set cs i h) i c) ≡ (if b then set (set cs (i + 1) k) i c else set cs i c)
+over i true c h k cs =
+    let n : i ≢ i + 1 = omega arith in
+    ap (λ (xs : List CellValue). set xs i c) (set_comm cs i (i + 1) h k n) ∙ set-set (set cs (i + 1) k) i h c
+over i false c h k cs = set-set cs i h c
+
+-- a cell that is written over again
+put-set : (i : ℕ) (c h : CellValue) (cs : List CellValue) → put i c (set cs i h) ≡ put i c cs
+put-set i c h cs = over i (is_wide c) c h (half c) cs
+
+pub put-torn : (i : ℕ) (c : CellValue) (cs : List CellValue) → put i c (torn i cs) ≡ put i c (free i cs)
+put-torn i c cs = elim (cases_Bool (nat_lt 0 i && is_wide (stored cs (i - 1)))) [
+  | inl t ↦ rw t (sym (put-set i c (half (stored cs (i - 1))) (set cs (i - 1) (half (stored cs (i - 1))))))
+  | inr f ↦ rw f refl
+]
+
+pub length-torn : (i : ℕ) (cs : List CellValue) → length (torn i cs) ≡ length cs
+length-torn i cs = elim (cases_Bool (nat_lt 0 i && is_wide (stored cs (i - 1)))) [
+  | inl t ↦ rw t (simp length-set)
+  | inr f ↦ rw f refl
+]
+
+pub set_cell-torn : (i e : ℕ) (c : CellValue) (cs : List CellValue) → e ≡ i + columns c → put i c (torn i (padded e cs)) ≡ set_cell i c cs
+set_cell-torn i e c cs h = rw h (put-torn i c (padded (i + columns c) cs))
+
+pub length-padded : (n : ℕ) (cs : List CellValue) → (n ≤ length (padded n cs)) × (length cs ≤ length (padded n cs))
+length-padded n cs = let e : length (padded n cs) ≡ length cs + (n - length cs) = simp (length-append, length-replicate) in (omega arith, omega arith)
+
+-- what a list that grows begins with
+pub grown-wide : (cs : List CellValue) (h : CellValue) → 0 < overhang 0 cs → h ≡ half (stored cs (length cs - 1)) → cs ++ h ∷ [] ≡ cs ++ missing_half cs
+grown-wide cs h l e = rw (lt-ltb 0 (overhang 0 cs) l, e) refl
+
+pub grown-narrow : (cs : List CellValue) → overhang 0 cs ≤ 0 → cs ≡ cs ++ missing_half cs
+grown-narrow cs l = rw (le-ltb 0 (overhang 0 cs) l) (sym (append-nil cs))
+
+pub resized-grown : (k : ℕ) (cs ds : List CellValue) → length cs < k → ds ≡ cs ++ missing_half cs → padded k ds ≡ resized k cs
+resized-grown k cs ds l e = rw (e, lt-leb k (length cs) l) refl
+
+pub resized-cut : (k : ℕ) (cs : List CellValue) → k ≤ length cs → take k cs ≡ resized k cs
+resized-cut k cs l = rw (le-leb k (length cs) l) refl

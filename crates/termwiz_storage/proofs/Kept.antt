@@ -1,0 +1,88 @@
+-- The length up to which the last visible cell that is no default blank reaches.
+use Rattle.std.proofs.Common.{◌≡◌, ◌≢◌, ℕ, zero, suc, ◌+◌, ◌-◌, ◌<◌, ◌≤◌, ◌⊎◌, inl, inr, min, List, [], ◌∷◌, length, Some, None, refl, sym, ◌∙◌, ap, arith}
+use Rattle.std.proofs.lemmas.Bool.{cases_lt, cases_eq, ne_eqb, eq-eqb}
+use Rattle.termwiz_cell.specs.CellValue.{columns, CellValue, blank}
+use Rattle.termwiz_storage.proofs.Widths.{columns_bounds}
+use Rattle.termwiz_storage.specs.Stored.{visible_from, visible, cell_at, IsKept}
+
+-- e is where the last visible cell that isn't blank ends, or k where there is none
+pub data EndsAt : ℕ → List (ℕ × CellValue) → ℕ → Type 0 where
+  nothing : {k : ℕ} → EndsAt k [] k
+  blank_cell : {k i e : ℕ} {c : CellValue} {ps : List (ℕ × CellValue)} → c ≡ blank → EndsAt k ps e → EndsAt k ((i, c) ∷ ps) e
+  other_cell : {k i e : ℕ} {c : CellValue} {ps : List (ℕ × CellValue)} → c ≢ blank → EndsAt (i + (columns c)) ps e → EndsAt k ((i, c) ∷ ps) e
+
+before : (i s : ℕ) (cs : List CellValue) (x : ℕ) → x < i + s → cell_at (visible_from i s cs) x ≡ None
+before i s [] x l = refl
+before i zero (c ∷ cs) x l = rw (ne_eqb i x (omega arith)) (before (i + 1) ((columns c) - 1) cs x (omega arith))
+before i (suc s) (c ∷ cs) x l = before (i + 1) s cs x (omega arith)
+
+later : (i x : ℕ) (c : CellValue) (ps : List (ℕ × CellValue)) → i < x → cell_at ((i, c) ∷ ps) x ≡ cell_at ps x
+later i x c ps l = rw (ne_eqb i x (omega arith)) refl
+
+first : (i : ℕ) (c : CellValue) (ps : List (ℕ × CellValue)) → cell_at ((i, c) ∷ ps) i ≡ Some c
+first i c ps = rw (eq-eqb i i refl) refl
+
+-- from e on all is blank
+blank_after : (k i s e : ℕ) (cs : List CellValue) → EndsAt k (visible_from i s cs) e → k ≤ i + s → (s ≡ 0) ⊎ (i + s ≤ k) → (k ≤ e) × ((x : ℕ) → e ≤ x → i ≤ x → x < i + length cs → cell_at (visible_from i s cs) x ≡ Some blank)
+blank_after k i s e [] nothing m p = (omega arith, λ x l b h. absurd (omega arith))
+blank_after k i zero e (c ∷ cs) (blank_cell q h) m p =
+    let b2 : (0 < columns c) × (columns c ≤ 2) = columns_bounds c in
+    let w : (columns c) ≡ 1 = ap columns q in
+    let r : (k ≤ e) × ((x : ℕ) → e ≤ x → i + 1 ≤ x → x < i + 1 + length cs → cell_at (visible_from (i + 1) ((columns c) - 1) cs) x ≡ Some blank) =
+    blank_after k (i + 1) ((columns c) - 1) e cs h (omega arith) (inl (omega arith)) in (
+      r.0,
+      λ x l b t. elim (cases_eq x i) [
+        | inl z ↦ rw z (first i c (visible_from (i + 1) ((columns c) - 1) cs) ∙ ap Some q)
+        | inr z ↦ later i x c (visible_from (i + 1) ((columns c) - 1) cs) (omega arith) ∙ r.1 x l (omega arith) (omega arith)
+      ],
+    )
+blank_after k i zero e (c ∷ cs) (other_cell n h) m p =
+    let b2 : (0 < columns c) × (columns c ≤ 2) = columns_bounds c in
+    let r : (i + (columns c) ≤ e) × ((x : ℕ) → e ≤ x → i + 1 ≤ x → x < i + 1 + length cs → cell_at (visible_from (i + 1) ((columns c) - 1) cs) x ≡ Some blank) =
+    blank_after (i + (columns c)) (i + 1) ((columns c) - 1) e cs h (omega arith) (inr (omega arith)) in
+    let b0 : i + (columns c) ≤ e = r.0 in
+    (omega arith, λ x l b t. later i x c (visible_from (i + 1) ((columns c) - 1) cs) (omega arith) ∙ r.1 x l (omega arith) (omega arith))
+blank_after k i (suc s) e (c ∷ cs) h m p =
+    let p' : (s ≡ 0) ⊎ (i + 1 + s ≤ k) = elim p [ inl z ↦ absurd (omega arith) | inr z ↦ inr (omega arith) ] in
+    let z : i + suc s ≤ k = elim p [ inl z ↦ absurd (omega arith) | inr z ↦ z ] in
+    let r : (k ≤ e) × ((x : ℕ) → e ≤ x → i + 1 ≤ x → x < i + 1 + length cs → cell_at (visible_from (i + 1) s cs) x ≡ Some blank) = blank_after k (i + 1) s e cs h (omega arith) p' in
+    let k0 : k ≤ e = r.0 in
+    (k0, λ x l b t. r.1 x l (omega arith) (omega arith))
+
+-- nothing less will do
+least : (k i s e : ℕ) (cs : List CellValue) (j : ℕ) → EndsAt k (visible_from i s cs) e → k ≤ j → ((x : ℕ) → j ≤ x → i ≤ x → x < i + length cs → cell_at (visible_from i s cs) x ≡ Some blank) → min e (i + length cs) ≤ j
+least k i s e [] j nothing l f = omega arith
+least k i zero e (c ∷ cs) j (blank_cell q h) l f =
+    let b2 : (0 < columns c) × (columns c ≤ 2) = columns_bounds c in
+    let r : min e (i + 1 + length cs) ≤ j = least k (i + 1) ((columns c) - 1) e cs j h l (λ x u v t. sym (later i x c (visible_from (i + 1) ((columns c) - 1) cs) (omega arith)) ∙ f x u (omega arith) (omega arith)) in
+    omega arith
+least k i zero e (c ∷ cs) j (other_cell n h) l f =
+    let b2 : (0 < columns c) × (columns c ≤ 2) = columns_bounds c in
+    let ps : List (ℕ × CellValue) = visible_from (i + 1) ((columns c) - 1) cs in
+    elim (cases_lt j (i + (columns c))) [
+      | inr g ↦
+          let r : min e (i + 1 + length cs) ≤ j = least (i + (columns c)) (i + 1) ((columns c) - 1) e cs j h g (λ x u v t. sym (later i x c ps (omega arith)) ∙ f x u (omega arith) (omega arith)) in
+          omega arith
+      | inl g ↦ elim (cases_lt i j) [
+        | inr u ↦ let same : Some c ≡ Some blank = sym (first i c ps) ∙ f i u (omega arith) (omega arith) in absurd (n (cc))
+        | inl u ↦ elim (cases_lt j (i + suc (length cs))) [
+          | inr v ↦ omega arith
+          | inl v ↦
+              let same : None ≡ Some blank = sym (before (i + 1) ((columns c) - 1) cs j (omega arith)) ∙ sym (later i j c ps u) ∙ f j (omega arith) (omega arith) v in
+              absurd (cc)
+        ]
+      ]
+    ]
+least k i (suc s) e (c ∷ cs) j h l f =
+    let r : min e (i + 1 + length cs) ≤ j = least k (i + 1) s e cs j h l (λ x u v t. f x u (omega arith) (omega arith)) in
+    omega arith
+
+-- what the loop over the visible cells computes
+pub IsKept-ends : (cs : List CellValue) (e : ℕ) → EndsAt 0 (visible cs) e → IsKept cs (min e (length cs))
+IsKept-ends cs e h =
+    let r : (0 ≤ e) × ((x : ℕ) → e ≤ x → 0 ≤ x → x < 0 + length cs → cell_at (visible cs) x ≡ Some blank) = blank_after 0 0 0 e cs h (omega arith) (inl refl) in
+    record {
+      within = omega arith;
+      blank_after = λ x l b. r.1 x (omega arith) (omega arith) (omega arith);
+      least = λ j f. let t : min e (0 + length cs) ≤ j = least 0 0 0 e cs j h (omega arith) (λ x u v w. f x u (omega arith)) in omega arith;
+    }

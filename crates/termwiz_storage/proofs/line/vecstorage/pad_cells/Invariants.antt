@@ -1,0 +1,9 @@
+use Rattle.std.proofs.Common.{◌≡◌, ◌+◌, ◌-◌, ◌≤◌, ◌++◌, replicate, vec_len, vec_capacity}
+use Rattle.termwiz_cell.specs.CellValue.{blank}
+use Rattle.termwiz_storage.proofs.line.vecstorage.pad_cells.Given as goal
+
+abbrev pub invariant-loop : goal.invariant-loop
+invariant-loop l = record {
+  items : l.cells.items ≡ l.initial.cells.items ++ replicate (l.counter - l.have) blank;
+  room : vec_len l.cells + (l.len - l.counter) ≤ vec_capacity l.cells;
+}

@@ -1,0 +1,6 @@
+pub mod Stored
+pub mod Halves
+pub mod FilledAs
+pub mod CellLists
+pub mod CellRef
+pub mod CellsLeft

@@ -1,0 +1,314 @@
+//! Cells stored one by one.
+ghost use Rattle.std.specs.Prelude.{◌≡◌, [], ◌+◌, ◌-◌, ◌<◌, ◌≤◌, ◌↔◌, IsTrue, OnErr, OnOk, IsOk, IfOk, length, take, vec_capacity, vec_len};
+ghost use Rattle.std.specs.Option.{ForSome};
+ghost use Rattle.std.specs.Cmp.{decided, partial_equiv_from_equiv};
+ghost use Rattle.std.specs.Iterator.{YieldsFirstBy, item_count};
+ghost use Rattle.termwiz_cell.specs.CellValue.{blank, columns, half};
+ghost use Rattle.termwiz_storage.specs.CellRef.{indexed_cell, ref_cell};
+ghost use Rattle.termwiz_storage.specs.Stored.{padded, put, stored, set_cell, visible, IsKept};
+ghost use Rattle.termwiz_storage.specs.Halves.{half_of, overhang, resized, torn, with_half};
+ghost use Rattle.termwiz_storage.specs.CellLists.{cells_eq, cells_eq-Decides};
+
+use crate::line::cellref::CellRef;
+use std::alloc::{AllocError, Global};
+use std::marker::Model;
+use std::{mem, slice};
+use termwiz_cell::cell::{Cell, CellAttributes};
+
+/// The cells of a line, each with a place of its own.
+#[derive(Drop, Debug)]
+pub struct VecStorage {
+    cells: Vec<Cell>,
+}
+
+impl Model for VecStorage {
+    ghost use Rattle.std.specs.Prelude.{List};
+    ghost use Rattle.termwiz_cell.specs.CellValue.{CellValue};
+
+    ghost Value = { List CellValue };
+
+    ghost view = { λ s. s.cells.items };
+}
+
+impl VecStorage {
+    /// A storage of these cells.
+    pub fn new(cells: Vec<Cell>) -> VecStorage
+        ensures { result ≡ cells.items }
+    {
+        VecStorage { cells }
+    }
+
+    /// How many cells are stored.
+    pub fn len(&self) -> usize
+        ensures { result ≡ length self.now }
+    {
+        self.cells.len()
+    }
+
+    /// Whether no cell is stored.
+    pub fn is_empty(&self) -> bool
+        ensures { IsTrue result ↔ (self.now ≡ []) }
+    {
+        self.cells.is_empty()
+    }
+
+    /// The stored cells.
+    pub fn cells(&self) -> &[Cell]
+        ensures { result.now ≡ self.now }
+    {
+        &self.cells
+    }
+
+    /// The visible cells.
+    pub fn iter(&self) -> VecStorageIter<'_>
+        ensures { result ≡ visible self.now }
+    {
+        VecStorageIter::new(&self.cells)
+    }
+
+    /// The allocator of the list.
+    pub fn allocator(&self) -> Global {
+        *self.cells.allocator()
+    }
+
+    /// Pads with default blanks to at least this many cells. On an error nothing changed.
+    pub fn pad(&mut self, len: usize) -> Result<(), AllocError>
+        ensures ok { OnOk result (self.new ≡ padded len self.old) }
+        ensures err { OnErr result (self.new ≡ self.old) }
+        ensures succeeds { len ≤ length self.old → IsOk result }
+    {
+        pad_cells(&mut self.cells, len)
+    }
+
+    // A wide cell that column i cuts becomes a blank with its attributes.
+    fn tear(&mut self, i: usize)
+        requires { i ≤ length self.old }
+        ensures { self.new ≡ torn i self.old }
+    {
+        if i > 0 && self.cells[i - 1].width() > 1 {
+            blank_out(&mut self.cells[i - 1]);
+        }
+    }
+
+    // The cell comes to column i, and the half of a wide one behind it.
+    fn put(&mut self, i: usize, cell: Cell, half: Option<Cell>)
+        requires room { i + columns cell ≤ length self.old }
+        requires half_is { half ≡ half_of cell }
+        ensures { self.new ≡ put i cell self.old }
+    {
+        set_half(&mut self.cells, i + 1, half);
+        self.cells[i] = cell;
+    }
+
+    /// Sets a cell. The list is padded so far, a wide cell that is cut leaves a blank with its attributes, and the half of a wide cell follows it.
+    /// On an error, which a column past the greatest number gives too, nothing changed.
+    pub fn set_cell(&mut self, i: usize, cell: Cell) -> Result<(), AllocError>
+        ensures ok { OnOk result (self.new ≡ set_cell i cell self.old) }
+        ensures err { OnErr result (self.new ≡ self.old) }
+    {
+        let end = end_of(i, &cell)?;
+        let half = half_if_wide(&cell)?;
+        self.pad(end)?;
+        self.tear(i);
+        self.put(i, cell, half);
+        Ok(())
+    }
+
+    /// Cuts the list.
+    pub fn truncate(&mut self, len: usize)
+        ensures { self.new ≡ take len self.old }
+    {
+        self.cells.truncate(len);
+    }
+
+    // The columns that the last visible cell has past the end.
+    fn overhang(&self) -> usize
+        ensures { result ≡ overhang 0 self.now }
+    {
+        let mut skip = 0;
+        for cell in &self.cells {
+            skip = if skip > 0 { skip - 1 } else { cell.width() - 1 };
+        }
+        skip
+    }
+
+    /// Cuts the list, or grows it by default blanks. Where it grows and its last visible cell lacks its half, the half comes first.
+    /// On an error nothing changed.
+    pub fn resize(&mut self, len: usize) -> Result<(), AllocError>
+        ensures ok { OnOk result (self.new ≡ resized len self.old) }
+        ensures err { OnErr result (self.new ≡ self.old) }
+        ensures succeeds { len ≤ length self.old → IsOk result }
+    {
+        let have = self.cells.len();
+        if len <= have {
+            self.truncate(len);
+            return Ok(());
+        }
+        self.cells.reserve(len - have)?;
+        if self.overhang() > 0 {
+            let half = half_behind(&self.cells)?;
+            self.cells.push(half)?;
+        }
+        pad_cells(&mut self.cells, len)
+    }
+
+    /// How many cells are left without the default blanks that end the list.
+    pub fn kept_len(&self) -> usize
+        ensures { IsKept self.now result }
+    {
+        let mut kept = 0;
+        for cell in self.iter() {
+            if !is_blank(&cell) {
+                kept = cell.cell_index().saturating_add(cell.width());
+            }
+        }
+        kept.min(self.cells.len())
+    }
+}
+
+// Pads with default blanks, for which there may be room.
+fn pad_cells(cells: &mut Vec<Cell>, len: usize) -> Result<(), AllocError>
+    ensures ok { OnOk result (cells.new.items ≡ padded len cells.old.items) }
+    ensures err { OnErr result (cells.new.items ≡ cells.old.items) }
+    ensures succeeds { len ≤ vec_capacity cells.old → IsOk result }
+{
+    let have = cells.len();
+    if have < len {
+        cells.reserve(len - have)?;
+        for _ in have..len {
+            cells.push(Cell::blank())?;
+        }
+    }
+    Ok(())
+}
+
+fn end_of(i: usize, cell: &Cell) -> Result<usize, AllocError>
+    ensures { IfOk result (λ end. end ≡ i + columns cell.now) }
+{
+    i.checked_add(cell.width()).ok_or(AllocError)
+}
+
+// The half of the last cell.
+fn half_behind(cells: &Vec<Cell>) -> Result<Cell, AllocError>
+    requires { 0 < vec_len cells.now }
+    ensures { IfOk result (λ made. made ≡ half (stored cells.now.items (length cells.now.items - 1))) }
+{
+    let attrs = cells[cells.len() - 1].attrs().clone()?;
+    Ok(Cell::blank_with_attrs(attrs))
+}
+
+// A blank with the cell's attributes comes in its place.
+fn blank_out(cell: &mut Cell)
+    ensures { cell.new ≡ half cell.old }
+{
+    let attrs = mem::replace(cell.attrs_mut(), CellAttributes::blank());
+    *cell = Cell::blank_with_attrs(attrs);
+}
+
+fn set_half(cells: &mut Vec<Cell>, i: usize, half: Option<Cell>)
+    requires { ForSome half (λ _. i < vec_len cells.old) }
+    ensures { cells.new.items ≡ with_half i half cells.old.items }
+{
+    if let Some(half) = half {
+        cells[i] = half;
+    }
+}
+
+fn half_if_wide(cell: &Cell) -> Result<Option<Cell>, AllocError>
+    ensures { IfOk result (λ made. made ≡ half_of cell.now) }
+{
+    if cell.width() < 2 {
+        return Ok(None);
+    }
+    let attrs = cell.attrs().clone()?;
+    Ok(Some(Cell::blank_with_attrs(attrs)))
+}
+
+fn is_blank(cell: &CellRef<'_>) -> bool
+    ensures { IsTrue result ↔ (ref_cell cell.now ≡ blank) }
+{
+    match cell {
+        CellRef::CellRef { cell, .. } => **cell == Cell::blank(),
+    }
+}
+
+impl Clone for VecStorage {
+    ghost is_clone = { λ a b. b ≡ a };
+
+    fn clone(&self) -> Result<VecStorage, AllocError> {
+        let cells = self.cells.clone()?;
+        Ok(VecStorage { cells })
+    }
+}
+
+impl PartialEq for VecStorage {
+    ghost eq = { cells_eq };
+
+    ghost laws = { partial_equiv_from_equiv (decided cells_eq cells_eq-Decides) };
+
+    fn eq(&self, other: &VecStorage) -> bool
+        ensures value { result ≡ cells_eq self.now other.now }
+        ensures same { IsTrue result ↔ (self.now ≡ other.now) }
+    {
+        self.cells.as_slice() == other.cells.as_slice()
+    }
+}
+
+impl Eq for VecStorage {
+    ghost laws = { decided cells_eq cells_eq-Decides };
+}
+
+/// The visible cells of a list of stored cells, in order.
+#[derive(Drop)]
+pub struct VecStorageIter<'a> {
+    cells: slice::Iter<'a, Cell>,
+    idx: usize,
+    skip_width: usize,
+}
+
+impl<'a> Model for VecStorageIter<'a> {
+    ghost use Rattle.std.specs.Prelude.{ℕ, List, length, ◌+◌, ◌<◌, ◌^◌};
+    ghost use Rattle.std.specs.Slice.Iter.{iter_rest};
+    ghost use Rattle.termwiz_cell.specs.CellValue.{CellValue};
+    ghost use Rattle.termwiz_storage.specs.Stored.{visible_from};
+
+    ghost Value = { List (ℕ × CellValue) };
+
+    ghost view = { λ s. visible_from s.idx s.skip_width (iter_rest s.cells) };
+
+    ghost invariant = { λ s. s.idx + length (iter_rest s.cells) < 2 ^ 64 };
+}
+
+impl<'a> VecStorageIter<'a> {
+    /// The visible cells of these stored ones.
+    pub fn new(cells: &'a [Cell]) -> VecStorageIter<'a>
+        ensures { result ≡ visible cells.now }
+    {
+        VecStorageIter {
+            cells: cells.iter(),
+            idx: 0,
+            skip_width: 0,
+        }
+    }
+}
+
+impl<'a> Iterator for VecStorageIter<'a> {
+    type Item = CellRef<'a>;
+
+    ghost next_gives = { YieldsFirstBy indexed_cell (λ s. s) };
+
+    ghost remaining = { item_count (λ s. s) };
+
+    fn next(&mut self) -> Option<CellRef<'a>> {
+        while self.skip_width > 0 {
+            self.skip_width -= 1;
+            self.cells.next()?;
+            self.idx += 1;
+        }
+        let cell = self.cells.next()?;
+        let cell_index = self.idx;
+        self.idx += 1;
+        self.skip_width = cell.width() - 1;
+        Some(CellRef::CellRef { cell_index, cell })
+    }
+}

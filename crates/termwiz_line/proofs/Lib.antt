@@ -1,0 +1,9 @@
+pub mod Fills
+pub mod RowPainting
+pub mod RowVisible
+pub mod RowShows
+pub mod RowOf
+pub mod Resized
+pub mod EntryLists
+pub mod PlainAttributes
+pub mod GrowingText

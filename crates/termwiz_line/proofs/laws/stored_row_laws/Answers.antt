@@ -1,0 +1,6 @@
+use Rattle.termwiz_line.proofs.RowOf.{row_of_row, row-visible, row_of-fixed}
+use Rattle.termwiz_line.proofs.Resized.{resized_is_row}
+use Rattle.termwiz_line.proofs.laws.stored_row_laws.Goals as goal
+
+pub returns : goal.returns
+returns c = record { row = λ w cs. (row_of_row w cs, row-visible w cs); fixed = row_of-fixed; resized = resized_is_row }

@@ -1,0 +1,54 @@
+-- The row of a list of stored cells, and painting and clearing it.
+-- A row of width w is the settled list of w cells: the first w stored cells, filled with default blanks, where the cell after a wide one is its half.
+-- A list reads as default blanks past its end, so a wide cell that is cut at the right edge needs no case of its own.
+use Rattle.std.specs.Prelude.{◌≡◌, ℕ, zero, suc, ◌<◌, Bool, true, false, cond, not, ◌&&◌, eqb, leb, List, [], ◌∷◌, ◌++◌, map, length}
+use Rattle.std.specs.List.{range_with_len}
+use Rattle.termwiz_cell.specs.CellValue.{CellValue, half, is_wide}
+use Rattle.termwiz_storage.specs.Stored.{stored}
+
+-- an index is hidden where the one before it holds a wide cell and is not hidden itself
+abbrev pub hides : List CellValue → ℕ → Bool
+hides cs zero = false
+hides cs (suc k) = is_wide (stored cs k) && not (hides cs k)
+
+abbrev pub settled_at : List CellValue → ℕ → CellValue
+settled_at cs zero = stored cs zero
+settled_at cs (suc k) = cond (hides cs (suc k)) (half (stored cs k)) (stored cs (suc k))
+
+-- the row of width w of stored cells: cut or filled, each hidden cell the half of its hider
+unfoldable pub row_of : ℕ → List CellValue → List CellValue
+row_of w cs = map (settled_at cs) (range_with_len 0 w)
+
+-- a list of cells in settled form
+pub record IsRow (w : ℕ) (r : List CellValue) : Type 0 where
+  pub width : length r ≡ w
+  pub settled : (k : ℕ) → suc k < w → is_wide (stored r k) ≡ true → stored r (suc k) ≡ half (stored r k)
+
+-- a row's column is hidden where the cell before it is wide
+abbrev pub is_hidden : List CellValue → ℕ → Bool
+is_hidden r zero = false
+is_hidden r (suc k) = is_wide (stored r k)
+
+-- the visible cells of a row before column k, each with its column
+abbrev pub visible_upto : List CellValue → ℕ → List (ℕ × CellValue)
+visible_upto r zero = []
+visible_upto r (suc k) = visible_upto r k ++ cond (is_hidden r k) [] ((k, stored r k) ∷ [])
+
+-- what stands at column k after painting x at column c: x, its second half, what is left of a wide cell that x's first column
+-- breaks, or the old cell, which is a blank where x breaks a wide one from the right
+abbrev pub painted : List CellValue → ℕ → CellValue → ℕ → CellValue
+painted r c x k =
+    cond (eqb k c) x
+    (cond (is_wide x && eqb k (suc c)) (half x) (cond (eqb (suc k) c && is_wide (stored r k)) (half (stored r k)) (stored r k)))
+
+-- the row with x painted at column c
+unfoldable pub paint : List CellValue → ℕ → CellValue → List CellValue
+paint r c x = map (painted r c x) (range_with_len 0 (length r))
+
+-- what stands at column k after clearing from column c on with b
+abbrev pub cleared : List CellValue → ℕ → CellValue → ℕ → CellValue
+cleared r c b k = cond (leb c k) b (cond (eqb (suc k) c && is_wide (stored r k)) (half (stored r k)) (stored r k))
+
+-- the row with every column from c on shown as b
+unfoldable pub clear : List CellValue → ℕ → CellValue → List CellValue
+clear r c b = cond (leb (length r) c) r (map (cleared r c b) (range_with_len 0 (length r)))

@@ -1,0 +1,17 @@
+//! What rows are: laws of the definitions that the contracts cite, each on a function that does nothing.
+ghost use Rattle.termwiz_line.specs.RowLaws.{PaintPaints, ClearClears, ClearPast, VisibleFixesRow, CellsHaveRow, VisibleFixesRowOf, ResizedIsRow};
+
+/// Painting and clearing a row do to what it shows what the words say, and what it shows fixes it.
+pub fn row_laws()
+    ensures paint { PaintPaints }
+    ensures clear { ClearClears }
+    ensures clear_past { ClearPast }
+    ensures fixed { VisibleFixesRow }
+{}
+
+/// Stored cells have a row, which shows what the walk of the cells meets; resizing gives it.
+pub fn stored_row_laws()
+    ensures row { CellsHaveRow }
+    ensures fixed { VisibleFixesRowOf }
+    ensures resized { ResizedIsRow }
+{}

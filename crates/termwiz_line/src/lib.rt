@@ -1,0 +1,8 @@
+//! Lines of cells.
+#![tactic(auto)]
+
+pub mod entries;
+pub mod laws;
+pub mod line;
+#[cfg(test)]
+mod tests;

@@ -1,0 +1,2 @@
+//! A line, and the changes that print it.
+pub mod line;

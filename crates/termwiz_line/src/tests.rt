@@ -1,0 +1,136 @@
+//! What lines show after some edits, and each call once.
+use crate::line::line::Line;
+use std::alloc::{AllocError, Global};
+use std::test::Fail;
+use termwiz_cell::cell::{Cell, CellAttributes};
+use termwiz_cell::emoji::{OneColumn, Presentation};
+
+fn cell(alloc: Global, text: &str, width: usize) -> Result<Cell, AllocError> {
+    Cell::new_grapheme_with_width(alloc, text, width.min(2), CellAttributes::blank())
+}
+
+fn italic(alloc: Global, text: &str, width: usize) -> Result<Cell, AllocError> {
+    let mut attrs = CellAttributes::blank();
+    attrs.set_italic(true);
+    Cell::new_grapheme_with_width(alloc, text, width.min(2), attrs)
+}
+
+// A line of these cells, one after another, with number 0.
+fn line_of(alloc: Global, cells: &[(&str, usize)]) -> Result<Line, AllocError> {
+    let mut line = Line::with_width(alloc, 0, 0)?;
+    for (text, width) in cells {
+        let at = line.len();
+        line.set_cell(at, cell(alloc, text, *width)?, 0)?;
+    }
+    Ok(line)
+}
+
+// The visible texts, each before its column, as `0a 1b`.
+fn shown(alloc: Global, line: &Line) -> Result<String, AllocError> {
+    let mut text = String::new(alloc);
+    for cell in line.visible_cells() {
+        let column = cell.cell_index();
+        let letters = cell.str();
+        write!(text, "{column}{letters}|")?;
+    }
+    Ok(text)
+}
+
+#[test]
+fn the_walk_passes_over_halves(rt: HostRuntime) -> Result<(), Fail> {
+    let line = line_of(rt.alloc(), &[("a", 1), ("か", 2), ("b", 1), ("🤷", 2)])?;
+    assert_eq!(rt; line.len(), 6);
+    assert_eq!(rt; shown(rt.alloc(), &line)?.as_str(), "0a|1か|3b|4🤷|");
+    Ok(())
+}
+
+#[test]
+fn a_cell_over_a_half_leaves_a_blank_with_the_attributes(rt: HostRuntime) -> Result<(), Fail> {
+    let mut line = Line::with_width(rt.alloc(), 4, 0)?;
+    line.set_cell(1, italic(rt.alloc(), "か", 2)?, 3)?;
+    line.set_cell(2, cell(rt.alloc(), "x", 1)?, 2)?;
+    assert_eq!(rt; shown(rt.alloc(), &line)?.as_str(), "0 |1 |2x|3 |");
+    assert_eq!(rt; line.current_seqno(), 3);
+    let left = line
+        .stored_cells()
+        .ok_or("no cells")?
+        .get(1)
+        .ok_or("short")?;
+    assert!(rt; left.attrs().italic());
+    Ok(())
+}
+
+fn pruned(alloc: Global, cells: &[(&str, usize)]) -> Result<(usize, usize), AllocError> {
+    let mut line = line_of(alloc, cells)?;
+    line.prune_trailing_blanks(1)?;
+    Ok((line.len(), line.current_seqno()))
+}
+
+#[test]
+fn pruning_cuts_trailing_blanks_unless_there_is_nothing_else(rt: HostRuntime) -> Result<(), Fail> {
+    assert_eq!(rt;
+        pruned(rt.alloc(), &[("a", 1), (" ", 1), (" ", 1)])?,
+        (1, 1)
+    );
+    assert_eq!(rt;
+        pruned(rt.alloc(), &[(" ", 1), (" ", 1), (" ", 1)])?,
+        (3, 0)
+    );
+    assert_eq!(rt; pruned(rt.alloc(), &[("か", 2), (" ", 1)])?, (2, 1));
+    Ok(())
+}
+
+#[test]
+fn a_wide_cell_fills_with_its_halves(rt: HostRuntime) -> Result<(), Fail> {
+    let mut line = line_of(rt.alloc(), &[("a", 1), ("b", 1)])?;
+    line.fill_range(1..4, &cell(rt.alloc(), "か", 2)?, 5)?;
+    assert_eq!(rt; shown(rt.alloc(), &line)?.as_str(), "0a|1 |2 |3か|");
+    assert_eq!(rt; line.len(), 5);
+    assert_eq!(rt; line.current_seqno(), 5);
+    Ok(())
+}
+
+#[test]
+fn a_grown_line_begins_with_the_half_that_was_cut(rt: HostRuntime) -> Result<(), Fail> {
+    let mut line = Line::with_width(rt.alloc(), 1, 0)?;
+    line.set_cell(1, italic(rt.alloc(), "か", 2)?, 0)?;
+    line.resize(2, 0)?;
+    assert_eq!(rt; shown(rt.alloc(), &line)?.as_str(), "0 |1か|");
+    line.resize(4, 7)?;
+    assert_eq!(rt; shown(rt.alloc(), &line)?.as_str(), "0 |1か|3 |");
+    let half = line
+        .stored_cells()
+        .ok_or("no cells")?
+        .get(2)
+        .ok_or("short")?;
+    assert!(rt; half.attrs().italic());
+    assert_eq!(rt; line.current_seqno(), 7);
+    Ok(())
+}
+
+#[test]
+fn a_copy_is_equal_until_it_is_changed(rt: HostRuntime) -> Result<(), Fail> {
+    let line = line_of(rt.alloc(), &[("か", 2)])?;
+    let mut copy = line.clone()?;
+    assert!(rt; copy == line);
+    copy.set_cell(0, cell(rt.alloc(), "a", 1)?, 0)?;
+    assert!(rt; copy != line);
+    Ok(())
+}
+
+#[test]
+fn a_visible_cell_answers_for_its_cell(rt: HostRuntime) -> Result<(), Fail> {
+    let line = line_of(rt.alloc(), &[("か", 2), ("か", 2), ("a", 1)])?;
+    let mut cells = line.visible_cells();
+    let first = cells.next().ok_or("no first")?;
+    let second = cells.next().ok_or("no second")?;
+    let third = cells.next().ok_or("no third")?;
+    assert_eq!(rt; second.cell_index(), 2);
+    assert_eq!(rt; second.width(), 2);
+    assert!(rt; first.same_contents(&second));
+    assert!(rt; !second.same_contents(&third));
+    assert!(rt; third.as_cell()? == cell(rt.alloc(), "a", 1)?);
+    assert!(rt; *third.attrs() == CellAttributes::blank());
+    assert_eq!(rt; third.presentation(&OneColumn), Presentation::Text);
+    Ok(())
+}

@@ -1,0 +1,122 @@
+-- What scrolling and putting a cell make of a surface.
+use Rattle.std.proofs.Common.{◌≡◌, ℕ, suc, ◌+◌, ◌-◌, ◌<◌, ◌≤◌, ◌⊎◌, inl, inr, true, min, max, List, [], ◌∷◌, ◌++◌, length, get_or, map, drop, set, replicate, refl, sym, ◌∙◌, ap, ap₂, subst, arith, length-append, length-drop}
+use Rattle.std.specs.Prelude.{slice_set}
+use Rattle.std.specs.Str.{IsUtf8, bytes_eq}
+use Rattle.std.proofs.lemmas.List.{map-append, get_or-map, map-set, length-set, get_or-set_same, get_or-set_other, get_or_append_left, get_or-append_right, length-replicate, drop-map, get_or-drop}
+use Rattle.std.proofs.lemmas.Bool.{cases_Bool, cases_eq, cases_lt}
+use Rattle.unicode_segmentation.specs.Grapheme.{graphemes}
+use Rattle.unicode_segmentation.proofs.Computing.{unicode_segmentation}
+use Rattle.termwiz_surface.specs.Graphemes.{is_single, replacement, single}
+use Rattle.termwiz_surface.proofs.Graphemes.{graphemes-single}
+use Rattle.termwiz_cell.specs.CellValue.{CellValue, blank, columns, is_control, clean, measured}
+use Rattle.termwiz_cell.specs.Attributes.{Attributes}
+use Rattle.termwiz_line.specs.Row.{row_of, paint}
+use Rattle.termwiz_surface.specs.Rows.{painted_in}
+use Rattle.termwiz_surface.specs.Screen.{row_at}
+use Rattle.termwiz_surface.specs.Print.{scrolled}
+use Rattle.termwiz_surface.specs.SurfaceValue.{SurfaceValue, IsMeasured, IsStored, IsSound}
+use Rattle.termwiz_surface.proofs.Rows.{row_blank, length-painted_in}
+use Rattle.termwiz_surface.proofs.Stored.{IsLawful, halved, graphemes-space, IsStored-blank, IsStored-painted_in, row-painted_in}
+
+graphemes-replacement : graphemes true replacement ≡ replacement ∷ []
+unfolding unicode_segmentation
+graphemes-replacement = refl
+
+single_alone : (g : List ℕ) → IsUtf8 g → graphemes true (single g) ≡ single g ∷ []
+single_alone g u = elim (cases_Bool (is_single g)) [ inl t ↦ rw t (graphemes-single g u t) | inr t ↦ rw t graphemes-replacement ]
+
+clean_cases : (t : List ℕ) → (clean t ≡ t) ⊎ (clean t ≡ 32 ∷ [])
+clean_cases [] = inr refl
+clean_cases (b ∷ []) = elim (cases_Bool (is_control b)) [ inl t ↦ inr (rw t refl) | inr t ↦ inl (rw t refl) ]
+clean_cases (b ∷ (c ∷ t)) = elim (cases_Bool (bytes_eq (b ∷ (c ∷ t)) (13 ∷ 10 ∷ []))) [ inl h ↦ inr (rw h refl) | inr h ↦ inl (rw h refl) ]
+
+pub IsMeasured-measured : (f : List ℕ → ℕ) (g : List ℕ) (pen : Attributes) → IsUtf8 g → IsMeasured f (measured f (single g) pen)
+IsMeasured-measured f g pen u = elim (clean_cases (single g)) [
+  | inl e ↦ record { alone = rw e (single_alone g u); is_clean = ap clean e; wide_is = refl }
+  | inr e ↦ record { alone = rw e graphemes-space; is_clean = rw e refl; wide_is = refl }
+]
+
+-- scrolling
+pub rows-scrolled : (w : ℕ) (lines : List (List CellValue)) → map (row_of w) (scrolled w lines) ≡ scrolled w (map (row_of w) lines)
+rows-scrolled w lines = map-append (row_of w) (drop 1 lines) (replicate w blank ∷ []) ∙ ap₂ (λ a b. a ++ b ∷ []) (sym (drop-map (row_of w) 1 lines)) (row_blank w)
+
+pub lengths-scrolled : (w : ℕ) (lines : List (List CellValue)) → map length (scrolled w lines) ≡ drop 1 (map length lines) ++ w ∷ []
+lengths-scrolled w lines = map-append length (drop 1 lines) (replicate w blank ∷ []) ∙ ap₂ (λ a b. a ++ b ∷ []) (sym (drop-map length 1 lines)) (length-replicate w blank)
+
+module _ {W : Type 0} (f : List ℕ → ℕ) (s : SurfaceValue W) (lawful : IsLawful f) (sound : IsSound f s) where
+  scrolled_full : length (scrolled s.width s.lines) ≡ s.height
+  scrolled_full = let e : length s.lines ≡ s.height = sound.full in let p : 0 < s.height = sound.some_row in omega (arith, length-append (drop 1 s.lines) (replicate s.width blank ∷ []), length-drop 1 s.lines)
+
+  scrolled_stored : (j : ℕ) → j < s.height → IsStored f s.width (row_at (scrolled s.width s.lines) j)
+  scrolled_stored j l =
+      let e : length s.lines ≡ s.height = sound.full in
+      let n : length (drop 1 s.lines) ≡ s.height - 1 = omega (arith, length-drop 1 s.lines) in
+      elim (cases_lt (suc j) s.height) [
+        | inl q ↦
+            let inside : j < length (drop 1 s.lines) = omega arith in
+            let at : row_at (scrolled s.width s.lines) j ≡ row_at s.lines (suc j) = get_or_append_left (drop 1 s.lines) (replicate s.width blank ∷ []) [] j inside ∙ get_or-drop 1 s.lines j [] ∙ ap (row_at s.lines) (omega arith) in
+            subst (IsStored f s.width) (sym at) (sound.stored_so (suc j) q)
+        | inr q ↦
+            let past : length (drop 1 s.lines) ≤ j = omega arith in
+            let zero_is : j - (s.height - 1) ≡ 0 = omega arith in
+            let at : row_at (scrolled s.width s.lines) j ≡ replicate s.width blank = get_or-append_right (drop 1 s.lines) (replicate s.width blank ∷ []) (s.height - 1) j [] n (omega arith) ∙ ap (row_at (replicate s.width blank ∷ [])) zero_is in
+            subst (IsStored f s.width) (sym at) (IsStored-blank f s.width lawful sound.some_column)
+      ]
+
+  pub IsSound-scrolled : IsSound f (record s { lines = scrolled s.width s.lines })
+  IsSound-scrolled = record {
+    some_column = sound.some_column;
+    some_row = sound.some_row;
+    fits = sound.fits;
+    fits_height = sound.fits_height;
+    full = scrolled_full;
+    column = sound.column;
+    row = sound.row;
+    stored_so = scrolled_stored;
+    number_fits = sound.number_fits;
+  }
+
+-- putting a cell
+module _ {W : Type 0} (f : List ℕ → ℕ) (s : SurfaceValue W) (c : CellValue) (sound : IsSound f s) (inside : s.x < s.width) where
+  row_in : s.y < length s.lines
+  row_in = let e : length s.lines ≡ s.height = sound.full in let p : s.y < s.height = sound.row in omega arith
+
+  new_row : List CellValue
+  new_row = painted_in s.width s.x c (row_at s.lines s.y)
+
+  stored_here : IsStored f s.width (row_at s.lines s.y)
+  stored_here = sound.stored_so s.y sound.row
+
+  pub rows-put : map (row_of s.width) (slice_set s.lines s.y (painted_in s.width s.x c (row_at s.lines s.y))) ≡ set (map (row_of s.width) s.lines) s.y (paint (row_at (map (row_of s.width) s.lines) s.y) s.x c)
+  rows-put = map-set (row_of s.width) s.lines s.y (painted_in s.width s.x c (row_at s.lines s.y))
+      ∙ ap (set (map (row_of s.width) s.lines) s.y) (row-painted_in s.width s.x c (row_at s.lines s.y) (halved f s.width _ stored_here) inside
+      ∙ ap (λ (r : List CellValue). paint r s.x c) (sym (get_or-map (row_of s.width) s.lines s.y [] [] row_in)))
+
+  pub lengths-put : map length (slice_set s.lines s.y (painted_in s.width s.x c (row_at s.lines s.y))) ≡ set (map length s.lines) s.y (max (get_or (map length s.lines) s.y 0) (min (s.x + columns c) s.width))
+  lengths-put = map-set length s.lines s.y (painted_in s.width s.x c (row_at s.lines s.y))
+      ∙ ap (set (map length s.lines) s.y) (length-painted_in s.width s.x c (row_at s.lines s.y) stored_here.within
+      ∙ ap (λ (n : ℕ). max n (min (s.x + columns c) s.width)) (sym (get_or-map length s.lines s.y [] 0 row_in)))
+
+  module _ (lawful : IsLawful f) (m : IsMeasured f c) where
+    put_stored : (j : ℕ) → j < s.height → IsStored f s.width (row_at (slice_set s.lines s.y (painted_in s.width s.x c (row_at s.lines s.y))) j)
+    put_stored j l = elim (cases_eq j s.y) [
+      | inl e ↦
+          let at : row_at (slice_set s.lines s.y (painted_in s.width s.x c (row_at s.lines s.y))) j ≡ painted_in s.width s.x c (row_at s.lines s.y) = ap (row_at _) e ∙ get_or-set_same s.lines s.y (painted_in s.width s.x c (row_at s.lines s.y)) [] row_in in
+          subst (IsStored f s.width) (sym at) (IsStored-painted_in f s.width s.x c (row_at s.lines s.y) lawful stored_here m inside)
+      | inr n ↦
+          let at : row_at (slice_set s.lines s.y (painted_in s.width s.x c (row_at s.lines s.y))) j ≡ row_at s.lines j = get_or-set_other s.lines s.y j (painted_in s.width s.x c (row_at s.lines s.y)) [] n in
+          subst (IsStored f s.width) (sym at) (sound.stored_so j l)
+    ]
+
+    pub IsSound-put : IsSound f (record s { lines = slice_set s.lines s.y (painted_in s.width s.x c (row_at s.lines s.y)); x = min (s.x + columns c) s.width })
+    IsSound-put = record {
+      some_column = sound.some_column;
+      some_row = sound.some_row;
+      fits = sound.fits;
+      fits_height = sound.fits_height;
+      full = length-set _ _ _ ∙ sound.full;
+      column = omega arith;
+      row = sound.row;
+      stored_so = put_stored;
+      number_fits = sound.number_fits;
+    }

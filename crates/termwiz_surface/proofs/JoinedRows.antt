@@ -1,0 +1,59 @@
+-- The entries of rows, one row more at a time, and those of blank rows at the bottom.
+use Rattle.std.proofs.Common.{◌≡◌, ℕ, suc, ◌+◌, ◌-◌, ◌<◌, ◌≤◌, Bool, true, false, cond, not, ◌&&◌, eqb, ltb, List, [], ◌∷◌, ◌++◌, ltb-true, arith, add-one, refl, sym, ap, ◌∙◌}
+use Rattle.std.proofs.lemmas.Bool.{cond-true, cond-false, and_parts, and_from, and_left, false_from_ne_true, lt-ltb}
+use Rattle.termwiz_cell.specs.Attributes.{Attributes, default_attributes, attributes_eq, is_plain}
+use Rattle.termwiz_cell.specs.CellValue.{CellValue}
+use Rattle.termwiz_cell.specs.ChangeValue as change
+use Rattle.termwiz_cell.specs.ChangeValue.{ChangeValue}
+use Rattle.termwiz_line.specs.Row.{visible_upto}
+use Rattle.termwiz_line.specs.Entries.{Penned, row_entries}
+use Rattle.termwiz_surface.specs.Screen.{row_at}
+use Rattle.termwiz_surface.specs.Repaint.{next_line, rows_upto, bottom_attrs, first_blank, front_of, joined_row, bottom, joins_rows, all_rows}
+
+pub and_not_false : (p b : Bool) → b ≡ false → p ≡ (p && not b)
+and_not_false true b e = sym (ap not e)
+and_not_false false b e = refl
+
+-- the row before at most
+pub row_before : (b : Bool) (n : ℕ) → n ≤ cond b (n - 1) n + 1
+row_before true n = omega arith
+row_before false n = omega arith
+
+-- one row more
+module _ (w : ℕ) (rows : List (List CellValue)) (i : ℕ) (es new : List ChangeValue) (p q : Attributes) (cells : List (ℕ × CellValue)) where
+  pub row_pushed : es ≡ (rows_upto w rows i).entries → p ≡ (rows_upto w rows i).pen → cells ≡ visible_upto (row_at rows i) w → new ≡ es ++ (cond (eqb i 0) [] (next_line ∷ []) ++ (row_entries p cells).entries) → new ≡ (rows_upto w rows (i + 1)).entries
+  row_pushed e ep ec en =
+      en ∙ (λ k. e k ++ (cond (eqb i 0) [] (next_line ∷ []) ++ (row_entries (ep k) (ec k)).entries)) ∙ sym (ap (λ j. (rows_upto w rows j).entries) (add-one i))
+
+  pub row_pen : p ≡ (rows_upto w rows i).pen → cells ≡ visible_upto (row_at rows i) w → q ≡ (row_entries p cells).pen → q ≡ (rows_upto w rows (i + 1)).pen
+  row_pen ep ec eq = eq ∙ (λ k. (row_entries (ep k) (ec k)).pen) ∙ sym (ap (λ j. (rows_upto w rows j).pen) (add-one i))
+
+-- the entries, whose last clears a line, with all below cleared in its place
+abbrev pub cleared_below : Attributes → Penned → Penned
+cleared_below a d = record { entries = front_of d.entries ++ change.ClearToEndOfScreen a.background ∷ []; pen = a }
+
+-- the attributes of the last column can be cleared
+abbrev pub clearable : Attributes → Bool
+clearable a = is_plain a && not (attributes_eq a default_attributes)
+
+module _ (w h : ℕ) (rows : List (List CellValue)) (a : Attributes) (is_bottom : a ≡ bottom_attrs w h rows) where
+  pub not_clearable : clearable a ≡ false → all_rows w h rows ≡ rows_upto w rows h
+  not_clearable f = cond-false (joins_rows w h rows) _ (rows_upto w rows h) (and_left (clearable (bottom_attrs w h rows)) _ (sym (ap clearable is_bottom) ∙ f))
+
+  module _ (c : clearable a ≡ true) (i t : ℕ) (is_above : i ≡ first_blank w a rows h) (is_joined : t ≡ joined_row w a rows i) where
+    above_is : i ≡ bottom w h rows
+    above_is = is_above ∙ ap (λ b. first_blank w b rows h) is_bottom
+
+    joined_is : t ≡ joined_row w (bottom_attrs w h rows) rows (bottom w h rows)
+    joined_is = is_joined ∙ (λ k. joined_row w (is_bottom k) rows (above_is k))
+
+    joins_are : joins_rows w h rows ≡ (ltb i h && ltb (suc t) h)
+    joins_are = ap (λ b. b && (ltb (bottom w h rows) h && ltb (suc (joined_row w (bottom_attrs w h rows) rows (bottom w h rows))) h)) (sym (ap clearable is_bottom) ∙ c) ∙ sym (λ k. ltb (above_is k) h && ltb (suc (joined_is k)) h)
+
+    pub joined : i < h → t + 1 < h → all_rows w h rows ≡ cleared_below a (rows_upto w rows (t + 1))
+    joined li lt =
+        cond-true (joins_rows w h rows) _ (rows_upto w rows h) (joins_are ∙ and_from (ltb i h) (ltb (suc t) h) (lt-ltb i h li) (lt-ltb (suc t) h (omega arith)))
+        ∙ sym (λ k. cleared_below (is_bottom k) (rows_upto w rows (suc (joined_is k)))) ∙ sym (ap (λ j. cleared_below a (rows_upto w rows j)) (add-one t))
+
+    pub apart : (i < h → t + 1 < h → ⊥) → all_rows w h rows ≡ rows_upto w rows h
+    apart n = cond-false (joins_rows w h rows) _ (rows_upto w rows h) (joins_are ∙ false_from_ne_true _ (λ e. let parts = and_parts (ltb i h) (ltb (suc t) h) e in n (ltb-true i h parts.0) (omega (arith, ltb-true (suc t) h parts.1))))

@@ -1,0 +1,97 @@
+-- A repaint, replayed on any screen of that size, gives the screen.
+use Rattle.std.proofs.Common.{◌≡◌, ℕ, ◌-◌, ◌<◌, ◌≤◌, min, Bool, true, false, cond, ◌&&◌, eqb, leb, List, [], ◌∷◌, ◌++◌, arith, eqb-true, le-leb, refl, sym, ap, ◌∙◌}
+use Rattle.std.proofs.lemmas.List.Sums.{fold-append}
+use Rattle.std.proofs.lemmas.Bool.{and_parts, false≢true}
+use Rattle.termwiz_cell.specs.declared.change.CursorVisibility.{CursorVisibility}
+use Rattle.termwiz_cell.specs.declared.change.CursorVisibility.TheVariants as cursor
+use Rattle.termwiz_cell.specs.CellValue.{space}
+use Rattle.termwiz_cell.specs.ChangeValue as change
+use Rattle.termwiz_cell.specs.ChangeValue.{ChangeValue}
+use Rattle.termwiz_line.specs.Entries.{Penned, pen_entry}
+use Rattle.termwiz_surface.specs.Screen.{Screen}
+use Rattle.termwiz_surface.specs.Place.{placed}
+use Rattle.termwiz_surface.specs.Step.{step, replay}
+use Rattle.termwiz_surface.specs.Repaint.{all_rows, all_moves, without_last_moves, is_nil, cursor_at, cursor_entry, shown_entry, repaint_of, repaint}
+use Rattle.termwiz_surface.specs.Printable.{IsPrintable, HasSize}
+use Rattle.termwiz_surface.proofs.EntryTexts.{replay_pen}
+use Rattle.termwiz_surface.proofs.RepaintRows.{emptied, HasRows}
+use Rattle.termwiz_surface.proofs.RepaintBottom.{all_rows_give}
+
+-- the same but for the cursor's place
+pub record SameButPlace (s t : Screen) : Type 0 where
+  pub width : s.width ≡ t.width
+  pub height : s.height ≡ t.height
+  pub rows_are : s.rows ≡ t.rows
+  pub hidden : s.visibility ≡ t.visibility
+  pub pen_is : s.pen ≡ t.pen
+
+-- moves, and so the moves at the end of a list, change the cursor's place alone
+moves_move : (f : List ℕ → ℕ) (es : List ChangeValue) (s : Screen) → all_moves es ≡ true → SameButPlace (replay f s es) s
+moves_move f [] s h = record { width = refl; height = refl; rows_are = refl; hidden = refl; pen_is = refl }
+moves_move f (change.CursorPosition x y ∷ es) s h =
+    let i = moves_move f es (placed s x y) h in
+    record { width = i.width; height = i.height; rows_are = i.rows_are; hidden = i.hidden; pen_is = i.pen_is }
+moves_move f (e ∷ es) s h = absurd (false≢true h)
+
+last_moves_move : (f : List ℕ → ℕ) (es : List ChangeValue) (s : Screen) → SameButPlace (replay f s es) (replay f s (without_last_moves es))
+last_moves_move f [] s = record { width = refl; height = refl; rows_are = refl; hidden = refl; pen_is = refl }
+last_moves_move f (e ∷ es) s = dropped (last_moves_move f es (step f s e)) (all_moves (e ∷ es)) (moves_move f (e ∷ es) s)
+  where
+    dropped : SameButPlace (replay f (step f s e) es) (replay f (step f s e) (without_last_moves es)) → (b : Bool) → (b ≡ true → SameButPlace (replay f s (e ∷ es)) s) →
+        SameButPlace (replay f s (e ∷ es)) (replay f s (cond b [] (e ∷ without_last_moves es)))
+    dropped i true m = m refl
+    dropped i false m = i
+
+module _ (f : List ℕ → ℕ) where
+  -- the cursor goes to a place inside, or one past the end of its row
+  replay_cursor : (s : Screen) (x y : ℕ) → x ≤ s.width → y < s.height → replay f s (cursor_at x y ∷ []) ≡ record s { x = x; y = y }
+  replay_cursor s x y lx ly =
+      let b : leb x s.width ≡ true = le-leb x s.width lx in
+      let row : min y (s.height - 1) ≡ y = omega arith in
+      rw b (λ i. record s { x = x; y = row i })
+
+  -- it is left out where nothing moved it from the first place
+  cursor_is : (s : Screen) (es : List ChangeValue) (x y : ℕ) → s.x ≡ 0 → s.y ≡ 0 → x ≤ (replay f s es).width → y < (replay f s es).height →
+      replay f (replay f s es) (cursor_entry es x y) ≡ record (replay f s es) { x = x; y = y }
+  cursor_is s es x y ex ey lx ly = moved (is_nil es && (eqb x 0 && eqb y 0)) (λ h. here (and_parts (is_nil es) (eqb x 0 && eqb y 0) h))
+    where
+      at_nil : (l : List ChangeValue) → is_nil l ≡ true → replay f s l ≡ s
+      at_nil [] h = refl
+      at_nil (e ∷ l) h = absurd (false≢true h)
+
+      here : (is_nil es ≡ true) × ((eqb x 0 && eqb y 0) ≡ true) → ((replay f s es).x ≡ x) × ((replay f s es).y ≡ y)
+      here h =
+          let q = and_parts (eqb x 0) (eqb y 0) h.1 in
+          (ap (λ (v : Screen). v.x) (at_nil es h.0) ∙ ex ∙ sym (eqb-true x 0 q.0), ap (λ (v : Screen). v.y) (at_nil es h.0) ∙ ey ∙ sym (eqb-true y 0 q.1))
+
+      moved : (b : Bool) → (b ≡ true → ((replay f s es).x ≡ x) × ((replay f s es).y ≡ y)) →
+          replay f (replay f s es) (cond b [] (cursor_at x y ∷ [])) ≡ record (replay f s es) { x = x; y = y }
+      moved true h = λ i. record (replay f s es) { x = (h refl).0 i; y = (h refl).1 i }
+      moved false h = replay_cursor (replay f s es) x y lx ly
+
+  replay_shown : (s : Screen) (v : CursorVisibility) → s.visibility ≡ cursor.Hidden → replay f s (shown_entry v) ≡ record s { visibility = v }
+  replay_shown s cursor.Visible h = refl
+  replay_shown s cursor.Hidden h = λ i. record s { visibility = h i }
+
+  -- entries that leave the screen's rows and a pen give the screen, with its cursor and pen behind them
+  pub repaint_of_gives : (t s : Screen) (d : Penned) → t.x ≤ t.width → t.y < t.height → HasRows t.width t.height t.rows d.pen (replay f (emptied s) d.entries) → replay f s (repaint_of d t) ≡ t
+  repaint_of_gives t s d lx ly g =
+      fold-append (step f) (emptied s) front _
+      ∙ fold-append (step f) u (cursor_entry front t.x t.y) _
+      ∙ ap (λ v. replay f v (pen_entry d.pen t.pen ++ shown_entry t.visibility)) (cursor_is (emptied s) front t.x t.y refl refl (omega (arith, g.width, b.width)) (omega (arith, g.height, b.height)))
+      ∙ fold-append (step f) (record u { x = t.x; y = t.y }) (pen_entry d.pen t.pen) (shown_entry t.visibility)
+      ∙ ap (λ v. replay f v (shown_entry t.visibility)) (replay_pen f (record u { x = t.x; y = t.y }) d.pen t.pen (sym b.pen_is ∙ g.pen_is))
+      ∙ replay_shown (record u { x = t.x; y = t.y; pen = t.pen }) t.visibility (sym b.hidden ∙ g.hidden)
+      ∙ λ i. record t { width = (sym b.width ∙ g.width) i; height = (sym b.height ∙ g.height) i; rows = (sym b.rows_are ∙ g.rows_are) i }
+    where
+      front : List ChangeValue
+      front = without_last_moves d.entries
+
+      u : Screen
+      u = replay f (emptied s) front
+
+      b : SameButPlace (replay f (emptied s) d.entries) u
+      b = last_moves_move f d.entries (emptied s)
+
+  pub repaint_gives : f space ≡ 1 → (t s : Screen) → IsPrintable f t → HasSize t.width t.height s → replay f s (repaint t) ≡ t
+  repaint_gives one t s p z = repaint_of_gives t s (all_rows t.width t.height t.rows) p.column p.row (all_rows_give f one t.width t.height t.rows p.full p.rows_so s z p.some_column)

@@ -1,0 +1,78 @@
+-- What a surface does is what the schedule allows, and a run goes on by one event.
+use Rattle.std.proofs.Common.{◌≡◌, ℕ, zero, suc, ◌+◌, ◌-◌, ◌<◌, ◌≤◌, List, [], ◌∷◌, ◌++◌, length, map, true, false, not, ◌&&◌, refl, sym, ap, ◌∙◌, arith, replicate}
+use Rattle.std.proofs.lemmas.Bool.{cases_Bool, and_parts, and_from, not_from_false, not-true}
+use Rattle.std.specs.Prelude.{Ok, Err, Vec, vec_len}
+use Rattle.std.specs.declared.alloc.Global.{Global}
+use Rattle.termwiz_cell.specs.Attributes.{default_attributes}
+use Rattle.termwiz_cell.specs.CellValue.{CellValue, blank, half, is_wide}
+use Rattle.termwiz_cell.specs.ChangeValue.{ChangeValue, change_value}
+use Rattle.termwiz_cell.specs.declared.change.Change.{Change}
+use Rattle.termwiz_cell.specs.declared.change.CursorVisibility.TheVariants.{Visible}
+use Rattle.termwiz_storage.specs.Stored.{stored}
+use Rattle.termwiz_line.specs.Row.{IsRow, row_of}
+use Rattle.termwiz_surface.specs.Screen.{row_at}
+use Rattle.termwiz_surface.specs.SurfaceValue.{SurfaceValue, IsSound, screen_of, lengths_of}
+use Rattle.termwiz_surface.specs.Answer.{Adds}
+use Rattle.termwiz_surface.specs.Schedule.{State, Allows, Runs, Ended, Next, state_of, first_state}
+use Rattle.termwiz_surface.specs.declared.surface.SurfaceError.{SurfaceError}
+use Rattle.termwiz_surface.specs.declared.surface.SurfaceError.TheVariants.{Numbers, Memory}
+use Rattle.termwiz_surface.specs.declared.view.Event.{Event}
+use Rattle.termwiz_surface.specs.declared.view.Event.TheVariants.{Changes}
+use Rattle.termwiz_surface.specs.declared.view.Outcome.{Outcome}
+use Rattle.termwiz_surface.specs.declared.view.Outcome.TheVariants.{Answered, Refused}
+use Rattle.termwiz_surface.proofs.Rows.{row_blank}
+use Rattle.termwiz_surface.proofs.SoundRepaint.{sound_has_size, sound_is_printable}
+use Rattle.std.proofs.lemmas.List.{length-map, get_or-map, length-replicate}
+
+map-replicate : {X Y : Type 0} (f : X → Y) (n : ℕ) (x : X) → map f (replicate n x) ≡ replicate n (f x)
+map-replicate f zero x = refl
+map-replicate f (suc n) x = ap (λ t. f x ∷ t) (map-replicate f n x)
+
+pub Runs-push : {width : List ℕ → ℕ} {a b : State} {events : List Event} {outcomes : List Outcome} (event : Event) (outcome : Outcome) (c : State)
+    → Runs width a events outcomes b → Allows width b event outcome c → Runs width a (events ++ event ∷ []) (outcomes ++ outcome ∷ []) c
+Runs-push event outcome c (Ended s) h = Next s c c event outcome [] [] h (Ended c)
+Runs-push event outcome c (Next old mid new e o es os k r) h = Next old mid c e o (es ++ event ∷ []) (os ++ outcome ∷ []) k (Runs-push event outcome c r h)
+
+module _ {W : Type 0} where
+  -- a new surface is in the first state
+  pub state_of-blank : (widths : W) (w h : ℕ) → state_of {W = W} (record { widths = widths; width = w; height = h; lines = replicate h (replicate w blank); x = 0; y = 0; visibility = Visible; pen = default_attributes; number = 0 }) ≡ first_state w h
+  state_of-blank widths w h i = record {
+    screen = record { width = w; height = h; rows = (map-replicate (row_of w) h (replicate w blank) ∙ ap (replicate h) (row_blank w)) i; x = 0; y = 0; visibility = Visible; pen = default_attributes };
+    lengths = (map-replicate length h (replicate w blank) ∙ ap (replicate h) (length-replicate w blank)) i;
+    number = 0;
+  }
+
+  -- a list is answered as the schedule says
+  pub Allows-answered : (width : List ℕ → ℕ) (old new : SurfaceValue W) (changes : Vec Change Global) (n : ℕ)
+      → Adds width old (map change_value changes.items) (old.number - 1 + vec_len changes) (Ok n) new → Allows width (state_of old) (Changes changes) (Answered n) (state_of new)
+  Allows-answered width old new changes n h =
+      let count : length (map change_value changes.items) ≡ length changes.items = length-map changes.items change_value in
+      (omega (arith, h.0), h.1 ∙ ap (λ k. old.number - 1 + k) changes.ok.0, record { screen = h.2.screen_is; lengths = h.2.lengths_are; number = h.2.number })
+
+  -- a refused list leaves the width value
+  pub widths-refused : (width : List ℕ → ℕ) (old new : SurfaceValue W) (changes : List ChangeValue) (answer : ℕ) (e : SurfaceError) → Adds width old changes answer (Err e) new → new.widths ≡ old.widths
+  widths-refused width old new changes answer Numbers h = ap (λ s. s.widths) h.1
+  widths-refused width old new changes answer Memory h = h.2.widths
+
+  -- a refused list is refused as the schedule says
+  pub Allows-refused : (width : List ℕ → ℕ) (old new : SurfaceValue W) (changes : Vec Change Global) (answer : ℕ) (e : SurfaceError)
+      → Adds width old (map change_value changes.items) answer (Err e) new → IsSound width new → Allows width (state_of old) (Changes changes) (Refused e) (state_of new)
+  Allows-refused width old new changes answer Numbers h sound =
+      let count : length (map change_value changes.items) ≡ length changes.items = length-map changes.items change_value in
+      (omega (arith, h.0), ap state_of h.1)
+  Allows-refused width old new changes answer Memory h sound =
+      let count : length (map change_value changes.items) ≡ length changes.items = length-map changes.items change_value in
+      let form = sound_has_size width new sound in (
+        omega (arith, h.0),
+        omega (arith, h.1),
+        record {
+          size = record {
+            width = form.width ∙ h.2.width;
+            height = form.height ∙ h.2.height;
+            full = form.full ∙ h.2.height;
+            row_length = λ j l. form.row_length j (omega (arith, h.2.height)) ∙ h.2.width;
+          };
+          form = sound_is_printable width new sound;
+          number = h.2.number;
+        },
+      )

@@ -1,0 +1,23 @@
+use Rattle.std.proofs.Common.{◌≡◌, ◌+◌, false, refl}
+use Rattle.std.specs.Prelude.{nat_lt}
+use Rattle.std.proofs.lemmas.Bool.{le-ltb}
+use Rattle.termwiz_cell.specs.Width.{unversioned}
+use Rattle.std.specs.Prelude.{None}
+use Rattle.termwiz_surface.proofs.Drawn.{IsSound-scrolled, rows-scrolled, lengths-scrolled}
+use Rattle.termwiz_surface.proofs.surface.Surface.line_feed.Goals as goal
+
+pub invariant_of-self-2 : goal.invariant_of-self-2
+invariant_of-self-2 g c =
+    rw c.in_ok-scroll_rows.ensures.ok (IsSound-scrolled (unversioned (g.W.Widths.width_of c.self.inside.widths)) _ (record { space = g.met.W.Widths.space_has_one c.self.inside.widths None }) c.self.invariant)
+
+pub returns-clause-ok : goal.returns-clause-ok
+returns-clause-ok g c =
+    let last : nat_lt (c.self.inside.y + 1) c.self.inside.height ≡ false = le-ltb _ _ c.if-self.false in
+    rw (← c.self.view_is, c.in_ok-scroll_rows.ensures.ok, last) (record {
+      widths = refl;
+      width = refl;
+      height = refl;
+      number = refl;
+      screen_is = rw (rows-scrolled c.self.inside.width c.self.inside.rows.items) refl;
+      lengths_are = lengths-scrolled c.self.inside.width c.self.inside.rows.items;
+    })

@@ -1,0 +1,10 @@
+-- The changes that an answer holds.
+use Rattle.std.specs.Prelude.{List, map}
+use Rattle.std.specs.Cow.{cow_slice_items}
+use Rattle.std.specs.declared.borrow.CowSlice.{CowSlice}
+use Rattle.std.specs.declared.alloc.Global.{Global}
+use Rattle.termwiz_cell.specs.declared.change.Change.{Change}
+use Rattle.termwiz_cell.specs.ChangeValue.{ChangeValue, change_value}
+
+abbrev pub answered : CowSlice Change Global → List ChangeValue
+answered answer = map change_value (cow_slice_items answer)

@@ -1,0 +1,112 @@
+-- Repaints: the changes that bring any screen of that size to this one.
+use Rattle.std.specs.Prelude.{ℕ, zero, suc, ◌-◌, pos, Bool, true, false, cond, not, ◌&&◌, eqb, ltb, List, [], ◌∷◌, ◌++◌, replicate, length}
+use Rattle.std.specs.Cmp.Lexicographic.{pointwise}
+use Rattle.termwiz_cell.specs.declared.color.ColorAttribute.TheVariants as color
+use Rattle.termwiz_cell.specs.declared.change.Position.TheVariants as position
+use Rattle.termwiz_cell.specs.declared.change.CursorVisibility.{CursorVisibility}
+use Rattle.termwiz_cell.specs.declared.change.CursorVisibility.TheVariants as cursor
+use Rattle.termwiz_cell.specs.Attributes.{Attributes, default_attributes, attributes_eq, is_plain}
+use Rattle.termwiz_cell.specs.CellValue.{CellValue, blank_of, cell_eq}
+use Rattle.termwiz_cell.specs.ChangeValue as change
+use Rattle.termwiz_cell.specs.ChangeValue.{ChangeValue}
+use Rattle.termwiz_storage.specs.Stored.{stored}
+use Rattle.termwiz_line.specs.Row.{visible_upto}
+use Rattle.termwiz_line.specs.Entries.{Penned, pen_entry, row_entries}
+use Rattle.termwiz_surface.specs.Screen.{Screen, row_at}
+
+-- to the start of the next row
+abbrev pub next_line : ChangeValue
+next_line = change.CursorPosition (position.Absolute 0) (position.Relative (pos 1))
+
+abbrev pub cursor_at : ℕ → ℕ → ChangeValue
+cursor_at x y = change.CursorPosition (position.Absolute x) (position.Absolute y)
+
+-- the entries of the rows above row i, with a move down before each but the first, on a screen that was cleared
+abbrev pub rows_upto : ℕ → List (List CellValue) → ℕ → Penned
+rows_upto w rows zero = record { entries = []; pen = default_attributes }
+rows_upto w rows (suc i) = record {
+  entries = (rows_upto w rows i).entries ++ (cond (eqb i 0) [] (next_line ∷ []) ++ (row_entries (rows_upto w rows i).pen (visible_upto (row_at rows i) w)).entries);
+  pen = (row_entries (rows_upto w rows i).pen (visible_upto (row_at rows i) w)).pen;
+}
+
+-- the attributes of the last column of the bottom row
+abbrev pub bottom_attrs : ℕ → ℕ → List (List CellValue) → Attributes
+bottom_attrs w h rows = (stored (row_at rows (h - 1)) (w - 1)).attrs
+
+-- the first of the rows before row n that are blanks with attributes a, up to row n
+abbrev pub first_blank : ℕ → Attributes → List (List CellValue) → ℕ → ℕ
+first_blank w a rows zero = zero
+first_blank w a rows (suc n) = cond (pointwise cell_eq (row_at rows n) (replicate w (blank_of a))) (first_blank w a rows n) (suc n)
+
+abbrev pub is_clear_of : Attributes → ChangeValue → Bool
+is_clear_of a (change.ClearToEndOfLine b) = attributes_eq (record default_attributes { background = b }) a
+is_clear_of a entry = false
+
+-- the last entry clears to the end of the line with attributes a
+abbrev pub ends_with : Attributes → List ChangeValue → Bool
+ends_with a [] = false
+ends_with a (e ∷ []) = is_clear_of a e
+ends_with a (e ∷ (f ∷ es)) = ends_with a (f ∷ es)
+
+-- all entries but the last
+abbrev pub front_of : List ChangeValue → List ChangeValue
+front_of [] = []
+front_of (e ∷ []) = []
+front_of (e ∷ (f ∷ es)) = e ∷ front_of (f ∷ es)
+
+-- the row whose end clears all below: the one above the blank rows where its entries end with that clear, else the first of them
+abbrev pub joined_row : ℕ → Attributes → List (List CellValue) → ℕ → ℕ
+joined_row w a rows i = cond (ends_with a (rows_upto w rows i).entries) (i - 1) i
+
+abbrev pub bottom : ℕ → ℕ → List (List CellValue) → ℕ
+bottom w h rows = first_blank w (bottom_attrs w h rows) rows h
+
+-- there are blank rows at the bottom, in a background that is not the default one, and the row that clears them is not the last
+abbrev pub joins_rows : ℕ → ℕ → List (List CellValue) → Bool
+joins_rows w h rows =
+    (is_plain (bottom_attrs w h rows) && not (attributes_eq (bottom_attrs w h rows) default_attributes))
+    && (ltb (bottom w h rows) h && ltb (suc (joined_row w (bottom_attrs w h rows) rows (bottom w h rows))) h)
+
+-- the entries of all rows: blank rows at the bottom in one background are left to one clear to the end of the screen
+abbrev pub all_rows : ℕ → ℕ → List (List CellValue) → Penned
+all_rows w h rows = cond (joins_rows w h rows)
+    (record {
+      entries = front_of (rows_upto w rows (suc (joined_row w (bottom_attrs w h rows) rows (bottom w h rows)))).entries ++ change.ClearToEndOfScreen (bottom_attrs w h rows).background ∷ [];
+      pen = bottom_attrs w h rows;
+    })
+    (rows_upto w rows h)
+
+abbrev pub is_move : ChangeValue → Bool
+is_move (change.CursorPosition x y) = true
+is_move entry = false
+
+abbrev pub all_moves : List ChangeValue → Bool
+all_moves [] = true
+all_moves (e ∷ es) = is_move e && all_moves es
+
+-- the moves at the end are dropped
+abbrev pub without_last_moves : List ChangeValue → List ChangeValue
+without_last_moves [] = []
+without_last_moves (e ∷ es) = cond (all_moves (e ∷ es)) [] (e ∷ without_last_moves es)
+
+abbrev pub is_nil : List ChangeValue → Bool
+is_nil [] = true
+is_nil (e ∷ es) = false
+
+-- the cursor's place, where something was printed or it isn't the first
+abbrev pub cursor_entry : List ChangeValue → ℕ → ℕ → List ChangeValue
+cursor_entry es x y = cond (is_nil es && (eqb x 0 && eqb y 0)) [] (cursor_at x y ∷ [])
+
+abbrev pub shown_entry : CursorVisibility → List ChangeValue
+shown_entry cursor.Visible = change.CursorVisibility cursor.Visible ∷ []
+shown_entry cursor.Hidden = []
+
+-- the entries of the rows, which leave a pen, between the clear and the cursor, pen and visibility of the screen
+abbrev pub repaint_of : Penned → Screen → List ChangeValue
+repaint_of d s =
+    change.CursorVisibility cursor.Hidden ∷ change.ClearScreen color.Default
+    ∷ (without_last_moves d.entries ++ (cursor_entry (without_last_moves d.entries) s.x s.y ++ (pen_entry d.pen s.pen ++ shown_entry s.visibility)))
+
+-- the repaint of a screen
+abbrev pub repaint : Screen → List ChangeValue
+repaint s = repaint_of (all_rows s.width s.height s.rows) s

@@ -1,0 +1,34 @@
+-- What work on stored rows leaves.
+use Rattle.std.specs.Prelude.{◌≡◌, ℕ, ◌-◌, ◌<◌, ◌≤◌, ◌+◌, ◌⊎◌, List, length, take}
+use Rattle.termwiz_cell.specs.CellValue.{CellValue}
+use Rattle.termwiz_storage.specs.Stored.{set_cell, fill, IsPruned}
+use Rattle.termwiz_surface.specs.Screen.{row_at}
+
+-- stored cells with x set at column c of a row of width w
+abbrev pub painted_in : ℕ → ℕ → CellValue → List CellValue → List CellValue
+painted_in w c x cs = take w (set_cell c x cs)
+
+-- columns of a row of width w are filled, and perhaps the row is pruned
+pub record IsPartly (w : ℕ) (c : CellValue) (old new : List CellValue) : Type 0 where
+  pub from : ℕ
+  pub count : ℕ
+  pub inside : from + count ≤ w
+  pub left : (new ≡ fill count from c old) ⊎ IsPruned (fill count from c old) new
+
+-- row y is filled from column x on, and each row below it from the start
+pub record AreFilled (w x y : ℕ) (c : CellValue) (old new : List (List CellValue)) : Type 0 where
+  pub same_count : length new ≡ length old
+  pub above : (j : ℕ) → j < y → row_at new j ≡ row_at old j
+  pub here : IsPruned (fill (w - x) x c (row_at old y)) (row_at new y)
+  pub below : (j : ℕ) → y < j → j < length old → IsPruned (fill w 0 c (row_at old j)) (row_at new j)
+
+-- only row y is filled, from column x on
+pub record IsFilledAt (w x y : ℕ) (c : CellValue) (old new : List (List CellValue)) : Type 0 where
+  pub same_count : length new ≡ length old
+  pub others : (j : ℕ) → ((j ≡ y) → ⊥) → row_at new j ≡ row_at old j
+  pub here : IsPruned (fill (w - x) x c (row_at old y)) (row_at new y)
+
+-- each row is filled somewhere, or as it was
+pub record ArePartly (w : ℕ) (c : CellValue) (old new : List (List CellValue)) : Type 0 where
+  pub same_count : length new ≡ length old
+  pub each : (j : ℕ) → j < length old → IsPartly w c (row_at old j) (row_at new j)

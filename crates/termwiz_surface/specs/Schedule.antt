@@ -1,0 +1,73 @@
+-- Which outcomes a list of events may have: a state, what each event may answer and leave, and whole runs.
+use Rattle.std.specs.Prelude.{◌≡◌, ℕ, ◌+◌, ◌-◌, ◌^◌, ◌<◌, ◌≤◌, List, [], ◌∷◌, length, map, replicate, string_bytes}
+use Rattle.termwiz_cell.specs.Attributes.{default_attributes}
+use Rattle.termwiz_cell.specs.CellValue.{blank}
+use Rattle.termwiz_cell.specs.ChangeValue.{ChangeValue, change_value}
+use Rattle.termwiz_cell.specs.declared.change.CursorVisibility.TheVariants.{Visible}
+use Rattle.termwiz_surface.specs.Screen.{Screen}
+use Rattle.termwiz_surface.specs.Step.{replay, replay_lengths}
+use Rattle.termwiz_surface.specs.Answer.{broken_number}
+use Rattle.termwiz_surface.specs.Printable.{HasSize, IsPrintable}
+use Rattle.termwiz_surface.specs.ShownChars.{shown_chars}
+use Rattle.termwiz_surface.specs.SurfaceValue.{SurfaceValue, screen_of, lengths_of}
+use Rattle.termwiz_surface.specs.declared.surface.SurfaceError.TheVariants.{Numbers, Memory}
+use Rattle.termwiz_surface.specs.declared.view.Event.{Event}
+use Rattle.termwiz_surface.specs.declared.view.Event.TheVariants.{Changes, Show, Ask}
+use Rattle.termwiz_surface.specs.declared.view.Outcome.{Outcome}
+use Rattle.termwiz_surface.specs.declared.view.Outcome.TheVariants.{Answered, Refused, Shown, Asked}
+
+-- a screen, how many cells are stored in each of its rows, and how many changes were made
+pub record State : Type 0 where
+  pub screen : Screen
+  pub lengths : List ℕ
+  pub number : ℕ
+
+abbrev pub state_of : {W : Type 0} → SurfaceValue W → State
+state_of s = record { screen = screen_of s; lengths = lengths_of s; number = s.number }
+
+-- a blank screen of this size, before any change
+abbrev pub first_state : ℕ → ℕ → State
+first_state w h = record {
+  screen = record { width = w; height = h; rows = replicate h (replicate w blank); x = 0; y = 0; visibility = Visible; pen = default_attributes };
+  lengths = replicate h w;
+  number = 0;
+}
+
+-- the changes are done, in order
+pub record Does (width : List ℕ → ℕ) (changes : List ChangeValue) (old new : State) : Type 0 where
+  pub screen : new.screen ≡ replay width old.screen changes
+  pub lengths : new.lengths ≡ replay_lengths width old.screen old.lengths changes
+  pub number : new.number ≡ old.number + length changes
+
+-- what a list leaves that ran out of memory: any screen of that size and form, and a new number
+pub record IsBroken (width : List ℕ → ℕ) (old new : State) : Type 0 where
+  pub size : HasSize old.screen.width old.screen.height new.screen
+  pub form : IsPrintable width new.screen
+  pub number : new.number ≡ broken_number old.number
+
+-- the event may have this outcome, and go over from old to new
+abbrev pub Allows : (List ℕ → ℕ) → State → Event → Outcome → State → Type 0
+Allows width old (Changes changes) (Answered n) new =
+    (old.number + length changes.items < 2 ^ 64) × (n ≡ old.number - 1 + length changes.items) × Does width (map change_value changes.items) old new
+Allows width old (Changes changes) (Refused Numbers) new = (2 ^ 64 ≤ old.number + length changes.items) × (new ≡ old)
+Allows width old (Changes changes) (Refused Memory) new =
+    (old.number + length changes.items < 2 ^ 64) × (0 < length changes.items) × IsBroken width old new
+Allows width old Show (Shown text cursor) new =
+    (string_bytes text ≡ shown_chars old.screen.rows old.lengths) × (cursor ≡ (old.screen.x, old.screen.y)) × (new ≡ old)
+Allows width old Show (Refused Memory) new = new ≡ old
+-- whatever screen of that size has it, the answer brings it to this one
+Allows width old (Ask n) (Asked k changes) new =
+    (k ≡ old.number) × ((s : Screen) → HasSize old.screen.width old.screen.height s → replay width s (map change_value changes.items) ≡ old.screen) × (new ≡ old)
+Allows width old (Ask n) (Refused Memory) new = new ≡ old
+-- no other outcome comes
+Allows width old _ _ new = ⊥
+
+-- the events may have these outcomes, and go over from old to new
+pub data Runs (width : List ℕ → ℕ) : State → List Event → List Outcome → State → Type 0 where
+  Ended : (s : State) → Runs width s [] [] s
+  Next : (old mid new : State) (event : Event) (outcome : Outcome) (events : List Event) (outcomes : List Outcome)
+      → Allows width old event outcome mid → Runs width mid events outcomes new → Runs width old (event ∷ events) (outcome ∷ outcomes) new
+
+-- the outcomes are those of some run from a blank screen
+abbrev pub IsSchedule : (List ℕ → ℕ) → ℕ → ℕ → List Event → List Outcome → Type 0
+IsSchedule width w h events outcomes = (end : State) × Runs width (first_state w h) events outcomes end

@@ -1,0 +1,74 @@
+-- What contracts see of a surface, and the form that it keeps.
+use Rattle.std.specs.Prelude.{◌≡◌, ℕ, suc, ◌<◌, ◌≤◌, ◌^◌, true, nat_lt, List, [], ◌∷◌, map, length}
+use Rattle.unicode_segmentation.specs.Grapheme.{graphemes}
+use Rattle.termwiz_cell.specs.Attributes.{Attributes}
+use Rattle.termwiz_cell.specs.CellValue.{CellValue, half, is_wide, clean}
+use Rattle.termwiz_cell.specs.declared.change.CursorVisibility.{CursorVisibility}
+use Rattle.termwiz_storage.specs.Stored.{stored}
+use Rattle.termwiz_line.specs.Row.{row_of}
+use Rattle.termwiz_surface.specs.Screen.{Screen, row_at}
+
+pub record SurfaceValue (W : Type 0) : Type 0 where
+  pub widths : W
+  pub width : ℕ
+  pub height : ℕ
+  -- the stored cells of each row
+  pub lines : List (List CellValue)
+  pub x : ℕ
+  pub y : ℕ
+  pub visibility : CursorVisibility
+  pub pen : Attributes
+  -- how many changes were made
+  pub number : ℕ
+
+module _ {W : Type 0} where
+  abbrev pub screen_of : SurfaceValue W → Screen
+  screen_of s = record { width = s.width; height = s.height; rows = map (row_of s.width) s.lines; x = s.x; y = s.y; visibility = s.visibility; pen = s.pen }
+
+  -- how many cells are stored in each row
+  abbrev pub lengths_of : SurfaceValue W → List ℕ
+  lengths_of s = map length s.lines
+
+-- the cell's text is one clean grapheme, and its width is measured
+pub record IsMeasured (width : List ℕ → ℕ) (c : CellValue) : Type 0 where
+  pub alone : graphemes true c.text ≡ c.text ∷ []
+  pub is_clean : clean c.text ≡ c.text
+  pub wide_is : c.wide ≡ nat_lt 1 (width c.text)
+
+-- the form of the cells that are stored in a row of width w
+pub record IsStored (width : List ℕ → ℕ) (w : ℕ) (cs : List CellValue) : Type 0 where
+  pub some : 0 < length cs
+  pub within : length cs ≤ w
+  pub halves : (k : ℕ) → suc k < w → is_wide (stored cs k) ≡ true → stored cs (suc k) ≡ half (stored cs k)
+  -- a short row does not end in a wide cell
+  pub closed : (k : ℕ) → suc k < w → is_wide (stored cs k) ≡ true → suc k < length cs
+  pub measured : (k : ℕ) → IsMeasured width (stored cs k)
+
+-- the form that every surface keeps
+pub record IsSound {W : Type 0} (width : List ℕ → ℕ) (s : SurfaceValue W) : Type 0 where
+  pub some_column : 0 < s.width
+  pub some_row : 0 < s.height
+  pub fits : s.width < 2 ^ 32
+  pub fits_height : s.height < 2 ^ 32
+  pub full : length s.lines ≡ s.height
+  pub column : s.x ≤ s.width
+  pub row : s.y < s.height
+  pub stored_so : (j : ℕ) → j < s.height → IsStored width s.width (row_at s.lines j)
+  pub number_fits : s.number < 2 ^ 64
+
+module _ {W : Type 0} where
+  -- the same but for the rows, the cursor, its visibility and the pen
+  pub record SameFrame (old new : SurfaceValue W) : Type 0 where
+    pub widths : new.widths ≡ old.widths
+    pub width : new.width ≡ old.width
+    pub height : new.height ≡ old.height
+    pub number : new.number ≡ old.number
+
+  -- the surface has this screen and these lengths now, and its old number
+  pub record Draws (old : SurfaceValue W) (screen : Screen) (lengths : List ℕ) (new : SurfaceValue W) : Type 0 where
+    pub widths : new.widths ≡ old.widths
+    pub width : new.width ≡ old.width
+    pub height : new.height ≡ old.height
+    pub number : new.number ≡ old.number
+    pub screen_is : screen_of new ≡ screen
+    pub lengths_are : lengths_of new ≡ lengths

@@ -1,0 +1,393 @@
+//! Surfaces.
+ghost use Rattle.std.specs.Prelude.{◌≡◌, ◌+◌, ◌-◌, ◌*◌, ◌<◌, ◌≤◌, ◌^◌, List, [], ◌∷◌, length, map, vec_len, replicate, string_bytes, IsOk, IfOk, OnOk, OnErr};
+ghost use Rattle.termwiz_cell.specs.Attributes.{default_attributes, with_background};
+ghost use Rattle.termwiz_cell.specs.CellValue.{blank};
+ghost use Rattle.termwiz_cell.specs.Width.{unversioned};
+ghost use Rattle.termwiz_cell.specs.declared.change.CursorVisibility.TheVariants.{Visible};
+ghost use Rattle.termwiz_surface.specs.Print.{down, put, printed_cell, print_one, print, down_lengths, put_lengths, piece_lengths, print_lengths, break_of};
+ghost use Rattle.termwiz_surface.specs.Clear.{clear_eol, clear_eos, clear_screen, eol_lengths, eos_lengths, screen_lengths};
+ghost use Rattle.termwiz_surface.specs.Place.{placed};
+ghost use Rattle.termwiz_surface.specs.Step.{step, step_lengths, replay, replay_lengths};
+ghost use Rattle.termwiz_cell.specs.AttributeChangeValue.{attribute_change_value, with_attribute};
+ghost use Rattle.termwiz_cell.specs.ChangeValue.{change_value};
+ghost use Rattle.std.specs.List.{All};
+ghost use Rattle.termwiz_surface.specs.ShownChars.{shown_chars};
+ghost use Rattle.termwiz_surface.specs.ScreenValue.{screen_value};
+ghost use Rattle.termwiz_surface.specs.SurfaceValue.{IsSound};
+ghost use Rattle.termwiz_surface.specs.Answer.{Adds};
+ghost use Rattle.std.specs.Cow.{IsOwnedSlice};
+ghost use Rattle.termwiz_surface.specs.Answered.{answered};
+ghost use Rattle.termwiz_surface.specs.Printable.{HasSize};
+ghost use Rattle.termwiz_surface.specs.Repaint.{repaint};
+ghost use Rattle.termwiz_surface.specs.Screen.{Screen as SeenScreen};
+
+mod pen;
+mod place;
+pub mod print;
+mod repaint;
+mod rows;
+pub mod screen;
+mod shown;
+#[cfg(test)]
+mod tests;
+
+use pen::{background_only, blank_with};
+use place::{column_at, row_at};
+use print::{LineBreak, line_break, printed_cell};
+use repaint::{all_rows, framed};
+use rows::{Row, blank_rows, chars_of, fill_row, fill_rows, paint_row, resized_lines, scroll_rows};
+use screen::Screen;
+use std::alloc::{AllocError, Global};
+use std::borrow::CowSlice;
+use std::marker::Model;
+use std::slice;
+use termwiz_cell::cell::{AttributeChange, Cell, CellAttributes};
+use termwiz_cell::change::{Change, CursorVisibility, Position, SEQ_ZERO, SequenceNo};
+use termwiz_cell::emoji::Widths;
+use thiserror::Error;
+use unicode_segmentation::UnicodeSegmentation;
+
+/// Why a list of changes is refused.
+#[derive(Debug, Drop, Clone, Copy, PartialEq, Eq, Error)]
+pub enum SurfaceError {
+    /// Error 2: the number of changes would pass the greatest `usize`. Nothing has changed.
+    #[error("the numbers of changes are used up")]
+    Numbers,
+    /// Error 3: a growth was refused. The surface keeps its size, and is under a new number, or 0 where that was 0.
+    #[error("out of memory")]
+    Memory,
+}
+
+impl From<AllocError> for SurfaceError {
+    ghost use Rattle.std.specs.Prelude.{◌≡◌};
+    ghost use Rattle.termwiz_surface.specs.declared.surface.SurfaceError.TheVariants.{Memory};
+
+    ghost from_gives = { λ _ error. error ≡ Memory };
+
+    fn from(_error: AllocError) -> SurfaceError {
+        SurfaceError::Memory
+    }
+}
+
+/// A screen of cells that is changed by lists of changes, which it numbers.
+#[derive(Drop)]
+pub struct Surface<W: Widths> {
+    widths: W,
+    alloc: Global,
+    width: usize,
+    height: usize,
+    rows: Vec<Row>,
+    x: usize,
+    y: usize,
+    visibility: CursorVisibility,
+    pen: CellAttributes,
+    number: SequenceNo,
+}
+
+impl<W: Widths> Model for Surface<W> {
+    ghost use Rattle.termwiz_cell.specs.Width.{unversioned};
+    ghost use Rattle.termwiz_surface.specs.SurfaceValue.{SurfaceValue, IsSound};
+
+    ghost Value = { SurfaceValue W };
+
+    ghost view = { λ s. record { widths = s.widths; width = s.width; height = s.height; lines = s.rows.items; x = s.x; y = s.y; visibility = s.visibility; pen = s.pen; number = s.number } };
+
+    ghost invariant = { λ s. IsSound (unversioned (W.width_of s.widths)) (record { widths = s.widths; width = s.width; height = s.height; lines = s.rows.items; x = s.x; y = s.y; visibility = s.visibility; pen = s.pen; number = s.number }) };
+}
+
+impl<W: Widths> Surface<W> {
+    ghost use Rattle.termwiz_surface.specs.SurfaceValue.{SurfaceValue, IsSound, screen_of, lengths_of, SameFrame, Draws};
+
+    /// A surface of default blanks, with the cursor home and shown, default attributes as pen and the number 0.
+    pub fn new(
+        alloc: Global,
+        width: usize,
+        height: usize,
+        widths: W,
+    ) -> Result<Surface<W>, AllocError>
+        requires some_column { 0 < width }
+        requires some_row { 0 < height }
+        requires fits { width < 2 ^ 32 }
+        requires fits_height { height < 2 ^ 32 }
+        ensures { IfOk result (λ s. s ≡ record { widths = widths; width = width; height = height; lines = replicate height (replicate width blank); x = 0; y = 0; visibility = Visible; pen = default_attributes; number = 0 }) }
+    {
+        let rows = blank_rows(alloc, width, height)?;
+        Ok(Surface {
+            widths,
+            alloc,
+            width,
+            height,
+            rows,
+            x: 0,
+            y: 0,
+            visibility: CursorVisibility::Visible,
+            pen: CellAttributes::blank(),
+            number: SEQ_ZERO,
+        })
+    }
+
+    /// The width in columns and the height in rows.
+    pub fn dimensions(&self) -> (usize, usize)
+        ensures width { result.0 ≡ self.now.width }
+        ensures height { result.1 ≡ self.now.height }
+        // Every surface has its form.
+        ensures sound { IsSound (unversioned (W.width_of self.now.widths)) self.now }
+    {
+        (self.width, self.height)
+    }
+
+    /// The cursor's column and row, from 0. The column is the width where a wrap is pending.
+    pub fn cursor_position(&self) -> (usize, usize)
+        ensures column { result.0 ≡ self.now.x }
+        ensures row { result.1 ≡ self.now.y }
+    {
+        (self.x, self.y)
+    }
+
+    /// Whether the cursor is shown.
+    pub fn cursor_visibility(&self) -> CursorVisibility
+        ensures { result ≡ self.now.visibility }
+    {
+        self.visibility
+    }
+
+    /// The number of the coming change: how many changes were made.
+    pub fn current_seqno(&self) -> SequenceNo
+        ensures { result ≡ self.now.number }
+    {
+        self.number
+    }
+
+    /// The texts of each row's visible cells within its stored length, with a newline behind each row.
+    pub fn screen_chars_to_string(&self) -> Result<String, AllocError>
+        ensures { IfOk result (λ text. string_bytes text ≡ shown_chars (screen_of self.now).rows (lengths_of self.now)) }
+    {
+        chars_of(self.alloc, self.rows.as_slice())
+    }
+
+    /// A copy of what the surface shows: each row is cut or filled to the width with default blanks, and has the number 0.
+    pub fn screen(&self) -> Result<Screen, AllocError>
+        ensures shown { IfOk result (λ screen. screen_value screen ≡ screen_of self.now) }
+        ensures numbers { IfOk result (λ screen. All (λ line. line.seqno ≡ 0) screen.rows.items) }
+    {
+        let rows = resized_lines(self.alloc, self.rows.as_slice(), self.width)?;
+        let pen = self.pen.clone()?;
+        Ok(Screen {
+            width: self.width,
+            height: self.height,
+            rows,
+            cursor: (self.x, self.y),
+            visibility: self.visibility,
+            pen,
+        })
+    }
+
+    fn line_feed(&mut self) -> Result<(), AllocError>
+        ensures ok { OnOk result (Draws self.old (down (screen_of self.old)) (down_lengths (screen_of self.old) (lengths_of self.old)) self.new) }
+        ensures err { OnErr result (self.new ≡ self.old) }
+    {
+        if self.y + 1 < self.height {
+            self.y += 1;
+            return Ok(());
+        }
+        scroll_rows(self.alloc, &mut self.rows, self.width)?;
+        Ok(())
+    }
+
+    fn put(&mut self, grapheme: &str) -> Result<(), AllocError>
+        requires { self.old.x < self.old.width }
+        ensures ok { OnOk result (let s = screen_of self.old in let c = printed_cell (unversioned (W.width_of self.old.widths)) s grapheme.now in Draws self.old (put s c) (put_lengths s c (lengths_of self.old)) self.new) }
+        ensures err { OnErr result (self.new ≡ self.old) }
+    {
+        let cell = printed_cell(self.alloc, &self.widths, grapheme, &self.pen)?;
+        let end = self.x + cell.width();
+        paint_row(&mut self.rows, self.width, self.x, self.y, cell)?;
+        self.x = end.min(self.width);
+        Ok(())
+    }
+
+    fn print_one(&mut self, grapheme: &str) -> Result<(), AllocError>
+        ensures ok { OnOk result (let f = unversioned (W.width_of self.old.widths) in let s = screen_of self.old in Draws self.old (print_one f s grapheme.now) (piece_lengths f s grapheme.now (break_of grapheme.now) (lengths_of self.old)) self.new) }
+        ensures err { OnErr result (SameFrame self.old self.new) }
+    {
+        match line_break(grapheme) {
+            LineBreak::CarriageReturn => self.x = 0,
+            LineBreak::LineFeed => self.line_feed()?,
+            LineBreak::CarriageReturnLineFeed => {
+                self.line_feed()?;
+                self.x = 0;
+            }
+            LineBreak::None => {
+                if self.x >= self.width {
+                    self.line_feed()?;
+                    self.x = 0;
+                }
+                self.put(grapheme)?;
+            }
+        }
+        Ok(())
+    }
+
+    fn print_text(&mut self, text: &str) -> Result<(), AllocError>
+        ensures ok { OnOk result (let f = unversioned (W.width_of self.old.widths) in let s = screen_of self.old in Draws self.old (print f s text.now) (print_lengths f s text.now (lengths_of self.old)) self.new) }
+        ensures err { OnErr result (SameFrame self.old self.new) }
+    {
+        for grapheme in text.graphemes(true) {
+            self.print_one(grapheme)?;
+        }
+        Ok(())
+    }
+
+    // Clears from the cursor to the end of its row, with this pen from then on.
+    fn clear_to_end_of_line(&mut self, pen: CellAttributes) -> Result<(), AllocError>
+        ensures ok { OnOk result (let s = screen_of self.old in Draws self.old (clear_eol s pen) (eol_lengths s pen (lengths_of self.old)) self.new) }
+        ensures err { OnErr result (SameFrame self.old self.new) }
+    {
+        let cleared = blank_with(&pen)?;
+        fill_row(&mut self.rows, self.width, self.x, self.y, &cleared)?;
+        self.pen = pen;
+        Ok(())
+    }
+
+    // Clears from the cursor to the end of the screen.
+    fn clear_to_end_of_screen(&mut self, pen: CellAttributes) -> Result<(), AllocError>
+        ensures ok { OnOk result (let s = screen_of self.old in Draws self.old (clear_eos s pen) (eos_lengths s pen (lengths_of self.old)) self.new) }
+        ensures err { OnErr result (SameFrame self.old self.new) }
+    {
+        let cleared = blank_with(&pen)?;
+        fill_rows(&mut self.rows, self.width, self.x, self.y, &cleared)?;
+        self.pen = pen;
+        Ok(())
+    }
+
+    // Clears all rows, and takes the cursor home.
+    fn clear_screen(&mut self, pen: CellAttributes) -> Result<(), AllocError>
+        ensures ok { OnOk result (let s = screen_of self.old in Draws self.old (clear_screen s pen) (screen_lengths s pen (lengths_of self.old)) self.new) }
+        ensures err { OnErr result (SameFrame self.old self.new) }
+    {
+        let cleared = blank_with(&pen)?;
+        fill_rows(&mut self.rows, self.width, 0, 0, &cleared)?;
+        self.pen = pen;
+        self.x = 0;
+        self.y = 0;
+        Ok(())
+    }
+
+    fn change_pen(&mut self, change: &AttributeChange) -> Result<(), AllocError>
+        ensures ok { OnOk result (Draws self.old (record (screen_of self.old) { pen = with_attribute self.old.pen (attribute_change_value change.now) }) (lengths_of self.old) self.new) }
+        ensures err { OnErr result (self.new ≡ self.old) }
+    {
+        self.pen.apply_change(self.alloc, change)?;
+        Ok(())
+    }
+
+    fn place_cursor(&mut self, x: Position, y: Position)
+        ensures { Draws self.old (placed (screen_of self.old) x y) (lengths_of self.old) self.new }
+    {
+        self.x = column_at(x, self.x, self.width);
+        self.y = row_at(y, self.y, self.height);
+    }
+
+    fn apply(&mut self, change: &Change) -> Result<(), AllocError>
+        ensures ok { OnOk result (let f = unversioned (W.width_of self.old.widths) in let s = screen_of self.old in Draws self.old (step f s (change_value change.now)) (step_lengths f s (lengths_of self.old) (change_value change.now)) self.new) }
+        ensures err { OnErr result (SameFrame self.old self.new) }
+    {
+        match change {
+            Change::Attribute(change) => self.change_pen(change)?,
+            Change::AllAttributes(attrs) => self.pen = attrs.clone()?,
+            Change::Text(text) => self.print_text(text.as_str())?,
+            Change::ClearScreen(color) => {
+                let pen = background_only(self.alloc, *color)?;
+                self.clear_screen(pen)?;
+            }
+            Change::ClearToEndOfLine(color) => {
+                let pen = background_only(self.alloc, *color)?;
+                self.clear_to_end_of_line(pen)?;
+            }
+            Change::ClearToEndOfScreen(color) => {
+                let pen = background_only(self.alloc, *color)?;
+                self.clear_to_end_of_screen(pen)?;
+            }
+            Change::CursorPosition { x, y } => self.place_cursor(*x, *y),
+            Change::CursorVisibility(visibility) => self.visibility = *visibility,
+        }
+        Ok(())
+    }
+
+    fn apply_all(&mut self, changes: &[Change]) -> Result<(), AllocError>
+        ensures ok { OnOk result (let f = unversioned (W.width_of self.old.widths) in let s = screen_of self.old in Draws self.old (replay f s (map change_value changes.now)) (replay_lengths f s (lengths_of self.old) (map change_value changes.now)) self.new) }
+        ensures err { OnErr result (SameFrame self.old self.new) }
+        ensures empty { OnErr result (0 < length changes.now) }
+    {
+        for change in changes {
+            self.apply(change)?;
+        }
+        Ok(())
+    }
+
+    // Makes the changes and counts them.
+    fn make(&mut self, changes: &[Change], answer: SequenceNo) -> Result<SequenceNo, SurfaceError>
+        ensures { Adds (unversioned (W.width_of self.old.widths)) self.old (map change_value changes.now) answer result self.new }
+    {
+        let before = self.number;
+        if changes.len() > usize::MAX - before {
+            return Err(SurfaceError::Numbers);
+        }
+        let number = before + changes.len();
+        if self.apply_all(changes).is_err() {
+            self.number = if before == 0 { 0 } else { before + 1 };
+            return Err(SurfaceError::Memory);
+        }
+        self.number = number;
+        Ok(answer)
+    }
+
+    /// Makes one change. The answer is the number before it.
+    /// `Numbers`: nothing has changed. `Memory`: the size stays, and the number grows by one, unless it is 0.
+    pub fn add_change(&mut self, change: Change) -> Result<SequenceNo, SurfaceError>
+        ensures { Adds (unversioned (W.width_of self.old.widths)) self.old (change_value change ∷ []) self.old.number result self.new }
+    {
+        let number = self.number;
+        self.make(slice::from_ref(&change), number)
+    }
+
+    /// Makes the changes in order. The answer is the number before them less one, or 0 where it is 0, and how many they are.
+    /// `Numbers`: nothing has changed. `Memory`: some were made and the last perhaps in part; the size stays, and the number grows by one, unless it is 0.
+    pub fn add_changes(&mut self, changes: Vec<Change>) -> Result<SequenceNo, SurfaceError>
+        ensures adds { Adds (unversioned (W.width_of self.old.widths)) self.old (map change_value changes.items) (self.old.number - 1 + vec_len changes) result self.new }
+        ensures empty { vec_len changes ≡ 0 → IsOk result }
+    {
+        let before = self.number.saturating_sub(1);
+        let answer = before.saturating_add(changes.len());
+        self.make(changes.as_slice(), answer)
+    }
+
+    /// The number of the coming change, and changes that bring any screen of this size to this one. There is no log yet, so every number is answered by such a repaint.
+    pub fn get_changes(
+        &self,
+        _seq: SequenceNo,
+    ) -> Result<(SequenceNo, CowSlice<'_, Change>), AllocError>
+        ensures number { IfOk result (λ answer. answer.0 ≡ self.now.number) }
+        // Replayed on any screen of that size, whatever it shows, the changes give this one: rows, cursor, visibility and pen.
+        ensures repaint { IfOk result (λ answer. (s : SeenScreen) → HasSize self.now.width self.now.height s → replay (unversioned (W.width_of self.now.widths)) s (answered answer.1) ≡ screen_of self.now) }
+        ensures short { IfOk result (λ answer. length (answered answer.1) ≤ 2 * (self.now.width * self.now.height) + self.now.height + 6) }
+        ensures owned { IfOk result (λ answer. IsOwnedSlice answer.1) }
+    {
+        Ok((self.number, CowSlice::Owned(self.repaint()?)))
+    }
+
+    fn repaint(&self) -> Result<Vec<Change>, AllocError>
+        ensures { IfOk result (λ changes. map change_value changes.items ≡ repaint (screen_of self.now)) }
+    {
+        let padding = Cell::blank();
+        let drawn = all_rows(self.alloc, &self.rows, self.width, &padding)?;
+        framed(
+            self.alloc,
+            drawn,
+            self.x,
+            self.y,
+            self.visibility,
+            &self.pen,
+        )
+    }
+}

@@ -1,0 +1,11 @@
+-- The exit status of each way in which a session ends early: 2 for what it was given, 3 for what it was refused.
+use Rattle.std.specs.Prelude.{ℕ}
+use Rattle.surfview.specs.declared.session.SessionError.{SessionError}
+use Rattle.surfview.specs.declared.session.SessionError.TheVariants.{Usage, Unreadable, BadCommand, Memory, Write}
+
+abbrev pub status_of : SessionError → ℕ
+status_of Usage = 2
+status_of Unreadable = 2
+status_of (BadCommand _) = 2
+status_of Memory = 3
+status_of Write = 3

@@ -1,0 +1,150 @@
+//! The printed form of outcomes: whole lines, each of which ends with LF.
+
+use std::fmt;
+use std::fmt::{Display, Formatter};
+use termwiz_cell::cell::{CellAttributes, Intensity, Underline};
+use termwiz_cell::change::{Change, CursorVisibility, Position};
+use termwiz_cell::color::ColorAttribute;
+use termwiz_surface::surface::SurfaceError;
+use termwiz_surface::view::Outcome;
+
+/// An outcome as the lines that are printed for it, of which there may be none.
+#[derive(Drop)]
+pub struct Printed<'a>(pub &'a Outcome);
+
+impl Display for Printed<'_> {
+    fn fmt<W: fmt::Write>(&self, f: &mut Formatter<W>) -> fmt::Result {
+        match self.0 {
+            Outcome::Answered(_) => Ok(()),
+            Outcome::Refused(SurfaceError::Numbers) => writeln!(f, "refused: numbers"),
+            Outcome::Refused(SurfaceError::Memory) => writeln!(f, "refused: memory"),
+            Outcome::Shown(rows, (x, y)) => {
+                for row in rows.lines() {
+                    writeln!(f, "|{row}|")?;
+                }
+                writeln!(f, "cursor {x} {y}")
+            }
+            Outcome::Asked(seq, changes) => {
+                writeln!(f, "number {seq}")?;
+                for change in changes {
+                    writeln!(f, "{}", PrintedChange(change))?;
+                }
+                Ok(())
+            }
+        }
+    }
+}
+
+/// A change as it is printed, without the line's end.
+#[derive(Drop)]
+struct PrintedChange<'a>(&'a Change);
+
+impl Display for PrintedChange<'_> {
+    fn fmt<W: fmt::Write>(&self, f: &mut Formatter<W>) -> fmt::Result {
+        match self.0 {
+            Change::AllAttributes(pen) => write!(f, "pen{}", PrintedPen(pen)),
+            Change::Text(text) => write!(f, "text {}", Escaped(text.as_str())),
+            Change::ClearScreen(color) => write!(f, "clear {}", PrintedColor(*color)),
+            Change::ClearToEndOfLine(color) => write!(f, "eol {}", PrintedColor(*color)),
+            Change::ClearToEndOfScreen(color) => write!(f, "eos {}", PrintedColor(*color)),
+            Change::CursorPosition { x, y } => {
+                write!(f, "move {} {}", PrintedPosition(*x), PrintedPosition(*y))
+            }
+            Change::CursorVisibility(CursorVisibility::Hidden) => write!(f, "hidden"),
+            Change::CursorVisibility(CursorVisibility::Visible) => write!(f, "visible"),
+            Change::Attribute(_) => write!(f, "other"),
+        }
+    }
+}
+
+/// The words of a pen, each after a space.
+#[derive(Drop)]
+struct PrintedPen<'a>(&'a CellAttributes);
+
+impl Display for PrintedPen<'_> {
+    fn fmt<W: fmt::Write>(&self, f: &mut Formatter<W>) -> fmt::Result {
+        let pen = self.0;
+        if *pen == CellAttributes::blank() {
+            return f.write_str(" default");
+        }
+        for (word, applies) in [
+            (" bold", pen.intensity() == Intensity::Bold),
+            (" half", pen.intensity() == Intensity::Half),
+            (" underline", pen.underline() == Underline::Single),
+            (" italic", pen.italic()),
+            (" reverse", pen.reverse()),
+            (" strike", pen.strikethrough()),
+        ] {
+            if applies {
+                f.write_str(word)?;
+            }
+        }
+        write_color(f, " fg=", pen.foreground())?;
+        write_color(f, " bg=", pen.background())
+    }
+}
+
+/// Writes a colour's word, where the colour isn't the default one.
+fn write_color<W: fmt::Write>(
+    f: &mut Formatter<W>,
+    name: &str,
+    color: ColorAttribute,
+) -> fmt::Result {
+    match color {
+        ColorAttribute::Default => Ok(()),
+        color => write!(f, "{name}{}", PrintedColor(color)),
+    }
+}
+
+/// A colour: `default`, a palette index, or `#` and six hex digits in lower case.
+#[derive(Drop)]
+struct PrintedColor(ColorAttribute);
+
+impl Display for PrintedColor {
+    fn fmt<W: fmt::Write>(&self, f: &mut Formatter<W>) -> fmt::Result {
+        match self.0 {
+            ColorAttribute::Default => write!(f, "default"),
+            ColorAttribute::PaletteIndex(index) => write!(f, "{index}"),
+            ColorAttribute::TrueColorWithPaletteFallback(color, _)
+            | ColorAttribute::TrueColorWithDefaultFallback(color) => {
+                let (red, green, blue) = color.to_tuple_rgb8();
+                write!(f, "#{red:02x}{green:02x}{blue:02x}")
+            }
+        }
+    }
+}
+
+/// A column or a row: `=a` absolute, `+d` or `-d` relative, `$d` from the end.
+#[derive(Drop)]
+struct PrintedPosition(Position);
+
+impl Display for PrintedPosition {
+    fn fmt<W: fmt::Write>(&self, f: &mut Formatter<W>) -> fmt::Result {
+        match self.0 {
+            Position::Absolute(place) => write!(f, "={place}"),
+            Position::Relative(distance) => write!(f, "{distance:+}"),
+            Position::EndRelative(distance) => write!(f, "${distance}"),
+        }
+    }
+}
+
+/// A text with its backslashes and line breaks escaped.
+#[derive(Drop)]
+struct Escaped<'a>(&'a str);
+
+impl Display for Escaped<'_> {
+    fn fmt<W: fmt::Write>(&self, f: &mut Formatter<W>) -> fmt::Result {
+        for c in self.0.chars() {
+            match c {
+                '\\' => f.write_str("\\\\")?,
+                '\n' => f.write_str("\\n")?,
+                '\r' => f.write_str("\\r")?,
+                c => f.write_char(c)?,
+            }
+        }
+        Ok(())
+    }
+}
+
+#[cfg(test)]
+mod tests;

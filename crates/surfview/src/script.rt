@@ -1,0 +1,223 @@
+//! Scripts: one command a line, each of which is an event.
+ghost use Rattle.std.specs.Prelude.{◌≤◌, length, IfSome};
+ghost use Rattle.std.specs.Option.{SomeIff};
+ghost use Rattle.surfview.specs.Number.{IsNumber, value_of};
+
+use std::alloc::{AllocError, Global};
+use termwiz_cell::cell::{CellAttributes, Intensity, Underline};
+use termwiz_cell::change::{Change, Position};
+use termwiz_cell::color::{ColorAttribute, RgbColor};
+use termwiz_surface::view::Event;
+
+/// Why a script has no events.
+#[derive(Clone, Copy, PartialEq, Eq, Debug)]
+pub enum ScriptError {
+    /// The line of this number, from 1, is no command.
+    BadCommand(usize),
+    /// Memory was refused.
+    Memory,
+}
+
+/// Why a line has no event.
+#[derive(Clone, Copy, PartialEq, Eq, Debug)]
+enum LineError {
+    BadCommand,
+    Memory,
+}
+
+impl From<AllocError> for LineError {
+    fn from(_: AllocError) -> LineError {
+        LineError::Memory
+    }
+}
+
+impl LineError {
+    fn at(self, line: usize) -> ScriptError {
+        match self {
+            LineError::BadCommand => ScriptError::BadCommand(line),
+            LineError::Memory => ScriptError::Memory,
+        }
+    }
+}
+
+/// The events of a script. Empty lines and lines that begin with `#` are skipped.
+///
+/// Lines end with LF. The error names the first line that is no command.
+pub fn events(alloc: Global, script: &str) -> Result<Vec<Event>, ScriptError> {
+    let mut events = Vec::new(alloc);
+    for (index, line) in script.split('\n').enumerate() {
+        if !line.is_empty() && !line.starts_with('#') {
+            let event = event(alloc, line).map_err(|error| error.at(index + 1))?;
+            events.push(event).map_err(|_| ScriptError::Memory)?;
+        }
+    }
+    Ok(events)
+}
+
+/// The event of a line. Its words are parted by exactly one space.
+fn event(alloc: Global, line: &str) -> Result<Event, LineError> {
+    if let Some(text) = line.strip_prefix("text ") {
+        let text = unescaped(alloc, text)?;
+        return changes(alloc, Change::Text(text));
+    }
+    let words: Vec<&str> = line.split(' ').collect(alloc)?;
+    match words.as_slice() {
+        ["text"] => changes(alloc, Change::Text(String::new(alloc))),
+        ["at", x, y] => changes(alloc, cursor_position(x, y)?),
+        ["pen", words @ ..] => changes(alloc, Change::AllAttributes(pen(alloc, words)?)),
+        ["clear", color @ ..] => changes(alloc, Change::ClearScreen(background(color)?)),
+        ["eol", color @ ..] => changes(alloc, Change::ClearToEndOfLine(background(color)?)),
+        ["eos", color @ ..] => changes(alloc, Change::ClearToEndOfScreen(background(color)?)),
+        ["show"] => Ok(Event::Show),
+        ["ask", seq] => Ok(Event::Ask(number(seq).ok_or(LineError::BadCommand)? as usize)),
+        _ => Err(LineError::BadCommand),
+    }
+}
+
+/// The event of one change.
+fn changes(alloc: Global, change: Change) -> Result<Event, LineError> {
+    let mut changes = Vec::new(alloc);
+    changes.push(change).map_err(AllocError::from)?;
+    Ok(Event::Changes(changes))
+}
+
+/// The move to a column and a row.
+fn cursor_position(x: &str, y: &str) -> Result<Change, LineError> {
+    let x = number(x).ok_or(LineError::BadCommand)?;
+    let y = number(y).ok_or(LineError::BadCommand)?;
+    Ok(Change::CursorPosition {
+        x: Position::Absolute(x as usize),
+        y: Position::Absolute(y as usize),
+    })
+}
+
+/// The pen that the words, of which there is at least one, make of the default one in turn.
+fn pen(alloc: Global, words: &[&str]) -> Result<CellAttributes, LineError> {
+    if words.is_empty() {
+        return Err(LineError::BadCommand);
+    }
+    let mut pen = CellAttributes::blank();
+    for word in words {
+        change_pen(alloc, &mut pen, word)?;
+    }
+    Ok(pen)
+}
+
+/// Changes the pen by one word.
+fn change_pen(alloc: Global, pen: &mut CellAttributes, word: &str) -> Result<(), LineError> {
+    match word {
+        "default" => {}
+        "bold" => {
+            pen.set_intensity(Intensity::Bold);
+        }
+        "half" => {
+            pen.set_intensity(Intensity::Half);
+        }
+        "underline" => {
+            pen.set_underline(Underline::Single);
+        }
+        "italic" => {
+            pen.set_italic(true);
+        }
+        "reverse" => {
+            pen.set_reverse(true);
+        }
+        "strike" => {
+            pen.set_strikethrough(true);
+        }
+        _ => change_pen_color(alloc, pen, word)?,
+    }
+    Ok(())
+}
+
+/// Changes one colour of the pen, by `fg=C` or `bg=C`.
+fn change_pen_color(alloc: Global, pen: &mut CellAttributes, word: &str) -> Result<(), LineError> {
+    let (name, value) = word.split_once('=').ok_or(LineError::BadCommand)?;
+    let color = color(value).ok_or(LineError::BadCommand)?;
+    match name {
+        "fg" => pen.set_foreground(alloc, color)?,
+        "bg" => pen.set_background(alloc, color)?,
+        _ => return Err(LineError::BadCommand),
+    };
+    Ok(())
+}
+
+/// The background that at most one word gives: without one the default colour.
+fn background(words: &[&str]) -> Result<ColorAttribute, LineError> {
+    match words {
+        [] => Ok(ColorAttribute::Default),
+        [word] => color(word).ok_or(LineError::BadCommand),
+        _ => Err(LineError::BadCommand),
+    }
+}
+
+/// The colour that a word gives: a palette index up to 255, or `#` and six hex digits.
+fn color(word: &str) -> Option<ColorAttribute> {
+    if word.starts_with('#') {
+        let color = six_digit_color(word)?;
+        return Some(ColorAttribute::TrueColorWithDefaultFallback(color));
+    }
+    let index = u8::try_from(number(word)?).ok()?;
+    Some(ColorAttribute::PaletteIndex(index))
+}
+
+/// The colour that `#` and six hex digits write.
+fn six_digit_color(word: &str) -> Option<RgbColor> {
+    if word.len() == 7 {
+        RgbColor::from_rgb_str(word)
+    } else {
+        None
+    }
+}
+
+/// The number that a word of 1 to 10 decimal digits writes, which is at most 4294967295.
+pub fn number(word: &str) -> Option<u32>
+    ensures { SomeIff result (IsNumber word.now) (value_of word.now) }
+{
+    if word.len() > 10 || word.starts_with('+') {
+        return None;
+    }
+    word.parse().ok()
+}
+
+/// The text with its escapes replaced by what they stand for.
+fn unescaped(alloc: Global, text: &str) -> Result<String, LineError> {
+    let mut plain = String::new(alloc);
+    let mut rest = text;
+    while let Some((before, escape)) = rest.split_once('\\') {
+        let (c, after) = escaped_char(escape).ok_or(LineError::BadCommand)?;
+        plain.push_str(before)?;
+        plain.push(c)?;
+        rest = after;
+    }
+    plain.push_str(rest)?;
+    Ok(plain)
+}
+
+/// The character of the escape that a text begins with after its backslash, and what follows it.
+fn escaped_char(text: &str) -> Option<(char, &str)>
+    ensures { IfSome result (λ found. length found.1.now ≤ length text.now) }
+{
+    if let Some(rest) = text.strip_prefix('n') {
+        Some(('\n', rest))
+    } else if let Some(rest) = text.strip_prefix('r') {
+        Some(('\r', rest))
+    } else if let Some(rest) = text.strip_prefix('\\') {
+        Some(('\\', rest))
+    } else {
+        let (digits, rest) = text.strip_prefix("u{")?.split_once('}')?;
+        Some((scalar_value(digits)?, rest))
+    }
+}
+
+/// The character whose number 1 to 6 hex digits write.
+fn scalar_value(digits: &str) -> Option<char> {
+    if digits.len() > 6 || digits.starts_with('+') {
+        return None;
+    }
+    let value = u32::from_str_radix(digits, 16).ok()?;
+    char::from_u32(value)
+}
+
+#[cfg(test)]
+mod tests;

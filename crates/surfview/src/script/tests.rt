@@ -1,0 +1,72 @@
+//! Each line's changes, as they are printed again.
+use super::{Event, events};
+use crate::printed::Printed;
+use std::alloc::Global;
+use std::test::Fail;
+use termwiz_surface::view::Outcome;
+
+/// What the changes of a script print, below the line of the number 7.
+fn printed(alloc: Global, script: &str) -> Result<String, Fail> {
+    let mut text = String::new(alloc);
+    for event in events(alloc, script)? {
+        if let Event::Changes(changes) = event {
+            let outcome = Outcome::Asked(7, changes);
+            let lines = format!(in alloc; "{}", Printed(&outcome))?;
+            text.push_str(lines.as_str())?;
+        }
+    }
+    Ok(text)
+}
+
+#[test]
+fn makes_the_change_of_each_line(rt: HostRuntime) -> Result<(), Fail> {
+    for (line, want) in [
+        ("text", "text "),
+        ("text ", "text "),
+        ("text  a b ", "text  a b "),
+        ("text #", "text #"),
+        ("text a\\r\\nb\\\\n", "text a\\r\\nb\\\\n"),
+        ("text \\u{41}\\u{00304B}\\u{a}\\u{5c}", "text Aか\\n\\\\"),
+        ("text é\\u{301}", "text é\u{301}"),
+        ("at 0 4294967295", "move =0 =4294967295"),
+        ("at 0000000010 2", "move =10 =2"),
+        ("pen default", "pen default"),
+        ("pen bold default", "pen bold"),
+        ("pen bold half", "pen half"),
+        ("pen half bold", "pen bold"),
+        (
+            "pen bg=#ABCDEF fg=7 strike reverse italic underline bold",
+            "pen bold underline italic reverse strike fg=7 bg=#abcdef",
+        ),
+        ("pen fg=#000001 fg=2", "pen fg=2"),
+        ("pen bg=0", "pen bg=0"),
+        ("clear", "clear default"),
+        ("clear 255", "clear 255"),
+        ("eol", "eol default"),
+        ("eol 0000000009", "eol 9"),
+        ("eos", "eos default"),
+        ("eos #00fF0a", "eos #00ff0a"),
+    ] {
+        let want = format!(in rt.alloc(); "number 7\n{want}\n")?;
+        let printed = printed(rt.alloc(), line)?;
+        assert_eq!(rt; printed.as_str(), want.as_str(), "{line}");
+    }
+    Ok(())
+}
+
+#[test]
+fn makes_one_event_of_each_line(rt: HostRuntime) -> Result<(), Fail> {
+    let script = "# head\nat 1 2\n\ntext a\nshow\nask 12\n";
+    let mut names = String::new(rt.alloc());
+    for event in events(rt.alloc(), script)? {
+        let name = match event {
+            Event::Changes(_) => "changes ",
+            Event::Show => "show ",
+            Event::Ask(12) => "ask ",
+            Event::Ask(_) => "another number ",
+        };
+        names.push_str(name)?;
+    }
+    assert_eq!(rt; names.as_str(), "changes changes show ask ");
+    Ok(())
+}

@@ -1,0 +1,180 @@
+//! One run of the program: from its words and its input to what it prints and its exit status.
+ghost use Rattle.std.specs.Prelude.{◌≡◌, ◌≤◌, ◌⊎◌, ◌↔◌, IfSome, IfErr, IsSome, IsErr};
+ghost use Rattle.std.specs.Option.{SomeIff};
+ghost use Rattle.surfview.specs.Number.{value_of};
+ghost use Rattle.surfview.specs.Size.{IsSize, AreSizes};
+ghost use Rattle.surfview.specs.Status.{status_of};
+
+use crate::printed::Printed;
+use crate::script::{self, ScriptError};
+use std::alloc::{AllocError, Global};
+use std::io::{ErrorKind, Read, Write};
+use termwiz_cell::emoji::UnicodeWidths;
+use termwiz_surface::view::{self, Event, Outcome};
+
+/// The greatest width and height, in columns and rows.
+const MAX_SIZE: u32 = 1000;
+
+/// Why a session ends before all is done.
+#[derive(Clone, Copy, PartialEq, Eq, Debug)]
+pub enum SessionError {
+    /// The words aren't a width and a height.
+    Usage,
+    /// A read of the input failed, or the input isn't UTF-8.
+    Unreadable,
+    /// The line of this number, from 1, is no command.
+    BadCommand(usize),
+    /// Memory was refused.
+    Memory,
+    /// A write failed.
+    Write,
+}
+
+impl From<AllocError> for SessionError {
+    ghost use Rattle.surfview.specs.declared.session.SessionError.TheVariants.{Memory};
+
+    ghost from_gives = { λ _ error. error ≡ Memory };
+
+    fn from(_: AllocError) -> SessionError {
+        SessionError::Memory
+    }
+}
+
+impl From<ScriptError> for SessionError {
+    fn from(error: ScriptError) -> SessionError {
+        match error {
+            ScriptError::BadCommand(line) => SessionError::BadCommand(line),
+            ScriptError::Memory => SessionError::Memory,
+        }
+    }
+}
+
+impl SessionError {
+    /// Writes the error's line, where it has one, and answers the exit status, which is that of a
+    /// failed write where the line can't be written.
+    pub fn report<E: Write>(self, err: &mut E) -> u8
+        ensures statuses { (result ≡ 2) ⊎ (result ≡ 3) }
+        ensures status { (result ≡ status_of self) ⊎ (result ≡ status_of SessionError.Write) }
+    {
+        let written = match self {
+            SessionError::Usage => writeln!(err, "usage: surfview WIDTH HEIGHT"),
+            SessionError::Unreadable => writeln!(err, "input: unreadable"),
+            SessionError::BadCommand(line) => writeln!(err, "line {line}: bad command"),
+            SessionError::Memory => writeln!(err, "out of memory"),
+            SessionError::Write => Ok(()),
+        };
+        match written {
+            Ok(()) => self.status(),
+            Err(_) => SessionError::Write.status(),
+        }
+    }
+
+    fn status(self) -> u8
+        ensures { result ≡ status_of self }
+    {
+        match self {
+            SessionError::Usage | SessionError::Unreadable | SessionError::BadCommand(_) => 2,
+            SessionError::Memory | SessionError::Write => 3,
+        }
+    }
+}
+
+/// Runs the script that `input` holds on a surface of the size that `args` give, in columns and
+/// rows, and prints its outcomes to `out`.
+///
+/// The answer is the exit status: 0 where all is done, 2 for words that are no size, an input that
+/// can't be read or a bad command, and 3 for refused memory or a failed write. The line that says
+/// which goes to `err`, and a failed write has none. With status 2 nothing is written to `out`.
+pub fn session<R: Read, O: Write, E: Write>(
+    alloc: Global,
+    args: &[String],
+    input: &mut R,
+    out: &mut O,
+    err: &mut E,
+) -> u8
+    ensures statuses { (result ≡ 0) ⊎ (result ≡ 2) ⊎ (result ≡ 3) }
+    ensures done { result ≡ 0 → AreSizes args.now × (err.new ≡ err.old) }
+    ensures refused { result ≡ 2 → out.new ≡ out.old }
+    ensures usage { AreSizes args.now ⊎ ((input.new ≡ input.old) × (out.new ≡ out.old)) }
+{
+    match outcomes(alloc, args, input) {
+        Ok(outcomes) => match print(alloc, outcomes.as_slice(), out) {
+            Ok(()) => 0,
+            Err(error) => error.report(err),
+        },
+        Err(error) => error.report(err),
+    }
+}
+
+/// What comes of the script that `input` holds.
+fn outcomes<R: Read>(
+    alloc: Global,
+    args: &[String],
+    input: &mut R,
+) -> Result<Vec<Outcome>, SessionError>
+    ensures { AreSizes args.now ⊎ (IsErr result × (input.new ≡ input.old)) }
+{
+    let (width, height) = dimensions(args).ok_or(SessionError::Usage)?;
+    let events = events(alloc, input)?;
+    let outcomes = view::run(alloc, UnicodeWidths, width, height, events)?;
+    Ok(outcomes)
+}
+
+/// The width and the height that the words give.
+fn dimensions(args: &[String]) -> Option<(usize, usize)>
+    ensures sizes { IsSome result ↔ AreSizes args.now }
+    ensures width { IfSome result (λ found. (1 ≤ found.0) × (found.0 ≤ 1000)) }
+    ensures height { IfSome result (λ found. (1 ≤ found.1) × (found.1 ≤ 1000)) }
+{
+    match args {
+        [width, height] => Some((size(width.as_str())?, size(height.as_str())?)),
+        _ => None,
+    }
+}
+
+/// The size that a word gives: a number from 1 to 1000.
+fn size(word: &str) -> Option<usize>
+    ensures { SomeIff result (IsSize word.now) (value_of word.now) }
+{
+    let size = script::number(word)?;
+    if 1 <= size && size <= MAX_SIZE {
+        Some(size as usize)
+    } else {
+        None
+    }
+}
+
+/// The events of the script that `input` holds.
+fn events<R: Read>(alloc: Global, input: &mut R) -> Result<Vec<Event>, SessionError> {
+    let bytes = bytes(alloc, input)?;
+    let script = str::from_utf8(bytes.as_slice()).map_err(|_| SessionError::Unreadable)?;
+    let events = script::events(alloc, script)?;
+    Ok(events)
+}
+
+/// All bytes of the input.
+fn bytes<R: Read>(alloc: Global, input: &mut R) -> Result<Vec<u8>, SessionError> {
+    let mut bytes = Vec::new(alloc);
+    match input.read_to_end(&mut bytes) {
+        Ok(_) => Ok(bytes),
+        Err(error) => match error.kind() {
+            ErrorKind::OutOfMemory => Err(SessionError::Memory),
+            _ => Err(SessionError::Unreadable),
+        },
+    }
+}
+
+/// Prints each outcome in turn.
+fn print<O: Write>(alloc: Global, outcomes: &[Outcome], out: &mut O) -> Result<(), SessionError>
+    ensures { IfErr result (λ error. status_of error ≡ 3) }
+{
+    for outcome in outcomes {
+        let text = format!(in alloc; "{}", Printed(outcome))?;
+        out.write_all(text.as_bytes())
+            .map_err(|_| SessionError::Write)?;
+    }
+    out.flush().map_err(|_| SessionError::Write)
+}
+
+#[cfg(test)]
+mod tests;

@@ -1,0 +1,155 @@
+//! What is measured.
+ghost use Rattle.std.specs.Prelude.{◌<◌, ◌^◌};
+
+use std::alloc::{AllocError, Global};
+use termwiz_cell::cell::CellAttributes;
+use termwiz_cell::change::Change;
+use termwiz_cell::color::ColorAttribute;
+use termwiz_cell::emoji::UnicodeWidths;
+use termwiz_surface::surface::{Surface, SurfaceError};
+
+/// A workload by its name.
+#[derive(Clone, Copy, Debug)]
+pub enum Workload {
+    /// A line of 80 characters on 80x24.
+    Plain,
+    /// The same with a colour for every 8 columns.
+    Colours,
+    /// A line of 40 kana.
+    Kana,
+    /// A short line at the bottom row.
+    Scroll,
+    /// A repaint of a coloured 80x24.
+    Repaint,
+    /// A repaint of a coloured 200x60.
+    LargeRepaint,
+    /// A setter of an attribute.
+    Setter,
+    /// A clone of plain attributes.
+    Clone,
+    /// A comparison of attributes.
+    Equality,
+}
+
+impl Workload {
+    pub fn from_name(name: &str) -> Option<Workload> {
+        match name {
+            "plain" => Some(Workload::Plain),
+            "colours" => Some(Workload::Colours),
+            "kana" => Some(Workload::Kana),
+            "scroll" => Some(Workload::Scroll),
+            "repaint" => Some(Workload::Repaint),
+            "large-repaint" => Some(Workload::LargeRepaint),
+            "setter" => Some(Workload::Setter),
+            "clone" => Some(Workload::Clone),
+            "equality" => Some(Workload::Equality),
+            _ => None,
+        }
+    }
+}
+
+const PLAIN: &str =
+    "The quick brown fox jumps over the lazy dog; 0123456789 and then some more text.\r\n";
+
+const EIGHT: &str = "colours ";
+
+const KANA: &str = "かきくけこさしすせそたちつてとなにぬねのはひふへほまみむめもやゆよらりるれろ\r\n";
+
+/// Runs the workload, and gives a sum that depends on what was done.
+pub fn run(alloc: Global, workload: Workload, count: u32) -> Result<usize, SurfaceError> {
+    match workload {
+        Workload::Plain => printed(alloc, PLAIN, count),
+        Workload::Colours => coloured(alloc, count),
+        Workload::Kana => printed(alloc, KANA, count),
+        Workload::Scroll => printed(alloc, "x\r\n", count),
+        Workload::Repaint => repainted(alloc, 80, 24, count),
+        Workload::LargeRepaint => repainted(alloc, 200, 60, count),
+        Workload::Setter => Ok(set(count)),
+        Workload::Clone => Ok(cloned(count)?),
+        Workload::Equality => Ok(compared(count)),
+    }
+}
+
+fn printed(alloc: Global, line: &str, count: u32) -> Result<usize, SurfaceError> {
+    let mut surface = Surface::new(alloc, 80, 24, UnicodeWidths)?;
+    for _ in 0..count {
+        surface.add_change(Change::text_from(alloc, line)?)?;
+    }
+    Ok(surface.current_seqno())
+}
+
+fn pen(alloc: Global, index: u8) -> Result<Change, AllocError> {
+    let mut attrs = CellAttributes::blank();
+    attrs.set_foreground(alloc, ColorAttribute::PaletteIndex(index))?;
+    Ok(Change::AllAttributes(attrs))
+}
+
+fn coloured(alloc: Global, count: u32) -> Result<usize, SurfaceError> {
+    let mut surface = Surface::new(alloc, 80, 24, UnicodeWidths)?;
+    for _ in 0..count {
+        for index in 0..10 {
+            surface.add_change(pen(alloc, index)?)?;
+            surface.add_change(Change::text_from(alloc, EIGHT)?)?;
+        }
+        surface.add_change(Change::text_from(alloc, "\r\n")?)?;
+    }
+    Ok(surface.current_seqno())
+}
+
+fn repainted(alloc: Global, width: usize, height: usize, count: u32) -> Result<usize, SurfaceError>
+    requires some_column { 0 < width }
+    requires some_row { 0 < height }
+    requires fits { width < 2 ^ 32 }
+    requires fits_height { height < 2 ^ 32 }
+{
+    let mut surface = Surface::new(alloc, width, height, UnicodeWidths)?;
+    for cell in 0..width * height / 8 {
+        surface.add_change(pen(alloc, (cell % 10) as u8)?)?;
+        surface.add_change(Change::text_from(alloc, EIGHT)?)?;
+    }
+    let mut entries = 0usize;
+    for _ in 0..count {
+        let (_, changes) = surface.get_changes(0)?;
+        entries = entries.wrapping_add(changes.as_slice().len());
+    }
+    Ok(entries)
+}
+
+fn set(count: u32) -> usize {
+    let mut attrs = CellAttributes::blank();
+    let mut changed = 0usize;
+    for i in 0..count {
+        attrs.set_italic(i % 3 == 0);
+        if attrs.italic() {
+            changed = changed.wrapping_add(1);
+        }
+    }
+    changed
+}
+
+fn cloned(count: u32) -> Result<usize, AllocError> {
+    let mut attrs = CellAttributes::blank();
+    for i in 0..count {
+        let copy = attrs.clone()?;
+        attrs = copy;
+        if i % 1024 == 0 {
+            attrs.set_italic(i % 3 == 0);
+        }
+    }
+    Ok(usize::from(attrs.italic()))
+}
+
+fn compared(count: u32) -> usize {
+    let mut attrs = CellAttributes::blank();
+    let other = CellAttributes::blank();
+    let mut equal = 0usize;
+    for i in 0..count {
+        if i % 1024 == 0 {
+            attrs.set_italic(i % 3 == 0);
+        }
+        if attrs == other {
+            equal = equal.wrapping_add(1);
+        }
+    }
+    equal
+}

@@ -1,0 +1,21 @@
+//! Worked examples across the crates, as tests, and what they share.
+#![tactic(auto)]
+
+#[cfg(test)]
+mod attributes;
+#[cfg(test)]
+mod carried;
+pub mod changes;
+#[cfg(test)]
+mod graphemes;
+#[cfg(test)]
+mod lines;
+#[cfg(test)]
+mod positions;
+#[cfg(test)]
+mod printing;
+#[cfg(test)]
+mod repaints;
+#[cfg(test)]
+mod runs;
+pub mod widths;

@@ -78,8 +78,8 @@ fn with_tail<'a>(
     Ok(row)
 }
 
-// A pen, where it is another one.
-fn push_pen(
+/// A pen, where it is another one than before.
+pub fn push_pen(
     entries: &mut Vec<Change>,
     old: &CellAttributes,
     new: &CellAttributes,

@@ -1,18 +1,13 @@
 -- Clearing a screen, and beside it what that makes of the lengths of the stored rows.
-use Rattle.std.specs.Prelude.{ℕ, zero, suc, Bool, false, cond, not, ◌&&◌, ◌==◌, nat_lt, List, [], ◌∷◌, ◌++◌, map, length, get_or, set, take, drop}
+use Rattle.std.specs.Prelude.{ℕ, zero, suc, Bool, cond, not, ◌&&◌, ◌==◌, nat_lt, List, [], ◌∷◌, ◌++◌, map, length, get_or, set, take, drop}
 use Rattle.termwiz_cell.specs.Attributes.{Attributes}
-use Rattle.termwiz_cell.specs.CellValue.{CellValue, blank, blank_of, is_wide, cell_eq}
+use Rattle.termwiz_cell.specs.CellValue.{CellValue, blank, blank_of, cell_eq}
 use Rattle.termwiz_storage.specs.Stored.{stored}
-use Rattle.termwiz_line.specs.Row.{clear}
+use Rattle.termwiz_line.specs.Row.{is_hidden, clear}
 use Rattle.termwiz_surface.specs.Screen.{Screen, row_at}
 
 abbrev pub is_blank : CellValue → Bool
 is_blank c = cell_eq c blank
-
--- a row's column is hidden where the cell before it is wide
-abbrev pub is_hidden : List CellValue → ℕ → Bool
-is_hidden r zero = false
-is_hidden r (suc k) = is_wide (stored r k)
 
 -- the column after the last of the first n columns that does not show a default blank
 abbrev pub ends : List CellValue → ℕ → ℕ

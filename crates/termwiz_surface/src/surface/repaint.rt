@@ -23,7 +23,7 @@ use std::alloc::{AllocError, Global};
 use termwiz_cell::cell::{Cell, CellAttributes};
 use termwiz_cell::change::{Change, CursorVisibility, Position};
 use termwiz_cell::color::ColorAttribute;
-use termwiz_line::entries::{Penned, row_entries};
+use termwiz_line::entries::{Penned, push_pen, row_entries};
 use termwiz_storage::line::cellref::CellRef;
 
 /// The entries of all rows on a cleared screen. Blank rows at the bottom with one background are left to one clear to the end of the screen.
@@ -60,13 +60,7 @@ fn is_clearable(alloc: Global, attrs: &CellAttributes) -> Result<bool, AllocErro
 fn is_default(attrs: &CellAttributes) -> bool
     ensures { result ≡ attributes_eq attrs.now default_attributes }
 {
-    is_same(attrs, &CellAttributes::blank())
-}
-
-fn is_same(a: &CellAttributes, b: &CellAttributes) -> bool
-    ensures { result ≡ attributes_eq a.now b.now }
-{
-    *a == *b
+    *attrs == CellAttributes::blank()
 }
 
 // The entries of all rows, where the last column of the last row has these attributes.
@@ -323,19 +317,6 @@ fn is_move(entry: &Change) -> bool
     ensures { result ≡ spec.is_move (change_value entry.now) }
 {
     matches!(entry, Change::CursorPosition { .. })
-}
-
-fn push_pen(
-    entries: &mut Vec<Change>,
-    old: &CellAttributes,
-    new: &CellAttributes,
-) -> Result<(), AllocError>
-    ensures { OnOk result (map change_value entries.new.items ≡ map change_value entries.old.items ++ line.pen_entry old.now new.now) }
-{
-    if !is_same(old, new) {
-        entries.push(Change::AllAttributes(new.clone()?))?;
-    }
-    Ok(())
 }
 
 fn push_visible(entries: &mut Vec<Change>, visibility: CursorVisibility) -> Result<(), AllocError>

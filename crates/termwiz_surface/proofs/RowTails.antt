@@ -1,13 +1,13 @@
 -- Rows whose tail is one blank: painting what they show before it, and clearing the rest, gives the row.
-use Rattle.std.proofs.Common.{◌≡◌, ℕ, suc, ◌<◌, ◌≤◌, true, false, List, length, replicate, arith, inl, inr, ◌⊎◌, refl, sym, ap, ◌∙◌, subst}
-use Rattle.std.proofs.lemmas.List.{get_or_past, ext_get_or, get_or-replicate, length-replicate}
-use Rattle.std.proofs.lemmas.Bool.{cases_lt, cases_Bool, false≢true}
+use Rattle.std.proofs.Common.{◌≡◌, ℕ, ◌<◌, ◌≤◌, false, List, length, replicate, arith, inl, inr, sym, ap, ◌∙◌, subst}
+use Rattle.std.proofs.lemmas.List.{ext_get_or, get_or-replicate, length-replicate}
+use Rattle.std.proofs.lemmas.Bool.{cases_lt, false≢true}
 use Rattle.termwiz_cell.specs.Attributes.{Attributes, default_attributes}
-use Rattle.termwiz_cell.specs.CellValue.{CellValue, blank, blank_of, half, is_wide}
+use Rattle.termwiz_cell.specs.CellValue.{CellValue, blank, blank_of, is_wide}
 use Rattle.termwiz_storage.specs.Stored.{stored}
 use Rattle.termwiz_line.specs.Row.{IsRow, is_hidden, visible_upto, clear}
 use Rattle.termwiz_line.proofs.RowPainting.{length-clear, clear_from, clear_left}
-use Rattle.termwiz_line.proofs.RowVisible.{paint_all, Between, reach, reach_hidden, reach_visible, paint_visible}
+use Rattle.termwiz_line.proofs.RowVisible.{paint_all, Between, reach, reach_visible, paint_visible}
 
 -- from column k on, which is not hidden, the row has this cell alone
 pub record TailIs (w : ℕ) (r : List CellValue) (k : ℕ) (x : CellValue) : Type 0 where

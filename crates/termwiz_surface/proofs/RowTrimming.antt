@@ -1,13 +1,13 @@
 -- The cells that the entries of a row leave out at its end: as a list, and as columns of the row.
-use Rattle.std.proofs.Common.{◌≡◌, ℕ, zero, suc, ◌<◌, ◌≤◌, Bool, true, false, cond, ◌&&◌, List, [], ◌∷◌, ◌++◌, length, arith, inl, inr, ◌⊎◌, bytes_eq, nat_lt, refl, sym, ap, ap₂, ◌∙◌, subst}
-use Rattle.std.proofs.lemmas.Bool.{cases_eq, cases_lt, cases_Bool, and_parts, and_from, and_left, and_right, cond-true, cond-false, false≢true}
+use Rattle.std.proofs.Common.{◌≡◌, ℕ, zero, suc, ◌<◌, ◌≤◌, Bool, true, false, cond, List, [], ◌∷◌, length, arith, inl, inr, ◌⊎◌, bytes_eq, nat_lt, refl, sym, ap, ◌∙◌, subst}
+use Rattle.std.proofs.lemmas.Bool.{cases_eq, cases_lt, cases_Bool, and_parts, cond-true, false≢true}
 use Rattle.std.proofs.lemmas.Slice.Eq.{bytes_eq-Decides}
 use Rattle.termwiz_cell.specs.Attributes.{Attributes, is_plain, attributes_eq, attributes_eq-Decides}
 use Rattle.termwiz_cell.specs.CellValue.{CellValue, space, blank_of, is_wide}
 use Rattle.termwiz_storage.specs.Stored.{stored}
 use Rattle.termwiz_line.specs.Row.{is_hidden, visible_upto}
 use Rattle.termwiz_line.specs.Entries.{is_space_of, all_spaces, trimmed, last_attrs, ends_plain}
-use Rattle.termwiz_line.proofs.EntryLists.{all_spaces_push, no_spaces_push, trimmed_push, untrimmed_push}
+use Rattle.termwiz_line.proofs.EntryLists.{all_spaces_push, trimmed_push, untrimmed_push}
 use Rattle.termwiz_surface.specs.SurfaceValue.{IsMeasured}
 use Rattle.termwiz_surface.specs.Printable.{IsPrintableRow}
 use Rattle.termwiz_line.proofs.RowVisible.{visible_hidden, visible_shown, hidden_narrow}

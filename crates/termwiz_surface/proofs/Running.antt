@@ -1,17 +1,14 @@
 -- What a surface does is what the schedule allows, and a run goes on by one event.
-use Rattle.std.proofs.Common.{◌≡◌, ℕ, zero, suc, ◌+◌, ◌-◌, ◌<◌, ◌≤◌, List, [], ◌∷◌, ◌++◌, length, map, true, false, not, ◌&&◌, refl, sym, ap, ◌∙◌, arith, replicate}
-use Rattle.std.proofs.lemmas.Bool.{cases_Bool, and_parts, and_from, not_from_false, not-true}
+use Rattle.std.proofs.Common.{◌≡◌, ℕ, zero, suc, ◌+◌, ◌-◌, List, [], ◌∷◌, ◌++◌, length, map, refl, ap, ◌∙◌, arith, replicate}
 use Rattle.std.specs.Prelude.{Ok, Err, Vec, vec_len}
 use Rattle.std.specs.declared.alloc.Global.{Global}
 use Rattle.termwiz_cell.specs.Attributes.{default_attributes}
-use Rattle.termwiz_cell.specs.CellValue.{CellValue, blank, half, is_wide}
+use Rattle.termwiz_cell.specs.CellValue.{blank}
 use Rattle.termwiz_cell.specs.ChangeValue.{ChangeValue, change_value}
 use Rattle.termwiz_cell.specs.declared.change.Change.{Change}
 use Rattle.termwiz_cell.specs.declared.change.CursorVisibility.TheVariants.{Visible}
-use Rattle.termwiz_storage.specs.Stored.{stored}
-use Rattle.termwiz_line.specs.Row.{IsRow, row_of}
-use Rattle.termwiz_surface.specs.Screen.{row_at}
-use Rattle.termwiz_surface.specs.SurfaceValue.{SurfaceValue, IsSound, screen_of, lengths_of}
+use Rattle.termwiz_line.specs.Row.{row_of}
+use Rattle.termwiz_surface.specs.SurfaceValue.{SurfaceValue, IsSound}
 use Rattle.termwiz_surface.specs.Answer.{Adds}
 use Rattle.termwiz_surface.specs.Schedule.{State, Allows, Runs, Ended, Next, state_of, first_state}
 use Rattle.termwiz_surface.specs.declared.surface.SurfaceError.{SurfaceError}
@@ -22,7 +19,7 @@ use Rattle.termwiz_surface.specs.declared.view.Outcome.{Outcome}
 use Rattle.termwiz_surface.specs.declared.view.Outcome.TheVariants.{Answered, Refused}
 use Rattle.termwiz_surface.proofs.Rows.{row_blank}
 use Rattle.termwiz_surface.proofs.SoundRepaint.{sound_has_size, sound_is_printable}
-use Rattle.std.proofs.lemmas.List.{length-map, get_or-map, length-replicate}
+use Rattle.std.proofs.lemmas.List.{length-map, length-replicate}
 
 map-replicate : {X Y : Type 0} (f : X → Y) (n : ℕ) (x : X) → map f (replicate n x) ≡ replicate n (f x)
 map-replicate f zero x = refl

@@ -1,5 +1,5 @@
 -- Clearing a screen, and beside it what that makes of the lengths of the stored rows.
-use Rattle.std.specs.Prelude.{ℕ, zero, suc, Bool, cond, not, ◌&&◌, ◌==◌, nat_lt, List, [], ◌∷◌, ◌++◌, map, length, get_or, set, take, drop}
+use Rattle.std.specs.Prelude.{ℕ, zero, suc, Bool, cond, not, ◌&&◌, nat_lt, List, ◌∷◌, ◌++◌, map, length, get_or, set, take, drop}
 use Rattle.termwiz_cell.specs.Attributes.{Attributes}
 use Rattle.termwiz_cell.specs.CellValue.{CellValue, blank, blank_of, cell_eq}
 use Rattle.termwiz_storage.specs.Stored.{stored}

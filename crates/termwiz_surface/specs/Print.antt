@@ -1,5 +1,5 @@
 -- Printing a text, grapheme by grapheme: what it makes of a screen, and beside it of the lengths of the stored rows.
-use Rattle.std.specs.Prelude.{ℕ, ◌+◌, min, max, Bool, true, ◌==◌, ◌||◌, nat_lt, List, [], ◌∷◌, ◌++◌, fold, replicate, drop, get_or, set, if◌then◌else◌}
+use Rattle.std.specs.Prelude.{ℕ, ◌+◌, min, max, Bool, true, ◌==◌, nat_lt, List, [], ◌∷◌, ◌++◌, fold, replicate, drop, get_or, set, if◌then◌else◌}
 use Rattle.std.specs.Str.{bytes_eq}
 use Rattle.unicode_segmentation.specs.Grapheme.{graphemes}
 use Rattle.termwiz_cell.specs.CellValue.{CellValue, blank, columns, measured}

@@ -46,20 +46,15 @@ module _ {W : Type 0} where
       let count : length (map change_value changes.items) ≡ length changes.items = length-map changes.items change_value in
       (omega (arith, h.0), h.1 ∙ ap (λ k. old.number - 1 + k) changes.ok.0, record { screen = h.2.screen_is; lengths = h.2.lengths_are; number = h.2.number })
 
-  -- a refused list leaves the width value
-  pub widths-refused : (width : List ℕ → ℕ) (old new : SurfaceValue W) (changes : List ChangeValue) (answer : ℕ) (e : SurfaceError) → Adds width old changes answer (Err e) new → new.widths ≡ old.widths
-  widths-refused width old new changes answer Numbers h = ap (λ s. s.widths) h.1
-  widths-refused width old new changes answer Memory h = h.2.widths
-
   -- a refused list is refused as the schedule says
   pub Allows-refused : (width : List ℕ → ℕ) (old new : SurfaceValue W) (changes : Vec Change Global) (answer : ℕ) (e : SurfaceError)
-      → Adds width old (map change_value changes.items) answer (Err e) new → IsSound width new → Allows width (state_of old) (Changes changes) (Refused e) (state_of new)
-  Allows-refused width old new changes answer Numbers h sound =
+      → Adds width old (map change_value changes.items) answer (Err e) new → Allows width (state_of old) (Changes changes) (Refused e) (state_of new)
+  Allows-refused width old new changes answer Numbers h =
       let count : length (map change_value changes.items) ≡ length changes.items = length-map changes.items change_value in
       (omega (arith, h.0), ap state_of h.1)
-  Allows-refused width old new changes answer Memory h sound =
+  Allows-refused width old new changes answer Memory h =
       let count : length (map change_value changes.items) ≡ length changes.items = length-map changes.items change_value in
-      let form = sound_has_size width new sound in (
+      let form = sound_has_size width new h.3 in (
         omega (arith, h.0),
         omega (arith, h.1),
         record {
@@ -69,7 +64,11 @@ module _ {W : Type 0} where
             full = form.full ∙ h.2.height;
             row_length = λ j l. form.row_length j (omega (arith, h.2.height)) ∙ h.2.width;
           };
-          form = sound_is_printable width new sound;
+          form = sound_is_printable width new h.3;
+          lines = new.lines;
+          stored_so = h.3.stored_so;
+          rows = refl;
+          lengths = refl;
           number = h.2.number;
         },
       )

@@ -1,7 +1,7 @@
 -- What a list of changes answers, and what it makes of a surface.
 use Rattle.std.specs.Prelude.{◌≡◌, ℕ, ◌+◌, ◌<◌, ◌≤◌, ◌^◌, ◌==◌, List, length, Result, Ok, Err, if◌then◌else◌}
 use Rattle.termwiz_cell.specs.ChangeValue.{ChangeValue}
-use Rattle.termwiz_surface.specs.SurfaceValue.{SurfaceValue, screen_of, lengths_of, SameFrame, Draws}
+use Rattle.termwiz_surface.specs.SurfaceValue.{SurfaceValue, screen_of, lengths_of, IsSound, SameFrame, Draws}
 use Rattle.termwiz_surface.specs.Step.{replay, replay_lengths}
 use Rattle.termwiz_surface.specs.declared.surface.SurfaceError.{SurfaceError}
 use Rattle.termwiz_surface.specs.declared.surface.SurfaceError.TheVariants.{Numbers, Memory}
@@ -24,6 +24,6 @@ module _ {W : Type 0} where
   Adds width old changes answer (Ok n) new = (old.number + length changes < 2 ^ 64) × (n ≡ answer) × Makes width old changes new
   -- the numbers would pass the greatest: nothing has changed
   Adds width old changes answer (Err Numbers) new = (2 ^ 64 ≤ old.number + length changes) × (new ≡ old)
-  -- some memory was refused: the surface is any one of that size, under a new number
+  -- some memory was refused: the surface is any one of that size in its form, under a new number
   Adds width old changes answer (Err Memory) new =
-      (old.number + length changes < 2 ^ 64) × (0 < length changes) × SameFrame (numbered old (broken_number old.number)) new
+      (old.number + length changes < 2 ^ 64) × (0 < length changes) × SameFrame (numbered old (broken_number old.number)) new × IsSound width new

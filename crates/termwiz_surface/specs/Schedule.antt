@@ -1,15 +1,16 @@
 -- Which outcomes a list of events may have: a state, what each event may answer and leave, and whole runs.
 use Rattle.std.specs.Prelude.{◌≡◌, ℕ, ◌+◌, ◌-◌, ◌^◌, ◌<◌, ◌≤◌, List, [], ◌∷◌, length, map, replicate, string_bytes}
 use Rattle.termwiz_cell.specs.Attributes.{default_attributes}
-use Rattle.termwiz_cell.specs.CellValue.{blank}
+use Rattle.termwiz_cell.specs.CellValue.{CellValue, blank}
 use Rattle.termwiz_cell.specs.ChangeValue.{ChangeValue, change_value}
 use Rattle.termwiz_cell.specs.declared.change.CursorVisibility.TheVariants.{Visible}
-use Rattle.termwiz_surface.specs.Screen.{Screen}
+use Rattle.termwiz_line.specs.Row.{row_of}
+use Rattle.termwiz_surface.specs.Screen.{Screen, row_at}
 use Rattle.termwiz_surface.specs.Step.{replay, replay_lengths}
 use Rattle.termwiz_surface.specs.Answer.{broken_number}
 use Rattle.termwiz_surface.specs.Printable.{HasSize, IsPrintable}
 use Rattle.termwiz_surface.specs.ShownChars.{shown_chars}
-use Rattle.termwiz_surface.specs.SurfaceValue.{SurfaceValue, screen_of, lengths_of}
+use Rattle.termwiz_surface.specs.SurfaceValue.{SurfaceValue, IsStored, screen_of, lengths_of}
 use Rattle.termwiz_surface.specs.declared.surface.SurfaceError.TheVariants.{Numbers, Memory}
 use Rattle.termwiz_surface.specs.declared.view.Event.{Event}
 use Rattle.termwiz_surface.specs.declared.view.Event.TheVariants.{Changes, Show, Ask}
@@ -39,10 +40,14 @@ pub record Does (width : List ℕ → ℕ) (changes : List ChangeValue) (old new
   pub lengths : new.lengths ≡ replay_lengths width old.screen old.lengths changes
   pub number : new.number ≡ old.number + length changes
 
--- what a list leaves that ran out of memory: any screen of that size and form, and a new number
+-- what a list leaves that ran out of memory: any screen of that size and form over some stored rows, and a new number
 pub record IsBroken (width : List ℕ → ℕ) (old new : State) : Type 0 where
   pub size : HasSize old.screen.width old.screen.height new.screen
   pub form : IsPrintable width new.screen
+  pub lines : List (List CellValue)
+  pub stored_so : (j : ℕ) → j < new.screen.height → IsStored width new.screen.width (row_at lines j)
+  pub rows : new.screen.rows ≡ map (row_of new.screen.width) lines
+  pub lengths : new.lengths ≡ map length lines
   pub number : new.number ≡ broken_number old.number
 
 -- the event may have this outcome, and go over from old to new

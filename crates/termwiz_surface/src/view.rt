@@ -66,10 +66,7 @@ fn serve<W: Widths>(alloc: Global, surface: &mut Surface<W>, event: Event) -> Ou
     match event {
         Event::Changes(changes) => match surface.add_changes(changes) {
             Ok(number) => Outcome::Answered(number),
-            Err(error) => {
-                let _form = surface.dimensions();
-                Outcome::Refused(error)
-            }
+            Err(error) => Outcome::Refused(error),
         },
         Event::Show => match surface.screen_chars_to_string() {
             Ok(text) => Outcome::Shown(text, surface.cursor_position()),

@@ -1,8 +1,6 @@
-use Rattle.std.proofs.Common.{◌+◌, ◌-◌, map, vec_len, subst}
-use Rattle.termwiz_cell.specs.ChangeValue.{change_value}
+use Rattle.std.proofs.Common.{◌+◌, ◌-◌, vec_len}
 use Rattle.termwiz_cell.specs.Width.{unversioned}
-use Rattle.termwiz_surface.specs.SurfaceValue.{IsSound}
-use Rattle.termwiz_surface.proofs.Running.{Allows-answered, Allows-refused, widths-refused}
+use Rattle.termwiz_surface.proofs.Running.{Allows-answered, Allows-refused}
 use Rattle.termwiz_surface.proofs.view.serve.Goals as goal
 
 pub returns-in-Ok-clause-step : goal.returns-in-Ok-clause-step
@@ -11,8 +9,5 @@ returns-in-Ok-clause-step g c = rw c.in-Changes.is (Allows-answered _ _ _ c.in-C
 pub returns-in-Err-clause-step : goal.returns-in-Err-clause-step
 returns-in-Err-clause-step g c =
     let width = unversioned (g.W.Widths.width_of c.args.surface.now.widths) in
-    let changes = map change_value c.in-Changes.changes.items in
     let answer = c.args.surface.now.number - 1 + vec_len c.in-Changes.changes in
-    let widths = widths-refused width c.args.surface.now c.add_changes.new.self changes answer c.in-Err.error c.in-Err.ensures.adds in
-    let sound = subst (λ w. IsSound (unversioned (g.W.Widths.width_of w)) c.add_changes.new.self) widths c.dimensions-form.ensures.sound in
-    rw c.in-Changes.is (Allows-refused width c.args.surface.now c.add_changes.new.self c.in-Changes.changes answer c.in-Err.error c.in-Err.ensures.adds sound)
+    rw c.in-Changes.is (Allows-refused width c.args.surface.now c.add_changes.new.self c.in-Changes.changes answer c.in-Err.error c.in-Err.ensures.adds)

@@ -7,3 +7,4 @@ pub mod Resized
 pub mod EntryLists
 pub mod PlainAttributes
 pub mod GrowingText
+pub mod Walk

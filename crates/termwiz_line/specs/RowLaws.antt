@@ -1,7 +1,7 @@
 -- What painting and clearing do to what a row shows, and what the row of stored cells shows.
-use Rattle.std.specs.Prelude.{◌≡◌, ℕ, ◌<◌, ◌≤◌, List, length, take}
+use Rattle.std.specs.Prelude.{◌≡◌, ℕ, ◌+◌, ◌<◌, ◌≤◌, List, [], ◌∷◌, length, take}
 use Rattle.termwiz_cell.specs.Attributes.{Attributes}
-use Rattle.termwiz_cell.specs.CellValue.{CellValue, blank_of}
+use Rattle.termwiz_cell.specs.CellValue.{CellValue, blank_of, columns}
 use Rattle.termwiz_storage.specs.Stored.{visible, padded}
 use Rattle.termwiz_storage.specs.Halves.{resized}
 use Rattle.termwiz_line.specs.Row.{IsRow, row_of, visible_upto, paint, clear}
@@ -34,6 +34,15 @@ CellsHaveRow = (w : ℕ) (cs : List CellValue) → IsRow w (row_of w cs) × (vis
 -- stored cells that show the same have the same row
 abbrev pub VisibleFixesRowOf : Type 0
 VisibleFixesRowOf = (w : ℕ) (cs ds : List CellValue) → visible (cut_to w cs) ≡ visible (cut_to w ds) → row_of w cs ≡ row_of w ds
+
+-- each index is at least where the cell before it ends, the first at least i
+abbrev pub AreGrowing : ℕ → List (ℕ × CellValue) → Type 0
+AreGrowing i [] = Unit {0}
+AreGrowing i (p ∷ ps) = (i ≤ p.0) × AreGrowing (p.0 + columns p.1) ps
+
+-- the walk of stored cells meets no more cells than there are, at growing indices
+abbrev pub WalkGrows : Type 0
+WalkGrows = (cs : List CellValue) → (length (visible cs) ≤ length cs) × AreGrowing 0 (visible cs)
 
 -- cells in settled form that are cut or grown are the row of that width
 abbrev pub ResizedIsRow : Type 0

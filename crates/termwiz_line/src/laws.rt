@@ -1,5 +1,5 @@
 //! What rows are: laws of the definitions that the contracts cite, each on a function that does nothing.
-ghost use Rattle.termwiz_line.specs.RowLaws.{PaintPaints, ClearClears, ClearPast, VisibleFixesRow, CellsHaveRow, VisibleFixesRowOf, ResizedIsRow};
+ghost use Rattle.termwiz_line.specs.RowLaws.{PaintPaints, ClearClears, ClearPast, VisibleFixesRow, CellsHaveRow, VisibleFixesRowOf, WalkGrows, ResizedIsRow};
 
 /// Painting and clearing a row do to what it shows what the words say, and what it shows fixes it.
 pub fn row_laws()
@@ -9,9 +9,10 @@ pub fn row_laws()
     ensures fixed { VisibleFixesRow }
 {}
 
-/// Stored cells have a row, which shows what the walk of the cells meets; resizing gives it.
+/// Stored cells have a row, which shows what the walk of the cells meets, at growing columns and no more cells than there are; resizing gives it.
 pub fn stored_row_laws()
     ensures row { CellsHaveRow }
     ensures fixed { VisibleFixesRowOf }
+    ensures walk { WalkGrows }
     ensures resized { ResizedIsRow }
 {}

@@ -1,0 +1,16 @@
+-- The walk of stored cells meets no more cells than there are, at growing indices.
+use Rattle.std.proofs.Common.{◌≡◌, ℕ, zero, suc, ◌+◌, ◌-◌, ◌≤◌, List, [], ◌∷◌, length, arith, subst}
+use Rattle.termwiz_cell.specs.CellValue.{CellValue, columns}
+use Rattle.termwiz_storage.specs.Stored.{visible_from}
+use Rattle.termwiz_storage.proofs.Widths.{columns_bounds}
+use Rattle.termwiz_line.specs.RowLaws.{AreGrowing}
+
+pub walk_grows : (i skip : ℕ) (cs : List CellValue) → (length (visible_from i skip cs) ≤ length cs) × AreGrowing (i + skip) (visible_from i skip cs)
+walk_grows i skip [] = (omega arith, record {})
+walk_grows i zero (c ∷ cs) =
+    let rest = walk_grows (i + 1) (columns c - 1) cs in
+    let some = columns_bounds c in
+    (omega (arith, rest.0), (omega arith, subst (λ n. AreGrowing n (visible_from (i + 1) (columns c - 1) cs)) (omega (arith, some.0)) rest.1))
+walk_grows i (suc k) (c ∷ cs) =
+    let rest = walk_grows (i + 1) k cs in
+    (omega (arith, rest.0), subst (λ n. AreGrowing n (visible_from (i + 1) k cs)) (omega arith) rest.1)

@@ -109,9 +109,9 @@ fn is_space_of(cell: &CellRef<'_>, attrs: &CellAttributes) -> bool
     cell.str() == " " && is_same(cell.attrs(), attrs)
 }
 
-// The attributes are default but for the background.
+/// Whether the attributes are default but for the background.
 #[tactic(auto, using(crate::proofs::PlainAttributes::plain))]
-fn is_plain(attrs: &CellAttributes) -> bool
+pub fn is_plain(attrs: &CellAttributes) -> bool
     ensures { result ≡ attributes.is_plain attrs.now }
 {
     has_default_bits(attrs)
@@ -132,10 +132,11 @@ fn is_default_color(color: ColorAttribute) -> bool
     color == ColorAttribute::Default
 }
 
-fn is_default(attrs: &CellAttributes) -> bool
+/// Whether all attributes have their defaults.
+pub fn is_default(attrs: &CellAttributes) -> bool
     ensures { result ≡ attributes.attributes_eq attrs.now attributes.default_attributes }
 {
-    is_same(attrs, &CellAttributes::blank())
+    attrs.is_blank()
 }
 
 fn is_same(a: &CellAttributes, b: &CellAttributes) -> bool

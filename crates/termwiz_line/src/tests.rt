@@ -129,7 +129,7 @@ fn a_visible_cell_answers_for_its_cell(rt: HostRuntime) -> Result<(), Fail> {
     assert_eq!(rt; second.width(), 2);
     assert!(rt; first.same_contents(&second));
     assert!(rt; !second.same_contents(&third));
-    assert!(rt; third.as_cell()? == cell(rt.alloc(), "a", 1)?);
+    assert!(rt; third.as_cell(rt.alloc())? == cell(rt.alloc(), "a", 1)?);
     assert!(rt; *third.attrs() == CellAttributes::blank());
     assert_eq!(rt; third.presentation(&OneColumn), Presentation::Text);
     Ok(())

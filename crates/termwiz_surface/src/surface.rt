@@ -23,10 +23,10 @@ ghost use Rattle.termwiz_surface.specs.Screen.{Screen as SeenScreen};
 
 mod pen;
 mod place;
-pub mod print;
+mod print;
 mod repaint;
 mod rows;
-pub mod screen;
+mod screen;
 mod shown;
 #[cfg(test)]
 mod tests;
@@ -36,7 +36,7 @@ use place::{column_at, row_at};
 use print::{LineBreak, line_break, printed_cell};
 use repaint::{all_rows, framed};
 use rows::{Row, blank_rows, chars_of, fill_row, fill_rows, paint_row, resized_lines, scroll_rows};
-use screen::Screen;
+pub use screen::Screen;
 use std::alloc::{AllocError, Global};
 use std::borrow::CowSlice;
 use std::marker::Model;

@@ -7,7 +7,7 @@ ghost use Rattle.termwiz_storage.specs.CellRef.{indexed_cell, ref_index, ref_cel
 ghost use Rattle.termwiz_storage.specs.CellsLeft.{cells_left};
 
 use crate::line::vecstorage::VecStorageIter;
-use std::alloc::AllocError;
+use std::alloc::{AllocError, Global};
 use termwiz_cell::cell::{Cell, CellAttributes};
 use termwiz_cell::emoji::{Presentation, Widths};
 
@@ -63,7 +63,7 @@ impl<'a> CellRef<'a> {
     }
 
     /// A copy of the cell.
-    pub fn as_cell(&self) -> Result<Cell, AllocError>
+    pub fn as_cell(&self, _alloc: Global) -> Result<Cell, AllocError>
         ensures { IfOk result (λ cell. cell ≡ ref_cell self.now) }
     {
         match self {

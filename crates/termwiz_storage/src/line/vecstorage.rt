@@ -228,7 +228,7 @@ fn is_blank(cell: &CellRef<'_>) -> bool
     ensures { IsTrue result ↔ (ref_cell cell.now ≡ blank) }
 {
     match cell {
-        CellRef::CellRef { cell, .. } => **cell == Cell::blank(),
+        CellRef::CellRef { cell, .. } => cell.is_blank(),
     }
 }
 

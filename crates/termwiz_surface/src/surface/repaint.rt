@@ -16,14 +16,14 @@ ghost use Rattle.termwiz_surface.specs.Repaint as spec;
 #[cfg(test)]
 mod tests;
 
-use crate::surface::pen::{background_only, blank_with};
+use crate::surface::pen::blank_with;
 use crate::surface::rows::Row;
 use crate::surface::shown::{is_row_of, last_attrs, visible_cells};
 use std::alloc::{AllocError, Global};
 use termwiz_cell::cell::{Cell, CellAttributes};
 use termwiz_cell::change::{Change, CursorVisibility, Position};
 use termwiz_cell::color::ColorAttribute;
-use termwiz_line::entries::{Penned, push_pen, row_entries};
+use termwiz_line::entries::{Penned, is_default, is_plain, push_pen, row_entries};
 use termwiz_storage::line::cellref::CellRef;
 
 /// The entries of all rows on a cleared screen. Blank rows at the bottom with one background are left to one clear to the end of the screen.
@@ -40,27 +40,17 @@ pub(super) fn all_rows<'a>(
     ensures { IfOk result (λ drawn. penned_value drawn ≡ spec.all_rows width (length rows.now) (map (row_of width) rows.now)) }
 {
     let attrs = last_attrs(&rows[rows.len() - 1], width, padding);
-    if is_clearable(alloc, attrs)? {
+    if is_clearable(attrs) {
         return joined_rows(alloc, rows, width, padding, attrs);
     }
     rows_upto(alloc, rows, width, padding, rows.len())
 }
 
 // The attributes are default but for the background, which is another one.
-fn is_clearable(alloc: Global, attrs: &CellAttributes) -> Result<bool, AllocError>
-    ensures { IfOk result (λ clearable. clearable ≡ (is_plain attrs.now && not (attributes_eq attrs.now default_attributes))) }
+fn is_clearable(attrs: &CellAttributes) -> bool
+    ensures { result ≡ (is_plain attrs.now && not (attributes_eq attrs.now default_attributes)) }
 {
-    if is_default(attrs) {
-        return Ok(false);
-    }
-    let plain = background_only(alloc, attrs.background())?;
-    Ok(*attrs == plain)
-}
-
-fn is_default(attrs: &CellAttributes) -> bool
-    ensures { result ≡ attributes_eq attrs.now default_attributes }
-{
-    *attrs == CellAttributes::blank()
+    is_plain(attrs) && !is_default(attrs)
 }
 
 // The entries of all rows, where the last column of the last row has these attributes.

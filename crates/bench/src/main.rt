@@ -4,21 +4,31 @@
 
 mod workload;
 
-use std::{env, io};
+use std::env;
+use std::process::ExitCode;
 use workload::{Workload, run};
 
-fn main(rt: HostRuntime) -> io::Result<()> {
-    let mut words = env::args(&rt)?;
-    let _program = words.next();
-    let workload = words
-        .next()
-        .and_then(|word| Workload::from_name(word.as_str()));
-    let count = words.next().and_then(|word| word.parse::<u32>().ok());
-    let (Some(workload), Some(count)) = (workload, count) else {
-        return rt.eprintln("usage: bench WORKLOAD COUNT");
+fn main(rt: HostRuntime) -> ExitCode {
+    let Some((workload, count)) = asked(&rt) else {
+        let _ = rt.eprintln("usage: bench WORKLOAD COUNT");
+        return ExitCode::from(2);
     };
     match run(rt.alloc(), workload, count) {
-        Ok(sum) => println!(rt; "{sum}"),
-        Err(_) => rt.eprintln("out of memory"),
+        Ok(sum) => match println!(rt; "{sum}") {
+            Ok(()) => ExitCode::SUCCESS,
+            Err(_) => ExitCode::FAILURE,
+        },
+        Err(_) => {
+            let _ = rt.eprintln("out of memory");
+            ExitCode::FAILURE
+        }
     }
+}
+
+// The workload and how often it is run, as the words say.
+fn asked(rt: &HostRuntime) -> Option<(Workload, u32)> {
+    let mut words = env::args(rt).ok()?.skip(1);
+    let workload = Workload::from_name(words.next()?.as_str())?;
+    let count = words.next()?.as_str().parse::<u32>().ok()?;
+    Some((workload, count))
 }

@@ -53,7 +53,7 @@ const PLAIN: &str =
 
 const EIGHT: &str = "colours ";
 
-const KANA: &str = "かきくけこさしすせそたちつてとなにぬねのはひふへほまみむめもやゆよらりるれろ\r\n";
+const KANA: &str = "かきくけこさしすせそたちつてとなにぬねのはひふへほまみむめもやゆよらりるれろわを\r\n";
 
 /// Runs the workload, and gives a sum that depends on what was done.
 pub fn run(alloc: Global, workload: Workload, count: u32) -> Result<usize, SurfaceError> {

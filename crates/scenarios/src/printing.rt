@@ -1,10 +1,10 @@
 //! Texts on a screen.
-use crate::changes::{at, text};
+use crate::changes::{at, hidden, text};
 use std::test::Fail;
-use termwiz_cell::change::Change;
+use termwiz_cell::change::{Change, CursorVisibility, Position};
 use termwiz_cell::color::ColorAttribute;
 use termwiz_cell::emoji::{OneColumn, UnicodeWidths};
-use termwiz_surface::surface::Surface;
+use termwiz_surface::surface::{Surface, SurfaceError};
 
 #[test]
 fn texts_wrap_and_scroll(rt: HostRuntime) -> Result<(), Fail> {
@@ -102,5 +102,73 @@ fn clears_to_the_end_of_the_screen(rt: HostRuntime) -> Result<(), Fail> {
     surface.add_change(at(1, 1))?;
     surface.add_change(Change::ClearToEndOfScreen(ColorAttribute::Default))?;
     assert_eq!(rt; surface.screen_chars_to_string()?.as_str(), "hel\nw\n   \n");
+    Ok(())
+}
+
+#[test]
+fn a_coloured_clear_fills_a_pruned_row(rt: HostRuntime) -> Result<(), Fail> {
+    let alloc = rt.alloc();
+    let mut surface = Surface::new(alloc, 4, 3, UnicodeWidths)?;
+    surface.add_change(text(alloc, "abcdefgh")?)?;
+    surface.add_change(Change::CursorPosition {
+        x: Position::Relative(-2),
+        y: Position::EndRelative(2),
+    })?;
+    surface.add_change(Change::ClearToEndOfScreen(ColorAttribute::Default))?;
+    assert_eq!(rt;
+        surface.screen_chars_to_string()?.as_str(),
+        "abcd\nef\n    \n"
+    );
+    surface.add_change(Change::ClearToEndOfLine(ColorAttribute::PaletteIndex(7)))?;
+    assert_eq!(rt;
+        surface.screen_chars_to_string()?.as_str(),
+        "abcd\nef  \n    \n"
+    );
+    surface.add_change(Change::ClearScreen(ColorAttribute::Default))?;
+    assert_eq!(rt;
+        surface.screen_chars_to_string()?.as_str(),
+        "    \n    \n    \n"
+    );
+    assert_eq!(rt; surface.cursor_position(), (0, 0));
+    Ok(())
+}
+
+#[test]
+fn a_list_is_counted_and_hides_the_cursor(rt: HostRuntime) -> Result<(), Fail> {
+    let alloc = rt.alloc();
+    let mut surface = Surface::new(alloc, 2, 1, OneColumn)?;
+    surface.add_change(text(alloc, "a")?)?;
+    assert_eq!(rt; surface.cursor_visibility(), CursorVisibility::Visible);
+    let changes = vec![in alloc; hidden(), text(alloc, "b")?]?;
+    assert_eq!(rt; surface.add_changes(changes)?, 2);
+    assert_eq!(rt; surface.current_seqno(), 3);
+    assert_eq!(rt; surface.cursor_visibility(), CursorVisibility::Hidden);
+    Ok(())
+}
+
+#[test]
+fn screens_are_compared_by_what_they_show(rt: HostRuntime) -> Result<(), Fail> {
+    let alloc = rt.alloc();
+    let mut surface = Surface::new(alloc, 3, 2, UnicodeWidths)?;
+    let blank = surface.screen()?;
+    surface.add_change(text(alloc, "か")?)?;
+    let printed = surface.screen()?;
+    assert!(rt; printed != blank);
+    assert_eq!(rt; printed.rows[0].len(), 3);
+    let mut other = Surface::new(alloc, 3, 2, UnicodeWidths)?;
+    other.add_change(text(alloc, "x\rか")?)?;
+    assert!(rt; other.screen()? == printed);
+    Ok(())
+}
+
+#[test]
+fn refusals_say_why(rt: HostRuntime) -> Result<(), Fail> {
+    let alloc = rt.alloc();
+    for (error, text) in [
+        (SurfaceError::Numbers, "the numbers of changes are used up"),
+        (SurfaceError::Memory, "out of memory"),
+    ] {
+        assert_eq!(rt; error.to_string(alloc)?.as_str(), text);
+    }
     Ok(())
 }

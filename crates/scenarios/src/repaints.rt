@@ -211,6 +211,24 @@ fn spaces_at_the_end_are_left_out_where_they_are_plain(rt: HostRuntime) -> Resul
 }
 
 #[test]
+fn an_italic_pen_is_restored(rt: HostRuntime) -> Result<(), Fail> {
+    let alloc = rt.alloc();
+    let mut surface = Surface::new(alloc, 2, 1, UnicodeWidths)?;
+    surface.add_change(text(alloc, "a")?)?;
+    surface.add_change(Change::Attribute(AttributeChange::Italic(true)))?;
+    let mut italic = CellAttributes::blank();
+    italic.set_italic(true);
+    let rest = vec![in alloc;
+        text(alloc, "a")?,
+        at(1, 0),
+        Change::AllAttributes(italic),
+        visible(),
+    ]?;
+    assert_repaint(&rt, &surface, 2, rest)?;
+    Ok(())
+}
+
+#[test]
 fn texts_printed_apart_stay_apart(rt: HostRuntime) -> Result<(), Fail> {
     let alloc = rt.alloc();
     let mut surface = Surface::new(alloc, 3, 1, UnicodeWidths)?;

@@ -1,6 +1,8 @@
 -- The exit status of each way in which a session ends early: 2 for what it was given, 3 for what it was refused.
 use Rattle.std.specs.Prelude.{ℕ}
 use Rattle.surfview.specs.declared.session.SessionError.{SessionError}
+use Rattle.surfview.specs.declared.script.ScriptError.{ScriptError}
+use Rattle.surfview.specs.declared.script.ScriptError.TheVariants as script
 use Rattle.surfview.specs.declared.session.SessionError.TheVariants.{Usage, Unreadable, BadCommand, Memory, Write}
 
 abbrev pub status_of : SessionError → ℕ
@@ -9,3 +11,8 @@ status_of Unreadable = 2
 status_of (BadCommand _) = 2
 status_of Memory = 3
 status_of Write = 3
+
+-- how a session ends whose script has no events
+abbrev pub of_script : ScriptError → SessionError
+of_script (script.BadCommand line) = BadCommand line
+of_script script.Memory = Memory

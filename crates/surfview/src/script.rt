@@ -26,6 +26,11 @@ enum LineError {
 }
 
 impl From<AllocError> for LineError {
+    ghost use Rattle.std.specs.Prelude.{◌≡◌};
+    ghost use Rattle.surfview.specs.declared.script.LineError.TheVariants.{Memory};
+
+    ghost from_gives = { λ _ error. error ≡ Memory };
+
     fn from(_: AllocError) -> LineError {
         LineError::Memory
     }

@@ -2,7 +2,7 @@
 ghost use Rattle.std.specs.Prelude.{◌≡◌, ◌≤◌, ◌⊎◌, ◌↔◌, IfSome, IfErr, IsSome, IsErr};
 ghost use Rattle.std.specs.Option.{SomeIff};
 ghost use Rattle.surfview.specs.Number.{value_of};
-ghost use Rattle.surfview.specs.Size.{IsSize, AreSizes};
+ghost use Rattle.surfview.specs.Size.{IsSize, AreSizes, GiveSizes};
 ghost use Rattle.surfview.specs.Status.{status_of};
 
 use crate::printed::Printed;
@@ -41,6 +41,10 @@ impl From<AllocError> for SessionError {
 }
 
 impl From<ScriptError> for SessionError {
+    ghost use Rattle.surfview.specs.Status.{of_script};
+
+    ghost from_gives = { λ error made. made ≡ of_script error };
+
     fn from(error: ScriptError) -> SessionError {
         match error {
             ScriptError::BadCommand(line) => SessionError::BadCommand(line),
@@ -123,8 +127,7 @@ fn outcomes<R: Read>(
 /// The width and the height that the words give.
 fn dimensions(args: &[String]) -> Option<(usize, usize)>
     ensures sizes { IsSome result ↔ AreSizes args.now }
-    ensures width { IfSome result (λ found. (1 ≤ found.0) × (found.0 ≤ 1000)) }
-    ensures height { IfSome result (λ found. (1 ≤ found.1) × (found.1 ≤ 1000)) }
+    ensures found { IfSome result (λ found. GiveSizes args.now found.0 found.1) }
 {
     match args {
         [width, height] => Some((size(width.as_str())?, size(height.as_str())?)),

@@ -28,8 +28,6 @@ mod repaint;
 mod rows;
 mod screen;
 mod shown;
-#[cfg(test)]
-mod tests;
 
 use pen::{background_only, blank_with};
 use place::{column_at, row_at};

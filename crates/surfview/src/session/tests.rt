@@ -32,14 +32,14 @@ fn args(alloc: Global, words: &[&str]) -> Result<Vec<String>, AllocError> {
     Ok(args)
 }
 
-/// Gives its bytes, and then fails.
+/// Gives its bytes, and then fails in this way.
 #[derive(Drop)]
-struct FailingReader<'a>(&'a [u8]);
+struct FailingReader<'a>(&'a [u8], ErrorKind);
 
 impl Read for FailingReader<'_> {
     fn read(&mut self, buf: &mut [u8]) -> io::Result<usize> {
         if self.0.is_empty() {
-            return Err(io::Error::from(ErrorKind::Other));
+            return Err(io::Error::from(self.1));
         }
         self.0.read(buf)
     }
@@ -60,6 +60,20 @@ impl Write for FailingWriter {
 
     fn flush(&mut self) -> io::Result<()> {
         Ok(())
+    }
+}
+
+/// Takes all writes, and fails to flush them.
+#[derive(Drop)]
+struct UnflushedWriter;
+
+impl Write for UnflushedWriter {
+    fn write(&mut self, buf: &[u8]) -> io::Result<usize> {
+        Ok(buf.len())
+    }
+
+    fn flush(&mut self) -> io::Result<()> {
+        Err(io::Error::from(ErrorKind::Other))
     }
 }
 
@@ -268,7 +282,7 @@ fn refuses_an_input_that_is_not_utf_8(rt: HostRuntime) -> Result<(), Fail> {
 fn refuses_an_input_whose_read_fails(rt: HostRuntime) -> Result<(), Fail> {
     for script in [b"".as_slice(), b"show\n"] {
         let args = args(rt.alloc(), &["4", "3"])?;
-        let mut input = FailingReader(script);
+        let mut input = FailingReader(script, ErrorKind::Other);
         let mut out = Vec::new(rt.alloc());
         let mut err = Vec::new(rt.alloc());
         let status = session(rt.alloc(), args.as_slice(), &mut input, &mut out, &mut err);
@@ -276,6 +290,19 @@ fn refuses_an_input_whose_read_fails(rt: HostRuntime) -> Result<(), Fail> {
         assert_eq!(rt; err.as_slice(), b"input: unreadable\n".as_slice());
         assert_eq!(rt; status, 2);
     }
+    Ok(())
+}
+
+#[test]
+fn ends_at_a_read_that_finds_no_memory(rt: HostRuntime) -> Result<(), Fail> {
+    let args = args(rt.alloc(), &["4", "3"])?;
+    let mut input = FailingReader(b"show\n", ErrorKind::OutOfMemory);
+    let mut out = Vec::new(rt.alloc());
+    let mut err = Vec::new(rt.alloc());
+    let status = session(rt.alloc(), args.as_slice(), &mut input, &mut out, &mut err);
+    assert_eq!(rt; out.as_slice(), b"".as_slice());
+    assert_eq!(rt; err.as_slice(), b"out of memory\n".as_slice());
+    assert_eq!(rt; status, 3);
     Ok(())
 }
 
@@ -290,6 +317,23 @@ fn ends_at_a_failed_write_without_a_text(rt: HostRuntime) -> Result<(), Fail> {
         assert_eq!(rt; err.as_slice(), b"".as_slice());
         assert_eq!(rt; status, 3);
     }
+    Ok(())
+}
+
+#[test]
+fn ends_at_a_failed_flush_without_a_text(rt: HostRuntime) -> Result<(), Fail> {
+    let args = args(rt.alloc(), &["4", "3"])?;
+    let mut input = b"show\n".as_slice();
+    let mut err = Vec::new(rt.alloc());
+    let status = session(
+        rt.alloc(),
+        args.as_slice(),
+        &mut input,
+        &mut UnflushedWriter,
+        &mut err,
+    );
+    assert_eq!(rt; err.as_slice(), b"".as_slice());
+    assert_eq!(rt; status, 3);
     Ok(())
 }
 

@@ -13,9 +13,6 @@ ghost use Rattle.termwiz_surface.specs.Padding.{ArePaddable};
 ghost use Rattle.termwiz_surface.specs.LastChange.{last_is};
 ghost use Rattle.termwiz_surface.specs.Repaint as spec;
 
-#[cfg(test)]
-mod tests;
-
 use crate::surface::pen::blank_with;
 use crate::surface::rows::Row;
 use crate::surface::shown::{is_row_of, last_attrs, visible_cells};

@@ -1,3 +1,5 @@
+pub mod Digits
+pub mod PackedStyles
 pub mod Boxes
 mod ColorPrinted
 mod ColorRead

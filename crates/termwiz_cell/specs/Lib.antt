@@ -1,6 +1,5 @@
-pub mod Digits
+pub mod Style
 pub mod StyleWord
-pub mod StyleLaws
 pub mod Link
 pub mod LinkLayout
 pub mod LinkLaws

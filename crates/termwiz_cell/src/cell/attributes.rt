@@ -38,7 +38,7 @@ impl Model for CellAttributes {
 impl CellAttributes {
     ghost use Rattle.termwiz_cell.specs.Attributes.{without_colors, sgr_only};
     ghost use Rattle.termwiz_cell.specs.AttributeChangeValue.{attribute_change_value, with_attribute, takes_memory};
-    ghost use Rattle.termwiz_cell.specs.AttributesLayout.{linked};
+    ghost use Rattle.termwiz_cell.specs.Link.{linked};
 
     /// The default attributes. They take no memory.
     pub fn blank() -> CellAttributes

@@ -2,6 +2,7 @@
 ghost use Rattle.std.specs.Prelude.{◌≡◌, ◌↔◌, IsTrue, IsSome, IsNone, IsOk, IfOk, OnOk, OnErr, None, true, option_map};
 ghost use Rattle.termwiz_cell.specs.Attributes.{color_eq, option_link_eq, is_default};
 ghost use Rattle.termwiz_cell.specs.AttributesLayout as spec;
+ghost use Rattle.termwiz_cell.specs.Link.{linked};
 
 use crate::color::ColorAttribute;
 use crate::hyperlink::Hyperlink;
@@ -189,7 +190,7 @@ pub(super) fn set_hyperlink(
     value: Option<Rc<Hyperlink>>,
 ) -> Result<(), AllocError>
     requires { spec.IsNeeded fat.old }
-    ensures ok { OnOk result (spec.rare_of fat.new ≡ record (spec.rare_of fat.old) { hyperlink = spec.linked value }) }
+    ensures ok { OnOk result (spec.rare_of fat.new ≡ record (spec.rare_of fat.old) { hyperlink = linked value }) }
     ensures err { OnErr result (spec.rare_of fat.new ≡ spec.rare_of fat.old) }
     ensures needed { spec.IsNeeded fat.new }
     ensures boxed { IsSome fat.old → IsOk result }
@@ -273,7 +274,7 @@ pub(super) fn clone_colors(
 }
 
 pub(super) fn clone_link(link: &Option<Rc<Hyperlink>>) -> Result<Option<Rc<Hyperlink>>, AllocError>
-    ensures ok { IfOk result (λ copy. spec.linked copy ≡ spec.linked link.now) }
+    ensures ok { IfOk result (λ copy. linked copy ≡ linked link.now) }
     ensures succeeds { IsNone link.now → IsOk result }
 {
     match link {

@@ -9,3 +9,4 @@ pub mod ParamOrder
 pub mod PairTexts
 pub mod LinkGrammar
 pub mod LinkOutcomes
+mod Selectors

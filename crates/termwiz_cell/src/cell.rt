@@ -48,14 +48,16 @@ impl Model for Cell {
 impl Cell {
     ghost use Rattle.termwiz_cell.specs.Lending.{LendsAttrs};
 
-    /// The cell of a character, as wide as the width value says.
+    /// The cell of a character, as wide as the width value says. It can only fail where the
+    /// character is no space and no control character.
     pub fn new<W: Widths>(
         alloc: Global,
         widths: &W,
         c: char,
         attrs: CellAttributes,
     ) -> Result<Cell, AllocError>
-        ensures { IfOk result (λ cell. cell ≡ measured (unversioned (W.width_of widths.now)) (encode_utf8 c) attrs) }
+        ensures ok { IfOk result (λ cell. cell ≡ measured (unversioned (W.width_of widths.now)) (encode_utf8 c) attrs) }
+        ensures succeeds { clean (encode_utf8 c) ≡ space → IsOk result }
     {
         let mut buffer = [0; 4];
         let text = c.encode_utf8(&mut buffer);

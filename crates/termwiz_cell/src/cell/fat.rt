@@ -1,10 +1,10 @@
 //! The attributes that few cells have, in a box that is there only while one of them is not the default.
 ghost use Rattle.std.specs.Prelude.{◌≡◌, ◌↔◌, IsTrue, IsSome, IsNone, IsOk, IfOk, OnOk, OnErr, None, true, option_map};
-ghost use Rattle.termwiz_cell.specs.Attributes.{color_eq, option_link_eq, is_default};
+ghost use Rattle.termwiz_cell.specs.Attributes.{option_link_eq, is_default};
 ghost use Rattle.termwiz_cell.specs.AttributesLayout as spec;
 ghost use Rattle.termwiz_cell.specs.Link.{linked};
 
-use crate::color::ColorAttribute;
+use crate::color::{ColorAttribute, is_same_color};
 use crate::hyperlink::Hyperlink;
 use std::alloc::{AllocError, Global};
 use std::rc::Rc;
@@ -290,12 +290,6 @@ pub(super) fn is_default_color(color: ColorAttribute) -> bool
     ensures { result ≡ is_default color }
 {
     matches!(color, ColorAttribute::Default)
-}
-
-pub(super) fn is_same_color(a: ColorAttribute, b: ColorAttribute) -> bool
-    ensures { result ≡ color_eq a b }
-{
-    a == b
 }
 
 pub(super) fn is_same_link(a: Option<&Rc<Hyperlink>>, b: Option<&Rc<Hyperlink>>) -> bool

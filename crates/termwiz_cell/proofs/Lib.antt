@@ -10,3 +10,4 @@ pub mod PairTexts
 pub mod LinkGrammar
 pub mod LinkOutcomes
 mod Selectors
+pub mod Cleaned

@@ -1,3 +1,4 @@
+pub mod Lists
 pub mod Digits
 pub mod PackedStyles
 pub mod Boxes

@@ -2,7 +2,6 @@ pub mod Style
 pub mod StyleWord
 pub mod Link
 pub mod LinkLayout
-pub mod LinkLaws
 pub mod LinkText
 pub mod LinkPairs
 pub mod LinkParse

@@ -1,3 +1,6 @@
+pub mod Lists
+pub mod Digits
+pub mod PackedStyles
 pub mod Boxes
 mod ColorPrinted
 mod ColorRead
@@ -7,3 +10,5 @@ pub mod ParamOrder
 pub mod PairTexts
 pub mod LinkGrammar
 pub mod LinkOutcomes
+mod Selectors
+pub mod Cleaned

@@ -9,7 +9,7 @@ use Rattle.std.specs.Ordering.{nat_cmp, match_ordering}
 use Rattle.std.specs.String.{string_cmp}
 use Rattle.std.specs.declared.cmp.Ordering.{Ordering}
 use Rattle.std.specs.declared.cmp.Ordering.TheVariants.{Less, Equal, Greater}
-use Rattle.termwiz_cell.specs.LinkLayout.{param_bytes}
+use Rattle.termwiz_cell.specs.Link.{param_bytes}
 use Rattle.termwiz_cell.specs.LinkPairs.{pair_of, with_pair, params_from}
 use Rattle.termwiz_cell.specs.LinkText.{AreInOrder, params_parts, pair_text, params_text}
 

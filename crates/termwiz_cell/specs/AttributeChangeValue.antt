@@ -10,11 +10,9 @@ use Rattle.termwiz_cell.specs.declared.cell.style.Blink as blink
 use Rattle.termwiz_cell.specs.declared.color.ColorAttribute.{ColorAttribute}
 use Rattle.termwiz_cell.specs.declared.cell.attribute_change.AttributeChange.{AttributeChange}
 use Rattle.termwiz_cell.specs.declared.cell.attribute_change.AttributeChange.TheVariants as code
-use Rattle.termwiz_cell.specs.StyleWord.{intensity_eq, underline_eq, blink_eq}
-use Rattle.termwiz_cell.specs.StyleLaws.{intensity_eq-Decides, underline_eq-Decides, blink_eq-Decides}
-use Rattle.termwiz_cell.specs.Link.{Link}
+use Rattle.termwiz_cell.specs.Style.{intensity_eq, underline_eq, blink_eq, intensity_eq-Decides, underline_eq-Decides, blink_eq-Decides}
+use Rattle.termwiz_cell.specs.Link.{Link, linked}
 use Rattle.termwiz_cell.specs.Attributes.{Attributes, needs_box, color_eq, color_eq-Decides, option_link_eq, option_link_eq-Decides}
-use Rattle.termwiz_cell.specs.AttributesLayout.{linked}
 
 pub data AttributeChangeValue : Type 0 where
   Intensity : (value : intensity.Intensity) → AttributeChangeValue

@@ -5,14 +5,18 @@ use Rattle.std.specs.Cmp.Lexicographic.{bytes_decides}
 use Rattle.std.proofs.Common.{get_or, ap, ◌∙◌, sym}
 use Rattle.std.proofs.lemmas.Bool.Decides.{Decides-like, Decides-and}
 use Rattle.termwiz_cell.specs.declared.cell.style.Intensity.{Intensity}
+use Rattle.termwiz_cell.specs.declared.cell.style.Intensity.TheVariants.{Normal}
 use Rattle.termwiz_cell.specs.declared.cell.style.Underline.{Underline}
+use Rattle.termwiz_cell.specs.declared.cell.style.Underline.TheVariants as underline
 use Rattle.termwiz_cell.specs.declared.cell.style.Blink.{Blink}
+use Rattle.termwiz_cell.specs.declared.cell.style.Blink.TheVariants as blink
 use Rattle.termwiz_cell.specs.declared.cell.style.SemanticType.{SemanticType}
+use Rattle.termwiz_cell.specs.declared.cell.style.SemanticType.TheVariants.{Output}
 use Rattle.termwiz_cell.specs.declared.cell.style.VerticalAlign.{VerticalAlign}
+use Rattle.termwiz_cell.specs.declared.cell.style.VerticalAlign.TheVariants.{BaseLine}
 use Rattle.termwiz_cell.specs.declared.color.ColorAttribute.{ColorAttribute}
 use Rattle.termwiz_cell.specs.declared.color.ColorAttribute.TheVariants as color
-use Rattle.termwiz_cell.specs.StyleWord.{intensity_number, intensity_at, underline_number, underline_at, blink_number, blink_at, semantic_number, semantic_at, vertical_number, vertical_at, flag_number, flag_at}
-use Rattle.termwiz_cell.specs.StyleLaws.{intensity-back, underline-back, blink-back, semantic-back, vertical-back, flag-back}
+use Rattle.termwiz_cell.specs.Style.{intensity_number, intensity_at, underline_number, underline_at, blink_number, blink_at, semantic_number, semantic_at, vertical_number, vertical_at, flag_number, flag_at, intensity-back, underline-back, blink-back, semantic-back, vertical-back, flag-back}
 use Rattle.termwiz_cell.specs.Link.{Link, link_eq, link_eq-Decides}
 
 pub record Attributes : Type 0 where
@@ -88,9 +92,10 @@ option_link_eq-Decides (Some a) (Some b) = Decides-like (link_eq a b) (λ e i. S
 abbrev pub without_colors : Attributes → Attributes
 without_colors a = record a { foreground = color.Default; background = color.Default; underline_color = color.Default; hyperlink = None }
 
--- the attributes that an escape sequence of colours and styles restores: no zone, underline, overline, strike or link
+-- the same attributes with the semantic type Output, and no underline, overline, strike through and link. All others
+-- are kept: intensity, blink, italic, reverse, invisible, wrapped, the vertical align and the three colours
 abbrev pub sgr_only : Attributes → Attributes
-sgr_only a = record a { semantic_type = semantic_at 0; underline = underline_at 0; overline = false; strikethrough = false; hyperlink = None }
+sgr_only a = record a { semantic_type = Output; underline = underline.None; overline = false; strikethrough = false; hyperlink = None }
 
 abbrev pub is_default : ColorAttribute → Bool
 is_default color.Default = true
@@ -151,17 +156,17 @@ module _ (a b : Attributes) where
 -- every attribute has its default
 abbrev pub default_attributes : Attributes
 default_attributes = record {
-  intensity = intensity_at 0;
-  underline = underline_at 0;
-  blink = blink_at 0;
+  intensity = Normal;
+  underline = underline.None;
+  blink = blink.None;
   italic = false;
   reverse = false;
   strikethrough = false;
   invisible = false;
   wrapped = false;
   overline = false;
-  semantic_type = semantic_at 0;
-  vertical_align = vertical_at 0;
+  semantic_type = Output;
+  vertical_align = BaseLine;
   foreground = color.Default;
   background = color.Default;
   underline_color = color.Default;

@@ -1,11 +1,10 @@
 -- How the fields of `CellAttributes` give the attributes.
-use Rattle.std.specs.Prelude.{◌≡◌, ℕ, Bool, true, false, ◌&&◌, Option, Some, None, option_map, is_none, ⊤, Box}
-use Rattle.std.specs.declared.rc.Rc.{Rc}
+use Rattle.std.specs.Prelude.{◌≡◌, ℕ, Bool, true, false, ◌&&◌, Option, Some, None, is_none, ⊤, Box}
 use Rattle.termwiz_cell.specs.declared.color.ColorAttribute.{ColorAttribute}
 use Rattle.termwiz_cell.specs.declared.color.ColorAttribute.TheVariants as color
 use Rattle.termwiz_cell.specs.declared.cell.fat.FatAttributes.{FatAttributes}
 use Rattle.termwiz_cell.specs.declared.cell.attributes.CellAttributes.TheInside.{Inside}
-use Rattle.termwiz_cell.specs.Link.{Link}
+use Rattle.termwiz_cell.specs.Link.{Link, linked}
 use Rattle.termwiz_cell.specs.declared.cell.style.Style.{Style}
 use Rattle.termwiz_cell.specs.Attributes.{Attributes, is_default, color_eq, option_link_eq}
 
@@ -22,9 +21,6 @@ rare_default = record { foreground = color.Default; background = color.Default; 
 -- `==` of rare attributes
 abbrev pub rare_eq : Rare → Rare → Bool
 rare_eq a b = color_eq a.foreground b.foreground && (color_eq a.background b.background && (color_eq a.underline_color b.underline_color && option_link_eq a.hyperlink b.hyperlink))
-
-abbrev pub linked : {A : Type 0} → Option (Rc Link A) → Option Link
-linked link = option_map (λ rc. rc.value) link
 
 abbrev pub fat_rare : FatAttributes → Rare
 fat_rare f = record { foreground = f.foreground; background = f.background; underline_color = f.underline_color; hyperlink = linked f.hyperlink }

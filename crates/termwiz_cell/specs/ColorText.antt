@@ -1,4 +1,4 @@
--- The texts that write a colour, and the colour that each of them writes.
+-- The texts that write a colour, `#` and hex digits or X11's form `rgb:`, and the colour that each of them writes.
 use Rattle.std.specs.Prelude.{◌≡◌, ℕ, ◌+◌, ◌*◌, ◌/◌, ◌%◌, ◌⊎◌, List, [], ◌∷◌, ◌++◌, Option, Some, None, slice_get, slice_index, codes}
 use Rattle.termwiz_cell.specs.Rgb.{Rgb, rgb}
 

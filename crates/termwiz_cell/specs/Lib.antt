@@ -1,9 +1,7 @@
-pub mod Digits
+pub mod Style
 pub mod StyleWord
-pub mod StyleLaws
 pub mod Link
 pub mod LinkLayout
-pub mod LinkLaws
 pub mod LinkText
 pub mod LinkPairs
 pub mod LinkParse

@@ -1,4 +1,4 @@
--- What the parts of a link's escape sequence say: one that is not looked at, a params text and a uri.
+-- What the parts of a hyperlink sequence, OSC 8, say: one that is not looked at, a params text and a uri.
 use Rattle.std.specs.Prelude.{◌≡◌, ℕ, zero, suc, List, [], ◌∷◌, length, Option, Some, None, Result, Ok, Err, IsUtf8}
 use Rattle.termwiz_cell.specs.Link.{Link}
 use Rattle.termwiz_cell.specs.LinkText.{SpellsLink, SpellsPairs, params_text}

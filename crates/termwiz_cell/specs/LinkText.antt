@@ -1,4 +1,5 @@
--- The texts of links. A params text is empty, or pairs `key=value` between `:`, each cut at its first `=`.
+-- The texts of links, as the hyperlink sequence OSC 8 carries them.
+-- A params text is empty, or pairs `key=value` between `:`, each cut at its first `=`.
 -- Where a key comes again, its last value stands; a link keeps and prints its params in the order of their keys.
 use Rattle.std.specs.Prelude.{◌≡◌, ◌≢◌, ℕ, ◌⊎◌, ◌==◌, false, List, [], ◌∷◌, ◌++◌, map, reverse, bytes_eq, codes}
 use Rattle.std.specs.Cmp.Lexicographic.{slice_cmp}

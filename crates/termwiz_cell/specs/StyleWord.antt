@@ -1,92 +1,9 @@
 -- A style as one word: its digits, the lowest first.
-use Rattle.std.specs.Prelude.{ℕ, List, [], ◌∷◌, ◌+◌, ◌-◌, ◌/◌, ◌%◌, ◌^◌, ◌<◌, Bool, true, false, ◌==◌, Option, Some, None, if◌then◌else◌}
-use Rattle.termwiz_cell.specs.declared.cell.style.Intensity.{Intensity}
-use Rattle.termwiz_cell.specs.declared.cell.style.Intensity.TheVariants.{Normal, Bold, Half}
-use Rattle.termwiz_cell.specs.declared.cell.style.Underline.{Underline}
+use Rattle.std.specs.Prelude.{ℕ, List, [], ◌∷◌, ◌+◌, ◌-◌, ◌*◌, ◌/◌, ◌%◌, ◌^◌, ◌<◌, false, ◌==◌, Option, Some, None, if◌then◌else◌}
+use Rattle.termwiz_cell.specs.Style.{intensity_number, intensity_at, underline_number, underline_at, blink_number, blink_at, semantic_number, semantic_at, vertical_number, vertical_at, flag_number, flag_at}
 use Rattle.termwiz_cell.specs.declared.cell.style.Underline.TheVariants as underline
-use Rattle.termwiz_cell.specs.declared.cell.style.Blink.{Blink}
-use Rattle.termwiz_cell.specs.declared.cell.style.Blink.TheVariants as blink
-use Rattle.termwiz_cell.specs.declared.cell.style.SemanticType.{SemanticType}
-use Rattle.termwiz_cell.specs.declared.cell.style.SemanticType.TheVariants.{Output, Input, Prompt}
-use Rattle.termwiz_cell.specs.declared.cell.style.VerticalAlign.{VerticalAlign}
-use Rattle.termwiz_cell.specs.declared.cell.style.VerticalAlign.TheVariants.{BaseLine, SuperScript, SubScript}
+use Rattle.termwiz_cell.specs.declared.cell.style.SemanticType.TheVariants.{Output}
 use Rattle.termwiz_cell.specs.declared.cell.style.Style.{Style}
-use Rattle.termwiz_cell.specs.Digits.{whole}
-
-abbrev pub intensity_number : Intensity → ℕ
-intensity_number Normal = 0
-intensity_number Bold = 1
-intensity_number Half = 2
-
-abbrev pub intensity_at : ℕ → Intensity
-intensity_at n = if n == 0 then Normal else if n == 1 then Bold else Half
-
-abbrev pub intensity_eq : Intensity → Intensity → Bool
-intensity_eq a b = intensity_number a == intensity_number b
-
-abbrev pub underline_number : Underline → ℕ
-underline_number underline.None = 0
-underline_number underline.Single = 1
-underline_number underline.Double = 2
-underline_number underline.Curly = 3
-underline_number underline.Dotted = 4
-underline_number underline.Dashed = 5
-
-abbrev pub underline_at : ℕ → Underline
-underline_at n =
-    if n == 0 then underline.None
-    else if n == 1 then underline.Single
-    else if n == 2 then underline.Double
-    else if n == 3 then underline.Curly
-    else if n == 4 then underline.Dotted
-    else underline.Dashed
-
-abbrev pub underline_eq : Underline → Underline → Bool
-underline_eq a b = underline_number a == underline_number b
-
--- there is a line
-abbrev pub is_underlined : Underline → Bool
-is_underlined underline.None = false
-is_underlined _ = true
-
-abbrev pub blink_number : Blink → ℕ
-blink_number blink.None = 0
-blink_number blink.Slow = 1
-blink_number blink.Rapid = 2
-
-abbrev pub blink_at : ℕ → Blink
-blink_at n = if n == 0 then blink.None else if n == 1 then blink.Slow else blink.Rapid
-
-abbrev pub blink_eq : Blink → Blink → Bool
-blink_eq a b = blink_number a == blink_number b
-
--- there is a rhythm
-abbrev pub is_blinking : Blink → Bool
-is_blinking blink.None = false
-is_blinking _ = true
-
-abbrev pub semantic_number : SemanticType → ℕ
-semantic_number Output = 0
-semantic_number Input = 1
-semantic_number Prompt = 2
-
-abbrev pub semantic_at : ℕ → SemanticType
-semantic_at n = if n == 0 then Output else if n == 1 then Input else Prompt
-
-abbrev pub vertical_number : VerticalAlign → ℕ
-vertical_number BaseLine = 0
-vertical_number SuperScript = 1
-vertical_number SubScript = 2
-
-abbrev pub vertical_at : ℕ → VerticalAlign
-vertical_at n = if n == 0 then BaseLine else if n == 1 then SuperScript else SubScript
-
-abbrev pub flag_number : Bool → ℕ
-flag_number false = 0
-flag_number true = 1
-
-abbrev pub flag_at : ℕ → Bool
-flag_at n = n == 1
 
 -- a palette index, or none
 abbrev pub palette_number : Option ℕ → ℕ
@@ -124,6 +41,10 @@ pub record IsStyleWord (w : ℕ) : Type 0 where
   pub foreground : w / 2 ^ 17 % 512 < 257
   pub background : w / 2 ^ 26 % 512 < 257
   pub whole : w < 2 ^ 35
+
+-- the word with these digits, the lowest first
+abbrev pub whole : (a b c d e f g h i j k l m : ℕ) → ℕ
+whole a b c d e f g h i j k l m = a + b * 2 ^ 2 + c * 2 ^ 5 + d * 2 ^ 7 + e * 2 ^ 8 + f * 2 ^ 9 + g * 2 ^ 10 + h * 2 ^ 11 + i * 2 ^ 12 + j * 2 ^ 13 + k * 2 ^ 15 + l * 2 ^ 17 + m * 2 ^ 26
 
 -- the word that spells a style
 abbrev pub word_of : Style → ℕ

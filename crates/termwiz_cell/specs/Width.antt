@@ -1,5 +1,7 @@
--- How wide a text is, and how it is shown.
-use Rattle.std.specs.Prelude.{ℕ, ◌+◌, List, Option, Some, None, true, false, min, ◌==◌, nat_lt, sum_by, fold, if◌then◌else◌}
+-- How wide a text is, and how it is shown: by the extended grapheme clusters of UAX 29, the widths of UAX 11, and the
+-- variation selectors U+FE0E and U+FE0F of UTS 51.
+use Rattle.std.specs.Prelude.{ℕ, ◌+◌, List, Option, Some, None, true, false, min, ◌==◌, nat_lt, sum_by, [], ◌∷◌, if◌then◌else◌}
+use Rattle.std.specs.Option.{option_or}
 use Rattle.std.specs.Str.{chars}
 use Rattle.unicode_segmentation.specs.Grapheme.{graphemes}
 use Rattle.unicode_width.specs.Width.{str_width}
@@ -31,11 +33,11 @@ unicode_columns text = min (str_width false (chars text)) 2
 abbrev pub asked_by : ℕ → Option Presentation
 asked_by c = if c == 0xFE0E then Some Text else if c == 0xFE0F then Some Emoji else None
 
--- what the characters so far ask for, or what the next one does
-abbrev pub first_asked : Option Presentation → ℕ → Option Presentation
-first_asked None c = asked_by c
-first_asked (Some presentation) c = Some presentation
+-- the presentation that the first selector among the characters asks for
+abbrev pub variation_of : List ℕ → Option Presentation
+variation_of [] = None
+variation_of (c ∷ cs) = option_or (asked_by c) (variation_of cs)
 
 -- the presentation that the first selector of the text asks for
 abbrev pub variation : List ℕ → Option Presentation
-variation text = fold first_asked None (chars text)
+variation text = variation_of (chars text)

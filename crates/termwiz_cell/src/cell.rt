@@ -48,14 +48,16 @@ impl Model for Cell {
 impl Cell {
     ghost use Rattle.termwiz_cell.specs.Lending.{LendsAttrs};
 
-    /// The cell of a character, as wide as the width value says.
+    /// The cell of a character, as wide as the width value says. It can only fail where the
+    /// cell's text is no space.
     pub fn new<W: Widths>(
         alloc: Global,
         widths: &W,
         c: char,
         attrs: CellAttributes,
     ) -> Result<Cell, AllocError>
-        ensures { IfOk result (λ cell. cell ≡ measured (unversioned (W.width_of widths.now)) (encode_utf8 c) attrs) }
+        ensures ok { IfOk result (λ cell. cell ≡ measured (unversioned (W.width_of widths.now)) (encode_utf8 c) attrs) }
+        ensures succeeds { clean (encode_utf8 c) ≡ space → IsOk result }
     {
         let mut buffer = [0; 4];
         let text = c.encode_utf8(&mut buffer);
@@ -82,6 +84,7 @@ impl Cell {
 
     /// The cell of a text, as wide as the width value says by that version of Unicode. It can
     /// only fail where the text is no space.
+    #[tactic(auto, using(crate::proofs::Cleaned::clean_clean))]
     pub fn new_grapheme<W: Widths>(
         alloc: Global,
         widths: &W,
@@ -99,6 +102,7 @@ impl Cell {
 
     /// The cell of a text that was given a width, of which 0 becomes 1. It can only fail where
     /// the text is no space.
+    #[tactic(auto, using(crate::proofs::Cleaned::clean_clean))]
     pub fn new_grapheme_with_width(
         alloc: Global,
         text: &str,
@@ -118,6 +122,7 @@ impl Cell {
         wide: bool,
         attrs: CellAttributes,
     ) -> Result<Cell, AllocError>
+        requires { clean text.now ≡ text.now }
         ensures ok { IfOk result (λ cell. cell ≡ record { text = text.now; wide = wide; attrs = attrs }) }
         ensures succeeds { text.now ≡ space → IsOk result }
     {
@@ -125,9 +130,10 @@ impl Cell {
         Ok(Cell { text, wide, attrs })
     }
 
-    /// The text.
+    /// The text, which is no control character, CR LF or empty text.
     pub fn str(&self) -> &str
-        ensures { result.now ≡ self.now.text }
+        ensures text { result.now ≡ self.now.text }
+        ensures clean { clean result.now ≡ result.now }
     {
         shown_text(&self.text)
     }

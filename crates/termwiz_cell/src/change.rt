@@ -2,11 +2,10 @@
 ghost use Rattle.std.specs.Prelude.{◌≡◌, ◌↔◌, IfOk, IsTrue, string_bytes};
 ghost use Rattle.std.specs.Cmp.{decided, on_equiv, on_per, partial_equiv_from_equiv};
 ghost use Rattle.termwiz_cell.specs.AttributeChangeValue.{attribute_change_value};
-ghost use Rattle.termwiz_cell.specs.Attributes.{color_eq};
 ghost use Rattle.termwiz_cell.specs.ChangeValue.{Attribute, Text, change_value, change_eq, change_eq-Decides, is_text, position_eq, visibility_eq};
 
 use crate::cell::{AttributeChange, CellAttributes};
-use crate::color::ColorAttribute;
+use crate::color::{ColorAttribute, is_same_color};
 use std::alloc::{AllocError, Global};
 
 /// A column or a row of a surface. Whatever it asks for, the cursor stays on the surface.
@@ -168,12 +167,6 @@ impl Change {
             _ => false,
         }
     }
-}
-
-fn is_same_color(a: ColorAttribute, b: ColorAttribute) -> bool
-    ensures { result ≡ color_eq a b }
-{
-    a == b
 }
 
 fn is_same_position(a: Position, b: Position) -> bool

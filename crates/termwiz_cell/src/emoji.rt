@@ -215,16 +215,7 @@ pub fn is_white_space_grapheme(text: &str) -> bool
 fn variation(text: &str) -> Option<Presentation>
     ensures { result ≡ spec.variation text.now }
 {
-    text.chars().fold(None, first_asked)
-}
-
-fn first_asked(seen: Option<Presentation>, c: char) -> Option<Presentation>
-    ensures { result ≡ spec.first_asked seen c }
-{
-    match seen {
-        Some(presentation) => Some(presentation),
-        None => asked_by(c),
-    }
+    text.chars().find_map(asked_by)
 }
 
 fn asked_by(c: char) -> Option<Presentation>

@@ -3,8 +3,7 @@ mod params;
 
 ghost use Rattle.std.specs.Prelude.{◌≡◌, ◌≢◌, ℕ, ◌↔◌, IsTrue, IfOk, IfSome, IsUtf8, MatchResult, None, Some, [], ◌∷◌, true, false, length, map, string_bytes, codes};
 ghost use Rattle.std.specs.Cmp.{decided, partial_equiv_from_equiv};
-ghost use Rattle.termwiz_cell.specs.Link.{Link, link_eq, link_eq-Decides};
-ghost use Rattle.termwiz_cell.specs.LinkLayout.{param_bytes};
+ghost use Rattle.termwiz_cell.specs.Link.{Link, link_eq, link_eq-Decides, param_bytes};
 ghost use Rattle.termwiz_cell.specs.LinkParse.{AreEmpty, ArePrinted, AreTexts, HasPairs, Reads, SpellsOnly, part};
 ghost use Rattle.termwiz_cell.specs.LinkText.{AreInOrder, IsReadable, link_text};
 

@@ -289,6 +289,19 @@ fn texts_are_changes(rt: HostRuntime) -> Result<(), Fail> {
 }
 
 #[test]
+fn texts_and_attributes_are_copied_in_changes(rt: HostRuntime) -> Result<(), Fail> {
+    let text = Change::text_from(rt.alloc(), "か")?;
+    let copy = text.clone()?;
+    assert_eq!(rt; copy, text);
+    assert_eq!(rt; copy.text(), "か");
+    let all = Change::AllAttributes(linked(rt.alloc())?);
+    let copy = all.clone()?;
+    assert_eq!(rt; copy, all);
+    assert_ne!(rt; copy, Change::AllAttributes(CellAttributes::blank()));
+    Ok(())
+}
+
+#[test]
 fn attribute_changes_are_changes(rt: HostRuntime) -> Result<(), Fail> {
     let bold = Change::from(AttributeChange::Intensity(Intensity::Bold));
     assert!(rt; !bold.is_text());

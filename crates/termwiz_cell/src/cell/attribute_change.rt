@@ -2,11 +2,11 @@
 ghost use Rattle.std.specs.Prelude.{◌≡◌, ◌↔◌, IsTrue};
 ghost use Rattle.std.specs.Cmp.{decided, on_equiv, on_per, partial_equiv_from_equiv};
 ghost use Rattle.termwiz_cell.specs.AttributeChangeValue.{attribute_change_value, attribute_change_eq, attribute_change_eq-Decides};
-ghost use Rattle.termwiz_cell.specs.StyleWord.{intensity_eq, underline_eq, blink_eq};
+ghost use Rattle.termwiz_cell.specs.Style.{intensity_eq, underline_eq, blink_eq};
 
-use super::fat::{clone_link, is_same_color, is_same_link};
+use super::fat::{clone_link, is_same_link};
 use super::style::{Blink, Intensity, Underline};
-use crate::color::ColorAttribute;
+use crate::color::{ColorAttribute, is_same_color};
 use crate::hyperlink::Hyperlink;
 use std::alloc::AllocError;
 use std::rc::Rc;

@@ -38,7 +38,7 @@ impl Model for CellAttributes {
 impl CellAttributes {
     ghost use Rattle.termwiz_cell.specs.Attributes.{without_colors, sgr_only};
     ghost use Rattle.termwiz_cell.specs.AttributeChangeValue.{attribute_change_value, with_attribute, takes_memory};
-    ghost use Rattle.termwiz_cell.specs.AttributesLayout.{linked};
+    ghost use Rattle.termwiz_cell.specs.Link.{linked};
 
     /// The default attributes. They take no memory.
     pub fn blank() -> CellAttributes
@@ -71,6 +71,7 @@ impl CellAttributes {
         self.style.intensity()
     }
 
+    /// Sets how strong the text is.
     pub fn set_intensity(&mut self, value: Intensity) -> &mut Self
         ensures same_reference { result.ghost_name ≡ self.entry.ghost_name }
         ensures value { result.now ≡ record self.old { intensity = value } }
@@ -86,6 +87,7 @@ impl CellAttributes {
         self.style.underline()
     }
 
+    /// Sets how the text is underlined.
     pub fn set_underline(&mut self, value: Underline) -> &mut Self
         ensures same_reference { result.ghost_name ≡ self.entry.ghost_name }
         ensures value { result.now ≡ record self.old { underline = value } }
@@ -101,6 +103,7 @@ impl CellAttributes {
         self.style.blink()
     }
 
+    /// Sets how fast the text blinks.
     pub fn set_blink(&mut self, value: Blink) -> &mut Self
         ensures same_reference { result.ghost_name ≡ self.entry.ghost_name }
         ensures value { result.now ≡ record self.old { blink = value } }
@@ -116,6 +119,7 @@ impl CellAttributes {
         self.style.italic()
     }
 
+    /// Sets whether the text is slanted.
     pub fn set_italic(&mut self, value: bool) -> &mut Self
         ensures same_reference { result.ghost_name ≡ self.entry.ghost_name }
         ensures value { result.now ≡ record self.old { italic = value } }
@@ -131,6 +135,7 @@ impl CellAttributes {
         self.style.reverse()
     }
 
+    /// Sets whether the colours of text and background are exchanged.
     pub fn set_reverse(&mut self, value: bool) -> &mut Self
         ensures same_reference { result.ghost_name ≡ self.entry.ghost_name }
         ensures value { result.now ≡ record self.old { reverse = value } }
@@ -146,6 +151,7 @@ impl CellAttributes {
         self.style.strikethrough()
     }
 
+    /// Sets whether the text is struck through.
     pub fn set_strikethrough(&mut self, value: bool) -> &mut Self
         ensures same_reference { result.ghost_name ≡ self.entry.ghost_name }
         ensures value { result.now ≡ record self.old { strikethrough = value } }
@@ -161,6 +167,7 @@ impl CellAttributes {
         self.style.invisible()
     }
 
+    /// Sets whether the text is hidden.
     pub fn set_invisible(&mut self, value: bool) -> &mut Self
         ensures same_reference { result.ghost_name ≡ self.entry.ghost_name }
         ensures value { result.now ≡ record self.old { invisible = value } }
@@ -176,6 +183,7 @@ impl CellAttributes {
         self.style.wrapped()
     }
 
+    /// Sets whether the row was wrapped behind this cell.
     pub fn set_wrapped(&mut self, value: bool) -> &mut Self
         ensures same_reference { result.ghost_name ≡ self.entry.ghost_name }
         ensures value { result.now ≡ record self.old { wrapped = value } }
@@ -191,6 +199,7 @@ impl CellAttributes {
         self.style.overline()
     }
 
+    /// Sets whether a line stands above the text.
     pub fn set_overline(&mut self, value: bool) -> &mut Self
         ensures same_reference { result.ghost_name ≡ self.entry.ghost_name }
         ensures value { result.now ≡ record self.old { overline = value } }
@@ -206,6 +215,7 @@ impl CellAttributes {
         self.style.semantic_type()
     }
 
+    /// Sets what the text is to its reader.
     pub fn set_semantic_type(&mut self, value: SemanticType) -> &mut Self
         ensures same_reference { result.ghost_name ≡ self.entry.ghost_name }
         ensures value { result.now ≡ record self.old { semantic_type = value } }
@@ -221,6 +231,7 @@ impl CellAttributes {
         self.style.vertical_align()
     }
 
+    /// Sets where the text stands on its line.
     pub fn set_vertical_align(&mut self, value: VerticalAlign) -> &mut Self
         ensures same_reference { result.ghost_name ≡ self.entry.ghost_name }
         ensures value { result.now ≡ record self.old { vertical_align = value } }
@@ -236,7 +247,7 @@ impl CellAttributes {
         shown(fat::foreground(&self.fat), self.style.foreground())
     }
 
-    /// Sets the foreground. At an error nothing changed.
+    /// Sets the foreground as `change_foreground` does, which says that nothing changed at an error.
     pub fn set_foreground(
         &mut self,
         alloc: Global,
@@ -276,7 +287,7 @@ impl CellAttributes {
         shown(fat::background(&self.fat), self.style.background())
     }
 
-    /// Sets the background. At an error nothing changed.
+    /// Sets the background as `change_background` does, which says that nothing changed at an error.
     pub fn set_background(
         &mut self,
         alloc: Global,
@@ -316,7 +327,7 @@ impl CellAttributes {
         fat::underline_color(&self.fat)
     }
 
-    /// Sets the underline colour. At an error nothing changed.
+    /// Sets the underline colour as `change_underline_color` does, which says that nothing changed at an error.
     pub fn set_underline_color(
         &mut self,
         alloc: Global,
@@ -353,7 +364,7 @@ impl CellAttributes {
         fat::hyperlink(&self.fat)
     }
 
-    /// Sets the link. At an error nothing changed.
+    /// Sets the link as `change_hyperlink` does, which says that nothing changed at an error.
     pub fn set_hyperlink(
         &mut self,
         alloc: Global,

@@ -1,9 +1,10 @@
 //! The attributes that few cells have, in a box that is there only while one of them is not the default.
 ghost use Rattle.std.specs.Prelude.{◌≡◌, ◌↔◌, IsTrue, IsSome, IsNone, IsOk, IfOk, OnOk, OnErr, None, true, option_map};
-ghost use Rattle.termwiz_cell.specs.Attributes.{color_eq, option_link_eq, is_default};
+ghost use Rattle.termwiz_cell.specs.Attributes.{option_link_eq, is_default};
 ghost use Rattle.termwiz_cell.specs.AttributesLayout as spec;
+ghost use Rattle.termwiz_cell.specs.Link.{linked};
 
-use crate::color::ColorAttribute;
+use crate::color::{ColorAttribute, is_same_color};
 use crate::hyperlink::Hyperlink;
 use std::alloc::{AllocError, Global};
 use std::rc::Rc;
@@ -189,7 +190,7 @@ pub(super) fn set_hyperlink(
     value: Option<Rc<Hyperlink>>,
 ) -> Result<(), AllocError>
     requires { spec.IsNeeded fat.old }
-    ensures ok { OnOk result (spec.rare_of fat.new ≡ record (spec.rare_of fat.old) { hyperlink = spec.linked value }) }
+    ensures ok { OnOk result (spec.rare_of fat.new ≡ record (spec.rare_of fat.old) { hyperlink = linked value }) }
     ensures err { OnErr result (spec.rare_of fat.new ≡ spec.rare_of fat.old) }
     ensures needed { spec.IsNeeded fat.new }
     ensures boxed { IsSome fat.old → IsOk result }
@@ -273,7 +274,7 @@ pub(super) fn clone_colors(
 }
 
 pub(super) fn clone_link(link: &Option<Rc<Hyperlink>>) -> Result<Option<Rc<Hyperlink>>, AllocError>
-    ensures ok { IfOk result (λ copy. spec.linked copy ≡ spec.linked link.now) }
+    ensures ok { IfOk result (λ copy. linked copy ≡ linked link.now) }
     ensures succeeds { IsNone link.now → IsOk result }
 {
     match link {
@@ -289,12 +290,6 @@ pub(super) fn is_default_color(color: ColorAttribute) -> bool
     ensures { result ≡ is_default color }
 {
     matches!(color, ColorAttribute::Default)
-}
-
-pub(super) fn is_same_color(a: ColorAttribute, b: ColorAttribute) -> bool
-    ensures { result ≡ color_eq a b }
-{
-    a == b
 }
 
 pub(super) fn is_same_link(a: Option<&Rc<Hyperlink>>, b: Option<&Rc<Hyperlink>>) -> bool

@@ -1,6 +1,6 @@
 //! The small attributes, and their numbers.
 ghost use Rattle.std.specs.Prelude.{◌≡◌, ◌<◌};
-ghost use Rattle.termwiz_cell.specs.StyleWord.{intensity_number, intensity_at, underline_number, underline_at, blink_number, blink_at, semantic_number, semantic_at, vertical_number, vertical_at};
+ghost use Rattle.termwiz_cell.specs.Style.{intensity_number, intensity_at, underline_number, underline_at, blink_number, blink_at, semantic_number, semantic_at, vertical_number, vertical_at};
 
 /// How strong a text is.
 #[derive(Clone, Copy, PartialEq, Eq, Debug, Default)]
@@ -25,7 +25,7 @@ pub enum Underline {
 
 /// Whether there is a line.
 impl From<Underline> for bool {
-    ghost use Rattle.termwiz_cell.specs.StyleWord.{is_underlined};
+    ghost use Rattle.termwiz_cell.specs.Style.{is_underlined};
 
     ghost from_gives = { λ underline on. on ≡ is_underlined underline };
 
@@ -44,7 +44,7 @@ pub enum Blink {
 
 /// Whether it blinks.
 impl From<Blink> for bool {
-    ghost use Rattle.termwiz_cell.specs.StyleWord.{is_blinking};
+    ghost use Rattle.termwiz_cell.specs.Style.{is_blinking};
 
     ghost from_gives = { λ blink on. on ≡ is_blinking blink };
 

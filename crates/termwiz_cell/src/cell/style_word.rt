@@ -1,6 +1,7 @@
 //! The small attributes, packed in one word.
 ghost use Rattle.std.specs.Prelude.{◌≡◌, ℕ, ◌+◌, ◌*◌, ◌/◌, ◌%◌, ◌^◌, ◌<◌, ◌≤◌, ◌↔◌, IsTrue};
-ghost use Rattle.termwiz_cell.specs.StyleWord.{flag_number, palette_number, palette_at, IsPalette, style_at, style_sgr_only, bits_at};
+ghost use Rattle.termwiz_cell.specs.Style.{flag_number};
+ghost use Rattle.termwiz_cell.specs.StyleWord.{palette_number, palette_at, IsPalette, style_at, style_sgr_only, bits_at};
 
 use super::style::{Blink, Intensity, SemanticType, Style, Underline, VerticalAlign};
 use std::marker::Model;
@@ -62,7 +63,7 @@ impl StyleWord {
         StyleWord { word: 0 }
     }
 
-    #[tactic(auto, using(crate::specs::StyleLaws::laws))]
+    #[tactic(auto, using(crate::proofs::PackedStyles::laws))]
     pub fn pack(style: Style) -> StyleWord
         ensures { result ≡ style }
     {

@@ -17,6 +17,7 @@ pub(super) fn cleaned(text: &str) -> &str
 }
 
 pub(super) fn stored_text(alloc: Global, text: &str) -> Result<Option<String>, AllocError>
+    requires { clean text.now ≡ text.now }
     ensures text { IfOk result (λ stored. text_of stored ≡ text.now) }
     ensures stored { IfOk result (λ stored. IsStoredText stored) }
     ensures succeeds { text.now ≡ space → IsOk result }
@@ -29,7 +30,9 @@ pub(super) fn stored_text(alloc: Global, text: &str) -> Result<Option<String>, A
 }
 
 pub(super) fn shown_text(text: &Option<String>) -> &str
-    ensures { result.now ≡ text_of text.now }
+    requires { IsStoredText text.now }
+    ensures text { result.now ≡ text_of text.now }
+    ensures clean { clean result.now ≡ result.now }
 {
     match text {
         None => " ",

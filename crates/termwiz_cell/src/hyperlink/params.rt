@@ -2,8 +2,7 @@
 ghost use Rattle.std.specs.Prelude.{◌≡◌, map, string_bytes, IfOk, OnOk};
 ghost use Rattle.std.specs.Cmp.Lexicographic.{pointwise};
 ghost use Rattle.std.specs.Fmt.{WritesOnOk};
-ghost use Rattle.termwiz_cell.specs.Link.{param_eq};
-ghost use Rattle.termwiz_cell.specs.LinkLayout.{param_bytes};
+ghost use Rattle.termwiz_cell.specs.Link.{param_eq, param_bytes};
 ghost use Rattle.termwiz_cell.specs.LinkPairs.{has_equals, are_pairs, pair_of, with_pair, params_of};
 ghost use Rattle.termwiz_cell.specs.LinkText.{params_text};
 

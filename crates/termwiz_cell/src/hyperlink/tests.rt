@@ -62,3 +62,39 @@ fn made_links_are_printed(rt: HostRuntime) -> Result<(), Fail> {
     assert!(rt; implicit.is_implicit() && implicit != plain);
     Ok(())
 }
+
+fn with_two_params(alloc: Global) -> Result<Hyperlink, AllocError> {
+    let mut params = BTreeMap::new(alloc);
+    params.insert("b".to_owned(alloc)?, "2".to_owned(alloc)?)?;
+    params.insert("a".to_owned(alloc)?, "1".to_owned(alloc)?)?;
+    Ok(Hyperlink::new_with_params("u".to_owned(alloc)?, params))
+}
+
+#[test]
+fn a_link_is_copied_with_its_params(rt: HostRuntime) -> Result<(), Fail> {
+    let alloc = rt.alloc();
+    let link = with_two_params(alloc)?;
+    let copy = link.clone()?;
+    assert_eq!(rt; copy, link);
+    assert_eq!(rt; copy.params(), link.params());
+    assert_eq!(rt; copy.params().len(), 2);
+    assert_eq!(rt; copy.to_string(alloc)?.as_str(), "8;a=1:b=2;u");
+    assert_ne!(rt; copy, Hyperlink::new(alloc, "u".to_owned(alloc)?));
+    Ok(())
+}
+
+#[test]
+fn faults_are_printed_in_words(rt: HostRuntime) -> Result<(), Fail> {
+    for (fault, text) in [
+        (LinkError::WrongParamCount, "a link has three parts"),
+        (LinkError::NotUtf8, "a link is UTF-8"),
+        (
+            LinkError::BadParams,
+            "a link's params are `key=value` between `:`",
+        ),
+        (LinkError::Memory, "out of memory"),
+    ] {
+        assert_eq!(rt; fault.to_string(rt.alloc())?.as_str(), text);
+    }
+    Ok(())
+}

@@ -1,6 +1,6 @@
 use Rattle.std.proofs.lemmas.Result.{MatchResult-weaker}
-use Rattle.termwiz_cell.specs.LinkLayout.{param_bytes}
-use Rattle.termwiz_cell.specs.LinkLaws.{map-clone}
+use Rattle.termwiz_cell.specs.Link.{param_bytes}
+use Rattle.termwiz_cell.proofs.Lists.{map-clone}
 use Rattle.termwiz_cell.proofs.hyperlink.params.clone_params.Goals as goal
 
 pub returns : goal.returns

@@ -1,5 +1,5 @@
 use Rattle.std.proofs.Common.{◌≡◌, map}
-use Rattle.termwiz_cell.specs.LinkLayout.{param_bytes}
+use Rattle.termwiz_cell.specs.Link.{param_bytes}
 use Rattle.termwiz_cell.specs.LinkPairs.{pair_of, params_from}
 use Rattle.termwiz_cell.proofs.hyperlink.params.read_params.Given as goal
 

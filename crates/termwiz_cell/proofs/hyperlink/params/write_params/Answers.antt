@@ -1,7 +1,7 @@
 use Rattle.std.proofs.Common.{rules, refl, sym}
 use Rattle.std.proofs.Output.{has_written_append, has_written_of_eq}
 use Rattle.std.specs.Map.Iter.{deref_pair}
-use Rattle.termwiz_cell.specs.LinkLayout.{param_bytes}
+use Rattle.termwiz_cell.specs.Link.{param_bytes}
 use Rattle.termwiz_cell.proofs.ParamLists.{separator_after-push, params_text-push}
 use Rattle.termwiz_cell.proofs.hyperlink.params.write_params.Goals as goal
 

@@ -1,7 +1,7 @@
 use Rattle.std.proofs.Common.{◌≡◌, map}
 use Rattle.std.specs.Fmt.{HasWritten, IsPlainFormatter}
 use Rattle.std.specs.Map.Iter.{deref_pair}
-use Rattle.termwiz_cell.specs.LinkLayout.{param_bytes}
+use Rattle.termwiz_cell.specs.Link.{param_bytes}
 use Rattle.termwiz_cell.specs.LinkText.{params_text}
 use Rattle.termwiz_cell.proofs.ParamLists.{separator_after}
 use Rattle.termwiz_cell.proofs.hyperlink.params.write_params.Given as goal

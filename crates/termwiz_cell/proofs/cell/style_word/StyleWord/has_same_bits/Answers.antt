@@ -1,4 +1,4 @@
-use Rattle.termwiz_cell.specs.StyleLaws.{same-bits}
+use Rattle.termwiz_cell.proofs.PackedStyles.{same-bits}
 use Rattle.termwiz_cell.proofs.cell.style_word.StyleWord.has_same_bits.Goals as goal
 
 pub returns : goal.returns

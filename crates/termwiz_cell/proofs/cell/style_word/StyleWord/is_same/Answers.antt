@@ -1,4 +1,4 @@
-use Rattle.termwiz_cell.specs.StyleLaws.{same-words}
+use Rattle.termwiz_cell.proofs.PackedStyles.{same-words}
 use Rattle.termwiz_cell.proofs.cell.style_word.StyleWord.is_same.Goals as goal
 
 pub returns : goal.returns

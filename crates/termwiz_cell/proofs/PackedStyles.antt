@@ -3,7 +3,7 @@ use Rattle.std.proofs.Common.{◌≡◌, ℕ, zero, suc, List, [], ◌∷◌, ge
 use Rattle.std.specs.Bool.{Decides}
 use Rattle.std.proofs.Math.Dec.{eqb-suc-zero}
 use Rattle.std.proofs.lemmas.Bool.Decides.{Decides-like, Decides-eqb}
-use Rattle.termwiz_cell.specs.Digits as digits
+use Rattle.termwiz_cell.proofs.Digits as digits
 use Rattle.termwiz_cell.specs.declared.cell.style.Intensity.{Intensity}
 use Rattle.termwiz_cell.specs.declared.cell.style.Intensity.TheVariants.{Normal, Bold, Half}
 use Rattle.termwiz_cell.specs.declared.cell.style.Underline.{Underline}
@@ -15,17 +15,13 @@ use Rattle.termwiz_cell.specs.declared.cell.style.SemanticType.TheVariants.{Outp
 use Rattle.termwiz_cell.specs.declared.cell.style.VerticalAlign.{VerticalAlign}
 use Rattle.termwiz_cell.specs.declared.cell.style.VerticalAlign.TheVariants.{BaseLine, SuperScript, SubScript}
 use Rattle.termwiz_cell.specs.declared.cell.style.Style.{Style}
-use Rattle.termwiz_cell.specs.StyleWord.{intensity_number, intensity_at, underline_number, underline_at, blink_number, blink_at, intensity_eq, underline_eq, blink_eq, semantic_number, semantic_at, vertical_number, vertical_at, flag_number, flag_at, palette_number, palette_at, style_at, word_of, bits_at, IsStyleWord, HasPalette, IsPalette}
+use Rattle.termwiz_cell.specs.Style.{intensity_number, intensity_at, underline_number, underline_at, blink_number, blink_at, semantic_number, semantic_at, vertical_number, vertical_at, flag_number, flag_at, intensity-back, underline-back, blink-back, semantic-back, vertical-back, flag-back}
+use Rattle.termwiz_cell.specs.StyleWord.{whole, palette_number, palette_at, style_at, word_of, bits_at, IsStyleWord, HasPalette, IsPalette}
 
 intensity-lt : (v : Intensity) → intensity_number v < 3
 intensity-lt Normal = omega arith
 intensity-lt Bold = omega arith
 intensity-lt Half = omega arith
-
-pub intensity-back : (v : Intensity) → intensity_at (intensity_number v) ≡ v
-intensity-back Normal = refl
-intensity-back Bold = refl
-intensity-back Half = refl
 
 underline-lt : (v : Underline) → underline_number v < 6
 underline-lt underline.None = omega arith
@@ -35,51 +31,24 @@ underline-lt underline.Curly = omega arith
 underline-lt underline.Dotted = omega arith
 underline-lt underline.Dashed = omega arith
 
-pub underline-back : (v : Underline) → underline_at (underline_number v) ≡ v
-underline-back underline.None = refl
-underline-back underline.Single = refl
-underline-back underline.Double = refl
-underline-back underline.Curly = refl
-underline-back underline.Dotted = refl
-underline-back underline.Dashed = refl
-
 blink-lt : (v : Blink) → blink_number v < 3
 blink-lt blink.None = omega arith
 blink-lt blink.Slow = omega arith
 blink-lt blink.Rapid = omega arith
-
-pub blink-back : (v : Blink) → blink_at (blink_number v) ≡ v
-blink-back blink.None = refl
-blink-back blink.Slow = refl
-blink-back blink.Rapid = refl
 
 semantic-lt : (v : SemanticType) → semantic_number v < 3
 semantic-lt Output = omega arith
 semantic-lt Input = omega arith
 semantic-lt Prompt = omega arith
 
-pub semantic-back : (v : SemanticType) → semantic_at (semantic_number v) ≡ v
-semantic-back Output = refl
-semantic-back Input = refl
-semantic-back Prompt = refl
-
 vertical-lt : (v : VerticalAlign) → vertical_number v < 3
 vertical-lt BaseLine = omega arith
 vertical-lt SuperScript = omega arith
 vertical-lt SubScript = omega arith
 
-pub vertical-back : (v : VerticalAlign) → vertical_at (vertical_number v) ≡ v
-vertical-back BaseLine = refl
-vertical-back SuperScript = refl
-vertical-back SubScript = refl
-
 flag-lt : (v : Bool) → flag_number v < 2
 flag-lt true = omega arith
 flag-lt false = omega arith
-
-pub flag-back : (v : Bool) → flag_at (flag_number v) ≡ v
-flag-back true = refl
-flag-back false = refl
 
 palette-lt : (v : Option ℕ) → IsPalette v → palette_number v < 257
 palette-lt None h = omega arith
@@ -134,7 +103,7 @@ palette-there (suc n) = rw (eqb-suc-zero n) (omega arith)
 -- a word is the one that spells its style
 pub word_of-style_at : (w : ℕ) → IsStyleWord w → word_of (style_at w) ≡ w
 word_of-style_at w h =
-    (λ i. digits.whole
+    (λ i. whole
     (intensity-there (w % 4) h.intensity i) (underline-there (w / 2 ^ 2 % 8) h.underline i) (blink-there (w / 2 ^ 5 % 4) h.blink i)
     (flag-there (w / 2 ^ 7 % 2) (omega arith) i) (flag-there (w / 2 ^ 8 % 2) (omega arith) i) (flag-there (w / 2 ^ 9 % 2) (omega arith) i)
     (flag-there (w / 2 ^ 10 % 2) (omega arith) i) (flag-there (w / 2 ^ 11 % 2) (omega arith) i) (flag-there (w / 2 ^ 12 % 2) (omega arith) i)
@@ -180,19 +149,6 @@ same-bits w v hw hv =
     (λ e. sym (low_bits-mod w) ∙ ap low_bits e ∙ low_bits-mod v)
     (low-from_bits w v hw hv)
     (Decides-eqb (w % 2 ^ 17) (v % 2 ^ 17))
-
--- values that their numbers tell apart are compared by them
-numbers-Decide : {T : Type 0} (number : T → ℕ) (at : ℕ → T) (back : (v : T) → at (number v) ≡ v) (a b : T) → Decides (number a == number b) (a ≡ b)
-numbers-Decide number at back a b = Decides-like (number a == number b) (λ e. sym (back a) ∙ ap at e ∙ back b) (ap number) (Decides-eqb (number a) (number b))
-
-pub intensity_eq-Decides : (a b : Intensity) → Decides (intensity_eq a b) (a ≡ b)
-intensity_eq-Decides = numbers-Decide intensity_number intensity_at intensity-back
-
-pub underline_eq-Decides : (a b : Underline) → Decides (underline_eq a b) (a ≡ b)
-underline_eq-Decides = numbers-Decide underline_number underline_at underline-back
-
-pub blink_eq-Decides : (a b : Blink) → Decides (blink_eq a b) (a ≡ b)
-blink_eq-Decides = numbers-Decide blink_number blink_at blink-back
 
 module _ (s : Style) (h : HasPalette s) where
   intensity-digit : word_of s % 4 ≡ intensity_number s.intensity

@@ -45,13 +45,13 @@ use termwiz_cell::emoji::Widths;
 use thiserror::Error;
 use unicode_segmentation::UnicodeSegmentation;
 
-/// Why a list of changes is refused.
+/// Why a list of changes is refused. The errors have numbers, and 1 is kept for the refusal of a scroll region.
 #[derive(Debug, Drop, Clone, Copy, PartialEq, Eq, Error)]
 pub enum SurfaceError {
     /// Error 2: the number of changes would pass the greatest `usize`. Nothing has changed.
     #[error("the numbers of changes are used up")]
     Numbers,
-    /// Error 3: a growth was refused. The surface keeps its size, and is under a new number, or 0 where that was 0.
+    /// Error 3: a growth was refused. The surface keeps its size and the form of its rows, and is under a new number, or 0 where that was 0.
     #[error("out of memory")]
     Memory,
 }
@@ -341,7 +341,7 @@ impl<W: Widths> Surface<W> {
     }
 
     /// Makes one change. The answer is the number before it.
-    /// `Numbers`: nothing has changed. `Memory`: the size stays, and the number grows by one, unless it is 0.
+    /// `Numbers`: nothing has changed. `Memory`: the size and the form of the rows stay, the cursor is inside, and the number grows by one, unless it is 0.
     pub fn add_change(&mut self, change: Change) -> Result<SequenceNo, SurfaceError>
         ensures { Adds (unversioned (W.width_of self.old.widths)) self.old (change_value change ∷ []) self.old.number result self.new }
     {
@@ -350,7 +350,7 @@ impl<W: Widths> Surface<W> {
     }
 
     /// Makes the changes in order. The answer is the number before them less one, or 0 where it is 0, and how many they are.
-    /// `Numbers`: nothing has changed. `Memory`: some were made and the last perhaps in part; the size stays, and the number grows by one, unless it is 0.
+    /// `Numbers`: nothing has changed. `Memory`: some were made and the last perhaps in part; the size and the form of the rows stay, the cursor is inside, and the number grows by one, unless it is 0.
     pub fn add_changes(&mut self, changes: Vec<Change>) -> Result<SequenceNo, SurfaceError>
         ensures adds { Adds (unversioned (W.width_of self.old.widths)) self.old (map change_value changes.items) (self.old.number - 1 + vec_len changes) result self.new }
         ensures empty { vec_len changes ≡ 0 → IsOk result }

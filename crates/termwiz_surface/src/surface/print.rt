@@ -1,5 +1,6 @@
 //! The graphemes of a text, and the cells that they print.
-ghost use Rattle.std.specs.Prelude.{◌≡◌, IfOk};
+ghost use Rattle.std.specs.Prelude.{◌≡◌, ◌==◌, IfOk, length};
+ghost use Rattle.std.specs.Str.{chars};
 ghost use Rattle.termwiz_cell.specs.CellValue.{measured};
 ghost use Rattle.termwiz_cell.specs.Width.{unversioned};
 ghost use Rattle.termwiz_surface.specs.Graphemes.{is_single, single};
@@ -34,10 +35,17 @@ pub(super) fn line_break(grapheme: &str) -> LineBreak
     LineBreak::None
 }
 
+fn is_one_char(text: &str) -> bool
+    ensures { result ≡ (length (chars text.now) == 1) }
+{
+    text.chars().count() == 1
+}
+
+// One character is one grapheme, which spares most texts a second cut.
 fn is_one_grapheme(text: &str) -> bool
     ensures { result ≡ is_single text.now }
 {
-    text.graphemes(true).count() == 1
+    is_one_char(text) || text.graphemes(true).count() == 1
 }
 
 // A grapheme of a longer text need not be one by itself.

@@ -64,7 +64,7 @@ struct PrintedPen<'a>(&'a CellAttributes);
 impl Display for PrintedPen<'_> {
     fn fmt<W: fmt::Write>(&self, f: &mut Formatter<W>) -> fmt::Result {
         let pen = self.0;
-        if *pen == CellAttributes::blank() {
+        if pen.is_blank() {
             return f.write_str(" default");
         }
         for (word, applies) in [

@@ -112,7 +112,7 @@ impl Line {
     fn stays_empty(&self, cell: &Cell) -> bool
         ensures { IsTrue result ↔ ((self.now.cells ≡ []) × (cell.now ≡ blank)) }
     {
-        self.storage.is_empty() && *cell == Cell::blank()
+        self.storage.is_empty() && cell.is_blank()
     }
 
     /// Sets the cell in each of the columns, in order, and then prunes. An empty line stays as it is where the cell is a default blank.

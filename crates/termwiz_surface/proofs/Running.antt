@@ -4,11 +4,11 @@ use Rattle.std.specs.Prelude.{Ok, Err, Vec, vec_len}
 use Rattle.std.specs.declared.alloc.Global.{Global}
 use Rattle.termwiz_cell.specs.Attributes.{default_attributes}
 use Rattle.termwiz_cell.specs.CellValue.{blank}
-use Rattle.termwiz_cell.specs.ChangeValue.{ChangeValue, change_value}
+use Rattle.termwiz_cell.specs.ChangeValue.{change_value}
 use Rattle.termwiz_cell.specs.declared.change.Change.{Change}
 use Rattle.termwiz_cell.specs.declared.change.CursorVisibility.TheVariants.{Visible}
 use Rattle.termwiz_line.specs.Row.{row_of}
-use Rattle.termwiz_surface.specs.SurfaceValue.{SurfaceValue, IsSound}
+use Rattle.termwiz_surface.specs.SurfaceValue.{SurfaceValue}
 use Rattle.termwiz_surface.specs.Answer.{Adds}
 use Rattle.termwiz_surface.specs.Schedule.{State, Allows, Runs, Ended, Next, state_of, first_state}
 use Rattle.termwiz_surface.specs.declared.surface.SurfaceError.{SurfaceError}

@@ -1,14 +1,15 @@
 -- The one form of attributes: what stands in the word, and what in the box.
 use Rattle.std.proofs.Common.{◌≡◌, ℕ, Bool, true, false, Option, Some, None, refl, ap, sym, ◌∙◌}
-use Rattle.std.specs.Prelude.{◌&&◌}
+use Rattle.std.specs.Prelude.{◌&&◌, is_none}
 use Rattle.std.specs.Bool.{Decides}
 use Rattle.std.proofs.lemmas.Bool.Decides.{Decides-like, Decides-and, same_from_decides}
 use Rattle.termwiz_cell.specs.declared.color.ColorAttribute.{ColorAttribute}
 use Rattle.termwiz_cell.specs.declared.color.ColorAttribute.TheVariants as color
 use Rattle.termwiz_cell.specs.declared.cell.style.Style.{Style}
 use Rattle.termwiz_cell.specs.declared.cell.attributes.CellAttributes.TheInside.{Inside}
-use Rattle.termwiz_cell.specs.Attributes.{Attributes, color_eq-Decides, attributes_eq, attributes_eq-Decides, option_link_eq-Decides}
-use Rattle.termwiz_cell.specs.AttributesLayout.{Rare, rare_of, rare_eq, shown, is_apart, rare_part, palette_part, attributes_from, attributes_of, IsSound}
+use Rattle.termwiz_cell.specs.Link.{Link}
+use Rattle.termwiz_cell.specs.Attributes.{Attributes, is_default, color_eq-Decides, attributes_eq, attributes_eq-Decides, option_link_eq-Decides}
+use Rattle.termwiz_cell.specs.AttributesLayout.{Rare, rare_default, is_rare_default, style_in, rare_in, rare_eq, shown, is_apart, rare_part, palette_part, attributes_from, attributes_of, IsSound}
 
 rare_part-shown : (rare : ColorAttribute) (index : Option ℕ) → is_apart rare index ≡ true → rare_part (shown rare index) ≡ rare
 rare_part-shown color.Default None h = refl
@@ -65,21 +66,35 @@ rare_eq-Decides a b =
     (Decides-and _ _ (color_eq-Decides a.background b.background)
     (Decides-and _ _ (color_eq-Decides a.underline_color b.underline_color) (option_link_eq-Decides a.hyperlink b.hyperlink))))
 
+is_default-Decides : (c : ColorAttribute) → Decides (is_default c) (c ≡ color.Default)
+is_default-Decides color.Default = (λ _. refl, λ _. refl)
+is_default-Decides (color.TrueColorWithPaletteFallback _ _) = (λ e. cc, λ e. cc)
+is_default-Decides (color.TrueColorWithDefaultFallback _) = (λ e. cc, λ e. cc)
+is_default-Decides (color.PaletteIndex _) = (λ e. cc, λ e. cc)
+
+is_none-Decides : (link : Option Link) → Decides (is_none link) (link ≡ None)
+is_none-Decides None = (λ _. refl, λ _. refl)
+is_none-Decides (Some _) = (λ e. cc, λ e. cc)
+
+-- the test whether all rare attributes have their defaults
+pub rare_default-Decides : (r : Rare) → Decides (is_rare_default r) (r ≡ rare_default)
+rare_default-Decides r =
+    Decides-like (is_rare_default r)
+    (λ e i. record { foreground = e.0.0 i; background = e.0.1.0 i; underline_color = e.0.1.1 i; hyperlink = e.1 i })
+    (λ e. (((λ i. (e i).foreground), ((λ i. (e i).background), (λ i. (e i).underline_color))), (λ i. (e i).hyperlink)))
+    (Decides-and _ _
+    (Decides-and _ _ (is_default-Decides r.foreground) (Decides-and _ _ (is_default-Decides r.background) (is_default-Decides r.underline_color)))
+    (is_none-Decides r.hyperlink))
+
+pub rare_default_only : (r : Rare) → is_rare_default r ≡ true → r ≡ rare_default
+rare_default_only r h = (rare_default-Decides r).0 h
+
 -- attributes are equal exactly where word and box are
-pub same-parts : (a b : Inside) → IsSound a → IsSound b → (styles rares : Bool) → Decides styles (a.style ≡ b.style) → Decides rares (rare_of a.fat ≡ rare_of b.fat) → Decides (styles && rares) (attributes_of a ≡ attributes_of b)
-same-parts a b ha hb styles rares hs hr =
-    Decides-like (styles && rares)
+pub same-parts : (a b : Inside) → IsSound a → IsSound b → (same : Bool) → Decides same ((style_in a.kind ≡ style_in b.kind) × (rare_in a.kind ≡ rare_in b.kind)) → same ≡ attributes_eq (attributes_of a) (attributes_of b)
+same-parts a b ha hb same h =
+    same_from_decides same _
+    (Decides-like same
     (λ e i. attributes_from (e.0 i) (e.1 i))
-    (λ e. (sym (style_of-attributes_from a.style (rare_of a.fat) ha.foreground ha.background) ∙ ap style_of e ∙ style_of-attributes_from b.style (rare_of b.fat) hb.foreground hb.background, sym (rare_from-attributes_from a.style (rare_of a.fat) ha.foreground ha.background) ∙ ap rare_from e ∙ rare_from-attributes_from b.style (rare_of b.fat) hb.foreground hb.background))
-    (Decides-and styles rares hs hr)
-
--- the answer of a test that compares the words first
-module _ (a b : Inside) (ha : IsSound a) (hb : IsSound b) (styles : Bool) (hs : Decides styles (a.style ≡ b.style)) where
-  pub eq-where_styles_agree : (rares : Bool) → Decides rares (rare_of a.fat ≡ rare_of b.fat) → styles ≡ true → rares ≡ attributes_eq (attributes_of a) (attributes_of b)
-  eq-where_styles_agree rares hr e =
-      sym (ap (λ s. s && rares) e) ∙ same_from_decides (styles && rares) _ (same-parts a b ha hb styles rares hs hr) (attributes_eq-Decides (attributes_of a) (attributes_of b))
-
-  pub eq-where_styles_differ : styles ≡ false → styles ≡ attributes_eq (attributes_of a) (attributes_of b)
-  eq-where_styles_differ e =
-      let rares = rare_eq (rare_of a.fat) (rare_of b.fat) in
-      e ∙ sym (ap (λ s. s && rares) e) ∙ same_from_decides (styles && rares) _ (same-parts a b ha hb styles rares hs (rare_eq-Decides (rare_of a.fat) (rare_of b.fat))) (attributes_eq-Decides (attributes_of a) (attributes_of b))
+    (λ e. (sym (style_of-attributes_from (style_in a.kind) (rare_in a.kind) ha.foreground ha.background) ∙ ap style_of e ∙ style_of-attributes_from (style_in b.kind) (rare_in b.kind) hb.foreground hb.background, sym (rare_from-attributes_from (style_in a.kind) (rare_in a.kind) ha.foreground ha.background) ∙ ap rare_from e ∙ rare_from-attributes_from (style_in b.kind) (rare_in b.kind) hb.foreground hb.background))
+    h)
+    (attributes_eq-Decides (attributes_of a) (attributes_of b))

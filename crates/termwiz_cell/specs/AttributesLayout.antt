@@ -1,8 +1,12 @@
 -- How the fields of `CellAttributes` give the attributes.
-use Rattle.std.specs.Prelude.{◌≡◌, ℕ, Bool, true, false, ◌&&◌, Option, Some, None, is_none, ⊤, Box}
+use Rattle.std.specs.Prelude.{◌≡◌, ℕ, Bool, true, false, ◌&&◌, Option, None, Some, is_none, ⊤}
 use Rattle.termwiz_cell.specs.declared.color.ColorAttribute.{ColorAttribute}
 use Rattle.termwiz_cell.specs.declared.color.ColorAttribute.TheVariants as color
-use Rattle.termwiz_cell.specs.declared.cell.fat.FatAttributes.{FatAttributes}
+use Rattle.termwiz_cell.specs.declared.cell.kind.Full.{Full}
+use Rattle.termwiz_cell.specs.declared.cell.kind.Kind.{Kind}
+use Rattle.termwiz_cell.specs.declared.cell.kind.Kind.TheVariants as kind
+use Rattle.termwiz_cell.specs.declared.cell.kind.Part.{Part}
+use Rattle.termwiz_cell.specs.declared.cell.kind.Part.TheVariants as part
 use Rattle.termwiz_cell.specs.declared.cell.attributes.CellAttributes.TheInside.{Inside}
 use Rattle.termwiz_cell.specs.Link.{Link, linked}
 use Rattle.termwiz_cell.specs.declared.cell.style.Style.{Style}
@@ -22,20 +26,44 @@ rare_default = record { foreground = color.Default; background = color.Default; 
 abbrev pub rare_eq : Rare → Rare → Bool
 rare_eq a b = color_eq a.foreground b.foreground && (color_eq a.background b.background && (color_eq a.underline_color b.underline_color && option_link_eq a.hyperlink b.hyperlink))
 
-abbrev pub fat_rare : FatAttributes → Rare
-fat_rare f = record { foreground = f.foreground; background = f.background; underline_color = f.underline_color; hyperlink = linked f.hyperlink }
+abbrev pub full_rare : Full → Rare
+full_rare f = record { foreground = f.foreground; background = f.background; underline_color = f.underline_color; hyperlink = linked f.hyperlink }
 
-abbrev pub rare_of : {A : Type 0} → Option (Box FatAttributes A) → Rare
-rare_of None = rare_default
-rare_of (Some b) = fat_rare b.value
+-- the small attributes of either form
+abbrev pub style_in : Kind → Style
+style_in (kind.Plain style) = style
+style_in (kind.Rare b) = b.value.style
+
+-- the rare attributes of either form
+abbrev pub rare_in : Kind → Rare
+rare_in (kind.Plain _) = rare_default
+rare_in (kind.Rare b) = full_rare b.value
+
+-- the form with these small attributes
+abbrev pub with_style : Kind → Style → Kind
+with_style (kind.Plain _) style = kind.Plain style
+with_style (kind.Rare b) style = kind.Rare (record b { value = record b.value { style = style } })
+
+abbrev pub is_boxed : Kind → Bool
+is_boxed (kind.Plain _) = false
+is_boxed (kind.Rare _) = true
+
+abbrev pub has_default_colors : Rare → Bool
+has_default_colors r = is_default r.foreground && (is_default r.background && is_default r.underline_color)
 
 abbrev pub is_rare_default : Rare → Bool
-is_rare_default r = is_default r.foreground && (is_default r.background && (is_default r.underline_color && is_none r.hyperlink))
+is_rare_default r = has_default_colors r && is_none r.hyperlink
+
+-- the rare attributes with one colour set
+abbrev pub with_color : Part → Rare → ColorAttribute → Rare
+with_color part.Foreground r value = record r { foreground = value }
+with_color part.Background r value = record r { background = value }
+with_color part.Underline r value = record r { underline_color = value }
 
 -- the box is there only while an attribute in it is not the default
-abbrev pub IsNeeded : {A : Type 0} → Option (Box FatAttributes A) → Type 0
-IsNeeded None = ⊤
-IsNeeded (Some b) = is_rare_default (fat_rare b.value) ≡ false
+abbrev pub IsNeeded : Kind → Type 0
+IsNeeded (kind.Plain _) = ⊤
+IsNeeded (kind.Rare b) = is_rare_default (full_rare b.value) ≡ false
 
 -- the rare colour, and in its absence the palette's
 abbrev pub shown : ColorAttribute → Option ℕ → ColorAttribute
@@ -84,10 +112,10 @@ attributes_from style rare = record {
 }
 
 abbrev pub attributes_of : Inside → Attributes
-attributes_of a = attributes_from a.style (rare_of a.fat)
+attributes_of a = attributes_from (style_in a.kind) (rare_in a.kind)
 
 -- attributes have one form
 pub record IsSound (a : Inside) : Type 0 where
-  pub needed : IsNeeded a.fat
-  pub foreground : is_apart (rare_of a.fat).foreground a.style.foreground ≡ true
-  pub background : is_apart (rare_of a.fat).background a.style.background ≡ true
+  pub needed : IsNeeded a.kind
+  pub foreground : is_apart (rare_in a.kind).foreground (style_in a.kind).foreground ≡ true
+  pub background : is_apart (rare_in a.kind).background (style_in a.kind).background ≡ true

@@ -8,7 +8,7 @@ ghost use Rattle.termwiz_cell.specs.Width.{at_version, unversioned};
 
 mod attribute_change;
 mod attributes;
-mod fat;
+mod kind;
 mod style;
 mod style_word;
 mod text;

@@ -5,7 +5,7 @@ ghost use Rattle.termwiz_cell.specs.Attributes.{default_attributes, attributes_e
 ghost use Rattle.termwiz_cell.specs.AttributesLayout as spec;
 
 use super::attribute_change::AttributeChange;
-use super::fat::{self, FatAttributes};
+use super::kind::{Kind, Part, clone_link};
 use super::style::{Blink, Intensity, SemanticType, Underline, VerticalAlign};
 use super::style_word::StyleWord;
 use crate::color::ColorAttribute;
@@ -20,8 +20,7 @@ use std::rc::Rc;
 /// memory, which is given back once all of them have their defaults again.
 #[derive(Drop, Debug)]
 pub struct CellAttributes {
-    style: StyleWord,
-    fat: Option<Box<FatAttributes>>,
+    kind: Kind,
 }
 
 impl Model for CellAttributes {
@@ -45,8 +44,7 @@ impl CellAttributes {
         ensures { result ≡ default_attributes }
     {
         CellAttributes {
-            style: StyleWord::blank(),
-            fat: None,
+            kind: Kind::Plain(StyleWord::blank()),
         }
     }
 
@@ -61,14 +59,14 @@ impl CellAttributes {
     pub fn is_blank(&self) -> bool
         ensures { IsTrue result ↔ (self.now ≡ default_attributes) }
     {
-        self.style.is_blank() && self.fat.is_none()
+        self.kind.is_blank()
     }
 
     /// How strong the text is.
     pub fn intensity(&self) -> Intensity
         ensures { result ≡ self.now.intensity }
     {
-        self.style.intensity()
+        self.kind.style().intensity()
     }
 
     /// Sets how strong the text is.
@@ -76,7 +74,9 @@ impl CellAttributes {
         ensures same_reference { result.ghost_name ≡ self.entry.ghost_name }
         ensures value { result.now ≡ record self.old { intensity = value } }
     {
-        self.style.set_intensity(value);
+        let mut style = self.kind.style().copied();
+        style.set_intensity(value);
+        self.kind.set_style(style);
         self
     }
 
@@ -84,7 +84,7 @@ impl CellAttributes {
     pub fn underline(&self) -> Underline
         ensures { result ≡ self.now.underline }
     {
-        self.style.underline()
+        self.kind.style().underline()
     }
 
     /// Sets how the text is underlined.
@@ -92,7 +92,9 @@ impl CellAttributes {
         ensures same_reference { result.ghost_name ≡ self.entry.ghost_name }
         ensures value { result.now ≡ record self.old { underline = value } }
     {
-        self.style.set_underline(value);
+        let mut style = self.kind.style().copied();
+        style.set_underline(value);
+        self.kind.set_style(style);
         self
     }
 
@@ -100,7 +102,7 @@ impl CellAttributes {
     pub fn blink(&self) -> Blink
         ensures { result ≡ self.now.blink }
     {
-        self.style.blink()
+        self.kind.style().blink()
     }
 
     /// Sets how fast the text blinks.
@@ -108,7 +110,9 @@ impl CellAttributes {
         ensures same_reference { result.ghost_name ≡ self.entry.ghost_name }
         ensures value { result.now ≡ record self.old { blink = value } }
     {
-        self.style.set_blink(value);
+        let mut style = self.kind.style().copied();
+        style.set_blink(value);
+        self.kind.set_style(style);
         self
     }
 
@@ -116,7 +120,7 @@ impl CellAttributes {
     pub fn italic(&self) -> bool
         ensures { result ≡ self.now.italic }
     {
-        self.style.italic()
+        self.kind.style().italic()
     }
 
     /// Sets whether the text is slanted.
@@ -124,7 +128,9 @@ impl CellAttributes {
         ensures same_reference { result.ghost_name ≡ self.entry.ghost_name }
         ensures value { result.now ≡ record self.old { italic = value } }
     {
-        self.style.set_italic(value);
+        let mut style = self.kind.style().copied();
+        style.set_italic(value);
+        self.kind.set_style(style);
         self
     }
 
@@ -132,7 +138,7 @@ impl CellAttributes {
     pub fn reverse(&self) -> bool
         ensures { result ≡ self.now.reverse }
     {
-        self.style.reverse()
+        self.kind.style().reverse()
     }
 
     /// Sets whether the colours of text and background are exchanged.
@@ -140,7 +146,9 @@ impl CellAttributes {
         ensures same_reference { result.ghost_name ≡ self.entry.ghost_name }
         ensures value { result.now ≡ record self.old { reverse = value } }
     {
-        self.style.set_reverse(value);
+        let mut style = self.kind.style().copied();
+        style.set_reverse(value);
+        self.kind.set_style(style);
         self
     }
 
@@ -148,7 +156,7 @@ impl CellAttributes {
     pub fn strikethrough(&self) -> bool
         ensures { result ≡ self.now.strikethrough }
     {
-        self.style.strikethrough()
+        self.kind.style().strikethrough()
     }
 
     /// Sets whether the text is struck through.
@@ -156,7 +164,9 @@ impl CellAttributes {
         ensures same_reference { result.ghost_name ≡ self.entry.ghost_name }
         ensures value { result.now ≡ record self.old { strikethrough = value } }
     {
-        self.style.set_strikethrough(value);
+        let mut style = self.kind.style().copied();
+        style.set_strikethrough(value);
+        self.kind.set_style(style);
         self
     }
 
@@ -164,7 +174,7 @@ impl CellAttributes {
     pub fn invisible(&self) -> bool
         ensures { result ≡ self.now.invisible }
     {
-        self.style.invisible()
+        self.kind.style().invisible()
     }
 
     /// Sets whether the text is hidden.
@@ -172,7 +182,9 @@ impl CellAttributes {
         ensures same_reference { result.ghost_name ≡ self.entry.ghost_name }
         ensures value { result.now ≡ record self.old { invisible = value } }
     {
-        self.style.set_invisible(value);
+        let mut style = self.kind.style().copied();
+        style.set_invisible(value);
+        self.kind.set_style(style);
         self
     }
 
@@ -180,7 +192,7 @@ impl CellAttributes {
     pub fn wrapped(&self) -> bool
         ensures { result ≡ self.now.wrapped }
     {
-        self.style.wrapped()
+        self.kind.style().wrapped()
     }
 
     /// Sets whether the row was wrapped behind this cell.
@@ -188,7 +200,9 @@ impl CellAttributes {
         ensures same_reference { result.ghost_name ≡ self.entry.ghost_name }
         ensures value { result.now ≡ record self.old { wrapped = value } }
     {
-        self.style.set_wrapped(value);
+        let mut style = self.kind.style().copied();
+        style.set_wrapped(value);
+        self.kind.set_style(style);
         self
     }
 
@@ -196,7 +210,7 @@ impl CellAttributes {
     pub fn overline(&self) -> bool
         ensures { result ≡ self.now.overline }
     {
-        self.style.overline()
+        self.kind.style().overline()
     }
 
     /// Sets whether a line stands above the text.
@@ -204,7 +218,9 @@ impl CellAttributes {
         ensures same_reference { result.ghost_name ≡ self.entry.ghost_name }
         ensures value { result.now ≡ record self.old { overline = value } }
     {
-        self.style.set_overline(value);
+        let mut style = self.kind.style().copied();
+        style.set_overline(value);
+        self.kind.set_style(style);
         self
     }
 
@@ -212,7 +228,7 @@ impl CellAttributes {
     pub fn semantic_type(&self) -> SemanticType
         ensures { result ≡ self.now.semantic_type }
     {
-        self.style.semantic_type()
+        self.kind.style().semantic_type()
     }
 
     /// Sets what the text is to its reader.
@@ -220,7 +236,9 @@ impl CellAttributes {
         ensures same_reference { result.ghost_name ≡ self.entry.ghost_name }
         ensures value { result.now ≡ record self.old { semantic_type = value } }
     {
-        self.style.set_semantic_type(value);
+        let mut style = self.kind.style().copied();
+        style.set_semantic_type(value);
+        self.kind.set_style(style);
         self
     }
 
@@ -228,7 +246,7 @@ impl CellAttributes {
     pub fn vertical_align(&self) -> VerticalAlign
         ensures { result ≡ self.now.vertical_align }
     {
-        self.style.vertical_align()
+        self.kind.style().vertical_align()
     }
 
     /// Sets where the text stands on its line.
@@ -236,7 +254,9 @@ impl CellAttributes {
         ensures same_reference { result.ghost_name ≡ self.entry.ghost_name }
         ensures value { result.now ≡ record self.old { vertical_align = value } }
     {
-        self.style.set_vertical_align(value);
+        let mut style = self.kind.style().copied();
+        style.set_vertical_align(value);
+        self.kind.set_style(style);
         self
     }
 
@@ -244,7 +264,7 @@ impl CellAttributes {
     pub fn foreground(&self) -> ColorAttribute
         ensures { result ≡ self.now.foreground }
     {
-        shown(fat::foreground(&self.fat), self.style.foreground())
+        shown(self.kind.foreground(), self.kind.style().foreground())
     }
 
     /// Sets the foreground as `change_foreground` does, which says that nothing changed at an error.
@@ -275,8 +295,10 @@ impl CellAttributes {
         ensures succeeds { needs_box (record self.old { foreground = value }) ≡ false → IsOk result }
     {
         let palette = palette_part(&value);
-        fat::set_foreground(&mut self.fat, alloc, rare_part(value))?;
-        self.style.set_foreground(palette);
+        self.kind.set_color(alloc, Part::Foreground, rare_part(value))?;
+        let mut style = self.kind.style().copied();
+        style.set_foreground(palette);
+        self.kind.set_style(style);
         Ok(())
     }
 
@@ -284,7 +306,7 @@ impl CellAttributes {
     pub fn background(&self) -> ColorAttribute
         ensures { result ≡ self.now.background }
     {
-        shown(fat::background(&self.fat), self.style.background())
+        shown(self.kind.background(), self.kind.style().background())
     }
 
     /// Sets the background as `change_background` does, which says that nothing changed at an error.
@@ -315,8 +337,10 @@ impl CellAttributes {
         ensures succeeds { needs_box (record self.old { background = value }) ≡ false → IsOk result }
     {
         let palette = palette_part(&value);
-        fat::set_background(&mut self.fat, alloc, rare_part(value))?;
-        self.style.set_background(palette);
+        self.kind.set_color(alloc, Part::Background, rare_part(value))?;
+        let mut style = self.kind.style().copied();
+        style.set_background(palette);
+        self.kind.set_style(style);
         Ok(())
     }
 
@@ -324,7 +348,7 @@ impl CellAttributes {
     pub fn underline_color(&self) -> ColorAttribute
         ensures { result ≡ self.now.underline_color }
     {
-        fat::underline_color(&self.fat)
+        self.kind.underline_color()
     }
 
     /// Sets the underline colour as `change_underline_color` does, which says that nothing changed at an error.
@@ -354,14 +378,14 @@ impl CellAttributes {
         ensures boxed { needs_box self.old ≡ true → IsOk result }
         ensures succeeds { needs_box (record self.old { underline_color = value }) ≡ false → IsOk result }
     {
-        fat::set_underline_color(&mut self.fat, alloc, value)
+        self.kind.set_color(alloc, Part::Underline, value)
     }
 
     /// The link of the text.
     pub fn hyperlink(&self) -> Option<&Rc<Hyperlink>>
         ensures { option_map (λ rc. rc.now.value) result ≡ self.now.hyperlink }
     {
-        fat::hyperlink(&self.fat)
+        self.kind.hyperlink()
     }
 
     /// Sets the link as `change_hyperlink` does, which says that nothing changed at an error.
@@ -391,7 +415,7 @@ impl CellAttributes {
         ensures boxed { needs_box self.old ≡ true → IsOk result }
         ensures succeeds { needs_box (record self.old { hyperlink = linked value }) ≡ false → IsOk result }
     {
-        fat::set_hyperlink(&mut self.fat, alloc, value)
+        self.kind.set_hyperlink(alloc, value)
     }
 
     /// A copy with no zone, underline, overline, strike through and link: the attributes with
@@ -400,11 +424,8 @@ impl CellAttributes {
         ensures ok { IfOk result (λ copy. copy ≡ sgr_only self.now) }
         ensures succeeds { needs_box (sgr_only self.now) ≡ false → IsOk result }
     {
-        let fat = fat::clone_colors(alloc, &self.fat)?;
-        Ok(CellAttributes {
-            style: self.style.sgr_only(),
-            fat,
-        })
+        let kind = self.kind.sgr_only(alloc)?;
+        Ok(CellAttributes { kind })
     }
 
     /// Applies a change of one attribute. At an error nothing changed. It can only fail where
@@ -443,7 +464,7 @@ impl CellAttributes {
             AttributeChange::Foreground(value) => self.change_foreground(alloc, *value)?,
             AttributeChange::Background(value) => self.change_background(alloc, *value)?,
             AttributeChange::Hyperlink(value) => {
-                let link = fat::clone_link(value)?;
+                let link = clone_link(value)?;
                 self.change_hyperlink(alloc, link)?;
             }
         }
@@ -454,13 +475,13 @@ impl CellAttributes {
     pub fn attribute_bits_equal(&self, other: &CellAttributes) -> bool
         ensures { IsTrue result ↔ (without_colors self.now ≡ without_colors other.now) }
     {
-        self.style.has_same_bits(&other.style)
+        self.kind.style().has_same_bits(other.kind.style())
     }
 
     fn is_same(&self, other: &CellAttributes) -> bool
         ensures { result ≡ attributes_eq self.now other.now }
     {
-        self.style.is_same(&other.style) && fat::is_same_fat(&self.fat, &other.fat)
+        self.kind.is_same(&other.kind)
     }
 }
 
@@ -500,11 +521,8 @@ impl Clone for CellAttributes {
     ghost is_infallible = { λ a. needs_box a ≡ false };
 
     fn clone(&self) -> Result<CellAttributes, AllocError> {
-        let fat = fat::clone_fat(&self.fat)?;
-        Ok(CellAttributes {
-            style: self.style.copied(),
-            fat,
-        })
+        let kind = self.kind.copied()?;
+        Ok(CellAttributes { kind })
     }
 }
 

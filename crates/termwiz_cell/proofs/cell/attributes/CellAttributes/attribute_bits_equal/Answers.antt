@@ -5,4 +5,5 @@ use Rattle.termwiz_cell.proofs.cell.attributes.CellAttributes.attribute_bits_equ
 pub returns : goal.returns
 returns c =
     let same = same-bits (attributes_of c.self.inside) (attributes_of c.other.inside) in
-    rw (← c.self.view_is, ← c.other.view_is) (λ e. same.0 (c.has_same_bits.ensures.0 e), λ e. c.has_same_bits.ensures.1 (same.1 e))
+    let bits = rw (c.style.ensures, c.style-2.ensures) at c.has_same_bits.ensures in
+    rw (← c.self.view_is, ← c.other.view_is) (λ e. same.0 (bits.0 e), λ e. bits.1 (same.1 e))

@@ -1,0 +1,323 @@
+//! The two forms of attributes: a word alone, and a box with the word and the attributes that few
+//! cells have, which is there only while one of those is not the default.
+ghost use Rattle.std.specs.Prelude.{◌≡◌, ◌↔◌, IsTrue, IsNone, IsOk, IfOk, OnOk, OnErr, None, true, false, option_map};
+ghost use Rattle.termwiz_cell.specs.Attributes.{option_link_eq, is_default};
+ghost use Rattle.termwiz_cell.specs.AttributesLayout as spec;
+ghost use Rattle.termwiz_cell.specs.Link.{linked};
+ghost use Rattle.termwiz_cell.specs.StyleWord.{style_at, style_sgr_only};
+
+use super::style_word::StyleWord;
+use crate::color::{ColorAttribute, is_same_color};
+use crate::hyperlink::Hyperlink;
+use std::alloc::{AllocError, Global};
+use std::rc::Rc;
+
+#[derive(Drop, Debug)]
+pub(super) enum Kind {
+    Plain(StyleWord),
+    Rare(Box<Full>),
+}
+
+#[derive(Drop, Debug)]
+pub(super) struct Full {
+    pub(super) style: StyleWord,
+    pub(super) foreground: ColorAttribute,
+    pub(super) background: ColorAttribute,
+    pub(super) underline_color: ColorAttribute,
+    pub(super) hyperlink: Option<Rc<Hyperlink>>,
+}
+
+/// Which of the rare colours.
+#[derive(Clone, Copy, Debug)]
+pub(super) enum Part {
+    Foreground,
+    Background,
+    Underline,
+}
+
+impl Full {
+    fn new(style: StyleWord) -> Full
+        ensures rare { spec.full_rare result ≡ spec.rare_default }
+        ensures style { result.style ≡ style }
+    {
+        Full {
+            style,
+            foreground: ColorAttribute::Default,
+            background: ColorAttribute::Default,
+            underline_color: ColorAttribute::Default,
+            hyperlink: None,
+        }
+    }
+
+    fn put(&mut self, part: Part, value: ColorAttribute)
+        ensures rare { spec.full_rare self.new ≡ spec.with_color part (spec.full_rare self.old) value }
+        ensures style { self.new.style ≡ self.old.style }
+    {
+        match part {
+            Part::Foreground => self.foreground = value,
+            Part::Background => self.background = value,
+            Part::Underline => self.underline_color = value,
+        }
+    }
+
+    fn is_default(&self) -> bool
+        ensures { result ≡ spec.is_rare_default (spec.full_rare self.now) }
+    {
+        self.has_default_colors() && self.hyperlink.is_none()
+    }
+
+    fn has_default_colors(&self) -> bool
+        ensures { result ≡ spec.has_default_colors (spec.full_rare self.now) }
+    {
+        is_default_color(self.foreground)
+            && is_default_color(self.background)
+            && is_default_color(self.underline_color)
+    }
+
+    fn is_same_rare(&self, other: &Full) -> bool
+        ensures { IsTrue result ↔ (spec.full_rare self.now ≡ spec.full_rare other.now) }
+    {
+        self.has_same_parts(other)
+    }
+
+    fn has_same_parts(&self, other: &Full) -> bool
+        ensures { result ≡ spec.rare_eq (spec.full_rare self.now) (spec.full_rare other.now) }
+    {
+        is_same_color(self.foreground, other.foreground)
+            && is_same_color(self.background, other.background)
+            && is_same_color(self.underline_color, other.underline_color)
+            && is_same_link(self.hyperlink.as_ref(), other.hyperlink.as_ref())
+    }
+}
+
+impl Kind {
+    /// The small attributes.
+    pub(super) fn style(&self) -> &StyleWord
+        ensures { result.now ≡ spec.style_in self.now }
+    {
+        match self {
+            Kind::Plain(style) => style,
+            Kind::Rare(full) => &full.style,
+        }
+    }
+
+    /// Puts these small attributes in the place of those that were there.
+    pub(super) fn set_style(&mut self, value: StyleWord)
+        ensures { self.new ≡ spec.with_style self.old value }
+    {
+        match self {
+            Kind::Plain(style) => *style = value,
+            Kind::Rare(full) => full.style = value,
+        }
+    }
+
+    /// Whether all attributes have their defaults.
+    pub(super) fn is_blank(&self) -> bool
+        requires { spec.IsNeeded self.now }
+        ensures { IsTrue result ↔ ((spec.style_in self.now ≡ style_at 0) × (spec.rare_in self.now ≡ spec.rare_default)) }
+    {
+        match self {
+            Kind::Plain(style) => style.is_blank(),
+            Kind::Rare(_) => false,
+        }
+    }
+
+    /// The rare foreground.
+    pub(super) fn foreground(&self) -> ColorAttribute
+        ensures { result ≡ (spec.rare_in self.now).foreground }
+    {
+        match self {
+            Kind::Plain(_) => ColorAttribute::Default,
+            Kind::Rare(full) => full.foreground,
+        }
+    }
+
+    /// The rare background.
+    pub(super) fn background(&self) -> ColorAttribute
+        ensures { result ≡ (spec.rare_in self.now).background }
+    {
+        match self {
+            Kind::Plain(_) => ColorAttribute::Default,
+            Kind::Rare(full) => full.background,
+        }
+    }
+
+    /// The underline colour.
+    pub(super) fn underline_color(&self) -> ColorAttribute
+        ensures { result ≡ (spec.rare_in self.now).underline_color }
+    {
+        match self {
+            Kind::Plain(_) => ColorAttribute::Default,
+            Kind::Rare(full) => full.underline_color,
+        }
+    }
+
+    /// The link.
+    pub(super) fn hyperlink(&self) -> Option<&Rc<Hyperlink>>
+        ensures { option_map (λ rc. rc.now.value) result ≡ (spec.rare_in self.now).hyperlink }
+    {
+        match self {
+            Kind::Plain(_) => None,
+            Kind::Rare(full) => full.hyperlink.as_ref(),
+        }
+    }
+
+    /// Sets one of the rare colours. It can only fail where a box is needed that was not there.
+    #[tactic(auto, using(crate::proofs::Boxes::rare_default_only))]
+    pub(super) fn set_color(
+        &mut self,
+        alloc: Global,
+        part: Part,
+        value: ColorAttribute,
+    ) -> Result<(), AllocError>
+        requires { spec.IsNeeded self.old }
+        ensures ok { OnOk result (spec.rare_in self.new ≡ spec.with_color part (spec.rare_in self.old) value) }
+        ensures err { OnErr result (spec.rare_in self.new ≡ spec.rare_in self.old) }
+        ensures style { spec.style_in self.new ≡ spec.style_in self.old }
+        ensures needed { spec.IsNeeded self.new }
+        ensures boxed { IsTrue (spec.is_boxed self.old) → IsOk result }
+        ensures succeeds { spec.is_rare_default (spec.with_color part (spec.rare_in self.old) value) ≡ true → IsOk result }
+    {
+        match self {
+            Kind::Plain(style) => {
+                let mut full = Full::new(style.copied());
+                full.put(part, value);
+                if !full.is_default() {
+                    *self = Kind::Rare(Box::new(alloc, full)?);
+                }
+            }
+            Kind::Rare(full) => {
+                full.put(part, value);
+                if full.is_default() {
+                    *self = Kind::Plain(full.style.copied());
+                }
+            }
+        }
+        Ok(())
+    }
+
+    /// Sets the link. It can only fail where a box is needed that was not there.
+    pub(super) fn set_hyperlink(
+        &mut self,
+        alloc: Global,
+        value: Option<Rc<Hyperlink>>,
+    ) -> Result<(), AllocError>
+        requires { spec.IsNeeded self.old }
+        ensures ok { OnOk result (spec.rare_in self.new ≡ record (spec.rare_in self.old) { hyperlink = linked value }) }
+        ensures err { OnErr result (spec.rare_in self.new ≡ spec.rare_in self.old) }
+        ensures style { spec.style_in self.new ≡ spec.style_in self.old }
+        ensures needed { spec.IsNeeded self.new }
+        ensures boxed { IsTrue (spec.is_boxed self.old) → IsOk result }
+        ensures succeeds { IsNone value → IsOk result }
+    {
+        match self {
+            Kind::Plain(style) => {
+                if value.is_some() {
+                    let mut full = Full::new(style.copied());
+                    full.hyperlink = value;
+                    *self = Kind::Rare(Box::new(alloc, full)?);
+                }
+            }
+            Kind::Rare(full) => {
+                full.hyperlink = value;
+                if full.is_default() {
+                    *self = Kind::Plain(full.style.copied());
+                }
+            }
+        }
+        Ok(())
+    }
+
+    /// Whether both are the same attributes.
+    pub(super) fn is_same(&self, other: &Kind) -> bool
+        requires self_needed { spec.IsNeeded self.now }
+        requires other_needed { spec.IsNeeded other.now }
+        ensures { IsTrue result ↔ ((spec.style_in self.now ≡ spec.style_in other.now) × (spec.rare_in self.now ≡ spec.rare_in other.now)) }
+    {
+        match (self, other) {
+            (Kind::Plain(a), Kind::Plain(b)) => a.is_same(b),
+            (Kind::Rare(a), Kind::Rare(b)) => a.style.is_same(&b.style) && a.is_same_rare(b),
+            _ => false,
+        }
+    }
+
+    /// A copy. It can only fail where it needs a box.
+    pub(super) fn copied(&self) -> Result<Kind, AllocError>
+        requires { spec.IsNeeded self.now }
+        ensures style { IfOk result (λ copy. spec.style_in copy ≡ spec.style_in self.now) }
+        ensures rare { IfOk result (λ copy. spec.rare_in copy ≡ spec.rare_in self.now) }
+        ensures needed { IfOk result (λ copy. spec.IsNeeded copy) }
+        ensures succeeds { spec.is_boxed self.now ≡ false → IsOk result }
+    {
+        match self {
+            Kind::Plain(style) => Ok(Kind::Plain(style.copied())),
+            Kind::Rare(full) => {
+                let hyperlink = clone_link(&full.hyperlink)?;
+                let copy = Full {
+                    style: full.style.copied(),
+                    foreground: full.foreground,
+                    background: full.background,
+                    underline_color: full.underline_color,
+                    hyperlink,
+                };
+                Ok(Kind::Rare(Box::new(*Box::allocator(full), copy)?))
+            }
+        }
+    }
+
+    /// A copy with no zone, underline, overline, strike through and link. It can only fail where
+    /// the copy needs a box.
+    pub(super) fn sgr_only(&self, alloc: Global) -> Result<Kind, AllocError>
+        ensures style { IfOk result (λ copy. spec.style_in copy ≡ style_sgr_only (spec.style_in self.now)) }
+        ensures rare { IfOk result (λ copy. spec.rare_in copy ≡ record (spec.rare_in self.now) { hyperlink = None }) }
+        ensures needed { IfOk result (λ copy. spec.IsNeeded copy) }
+        ensures succeeds { spec.is_rare_default (record (spec.rare_in self.now) { hyperlink = None }) ≡ true → IsOk result }
+    {
+        let style = self.style().sgr_only();
+        match self {
+            Kind::Plain(_) => Ok(Kind::Plain(style)),
+            Kind::Rare(full) => {
+                if full.has_default_colors() {
+                    return Ok(Kind::Plain(style));
+                }
+                let copy = Full {
+                    style,
+                    foreground: full.foreground,
+                    background: full.background,
+                    underline_color: full.underline_color,
+                    hyperlink: None,
+                };
+                Ok(Kind::Rare(Box::new(alloc, copy)?))
+            }
+        }
+    }
+}
+
+pub(super) fn clone_link(link: &Option<Rc<Hyperlink>>) -> Result<Option<Rc<Hyperlink>>, AllocError>
+    ensures ok { IfOk result (λ copy. linked copy ≡ linked link.now) }
+    ensures succeeds { IsNone link.now → IsOk result }
+{
+    match link {
+        None => Ok(None),
+        Some(link) => {
+            let copy = link.clone()?;
+            Ok(Some(copy))
+        }
+    }
+}
+
+fn is_default_color(color: ColorAttribute) -> bool
+    ensures { result ≡ is_default color }
+{
+    matches!(color, ColorAttribute::Default)
+}
+
+pub(super) fn is_same_link(a: Option<&Rc<Hyperlink>>, b: Option<&Rc<Hyperlink>>) -> bool
+    ensures { result ≡ option_link_eq (option_map (λ rc. rc.now.value) a.entry) (option_map (λ rc. rc.now.value) b.entry) }
+{
+    match (a, b) {
+        (None, None) => true,
+        (Some(a), Some(b)) => **a == **b,
+        _ => false,
+    }
+}

@@ -1,17 +1,27 @@
 -- How the fields of a `Cell` give the cell.
-use Rattle.std.specs.Prelude.{◌≡◌, ℕ, false, List, Option, Some, None, String, string_bytes, bytes_eq, ⊤}
+use Rattle.std.specs.Prelude.{◌≡◌, ℕ, ◌≤◌, Bool, true, false, List, length, string_bytes}
 use Rattle.termwiz_cell.specs.declared.cell.Cell.TheInside.{Inside}
-use Rattle.termwiz_cell.specs.CellValue.{CellValue, clean, space}
+use Rattle.termwiz_cell.specs.declared.cell.text.CellText.{CellText}
+use Rattle.termwiz_cell.specs.declared.cell.text.CellText.TheVariants.{Narrow, Wide, Long}
+use Rattle.termwiz_cell.specs.CellValue.{CellValue, clean}
 
--- the bytes of a text, where none is a space
-abbrev pub text_of : {A : Type 0} → Option (String A) → List ℕ
-text_of None = space
-text_of (Some text) = string_bytes text
+-- the bytes of a text in either form
+abbrev pub text_in : CellText → List ℕ
+text_in (Narrow short) = short.bytes
+text_in (Wide short) = short.bytes
+text_in (Long b) = string_bytes b.value.text
 
--- a space is stored as none, and another text is clean
-abbrev pub IsStoredText : {A : Type 0} → Option (String A) → Type 0
-IsStoredText None = ⊤
-IsStoredText (Some text) = (bytes_eq (string_bytes text) space ≡ false) × (clean (string_bytes text) ≡ string_bytes text)
+-- whether it takes two columns
+abbrev pub wide_in : CellText → Bool
+wide_in (Narrow _) = false
+wide_in (Wide _) = true
+wide_in (Long b) = b.value.wide
+
+-- a text is clean, and only one of more than seven bytes is on the heap
+abbrev pub IsStored : CellText → Type 0
+IsStored (Narrow short) = clean short.bytes ≡ short.bytes
+IsStored (Wide short) = clean short.bytes ≡ short.bytes
+IsStored (Long b) = (clean (string_bytes b.value.text) ≡ string_bytes b.value.text) × (8 ≤ length (string_bytes b.value.text))
 
 abbrev pub cell_value : Inside → CellValue
-cell_value c = record { text = text_of c.text; wide = c.wide; attrs = c.attrs }
+cell_value c = record { text = text_in c.text; wide = wide_in c.text; attrs = c.attrs }

@@ -1,5 +1,5 @@
 //! Cells.
-ghost use Rattle.std.specs.Prelude.{◌≡◌, ◌↔◌, ◌≤◌, false, IsTrue, IfOk, IsOk, encode_utf8, unwrap_or};
+ghost use Rattle.std.specs.Prelude.{◌≡◌, ◌↔◌, ◌≤◌, false, IsTrue, IfOk, IsOk, length, encode_utf8, unwrap_or};
 ghost use Rattle.std.specs.Borrow.{sem};
 ghost use Rattle.std.specs.Cmp.{decided, partial_equiv_from_equiv};
 ghost use Rattle.termwiz_cell.specs.CellValue.{space, blank, blank_of, clean, cell_of, measured, columns, cell_eq, cell_eq-Decides};
@@ -19,37 +19,35 @@ pub use attributes::CellAttributes;
 use std::alloc::{AllocError, Global};
 use std::marker::Model;
 pub use style::{Blink, Intensity, SemanticType, Underline, VerticalAlign};
-use text::{cleaned, copied_text, is_same_text, shown_text, stored_text};
+use text::{CellText, cleaned};
 
 /// One cell of a screen: a text, which takes one or two columns, and its attributes.
 ///
 /// The text is mostly one grapheme. The empty text, CR LF and each single control character
-/// become a space, so each cell can be shown, and a width of 0 becomes 1. A space takes no
-/// memory.
+/// become a space, so each cell can be shown, and a width of 0 becomes 1. A text of at most
+/// seven bytes takes no memory.
 #[derive(Drop, Debug)]
 pub struct Cell {
-    // None for one space, which then takes no memory.
-    text: Option<String>,
-    wide: bool,
+    text: CellText,
     attrs: CellAttributes,
 }
 
 impl Model for Cell {
     ghost use Rattle.termwiz_cell.specs.CellValue.{CellValue};
-    ghost use Rattle.termwiz_cell.specs.CellLayout.{cell_value, IsStoredText};
+    ghost use Rattle.termwiz_cell.specs.CellLayout.{cell_value, IsStored};
 
     ghost Value = { CellValue };
 
     ghost view = { cell_value };
 
-    ghost invariant = { λ c. IsStoredText c.text };
+    ghost invariant = { λ c. IsStored c.text };
 }
 
 impl Cell {
     ghost use Rattle.termwiz_cell.specs.Lending.{LendsAttrs};
 
-    /// The cell of a character, as wide as the width value says. It can only fail where the
-    /// cell's text is no space.
+    /// The cell of a character, as wide as the width value says. It never fails.
+    #[tactic(auto, using(crate::proofs::Cleaned::length_clean))]
     pub fn new<W: Widths>(
         alloc: Global,
         widths: &W,
@@ -57,7 +55,7 @@ impl Cell {
         attrs: CellAttributes,
     ) -> Result<Cell, AllocError>
         ensures ok { IfOk result (λ cell. cell ≡ measured (unversioned (W.width_of widths.now)) (encode_utf8 c) attrs) }
-        ensures succeeds { clean (encode_utf8 c) ≡ space → IsOk result }
+        ensures succeeds { IsOk result }
     {
         let mut buffer = [0; 4];
         let text = c.encode_utf8(&mut buffer);
@@ -76,14 +74,13 @@ impl Cell {
         ensures { result ≡ blank_of attrs }
     {
         Cell {
-            text: None,
-            wide: false,
+            text: CellText::blank(),
             attrs,
         }
     }
 
     /// The cell of a text, as wide as the width value says by that version of Unicode. It can
-    /// only fail where the text is no space.
+    /// only fail where the cell's text is longer than seven bytes.
     #[tactic(auto, using(crate::proofs::Cleaned::clean_clean))]
     pub fn new_grapheme<W: Widths>(
         alloc: Global,
@@ -93,7 +90,7 @@ impl Cell {
         version: Option<UnicodeVersion>,
     ) -> Result<Cell, AllocError>
         ensures ok { IfOk result (λ cell. cell ≡ measured (at_version (W.width_of widths.now) version) text.now attrs) }
-        ensures succeeds { clean text.now ≡ space → IsOk result }
+        ensures succeeds { length (clean text.now) ≤ 7 → IsOk result }
     {
         let text = cleaned(text);
         let width = widths.width(text, version);
@@ -101,7 +98,7 @@ impl Cell {
     }
 
     /// The cell of a text that was given a width, of which 0 becomes 1. It can only fail where
-    /// the text is no space.
+    /// the cell's text is longer than seven bytes.
     #[tactic(auto, using(crate::proofs::Cleaned::clean_clean))]
     pub fn new_grapheme_with_width(
         alloc: Global,
@@ -111,7 +108,7 @@ impl Cell {
     ) -> Result<Cell, AllocError>
         requires { width ≤ 2 }
         ensures ok { IfOk result (λ cell. cell ≡ cell_of text.now width attrs) }
-        ensures succeeds { clean text.now ≡ space → IsOk result }
+        ensures succeeds { length (clean text.now) ≤ 7 → IsOk result }
     {
         Cell::with_clean_text(alloc, cleaned(text), width > 1, attrs)
     }
@@ -124,10 +121,10 @@ impl Cell {
     ) -> Result<Cell, AllocError>
         requires { clean text.now ≡ text.now }
         ensures ok { IfOk result (λ cell. cell ≡ record { text = text.now; wide = wide; attrs = attrs }) }
-        ensures succeeds { text.now ≡ space → IsOk result }
+        ensures succeeds { length text.now ≤ 7 → IsOk result }
     {
-        let text = stored_text(alloc, text)?;
-        Ok(Cell { text, wide, attrs })
+        let text = CellText::new(alloc, text, wide)?;
+        Ok(Cell { text, attrs })
     }
 
     /// The text, which is no control character, CR LF or empty text.
@@ -135,7 +132,7 @@ impl Cell {
         ensures text { result.now ≡ self.now.text }
         ensures clean { clean result.now ≡ result.now }
     {
-        shown_text(&self.text)
+        self.text.str()
     }
 
     /// The columns that the cell takes: 1 or 2.
@@ -144,7 +141,7 @@ impl Cell {
         ensures low { 1 ≤ result }
         ensures high { result ≤ 2 }
     {
-        if self.wide { 2 } else { 1 }
+        if self.text.is_wide() { 2 } else { 1 }
     }
 
     /// The attributes.
@@ -166,7 +163,7 @@ impl Cell {
     pub fn is_blank(&self) -> bool
         ensures { IsTrue result ↔ (self.now ≡ blank) }
     {
-        self.text.is_none() && !self.wide && self.attrs.is_blank()
+        self.text.is_blank() && self.attrs.is_blank()
     }
 
     /// How the text is shown: by its variation, where it has one.
@@ -181,16 +178,12 @@ impl Cell {
 impl Clone for Cell {
     ghost is_clone = { λ a b. b ≡ a };
 
-    ghost is_infallible = { λ cell. (cell.text ≡ space) × (needs_box cell.attrs ≡ false) };
+    ghost is_infallible = { λ cell. (length cell.text ≤ 7) × (needs_box cell.attrs ≡ false) };
 
     fn clone(&self) -> Result<Cell, AllocError> {
-        let text = copied_text(&self.text)?;
+        let text = self.text.copied()?;
         let attrs = self.attrs.clone()?;
-        Ok(Cell {
-            text,
-            wide: self.wide,
-            attrs,
-        })
+        Ok(Cell { text, attrs })
     }
 }
 
@@ -215,8 +208,7 @@ impl Cell {
     fn is_same(&self, other: &Cell) -> bool
         ensures { result ≡ cell_eq self.now other.now }
     {
-        is_same_text(&self.text, &other.text)
-            && (self.wide == other.wide && self.attrs == other.attrs)
+        self.text.is_same(&other.text) && self.attrs == other.attrs
     }
 }
 

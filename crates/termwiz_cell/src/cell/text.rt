@@ -1,9 +1,26 @@
-//! The text of a cell, where none is a space.
-ghost use Rattle.std.specs.Prelude.{◌≡◌, ◌↔◌, IsTrue, IfOk, IsNone, IsOk, bytes_eq};
-ghost use Rattle.termwiz_cell.specs.CellLayout.{text_of, IsStoredText};
+//! The text of a cell, and whether it takes two columns.
+ghost use Rattle.std.specs.Prelude.{◌≡◌, ◌↔◌, ◌≤◌, ◌&&◌, ◌∷◌, [], length, false, IsTrue, IfOk, IsOk, bytes_eq};
+ghost use Rattle.std.specs.Bool.{beq};
+ghost use Rattle.termwiz_cell.specs.CellLayout.{text_in, wide_in, IsStored};
 ghost use Rattle.termwiz_cell.specs.CellValue.{clean, space};
 
+use arrayvec::ArrayString;
 use std::alloc::{AllocError, Global};
+
+/// The text of a cell, and whether it takes two columns. A text of at most seven bytes stands in
+/// the value itself, and a longer one on the heap.
+#[derive(Drop, Debug)]
+pub(super) enum CellText {
+    Narrow(ArrayString<7>),
+    Wide(ArrayString<7>),
+    Long(Box<LongText>),
+}
+
+#[derive(Drop, Debug)]
+pub(super) struct LongText {
+    pub(super) text: String,
+    pub(super) wide: bool,
+}
 
 /// The text without controls: each control character, CR LF and the empty text is a space.
 pub(super) fn cleaned(text: &str) -> &str
@@ -16,53 +33,100 @@ pub(super) fn cleaned(text: &str) -> &str
     }
 }
 
-pub(super) fn stored_text(alloc: Global, text: &str) -> Result<Option<String>, AllocError>
-    requires { clean text.now ≡ text.now }
-    ensures text { IfOk result (λ stored. text_of stored ≡ text.now) }
-    ensures stored { IfOk result (λ stored. IsStoredText stored) }
-    ensures succeeds { text.now ≡ space → IsOk result }
-{
-    if text == " " {
-        return Ok(None);
+impl CellText {
+    /// A space of one column.
+    pub(super) fn blank() -> CellText
+        ensures text { text_in result ≡ space }
+        ensures narrow { wide_in result ≡ false }
+        ensures stored { IsStored result }
+    {
+        let mut short = ArrayString::new();
+        short.push(' ');
+        CellText::Narrow(short)
     }
-    let stored = String::from_str(alloc, text)?;
-    Ok(Some(stored))
-}
 
-pub(super) fn shown_text(text: &Option<String>) -> &str
-    requires { IsStoredText text.now }
-    ensures text { result.now ≡ text_of text.now }
-    ensures clean { clean result.now ≡ result.now }
-{
-    match text {
-        None => " ",
-        Some(text) => text.as_str(),
+    /// This text. It can only fail where the text is longer than seven bytes.
+    pub(super) fn new(alloc: Global, text: &str, wide: bool) -> Result<CellText, AllocError>
+        requires { clean text.now ≡ text.now }
+        ensures text { IfOk result (λ stored. text_in stored ≡ text.now) }
+        ensures wide { IfOk result (λ stored. wide_in stored ≡ wide) }
+        ensures stored { IfOk result (λ stored. IsStored stored) }
+        ensures succeeds { length text.now ≤ 7 → IsOk result }
+    {
+        if text.len() <= 7 {
+            let mut short = ArrayString::new();
+            short.push_str(text);
+            return Ok(if wide {
+                CellText::Wide(short)
+            } else {
+                CellText::Narrow(short)
+            });
+        }
+        let text = String::from_str(alloc, text)?;
+        Ok(CellText::Long(Box::new(alloc, LongText { text, wide })?))
     }
-}
 
-pub(super) fn is_same_text(a: &Option<String>, b: &Option<String>) -> bool
-    requires a_stored { IsStoredText a.now }
-    requires b_stored { IsStoredText b.now }
-    ensures { result ≡ bytes_eq (text_of a.now) (text_of b.now) }
-{
-    match (a, b) {
-        (None, None) => true,
-        (Some(a), Some(b)) => *a == *b,
-        _ => false,
+    pub(super) fn str(&self) -> &str
+        requires { IsStored self.now }
+        ensures text { result.now ≡ text_in self.now }
+        ensures clean { clean result.now ≡ result.now }
+    {
+        match self {
+            CellText::Narrow(short) => short.as_str(),
+            CellText::Wide(short) => short.as_str(),
+            CellText::Long(long) => long.text.as_str(),
+        }
     }
-}
 
-pub(super) fn copied_text(text: &Option<String>) -> Result<Option<String>, AllocError>
-    requires { IsStoredText text.now }
-    ensures text { IfOk result (λ copy. text_of copy ≡ text_of text.now) }
-    ensures stored { IfOk result (λ copy. IsStoredText copy) }
-    ensures succeeds { IsNone text.now → IsOk result }
-{
-    match text {
-        None => Ok(None),
-        Some(text) => {
-            let copy = text.clone()?;
-            Ok(Some(copy))
+    pub(super) fn is_wide(&self) -> bool
+        ensures { result ≡ wide_in self.now }
+    {
+        match self {
+            CellText::Narrow(_) => false,
+            CellText::Wide(_) => true,
+            CellText::Long(long) => long.wide,
+        }
+    }
+
+    /// Whether this is a space of one column.
+    pub(super) fn is_blank(&self) -> bool
+        requires { IsStored self.now }
+        ensures { IsTrue result ↔ ((text_in self.now ≡ space) × (wide_in self.now ≡ false)) }
+    {
+        match self {
+            CellText::Narrow(short) => short.as_str() == " ",
+            _ => false,
+        }
+    }
+
+    /// Whether both are the same text of the same width.
+    pub(super) fn is_same(&self, other: &CellText) -> bool
+        requires self_stored { IsStored self.now }
+        requires other_stored { IsStored other.now }
+        ensures { result ≡ (bytes_eq (text_in self.now) (text_in other.now) && beq (wide_in self.now) (wide_in other.now)) }
+    {
+        self.str() == other.str() && self.is_wide() == other.is_wide()
+    }
+
+    /// A copy. It can only fail where the text is longer than seven bytes.
+    pub(super) fn copied(&self) -> Result<CellText, AllocError>
+        requires { IsStored self.now }
+        ensures text { IfOk result (λ copy. text_in copy ≡ text_in self.now) }
+        ensures wide { IfOk result (λ copy. wide_in copy ≡ wide_in self.now) }
+        ensures stored { IfOk result (λ copy. IsStored copy) }
+        ensures succeeds { length (text_in self.now) ≤ 7 → IsOk result }
+    {
+        match self {
+            CellText::Narrow(short) => Ok(CellText::Narrow(*short)),
+            CellText::Wide(short) => Ok(CellText::Wide(*short)),
+            CellText::Long(long) => {
+                let text = long.text.clone()?;
+                let copy = LongText {
+                    text,
+                    wide: long.wide,
+                };
+                Ok(CellText::Long(Box::new(*Box::allocator(long), copy)?))
+            }
         }
     }
 }

@@ -1,6 +1,7 @@
 pub mod Lists
 pub mod Digits
 pub mod PackedStyles
+pub mod StyleSetters
 pub mod Boxes
 mod ColorPrinted
 mod ColorRead

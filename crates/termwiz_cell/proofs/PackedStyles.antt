@@ -58,13 +58,13 @@ palette-back : (v : Option ℕ) → palette_at (palette_number v) ≡ v
 palette-back None = refl
 palette-back (Some n) = grind arith
 
-intensity-there : (n : ℕ) → n < 3 → intensity_number (intensity_at n) ≡ n
+pub intensity-there : (n : ℕ) → n < 3 → intensity_number (intensity_at n) ≡ n
 intensity-there zero h = refl
 intensity-there (suc zero) h = refl
 intensity-there (suc (suc zero)) h = refl
 intensity-there (suc (suc (suc n))) h = absurd (omega arith)
 
-underline-there : (n : ℕ) → n < 6 → underline_number (underline_at n) ≡ n
+pub underline-there : (n : ℕ) → n < 6 → underline_number (underline_at n) ≡ n
 underline-there zero h = refl
 underline-there (suc zero) h = refl
 underline-there (suc (suc zero)) h = refl
@@ -73,30 +73,30 @@ underline-there (suc (suc (suc (suc zero)))) h = refl
 underline-there (suc (suc (suc (suc (suc zero))))) h = refl
 underline-there (suc (suc (suc (suc (suc (suc n)))))) h = absurd (omega arith)
 
-blink-there : (n : ℕ) → n < 3 → blink_number (blink_at n) ≡ n
+pub blink-there : (n : ℕ) → n < 3 → blink_number (blink_at n) ≡ n
 blink-there zero h = refl
 blink-there (suc zero) h = refl
 blink-there (suc (suc zero)) h = refl
 blink-there (suc (suc (suc n))) h = absurd (omega arith)
 
-semantic-there : (n : ℕ) → n < 3 → semantic_number (semantic_at n) ≡ n
+pub semantic-there : (n : ℕ) → n < 3 → semantic_number (semantic_at n) ≡ n
 semantic-there zero h = refl
 semantic-there (suc zero) h = refl
 semantic-there (suc (suc zero)) h = refl
 semantic-there (suc (suc (suc n))) h = absurd (omega arith)
 
-vertical-there : (n : ℕ) → n < 3 → vertical_number (vertical_at n) ≡ n
+pub vertical-there : (n : ℕ) → n < 3 → vertical_number (vertical_at n) ≡ n
 vertical-there zero h = refl
 vertical-there (suc zero) h = refl
 vertical-there (suc (suc zero)) h = refl
 vertical-there (suc (suc (suc n))) h = absurd (omega arith)
 
-flag-there : (n : ℕ) → n < 2 → flag_number (flag_at n) ≡ n
+pub flag-there : (n : ℕ) → n < 2 → flag_number (flag_at n) ≡ n
 flag-there zero h = refl
 flag-there (suc zero) h = refl
 flag-there (suc (suc n)) h = absurd (omega arith)
 
-palette-there : (n : ℕ) → palette_number (palette_at n) ≡ n
+pub palette-there : (n : ℕ) → palette_number (palette_at n) ≡ n
 palette-there zero = refl
 palette-there (suc n) = rw (eqb-suc-zero n) (omega arith)
 
@@ -219,4 +219,13 @@ module _ (s : Style) (h : HasPalette s) where
     whole = digits.below (intensity_number s.intensity) (underline_number s.underline) (blink_number s.blink) (flag_number s.italic) (flag_number s.reverse) (flag_number s.strikethrough) (flag_number s.invisible) (flag_number s.wrapped) (flag_number s.overline) (semantic_number s.semantic_type) (vertical_number s.vertical_align) (palette_number s.foreground) (palette_number s.background) (intensity-lt s.intensity) (underline-lt s.underline) (blink-lt s.blink) (flag-lt s.italic) (flag-lt s.reverse) (flag-lt s.strikethrough) (flag-lt s.invisible) (flag-lt s.wrapped) (flag-lt s.overline) (semantic-lt s.semantic_type) (vertical-lt s.vertical_align) (palette-lt s.foreground h.0) (palette-lt s.background h.1);
   }
 
-pub ruleset laws = (style_at-word_of, IsStyleWord-word_of)
+palette-fits : (n : ℕ) → n < 257 → IsPalette (palette_at n)
+palette-fits zero h = tt
+palette-fits (suc n) h = rw (eqb-suc-zero n) (omega arith)
+
+-- the palette of a word has bytes
+pub foreground-fits : (w : ℕ) → IsStyleWord w → IsPalette (palette_at (w / 2 ^ 17 % 512))
+foreground-fits w h = palette-fits (w / 2 ^ 17 % 512) h.foreground
+
+pub background-fits : (w : ℕ) → IsStyleWord w → IsPalette (palette_at (w / 2 ^ 26 % 512))
+background-fits w h = palette-fits (w / 2 ^ 26 % 512) h.background

@@ -3,7 +3,7 @@ ghost use Rattle.std.specs.Prelude.{◌≡◌, ℕ, ◌+◌, ◌*◌, ◌/◌, �
 ghost use Rattle.termwiz_cell.specs.Style.{flag_number};
 ghost use Rattle.termwiz_cell.specs.StyleWord.{palette_number, palette_at, IsPalette, style_at, style_sgr_only, bits_at};
 
-use super::style::{Blink, Intensity, SemanticType, Style, Underline, VerticalAlign};
+use super::style::{Blink, Intensity, SemanticType, Underline, VerticalAlign};
 use std::marker::Model;
 
 /// The small attributes in a word.
@@ -63,39 +63,6 @@ impl StyleWord {
         StyleWord { word: 0 }
     }
 
-    #[tactic(auto, using(crate::proofs::PackedStyles::laws))]
-    pub fn pack(style: Style) -> StyleWord
-        ensures { result ≡ style }
-    {
-        let intensity = style.intensity.number();
-        let underline = style.underline.number();
-        let blink = style.blink.number();
-        let italic = flag_digit(style.italic);
-        let reverse = flag_digit(style.reverse);
-        let strikethrough = flag_digit(style.strikethrough);
-        let invisible = flag_digit(style.invisible);
-        let wrapped = flag_digit(style.wrapped);
-        let overline = flag_digit(style.overline);
-        let semantic_type = style.semantic_type.number();
-        let vertical_align = style.vertical_align.number();
-        let foreground = palette_digit(style.foreground);
-        let background = palette_digit(style.background);
-        let word = intensity
-            + underline * 4
-            + blink * 32
-            + italic * 128
-            + reverse * 256
-            + strikethrough * 512
-            + invisible * 1024
-            + wrapped * 2048
-            + overline * 4096
-            + semantic_type * 8192
-            + vertical_align * 32768
-            + foreground * 131072
-            + background * 67108864;
-        StyleWord { word }
-    }
-
     pub fn copied(&self) -> StyleWord
         ensures { result ≡ self.now }
     {
@@ -120,12 +87,12 @@ impl StyleWord {
     pub fn sgr_only(&self) -> StyleWord
         ensures { result ≡ style_sgr_only self.now }
     {
-        let mut style = self.style();
-        style.semantic_type = SemanticType::Output;
-        style.underline = Underline::None;
-        style.overline = false;
-        style.strikethrough = false;
-        StyleWord::pack(style)
+        let mut copy = self.copied();
+        copy.set_semantic_type(SemanticType::Output);
+        copy.set_underline(Underline::None);
+        copy.set_overline(false);
+        copy.set_strikethrough(false);
+        copy
     }
 
     /// Whether both styles are equal but for the palette.
@@ -135,38 +102,18 @@ impl StyleWord {
         self.word % PALETTES == other.word % PALETTES
     }
 
-    pub fn style(&self) -> Style
-        ensures { result ≡ self.now }
-    {
-        Style {
-            intensity: self.intensity(),
-            underline: self.underline(),
-            blink: self.blink(),
-            italic: self.italic(),
-            reverse: self.reverse(),
-            strikethrough: self.strikethrough(),
-            invisible: self.invisible(),
-            wrapped: self.wrapped(),
-            overline: self.overline(),
-            semantic_type: self.semantic_type(),
-            vertical_align: self.vertical_align(),
-            foreground: self.foreground(),
-            background: self.background(),
-        }
-    }
-
     pub fn intensity(&self) -> Intensity
         ensures { result ≡ self.now.intensity }
     {
         Intensity::from_number(self.word & 3)
     }
 
+    #[tactic(auto, using(crate::proofs::StyleSetters::intensity))]
     pub fn set_intensity(&mut self, value: Intensity)
         ensures { self.new ≡ record self.old { intensity = value } }
     {
-        let mut style = self.style();
-        style.intensity = value;
-        *self = StyleWord::pack(style);
+        let word = self.word - self.word % 4 + value.number();
+        *self = StyleWord { word };
     }
 
     pub fn underline(&self) -> Underline
@@ -175,12 +122,12 @@ impl StyleWord {
         Underline::from_number(self.word >> 2 & 7)
     }
 
+    #[tactic(auto, using(crate::proofs::StyleSetters::underline))]
     pub fn set_underline(&mut self, value: Underline)
         ensures { self.new ≡ record self.old { underline = value } }
     {
-        let mut style = self.style();
-        style.underline = value;
-        *self = StyleWord::pack(style);
+        let word = self.word - self.word / 4 % 8 * 4 + value.number() * 4;
+        *self = StyleWord { word };
     }
 
     pub fn blink(&self) -> Blink
@@ -189,12 +136,12 @@ impl StyleWord {
         Blink::from_number(self.word >> 5 & 3)
     }
 
+    #[tactic(auto, using(crate::proofs::StyleSetters::blink))]
     pub fn set_blink(&mut self, value: Blink)
         ensures { self.new ≡ record self.old { blink = value } }
     {
-        let mut style = self.style();
-        style.blink = value;
-        *self = StyleWord::pack(style);
+        let word = self.word - self.word / 32 % 4 * 32 + value.number() * 32;
+        *self = StyleWord { word };
     }
 
     pub fn italic(&self) -> bool
@@ -203,12 +150,12 @@ impl StyleWord {
         self.word >> 7 & 1 == 1
     }
 
+    #[tactic(auto, using(crate::proofs::StyleSetters::italic))]
     pub fn set_italic(&mut self, value: bool)
         ensures { self.new ≡ record self.old { italic = value } }
     {
-        let mut style = self.style();
-        style.italic = value;
-        *self = StyleWord::pack(style);
+        let word = self.word - self.word / 128 % 2 * 128 + flag_digit(value) * 128;
+        *self = StyleWord { word };
     }
 
     pub fn reverse(&self) -> bool
@@ -217,12 +164,12 @@ impl StyleWord {
         self.word >> 8 & 1 == 1
     }
 
+    #[tactic(auto, using(crate::proofs::StyleSetters::reverse))]
     pub fn set_reverse(&mut self, value: bool)
         ensures { self.new ≡ record self.old { reverse = value } }
     {
-        let mut style = self.style();
-        style.reverse = value;
-        *self = StyleWord::pack(style);
+        let word = self.word - self.word / 256 % 2 * 256 + flag_digit(value) * 256;
+        *self = StyleWord { word };
     }
 
     pub fn strikethrough(&self) -> bool
@@ -231,12 +178,12 @@ impl StyleWord {
         self.word >> 9 & 1 == 1
     }
 
+    #[tactic(auto, using(crate::proofs::StyleSetters::strikethrough))]
     pub fn set_strikethrough(&mut self, value: bool)
         ensures { self.new ≡ record self.old { strikethrough = value } }
     {
-        let mut style = self.style();
-        style.strikethrough = value;
-        *self = StyleWord::pack(style);
+        let word = self.word - self.word / 512 % 2 * 512 + flag_digit(value) * 512;
+        *self = StyleWord { word };
     }
 
     pub fn invisible(&self) -> bool
@@ -245,12 +192,12 @@ impl StyleWord {
         self.word >> 10 & 1 == 1
     }
 
+    #[tactic(auto, using(crate::proofs::StyleSetters::invisible))]
     pub fn set_invisible(&mut self, value: bool)
         ensures { self.new ≡ record self.old { invisible = value } }
     {
-        let mut style = self.style();
-        style.invisible = value;
-        *self = StyleWord::pack(style);
+        let word = self.word - self.word / 1024 % 2 * 1024 + flag_digit(value) * 1024;
+        *self = StyleWord { word };
     }
 
     pub fn wrapped(&self) -> bool
@@ -259,12 +206,12 @@ impl StyleWord {
         self.word >> 11 & 1 == 1
     }
 
+    #[tactic(auto, using(crate::proofs::StyleSetters::wrapped))]
     pub fn set_wrapped(&mut self, value: bool)
         ensures { self.new ≡ record self.old { wrapped = value } }
     {
-        let mut style = self.style();
-        style.wrapped = value;
-        *self = StyleWord::pack(style);
+        let word = self.word - self.word / 2048 % 2 * 2048 + flag_digit(value) * 2048;
+        *self = StyleWord { word };
     }
 
     pub fn overline(&self) -> bool
@@ -273,12 +220,12 @@ impl StyleWord {
         self.word >> 12 & 1 == 1
     }
 
+    #[tactic(auto, using(crate::proofs::StyleSetters::overline))]
     pub fn set_overline(&mut self, value: bool)
         ensures { self.new ≡ record self.old { overline = value } }
     {
-        let mut style = self.style();
-        style.overline = value;
-        *self = StyleWord::pack(style);
+        let word = self.word - self.word / 4096 % 2 * 4096 + flag_digit(value) * 4096;
+        *self = StyleWord { word };
     }
 
     pub fn semantic_type(&self) -> SemanticType
@@ -287,12 +234,12 @@ impl StyleWord {
         SemanticType::from_number(self.word >> 13 & 3)
     }
 
+    #[tactic(auto, using(crate::proofs::StyleSetters::semantic_type))]
     pub fn set_semantic_type(&mut self, value: SemanticType)
         ensures { self.new ≡ record self.old { semantic_type = value } }
     {
-        let mut style = self.style();
-        style.semantic_type = value;
-        *self = StyleWord::pack(style);
+        let word = self.word - self.word / 8192 % 4 * 8192 + value.number() * 8192;
+        *self = StyleWord { word };
     }
 
     pub fn vertical_align(&self) -> VerticalAlign
@@ -301,12 +248,12 @@ impl StyleWord {
         VerticalAlign::from_number(self.word >> 15 & 3)
     }
 
+    #[tactic(auto, using(crate::proofs::StyleSetters::vertical_align))]
     pub fn set_vertical_align(&mut self, value: VerticalAlign)
         ensures { self.new ≡ record self.old { vertical_align = value } }
     {
-        let mut style = self.style();
-        style.vertical_align = value;
-        *self = StyleWord::pack(style);
+        let word = self.word - self.word / 32768 % 4 * 32768 + value.number() * 32768;
+        *self = StyleWord { word };
     }
 
     pub fn foreground(&self) -> Option<u8>
@@ -315,12 +262,12 @@ impl StyleWord {
         palette_from(self.word >> 17 & 511)
     }
 
+    #[tactic(auto, using(crate::proofs::StyleSetters::foreground))]
     pub fn set_foreground(&mut self, value: Option<u8>)
         ensures { self.new ≡ record self.old { foreground = value } }
     {
-        let mut style = self.style();
-        style.foreground = value;
-        *self = StyleWord::pack(style);
+        let word = self.word - self.word / 131072 % 512 * 131072 + palette_digit(value) * 131072;
+        *self = StyleWord { word };
     }
 
     pub fn background(&self) -> Option<u8>
@@ -329,11 +276,11 @@ impl StyleWord {
         palette_from(self.word >> 26 & 511)
     }
 
+    #[tactic(auto, using(crate::proofs::StyleSetters::background))]
     pub fn set_background(&mut self, value: Option<u8>)
         ensures { self.new ≡ record self.old { background = value } }
     {
-        let mut style = self.style();
-        style.background = value;
-        *self = StyleWord::pack(style);
+        let word = self.word - self.word / 67108864 % 512 * 67108864 + palette_digit(value) * 67108864;
+        *self = StyleWord { word };
     }
 }

@@ -295,7 +295,8 @@ impl CellAttributes {
         ensures succeeds { needs_box (record self.old { foreground = value }) ≡ false → IsOk result }
     {
         let palette = palette_part(&value);
-        self.kind.set_color(alloc, Part::Foreground, rare_part(value))?;
+        let rare = rare_part(value);
+        self.kind.set_color(alloc, Part::Foreground, rare)?;
         let mut style = self.kind.style().copied();
         style.set_foreground(palette);
         self.kind.set_style(style);
@@ -337,7 +338,8 @@ impl CellAttributes {
         ensures succeeds { needs_box (record self.old { background = value }) ≡ false → IsOk result }
     {
         let palette = palette_part(&value);
-        self.kind.set_color(alloc, Part::Background, rare_part(value))?;
+        let rare = rare_part(value);
+        self.kind.set_color(alloc, Part::Background, rare)?;
         let mut style = self.kind.style().copied();
         style.set_background(palette);
         self.kind.set_style(style);

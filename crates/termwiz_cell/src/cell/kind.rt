@@ -180,10 +180,10 @@ impl Kind {
     {
         match self {
             Kind::Plain(style) => {
-                let mut full = Full::new(style.copied());
-                full.put(part, value);
-                if !full.is_default() {
-                    *self = Kind::Rare(Box::new(alloc, full)?);
+                let mut made = Full::new(style.copied());
+                made.put(part, value);
+                if !made.is_default() {
+                    *self = Kind::Rare(Box::new(alloc, made)?);
                 }
             }
             Kind::Rare(full) => {
@@ -213,9 +213,9 @@ impl Kind {
         match self {
             Kind::Plain(style) => {
                 if value.is_some() {
-                    let mut full = Full::new(style.copied());
-                    full.hyperlink = value;
-                    *self = Kind::Rare(Box::new(alloc, full)?);
+                    let mut made = Full::new(style.copied());
+                    made.hyperlink = value;
+                    *self = Kind::Rare(Box::new(alloc, made)?);
                 }
             }
             Kind::Rare(full) => {

@@ -266,7 +266,8 @@ impl StyleWord {
     pub fn set_foreground(&mut self, value: Option<u8>)
         ensures { self.new ≡ record self.old { foreground = value } }
     {
-        let word = self.word - self.word / 131072 % 512 * 131072 + palette_digit(value) * 131072;
+        let digit = palette_digit(value);
+        let word = self.word - self.word / 131072 % 512 * 131072 + digit * 131072;
         *self = StyleWord { word };
     }
 
@@ -280,7 +281,8 @@ impl StyleWord {
     pub fn set_background(&mut self, value: Option<u8>)
         ensures { self.new ≡ record self.old { background = value } }
     {
-        let word = self.word - self.word / 67108864 % 512 * 67108864 + palette_digit(value) * 67108864;
+        let digit = palette_digit(value);
+        let word = self.word - self.word / 67108864 % 512 * 67108864 + digit * 67108864;
         *self = StyleWord { word };
     }
 }

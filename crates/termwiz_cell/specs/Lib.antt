@@ -19,3 +19,4 @@ pub mod ColorSpec
 pub mod ColorText
 pub mod Rgb
 pub mod Reads
+pub mod StyleLending

@@ -74,9 +74,7 @@ impl CellAttributes {
         ensures same_reference { result.ghost_name ≡ self.entry.ghost_name }
         ensures value { result.now ≡ record self.old { intensity = value } }
     {
-        let mut style = self.kind.style().copied();
-        style.set_intensity(value);
-        self.kind.set_style(style);
+        self.kind.style_mut().set_intensity(value);
         self
     }
 
@@ -92,9 +90,7 @@ impl CellAttributes {
         ensures same_reference { result.ghost_name ≡ self.entry.ghost_name }
         ensures value { result.now ≡ record self.old { underline = value } }
     {
-        let mut style = self.kind.style().copied();
-        style.set_underline(value);
-        self.kind.set_style(style);
+        self.kind.style_mut().set_underline(value);
         self
     }
 
@@ -110,9 +106,7 @@ impl CellAttributes {
         ensures same_reference { result.ghost_name ≡ self.entry.ghost_name }
         ensures value { result.now ≡ record self.old { blink = value } }
     {
-        let mut style = self.kind.style().copied();
-        style.set_blink(value);
-        self.kind.set_style(style);
+        self.kind.style_mut().set_blink(value);
         self
     }
 
@@ -128,9 +122,7 @@ impl CellAttributes {
         ensures same_reference { result.ghost_name ≡ self.entry.ghost_name }
         ensures value { result.now ≡ record self.old { italic = value } }
     {
-        let mut style = self.kind.style().copied();
-        style.set_italic(value);
-        self.kind.set_style(style);
+        self.kind.style_mut().set_italic(value);
         self
     }
 
@@ -146,9 +138,7 @@ impl CellAttributes {
         ensures same_reference { result.ghost_name ≡ self.entry.ghost_name }
         ensures value { result.now ≡ record self.old { reverse = value } }
     {
-        let mut style = self.kind.style().copied();
-        style.set_reverse(value);
-        self.kind.set_style(style);
+        self.kind.style_mut().set_reverse(value);
         self
     }
 
@@ -164,9 +154,7 @@ impl CellAttributes {
         ensures same_reference { result.ghost_name ≡ self.entry.ghost_name }
         ensures value { result.now ≡ record self.old { strikethrough = value } }
     {
-        let mut style = self.kind.style().copied();
-        style.set_strikethrough(value);
-        self.kind.set_style(style);
+        self.kind.style_mut().set_strikethrough(value);
         self
     }
 
@@ -182,9 +170,7 @@ impl CellAttributes {
         ensures same_reference { result.ghost_name ≡ self.entry.ghost_name }
         ensures value { result.now ≡ record self.old { invisible = value } }
     {
-        let mut style = self.kind.style().copied();
-        style.set_invisible(value);
-        self.kind.set_style(style);
+        self.kind.style_mut().set_invisible(value);
         self
     }
 
@@ -200,9 +186,7 @@ impl CellAttributes {
         ensures same_reference { result.ghost_name ≡ self.entry.ghost_name }
         ensures value { result.now ≡ record self.old { wrapped = value } }
     {
-        let mut style = self.kind.style().copied();
-        style.set_wrapped(value);
-        self.kind.set_style(style);
+        self.kind.style_mut().set_wrapped(value);
         self
     }
 
@@ -218,9 +202,7 @@ impl CellAttributes {
         ensures same_reference { result.ghost_name ≡ self.entry.ghost_name }
         ensures value { result.now ≡ record self.old { overline = value } }
     {
-        let mut style = self.kind.style().copied();
-        style.set_overline(value);
-        self.kind.set_style(style);
+        self.kind.style_mut().set_overline(value);
         self
     }
 
@@ -236,9 +218,7 @@ impl CellAttributes {
         ensures same_reference { result.ghost_name ≡ self.entry.ghost_name }
         ensures value { result.now ≡ record self.old { semantic_type = value } }
     {
-        let mut style = self.kind.style().copied();
-        style.set_semantic_type(value);
-        self.kind.set_style(style);
+        self.kind.style_mut().set_semantic_type(value);
         self
     }
 
@@ -254,9 +234,7 @@ impl CellAttributes {
         ensures same_reference { result.ghost_name ≡ self.entry.ghost_name }
         ensures value { result.now ≡ record self.old { vertical_align = value } }
     {
-        let mut style = self.kind.style().copied();
-        style.set_vertical_align(value);
-        self.kind.set_style(style);
+        self.kind.style_mut().set_vertical_align(value);
         self
     }
 
@@ -297,9 +275,7 @@ impl CellAttributes {
         let palette = palette_part(&value);
         let rare = rare_part(value);
         self.kind.set_color(alloc, Part::Foreground, rare)?;
-        let mut style = self.kind.style().copied();
-        style.set_foreground(palette);
-        self.kind.set_style(style);
+        self.kind.style_mut().set_foreground(palette);
         Ok(())
     }
 
@@ -340,9 +316,7 @@ impl CellAttributes {
         let palette = palette_part(&value);
         let rare = rare_part(value);
         self.kind.set_color(alloc, Part::Background, rare)?;
-        let mut style = self.kind.style().copied();
-        style.set_background(palette);
-        self.kind.set_style(style);
+        self.kind.style_mut().set_background(palette);
         Ok(())
     }
 

@@ -3,6 +3,8 @@
 ghost use Rattle.std.specs.Prelude.{◌≡◌, ◌↔◌, IsTrue, IsNone, IsOk, IfOk, OnOk, OnErr, None, true, false, option_map};
 ghost use Rattle.termwiz_cell.specs.Attributes.{option_link_eq, is_default};
 ghost use Rattle.termwiz_cell.specs.AttributesLayout as spec;
+ghost use Rattle.std.specs.Borrow.{sem};
+ghost use Rattle.termwiz_cell.specs.StyleLending.{LendsStyle};
 ghost use Rattle.termwiz_cell.specs.Link.{linked};
 ghost use Rattle.termwiz_cell.specs.StyleWord.{style_at, style_sgr_only};
 
@@ -101,13 +103,14 @@ impl Kind {
         }
     }
 
-    /// Puts these small attributes in the place of those that were there.
-    pub(super) fn set_style(&mut self, value: StyleWord)
-        ensures { self.new ≡ spec.with_style self.old value }
+    /// The small attributes, for writing.
+    pub(super) fn style_mut(&mut self) -> &mut StyleWord
+        ensures* writes_back { sem 𝓛 (LendsStyle self.entry result) }
+        ensures value { result.now ≡ spec.style_in self.old }
     {
         match self {
-            Kind::Plain(style) => *style = value,
-            Kind::Rare(full) => full.style = value,
+            Kind::Plain(style) => style,
+            Kind::Rare(full) => &mut full.style,
         }
     }
 

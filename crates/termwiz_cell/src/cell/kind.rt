@@ -76,6 +76,25 @@ impl Full {
             && is_default_color(self.underline_color)
     }
 
+    /// A copy in a box of its own. It stands apart, so that the copy of plain attributes is short.
+    #[inline(never)]
+    fn copied(&self, alloc: Global) -> Result<Kind, AllocError>
+        requires { spec.is_rare_default (spec.full_rare self.now) ≡ false }
+        ensures style { IfOk result (λ copy. spec.style_in copy ≡ self.now.style) }
+        ensures rare { IfOk result (λ copy. spec.rare_in copy ≡ spec.full_rare self.now) }
+        ensures needed { IfOk result (λ copy. spec.IsNeeded copy) }
+    {
+        let hyperlink = clone_link(&self.hyperlink)?;
+        let copy = Full {
+            style: self.style.copied(),
+            foreground: self.foreground,
+            background: self.background,
+            underline_color: self.underline_color,
+            hyperlink,
+        };
+        Ok(Kind::Rare(Box::new(alloc, copy)?))
+    }
+
     fn is_same_rare(&self, other: &Full) -> bool
         ensures { IsTrue result ↔ (spec.full_rare self.now ≡ spec.full_rare other.now) }
     {
@@ -254,17 +273,7 @@ impl Kind {
     {
         match self {
             Kind::Plain(style) => Ok(Kind::Plain(style.copied())),
-            Kind::Rare(full) => {
-                let hyperlink = clone_link(&full.hyperlink)?;
-                let copy = Full {
-                    style: full.style.copied(),
-                    foreground: full.foreground,
-                    background: full.background,
-                    underline_color: full.underline_color,
-                    hyperlink,
-                };
-                Ok(Kind::Rare(Box::new(*Box::allocator(full), copy)?))
-            }
+            Kind::Rare(full) => full.copied(*Box::allocator(full)),
         }
     }
 

@@ -62,8 +62,7 @@ impl CellText {
                 CellText::Narrow(short)
             });
         }
-        let text = String::from_str(alloc, text)?;
-        Ok(CellText::Long(Box::new(alloc, LongText { text, wide })?))
+        long_text(alloc, text, wide)
     }
 
     pub(super) fn str(&self) -> &str
@@ -119,14 +118,20 @@ impl CellText {
         match self {
             CellText::Narrow(short) => Ok(CellText::Narrow(*short)),
             CellText::Wide(short) => Ok(CellText::Wide(*short)),
-            CellText::Long(long) => {
-                let text = long.text.clone()?;
-                let copy = LongText {
-                    text,
-                    wide: long.wide,
-                };
-                Ok(CellText::Long(Box::new(*Box::allocator(long), copy)?))
-            }
+            CellText::Long(long) => long_text(*Box::allocator(long), &long.text, long.wide),
         }
     }
+}
+
+/// A text of more than seven bytes. It stands apart, so that the way of the others is short.
+#[inline(never)]
+fn long_text(alloc: Global, text: &str, wide: bool) -> Result<CellText, AllocError>
+    requires clean { clean text.now ≡ text.now }
+    requires long { 8 ≤ length text.now }
+    ensures text { IfOk result (λ stored. text_in stored ≡ text.now) }
+    ensures wide { IfOk result (λ stored. wide_in stored ≡ wide) }
+    ensures stored { IfOk result (λ stored. IsStored stored) }
+{
+    let text = String::from_str(alloc, text)?;
+    Ok(CellText::Long(Box::new(alloc, LongText { text, wide })?))
 }

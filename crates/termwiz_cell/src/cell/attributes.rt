@@ -454,6 +454,7 @@ impl CellAttributes {
         self.kind.style().has_same_bits(other.kind.style())
     }
 
+    #[inline]
     fn is_same(&self, other: &CellAttributes) -> bool
         ensures { result ≡ attributes_eq self.now other.now }
     {

@@ -95,6 +95,14 @@ impl Full {
         Ok(Kind::Rare(Box::new(alloc, copy)?))
     }
 
+    /// Whether both are the same. It stands apart, so that the test of plain attributes is short.
+    #[inline(never)]
+    fn is_same(&self, other: &Full) -> bool
+        ensures { IsTrue result ↔ ((self.now.style ≡ other.now.style) × (spec.full_rare self.now ≡ spec.full_rare other.now)) }
+    {
+        self.style.is_same(&other.style) && self.is_same_rare(other)
+    }
+
     fn is_same_rare(&self, other: &Full) -> bool
         ensures { IsTrue result ↔ (spec.full_rare self.now ≡ spec.full_rare other.now) }
     {
@@ -251,6 +259,7 @@ impl Kind {
     }
 
     /// Whether both are the same attributes.
+    #[inline]
     pub(super) fn is_same(&self, other: &Kind) -> bool
         requires self_needed { spec.IsNeeded self.now }
         requires other_needed { spec.IsNeeded other.now }
@@ -258,7 +267,7 @@ impl Kind {
     {
         match (self, other) {
             (Kind::Plain(a), Kind::Plain(b)) => a.is_same(b),
-            (Kind::Rare(a), Kind::Rare(b)) => a.style.is_same(&b.style) && a.is_same_rare(b),
+            (Kind::Rare(a), Kind::Rare(b)) => a.is_same(b),
             _ => false,
         }
     }

@@ -93,7 +93,7 @@ impl CellText {
         ensures { IsTrue result ↔ ((text_in self.now ≡ space) × (wide_in self.now ≡ false)) }
     {
         match self {
-            CellText::Narrow(short) => short.as_str() == " ",
+            CellText::Narrow(short) => matches!(short.as_str().as_bytes(), b" "),
             _ => false,
         }
     }

@@ -1,0 +1,5 @@
+pub mod Tables
+pub mod Boundaries
+pub mod Pieces
+pub mod Plain
+pub mod Seam

@@ -1,0 +1,91 @@
+//! Texts cut into graphemes.
+#![tactic(auto)]
+
+ghost use Rattle.std.specs.Prelude.{◌≡◌, ◌↔◌, ℕ, true, List, [], ◌∷◌, ◌++◌, MatchOption, IsTrue, IfOk, string_bytes, if◌then◌else◌};
+ghost use Rattle.termwiz_text.specs.Plain as plain;
+ghost use Rattle.termwiz_text.specs.First.{IsFirst};
+ghost use Rattle.unicode_segmentation.specs.Grapheme.{graphemes};
+
+use std::alloc::AllocError;
+use unicode_segmentation::UnicodeSegmentation;
+
+fn is_plain(byte: u8) -> bool
+    ensures { result ≡ plain.is_plain byte }
+{
+    b' ' <= byte && byte <= b'~'
+}
+
+/// Whether the text is one printable character of ASCII.
+pub fn is_one_plain(text: &str) -> bool
+    ensures { result ≡ plain.is_one_plain text.now }
+{
+    match text.as_bytes() {
+        [only] => is_plain(*only),
+        _ => false,
+    }
+}
+
+// Whether the text begins with printable ASCII that no mark follows.
+fn begins_alone(text: &str) -> bool
+    ensures { result ≡ plain.begins_alone text.now }
+{
+    match text.as_bytes() {
+        [first, next, ..] => is_plain(*first) && is_plain(*next),
+        [first] => is_plain(*first),
+        [] => false,
+    }
+}
+
+/// The first grapheme of a text, and what follows it.
+pub fn split_first_grapheme(text: &str) -> Option<(&str, &str)>
+    ensures { MatchOption result (graphemes true text.now ≡ []) (λ (first, rest). IsFirst text.now first.now rest.now) }
+{
+    if begins_alone(text) {
+        return Some(text.split_at(1));
+    }
+    let mut pieces = text.graphemes(true);
+    let first = pieces.next()?;
+    Some((first, pieces.as_str()))
+}
+
+// Whether both are printable ASCII at the seam, and the text is one such character.
+fn both_plain(before: &str, text: &str) -> bool
+    ensures { IsTrue result → graphemes true (before.now ++ text.now) ≡ graphemes true before.now ++ text.now ∷ [] }
+{
+    let Some(last) = before.as_bytes().last() else {
+        return false;
+    };
+    match text.as_bytes() {
+        [only] => is_plain(*last) && is_plain(*only),
+        _ => false,
+    }
+}
+
+// Whether the last grapheme of the whole is the text at its end.
+fn is_last_grapheme(whole: &str, text: &str) -> bool
+    ensures { (front : List ℕ) → whole.now ≡ front ++ text.now → (IsTrue result ↔ (graphemes true whole.now ≡ graphemes true front ++ text.now ∷ [])) }
+{
+    match whole.graphemes(true).next_back() {
+        Some(last) => last == text,
+        None => false,
+    }
+}
+
+/// Puts a text behind the one before it, exactly where no grapheme runs over the seam: cut together, they are cut as before, with the text as the last grapheme. Says whether it did.
+pub fn join(before: &mut String, text: &str) -> Result<bool, AllocError>
+    ensures joins { IfOk result (λ joined. IsTrue joined ↔ (graphemes true (string_bytes before.old ++ text.now) ≡ graphemes true (string_bytes before.old) ++ text.now ∷ [])) }
+    ensures text { IfOk result (λ joined. string_bytes before.new ≡ (if joined then string_bytes before.old ++ text.now else string_bytes before.old)) }
+{
+    let front = before.as_str();
+    let seam = front.len();
+    if both_plain(front, text) {
+        before.push_str(text)?;
+        return Ok(true);
+    }
+    before.push_str(text)?;
+    if is_last_grapheme(before.as_str(), text) {
+        return Ok(true);
+    }
+    before.truncate(seam);
+    Ok(false)
+}

@@ -1,7 +1,6 @@
 //! Row entries: the changes that print a list of visible cells.
 ghost use Rattle.std.specs.Prelude.{◌≡◌, ℕ, ◌≤◌, ◌↔◌, bytes_eq, List, map, length, take, ◌∷◌, [], ◌++◌, true, if◌then◌else◌, Some, IsTrue, IfOk, OnOk, string_bytes};
 ghost use Rattle.std.specs.Option.{option_map, option_copied};
-ghost use Rattle.unicode_segmentation.specs.Grapheme.{graphemes};
 ghost use Rattle.termwiz_cell.specs.Attributes as attributes;
 ghost use Rattle.termwiz_cell.specs.CellValue.{CellValue};
 ghost use Rattle.termwiz_cell.specs.ChangeValue.{change_value};
@@ -15,7 +14,7 @@ use termwiz_cell::cell::CellAttributes;
 use termwiz_cell::change::Change;
 use termwiz_cell::color::ColorAttribute;
 use termwiz_storage::line::cellref::CellRef;
-use unicode_segmentation::UnicodeSegmentation;
+use termwiz_text::join;
 
 /// Entries, and the pen after them.
 #[derive(Drop)]
@@ -246,36 +245,5 @@ fn join_text(text: &mut Option<String>, more: &str) -> Result<bool, AllocError>
     match text {
         Some(before) => join(before, more),
         None => Ok(false),
-    }
-}
-
-// Puts a text behind the one before it, exactly where no grapheme runs over the seam. Says whether it did.
-fn join(before: &mut String, text: &str) -> Result<bool, AllocError>
-    ensures joins { IfOk result (λ joined. IsTrue joined ↔ (graphemes true (string_bytes before.old ++ text.now) ≡ graphemes true (string_bytes before.old) ++ text.now ∷ [])) }
-    ensures text { IfOk result (λ joined. string_bytes before.new ≡ (if joined then string_bytes before.old ++ text.now else string_bytes before.old)) }
-{
-    let mut whole = before.clone()?;
-    whole.push_str(text)?;
-    if !is_cut_as(whole.as_str(), before.as_str(), text) {
-        return Ok(false);
-    }
-    *before = whole;
-    Ok(true)
-}
-
-// Whether the whole is cut as its front is, with the last piece behind.
-fn is_cut_as(whole: &str, front: &str, last: &str) -> bool
-    ensures { IsTrue result ↔ (graphemes true whole.now ≡ graphemes true front.now ++ last.now ∷ []) }
-{
-    let mut pieces = whole.graphemes(true);
-    for piece in front.graphemes(true) {
-        match pieces.next() {
-            Some(other) if other == piece => {}
-            _ => return false,
-        }
-    }
-    match pieces.next() {
-        Some(other) if other == last => pieces.next().is_none(),
-        _ => false,
     }
 }

@@ -1,5 +1,5 @@
 //! Surfaces.
-ghost use Rattle.std.specs.Prelude.{◌≡◌, ◌+◌, ◌-◌, ◌*◌, ◌<◌, ◌≤◌, ◌^◌, List, [], ◌∷◌, length, map, vec_len, replicate, string_bytes, IsOk, IfOk, OnOk, OnErr};
+ghost use Rattle.std.specs.Prelude.{◌≡◌, true, ◌+◌, ◌-◌, ◌*◌, ◌<◌, ◌≤◌, ◌^◌, List, [], ◌∷◌, length, map, vec_len, replicate, string_bytes, IsOk, IfOk, OnOk, OnErr};
 ghost use Rattle.termwiz_cell.specs.Attributes.{default_attributes, with_background};
 ghost use Rattle.termwiz_cell.specs.CellValue.{blank};
 ghost use Rattle.termwiz_cell.specs.Width.{unversioned};
@@ -11,6 +11,7 @@ ghost use Rattle.termwiz_surface.specs.Step.{step, step_lengths, replay, replay_
 ghost use Rattle.termwiz_cell.specs.AttributeChangeValue.{attribute_change_value, with_attribute};
 ghost use Rattle.termwiz_cell.specs.ChangeValue.{change_value};
 ghost use Rattle.std.specs.List.{All};
+ghost use Rattle.unicode_segmentation.specs.Grapheme.{graphemes};
 ghost use Rattle.termwiz_surface.specs.ShownChars.{shown_chars};
 ghost use Rattle.termwiz_surface.specs.ScreenValue.{screen_value};
 ghost use Rattle.termwiz_surface.specs.SurfaceValue.{IsSound};
@@ -42,8 +43,8 @@ use std::slice;
 use termwiz_cell::cell::{AttributeChange, Cell, CellAttributes};
 use termwiz_cell::change::{Change, CursorVisibility, Position, SEQ_ZERO, SequenceNo};
 use termwiz_cell::emoji::Widths;
+use termwiz_text::split_first_grapheme;
 use thiserror::Error;
-use unicode_segmentation::UnicodeSegmentation;
 
 /// Why a list of changes is refused. The errors have numbers, and 1 is kept for the refusal of a scroll region.
 #[derive(Debug, Drop, Clone, Copy, PartialEq, Eq, Error)]
@@ -193,7 +194,8 @@ impl<W: Widths> Surface<W> {
     }
 
     fn put(&mut self, grapheme: &str) -> Result<(), AllocError>
-        requires { self.old.x < self.old.width }
+        requires inside { self.old.x < self.old.width }
+        requires alone { graphemes true grapheme.now ≡ grapheme.now ∷ [] }
         ensures ok { OnOk result (let s = screen_of self.old in let c = printed_cell (unversioned (W.width_of self.old.widths)) s grapheme.now in Draws self.old (put s c) (put_lengths s c (lengths_of self.old)) self.new) }
         ensures err { OnErr result (self.new ≡ self.old) }
     {
@@ -205,6 +207,7 @@ impl<W: Widths> Surface<W> {
     }
 
     fn print_one(&mut self, grapheme: &str) -> Result<(), AllocError>
+        requires { graphemes true grapheme.now ≡ grapheme.now ∷ [] }
         ensures ok { OnOk result (let f = unversioned (W.width_of self.old.widths) in let s = screen_of self.old in Draws self.old (print_one f s grapheme.now) (piece_lengths f s grapheme.now (break_of grapheme.now) (lengths_of self.old)) self.new) }
         ensures err { OnErr result (SameFrame self.old self.new) }
     {
@@ -230,8 +233,10 @@ impl<W: Widths> Surface<W> {
         ensures ok { OnOk result (let f = unversioned (W.width_of self.old.widths) in let s = screen_of self.old in Draws self.old (print f s text.now) (print_lengths f s text.now (lengths_of self.old)) self.new) }
         ensures err { OnErr result (SameFrame self.old self.new) }
     {
-        for grapheme in text.graphemes(true) {
+        let mut rest = text;
+        'graphemes: while let Some((grapheme, more)) = split_first_grapheme(rest) {
             self.print_one(grapheme)?;
+            rest = more;
         }
         Ok(())
     }

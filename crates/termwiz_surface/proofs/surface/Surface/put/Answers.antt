@@ -21,7 +21,7 @@ module _ (g : given.Over) (c : goal.After-self-1 g) where
   cell_is = c.in_ok-cell.ensures
 
   inside : c.self.inside.x < c.self.inside.width
-  inside = subst (λ (s : SurfaceValue _). s.x < s.width) (sym c.self.view_is) c.requires
+  inside = subst (λ (s : SurfaceValue _). s.x < s.width) (sym c.self.view_is) c.requires.inside
 
   x_is : c.min-self-inside.result ≡ min (c.self.inside.x + columns cell) c.self.inside.width
   x_is = c.min-self-inside.ensures ∙ ap (λ n. min (c.self.inside.x + n) c.self.inside.width) (c.width.ensures.value ∙ ap columns cell_is)

@@ -12,4 +12,5 @@ pub mod PairTexts
 pub mod LinkGrammar
 pub mod LinkOutcomes
 mod Selectors
+mod PlainWidths
 pub mod Cleaned

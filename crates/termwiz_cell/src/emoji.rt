@@ -4,8 +4,9 @@ ghost use Rattle.std.specs.Char.{is_whitespace};
 ghost use Rattle.std.specs.List.{list_all};
 ghost use Rattle.std.specs.Str.{chars};
 ghost use Rattle.termwiz_cell.specs.Width as spec;
-ghost use Rattle.termwiz_cell.specs.Width.{at_version, columns_of};
+ghost use Rattle.termwiz_cell.specs.Width.{at_version, columns_of, unicode_columns};
 
+use termwiz_text::is_one_plain;
 use unicode_segmentation::UnicodeSegmentation;
 use unicode_width::UnicodeWidthStr;
 
@@ -144,7 +145,6 @@ impl Widths for OneColumn {
 pub struct UnicodeWidths;
 
 impl Widths for UnicodeWidths {
-    ghost use Rattle.termwiz_cell.specs.Width.{unicode_columns};
     ghost use Rattle.termwiz_cell.specs.WidthLaws.{unicode_columns-le, unicode_columns-space};
     ghost use Rattle.termwiz_cell.specs.declared.emoji.Presentation.TheVariants.{Text};
 
@@ -158,9 +158,14 @@ impl Widths for UnicodeWidths {
 
     ghost space_has_one = { λ _ _. unicode_columns-space };
 
-    #[tactic(auto, unfolding(crate::specs::Width::unicode_columns))]
+    // Most texts are one printable character of ASCII, for which no table is read.
+    #[tactic(auto, using(crate::proofs::PlainWidths::one_plain_width))]
     fn width(&self, text: &str, _version: Option<UnicodeVersion>) -> usize {
-        text.width().min(2)
+        if is_one_plain(text) {
+            1
+        } else {
+            table_width(text)
+        }
     }
 
     fn presentation(&self, text: &str) -> (Presentation, Option<Presentation>) {
@@ -170,6 +175,13 @@ impl Widths for UnicodeWidths {
     fn char_presentation(&self, _c: char) -> Presentation {
         Presentation::Text
     }
+}
+
+#[tactic(auto, unfolding(crate::specs::Width::unicode_columns))]
+fn table_width(text: &str) -> usize
+    ensures { result ≡ unicode_columns text.now }
+{
+    text.width().min(2)
 }
 
 /// The columns of a grapheme.

@@ -6,8 +6,7 @@ ghost use Rattle.std.specs.Str.{chars};
 ghost use Rattle.termwiz_cell.specs.Width as spec;
 ghost use Rattle.termwiz_cell.specs.Width.{at_version, columns_of, unicode_columns};
 
-use termwiz_text::is_one_plain;
-use unicode_segmentation::UnicodeSegmentation;
+use termwiz_text::{Graphemes, is_one_plain};
 use unicode_width::UnicodeWidthStr;
 
 /// How a character is shown, where it has two forms.
@@ -204,7 +203,7 @@ pub fn unicode_column_width<W: Widths>(
     ensures { result ≡ columns_of (at_version (W.width_of widths.now) version) text.now }
 {
     let mut columns = 0;
-    for grapheme in text.graphemes(true) {
+    for grapheme in Graphemes::new(text) {
         columns += widths.width(grapheme, version);
     }
     columns

@@ -1,2 +1,3 @@
 pub mod Plain
 pub mod First
+pub mod Left

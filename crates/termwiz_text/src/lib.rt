@@ -1,7 +1,7 @@
 //! Texts cut into graphemes.
 #![tactic(auto)]
 
-ghost use Rattle.std.specs.Prelude.{◌≡◌, ◌↔◌, ℕ, true, List, [], ◌∷◌, ◌++◌, MatchOption, IsTrue, IfOk, string_bytes, if◌then◌else◌};
+ghost use Rattle.std.specs.Prelude.{◌≡◌, ◌≤◌, length, ◌↔◌, ℕ, true, List, [], ◌∷◌, ◌++◌, MatchOption, IsTrue, IfOk, string_bytes, if◌then◌else◌};
 ghost use Rattle.termwiz_text.specs.Plain as plain;
 ghost use Rattle.termwiz_text.specs.First.{IsFirst};
 ghost use Rattle.unicode_segmentation.specs.Grapheme.{graphemes};
@@ -88,4 +88,39 @@ pub fn join(before: &mut String, text: &str) -> Result<bool, AllocError>
     }
     before.truncate(seam);
     Ok(false)
+}
+
+/// The graphemes of a text in order.
+#[derive(Debug, Drop)]
+pub struct Graphemes<'a> {
+    rest: &'a str,
+}
+
+impl<'a> Graphemes<'a> {
+    ghost use Rattle.termwiz_text.specs.Left.{graphemes_to_come};
+
+    pub fn new(text: &'a str) -> Graphemes<'a>
+        ensures left { graphemes_to_come result ≡ graphemes true text.now }
+        ensures len { length (graphemes_to_come result) ≤ length text.now }
+    {
+        Graphemes { rest: text }
+    }
+}
+
+impl<'a> Iterator for Graphemes<'a> {
+    ghost use Rattle.std.specs.Iterator.{item_count};
+    ghost use Rattle.unicode_segmentation.specs.Segments.{GivesFirst};
+    ghost use Rattle.termwiz_text.specs.Left.{graphemes_to_come};
+
+    type Item = &'a str;
+
+    ghost next_gives = { GivesFirst (λ piece. piece.now) graphemes_to_come };
+
+    ghost remaining = { item_count graphemes_to_come };
+
+    fn next(&mut self) -> Option<&'a str> {
+        let (first, rest) = split_first_grapheme(self.rest)?;
+        self.rest = rest;
+        Some(first)
+    }
 }

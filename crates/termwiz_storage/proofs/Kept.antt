@@ -1,9 +1,10 @@
 -- The length up to which the last visible cell that is no default blank reaches.
-use Rattle.std.proofs.Common.{◌≡◌, ◌≢◌, ℕ, zero, suc, ◌+◌, ◌-◌, ◌<◌, ◌≤◌, ◌⊎◌, inl, inr, min, List, [], ◌∷◌, length, Some, None, refl, sym, ◌∙◌, ap, arith}
+use Rattle.std.proofs.Common.{◌≡◌, ◌≢◌, ℕ, zero, suc, ◌+◌, ◌-◌, ◌<◌, ◌≤◌, ◌⊎◌, inl, inr, min, List, [], ◌∷◌, length, take, Some, None, refl, sym, ◌∙◌, ap, arith}
 use Rattle.std.proofs.lemmas.Bool.{cases_lt, cases_eq, ne_eqb, eq-eqb}
 use Rattle.termwiz_cell.specs.CellValue.{columns, CellValue, blank}
 use Rattle.termwiz_storage.proofs.Widths.{columns_bounds}
-use Rattle.termwiz_storage.specs.Stored.{visible_from, visible, cell_at, IsKept}
+use Rattle.termwiz_storage.specs.Stored.{stored, visible_from, visible, cell_at, IsKept}
+use Rattle.termwiz_storage.specs.Used.{IsUsedTo}
 
 -- e is where the last visible cell that isn't blank ends, or k where there is none
 pub data EndsAt : ℕ → List (ℕ × CellValue) → ℕ → Type 0 where
@@ -86,3 +87,20 @@ IsKept-ends cs e h =
       blank_after = λ x l b. r.1 x (omega arith) (omega arith) (omega arith);
       least = λ j f. let t : min e (0 + length cs) ≤ j = least 0 0 0 e cs j h (omega arith) (λ x u v w. f x u (omega arith)) in omega arith;
     }
+
+-- a list of default blanks ends where it begins
+ends_blank : (k i s : ℕ) (cs : List CellValue) → ((x : ℕ) → stored cs x ≡ blank) → EndsAt k (visible_from i s cs) k
+ends_blank k i s [] h = nothing
+ends_blank k i zero (c ∷ cs) h = blank_cell (h 0) (ends_blank k (i + 1) ((columns c) - 1) cs (λ x. h (suc x)))
+ends_blank k i (suc s) (c ∷ cs) h = ends_blank k (i + 1) s cs (λ x. h (suc x))
+
+-- the cells that were not used don't count
+ends_used : (k u i s e : ℕ) (cs : List CellValue) → ((x : ℕ) → u ≤ x → stored cs x ≡ blank) → EndsAt k (visible_from i s (take u cs)) e → EndsAt k (visible_from i s cs) e
+ends_used k zero i s e cs h nothing = ends_blank k i s cs (λ x. h x (omega arith))
+ends_used k (suc u) i s e [] h t = t
+ends_used k (suc u) i zero e (c ∷ cs) h (blank_cell q t) = blank_cell q (ends_used k u (i + 1) ((columns c) - 1) e cs (λ x l. h (suc x) (omega arith)) t)
+ends_used k (suc u) i zero e (c ∷ cs) h (other_cell n t) = other_cell n (ends_used (i + (columns c)) u (i + 1) ((columns c) - 1) e cs (λ x l. h (suc x) (omega arith)) t)
+ends_used k (suc u) i (suc s) e (c ∷ cs) h t = ends_used k u (i + 1) s e cs (λ x l. h (suc x) (omega arith)) t
+
+pub IsKept-used : (u : ℕ) (cs : List CellValue) (e : ℕ) → IsUsedTo u cs → EndsAt 0 (visible (take u cs)) e → IsKept cs (min e (length cs))
+IsKept-used u cs e h t = IsKept-ends cs e (ends_used 0 u 0 0 e cs h.rest t)

@@ -65,7 +65,7 @@ put_at i c cs l = elim (cases_Bool (is_wide c)) [
 put_next : (i : ℕ) (c : CellValue) (cs : List CellValue) → i + 1 < length cs → is_wide c ≡ true → stored (put i c cs) (i + 1) ≡ half c
 put_next i c cs l w = let n : i + 1 ≢ i = omega arith in rw w (rw (get_or-set_other, get_or-set_same) refl)
 
-put_else : (i : ℕ) (c : CellValue) (cs : List CellValue) (x : ℕ) → x ≢ i → (is_wide c ≡ true → x ≢ i + 1) → stored (put i c cs) x ≡ stored cs x
+pub put_else : (i : ℕ) (c : CellValue) (cs : List CellValue) (x : ℕ) → x ≢ i → (is_wide c ≡ true → x ≢ i + 1) → stored (put i c cs) x ≡ stored cs x
 put_else i c cs x n m = elim (cases_Bool (is_wide c)) [
   | inl w ↦ let k : x ≢ i + 1 = m w in rw w (rw (get_or-set_other, get_or-set_other) refl)
   | inr w ↦ rw w (rw get_or-set_other refl)

@@ -1,4 +1,5 @@
 pub mod Stored
+pub mod Used
 pub mod Halves
 pub mod FilledAs
 pub mod CellLists

@@ -46,6 +46,17 @@ impl Line {
         Ok(Line { storage, seqno })
     }
 
+    /// Makes this a new line of this many default blanks, with the number. It takes memory only where the line grows. On an error nothing changed.
+    pub fn blank_out(&mut self, width: usize, seqno: SequenceNo) -> Result<(), AllocError>
+        ensures ok { OnOk result (self.new ≡ record { cells = replicate width blank; seqno = seqno }) }
+        ensures err { OnErr result (self.new ≡ self.old) }
+        ensures succeeds { width ≤ length self.old.cells → IsOk result }
+    {
+        self.storage.blank_out(width)?;
+        self.seqno = seqno;
+        Ok(())
+    }
+
     /// Cuts the line to this many columns, or grows it to them by default blanks. Where it grows and its last visible cell lacks its half, the half comes first.
     /// The line takes the number. On an error nothing changed.
     pub fn resize(&mut self, width: usize, seqno: SequenceNo) -> Result<(), AllocError>

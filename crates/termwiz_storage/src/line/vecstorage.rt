@@ -1,5 +1,5 @@
 //! Cells stored one by one.
-ghost use Rattle.std.specs.Prelude.{◌≡◌, [], ◌+◌, ◌-◌, ◌<◌, ◌≤◌, ◌↔◌, IsTrue, OnErr, OnOk, IsOk, IfOk, length, take, vec_capacity, vec_len};
+ghost use Rattle.std.specs.Prelude.{◌≡◌, [], ◌+◌, ◌-◌, ◌<◌, ◌≤◌, ◌↔◌, IsTrue, OnErr, OnOk, IsOk, IfOk, ◌++◌, length, min, take, drop, replicate, vec_capacity, vec_len};
 ghost use Rattle.std.specs.Option.{ForSome};
 ghost use Rattle.std.specs.Cmp.{decided, partial_equiv_from_equiv};
 ghost use Rattle.std.specs.Iterator.{YieldsFirstBy, item_count};
@@ -19,15 +19,20 @@ use termwiz_cell::cell::{Cell, CellAttributes};
 #[derive(Drop, Debug)]
 pub struct VecStorage {
     cells: Vec<Cell>,
+    // From this column on each cell is a default blank.
+    used: usize,
 }
 
 impl Model for VecStorage {
     ghost use Rattle.std.specs.Prelude.{List};
     ghost use Rattle.termwiz_cell.specs.CellValue.{CellValue};
+    ghost use Rattle.termwiz_storage.specs.Used.{IsUsedTo};
 
     ghost Value = { List CellValue };
 
     ghost view = { λ s. s.cells.items };
+
+    ghost invariant = { λ s. IsUsedTo s.used s.cells.items };
 }
 
 impl VecStorage {
@@ -35,7 +40,8 @@ impl VecStorage {
     pub fn new(cells: Vec<Cell>) -> VecStorage
         ensures { result ≡ cells.items }
     {
-        VecStorage { cells }
+        let used = cells.len();
+        VecStorage { cells, used }
     }
 
     /// How many cells are stored.
@@ -77,7 +83,8 @@ impl VecStorage {
         ensures err { OnErr result (self.new ≡ self.old) }
         ensures succeeds { len ≤ length self.old → IsOk result }
     {
-        pad_cells(&mut self.cells, len)
+        pad_cells(&mut self.cells, len)?;
+        Ok(())
     }
 
     // A wide cell that column i cuts becomes a blank with its attributes.
@@ -96,6 +103,7 @@ impl VecStorage {
         requires half_is { half ≡ half_of cell }
         ensures { self.new ≡ put i cell self.old }
     {
+        self.used = self.used.max(i + cell.width());
         set_half(&mut self.cells, i + 1, half);
         self.cells[i] = cell;
     }
@@ -119,6 +127,27 @@ impl VecStorage {
         ensures { self.new ≡ take len self.old }
     {
         self.cells.truncate(len);
+        self.used = self.used.min(len);
+    }
+
+    /// Makes the list this many default blanks. It takes memory only where it grows. On an error nothing changed.
+    pub fn blank_out(&mut self, len: usize) -> Result<(), AllocError>
+        ensures ok { OnOk result (self.new ≡ replicate len blank) }
+        ensures err { OnErr result (self.new ≡ self.old) }
+        ensures succeeds { len ≤ length self.old → IsOk result }
+    {
+        self.pad(len)?;
+        self.truncate(len);
+        self.reset();
+        Ok(())
+    }
+
+    // Each cell becomes a default blank.
+    fn reset(&mut self)
+        ensures { self.new ≡ replicate (length self.old) blank }
+    {
+        blank_first(&mut self.cells, self.used);
+        self.used = 0;
     }
 
     // The columns that the last visible cell has past the end.
@@ -148,8 +177,10 @@ impl VecStorage {
         if self.overhang() > 0 {
             let half = half_behind(&self.cells)?;
             self.cells.push(half)?;
+            self.used = self.cells.len();
         }
-        pad_cells(&mut self.cells, len)
+        pad_cells(&mut self.cells, len)?;
+        Ok(())
     }
 
     /// How many cells are left without the default blanks that end the list.
@@ -157,7 +188,7 @@ impl VecStorage {
         ensures { IsKept self.now result }
     {
         let mut kept = 0;
-        for cell in self.iter() {
+        for cell in VecStorageIter::new(&self.cells[..self.used.min(self.cells.len())]) {
             if !is_blank(&cell) {
                 kept = cell.cell_index().saturating_add(cell.width());
             }
@@ -180,6 +211,15 @@ fn pad_cells(cells: &mut Vec<Cell>, len: usize) -> Result<(), AllocError>
         }
     }
     Ok(())
+}
+
+// The first cells become default blanks.
+fn blank_first(cells: &mut Vec<Cell>, count: usize)
+    ensures { cells.new.items ≡ replicate (min count (length cells.old.items)) blank ++ drop count cells.old.items }
+{
+    for i in 0..count.min(cells.len()) {
+        cells[i] = Cell::blank();
+    }
 }
 
 fn end_of(i: usize, cell: &Cell) -> Result<usize, AllocError>
@@ -237,7 +277,10 @@ impl Clone for VecStorage {
 
     fn clone(&self) -> Result<VecStorage, AllocError> {
         let cells = self.cells.clone()?;
-        Ok(VecStorage { cells })
+        Ok(VecStorage {
+            cells,
+            used: self.used,
+        })
     }
 }
 

@@ -1,20 +1,25 @@
-use Rattle.std.proofs.Common.{◌≡◌, ℕ, ◌+◌, List, length, vec_len, min, arith, refl, sym, ◌∙◌, ap, subst, rules}
+use Rattle.std.proofs.Common.{◌≡◌, ℕ, ◌+◌, List, length, take, vec_len, min, arith, refl, sym, ◌∙◌, ap, subst, rules}
 use Rattle.std.proofs.lemmas.Bool.{iff_false}
 use Rattle.termwiz_cell.specs.CellValue.{CellValue, columns}
 use Rattle.termwiz_storage.specs.Stored.{visible, IsKept}
+use Rattle.termwiz_storage.specs.Used.{IsUsedTo}
 use Rattle.termwiz_storage.specs.CellRef.{indexed_cell}
-use Rattle.termwiz_storage.proofs.Kept.{EndsAt, blank_cell, other_cell, nothing, IsKept-ends}
+use Rattle.termwiz_storage.proofs.Used.{used-within}
+use Rattle.termwiz_storage.proofs.Kept.{EndsAt, blank_cell, other_cell, nothing, IsKept-used}
 use Rattle.termwiz_storage.proofs.line.vecstorage.VecStorage.kept_len.Goals as goal
 
 pub returns : goal.returns
 returns c =
     let h = c.loop-cell.invariant.end_is in
     let cs : List CellValue = c.args.self.now in
-    let walk : c.into_iter-cell-iterator.result ≡ visible cs = c.into_iter-cell-iterator.ensures.into_iter_gives ∙ c.iter-cell-items.ensures in
+    let walk : c.into_iter-cell-iterator.result ≡ visible (take c.min.result cs) = c.into_iter-cell-iterator.ensures.into_iter_gives ∙ c.new-cell-items.ensures ∙ ap (λ (xs : List CellValue). visible (take c.min.result xs)) (c.deref.ensures.value ∙ c.self.view_is) in
     let end : EndsAt 0 c.into_iter-cell-iterator.result h.0 = h.2 h.0 (subst (λ (z : List (ℕ × CellValue)). EndsAt h.0 z h.0) (sym c.in-None.ensures.steps.0) nothing) in
-    let kept : IsKept cs (min h.0 (length cs)) = IsKept-ends cs h.0 (subst (λ (z : List (ℕ × CellValue)). EndsAt 0 z h.0) walk end) in
+    let before : IsUsedTo c.self.inside.used cs = rw c.self.view_is at c.self.invariant in
+    let bound : c.min.result ≡ min c.self.inside.used (length cs) = omega (arith, c.self.inside.cells.ok.0, ap length c.self.view_is) in
+    let used : IsUsedTo c.min.result cs = rw bound (used-within c.self.inside.used cs before) in
+    let kept : IsKept cs (min h.0 (length cs)) = IsKept-used c.min.result cs h.0 used (subst (λ (z : List (ℕ × CellValue)). EndsAt 0 z h.0) walk end) in
     let len : vec_len c.self.inside.cells ≡ length cs = c.self.inside.cells.ok.0 ∙ ap length c.self.view_is in
-    let n : c.min.result ≡ min h.0 (length cs) = omega (arith, h.1) in
+    let n : c.min-2.result ≡ min h.0 (length cs) = omega (arith, h.1) in
     rw n kept
 
 pub loop-cell-init : goal.loop-cell-init

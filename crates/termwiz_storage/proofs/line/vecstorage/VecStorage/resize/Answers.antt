@@ -1,15 +1,12 @@
-use Rattle.std.proofs.Common.{◌≡◌, ◌-◌, ◌<◌, ◌≤◌, ◌∙◌, ◌++◌, ◌∷◌, [], List, length, vec_capacity, OnErr, IsOk, Result, Ok, Err, ap, arith}
-use Rattle.std.proofs.lemmas.Result.{on_ok_weaker}
+use Rattle.std.proofs.Common.{◌≡◌, ◌-◌, ◌<◌, ◌≤◌, ◌∙◌, ◌++◌, ◌∷◌, [], List, length, ap, arith}
 use Rattle.termwiz_cell.specs.CellValue.{CellValue, half}
 use Rattle.termwiz_storage.specs.Stored.{stored}
 use Rattle.termwiz_storage.specs.Halves.{overhang, missing_half}
+use Rattle.termwiz_storage.specs.Used.{IsUsedTo}
+use Rattle.termwiz_storage.proofs.Used.{used-all, used-more, used-padded}
 use Rattle.termwiz_storage.proofs.Halves.{grown-wide, grown-narrow, resized-grown}
 use Rattle.termwiz_storage.proofs.line.vecstorage.VecStorage.resize.Goals as goal
 use Rattle.termwiz_storage.proofs.line.vecstorage.VecStorage.resize.Goals.{then-overhang-gt0+in_ok-half+in_ok-push, else-overhang-gt0}
-
-never : {T E : Type 0} (P : Type 0) (r : Result T E) → IsOk r → OnErr r P
-never P (Ok x) h = tt
-never P (Err e) h = (cc)
 
 pub returns-clause-ok : goal.returns-clause-ok
 returns-clause-ok c =
@@ -23,13 +20,14 @@ returns-clause-ok c =
           rw w.self-inside-is (w.in_ok-push.ensures.items ∙ ap (λ (xs : List CellValue). xs ++ w.in_ok-half.half ∷ []) base ∙ grown-wide cs w.in_ok-half.half (omega arith) is)
       | else-overhang-gt0 w ↦ rw w.self-inside-is (base ∙ grown-narrow cs (omega arith))
     ] in
-    on_ok_weaker c.pad_cells.result (λ e. e ∙ resized-grown c.args.len cs c.if-overhang-gt0.self-inside.cells.items short grown) c.pad_cells.ensures.ok
+    c.in_ok-pad_cells.ensures.ok ∙ resized-grown c.args.len cs c.if-overhang-gt0.self-inside.cells.items short grown
 
-pub returns-clause-err : goal.returns-clause-err
-returns-clause-err c =
-    let room : c.args.len ≤ vec_capacity c.reserve.new.self = omega (arith, c.in_ok-reserve.ensures.ok, c.in_ok-reserve.ensures.len) in
-    let enough : c.args.len ≤ vec_capacity c.if-overhang-gt0.self-inside.cells = elim c.if-overhang-gt0.branch [
-      | then-overhang-gt0+in_ok-half+in_ok-push w ↦ rw w.self-inside-is (omega (arith, w.in_ok-push.ensures.capacity))
-      | else-overhang-gt0 w ↦ rw w.self-inside-is room
+pub invariant_of-self-3 : goal.invariant_of-self-3
+invariant_of-self-3 c =
+    let before : IsUsedTo c.if-overhang-gt0.self-inside.used c.if-overhang-gt0.self-inside.cells.items = elim c.if-overhang-gt0.branch [
+      | then-overhang-gt0+in_ok-half+in_ok-push w ↦
+          let long : length w.push.new.self.items ≤ w.len-self-inside.result = omega (arith, w.push.new.self.ok.0) in
+          rw w.self-inside-is (used-more _ _ w.push.new.self.items long (used-all w.push.new.self.items))
+      | else-overhang-gt0 w ↦ rw w.self-inside-is (rw c.in_ok-reserve.ensures.items c.self.invariant)
     ] in
-    never _ c.pad_cells.result (c.pad_cells.ensures.succeeds enough)
+    rw c.in_ok-pad_cells.ensures.ok (used-padded _ c.args.len _ before)

@@ -1,8 +1,9 @@
 -- The entries of rows, one row more at a time, and those of blank rows at the bottom.
-use Rattle.std.proofs.Common.{◌≡◌, ℕ, suc, ◌+◌, ◌-◌, ◌<◌, ◌≤◌, Bool, true, false, cond, not, ◌&&◌, eqb, ltb, List, [], ◌∷◌, ◌++◌, ltb-true, arith, add-one, refl, sym, ap, ◌∙◌}
+use Rattle.std.proofs.Common.{◌≡◌, ℕ, zero, suc, replicate, ◌+◌, ◌-◌, ◌<◌, ◌≤◌, Bool, true, false, cond, not, ◌&&◌, eqb, ltb, List, [], ◌∷◌, ◌++◌, ltb-true, arith, add-one, refl, sym, ap, ◌∙◌}
 use Rattle.std.proofs.lemmas.Bool.{cond-true, cond-false, and_parts, and_from, and_left, false_from_ne_true, lt-ltb}
 use Rattle.termwiz_cell.specs.Attributes.{Attributes, default_attributes, attributes_eq, is_plain}
-use Rattle.termwiz_cell.specs.CellValue.{CellValue}
+use Rattle.std.specs.Cmp.Lexicographic.{pointwise}
+use Rattle.termwiz_cell.specs.CellValue.{CellValue, blank_of, cell_eq}
 use Rattle.termwiz_cell.specs.ChangeValue as change
 use Rattle.termwiz_cell.specs.ChangeValue.{ChangeValue}
 use Rattle.termwiz_line.specs.Row.{visible_upto}
@@ -57,3 +58,18 @@ module _ (w h : ℕ) (rows : List (List CellValue)) (a : Attributes) (is_bottom 
 
     pub apart : (i < h → t + 1 < h → ⊥) → all_rows w h rows ≡ rows_upto w rows h
     apart n = cond-false (joins_rows w h rows) _ (rows_upto w rows h) (joins_are ∙ false_from_ne_true _ (λ e. let parts = and_parts (ltb i h) (ltb (suc t) h) e in n (ltb-true i h parts.0) (omega (arith, ltb-true (suc t) h parts.1))))
+
+-- the row above row n is such a blank one, or it is not
+pub first_blank-above : (w : ℕ) (a : Attributes) (rows : List (List CellValue)) (n : ℕ) → 0 < n → pointwise cell_eq (row_at rows (n - 1)) (replicate w (blank_of a)) ≡ true → first_blank w a rows (n - 1) ≡ first_blank w a rows n
+first_blank-above w a rows zero l e = absurd (omega arith)
+first_blank-above w a rows (suc n) l e =
+    let one : suc n - 1 ≡ n = omega arith in
+    let here : pointwise cell_eq (row_at rows n) (replicate w (blank_of a)) ≡ true = rw one at e in
+    ap (first_blank w a rows) one ∙ sym (cond-true _ (first_blank w a rows n) (suc n) here)
+
+pub first_blank-here : (w : ℕ) (a : Attributes) (rows : List (List CellValue)) (n : ℕ) → 0 < n → pointwise cell_eq (row_at rows (n - 1)) (replicate w (blank_of a)) ≡ false → n ≡ first_blank w a rows n
+first_blank-here w a rows zero l e = absurd (omega arith)
+first_blank-here w a rows (suc n) l e =
+    let one : suc n - 1 ≡ n = omega arith in
+    let here : pointwise cell_eq (row_at rows n) (replicate w (blank_of a)) ≡ false = rw one at e in
+    sym (cond-false _ (first_blank w a rows n) (suc n) here)

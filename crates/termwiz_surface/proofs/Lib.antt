@@ -23,3 +23,5 @@ mod ShownCells
 mod LastChanges
 mod JoinedRows
 mod RowTails
+mod Lines
+mod Filling

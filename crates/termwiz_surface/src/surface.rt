@@ -34,15 +34,17 @@ use pen::{background_only, blank_with};
 use place::{column_at, row_at};
 use print::{LineBreak, line_break, printed_cell};
 use repaint::{all_rows, framed};
-use rows::{Row, blank_rows, chars_of, fill_row, fill_rows, paint_row, resized_lines, scroll_rows};
+use rows::{blank_rows, chars_of, fill_row, fill_rows, paint_row, resized_lines, scroll_rows};
 pub use screen::Screen;
 use std::alloc::{AllocError, Global};
 use std::borrow::CowSlice;
+use std::collections::VecDeque;
 use std::marker::Model;
 use std::slice;
 use termwiz_cell::cell::{AttributeChange, Cell, CellAttributes};
 use termwiz_cell::change::{Change, CursorVisibility, Position, SEQ_ZERO, SequenceNo};
 use termwiz_cell::emoji::Widths;
+use termwiz_line::line::line::Line;
 use termwiz_text::split_first_grapheme;
 use thiserror::Error;
 
@@ -75,7 +77,7 @@ pub struct Surface<W: Widths> {
     alloc: Global,
     width: usize,
     height: usize,
-    rows: Vec<Row>,
+    rows: VecDeque<Line>,
     x: usize,
     y: usize,
     visibility: CursorVisibility,
@@ -85,13 +87,14 @@ pub struct Surface<W: Widths> {
 
 impl<W: Widths> Model for Surface<W> {
     ghost use Rattle.termwiz_cell.specs.Width.{unversioned};
+    ghost use Rattle.termwiz_surface.specs.ScreenValue.{cells_of};
     ghost use Rattle.termwiz_surface.specs.SurfaceValue.{SurfaceValue, IsSound};
 
     ghost Value = { SurfaceValue W };
 
-    ghost view = { λ s. record { widths = s.widths; width = s.width; height = s.height; lines = s.rows.items; x = s.x; y = s.y; visibility = s.visibility; pen = s.pen; number = s.number } };
+    ghost view = { λ s. record { widths = s.widths; width = s.width; height = s.height; lines = cells_of s.rows.items; x = s.x; y = s.y; visibility = s.visibility; pen = s.pen; number = s.number } };
 
-    ghost invariant = { λ s. IsSound (unversioned (W.width_of s.widths)) (record { widths = s.widths; width = s.width; height = s.height; lines = s.rows.items; x = s.x; y = s.y; visibility = s.visibility; pen = s.pen; number = s.number }) };
+    ghost invariant = { λ s. IsSound (unversioned (W.width_of s.widths)) (record { widths = s.widths; width = s.width; height = s.height; lines = cells_of s.rows.items; x = s.x; y = s.y; visibility = s.visibility; pen = s.pen; number = s.number }) };
 }
 
 impl<W: Widths> Surface<W> {
@@ -161,7 +164,7 @@ impl<W: Widths> Surface<W> {
     pub fn screen_chars_to_string(&self) -> Result<String, AllocError>
         ensures { IfOk result (λ text. string_bytes text ≡ shown_chars (screen_of self.now).rows (lengths_of self.now)) }
     {
-        chars_of(self.alloc, self.rows.as_slice())
+        chars_of(self.alloc, &self.rows)
     }
 
     /// A copy of what the surface shows: each row is cut or filled to the width with default blanks, and has the number 0.
@@ -169,7 +172,7 @@ impl<W: Widths> Surface<W> {
         ensures shown { IfOk result (λ screen. screen_value screen ≡ screen_of self.now) }
         ensures numbers { IfOk result (λ screen. All (λ line. line.seqno ≡ 0) screen.rows.items) }
     {
-        let rows = resized_lines(self.alloc, self.rows.as_slice(), self.width)?;
+        let rows = resized_lines(self.alloc, &self.rows, self.width)?;
         let pen = self.pen.clone()?;
         Ok(Screen {
             width: self.width,
@@ -189,7 +192,7 @@ impl<W: Widths> Surface<W> {
             self.y += 1;
             return Ok(());
         }
-        scroll_rows(self.alloc, &mut self.rows, self.width)?;
+        scroll_rows(&mut self.rows, self.width)?;
         Ok(())
     }
 

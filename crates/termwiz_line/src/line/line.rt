@@ -69,6 +69,18 @@ impl Line {
         Ok(())
     }
 
+    /// A copy with this number, cut to this many columns, or grown to them as by `resize`.
+    pub fn resized(&self, width: usize, seqno: SequenceNo) -> Result<Line, AllocError>
+        ensures { IfOk result (λ line. line ≡ record { cells = resized width self.now.cells; seqno = seqno }) }
+    {
+        let mut cells = self.storage.clone()?;
+        cells.resize(width)?;
+        Ok(Line {
+            storage: cells,
+            seqno,
+        })
+    }
+
     /// The number of the last change.
     pub fn current_seqno(&self) -> SequenceNo
         ensures { result ≡ self.now.seqno }

@@ -9,32 +9,34 @@ ghost use Rattle.termwiz_line.specs.Entries as line;
 ghost use Rattle.termwiz_line.specs.PennedValue.{penned_value};
 ghost use Rattle.termwiz_line.specs.Row.{row_of};
 ghost use Rattle.termwiz_surface.specs.Screen.{Screen};
+ghost use Rattle.termwiz_surface.specs.ScreenValue.{cells_of};
 ghost use Rattle.termwiz_surface.specs.Padding.{ArePaddable};
 ghost use Rattle.termwiz_surface.specs.LastChange.{last_is};
 ghost use Rattle.termwiz_surface.specs.Repaint as spec;
 
 use crate::surface::pen::blank_with;
-use crate::surface::rows::Row;
 use crate::surface::shown::{is_row_of, last_attrs, visible_cells};
 use std::alloc::{AllocError, Global};
+use std::collections::VecDeque;
 use termwiz_cell::cell::{Cell, CellAttributes};
 use termwiz_cell::change::{Change, CursorVisibility, Position};
 use termwiz_cell::color::ColorAttribute;
 use termwiz_line::entries::{Penned, is_default, is_plain, push_pen, row_entries};
+use termwiz_line::line::line::Line;
 use termwiz_storage::line::cellref::CellRef;
 
 /// The entries of all rows on a cleared screen. Blank rows at the bottom with one background are left to one clear to the end of the screen.
 pub(super) fn all_rows<'a>(
     alloc: Global,
-    rows: &'a [Row],
+    rows: &'a VecDeque<Line>,
     width: usize,
     padding: &'a Cell,
 ) -> Result<Penned<'a>, AllocError>
     requires some_column { 0 < width }
-    requires some_row { 0 < length rows.now }
-    requires paddable { ArePaddable width rows.now }
+    requires some_row { 0 < length (cells_of rows.now.items) }
+    requires paddable { ArePaddable width (cells_of rows.now.items) }
     requires blank { padding.now ≡ blank }
-    ensures { IfOk result (λ drawn. penned_value drawn ≡ spec.all_rows width (length rows.now) (map (row_of width) rows.now)) }
+    ensures { IfOk result (λ drawn. penned_value drawn ≡ spec.all_rows width (length (cells_of rows.now.items)) (map (row_of width) (cells_of rows.now.items))) }
 {
     let attrs = last_attrs(&rows[rows.len() - 1], width, padding);
     if is_clearable(attrs) {
@@ -53,16 +55,16 @@ fn is_clearable(attrs: &CellAttributes) -> bool
 // The entries of all rows, where the last column of the last row has these attributes.
 fn joined_rows<'a>(
     alloc: Global,
-    rows: &'a [Row],
+    rows: &'a VecDeque<Line>,
     width: usize,
     padding: &'a Cell,
     attrs: &'a CellAttributes,
 ) -> Result<Penned<'a>, AllocError>
-    requires paddable { ArePaddable width rows.now }
+    requires paddable { ArePaddable width (cells_of rows.now.items) }
     requires blank { padding.now ≡ blank }
-    requires bottom { attrs.now ≡ spec.bottom_attrs width (length rows.now) (map (row_of width) rows.now) }
+    requires bottom { attrs.now ≡ spec.bottom_attrs width (length (cells_of rows.now.items)) (map (row_of width) (cells_of rows.now.items)) }
     requires clearable { (is_plain attrs.now && not (attributes_eq attrs.now default_attributes)) ≡ true }
-    ensures { IfOk result (λ drawn. penned_value drawn ≡ spec.all_rows width (length rows.now) (map (row_of width) rows.now)) }
+    ensures { IfOk result (λ drawn. penned_value drawn ≡ spec.all_rows width (length (cells_of rows.now.items)) (map (row_of width) (cells_of rows.now.items))) }
 {
     let cleared = blank_with(attrs)?;
     let above = rows_above(rows, width, &cleared);
@@ -76,12 +78,12 @@ fn joined_rows<'a>(
 }
 
 // How many rows stand above those at the bottom that show this cell alone.
-fn rows_above(rows: &[Row], width: usize, cleared: &Cell) -> usize
-    requires paddable { ArePaddable width rows.now }
+fn rows_above(rows: &VecDeque<Line>, width: usize, cleared: &Cell) -> usize
+    requires paddable { ArePaddable width (cells_of rows.now.items) }
     requires blank { cleared.now ≡ blank_of cleared.now.attrs }
     requires other { attributes_eq cleared.now.attrs default_attributes ≡ false }
-    ensures above { result ≡ spec.first_blank width cleared.now.attrs (map (row_of width) rows.now) (length rows.now) }
-    ensures within { result ≤ length rows.now }
+    ensures above { result ≡ spec.first_blank width cleared.now.attrs (map (row_of width) (cells_of rows.now.items)) (length (cells_of rows.now.items)) }
+    ensures within { result ≤ length (cells_of rows.now.items) }
 {
     let mut above = rows.len();
     while above > 0 && is_row_of(&rows[above - 1], width, cleared) {
@@ -147,15 +149,15 @@ fn clear_below<'a>(
 // The entries of the first rows.
 fn rows_upto<'a>(
     alloc: Global,
-    rows: &'a [Row],
+    rows: &'a VecDeque<Line>,
     width: usize,
     padding: &'a Cell,
     count: usize,
 ) -> Result<Penned<'a>, AllocError>
-    requires within { count ≤ length rows.now }
-    requires paddable { ArePaddable width rows.now }
+    requires within { count ≤ length (cells_of rows.now.items) }
+    requires paddable { ArePaddable width (cells_of rows.now.items) }
     requires blank { padding.now ≡ blank }
-    ensures { IfOk result (λ drawn. penned_value drawn ≡ spec.rows_upto width (map (row_of width) rows.now) count) }
+    ensures { IfOk result (λ drawn. penned_value drawn ≡ spec.rows_upto width (map (row_of width) (cells_of rows.now.items)) count) }
 {
     let nothing = Penned {
         entries: Vec::new(alloc),
@@ -168,18 +170,18 @@ fn rows_upto<'a>(
 fn more_rows<'a>(
     alloc: Global,
     drawn: Penned<'a>,
-    rows: &'a [Row],
+    rows: &'a VecDeque<Line>,
     width: usize,
     padding: &'a Cell,
     from: usize,
     to: usize,
 ) -> Result<Penned<'a>, AllocError>
-    requires upto { penned_value drawn ≡ spec.rows_upto width (map (row_of width) rows.now) from }
+    requires upto { penned_value drawn ≡ spec.rows_upto width (map (row_of width) (cells_of rows.now.items)) from }
     requires order { from ≤ to }
-    requires within { to ≤ length rows.now }
-    requires paddable { ArePaddable width rows.now }
+    requires within { to ≤ length (cells_of rows.now.items) }
+    requires paddable { ArePaddable width (cells_of rows.now.items) }
     requires blank { padding.now ≡ blank }
-    ensures { IfOk result (λ drawn. penned_value drawn ≡ spec.rows_upto width (map (row_of width) rows.now) to) }
+    ensures { IfOk result (λ drawn. penned_value drawn ≡ spec.rows_upto width (map (row_of width) (cells_of rows.now.items)) to) }
 {
     let Penned {
         mut entries,

@@ -7,27 +7,27 @@ ghost use Rattle.termwiz_storage.specs.Stored.{stored};
 ghost use Rattle.termwiz_line.specs.Row.{row_of, visible_upto};
 ghost use Rattle.termwiz_surface.specs.Padding.{IsPaddable, blanks_from};
 
-use crate::surface::rows::Row;
 use std::alloc::{AllocError, Global};
 use termwiz_cell::cell::{Cell, CellAttributes};
+use termwiz_line::line::line::Line;
 use termwiz_storage::line::cellref::CellRef;
 
 /// The visible cells of a row, each with its column.
 pub(super) fn visible_cells<'a>(
     alloc: Global,
-    row: &'a Row,
+    row: &'a Line,
     width: usize,
     padding: &'a Cell,
 ) -> Result<Vec<CellRef<'a>>, AllocError>
-    requires paddable { IsPaddable width row.now }
+    requires paddable { IsPaddable width row.now.cells }
     requires blank { padding.now ≡ blank }
-    ensures { IfOk result (λ cells. map indexed_cell cells.items ≡ visible_upto (row_of width row.now) width) }
+    ensures { IfOk result (λ cells. map indexed_cell cells.items ≡ visible_upto (row_of width row.now.cells) width) }
 {
     let mut cells = Vec::with_capacity(alloc, width)?;
-    for cell in row.line().visible_cells() {
+    for cell in row.visible_cells() {
         cells.push(cell)?;
     }
-    push_padding(&mut cells, row.line().len(), width, padding)?;
+    push_padding(&mut cells, row.len(), width, padding)?;
     Ok(cells)
 }
 
@@ -52,15 +52,15 @@ fn push_padding<'a>(
 }
 
 /// The attributes of a row's last column.
-pub(super) fn last_attrs<'a>(row: &'a Row, width: usize, padding: &'a Cell) -> &'a CellAttributes
+pub(super) fn last_attrs<'a>(row: &'a Line, width: usize, padding: &'a Cell) -> &'a CellAttributes
     requires some_column { 0 < width }
-    requires paddable { IsPaddable width row.now }
+    requires paddable { IsPaddable width row.now.cells }
     requires blank { padding.now ≡ blank }
-    ensures { result.now ≡ (stored (row_of width row.now) (width - 1)).attrs }
+    ensures { result.now ≡ (stored (row_of width row.now.cells) (width - 1)).attrs }
 {
     let mut attrs = padding.attrs();
-    if row.line().len() == width {
-        for cell in row.line().visible_cells() {
+    if row.len() == width {
+        for cell in row.visible_cells() {
             attrs = cell.attrs();
         }
     }
@@ -68,16 +68,16 @@ pub(super) fn last_attrs<'a>(row: &'a Row, width: usize, padding: &'a Cell) -> &
 }
 
 /// Whether every column of a row shows this narrow cell, which is not a default blank.
-pub(super) fn is_row_of(row: &Row, width: usize, cell: &Cell) -> bool
-    requires paddable { IsPaddable width row.now }
+pub(super) fn is_row_of(row: &Line, width: usize, cell: &Cell) -> bool
+    requires paddable { IsPaddable width row.now.cells }
     requires narrow { is_wide cell.now ≡ false }
     requires other { cell_eq cell.now blank ≡ false }
-    ensures { result ≡ pointwise cell_eq (row_of width row.now) (replicate width cell.now) }
+    ensures { result ≡ pointwise cell_eq (row_of width row.now.cells) (replicate width cell.now) }
 {
-    if row.line().len() < width {
+    if row.len() < width {
         return false;
     }
-    for shown in row.line().visible_cells() {
+    for shown in row.visible_cells() {
         if !is_cell(&shown, cell) {
             return false;
         }

@@ -1,6 +1,7 @@
 use Rattle.std.proofs.Common.{arith, refl}
 use Rattle.std.specs.Prelude.{None}
 use Rattle.termwiz_cell.specs.Width.{unversioned}
+use Rattle.termwiz_surface.specs.ScreenValue.{cells_of}
 use Rattle.termwiz_surface.proofs.Changed.{IsSound-partly, IsSound-screen, rows-screen, lengths-screen}
 use Rattle.termwiz_surface.proofs.surface.Surface.clear_screen.Goals as goal
 
@@ -21,6 +22,6 @@ returns-clause-ok g c =
       width = refl;
       height = refl;
       number = refl;
-      screen_is = rw (rows-screen f _ (record { space = g.met.W.Widths.space_has_one c.self.inside.widths None }) c.self.invariant c.args.pen c.fill_rows.new.rows.items done) refl;
-      lengths_are = lengths-screen f _ (record { space = g.met.W.Widths.space_has_one c.self.inside.widths None }) c.self.invariant c.args.pen c.fill_rows.new.rows.items done;
+      screen_is = rw (rows-screen f _ (record { space = g.met.W.Widths.space_has_one c.self.inside.widths None }) c.self.invariant c.args.pen (cells_of c.fill_rows.new.rows.items) done) refl;
+      lengths_are = lengths-screen f _ (record { space = g.met.W.Widths.space_has_one c.self.inside.widths None }) c.self.invariant c.args.pen (cells_of c.fill_rows.new.rows.items) done;
     })

@@ -3,6 +3,7 @@ use Rattle.std.specs.Prelude.{nat_lt}
 use Rattle.std.proofs.lemmas.Bool.{le-ltb}
 use Rattle.termwiz_cell.specs.Width.{unversioned}
 use Rattle.std.specs.Prelude.{None}
+use Rattle.termwiz_surface.specs.ScreenValue.{cells_of}
 use Rattle.termwiz_surface.proofs.Drawn.{IsSound-scrolled, rows-scrolled, lengths-scrolled}
 use Rattle.termwiz_surface.proofs.surface.Surface.line_feed.Goals as goal
 
@@ -18,6 +19,6 @@ returns-clause-ok g c =
       width = refl;
       height = refl;
       number = refl;
-      screen_is = rw (rows-scrolled c.self.inside.width c.self.inside.rows.items) refl;
-      lengths_are = lengths-scrolled c.self.inside.width c.self.inside.rows.items;
+      screen_is = rw (rows-scrolled c.self.inside.width (cells_of c.self.inside.rows.items)) refl;
+      lengths_are = lengths-scrolled c.self.inside.width (cells_of c.self.inside.rows.items);
     })

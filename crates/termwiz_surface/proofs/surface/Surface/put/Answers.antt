@@ -2,6 +2,7 @@ use Rattle.std.proofs.Common.{◌≡◌, ◌+◌, ◌<◌, ℕ, List, min, ap, r
 use Rattle.std.specs.Prelude.{None, slice_set}
 use Rattle.termwiz_cell.specs.CellValue.{CellValue, columns, measured}
 use Rattle.termwiz_cell.specs.Width.{unversioned}
+use Rattle.termwiz_surface.specs.ScreenValue.{cells_of}
 use Rattle.termwiz_surface.specs.Graphemes.{single}
 use Rattle.termwiz_surface.specs.Rows.{painted_in}
 use Rattle.termwiz_surface.specs.Screen.{row_at}
@@ -26,7 +27,7 @@ module _ (g : given.Over) (c : goal.After-self-1 g) where
   x_is : c.min-self-inside.result ≡ min (c.self.inside.x + columns cell) c.self.inside.width
   x_is = c.min-self-inside.ensures ∙ ap (λ n. min (c.self.inside.x + n) c.self.inside.width) (c.width.ensures.value ∙ ap columns cell_is)
 
-  rows_are : c.paint_row.new.rows.items ≡ slice_set c.self.inside.rows.items c.self.inside.y (painted_in c.self.inside.width c.self.inside.x cell (row_at c.self.inside.rows.items c.self.inside.y))
+  rows_are : (cells_of c.paint_row.new.rows.items) ≡ slice_set (cells_of c.self.inside.rows.items) c.self.inside.y (painted_in c.self.inside.width c.self.inside.x cell (row_at (cells_of c.self.inside.rows.items) c.self.inside.y))
   rows_are = rw cell_is at c.in_ok-paint_row.ensures.ok
 
 pub invariant_of-self-2 : goal.invariant_of-self-2

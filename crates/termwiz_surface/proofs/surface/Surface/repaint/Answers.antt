@@ -3,6 +3,7 @@ use Rattle.std.proofs.lemmas.Result.{IfOk-weaker}
 use Rattle.termwiz_cell.specs.ChangeValue.{change_value}
 use Rattle.termwiz_line.specs.PennedValue.{penned_value}
 use Rattle.termwiz_line.specs.Row.{row_of}
+use Rattle.termwiz_surface.specs.ScreenValue.{cells_of}
 use Rattle.termwiz_surface.specs.Screen.{Screen}
 use Rattle.termwiz_surface.specs.SurfaceValue.{SurfaceValue, screen_of}
 use Rattle.termwiz_surface.specs.Repaint.{all_rows, repaint_of, repaint}
@@ -14,8 +15,7 @@ returns g c =
     let s = screen_of c.args.self.now in
     let drawn : penned_value c.in_ok-drawn.drawn ≡ all_rows s.width s.height s.rows =
     c.in_ok-drawn.ensures
-    ∙ ap (λ rows. all_rows shown.width (length rows) (map (row_of shown.width) rows)) c.deref.ensures.value
-    ∙ ap (λ n. all_rows shown.width n (map (row_of shown.width) shown.rows.items)) c.self.invariant.full
+    ∙ ap (λ n. all_rows shown.width n (map (row_of shown.width) (cells_of shown.rows.items))) c.self.invariant.full
     ∙ ap (λ (v : SurfaceValue _). all_rows v.width v.height (map (row_of v.width) v.lines)) c.self.view_is in
     IfOk-weaker c.framed.result
     (λ changes. (t : Screen) → t.x ≡ shown.x → t.y ≡ shown.y → t.visibility ≡ shown.visibility → t.pen ≡ shown.pen → map change_value changes.items ≡ repaint_of (penned_value c.in_ok-drawn.drawn) t)

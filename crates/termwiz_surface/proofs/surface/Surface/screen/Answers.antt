@@ -12,12 +12,12 @@ use Rattle.termwiz_surface.proofs.surface.Surface.screen.Given as given
 use Rattle.termwiz_surface.proofs.surface.Surface.screen.Goals as goal
 
 module _ (g : given.Over) (c : goal.After-result-1 g) where
-  pub made : c.in_ok-rows.rows.items ≡ map (λ r. numberless (resized c.self.inside.width r)) c.self.inside.rows.items
-  made = c.in_ok-rows.ensures ∙ ap (map (λ r. numberless (resized c.self.inside.width r))) c.as_slice.ensures.value
+  pub made : c.in_ok-rows.rows.items ≡ map (λ r. numberless (resized c.self.inside.width r)) (cells_of c.self.inside.rows.items)
+  made = c.in_ok-rows.ensures
 
 pub returns-clause-shown : goal.returns-clause-shown
 returns-clause-shown g c =
-    let rows_are : cells_of c.in_ok-rows.rows.items ≡ map (row_of c.self.inside.width) c.self.inside.rows.items = ap cells_of (made g c) ∙ rows-resized (unversioned (g.W.Widths.width_of c.self.inside.widths)) _ c.self.invariant in
+    let rows_are : cells_of c.in_ok-rows.rows.items ≡ map (row_of c.self.inside.width) (cells_of c.self.inside.rows.items) = ap cells_of (made g c) ∙ rows-resized (unversioned (g.W.Widths.width_of c.self.inside.widths)) _ c.self.invariant in
     let pen_is : c.in_ok-pen.pen ≡ c.self.inside.pen = c.in_ok-pen.ensures.cases in
     (λ i. record {
       width = c.self.inside.width;
@@ -32,4 +32,4 @@ returns-clause-shown g c =
 pub returns-clause-numbers : goal.returns-clause-numbers
 returns-clause-numbers g c =
     subst (All (λ (l : LineValue). l.seqno ≡ 0)) (sym (made g c))
-    (All-map (λ (l : LineValue). l.seqno ≡ 0) (λ r. numberless (resized c.self.inside.width r)) c.self.inside.rows.items (λ k d l. refl))
+    (All-map (λ (l : LineValue). l.seqno ≡ 0) (λ r. numberless (resized c.self.inside.width r)) (cells_of c.self.inside.rows.items) (λ k d l. refl))

@@ -1,13 +1,14 @@
 use Rattle.std.proofs.Common.{◌≡◌, ◌≤◌, map, length}
 use Rattle.termwiz_line.specs.Row.{row_of}
+use Rattle.termwiz_surface.specs.ScreenValue.{cells_of}
 use Rattle.termwiz_surface.specs.Repaint.{first_blank}
 use Rattle.termwiz_surface.proofs.surface.repaint.rows_above.Given as goal
 
 -- the rows below are blank
 abbrev pub invariant-loop-above : goal.invariant-loop-above
 invariant-loop-above l = record {
-  within : l.above ≤ length l.rows;
-  below : first_blank l.width l.cleared.attrs (map (row_of l.width) l.rows) l.above ≡ first_blank l.width l.cleared.attrs (map (row_of l.width) l.rows) (length l.rows);
+  within : l.above ≤ length (cells_of l.rows.items);
+  below : first_blank l.width l.cleared.attrs (map (row_of l.width) (cells_of l.rows.items)) l.above ≡ first_blank l.width l.cleared.attrs (map (row_of l.width) (cells_of l.rows.items)) (length (cells_of l.rows.items));
 }
 
 abbrev pub decreases-loop-above : goal.decreases-loop-above

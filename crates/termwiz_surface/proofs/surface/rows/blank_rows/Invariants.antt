@@ -1,6 +1,12 @@
-use Rattle.std.proofs.Common.{◌≡◌, replicate}
+use Rattle.std.proofs.Common.{◌≡◌, ◌≤◌, replicate}
+use Rattle.std.specs.VecDeque.{deque_len, deque_capacity}
 use Rattle.termwiz_cell.specs.CellValue.{blank}
+use Rattle.termwiz_surface.specs.ScreenValue.{cells_of}
 use Rattle.termwiz_surface.proofs.surface.rows.blank_rows.Given as goal
 
 abbrev pub invariant-loop-row : goal.invariant-loop-row
-invariant-loop-row l = l.rows.items ≡ replicate l._row (replicate l.width blank)
+invariant-loop-row l = record {
+  items : cells_of l.rows.items ≡ replicate l._row (replicate l.width blank);
+  len : deque_len l.rows ≡ l._row;
+  room : l.height ≤ deque_capacity l.rows;
+}

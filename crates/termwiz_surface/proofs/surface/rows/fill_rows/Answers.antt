@@ -1,15 +1,31 @@
-use Rattle.std.proofs.Common.{◌≡◌, ℕ, [], ◌<◌, length, arith, sym}
-use Rattle.termwiz_surface.specs.Screen.{row_at}
-use Rattle.std.proofs.lemmas.List.{get_or_read}
+use Rattle.std.proofs.Common.{◌≡◌, ◌<◌, length, slice_set, arith}
 use Rattle.termwiz_line.proofs.Fills.{on_err}
-use Rattle.termwiz_surface.proofs.Fills.{ArePartly-during}
+use Rattle.termwiz_surface.specs.Rows.{ArePartly}
+use Rattle.termwiz_surface.specs.Screen.{row_at}
+use Rattle.termwiz_surface.specs.ScreenValue.{cells_of}
+use Rattle.termwiz_surface.proofs.Lines.{length-cells_of, cells-read, cells-set}
+use Rattle.termwiz_surface.proofs.Filling.{filling-first, filling-more, filling-all, filling-partly}
 use Rattle.termwiz_surface.proofs.surface.rows.fill_rows.Goals as goal
 
-pub returns-in_err-fill-clause-err : goal.returns-in_err-fill-clause-err
-returns-in_err-fill-clause-err c =
-    let i = c.loop-j.invariant in
-    let mid = c.loop-j.rows.items in
-    let j : ℕ = c.loop-j.j in
-    let inside : j < length mid = omega (arith, i.same_count, c.in_ok-fill_row.ensures.ok.same_count, c.fill_row.new.rows.ok.0) in
-    let at : row_at mid j ≡ c.index_mut.result.now = sym (get_or_read mid j _ inside c.index_mut.ensures.value []) in
-    λ l. on_err _ (ArePartly-during c.args.width c.args.x c.args.y j c.args.cell.now c.args.rows.now.items mid c.fill.new.self l (omega arith) inside i.same_count i.above i.here i.below i.left (rw at c.in_err-fill.ensures.err))
+pub loop-j-init : goal.loop-j-init
+loop-j-init c = filling-first c.args.width c.args.x c.args.y c.args.cell.now (cells_of c.args.rows.now.items) (cells_of c.fill_row.new.rows.items) c.in_ok-fill_row.ensures.ok
+
+pub returns-in_err-fill_line-clause-err : goal.returns-in_err-fill_line-clause-err
+returns-in_err-fill_line-clause-err c = λ l.
+    let rows = c.loop-j.rows.items in
+    let long : length (cells_of rows) ≡ length rows = length-cells_of rows in
+    let inside : c.loop-j.j < length rows = omega (arith, c.loop-j.invariant.same_count, c.in_ok-fill_row.ensures.ok.same_count, length-cells_of c.args.rows.now.items, length-cells_of c.fill_row.new.rows.items, c.fill_row.new.rows.ok.0) in
+    let at : row_at (cells_of rows) c.loop-j.j ≡ c.index_mut.result.now.cells = cells-read rows c.loop-j.j c.index_mut.result.now inside c.index_mut.ensures.value in
+    let done : ArePartly c.args.width c.args.cell.now (cells_of c.args.rows.now.items) (cells_of (slice_set rows c.loop-j.j c.fill_line.new.line)) =
+    rw (cells-set rows c.loop-j.j c.fill_line.new.line)
+    (filling-partly c.args.width c.args.x c.args.y c.loop-j.j c.args.cell.now (cells_of c.args.rows.now.items) (cells_of rows) c.fill_line.new.line.cells l (omega arith) (omega arith) c.loop-j.invariant (rw at c.in_err-fill_line.ensures.err)) in
+    on_err _ done
+
+pub loop-j-preserved : goal.loop-j-preserved
+loop-j-preserved c =
+    let rows = c.loop-j.rows.items in
+    let long : length (cells_of rows) ≡ length rows = length-cells_of rows in
+    let inside : c.loop-j.j < length rows = omega (arith, c.loop-j.invariant.same_count, c.in_ok-fill_row.ensures.ok.same_count, length-cells_of c.args.rows.now.items, length-cells_of c.fill_row.new.rows.items, c.fill_row.new.rows.ok.0) in
+    let at : row_at (cells_of rows) c.loop-j.j ≡ c.index_mut.result.now.cells = cells-read rows c.loop-j.j c.index_mut.result.now inside c.index_mut.ensures.value in
+    rw (cells-set rows c.loop-j.j c.fill_line.new.line)
+    (filling-more c.args.width c.args.x c.args.y c.loop-j.j c.args.cell.now (cells_of c.args.rows.now.items) (cells_of rows) c.fill_line.new.line.cells (omega arith) (omega arith) c.loop-j.invariant (rw at c.in_ok-fill_line.ensures.ok))

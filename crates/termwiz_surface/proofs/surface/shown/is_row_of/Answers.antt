@@ -9,18 +9,18 @@ use Rattle.termwiz_surface.proofs.surface.shown.is_row_of.Goals as goal
 
 pub returns-then-len-width : goal.returns-then-len-width
 returns-then-len-width c =
-    let short : length c.args.row.now < c.args.width = omega (arith, c.len.ensures, ap length c.line.ensures) in
-    sym (short_row_of c.args.width c.args.row.now c.args.cell.now c.requires.paddable c.requires.other short)
+    let short : length c.args.row.now.cells < c.args.width = omega (arith, c.len.ensures) in
+    sym (short_row_of c.args.width c.args.row.now.cells c.args.cell.now c.requires.paddable c.requires.other short)
 
 pub returns-then-not-is_cell : goal.returns-then-not-is_cell
 returns-then-not-is_cell c =
-    let full : length c.args.row.now ≡ c.args.width = omega (arith, c.len.ensures, ap length c.line.ensures, c.requires.paddable.within) in
+    let full : length c.args.row.now.cells ≡ c.args.width = omega (arith, c.len.ensures, c.requires.paddable.within) in
     let other : cell_eq (ref_cell c.in-Some.shown) c.args.cell.now ≡ false = sym c.is_cell.ensures ∙ c.if-not-is_cell.true in
     sym (ap (all_are c.args.cell.now) c.in-Some.ensures.steps ∙ and_left _ (all_are c.args.cell.now (cells_left c.next.new.self)) other)
-    ∙ c.loop-shown.invariant ∙ full_row_of c.args.width c.args.row.now c.args.cell.now c.requires.paddable c.requires.narrow full
+    ∙ c.loop-shown.invariant ∙ full_row_of c.args.width c.args.row.now.cells c.args.cell.now c.requires.paddable c.requires.narrow full
 
 pub returns : goal.returns
 returns c =
-    let full : length c.args.row.now ≡ c.args.width = omega (arith, c.len.ensures, ap length c.line.ensures, c.requires.paddable.within) in
+    let full : length c.args.row.now.cells ≡ c.args.width = omega (arith, c.len.ensures, c.requires.paddable.within) in
     sym (ap (all_are c.args.cell.now) c.in-None.ensures.steps.0)
-    ∙ c.loop-shown.invariant ∙ full_row_of c.args.width c.args.row.now c.args.cell.now c.requires.paddable c.requires.narrow full
+    ∙ c.loop-shown.invariant ∙ full_row_of c.args.width c.args.row.now.cells c.args.cell.now c.requires.paddable c.requires.narrow full

@@ -6,4 +6,4 @@ use Rattle.termwiz_surface.proofs.surface.shown.is_row_of.Given as goal
 
 -- the cells before were this one
 abbrev pub invariant-loop-shown : goal.invariant-loop-shown
-invariant-loop-shown l = all_are l.cell (cells_left l.shown-iterator) ≡ all_are l.cell (visible l.row)
+invariant-loop-shown l = all_are l.cell (cells_left l.shown-iterator) ≡ all_are l.cell (visible l.row.cells)

@@ -6,4 +6,4 @@ use Rattle.termwiz_surface.proofs.surface.shown.last_attrs.Given as goal
 
 -- the last of the cells that are left is the last of all
 abbrev pub invariant-loop-cell : goal.invariant-loop-cell
-invariant-loop-cell l = last_attrs l.attrs (cells_left l.cell-iterator) ≡ last_attrs l.padding.attrs (visible l.row)
+invariant-loop-cell l = last_attrs l.attrs (cells_left l.cell-iterator) ≡ last_attrs l.padding.attrs (visible l.row.cells)

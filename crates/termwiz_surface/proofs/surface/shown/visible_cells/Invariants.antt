@@ -6,4 +6,4 @@ use Rattle.termwiz_surface.proofs.surface.shown.visible_cells.Given as goal
 
 -- the cells so far and those that are left are all
 abbrev pub invariant-loop-cell : goal.invariant-loop-cell
-invariant-loop-cell l = map indexed_cell l.cells.items ++ cells_left l.cell-iterator ≡ visible l.row
+invariant-loop-cell l = map indexed_cell l.cells.items ++ cells_left l.cell-iterator ≡ visible l.row.cells

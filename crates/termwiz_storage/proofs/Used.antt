@@ -1,14 +1,15 @@
 -- Up to which column cells were used, once they are edited.
-use Rattle.std.proofs.Common.{◌≡◌, ◌≢◌, ℕ, ◌+◌, ◌-◌, ◌<◌, ◌≤◌, inl, inr, true, ◌&&◌, min, max, List, ◌∷◌, ◌++◌, length, take, drop, set, replicate, refl, sym, ◌∙◌, ap, arith, append_assoc, length-append}
+use Rattle.std.proofs.Common.{◌≡◌, ◌≢◌, ℕ, ◌+◌, ◌-◌, ◌<◌, ◌≤◌, inl, inr, true, ◌&&◌, min, max, List, length, take, set, replicate, refl, sym, ◌∙◌, ap, arith, length-append, suc, false}
 use Rattle.std.specs.Prelude.{nat_lt}
-use Rattle.std.proofs.lemmas.Bool.{cases_Bool, cases_lt, ltb-true, and_parts, true≢false}
-use Rattle.std.proofs.lemmas.List.{get_or_past, get_or-take, get_or-set_other, length-take, length-replicate, length-drop, ext_get_or, get_or_append_left, get_or-append_right, get_or-replicate, get_or-drop, drop_more, replicate_more}
-use Rattle.std.proofs.Math.Seq.{set-append_seam}
+use Rattle.std.proofs.lemmas.Bool.{cases_Bool, cases_lt, cases_eq, ltb-true, lt-ltb, and_parts, true≢false}
+use Rattle.std.proofs.lemmas.List.{get_or_past, get_or-take, get_or-set_other, length-take, length-replicate, ext_get_or, get_or-replicate, length-set, get_or-set_same}
 use Rattle.termwiz_cell.specs.CellValue.{CellValue, blank, half, is_wide, columns}
-use Rattle.termwiz_storage.specs.Stored.{stored, padded, put}
+use Rattle.termwiz_storage.specs.Stored.{stored, padded, put, fill}
 use Rattle.termwiz_storage.specs.Halves.{torn}
-use Rattle.termwiz_storage.specs.Used.{IsUsedTo}
+use Rattle.termwiz_storage.specs.Used.{IsUsedTo, IsBlanked}
 use Rattle.termwiz_storage.proofs.SetCell.{stored-padded, put_else}
+use Rattle.termwiz_storage.proofs.Halves.{length-torn, length-padded}
+use Rattle.termwiz_storage.proofs.Fill.{IsFilledFrom, IsFilledFrom-fill, length-fill}
 use Rattle.termwiz_storage.proofs.Widths.{columns-wide, columns_bounds}
 
 pub used-all : (cs : List CellValue) → IsUsedTo (length cs) cs
@@ -60,22 +61,121 @@ used-within u cs h = record {
 }
 
 -- one more cell becomes a default blank
-pub blank-more : (i : ℕ) (cs : List CellValue) → i < length cs → set (replicate i blank ++ drop i cs) i blank ≡ replicate (i + 1) blank ++ drop (i + 1) cs
-blank-more i cs l =
-    ap (λ (xs : List CellValue). set (replicate i blank ++ xs) i blank) (drop_more cs i blank l)
-    ∙ ap (λ (n : ℕ). set (replicate i blank ++ stored cs i ∷ drop (i + 1) cs) n blank) (sym (length-replicate i blank))
-    ∙ set-append_seam (replicate i blank) (stored cs i) (drop (i + 1) cs) blank
-    ∙ rw (← replicate_more, append_assoc) refl
+pub blanked-more : (a i : ℕ) (old mid : List CellValue) → a ≤ i → i < length mid → IsBlanked a i old mid → IsBlanked a (i + 1) old (set mid i blank)
+blanked-more a i old mid l h p = record {
+  len = length-set mid i blank ∙ p.len;
+  inside = λ x m n. elim (cases_eq x i) [
+    | inl e ↦ ap (stored (set mid i blank)) e ∙ get_or-set_same mid i blank blank h
+    | inr e ↦ get_or-set_other mid i x blank blank e ∙ p.inside x m (omega arith)
+  ];
+  before = λ x m. let n : x ≢ i = omega arith in get_or-set_other mid i x blank blank n ∙ p.before x m;
+  behind = λ x m. let n : x ≢ i = omega arith in get_or-set_other mid i x blank blank n ∙ p.behind x (omega arith);
+}
 
--- all cells are default blanks once those that were used are
-pub blank-first : (u : ℕ) (cs : List CellValue) → IsUsedTo u cs → replicate (min u (length cs)) blank ++ drop u cs ≡ replicate (length cs) blank
-blank-first u cs h =
-    let n : ℕ = min u (length cs) in
-    let front : length (replicate n blank) ≡ n = length-replicate n blank in
-    let len : length (replicate n blank ++ drop u cs) ≡ length cs = length-append (replicate n blank) (drop u cs) ∙ omega (arith, length-drop u cs, front) in
-    ext_get_or blank _ _ (len ∙ sym (length-replicate (length cs) blank)) (λ j l.
-    let whole : stored (replicate (length cs) blank) j ≡ blank = get_or-replicate (length cs) j blank blank (omega arith) in
-    elim (cases_lt j n) [
-      | inl m ↦ get_or_append_left (replicate n blank) (drop u cs) blank j (omega arith) ∙ get_or-replicate n j blank blank m ∙ sym whole
-      | inr g ↦ get_or-append_right (replicate n blank) (drop u cs) n j blank front g ∙ get_or-drop u cs (j - n) blank ∙ h.rest (u + (j - n)) (omega arith) ∙ sym whole
-    ])
+-- as far as there are cells
+pub blanked-cut : (a b i : ℕ) (old new : List CellValue) → min b (length old) ≤ i → (a < i → i ≤ b) → IsBlanked a i old new → IsBlanked a b old new
+blanked-cut a b i old new l m p = record {
+  len = p.len;
+  inside = λ x n o. elim (cases_lt x i) [
+    | inl u ↦ p.inside x n u
+    | inr u ↦ get_or_past new x blank (omega (arith, p.len))
+  ];
+  before = p.before;
+  behind = λ x n. elim (cases_lt x i) [
+    | inr u ↦ p.behind x u
+    | inl u ↦ elim (cases_lt x a) [
+      | inl v ↦ p.before x v
+      | inr v ↦ let w : i ≤ b = m (omega arith) in absurd (omega arith)
+    ]
+  ];
+}
+
+-- those that were not used are blanks anyhow
+pub blanked-used : (u a b : ℕ) (old new : List CellValue) → IsUsedTo u old → IsBlanked a (min b u) old new → IsBlanked a b old new
+blanked-used u a b old new h p = record {
+  len = p.len;
+  inside = λ x n o. elim (cases_lt x u) [
+    | inl l ↦ p.inside x n (omega arith)
+    | inr l ↦ p.behind x (omega arith) ∙ h.rest x l
+  ];
+  before = p.before;
+  behind = λ x n. p.behind x (omega arith);
+}
+
+pub used-blanked : (u a b : ℕ) (old new : List CellValue) → IsUsedTo u old → IsBlanked a b old new → IsUsedTo u new
+used-blanked u a b old new h p = record {
+  rest = λ x l. elim (cases_lt x a) [
+    | inl m ↦ p.before x m ∙ h.rest x l
+    | inr m ↦ elim (cases_lt x b) [
+      | inl n ↦ p.inside x m n
+      | inr n ↦ p.behind x n ∙ h.rest x l
+    ]
+  ];
+}
+
+pub used-less : (u a b : ℕ) (old new : List CellValue) → u ≤ b → IsUsedTo u old → IsBlanked a b old new → IsUsedTo (min u a) new
+used-less u a b old new l h p = record {
+  rest = λ x m. elim (cases_lt x a) [
+    | inl n ↦ p.before x n ∙ h.rest x (omega arith)
+    | inr n ↦ elim (cases_lt x b) [
+      | inl o ↦ p.inside x n o
+      | inr o ↦ p.behind x o ∙ h.rest x (omega arith)
+    ]
+  ];
+}
+
+pub blanked-all : (n : ℕ) (old new : List CellValue) → length old ≡ n → IsBlanked 0 n old new → new ≡ replicate n blank
+blanked-all n old new e p = ext_get_or blank new (replicate n blank) (omega (arith, p.len, length-replicate n blank))
+    (λ j l. p.inside j (omega arith) (omega (arith, p.len)) ∙ sym (get_or-replicate n j blank blank (omega (arith, p.len))))
+
+-- the cell before a column, once it is torn
+torn_at : (i : ℕ) (cs : List CellValue) (x : ℕ) → x + 1 ≡ i → i ≤ length cs → is_wide (stored cs x) ≡ true → stored (torn i cs) x ≡ half (stored cs x)
+torn_at i cs x e l w =
+    let k : i - 1 ≡ x = omega arith in
+    let t : nat_lt 0 i ≡ true = lt-ltb 0 i (omega arith) in
+    let h : x < length cs = omega arith in
+    rw (t, k, w) (rw get_or-set_same refl)
+
+torn_narrow : (i : ℕ) (cs : List CellValue) (x : ℕ) → x + 1 ≡ i → is_wide (stored cs x) ≡ false → stored (torn i cs) x ≡ stored cs x
+torn_narrow i cs x e w =
+    let k : i - 1 ≡ x = omega arith in
+    let t : nat_lt 0 i ≡ true = lt-ltb 0 i (omega arith) in
+    rw (t, k, w) refl
+
+torn_else : (i : ℕ) (cs : List CellValue) (x : ℕ) → x + 1 ≢ i → stored (torn i cs) x ≡ stored cs x
+torn_else i cs x n = elim (cases_Bool (nat_lt 0 i && is_wide (stored cs (i - 1)))) [
+  | inl t ↦ let pos : 0 < i = ltb-true 0 i (and_parts _ _ t).0 in let k : x ≢ i - 1 = omega arith in rw t (get_or-set_other cs (i - 1) x (half (stored cs (i - 1))) blank k)
+  | inr t ↦ rw t refl
+]
+
+-- blanks that are set one by one
+pub fill-blanked : (a b : ℕ) (cs new : List CellValue) → a < b → IsBlanked a b (torn a (padded b cs)) new → new ≡ fill (b - a) a blank cs
+fill-blanked a b cs new l p =
+    let n : ℕ = b - a - 1 in
+    let e : b - a ≡ suc n = omega arith in
+    let f : IsFilledFrom (stored cs) a n blank (stored (fill (suc n) a blank cs)) = IsFilledFrom-fill n a blank cs in
+    let pad : List CellValue = padded b cs in
+    let lp : b ≤ length pad = (length-padded b cs).0 in
+    let lt : length (torn a pad) ≡ length pad = length-torn a pad in
+    let long : length pad ≡ length cs + (b - length cs) = length-append cs (replicate (b - length cs) blank) ∙ ap (λ (k : ℕ). length cs + k) (length-replicate (b - length cs) blank) in
+    let lf : length (fill (suc n) a blank cs) ≡ max (length cs) (a + n + columns blank) = length-fill n a blank cs in
+    rw e (ext_get_or blank new (fill (suc n) a blank cs) (omega (arith, p.len)) (λ x u. elim (cases_lt x a) [
+      | inl m ↦ p.before x m ∙ elim (cases_eq (x + 1) a) [
+        | inl o ↦ elim (cases_Bool (is_wide (stored cs x))) [
+          | inl w ↦
+              let same : stored pad x ≡ stored cs x = stored-padded b cs x in
+              torn_at a pad x o (omega arith) (ap is_wide same ∙ w) ∙ ap half same ∙ sym (f.torn x o w)
+          | inr w ↦
+              let same : stored pad x ≡ stored cs x = stored-padded b cs x in
+              torn_narrow a pad x o (ap is_wide same ∙ w) ∙ same ∙ sym (f.kept x o w)
+        ]
+        | inr o ↦ torn_else a pad x o ∙ stored-padded b cs x ∙ sym (f.below x (omega arith))
+      ]
+      | inr m ↦ elim (cases_lt x b) [
+        | inl o ↦ p.inside x m o ∙ elim (cases_lt x (a + n)) [
+          | inl v ↦ sym (f.narrow x refl m v)
+          | inr v ↦ let z : x ≡ a + n = omega arith in sym (ap (stored (fill (suc n) a blank cs)) z ∙ f.last)
+        ]
+        | inr o ↦ let q : x + 1 ≢ a = omega arith in p.behind x o ∙ torn_else a pad x q ∙ stored-padded b cs x ∙ sym (f.above x (omega arith))
+      ]
+    ]))

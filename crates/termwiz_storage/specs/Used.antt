@@ -1,7 +1,15 @@
--- How far stored cells were used: from a column on, all are default blanks.
-use Rattle.std.specs.Prelude.{◌≡◌, ℕ, ◌≤◌, List}
+-- Which stored cells are default blanks.
+use Rattle.std.specs.Prelude.{◌≡◌, ℕ, ◌<◌, ◌≤◌, List, length}
 use Rattle.termwiz_cell.specs.CellValue.{CellValue, blank}
 use Rattle.termwiz_storage.specs.Stored.{stored}
 
+-- all from this column on
 pub record IsUsedTo (used : ℕ) (cs : List CellValue) : Type 0 where
   pub rest : (x : ℕ) → used ≤ x → stored cs x ≡ blank
+
+-- those from column a to b - 1, and the others are as before
+pub record IsBlanked (a b : ℕ) (old new : List CellValue) : Type 0 where
+  pub len : length new ≡ length old
+  pub inside : (x : ℕ) → a ≤ x → x < b → stored new x ≡ blank
+  pub before : (x : ℕ) → x < a → stored new x ≡ stored old x
+  pub behind : (x : ℕ) → b ≤ x → stored new x ≡ stored old x

@@ -1,12 +1,13 @@
 //! Cells stored one by one.
-ghost use Rattle.std.specs.Prelude.{◌≡◌, [], ◌+◌, ◌-◌, ◌<◌, ◌≤◌, ◌↔◌, IsTrue, OnErr, OnOk, IsOk, IfOk, ◌++◌, length, min, take, drop, replicate, vec_capacity, vec_len};
+ghost use Rattle.std.specs.Prelude.{◌≡◌, [], ◌+◌, ◌-◌, ◌<◌, ◌≤◌, ◌↔◌, IsTrue, OnErr, OnOk, IsOk, IfOk, length, take, replicate, vec_capacity, vec_len};
 ghost use Rattle.std.specs.Option.{ForSome};
 ghost use Rattle.std.specs.Cmp.{decided, partial_equiv_from_equiv};
 ghost use Rattle.std.specs.Iterator.{YieldsFirstBy, item_count};
 ghost use Rattle.termwiz_cell.specs.CellValue.{blank, columns, half};
 ghost use Rattle.termwiz_storage.specs.CellRef.{indexed_cell, ref_cell};
-ghost use Rattle.termwiz_storage.specs.Stored.{padded, put, stored, set_cell, visible, IsKept};
+ghost use Rattle.termwiz_storage.specs.Stored.{fill, padded, put, stored, set_cell, visible, IsKept};
 ghost use Rattle.termwiz_storage.specs.Halves.{half_of, overhang, resized, torn, with_half};
+ghost use Rattle.termwiz_storage.specs.Used.{IsBlanked};
 ghost use Rattle.termwiz_storage.specs.CellLists.{cells_eq, cells_eq-Decides};
 
 use crate::line::cellref::CellRef;
@@ -122,6 +123,30 @@ impl VecStorage {
         Ok(())
     }
 
+    /// Sets a default blank in each of the columns from one up to another, in order. On an error nothing changed.
+    pub fn set_blanks(&mut self, from: usize, to: usize) -> Result<(), AllocError>
+        ensures ok { OnOk result (self.new ≡ fill (to - from) from blank self.old) }
+        ensures err { OnErr result (self.new ≡ self.old) }
+    {
+        if from < to {
+            self.pad(to)?;
+            self.tear(from);
+            self.blank_between(from, to);
+        }
+        Ok(())
+    }
+
+    // The cells from one column up to another become default blanks.
+    fn blank_between(&mut self, from: usize, to: usize)
+        requires { to ≤ length self.old }
+        ensures { IsBlanked from to self.old self.new }
+    {
+        blank_cells(&mut self.cells, from, to.min(self.used));
+        if self.used <= to {
+            self.used = self.used.min(from);
+        }
+    }
+
     /// Cuts the list.
     pub fn truncate(&mut self, len: usize)
         ensures { self.new ≡ take len self.old }
@@ -138,16 +163,8 @@ impl VecStorage {
     {
         self.pad(len)?;
         self.truncate(len);
-        self.reset();
+        self.blank_between(0, len);
         Ok(())
-    }
-
-    // Each cell becomes a default blank.
-    fn reset(&mut self)
-        ensures { self.new ≡ replicate (length self.old) blank }
-    {
-        blank_first(&mut self.cells, self.used);
-        self.used = 0;
     }
 
     // The columns that the last visible cell has past the end.
@@ -213,11 +230,11 @@ fn pad_cells(cells: &mut Vec<Cell>, len: usize) -> Result<(), AllocError>
     Ok(())
 }
 
-// The first cells become default blanks.
-fn blank_first(cells: &mut Vec<Cell>, count: usize)
-    ensures { cells.new.items ≡ replicate (min count (length cells.old.items)) blank ++ drop count cells.old.items }
+// The cells from one column up to another, as far as there are any, become default blanks.
+fn blank_cells(cells: &mut Vec<Cell>, from: usize, to: usize)
+    ensures { IsBlanked from to cells.old.items cells.new.items }
 {
-    for i in 0..count.min(cells.len()) {
+    for i in from..to.min(cells.len()) {
         cells[i] = Cell::blank();
     }
 }

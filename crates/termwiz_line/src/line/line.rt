@@ -113,6 +113,18 @@ impl Line {
         Ok(())
     }
 
+    // Sets a default blank in each of the columns from one up to another.
+    fn set_blanks(&mut self, from: usize, to: usize, seqno: SequenceNo) -> Result<(), AllocError>
+        ensures ok { OnOk result (self.new ≡ filled_line (to - from) from blank seqno self.old) }
+        ensures err { OnErr result (self.new ≡ self.old) }
+    {
+        self.storage.set_blanks(from, to)?;
+        if from < to {
+            self.seqno = self.seqno.max(seqno);
+        }
+        Ok(())
+    }
+
     // Sets the cell in each of the columns from one up to another.
     fn set_cells(
         &mut self,
@@ -124,6 +136,10 @@ impl Line {
         ensures ok { OnOk result (self.new ≡ filled_line (to - from) from cell.now seqno self.old) }
         ensures err { OnErr result (IsPartlyFilled self.old from to cell.now seqno self.new) }
     {
+        if cell.is_blank() {
+            self.set_blanks(from, to, seqno)?;
+            return Ok(());
+        }
         for i in from..to {
             let copy = cell.clone()?;
             self.set_cell(i, copy, seqno)?;

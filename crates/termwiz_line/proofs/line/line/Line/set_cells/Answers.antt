@@ -16,3 +16,6 @@ loop-i-preserved c = record {
 
 pub returns-clause-ok : goal.returns-clause-ok
 returns-clause-ok c = filled_line-all (c.loop-i.i - c.args.from) (c.args.to - c.args.from) c.args.from c.args.seqno c.args.cell.now c.args.self.now c.loop-i.self (omega arith) c.loop-i.invariant.same
+
+pub returns-in_err-set_blanks-clause-err : goal.returns-in_err-set_blanks-clause-err
+returns-in_err-set_blanks-clause-err c = on_err _ (partly_filled 0 c.args.from c.args.to c.args.seqno c.args.cell.now c.args.self.now c.args.self.now _ (omega arith) refl c.in_err-set_blanks.ensures.err)

@@ -1,10 +1,11 @@
 -- Setting a cell where the one before it was torn alone, and what half_of says.
-use Rattle.std.proofs.Common.{[], ◌∷◌, ◌++◌, length, take, length-append, length-set, le-leb, ◌≡◌, ◌≢◌, ℕ, ◌+◌, ◌-◌, ◌<◌, ◌≤◌, inl, inr, Bool, true, false, ◌&&◌, List, Option, set, refl, sym, ◌∙◌, ap, arith}
+use Rattle.std.proofs.Common.{[], ◌∷◌, ◌++◌, length, take, length-append, length-set, le-leb, ◌≡◌, ◌≢◌, ℕ, ◌+◌, ◌-◌, ◌<◌, ◌≤◌, inl, inr, Bool, true, false, ◌&&◌, List, Option, set, refl, sym, ◌∙◌, ap, arith, zero, suc}
 use Rattle.std.specs.Prelude.{nat_lt, if◌then◌else◌}
 use Rattle.std.specs.Option.{ForSome}
 use Rattle.std.proofs.lemmas.Bool.{cases_Bool, lt-ltb, le-ltb, lt-leb}
 use Rattle.std.proofs.lemmas.List.{set-set, set_comm, append-nil, length-replicate}
 use Rattle.termwiz_cell.specs.CellValue.{CellValue, half, is_wide, columns}
+use Rattle.termwiz_storage.proofs.Widths.{columns-narrow, columns_bounds}
 use Rattle.termwiz_storage.specs.Stored.{stored, padded, free, put, set_cell}
 use Rattle.termwiz_storage.specs.Halves.{half_of, torn, with_half, overhang, missing_half, resized}
 
@@ -60,3 +61,13 @@ resized-grown k cs ds l e = rw (e, lt-leb k (length cs) l) refl
 
 pub resized-cut : (k : ℕ) (cs : List CellValue) → k ≤ length cs → take k cs ≡ resized k cs
 resized-cut k cs l = rw (le-leb k (length cs) l) refl
+
+-- a list that ends in a narrow cell lacks no half
+pub overhang-narrow : (s : ℕ) (cs : List CellValue) → s ≤ 1 → (length cs ≡ 0 → s ≡ 0) → ((x : ℕ) → suc x ≡ length cs → is_wide (stored cs x) ≡ false) → 0 ≡ overhang s cs
+overhang-narrow s [] l z w = sym (z refl)
+overhang-narrow zero (c ∷ []) l z w = let one : columns c ≡ 1 = columns-narrow c (w 0 refl) in omega arith
+overhang-narrow (suc s) (c ∷ []) l z w = omega arith
+overhang-narrow zero (c ∷ (d ∷ ds)) l z w =
+    let two : columns c ≤ 2 = (columns_bounds c).1 in
+    overhang-narrow ((columns c) - 1) (d ∷ ds) (omega arith) (λ e. absurd (omega arith)) (λ x e. w (suc x) (ap suc e))
+overhang-narrow (suc s) (c ∷ (d ∷ ds)) l z w = overhang-narrow s (d ∷ ds) (omega arith) (λ e. absurd (omega arith)) (λ x e. w (suc x) (ap suc e))

@@ -1,10 +1,10 @@
 -- The length up to which the last visible cell that is no default blank reaches.
-use Rattle.std.proofs.Common.{◌≡◌, ◌≢◌, ℕ, zero, suc, ◌+◌, ◌-◌, ◌<◌, ◌≤◌, ◌⊎◌, inl, inr, min, List, [], ◌∷◌, length, take, Some, None, refl, sym, ◌∙◌, ap, arith}
-use Rattle.std.proofs.lemmas.Bool.{cases_lt, cases_eq, ne_eqb, eq-eqb}
-use Rattle.termwiz_cell.specs.CellValue.{columns, CellValue, blank}
-use Rattle.termwiz_storage.proofs.Widths.{columns_bounds}
+use Rattle.std.proofs.Common.{◌≡◌, ◌≢◌, ℕ, zero, suc, ◌+◌, ◌-◌, ◌<◌, ◌≤◌, ◌⊎◌, inl, inr, min, List, [], ◌∷◌, length, take, Some, None, false, refl, subst, sym, ◌∙◌, ap, arith}
+use Rattle.std.proofs.lemmas.Bool.{cases_Bool, false≢true, cases_lt, cases_eq, ne_eqb, eq-eqb}
+use Rattle.termwiz_cell.specs.CellValue.{columns, CellValue, blank, is_wide, cell_eq, cell_eq-Decides}
+use Rattle.termwiz_storage.proofs.Widths.{columns_bounds, columns-narrow}
 use Rattle.termwiz_storage.specs.Stored.{stored, visible_from, visible, cell_at, IsKept}
-use Rattle.termwiz_storage.specs.Used.{IsUsedTo}
+use Rattle.termwiz_storage.specs.Used.{IsUsedTo, IsFilledTo}
 
 -- e is where the last visible cell that isn't blank ends, or k where there is none
 pub data EndsAt : ℕ → List (ℕ × CellValue) → ℕ → Type 0 where
@@ -104,3 +104,44 @@ ends_used k (suc u) i (suc s) e (c ∷ cs) h t = ends_used k u (i + 1) s e cs (�
 
 pub IsKept-used : (u : ℕ) (cs : List CellValue) (e : ℕ) → IsUsedTo u cs → EndsAt 0 (visible (take u cs)) e → IsKept cs (min e (length cs))
 IsKept-used u cs e h t = IsKept-ends cs e (ends_used 0 u 0 0 e cs h.rest t)
+
+-- a narrow cell that is the last that is no default blank
+ends_narrow : (k i s j : ℕ) (cs : List CellValue) → j < length cs → is_wide (stored cs j) ≡ false → stored cs j ≢ blank → ((x : ℕ) → j < x → stored cs x ≡ blank)
+    → (0 < s → (k ≡ i + s) × (s ≤ 1)) → EndsAt k (visible_from i s cs) (i + j + 1)
+ends_narrow k i s j [] l w n h p = absurd (omega arith)
+ends_narrow k i zero zero (c ∷ cs) l w n h p =
+    let one : columns c ≡ 1 = columns-narrow c w in
+    let e : i + 0 + 1 ≡ i + columns c = omega arith in
+    rw e (other_cell n (ends_blank (i + columns c) (i + 1) ((columns c) - 1) cs (λ x. h (suc x) (omega arith))))
+ends_narrow k i (suc s) zero (c ∷ cs) l w n h p =
+    let q : (k ≡ i + suc s) × (suc s ≤ 1) = p (omega arith) in
+    let q0 : k ≡ i + suc s = q.0 in
+    let q1 : suc s ≤ 1 = q.1 in
+    let e : i + 0 + 1 ≡ k = omega arith in
+    rw e (ends_blank k (i + 1) s cs (λ x. h (suc x) (omega arith)))
+ends_narrow k i zero (suc j) (c ∷ cs) l w n h p =
+    let b2 : (0 < columns c) × (columns c ≤ 2) = columns_bounds c in
+    let e : i + suc j + 1 ≡ i + 1 + j + 1 = omega arith in
+    rw e (elim (is_blank_or_not c) [
+      | inl q ↦
+          let one : columns c ≡ 1 = ap columns q in
+          blank_cell q (ends_narrow k (i + 1) ((columns c) - 1) j cs (omega arith) w n (λ x m. h (suc x) (omega arith)) (λ m. absurd (omega arith)))
+      | inr q ↦ other_cell q (ends_narrow (i + columns c) (i + 1) ((columns c) - 1) j cs (omega arith) w n (λ x m. h (suc x) (omega arith)) (λ m. (omega arith, omega arith)))
+    ])
+  where
+    is_blank_or_not : (c : CellValue) → (c ≡ blank) ⊎ (c ≢ blank)
+    is_blank_or_not c = elim (cases_Bool (cell_eq c blank)) [
+      | inl t ↦ inl ((cell_eq-Decides c blank).0 t)
+      | inr f ↦ inr (λ e. false≢true (sym f ∙ (cell_eq-Decides c blank).1 e))
+    ]
+ends_narrow k i (suc s) (suc j) (c ∷ cs) l w n h p =
+    let e : i + suc j + 1 ≡ i + 1 + j + 1 = omega arith in
+    let q1 : suc s ≤ 1 = (p (omega arith)).1 in
+    rw e (ends_narrow k (i + 1) s j cs (omega arith) w n (λ x m. h (suc x) (omega arith)) (λ m. absurd (omega arith)))
+
+pub IsKept-filled : (e : ℕ) (cs : List CellValue) → IsFilledTo e cs → ((x : ℕ) → suc x ≡ e → is_wide (stored cs x) ≡ false) → IsKept cs e
+IsKept-filled zero cs f w = let m : min 0 (length cs) ≡ 0 = omega arith in subst (IsKept cs) m (IsKept-ends cs 0 (ends_blank 0 0 0 cs (λ x. f.rest x (omega arith))))
+IsKept-filled (suc j) cs f w =
+    let l : suc j ≤ length cs = f.within in
+    let m : min (0 + j + 1) (length cs) ≡ suc j = omega arith in
+    subst (IsKept cs) m (IsKept-ends cs (0 + j + 1) (ends_narrow 0 0 0 j cs (omega arith) (w j refl) (f.last j refl) (λ x n. f.rest x (omega arith)) (λ n. absurd (omega arith))))

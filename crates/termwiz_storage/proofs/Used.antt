@@ -1,8 +1,8 @@
 -- Up to which column cells were used, once they are edited.
-use Rattle.std.proofs.Common.{◌≡◌, ◌≢◌, ℕ, ◌+◌, ◌-◌, ◌<◌, ◌≤◌, inl, inr, true, ◌&&◌, min, max, List, length, take, set, replicate, refl, sym, ◌∙◌, ap, arith, length-append, suc, false}
+use Rattle.std.proofs.Common.{◌≡◌, ◌≢◌, ℕ, ◌+◌, ◌-◌, ◌<◌, ◌≤◌, inl, inr, true, ◌&&◌, min, max, List, length, set, replicate, refl, sym, ◌∙◌, ap, arith, length-append, suc, false}
 use Rattle.std.specs.Prelude.{nat_lt}
-use Rattle.std.proofs.lemmas.Bool.{cases_Bool, cases_lt, cases_eq, ltb-true, lt-ltb, and_parts, true≢false}
-use Rattle.std.proofs.lemmas.List.{get_or_past, get_or-take, get_or-set_other, length-take, length-replicate, ext_get_or, get_or-replicate, length-set, get_or-set_same}
+use Rattle.std.proofs.lemmas.Bool.{cases_Bool, cases_lt, cases_eq, ltb-true, lt-ltb, and_parts}
+use Rattle.std.proofs.lemmas.List.{get_or_past, get_or-set_other, length-replicate, ext_get_or, get_or-replicate, length-set, get_or-set_same}
 use Rattle.termwiz_cell.specs.CellValue.{CellValue, blank, half, is_wide, columns}
 use Rattle.termwiz_storage.specs.Stored.{stored, padded, put, fill}
 use Rattle.termwiz_storage.specs.Halves.{torn}
@@ -21,43 +21,11 @@ used-more u v cs l h = record { rest = λ x m. h.rest x (omega arith) }
 pub used-padded : (u n : ℕ) (cs : List CellValue) → IsUsedTo u cs → IsUsedTo u (padded n cs)
 used-padded u n cs h = record { rest = λ x m. stored-padded n cs x ∙ h.rest x m }
 
-pub used-take : (u n : ℕ) (cs : List CellValue) → IsUsedTo u cs → IsUsedTo (min u n) (take n cs)
-used-take u n cs h = record {
-  rest = λ x m. elim (cases_lt x n) [
-    | inl l ↦ get_or-take n cs x blank l ∙ h.rest x (omega arith)
-    | inr g ↦ get_or_past (take n cs) x blank (omega (arith, length-take n cs))
-  ];
-}
-
-pub used-torn : (u i : ℕ) (cs : List CellValue) → IsUsedTo u cs → IsUsedTo u (torn i cs)
-used-torn u i cs h = elim (cases_Bool (nat_lt 0 i && is_wide (stored cs (i - 1)))) [
-  | inr f ↦ rw f h
-  | inl t ↦
-      let p : is_wide (stored cs (i - 1)) ≡ true = (and_parts _ _ t).1 in
-      rw t (record {
-        rest = λ x m. elim (cases_lt x i) [
-          | inr g ↦
-              let pos : 0 < i = ltb-true 0 i (and_parts _ _ t).0 in
-              let n : x ≢ i - 1 = omega arith in
-              get_or-set_other cs (i - 1) x (half (stored cs (i - 1))) blank n ∙ h.rest x m
-          | inl l ↦ absurd (true≢false (sym p ∙ ap is_wide (h.rest (i - 1) (omega arith))))
-        ];
-      })
-]
-
 pub used-put : (u i : ℕ) (c : CellValue) (cs : List CellValue) → IsUsedTo u cs → IsUsedTo (max u (i + columns c)) (put i c cs)
 used-put u i c cs h = record {
   rest = λ x m.
       let w : 0 < columns c = (columns_bounds c).0 in
       put_else i c cs x (omega arith) (λ t. let two : columns c ≡ 2 = columns-wide c t in omega arith) ∙ h.rest x (omega arith);
-}
-
-pub used-within : (u : ℕ) (cs : List CellValue) → IsUsedTo u cs → IsUsedTo (min u (length cs)) cs
-used-within u cs h = record {
-  rest = λ x m. elim (cases_lt x (length cs)) [
-    | inl l ↦ h.rest x (omega arith)
-    | inr g ↦ get_or_past cs x blank g
-  ];
 }
 
 -- one more cell becomes a default blank
@@ -86,40 +54,6 @@ blanked-cut a b i old new l m p = record {
     | inl u ↦ elim (cases_lt x a) [
       | inl v ↦ p.before x v
       | inr v ↦ let w : i ≤ b = m (omega arith) in absurd (omega arith)
-    ]
-  ];
-}
-
--- those that were not used are blanks anyhow
-pub blanked-used : (u a b : ℕ) (old new : List CellValue) → IsUsedTo u old → IsBlanked a (min b u) old new → IsBlanked a b old new
-blanked-used u a b old new h p = record {
-  len = p.len;
-  inside = λ x n o. elim (cases_lt x u) [
-    | inl l ↦ p.inside x n (omega arith)
-    | inr l ↦ p.behind x (omega arith) ∙ h.rest x l
-  ];
-  before = p.before;
-  behind = λ x n. p.behind x (omega arith);
-}
-
-pub used-blanked : (u a b : ℕ) (old new : List CellValue) → IsUsedTo u old → IsBlanked a b old new → IsUsedTo u new
-used-blanked u a b old new h p = record {
-  rest = λ x l. elim (cases_lt x a) [
-    | inl m ↦ p.before x m ∙ h.rest x l
-    | inr m ↦ elim (cases_lt x b) [
-      | inl n ↦ p.inside x m n
-      | inr n ↦ p.behind x n ∙ h.rest x l
-    ]
-  ];
-}
-
-pub used-less : (u a b : ℕ) (old new : List CellValue) → u ≤ b → IsUsedTo u old → IsBlanked a b old new → IsUsedTo (min u a) new
-used-less u a b old new l h p = record {
-  rest = λ x m. elim (cases_lt x a) [
-    | inl n ↦ p.before x n ∙ h.rest x (omega arith)
-    | inr n ↦ elim (cases_lt x b) [
-      | inl o ↦ p.inside x n o
-      | inr o ↦ p.behind x o ∙ h.rest x (omega arith)
     ]
   ];
 }

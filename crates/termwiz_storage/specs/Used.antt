@@ -1,5 +1,5 @@
 -- Which stored cells are default blanks.
-use Rattle.std.specs.Prelude.{◌≡◌, ℕ, ◌<◌, ◌≤◌, List, length}
+use Rattle.std.specs.Prelude.{◌≡◌, ◌≢◌, ℕ, suc, ◌<◌, ◌≤◌, List, length}
 use Rattle.termwiz_cell.specs.CellValue.{CellValue, blank}
 use Rattle.termwiz_storage.specs.Stored.{stored}
 
@@ -13,3 +13,9 @@ pub record IsBlanked (a b : ℕ) (old new : List CellValue) : Type 0 where
   pub inside : (x : ℕ) → a ≤ x → x < b → stored new x ≡ blank
   pub before : (x : ℕ) → x < a → stored new x ≡ stored old x
   pub behind : (x : ℕ) → b ≤ x → stored new x ≡ stored old x
+
+-- all from this column on, and not the one before
+pub record IsFilledTo (end : ℕ) (cs : List CellValue) : Type 0 where
+  pub within : end ≤ length cs
+  pub rest : (x : ℕ) → end ≤ x → stored cs x ≡ blank
+  pub last : (x : ℕ) → suc x ≡ end → stored cs x ≢ blank

@@ -1,13 +1,13 @@
 //! Cells stored one by one.
-ghost use Rattle.std.specs.Prelude.{◌≡◌, [], ◌+◌, ◌-◌, ◌<◌, ◌≤◌, ◌↔◌, IsTrue, OnErr, OnOk, IsOk, IfOk, length, take, replicate, vec_capacity, vec_len};
+ghost use Rattle.std.specs.Prelude.{◌≡◌, [], ◌+◌, ◌-◌, ◌<◌, ◌≤◌, ◌↔◌, ◌&&◌, nat_lt, IsTrue, OnErr, OnOk, IsOk, IfOk, length, take, replicate, vec_capacity, vec_len};
 ghost use Rattle.std.specs.Option.{ForSome};
 ghost use Rattle.std.specs.Cmp.{decided, partial_equiv_from_equiv};
 ghost use Rattle.std.specs.Iterator.{YieldsFirstBy, item_count};
-ghost use Rattle.termwiz_cell.specs.CellValue.{blank, columns, half};
+ghost use Rattle.termwiz_cell.specs.CellValue.{blank, columns, half, is_wide};
 ghost use Rattle.termwiz_storage.specs.CellRef.{indexed_cell, ref_cell};
 ghost use Rattle.termwiz_storage.specs.Stored.{fill, padded, put, stored, set_cell, visible, IsKept};
 ghost use Rattle.termwiz_storage.specs.Halves.{half_of, overhang, resized, torn, with_half};
-ghost use Rattle.termwiz_storage.specs.Used.{IsBlanked};
+ghost use Rattle.termwiz_storage.specs.Used.{IsBlanked, IsFilledTo, IsUsedTo};
 ghost use Rattle.termwiz_storage.specs.CellLists.{cells_eq, cells_eq-Decides};
 
 use crate::line::cellref::CellRef;
@@ -171,6 +171,15 @@ impl VecStorage {
     fn overhang(&self) -> usize
         ensures { result ≡ overhang 0 self.now }
     {
+        if self.is_wide_before(self.cells.len()) {
+            return self.walked_overhang();
+        }
+        0
+    }
+
+    fn walked_overhang(&self) -> usize
+        ensures { result ≡ overhang 0 self.now }
+    {
         let mut skip = 0;
         for cell in &self.cells {
             skip = if skip > 0 { skip - 1 } else { cell.width() - 1 };
@@ -204,8 +213,40 @@ impl VecStorage {
     pub fn kept_len(&self) -> usize
         ensures { IsKept self.now result }
     {
+        let end = self.filled_len();
+        if self.is_wide_before(end) {
+            return self.walked_len(end);
+        }
+        end
+    }
+
+    // Whether a wide cell stands before column i.
+    fn is_wide_before(&self, i: usize) -> bool
+        requires { i ≤ length self.now }
+        ensures { result ≡ (nat_lt 0 i && is_wide (stored self.now (i - 1))) }
+    {
+        i > 0 && self.cells[i - 1].width() > 1
+    }
+
+    // The column behind the last stored cell that is no default blank.
+    fn filled_len(&self) -> usize
+        ensures { IsFilledTo result self.now }
+    {
+        let mut end = self.used.min(self.cells.len());
+        while end > 0 && self.cells[end - 1].is_blank() {
+            end -= 1;
+        }
+        end
+    }
+
+    // The column behind the last visible cell that is no default blank, where no stored one behind `end` is another.
+    fn walked_len(&self, end: usize) -> usize
+        requires within { end ≤ length self.now }
+        requires rest { IsUsedTo end self.now }
+        ensures { IsKept self.now result }
+    {
         let mut kept = 0;
-        for cell in VecStorageIter::new(&self.cells[..self.used.min(self.cells.len())]) {
+        for cell in VecStorageIter::new(&self.cells[..end]) {
             if !is_blank(&cell) {
                 kept = cell.cell_index().saturating_add(cell.width());
             }

@@ -1,41 +1,17 @@
-use Rattle.std.proofs.Common.{◌≡◌, ℕ, ◌+◌, List, length, take, vec_len, min, arith, refl, sym, ◌∙◌, ap, subst, rules}
-use Rattle.std.proofs.lemmas.Bool.{iff_false}
-use Rattle.termwiz_cell.specs.CellValue.{CellValue, columns}
-use Rattle.termwiz_storage.specs.Stored.{visible, IsKept}
-use Rattle.termwiz_storage.specs.Used.{IsUsedTo}
-use Rattle.termwiz_storage.specs.CellRef.{indexed_cell}
-use Rattle.termwiz_storage.proofs.Used.{used-within}
-use Rattle.termwiz_storage.proofs.Kept.{EndsAt, blank_cell, other_cell, nothing, IsKept-used}
+use Rattle.std.proofs.Common.{ℕ, ◌≡◌, ◌-◌, true, false, ◌&&◌, sym, ◌∙◌, arith}
+use Rattle.std.specs.Prelude.{nat_lt}
+use Rattle.std.proofs.lemmas.Bool.{lt-ltb}
+use Rattle.termwiz_cell.specs.CellValue.{is_wide}
+use Rattle.termwiz_storage.specs.Stored.{stored}
+use Rattle.termwiz_storage.proofs.Kept.{IsKept-filled}
 use Rattle.termwiz_storage.proofs.line.vecstorage.VecStorage.kept_len.Goals as goal
 
 pub returns : goal.returns
 returns c =
-    let h = c.loop-cell.invariant.end_is in
-    let cs : List CellValue = c.args.self.now in
-    let walk : c.into_iter-cell-iterator.result ≡ visible (take c.min.result cs) = c.into_iter-cell-iterator.ensures.into_iter_gives ∙ c.new-cell-items.ensures ∙ ap (λ (xs : List CellValue). visible (take c.min.result xs)) (c.deref.ensures.value ∙ c.self.view_is) in
-    let end : EndsAt 0 c.into_iter-cell-iterator.result h.0 = h.2 h.0 (subst (λ (z : List (ℕ × CellValue)). EndsAt h.0 z h.0) (sym c.in-None.ensures.steps.0) nothing) in
-    let before : IsUsedTo c.self.inside.used cs = rw c.self.view_is at c.self.invariant in
-    let bound : c.min.result ≡ min c.self.inside.used (length cs) = omega (arith, c.self.inside.cells.ok.0, ap length c.self.view_is) in
-    let used : IsUsedTo c.min.result cs = rw bound (used-within c.self.inside.used cs before) in
-    let kept : IsKept cs (min h.0 (length cs)) = IsKept-used c.min.result cs h.0 used (subst (λ (z : List (ℕ × CellValue)). EndsAt 0 z h.0) walk end) in
-    let len : vec_len c.self.inside.cells ≡ length cs = c.self.inside.cells.ok.0 ∙ ap length c.self.view_is in
-    let n : c.min-2.result ≡ min h.0 (length cs) = omega (arith, h.1) in
-    rw n kept
-
-pub loop-cell-init : goal.loop-cell-init
-loop-cell-init c = record { can = tt; finite = tt; end_is = (0, omega arith, λ e t. t) }
-
-pub loop-cell-preserved : goal.loop-cell-preserved
-loop-cell-preserved c =
-    let h = c.loop-cell.invariant.end_is in
-    record { can = tt; finite = tt; end_is = (h.0, h.1, λ e t. h.2 e (subst (λ (z : List (ℕ × CellValue)). EndsAt h.0 z e) (sym c.in-Some.ensures.steps) (blank_cell (c.is_blank.ensures.0 (search rules)) t))) }
-
-pub loop-cell-preserved-then-not-is_blank : goal.loop-cell-preserved-then-not-is_blank
-loop-cell-preserved-then-not-is_blank c =
-    let h = c.loop-cell.invariant.end_is in
-    let p : ℕ × CellValue = indexed_cell c.in-Some.cell in
-    record {
-      can = tt;
-      finite = tt;
-      end_is = (p.0 + columns p.1, c.saturating_add-kept.ensures ∙ rw (c.cell_index.ensures, c.width.ensures) refl, λ e t. h.2 e (subst (λ (z : List (ℕ × CellValue)). EndsAt h.0 z e) (sym c.in-Some.ensures.steps) (other_cell (iff_false c.is_blank.ensures c.if-not-is_blank.true) t)));
-    }
+    let cs = c.args.self.now in
+    let end : ℕ = c.filled_len-end.result in
+    let no : (nat_lt 0 end && is_wide (stored cs (end - 1))) ≡ false = sym c.is_wide_before.ensures ∙ c.if-is_wide_before.false in
+    IsKept-filled end cs c.filled_len-end.ensures (λ x e.
+    let some : nat_lt 0 end ≡ true = lt-ltb 0 end (omega arith) in
+    let k : end - 1 ≡ x = omega arith in
+    rw (some, k) at no)

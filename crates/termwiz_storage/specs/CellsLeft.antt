@@ -1,8 +1,15 @@
 -- The visible cells that an iterator has left, each with its column.
-use Rattle.std.specs.Prelude.{ℕ, List}
-use Rattle.termwiz_cell.specs.CellValue.{CellValue}
+use Rattle.std.specs.Prelude.{◌≡◌, ℕ, List, [], ◌∷◌, Option, Some, None}
+use Rattle.termwiz_cell.specs.CellValue.{CellValue, columns}
+use Rattle.termwiz_storage.specs.CellRef.{indexed_cell, ref_cell, ref_width}
+use Rattle.termwiz_storage.specs.declared.line.cellref.CellRef.{CellRef}
 use Rattle.termwiz_storage.specs.declared.line.cellref.VisibleCellIter.{VisibleCellIter}
 use Rattle.termwiz_storage.specs.declared.line.cellref.VisibleCellIter.TheVariants.{V}
 
 abbrev pub cells_left : VisibleCellIter → List (ℕ × CellValue)
 cells_left (V s) = s
+
+-- the first cell that is left comes, and tells its own width; None at the end
+abbrev pub YieldsCell : {S : Type 0} → (S → List (ℕ × CellValue)) → S → Option CellRef → S → Type 0
+YieldsCell rest s None t = (rest s ≡ []) × (rest t ≡ [])
+YieldsCell rest s (Some r) t = (rest s ≡ indexed_cell r ∷ rest t) × (ref_width r ≡ columns (ref_cell r))

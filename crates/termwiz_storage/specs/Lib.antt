@@ -5,3 +5,5 @@ pub mod FilledAs
 pub mod CellLists
 pub mod CellRef
 pub mod CellsLeft
+pub mod Storage
+pub mod Lending

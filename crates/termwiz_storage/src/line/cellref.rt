@@ -1,20 +1,31 @@
 //! The visible cells of a line, borrowed.
 ghost use Rattle.std.specs.Prelude.{◌≡◌, ◌≤◌, ◌↔◌, IsTrue, IfOk};
 ghost use Rattle.std.specs.Option.{unwrap_or};
-ghost use Rattle.std.specs.Iterator.{YieldsFirstBy, item_count};
-ghost use Rattle.termwiz_cell.specs.CellValue.{columns};
-ghost use Rattle.termwiz_storage.specs.CellRef.{indexed_cell, ref_index, ref_cell};
-ghost use Rattle.termwiz_storage.specs.CellsLeft.{cells_left};
+ghost use Rattle.std.specs.Iterator.{item_count};
+ghost use Rattle.termwiz_cell.specs.CellValue.{blank, cell_of, columns};
+ghost use Rattle.termwiz_storage.specs.CellRef.{contents, contents_of, ref_index, ref_cell, ref_width};
+ghost use Rattle.termwiz_storage.specs.CellsLeft.{cells_left, YieldsCell};
 
 use crate::line::vecstorage::VecStorageIter;
 use std::alloc::{AllocError, Global};
 use termwiz_cell::cell::{Cell, CellAttributes};
 use termwiz_cell::emoji::{Presentation, Widths};
 
-/// A visible cell of a line, with its column.
+/// A visible cell of a line, with its column: a stored cell, or a piece of a text with what belongs to it.
 #[derive(Clone, Copy, Debug)]
 pub enum CellRef<'a> {
-    CellRef { cell_index: usize, cell: &'a Cell },
+    /// A cell that is stored as one.
+    CellRef {
+        cell_index: usize,
+        cell: &'a Cell,
+    },
+    /// A cell that is stored in a text.
+    ClusterRef {
+        cell_index: usize,
+        text: &'a str,
+        width: usize,
+        attrs: &'a CellAttributes,
+    },
 }
 
 impl<'a> CellRef<'a> {
@@ -24,6 +35,7 @@ impl<'a> CellRef<'a> {
     {
         match self {
             CellRef::CellRef { cell_index, .. } => *cell_index,
+            CellRef::ClusterRef { cell_index, .. } => *cell_index,
         }
     }
 
@@ -33,15 +45,17 @@ impl<'a> CellRef<'a> {
     {
         match self {
             CellRef::CellRef { cell, .. } => cell.str(),
+            CellRef::ClusterRef { text, .. } => text,
         }
     }
 
-    /// The columns that the cell takes: 1 or 2.
+    /// The columns that the cell takes. A walk gives only cells of 1 or 2.
     pub fn width(&self) -> usize
-        ensures { result ≡ columns (ref_cell self.now) }
+        ensures { result ≡ ref_width self.now }
     {
         match self {
             CellRef::CellRef { cell, .. } => cell.width(),
+            CellRef::ClusterRef { width, .. } => *width,
         }
     }
 
@@ -51,6 +65,7 @@ impl<'a> CellRef<'a> {
     {
         match self {
             CellRef::CellRef { cell, .. } => cell.attrs(),
+            CellRef::ClusterRef { attrs, .. } => attrs,
         }
     }
 
@@ -62,23 +77,57 @@ impl<'a> CellRef<'a> {
         variation.unwrap_or(presentation)
     }
 
-    /// A copy of the cell.
-    pub fn as_cell(&self, _alloc: Global) -> Result<Cell, AllocError>
-        ensures { IfOk result (λ cell. cell ≡ ref_cell self.now) }
+    /// A cell of this text, width and attributes, as `Cell::new_grapheme_with_width` makes it.
+    pub fn as_cell(&self, alloc: Global) -> Result<Cell, AllocError>
+        requires { ref_width self.now ≤ 2 }
+        ensures { IfOk result (λ cell. cell ≡ cell_of (ref_cell self.now).text (ref_width self.now) (ref_cell self.now).attrs) }
     {
         match self {
-            CellRef::CellRef { cell, .. } => (**cell).clone(),
+            CellRef::CellRef { cell, .. } => copied(cell),
+            CellRef::ClusterRef {
+                text,
+                width,
+                attrs,
+                ..
+            } => {
+                let attrs = (**attrs).clone()?;
+                Cell::new_grapheme_with_width(alloc, text, *width, attrs)
+            }
         }
     }
 
     /// Whether text, width and attributes are the same, wherever the cells stand.
     pub fn same_contents(&self, other: &CellRef<'_>) -> bool
-        ensures { IsTrue result ↔ (ref_cell self.now ≡ ref_cell other.now) }
+        ensures { IsTrue result ↔ (contents self.now ≡ contents other.now) }
     {
-        match (self, other) {
-            (CellRef::CellRef { cell: a, .. }, CellRef::CellRef { cell: b, .. }) => **a == **b,
-        }
+        self.str() == other.str()
+            && (self.width() == other.width() && *self.attrs() == *other.attrs())
     }
+
+    /// Whether it shows what this cell shows.
+    pub fn is_cell(&self, cell: &Cell) -> bool
+        ensures { IsTrue result ↔ (contents self.now ≡ contents_of cell.now) }
+    {
+        self.same_contents(&CellRef::CellRef {
+            cell_index: 0,
+            cell,
+        })
+    }
+
+    /// Whether it shows a default blank.
+    pub fn is_blank(&self) -> bool
+        ensures { IsTrue result ↔ (contents self.now ≡ contents_of blank) }
+    {
+        matches!(self.str().as_bytes(), b" ") && (self.width() == 1 && self.attrs().is_blank())
+    }
+}
+
+fn copied(cell: &Cell) -> Result<Cell, AllocError>
+    ensures { IfOk result (λ made. made ≡ cell_of cell.now.text (columns cell.now) cell.now.attrs) }
+{
+    // A cell's text is clean, which its reader knows.
+    let _text = cell.str();
+    cell.clone()
 }
 
 /// The visible cells of a line, in order.
@@ -90,7 +139,7 @@ pub enum VisibleCellIter<'a> {
 impl<'a> Iterator for VisibleCellIter<'a> {
     type Item = CellRef<'a>;
 
-    ghost next_gives = { YieldsFirstBy indexed_cell cells_left };
+    ghost next_gives = { YieldsCell cells_left };
 
     ghost remaining = { item_count cells_left };
 

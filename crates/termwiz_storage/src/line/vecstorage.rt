@@ -2,17 +2,20 @@
 ghost use Rattle.std.specs.Prelude.{◌≡◌, [], ◌+◌, ◌-◌, ◌<◌, ◌≤◌, ◌↔◌, ◌&&◌, nat_lt, IsTrue, OnErr, OnOk, IsOk, IfOk, length, take, replicate, vec_capacity, vec_len};
 ghost use Rattle.std.specs.Option.{ForSome};
 ghost use Rattle.std.specs.Cmp.{decided, partial_equiv_from_equiv};
-ghost use Rattle.std.specs.Iterator.{YieldsFirstBy, item_count};
+ghost use Rattle.std.specs.Iterator.{item_count};
 ghost use Rattle.termwiz_cell.specs.CellValue.{blank, columns, half, is_wide};
-ghost use Rattle.termwiz_storage.specs.CellRef.{indexed_cell, ref_cell};
+ghost use Rattle.termwiz_storage.specs.CellsLeft.{YieldsCell};
 ghost use Rattle.termwiz_storage.specs.Stored.{fill, padded, put, stored, set_cell, visible, IsKept};
 ghost use Rattle.termwiz_storage.specs.Halves.{half_of, overhang, resized, torn, with_half};
 ghost use Rattle.termwiz_storage.specs.Used.{IsBlanked, IsFilledTo, IsUsedTo};
 ghost use Rattle.termwiz_storage.specs.CellLists.{cells_eq, cells_eq-Decides};
+ghost use Rattle.std.specs.Borrow.{sem};
+ghost use Rattle.termwiz_storage.specs.Lending.{LendsCells};
 
 use crate::line::cellref::CellRef;
 use std::alloc::{AllocError, Global};
 use std::marker::Model;
+use std::ops::{DerefSlice, DerefSliceMut};
 use std::{mem, slice};
 use termwiz_cell::cell::{Cell, CellAttributes};
 
@@ -79,7 +82,7 @@ impl VecStorage {
     }
 
     /// Pads with default blanks to at least this many cells. On an error nothing changed.
-    pub fn pad(&mut self, len: usize) -> Result<(), AllocError>
+    pub(crate) fn pad(&mut self, len: usize) -> Result<(), AllocError>
         ensures ok { OnOk result (self.new ≡ padded len self.old) }
         ensures err { OnErr result (self.new ≡ self.old) }
         ensures succeeds { len ≤ length self.old → IsOk result }
@@ -111,7 +114,7 @@ impl VecStorage {
 
     /// Sets a cell. The list is padded so far, a wide cell that is cut leaves a blank with its attributes, and the half of a wide cell follows it.
     /// On an error, which a column past the greatest number gives too, nothing changed.
-    pub fn set_cell(&mut self, i: usize, cell: Cell) -> Result<(), AllocError>
+    pub(crate) fn set_cell(&mut self, i: usize, cell: Cell) -> Result<(), AllocError>
         ensures ok { OnOk result (self.new ≡ set_cell i cell self.old) }
         ensures err { OnErr result (self.new ≡ self.old) }
     {
@@ -124,7 +127,7 @@ impl VecStorage {
     }
 
     /// Sets a default blank in each of the columns from one up to another, in order. On an error nothing changed.
-    pub fn set_blanks(&mut self, from: usize, to: usize) -> Result<(), AllocError>
+    pub(crate) fn set_blanks(&mut self, from: usize, to: usize) -> Result<(), AllocError>
         ensures ok { OnOk result (self.new ≡ fill (to - from) from blank self.old) }
         ensures err { OnErr result (self.new ≡ self.old) }
     {
@@ -148,7 +151,7 @@ impl VecStorage {
     }
 
     /// Cuts the list.
-    pub fn truncate(&mut self, len: usize)
+    pub(crate) fn truncate(&mut self, len: usize)
         ensures { self.new ≡ take len self.old }
     {
         self.cells.truncate(len);
@@ -156,7 +159,7 @@ impl VecStorage {
     }
 
     /// Makes the list this many default blanks. It takes memory only where it grows. On an error nothing changed.
-    pub fn blank_out(&mut self, len: usize) -> Result<(), AllocError>
+    pub(crate) fn blank_out(&mut self, len: usize) -> Result<(), AllocError>
         ensures ok { OnOk result (self.new ≡ replicate len blank) }
         ensures err { OnErr result (self.new ≡ self.old) }
         ensures succeeds { len ≤ length self.old → IsOk result }
@@ -189,7 +192,7 @@ impl VecStorage {
 
     /// Cuts the list, or grows it by default blanks. Where it grows and its last visible cell lacks its half, the half comes first.
     /// On an error nothing changed.
-    pub fn resize(&mut self, len: usize) -> Result<(), AllocError>
+    pub(crate) fn resize(&mut self, len: usize) -> Result<(), AllocError>
         ensures ok { OnOk result (self.new ≡ resized len self.old) }
         ensures err { OnErr result (self.new ≡ self.old) }
         ensures succeeds { len ≤ length self.old → IsOk result }
@@ -210,7 +213,7 @@ impl VecStorage {
     }
 
     /// How many cells are left without the default blanks that end the list.
-    pub fn kept_len(&self) -> usize
+    pub(crate) fn kept_len(&self) -> usize
         ensures { IsKept self.now result }
     {
         let end = self.filled_len();
@@ -247,7 +250,7 @@ impl VecStorage {
     {
         let mut kept = 0;
         for cell in VecStorageIter::new(&self.cells[..end]) {
-            if !is_blank(&cell) {
+            if !cell.is_blank() {
                 kept = cell.cell_index().saturating_add(cell.width());
             }
         }
@@ -322,11 +325,26 @@ fn half_if_wide(cell: &Cell) -> Result<Option<Cell>, AllocError>
     Ok(Some(Cell::blank_with_attrs(attrs)))
 }
 
-fn is_blank(cell: &CellRef<'_>) -> bool
-    ensures { IsTrue result ↔ (ref_cell cell.now ≡ blank) }
-{
-    match cell {
-        CellRef::CellRef { cell, .. } => cell.is_blank(),
+impl DerefSlice for VecStorage {
+    type Elem = Cell;
+
+    ghost deref_gives = { λ s cells. cells ≡ s };
+
+    fn deref(&self) -> &[Cell]
+        ensures { result.now ≡ self.now }
+    {
+        &self.cells
+    }
+}
+
+impl DerefSliceMut for VecStorage {
+    // Any cell may be written.
+    fn deref_mut(&mut self) -> &mut [Cell]
+        ensures* writes_back { sem 𝓛 (LendsCells self.entry result) }
+        ensures value { result.now ≡ self.old }
+    {
+        self.used = self.cells.len();
+        &mut self.cells
     }
 }
 
@@ -396,7 +414,7 @@ impl<'a> VecStorageIter<'a> {
 impl<'a> Iterator for VecStorageIter<'a> {
     type Item = CellRef<'a>;
 
-    ghost next_gives = { YieldsFirstBy indexed_cell (λ s. s) };
+    ghost next_gives = { YieldsCell (λ s. s) };
 
     ghost remaining = { item_count (λ s. s) };
 

@@ -1,0 +1,186 @@
+//! Where a line keeps its cells, and all that edits them.
+ghost use Rattle.std.specs.Prelude.{◌≡◌, ◌-◌, ◌≤◌, [], ◌↔◌, true, length, option_map, replicate, take, IsTrue, IsOk, IfOk, OnOk, OnErr, Some, None, if◌then◌else◌};
+ghost use Rattle.std.specs.Borrow.{sem};
+ghost use Rattle.std.specs.Cmp.{partial_equiv_from_equiv};
+ghost use Rattle.termwiz_cell.specs.CellValue.{blank};
+ghost use Rattle.termwiz_storage.specs.CellsLeft.{cells_left};
+ghost use Rattle.termwiz_storage.specs.Stored.{visible, fill, set_cell, IsKept};
+ghost use Rattle.termwiz_storage.specs.Halves.{resized};
+ghost use Rattle.termwiz_storage.specs.Storage.{cells_of, is_vector, same_cells, same_cells-equivalence};
+ghost use Rattle.termwiz_storage.specs.Lending.{LendsVector};
+
+use crate::line::cellref::VisibleCellIter;
+use crate::line::vecstorage::VecStorage;
+use std::alloc::AllocError;
+use termwiz_cell::cell::Cell;
+
+/// The stored cells of a line. It is the only door to them: each edit of the list is one of its methods.
+#[derive(Drop, Debug)]
+pub enum CellStorage {
+    /// Each cell has a place of its own.
+    V(VecStorage),
+}
+
+impl CellStorage {
+    /// A vector of these cells.
+    pub fn vector(cells: Vec<Cell>) -> CellStorage
+        ensures cells { cells_of result ≡ cells.items }
+        ensures vector { is_vector result ≡ true }
+    {
+        CellStorage::V(VecStorage::new(cells))
+    }
+
+    /// How many cells are stored.
+    pub fn len(&self) -> usize
+        ensures { result ≡ length (cells_of self.now) }
+    {
+        match self {
+            CellStorage::V(storage) => storage.len(),
+        }
+    }
+
+    /// Whether no cell is stored.
+    pub fn is_empty(&self) -> bool
+        ensures { IsTrue result ↔ (cells_of self.now ≡ []) }
+    {
+        match self {
+            CellStorage::V(storage) => storage.is_empty(),
+        }
+    }
+
+    /// The cells of a vector, the half of a wide one behind it. Another form has none to lend.
+    pub fn cells(&self) -> Option<&[Cell]>
+        ensures { option_map (λ cells. cells.now) result ≡ (if is_vector self.now then Some (cells_of self.now) else None) }
+    {
+        match self {
+            CellStorage::V(storage) => Some(storage.cells()),
+        }
+    }
+
+    /// The visible cells.
+    pub fn iter(&self) -> VisibleCellIter<'_>
+        ensures { cells_left result ≡ visible (cells_of self.now) }
+    {
+        match self {
+            CellStorage::V(storage) => VisibleCellIter::V(storage.iter()),
+        }
+    }
+
+    /// Sets a cell. The list is padded so far, a wide cell that is cut leaves a blank with its attributes, and the half of a wide cell follows it.
+    /// On an error, which a column past the greatest number gives too, the cells are as before.
+    pub fn set_cell(&mut self, i: usize, cell: Cell) -> Result<(), AllocError>
+        ensures ok { OnOk result (cells_of self.new ≡ set_cell i cell (cells_of self.old)) }
+        ensures err { OnErr result (cells_of self.new ≡ cells_of self.old) }
+        ensures vector { is_vector self.old ≡ true → is_vector self.new ≡ true }
+    {
+        match self {
+            CellStorage::V(storage) => storage.set_cell(i, cell)?,
+        }
+        Ok(())
+    }
+
+    /// Sets a default blank in each of the columns from one up to another, in order. On an error the cells are as before.
+    pub fn set_blanks(&mut self, from: usize, to: usize) -> Result<(), AllocError>
+        ensures ok { OnOk result (cells_of self.new ≡ fill (to - from) from blank (cells_of self.old)) }
+        ensures err { OnErr result (cells_of self.new ≡ cells_of self.old) }
+        ensures vector { is_vector self.old ≡ true → is_vector self.new ≡ true }
+    {
+        match self {
+            CellStorage::V(storage) => storage.set_blanks(from, to)?,
+        }
+        Ok(())
+    }
+
+    /// Makes the list this many default blanks in a vector. It takes memory only where a vector grows, or is made. On an error the cells are as before.
+    pub fn blank_out(&mut self, len: usize) -> Result<(), AllocError>
+        ensures ok { OnOk result (cells_of self.new ≡ replicate len blank) }
+        ensures err { OnErr result (cells_of self.new ≡ cells_of self.old) }
+        ensures succeeds { is_vector self.old ≡ true → len ≤ length (cells_of self.old) → IsOk result }
+        ensures vector { is_vector self.old ≡ true → is_vector self.new ≡ true }
+        ensures made { OnOk result (is_vector self.new ≡ true) }
+    {
+        match self {
+            CellStorage::V(storage) => storage.blank_out(len)?,
+        }
+        Ok(())
+    }
+
+    /// Cuts the list, or grows it by default blanks. Where it grows and its last visible cell lacks its half, the half comes first.
+    /// On an error the cells are as before.
+    pub fn resize(&mut self, len: usize) -> Result<(), AllocError>
+        ensures ok { OnOk result (cells_of self.new ≡ resized len (cells_of self.old)) }
+        ensures err { OnErr result (cells_of self.new ≡ cells_of self.old) }
+        ensures succeeds { is_vector self.old ≡ true → len ≤ length (cells_of self.old) → IsOk result }
+        ensures vector { is_vector self.old ≡ true → is_vector self.new ≡ true }
+    {
+        match self {
+            CellStorage::V(storage) => storage.resize(len)?,
+        }
+        Ok(())
+    }
+
+    /// Cuts the list to this many cells. On an error the cells are as before.
+    pub fn truncate(&mut self, len: usize) -> Result<(), AllocError>
+        ensures ok { OnOk result (cells_of self.new ≡ take len (cells_of self.old)) }
+        ensures err { OnErr result (cells_of self.new ≡ cells_of self.old) }
+        ensures succeeds { is_vector self.old ≡ true → IsOk result }
+        ensures vector { is_vector self.old ≡ true → is_vector self.new ≡ true }
+    {
+        match self {
+            CellStorage::V(storage) => storage.truncate(len),
+        }
+        Ok(())
+    }
+
+    /// How many cells are left without the default blanks that end the list.
+    pub fn kept_len(&self) -> usize
+        ensures { IsKept (cells_of self.now) result }
+    {
+        match self {
+            CellStorage::V(storage) => storage.kept_len(),
+        }
+    }
+
+    /// The storage as a vector, which it is from then on. Its cells can be written, and their number stays.
+    pub fn coerce_vec(&mut self) -> Result<&mut VecStorage, AllocError>
+        ensures* writes_back { sem 𝓛 (LendsVector self.entry result) }
+        ensures value { IfOk result (λ v. v.now ≡ cells_of self.old) }
+        ensures succeeds { is_vector self.old ≡ true → IsOk result }
+    {
+        match self {
+            CellStorage::V(storage) => Ok(storage),
+        }
+    }
+}
+
+impl Clone for CellStorage {
+    ghost is_clone = { λ a b. cells_of b ≡ cells_of a };
+
+    fn clone(&self) -> Result<CellStorage, AllocError> {
+        match self {
+            CellStorage::V(storage) => {
+                let storage = storage.clone()?;
+                Ok(CellStorage::V(storage))
+            }
+        }
+    }
+}
+
+impl PartialEq for CellStorage {
+    ghost eq = { same_cells };
+
+    ghost laws = { partial_equiv_from_equiv same_cells-equivalence };
+
+    fn eq(&self, other: &CellStorage) -> bool
+        ensures value { result ≡ same_cells self.now other.now }
+        ensures same { IsTrue result ↔ (cells_of self.now ≡ cells_of other.now) }
+    {
+        match (self, other) {
+            (CellStorage::V(a), CellStorage::V(b)) => *a == *b,
+        }
+    }
+}
+
+impl Eq for CellStorage {
+    ghost laws = { same_cells-equivalence };
+}

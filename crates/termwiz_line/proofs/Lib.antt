@@ -8,3 +8,4 @@ pub mod EntryLists
 pub mod PlainAttributes
 pub mod GrowingText
 pub mod Walk
+pub mod Flags

@@ -1,3 +1,4 @@
+pub mod LineFlags
 pub mod LineValue
 pub mod LineEq
 pub mod Filled

@@ -1,19 +1,33 @@
--- A line, as contracts see it: its stored cells and its number.
-use Rattle.std.specs.Prelude.{◌≡◌, ℕ, ◌<◌, max, List, length}
+-- A line, as contracts see it: its stored cells, its number, its flags, and whether the cells are stored as a vector.
+use Rattle.std.specs.Prelude.{◌≡◌, ℕ, ◌<◌, max, Bool, true, List, length}
 use Rattle.termwiz_cell.specs.CellValue.{CellValue}
 use Rattle.termwiz_storage.specs.Stored.{IsPruned}
+use Rattle.termwiz_line.specs.LineFlags.{LineFlags}
 
 pub record LineValue : Type 0 where
   pub cells : List CellValue
   pub seqno : ℕ
+  pub flags : LineFlags
+  pub is_vector : Bool
 
--- the line has these cells now, and takes the number
+-- number, flags and cells are as before, though perhaps stored in another form; a vector stays one
+pub record IsUnchanged (old new : LineValue) : Type 0 where
+  pub cells : new.cells ≡ old.cells
+  pub number : new.seqno ≡ old.seqno
+  pub flags : new.flags ≡ old.flags
+  pub vector : old.is_vector ≡ true → new.is_vector ≡ true
+
+-- the line has these cells now, and takes the number; its flags stay, and a vector stays one
 pub record IsEdited (old : LineValue) (cells : List CellValue) (seqno : ℕ) (new : LineValue) : Type 0 where
   pub cells_are : new.cells ≡ cells
   pub number : new.seqno ≡ max old.seqno seqno
+  pub flags : new.flags ≡ old.flags
+  pub vector : old.is_vector ≡ true → new.is_vector ≡ true
 
 -- trailing default blanks are cut; the line takes the number where that changes it
 pub record Prunes (old : LineValue) (seqno : ℕ) (new : LineValue) : Type 0 where
   pub cells : IsPruned old.cells new.cells
   pub shorter : length new.cells < length old.cells → new.seqno ≡ max old.seqno seqno
   pub as_long : length new.cells ≡ length old.cells → new.seqno ≡ old.seqno
+  pub flags : new.flags ≡ old.flags
+  pub vector : old.is_vector ≡ true → new.is_vector ≡ true

@@ -1,2 +1,3 @@
 //! A line, and the changes that print it.
 pub mod line;
+mod linebits;

@@ -1,84 +1,106 @@
 //! Lines of cells.
-ghost use Rattle.std.specs.Prelude.{◌≡◌, ◌-◌, ◌<◌, ◌≤◌, ◌↔◌, [], IsTrue, IsOk, IfOk, OnOk, OnErr, Some, length, map, option_map, replicate};
-ghost use Rattle.std.specs.Cmp.{decided, partial_equiv_from_equiv};
+ghost use Rattle.std.specs.Prelude.{◌≡◌, ◌-◌, ◌<◌, ◌≤◌, ◌↔◌, [], true, IsTrue, IsOk, IfOk, OnOk, OnErr, Some, None, length, map, option_map, replicate, if◌then◌else◌};
+ghost use Rattle.std.specs.Cmp.{partial_equiv_from_equiv};
 ghost use Rattle.termwiz_cell.specs.CellValue.{blank};
 ghost use Rattle.termwiz_storage.specs.Stored.{visible, set_cell};
 ghost use Rattle.termwiz_storage.specs.Halves.{resized};
 ghost use Rattle.termwiz_storage.specs.CellsLeft.{cells_left};
-ghost use Rattle.termwiz_line.specs.LineValue.{IsEdited, Prunes};
-ghost use Rattle.termwiz_line.specs.Filled.{filled_line, FillsAs, IsFilled, IsPartlyFilled};
+ghost use Rattle.termwiz_storage.specs.Storage.{cells_of, is_vector};
+ghost use Rattle.termwiz_line.specs.LineFlags.{no_flags};
+ghost use Rattle.termwiz_line.specs.LineValue.{IsEdited, IsUnchanged, Prunes};
+ghost use Rattle.termwiz_line.specs.Filled.{Fills, FillsAs, IsFilled, IsPartlyFilled};
 ghost use Rattle.termwiz_cell.specs.ChangeValue.{change_value};
 ghost use Rattle.termwiz_storage.specs.CellRef.{indexed_cell};
 ghost use Rattle.termwiz_line.specs.Entries.{row_entries};
-ghost use Rattle.termwiz_line.specs.LineEq.{line_eq, line_eq-Decides};
+ghost use Rattle.termwiz_line.specs.LineEq.{flags_eq, line_contents, line_eq, line_eq-equivalence};
 
 use crate::entries::row_entries;
+use crate::line::linebits::LineBits;
 use std::alloc::{AllocError, Global};
 use std::marker::Model;
 use std::ops::Range;
 use termwiz_cell::cell::{Cell, CellAttributes};
 use termwiz_cell::change::{Change, SequenceNo};
 use termwiz_storage::line::cellref::{CellRef, VisibleCellIter};
-use termwiz_storage::line::vecstorage::VecStorage;
+use termwiz_storage::line::storage::CellStorage;
 
-/// A line: its stored cells, and the number of the last change to it.
+/// A line: its stored cells, the number of the last change to it, and its flags.
 #[derive(Drop, Debug)]
 pub struct Line {
-    storage: VecStorage,
+    alloc: Global,
+    storage: CellStorage,
     seqno: SequenceNo,
+    bits: LineBits,
 }
 
 impl Model for Line {
+    ghost use Rattle.std.specs.Prelude.{◌≡◌};
+    ghost use Rattle.termwiz_storage.specs.Storage.{cells_of, is_vector};
+    ghost use Rattle.termwiz_line.specs.LineFlags.{flags_of, bits_of};
     ghost use Rattle.termwiz_line.specs.LineValue.{LineValue};
 
     ghost Value = { LineValue };
 
-    ghost view = { λ l. record { cells = l.storage; seqno = l.seqno } };
+    ghost view = { λ l. record { cells = cells_of l.storage; seqno = l.seqno; flags = flags_of l.bits.0; is_vector = is_vector l.storage } };
+
+    // There are no other bits.
+    ghost invariant = { λ l. bits_of (flags_of l.bits.0) ≡ l.bits.0 };
 }
 
 impl Line {
     /// A line of this many default blanks.
     pub fn with_width(alloc: Global, width: usize, seqno: SequenceNo) -> Result<Line, AllocError>
-        ensures { IfOk result (λ line. line ≡ record { cells = replicate width blank; seqno = seqno }) }
+        ensures { IfOk result (λ line. line ≡ record { cells = replicate width blank; seqno = seqno; flags = no_flags; is_vector = true }) }
     {
-        let mut storage = VecStorage::new(Vec::new(alloc));
-        storage.pad(width)?;
-        Ok(Line { storage, seqno })
+        let mut storage = CellStorage::vector(Vec::new(alloc));
+        storage.blank_out(width)?;
+        Ok(Line::of(alloc, storage, seqno))
     }
 
-    /// Makes this a new line of this many default blanks, with the number. It takes memory only where the line grows. On an error nothing changed.
+    // A line without flags.
+    fn of(alloc: Global, storage: CellStorage, seqno: SequenceNo) -> Line
+        ensures { result ≡ record { cells = cells_of storage; seqno = seqno; flags = no_flags; is_vector = is_vector storage } }
+    {
+        Line {
+            alloc,
+            storage,
+            seqno,
+            bits: LineBits::NONE,
+        }
+    }
+
+    /// Makes this a new line of this many default blanks, with the number and without flags. A vector takes memory only where it grows.
+    /// On an error number, flags and cells are as before.
     pub fn blank_out(&mut self, width: usize, seqno: SequenceNo) -> Result<(), AllocError>
-        ensures ok { OnOk result (self.new ≡ record { cells = replicate width blank; seqno = seqno }) }
-        ensures err { OnErr result (self.new ≡ self.old) }
-        ensures succeeds { width ≤ length self.old.cells → IsOk result }
+        ensures ok { OnOk result (self.new ≡ record { cells = replicate width blank; seqno = seqno; flags = no_flags; is_vector = true }) }
+        ensures err { OnErr result (IsUnchanged self.old self.new) }
+        ensures succeeds { self.old.is_vector ≡ true → width ≤ length self.old.cells → IsOk result }
     {
         self.storage.blank_out(width)?;
         self.seqno = seqno;
+        self.bits = LineBits::NONE;
         Ok(())
     }
 
     /// Cuts the line to this many columns, or grows it to them by default blanks. Where it grows and its last visible cell lacks its half, the half comes first.
-    /// The line takes the number. On an error nothing changed.
+    /// The line takes the number. On an error number, flags and cells are as before.
     pub fn resize(&mut self, width: usize, seqno: SequenceNo) -> Result<(), AllocError>
         ensures ok { OnOk result (IsEdited self.old (resized width self.old.cells) seqno self.new) }
-        ensures err { OnErr result (self.new ≡ self.old) }
-        ensures succeeds { width ≤ length self.old.cells → IsOk result }
+        ensures err { OnErr result (IsUnchanged self.old self.new) }
+        ensures succeeds { self.old.is_vector ≡ true → width ≤ length self.old.cells → IsOk result }
     {
         self.storage.resize(width)?;
         self.seqno = self.seqno.max(seqno);
         Ok(())
     }
 
-    /// A copy with this number, cut to this many columns, or grown to them as by `resize`.
+    /// A copy with this number and without flags, cut to this many columns, or grown to them as by `resize`.
     pub fn resized(&self, width: usize, seqno: SequenceNo) -> Result<Line, AllocError>
-        ensures { IfOk result (λ line. line ≡ record { cells = resized width self.now.cells; seqno = seqno }) }
+        ensures { IfOk result (λ line. line ≡ record { cells = resized width self.now.cells; seqno = seqno; flags = no_flags; is_vector = self.now.is_vector }) }
     {
-        let mut cells = self.storage.clone()?;
-        cells.resize(width)?;
-        Ok(Line {
-            storage: cells,
-            seqno,
-        })
+        let mut storage = self.storage.clone()?;
+        storage.resize(width)?;
+        Ok(Line::of(self.alloc, storage, seqno))
     }
 
     /// The number of the last change.
@@ -89,10 +111,10 @@ impl Line {
     }
 
     /// Sets the cell at a column. The line is padded with default blanks so far, a wide cell that is cut leaves a blank with its attributes, and the half of a wide cell follows it.
-    /// The line takes the number. On an error, which a column past the greatest number gives too, nothing changed.
+    /// The line takes the number. On an error, which a column past the greatest number gives too, number, flags and cells are as before.
     pub fn set_cell(&mut self, i: usize, cell: Cell, seqno: SequenceNo) -> Result<(), AllocError>
         ensures ok { OnOk result (IsEdited self.old (set_cell i cell self.old.cells) seqno self.new) }
-        ensures err { OnErr result (self.new ≡ self.old) }
+        ensures err { OnErr result (IsUnchanged self.old self.new) }
     {
         self.storage.set_cell(i, cell)?;
         self.seqno = self.seqno.max(seqno);
@@ -100,14 +122,15 @@ impl Line {
     }
 
     /// Cuts the default blanks at the end, unless there is nothing else. The line takes the number where that changes it.
-    /// It takes no memory.
+    /// A vector takes no memory. On an error number, flags and cells are as before.
     pub fn prune_trailing_blanks(&mut self, seqno: SequenceNo) -> Result<(), AllocError>
         ensures ok { OnOk result (Prunes self.old seqno self.new) }
-        ensures succeeds { IsOk result }
+        ensures err { OnErr result (IsUnchanged self.old self.new) }
+        ensures succeeds { self.old.is_vector ≡ true → IsOk result }
     {
         let kept = self.storage.kept_len();
         if kept > 0 && kept < self.len() {
-            self.storage.truncate(kept);
+            self.storage.truncate(kept)?;
             self.seqno = self.seqno.max(seqno);
         }
         Ok(())
@@ -115,8 +138,8 @@ impl Line {
 
     // Sets a default blank in each of the columns from one up to another.
     fn set_blanks(&mut self, from: usize, to: usize, seqno: SequenceNo) -> Result<(), AllocError>
-        ensures ok { OnOk result (self.new ≡ filled_line (to - from) from blank seqno self.old) }
-        ensures err { OnErr result (self.new ≡ self.old) }
+        ensures ok { OnOk result (Fills self.old (to - from) from blank seqno self.new) }
+        ensures err { OnErr result (IsUnchanged self.old self.new) }
     {
         self.storage.set_blanks(from, to)?;
         if from < to {
@@ -133,7 +156,7 @@ impl Line {
         cell: &Cell,
         seqno: SequenceNo,
     ) -> Result<(), AllocError>
-        ensures ok { OnOk result (self.new ≡ filled_line (to - from) from cell.now seqno self.old) }
+        ensures ok { OnOk result (Fills self.old (to - from) from cell.now seqno self.new) }
         ensures err { OnErr result (IsPartlyFilled self.old from to cell.now seqno self.new) }
     {
         if cell.is_blank() {
@@ -173,6 +196,19 @@ impl Line {
         self.prune_trailing_blanks(seqno)
     }
 
+    fn is_same(&self, other: &Line) -> bool
+        ensures { result ≡ line_eq self.now other.now }
+    {
+        self.seqno == other.seqno && (self.has_same_flags(other) && self.storage == other.storage)
+    }
+
+    #[tactic(auto, using(crate::proofs::Flags::bits_eq))]
+    fn has_same_flags(&self, other: &Line) -> bool
+        ensures { result ≡ flags_eq self.now.flags other.now.flags }
+    {
+        self.bits == other.bits
+    }
+
     /// How many cells are stored.
     pub fn len(&self) -> usize
         ensures { result ≡ length self.now.cells }
@@ -184,24 +220,23 @@ impl Line {
     pub fn visible_cells(&self) -> VisibleCellIter<'_>
         ensures { cells_left result ≡ visible self.now.cells }
     {
-        VisibleCellIter::V(self.storage.iter())
+        self.storage.iter()
     }
 
     /// The changes that print the visible cells, from a pen with these attributes on.
     pub fn changes(&self, start_attr: &CellAttributes) -> Result<Vec<Change>, AllocError>
         ensures { IfOk result (λ out. map change_value out.items ≡ (row_entries start_attr.now (visible self.now.cells)).entries) }
     {
-        let alloc = self.storage.allocator();
-        let cells = collected(alloc, self.visible_cells())?;
-        let row = row_entries(alloc, &cells, start_attr)?;
+        let cells = collected(self.alloc, self.visible_cells())?;
+        let row = row_entries(self.alloc, &cells, start_attr)?;
         Ok(row.entries)
     }
 
-    /// The stored cells: the half of a wide cell follows it.
+    /// The cells of a vector: the half of a wide cell follows it. A line that is stored in another form has none to lend.
     pub fn stored_cells(&self) -> Option<&[Cell]>
-        ensures { option_map (λ cells. cells.now) result ≡ Some self.now.cells }
+        ensures { option_map (λ cells. cells.now) result ≡ (if self.now.is_vector then Some self.now.cells else None) }
     {
-        Some(self.storage.cells())
+        self.storage.cells()
     }
 }
 
@@ -222,8 +257,10 @@ impl Clone for Line {
     fn clone(&self) -> Result<Line, AllocError> {
         let storage = self.storage.clone()?;
         Ok(Line {
+            alloc: self.alloc,
             storage,
             seqno: self.seqno,
+            bits: self.bits,
         })
     }
 }
@@ -231,16 +268,17 @@ impl Clone for Line {
 impl PartialEq for Line {
     ghost eq = { line_eq };
 
-    ghost laws = { partial_equiv_from_equiv (decided line_eq line_eq-Decides) };
+    ghost laws = { partial_equiv_from_equiv line_eq-equivalence };
 
+    // Whichever form stores the cells.
     fn eq(&self, other: &Line) -> bool
         ensures value { result ≡ line_eq self.now other.now }
-        ensures same { IsTrue result ↔ (self.now ≡ other.now) }
+        ensures same { IsTrue result ↔ (line_contents self.now ≡ line_contents other.now) }
     {
-        self.seqno == other.seqno && self.storage == other.storage
+        self.is_same(other)
     }
 }
 
 impl Eq for Line {
-    ghost laws = { decided line_eq line_eq-Decides };
+    ghost laws = { line_eq-equivalence };
 }

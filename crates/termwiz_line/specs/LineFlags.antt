@@ -1,0 +1,30 @@
+-- The flags of a line: its size, and how its direction is told.
+use Rattle.std.specs.Prelude.{ℕ, ◌+◌, Bool, false, cond, ◌==◌, ◌&&◌}
+use Rattle.std.specs.Bool.{beq}
+use Rattle.std.specs.Int.RustNames.{bit_and}
+
+pub record LineFlags : Type 0 where
+  pub bidi_enabled : Bool
+  pub double_width : Bool
+  pub double_height_top : Bool
+  pub double_height_bottom : Bool
+  pub right_to_left : Bool
+  pub auto_detect : Bool
+
+abbrev pub no_flags : LineFlags
+no_flags = record { bidi_enabled = false; double_width = false; double_height_top = false; double_height_bottom = false; right_to_left = false; auto_detect = false }
+
+-- the flags whose bits a number has
+abbrev pub flags_of : ℕ → LineFlags
+flags_of n = record {
+  bidi_enabled = bit_and n 1 == 1;
+  double_width = bit_and n 16 == 16;
+  double_height_top = bit_and n 32 == 32;
+  double_height_bottom = bit_and n 64 == 64;
+  right_to_left = bit_and n 128 == 128;
+  auto_detect = bit_and n 256 == 256;
+}
+
+-- the number that has the bits of these flags alone
+abbrev pub bits_of : LineFlags → ℕ
+bits_of f = cond f.bidi_enabled 1 0 + (cond f.double_width 16 0 + (cond f.double_height_top 32 0 + (cond f.double_height_bottom 64 0 + (cond f.right_to_left 128 0 + cond f.auto_detect 256 0))))

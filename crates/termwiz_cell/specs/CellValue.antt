@@ -23,6 +23,10 @@ blank_of a = record { text = space; wide = false; attrs = a }
 abbrev pub blank : CellValue
 blank = blank_of default_attributes
 
+-- the narrow cell of one character of ASCII
+abbrev pub plain_cell : ℕ → Attributes → CellValue
+plain_cell byte a = record { text = byte ∷ []; wide = false; attrs = a }
+
 -- what is stored after a wide cell
 abbrev pub half : CellValue → CellValue
 half c = blank_of c.attrs

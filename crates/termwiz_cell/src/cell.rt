@@ -1,10 +1,11 @@
 //! Cells.
-ghost use Rattle.std.specs.Prelude.{◌≡◌, ◌↔◌, ◌≤◌, false, IsTrue, IfOk, IsOk, length, encode_utf8, unwrap_or};
+ghost use Rattle.std.specs.Prelude.{◌≡◌, ◌↔◌, ◌≤◌, true, false, IsTrue, IfOk, IsOk, length, encode_utf8, unwrap_or};
 ghost use Rattle.std.specs.Borrow.{sem};
 ghost use Rattle.std.specs.Cmp.{decided, partial_equiv_from_equiv};
-ghost use Rattle.termwiz_cell.specs.CellValue.{space, blank, blank_of, clean, cell_of, measured, columns, cell_eq, cell_eq-Decides};
+ghost use Rattle.termwiz_cell.specs.CellValue.{space, blank, blank_of, plain_cell, clean, cell_of, measured, columns, cell_eq, cell_eq-Decides};
 ghost use Rattle.termwiz_cell.specs.Attributes.{needs_box};
 ghost use Rattle.termwiz_cell.specs.Width.{at_version, unversioned};
+ghost use Rattle.termwiz_text.specs.Plain.{is_plain};
 
 mod attribute_change;
 mod attributes;
@@ -75,6 +76,18 @@ impl Cell {
     {
         Cell {
             text: CellText::blank(),
+            attrs,
+        }
+    }
+
+    /// The narrow cell of one printable character of ASCII. It takes no memory.
+    #[inline]
+    pub fn plain(byte: u8, attrs: CellAttributes) -> Cell
+        requires { is_plain byte ≡ true }
+        ensures { result ≡ plain_cell byte attrs }
+    {
+        Cell {
+            text: CellText::plain(byte),
             attrs,
         }
     }

@@ -1,11 +1,11 @@
 -- What is stored after a cell is set, by position.
-use Rattle.std.proofs.Common.{◌≡◌, ◌≢◌, ℕ, ◌+◌, ◌-◌, ◌<◌, ◌≤◌, inl, inr, true, false, ◌&&◌, max, List, length, get_or, set, replicate, refl, sym, ◌∙◌, ap, arith, length-append}
-use Rattle.std.proofs.lemmas.Bool.{cases_Bool, cases_lt, ltb-true, lt-ltb, and_parts}
-use Rattle.std.proofs.lemmas.List.{get_or_append_left, get_or-append_right, get_or_past, get_or-replicate, length-replicate, get_or-set_same, get_or-set_other, length-set}
+use Rattle.std.proofs.Common.{◌≡◌, ◌≢◌, ℕ, suc, ◌+◌, ◌-◌, ◌<◌, ◌≤◌, inl, inr, true, false, ◌&&◌, max, List, length, get_or, set, replicate, refl, sym, ◌∙◌, ap, arith, length-append}
+use Rattle.std.proofs.lemmas.Bool.{cases_Bool, cases_lt, cases_eq, cases_order, ltb-true, lt-ltb, and_parts}
+use Rattle.std.proofs.lemmas.List.{get_or_append_left, get_or-append_right, get_or_past, get_or-replicate, length-replicate, get_or-set_same, get_or-set_other, length-set, ext_get_or}
 use Rattle.std.specs.Prelude.{nat_lt}
 use Rattle.termwiz_cell.specs.CellValue.{columns, CellValue, blank, half, is_wide}
 use Rattle.termwiz_storage.specs.Stored.{stored, padded, free, put, set_cell}
-use Rattle.termwiz_storage.proofs.Widths.{columns-wide, columns_bounds}
+use Rattle.termwiz_storage.proofs.Widths.{columns-wide, wide_from, columns_bounds}
 use Rattle.termwiz_storage.proofs.Halves.{length-padded}
 
 stored-replicate : (n x : ℕ) → get_or (replicate n blank) x blank ≡ blank
@@ -104,3 +104,34 @@ length-set_cell i c cs =
     let n : ℕ = i + columns c in
     let p : length (padded n cs) ≡ length cs + (n - length cs) = simp (length-append, length-replicate) in
     length-put i c (free i (padded n cs)) ∙ length-free i (padded n cs) ∙ p ∙ omega arith
+
+-- a cell that is set fixes what is stored
+IsSet-same : (f h : ℕ → CellValue) (i : ℕ) (c : CellValue) (g k : ℕ → CellValue) → ((x : ℕ) → f x ≡ h x) → IsSet f i c g → IsSet h i c k → (x : ℕ) → g x ≡ k x
+IsSet-same f h i c g k e s t x = elim (cases_order (suc x) i) [
+  | inl q ↦ elim (cases_Bool (is_wide (f x))) [
+    | inl w ↦ s.torn x (omega arith) w ∙ ap half (e x) ∙ sym (t.torn x (omega arith) (sym (ap is_wide (e x)) ∙ w))
+    | inr w ↦ s.narrow x (omega arith) w ∙ e x ∙ sym (t.narrow x (omega arith) (sym (ap is_wide (e x)) ∙ w))
+  ]
+  | inr r ↦ elim r [
+    | inl q ↦ s.below x (omega arith) ∙ e x ∙ sym (t.below x (omega arith))
+    | inr q ↦ elim (cases_lt x (i + columns c)) [
+      | inr u ↦ s.above x u ∙ e x ∙ sym (t.above x u)
+      | inl u ↦ elim (cases_eq x i) [
+        | inl z ↦ ap g z ∙ s.at ∙ sym (ap k z ∙ t.at)
+        | inr z ↦
+            let two : columns c ≤ 2 = (columns_bounds c).1 in
+            let m : x ≡ i + 1 = omega arith in
+            let w : is_wide c ≡ true = wide_from c (omega arith) in
+            ap g m ∙ s.next w ∙ sym (ap k m ∙ t.next w)
+      ]
+    ]
+  ]
+]
+
+-- padding as far as the cell reaches, or farther, may come before or after
+pub set_cell-padded : (n i : ℕ) (c : CellValue) (cs : List CellValue) → i + columns c ≤ n → set_cell i c (padded n cs) ≡ padded n (set_cell i c cs)
+set_cell-padded n i c cs l =
+    let long : (ds : List CellValue) → length (padded n ds) ≡ length ds + (n - length ds) = λ ds. length-append ds (replicate (n - length ds) blank) ∙ ap (λ (k : ℕ). length ds + k) (length-replicate (n - length ds) blank) in
+    ext_get_or blank (set_cell i c (padded n cs)) (padded n (set_cell i c cs))
+    (omega (arith, length-set_cell i c (padded n cs), length-set_cell i c cs, long cs, long (set_cell i c cs)))
+    (λ x _. IsSet-same (stored (padded n cs)) (stored cs) i c (stored (set_cell i c (padded n cs))) (stored (set_cell i c cs)) (stored-padded n cs) (IsSet-set_cell i c (padded n cs)) (IsSet-set_cell i c cs) x ∙ sym (stored-padded n (set_cell i c cs) x))

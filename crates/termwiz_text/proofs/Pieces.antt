@@ -3,7 +3,7 @@ use Rattle.std.proofs.Common.{◌≡◌, ◌≢◌, ℕ, Bool, true, false, cond
 use Rattle.std.proofs.lemmas.Bool.{cases_Bool, cond-true, cond-false, true≢false}
 use Rattle.std.proofs.lemmas.List.{append_cancel_left, append_cancel_right}
 use Rattle.std.proofs.lemmas.List.Folds.{concat-append}
-use Rattle.std.proofs.lemmas.Str.{chars-append, chars_from_encodes, encodes-chars, encodes-append, encodes_same, IsUtf8-past_char}
+use Rattle.std.proofs.lemmas.Str.{chars-append, chars_past_char, chars_from_encodes, encodes-chars, encodes-append, encodes_same, IsUtf8-past_char}
 use Rattle.std.specs.List.{All, concat}
 use Rattle.std.proofs.lemmas.List.Elements.{All-nil, All-cons}
 use Rattle.std.specs.Prelude.{encode_utf8, encode_utf8_all}
@@ -158,6 +158,15 @@ graphemes_alone s u (g ∷ gs) h =
     let whole : s ≡ g ++ concat gs = sym (concat-segments (is_grapheme_break true) s u) ∙ ap concat h in
     let front : IsUtf8 g = first_text s g gs u h in
     All-cons (λ g. graphemes true g ≡ g ∷ []) g gs first.alone (graphemes_alone (concat gs) (IsUtf8-after s g (concat gs) u front whole) gs first.others)
+
+-- a character with a boundary behind it is the first grapheme
+pub graphemes_past_char : (s rest : List ℕ) (c : ℕ) → IsUtf8 s → s ≡ encode_utf8 c ++ rest → breaks (c ∷ []) (chars rest) ≡ true → graphemes true s ≡ encode_utf8 c ∷ graphemes true rest
+unfolding segments cut
+graphemes_past_char s rest c u split ends =
+    let one : List ℕ = c ∷ [] in
+    ap (λ cs. map encode_utf8_all (cut breaks [] cs [])) (chars_past_char s rest c u split)
+    ∙ ap₂ (λ b (ps : List (List ℕ)). map encode_utf8_all (cond b (one ∷ ps) (prepend one ps))) (ap (breaks one) (append-nil (chars rest)) ∙ ends) (rest_fresh one (chars rest) ends)
+    ∙ ap (λ g. g ∷ map encode_utf8_all (cut breaks [] (chars rest) [])) (append-nil (encode_utf8 c))
 
 -- ---- a text behind another one
 

@@ -1,7 +1,8 @@
 //! Texts cut into graphemes.
 #![tactic(auto)]
 
-ghost use Rattle.std.specs.Prelude.{◌≡◌, ◌≤◌, length, ◌↔◌, ℕ, true, List, [], ◌∷◌, ◌++◌, MatchOption, IsTrue, IfOk, string_bytes, if◌then◌else◌};
+ghost use Rattle.std.specs.Prelude.{◌≡◌, ◌≤◌, ◌<◌, length, ◌↔◌, ℕ, true, false, List, [], ◌∷◌, ◌++◌, min, take, drop, slice_index, MatchOption, IsTrue, IfOk, string_bytes, if◌then◌else◌};
+ghost use Rattle.std.specs.List.{list_all};
 ghost use Rattle.termwiz_text.specs.Plain as plain;
 ghost use Rattle.termwiz_text.specs.First.{IsFirst};
 ghost use Rattle.unicode_segmentation.specs.Grapheme.{graphemes};
@@ -30,7 +31,7 @@ fn begins_alone(text: &str) -> bool
     ensures { result ≡ plain.begins_alone text.now }
 {
     match text.as_bytes() {
-        [first, next, ..] => is_plain(*first) && is_plain(*next),
+        [first, next, ..] => is_plain(*first) && next.is_ascii(),
         [first] => is_plain(*first),
         [] => false,
     }
@@ -46,6 +47,42 @@ pub fn split_first_grapheme(text: &str) -> Option<(&str, &str)>
     let mut pieces = text.graphemes(true);
     let first = pieces.next()?;
     Some((first, pieces.as_str()))
+}
+
+// How many bytes of the beginning, `limit` at most, are printable ASCII.
+fn count_plain(bytes: &[u8], limit: usize) -> usize
+    ensures within { result ≤ min limit (length bytes.now) }
+    ensures plain { list_all plain.is_plain (take result bytes.now) ≡ true }
+    ensures stops { result < min limit (length bytes.now) → plain.is_plain (slice_index bytes.now result) ≡ false }
+{
+    let end = limit.min(bytes.len());
+    for i in 0..end {
+        if !is_plain(bytes[i]) {
+            return i;
+        }
+    }
+    end
+}
+
+// The same without the last one where a mark may follow it.
+fn count_unmarked(bytes: &[u8], limit: usize) -> usize
+    ensures within { result ≤ min limit (length bytes.now) }
+    ensures plain { list_all plain.is_plain (take result bytes.now) ≡ true }
+    ensures unmarked { 0 < result → plain.begins_unmarked (drop result bytes.now) ≡ true }
+    ensures longest { result < limit → plain.begins_alone (drop result bytes.now) ≡ false }
+{
+    let count = count_plain(bytes, limit);
+    if 0 < count && count < bytes.len() && !bytes[count].is_ascii() {
+        return count - 1;
+    }
+    count
+}
+
+/// The longest run of printable ASCII, of at most `limit` bytes, that the text begins with and that no mark follows, and the rest. Each byte of the run is a grapheme by itself.
+pub fn split_plain_run(text: &str, limit: usize) -> (&str, &str)
+    ensures { plain.IsPlainRun text.now limit result.0.now result.1.now }
+{
+    text.split_at(count_unmarked(text.as_bytes(), limit))
 }
 
 // Whether both are printable ASCII at the seam, and the text is one such character.

@@ -1,5 +1,5 @@
 //! The attributes of a cell.
-ghost use Rattle.std.specs.Prelude.{◌≡◌, ◌↔◌, IsTrue, false, true, option_map, IfOk, OnOk, OnErr, IsOk};
+ghost use Rattle.std.specs.Prelude.{◌≡◌, ◌↔◌, IsTrue, false, true, option_map, IfOk, OnOk, OnErr, IsOk, IsSome, IfSome};
 ghost use Rattle.std.specs.Cmp.{decided, partial_equiv_from_equiv};
 ghost use Rattle.termwiz_cell.specs.Attributes.{default_attributes, attributes_eq, attributes_eq-Decides, needs_box};
 ghost use Rattle.termwiz_cell.specs.AttributesLayout as spec;
@@ -46,6 +46,16 @@ impl CellAttributes {
         CellAttributes {
             kind: Kind::Plain(StyleWord::blank()),
         }
+    }
+
+    /// A copy, where that takes no memory.
+    #[inline]
+    pub fn unboxed_copy(&self) -> Option<CellAttributes>
+        ensures same { IfSome result (λ copy. copy ≡ self.now) }
+        ensures unboxed { IsSome result ↔ (needs_box self.now ≡ false) }
+    {
+        let kind = self.kind.unboxed_copy()?;
+        Some(CellAttributes { kind })
     }
 
     /// Sets all attributes to their defaults.

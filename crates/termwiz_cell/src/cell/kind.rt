@@ -1,6 +1,6 @@
 //! The two forms of attributes: a word alone, and a box with the word and the attributes that few
 //! cells have, which is there only while one of those is not the default.
-ghost use Rattle.std.specs.Prelude.{◌≡◌, ◌↔◌, IsTrue, IsNone, IsOk, IfOk, OnOk, OnErr, None, true, false, option_map};
+ghost use Rattle.std.specs.Prelude.{◌≡◌, ◌↔◌, IsTrue, IsNone, IsOk, IfOk, OnOk, OnErr, MatchOption, None, true, false, option_map};
 ghost use Rattle.termwiz_cell.specs.Attributes.{option_link_eq, is_default};
 ghost use Rattle.termwiz_cell.specs.AttributesLayout as spec;
 ghost use Rattle.std.specs.Borrow.{sem};
@@ -283,6 +283,17 @@ impl Kind {
         match self {
             Kind::Plain(style) => Ok(Kind::Plain(style.copied())),
             Kind::Rare(full) => full.copied(*Box::allocator(full)),
+        }
+    }
+
+    /// A copy of the word, where there is no box.
+    #[inline]
+    pub(super) fn unboxed_copy(&self) -> Option<Kind>
+        ensures { MatchOption result (spec.is_boxed self.now ≡ true) (λ copy. (copy ≡ self.now) × (spec.is_boxed self.now ≡ false)) }
+    {
+        match self {
+            Kind::Plain(style) => Some(Kind::Plain(style.copied())),
+            Kind::Rare(_) => None,
         }
     }
 

@@ -1,8 +1,9 @@
 //! The text of a cell, and whether it takes two columns.
-ghost use Rattle.std.specs.Prelude.{◌≡◌, ◌↔◌, ◌≤◌, ◌&&◌, ◌∷◌, [], length, false, IsTrue, IfOk, IsOk, bytes_eq};
+ghost use Rattle.std.specs.Prelude.{◌≡◌, ◌↔◌, ◌≤◌, ◌&&◌, ◌∷◌, [], length, true, false, IsTrue, IfOk, IsOk, bytes_eq};
 ghost use Rattle.std.specs.Bool.{beq};
 ghost use Rattle.termwiz_cell.specs.CellLayout.{text_in, wide_in, IsStored};
 ghost use Rattle.termwiz_cell.specs.CellValue.{clean, space};
+ghost use Rattle.termwiz_text.specs.Plain.{is_plain};
 
 use arrayvec::ArrayString;
 use std::alloc::{AllocError, Global};
@@ -40,8 +41,19 @@ impl CellText {
         ensures narrow { wide_in result ≡ false }
         ensures stored { IsStored result }
     {
+        CellText::plain(b' ')
+    }
+
+    /// One printable character of ASCII, of one column.
+    #[inline]
+    pub(super) fn plain(byte: u8) -> CellText
+        requires { is_plain byte ≡ true }
+        ensures text { text_in result ≡ byte ∷ [] }
+        ensures narrow { wide_in result ≡ false }
+        ensures stored { IsStored result }
+    {
         let mut short = ArrayString::new();
-        short.push(' ');
+        short.push(byte as char);
         CellText::Narrow(short)
     }
 

@@ -1,8 +1,11 @@
 //! Lines of cells.
-ghost use Rattle.std.specs.Prelude.{◌≡◌, ◌-◌, ◌<◌, ◌≤◌, ◌↔◌, [], true, IsTrue, IsOk, IfOk, OnOk, OnErr, Some, None, length, map, option_map, replicate, if◌then◌else◌};
+ghost use Rattle.std.specs.Prelude.{◌≡◌, ◌-◌, ◌<◌, ◌≤◌, ◌↔◌, [], false, true, IsTrue, IsOk, IfOk, OnOk, OnErr, Some, None, length, map, option_map, replicate, if◌then◌else◌};
 ghost use Rattle.std.specs.Cmp.{partial_equiv_from_equiv};
+ghost use Rattle.std.specs.List.{list_all};
+ghost use Rattle.termwiz_text.specs.Plain.{is_plain};
+ghost use Rattle.termwiz_cell.specs.Attributes.{needs_box};
 ghost use Rattle.termwiz_cell.specs.CellValue.{blank};
-ghost use Rattle.termwiz_storage.specs.Stored.{visible, set_cell};
+ghost use Rattle.termwiz_storage.specs.Stored.{visible, set_cell, set_run};
 ghost use Rattle.termwiz_storage.specs.Halves.{resized};
 ghost use Rattle.termwiz_storage.specs.CellsLeft.{cells_left};
 ghost use Rattle.termwiz_storage.specs.Storage.{cells_of, is_vector};
@@ -117,6 +120,25 @@ impl Line {
         ensures err { OnErr result (IsUnchanged self.old self.new) }
     {
         self.storage.set_cell(i, cell)?;
+        self.seqno = self.seqno.max(seqno);
+        Ok(())
+    }
+
+    /// Sets the cell of each character of a run of printable ASCII, in order from a column on, with attributes that take no memory. It takes memory only where the line grows.
+    /// The line takes the number. On an error, which a column past the greatest number gives too, number, flags and cells are as before.
+    pub fn set_run(
+        &mut self,
+        i: usize,
+        run: &str,
+        attrs: &CellAttributes,
+        seqno: SequenceNo,
+    ) -> Result<(), AllocError>
+        requires plain { list_all is_plain run.now ≡ true }
+        requires unboxed { needs_box attrs.now ≡ false }
+        ensures ok { OnOk result (IsEdited self.old (set_run i run.now attrs.now self.old.cells) seqno self.new) }
+        ensures err { OnErr result (IsUnchanged self.old self.new) }
+    {
+        self.storage.set_run(i, run, attrs)?;
         self.seqno = self.seqno.max(seqno);
         Ok(())
     }

@@ -1,10 +1,13 @@
 //! Where a line keeps its cells, and all that edits them.
-ghost use Rattle.std.specs.Prelude.{◌≡◌, ◌-◌, ◌≤◌, [], ◌↔◌, true, length, option_map, replicate, take, IsTrue, IsOk, IfOk, OnOk, OnErr, Some, None, if◌then◌else◌};
+ghost use Rattle.std.specs.Prelude.{◌≡◌, ◌-◌, ◌≤◌, [], ◌↔◌, false, true, length, option_map, replicate, take, IsTrue, IsOk, IfOk, OnOk, OnErr, Some, None, if◌then◌else◌};
 ghost use Rattle.std.specs.Borrow.{sem};
 ghost use Rattle.std.specs.Cmp.{partial_equiv_from_equiv};
+ghost use Rattle.std.specs.List.{list_all};
+ghost use Rattle.termwiz_text.specs.Plain.{is_plain};
+ghost use Rattle.termwiz_cell.specs.Attributes.{needs_box};
 ghost use Rattle.termwiz_cell.specs.CellValue.{blank};
 ghost use Rattle.termwiz_storage.specs.CellsLeft.{cells_left};
-ghost use Rattle.termwiz_storage.specs.Stored.{visible, fill, set_cell, IsKept};
+ghost use Rattle.termwiz_storage.specs.Stored.{visible, fill, set_cell, set_run, IsKept};
 ghost use Rattle.termwiz_storage.specs.Halves.{resized};
 ghost use Rattle.termwiz_storage.specs.Storage.{cells_of, is_vector, same_cells, same_cells-equivalence};
 ghost use Rattle.termwiz_storage.specs.Lending.{LendsVector};
@@ -12,7 +15,7 @@ ghost use Rattle.termwiz_storage.specs.Lending.{LendsVector};
 use crate::line::cellref::VisibleCellIter;
 use crate::line::vecstorage::VecStorage;
 use std::alloc::AllocError;
-use termwiz_cell::cell::Cell;
+use termwiz_cell::cell::{Cell, CellAttributes};
 
 /// The stored cells of a line. It is the only door to them: each edit of the list is one of its methods.
 #[derive(Drop, Debug)]
@@ -75,6 +78,21 @@ impl CellStorage {
     {
         match self {
             CellStorage::V(storage) => storage.set_cell(i, cell)?,
+        }
+        Ok(())
+    }
+
+    /// Sets the cell of each character of a run of printable ASCII, in order from a column on, with attributes that take no memory.
+    /// On an error, which a column past the greatest number gives too, the cells are as before.
+    pub fn set_run(&mut self, i: usize, run: &str, attrs: &CellAttributes) -> Result<(), AllocError>
+        requires plain { list_all is_plain run.now ≡ true }
+        requires unboxed { needs_box attrs.now ≡ false }
+        ensures ok { OnOk result (cells_of self.new ≡ set_run i run.now attrs.now (cells_of self.old)) }
+        ensures err { OnErr result (cells_of self.new ≡ cells_of self.old) }
+        ensures vector { is_vector self.old ≡ true → is_vector self.new ≡ true }
+    {
+        match self {
+            CellStorage::V(storage) => storage.set_run(i, run, attrs)?,
         }
         Ok(())
     }

@@ -1,11 +1,14 @@
 //! Cells stored one by one.
-ghost use Rattle.std.specs.Prelude.{◌≡◌, [], ◌+◌, ◌-◌, ◌<◌, ◌≤◌, ◌↔◌, ◌&&◌, nat_lt, IsTrue, OnErr, OnOk, IsOk, IfOk, length, take, replicate, vec_capacity, vec_len};
+ghost use Rattle.std.specs.Prelude.{◌≡◌, [], false, true, ◌+◌, ◌-◌, ◌<◌, ◌≤◌, ◌↔◌, ◌&&◌, nat_lt, IsTrue, OnErr, OnOk, IsOk, IfOk, length, take, replicate, vec_capacity, vec_len};
 ghost use Rattle.std.specs.Option.{ForSome};
 ghost use Rattle.std.specs.Cmp.{decided, partial_equiv_from_equiv};
 ghost use Rattle.std.specs.Iterator.{item_count};
+ghost use Rattle.std.specs.List.{list_all};
+ghost use Rattle.termwiz_text.specs.Plain.{is_plain};
+ghost use Rattle.termwiz_cell.specs.Attributes.{needs_box};
 ghost use Rattle.termwiz_cell.specs.CellValue.{blank, columns, half, is_wide};
 ghost use Rattle.termwiz_storage.specs.CellsLeft.{YieldsCell};
-ghost use Rattle.termwiz_storage.specs.Stored.{fill, padded, put, stored, set_cell, visible, IsKept};
+ghost use Rattle.termwiz_storage.specs.Stored.{fill, padded, put, put_run, stored, set_cell, set_run, visible, IsKept};
 ghost use Rattle.termwiz_storage.specs.Halves.{half_of, overhang, resized, torn, with_half};
 ghost use Rattle.termwiz_storage.specs.Used.{IsBlanked, IsFilledTo, IsUsedTo};
 ghost use Rattle.termwiz_storage.specs.CellLists.{cells_eq, cells_eq-Decides};
@@ -118,12 +121,45 @@ impl VecStorage {
         ensures ok { OnOk result (self.new ≡ set_cell i cell self.old) }
         ensures err { OnErr result (self.new ≡ self.old) }
     {
-        let end = end_of(i, &cell)?;
+        let end = end_of(i, cell.width())?;
         let half = half_if_wide(&cell)?;
         self.pad(end)?;
         self.tear(i);
         self.put(i, cell, half);
         Ok(())
+    }
+
+    /// Sets the cell of each character of a run of printable ASCII, in order from a column on, with attributes that take no memory. It takes memory only where the list grows.
+    /// On an error, which a column past the greatest number gives too, nothing changed.
+    pub(crate) fn set_run(
+        &mut self,
+        i: usize,
+        run: &str,
+        attrs: &CellAttributes,
+    ) -> Result<(), AllocError>
+        requires plain { list_all is_plain run.now ≡ true }
+        requires unboxed { needs_box attrs.now ≡ false }
+        ensures ok { OnOk result (self.new ≡ set_run i run.now attrs.now self.old) }
+        ensures err { OnErr result (self.new ≡ self.old) }
+    {
+        let end = end_of(i, run.len())?;
+        if i < end {
+            self.pad(end)?;
+            self.tear(i);
+            self.put_run(i, run.as_bytes(), attrs);
+        }
+        Ok(())
+    }
+
+    // The cells of the run come to the columns from i on.
+    fn put_run(&mut self, i: usize, run: &[u8], attrs: &CellAttributes)
+        requires plain { list_all is_plain run.now ≡ true }
+        requires unboxed { needs_box attrs.now ≡ false }
+        requires room { i + length run.now ≤ length self.old }
+        ensures { self.new ≡ put_run i run.now attrs.now self.old }
+    {
+        self.used = self.used.max(i + run.len());
+        put_cells(&mut self.cells, i, run, attrs);
     }
 
     /// Sets a default blank in each of the columns from one up to another, in order. On an error nothing changed.
@@ -274,6 +310,19 @@ fn pad_cells(cells: &mut Vec<Cell>, len: usize) -> Result<(), AllocError>
     Ok(())
 }
 
+// The cells of the run come to the columns from i on.
+fn put_cells(cells: &mut Vec<Cell>, i: usize, run: &[u8], attrs: &CellAttributes)
+    requires plain { list_all is_plain run.now ≡ true }
+    requires unboxed { needs_box attrs.now ≡ false }
+    requires room { i + length run.now ≤ vec_len cells.old }
+    ensures { cells.new.items ≡ put_run i run.now attrs.now cells.old.items }
+{
+    for k in 0..run.len() {
+        let copy = attrs.unboxed_copy().unwrap();
+        cells[i + k] = Cell::plain(run[k], copy);
+    }
+}
+
 // The cells from one column up to another, as far as there are any, become default blanks.
 fn blank_cells(cells: &mut Vec<Cell>, from: usize, to: usize)
     ensures { IsBlanked from to cells.old.items cells.new.items }
@@ -283,10 +332,10 @@ fn blank_cells(cells: &mut Vec<Cell>, from: usize, to: usize)
     }
 }
 
-fn end_of(i: usize, cell: &Cell) -> Result<usize, AllocError>
-    ensures { IfOk result (λ end. end ≡ i + columns cell.now) }
+fn end_of(i: usize, columns: usize) -> Result<usize, AllocError>
+    ensures { IfOk result (λ end. end ≡ i + columns) }
 {
-    i.checked_add(cell.width()).ok_or(AllocError)
+    i.checked_add(columns).ok_or(AllocError)
 }
 
 // The half of the last cell.

@@ -1,0 +1,70 @@
+-- A run of ASCII that is stored at once.
+use Rattle.std.proofs.Common.{◌≡◌, ℕ, suc, ◌+◌, ◌-◌, ◌<◌, ◌≤◌, false, ◌&&◌, max, List, [], ◌∷◌, length, set, refl, subst, sym, ◌∙◌, ap, arith}
+use Rattle.std.specs.Prelude.{nat_lt}
+use Rattle.std.proofs.lemmas.Bool.{and_right}
+use Rattle.std.proofs.lemmas.List.{append-nil, get_or-set_same, length-set}
+use Rattle.termwiz_cell.specs.Attributes.{Attributes}
+use Rattle.termwiz_cell.specs.CellValue.{CellValue, blank, is_wide, plain_cell}
+use Rattle.termwiz_storage.specs.Stored.{stored, padded, set_cell, set_run, put_run}
+use Rattle.termwiz_storage.specs.Halves.{torn}
+use Rattle.termwiz_storage.specs.Used.{IsUsedTo}
+use Rattle.termwiz_storage.proofs.Halves.{length-torn, length-padded, set_cell-torn}
+use Rattle.termwiz_storage.proofs.SetCell.{length-set_cell, set_cell-padded}
+use Rattle.termwiz_storage.proofs.Used.{used-put, used-more}
+
+-- a list that is long enough is not padded
+padded-long : (n : ℕ) (cs : List CellValue) → n ≤ length cs → padded n cs ≡ cs
+padded-long n cs l = let none : n - length cs ≡ 0 = omega arith in rw none (append-nil cs)
+
+set_cell-inside : (i : ℕ) (b : ℕ) (a : Attributes) (cs : List CellValue) → i < length cs → set_cell i (plain_cell b a) cs ≡ set (torn i cs) i (plain_cell b a)
+set_cell-inside i b a cs l = sym (set_cell-torn i (i + 1) (plain_cell b a) cs refl) ∙ ap (λ (ds : List CellValue). set (torn i ds) i (plain_cell b a)) (padded-long (i + 1) cs (omega arith))
+
+-- behind a narrow cell nothing is torn
+torn-behind : (i : ℕ) (cs : List CellValue) → is_wide (stored cs i) ≡ false → torn (i + 1) cs ≡ cs
+torn-behind i cs n =
+    let k : i + 1 - 1 ≡ i = omega arith in
+    let no : (nat_lt 0 (i + 1) && is_wide (stored cs (i + 1 - 1))) ≡ false = and_right (nat_lt 0 (i + 1)) (is_wide (stored cs (i + 1 - 1))) (rw k n) in
+    rw no refl
+
+set_run-behind : (i : ℕ) (bs : List ℕ) (a : Attributes) (cs : List CellValue) → is_wide (stored cs i) ≡ false → i + 1 + length bs ≤ length cs → set_run (i + 1) bs a cs ≡ put_run (i + 1) bs a cs
+set_run-behind i [] a cs n l = refl
+set_run-behind i (b ∷ bs) a cs n l =
+    let c : CellValue = plain_cell b a in
+    let here : set_cell (i + 1) c cs ≡ set cs (i + 1) c = set_cell-inside (i + 1) b a cs (omega arith) ∙ ap (λ (ds : List CellValue). set ds (i + 1) c) (torn-behind i cs n) in
+    ap (set_run (i + 1 + 1) bs a) here
+    ∙ set_run-behind (i + 1) bs a (set cs (i + 1) c) (ap is_wide (get_or-set_same cs (i + 1) c blank (omega arith))) (omega (arith, length-set cs (i + 1) c))
+
+-- a wide cell is torn before the first character alone
+set_run-inside : (i : ℕ) (b : ℕ) (bs : List ℕ) (a : Attributes) (cs : List CellValue) → i + 1 + length bs ≤ length cs → set_run i (b ∷ bs) a cs ≡ put_run i (b ∷ bs) a (torn i cs)
+set_run-inside i b bs a cs l =
+    let c : CellValue = plain_cell b a in
+    let same : length (torn i cs) ≡ length cs = length-torn i cs in
+    ap (set_run (i + 1) bs a) (set_cell-inside i b a cs (omega arith))
+    ∙ set_run-behind i bs a (set (torn i cs) i c) (ap is_wide (get_or-set_same (torn i cs) i c blank (omega arith))) (omega (arith, length-set (torn i cs) i c))
+
+-- the list may be padded first
+set_run-padded : (i n : ℕ) (bs : List ℕ) (a : Attributes) (cs : List CellValue) → i ≤ length cs → n ≡ i + length bs → set_run i bs a cs ≡ set_run i bs a (padded n cs)
+set_run-padded i n [] a cs l e = sym (padded-long n cs (omega arith))
+set_run-padded i n (b ∷ bs) a cs l e =
+    let c : CellValue = plain_cell b a in
+    set_run-padded (i + 1) n bs a (set_cell i c cs) (omega (arith, length-set_cell i c cs)) (omega arith)
+    ∙ ap (set_run (i + 1) bs a) (sym (set_cell-padded n i c cs (omega arith)))
+
+set_run-first : (i n : ℕ) (b : ℕ) (bs : List ℕ) (a : Attributes) (cs : List CellValue) → n ≡ i + 1 + length bs → set_run i (b ∷ bs) a cs ≡ set_run i (b ∷ bs) a (padded n cs)
+set_run-first i n b bs a cs e =
+    let c : CellValue = plain_cell b a in
+    set_run-padded (i + 1) n bs a (set_cell i c cs) (omega (arith, length-set_cell i c cs)) e
+    ∙ ap (set_run (i + 1) bs a) (sym (set_cell-padded n i c cs (omega arith)))
+
+-- padded, torn once, and written
+pub put_run-torn : (i n : ℕ) (bs : List ℕ) (a : Attributes) (cs : List CellValue) → i < n → n ≡ i + length bs → put_run i bs a (torn i (padded n cs)) ≡ set_run i bs a cs
+put_run-torn i n [] a cs l e = absurd (omega arith)
+put_run-torn i n (b ∷ bs) a cs l e =
+    let long : n ≤ length (padded n cs) = (length-padded n cs).0 in
+    sym (set_run-first i n b bs a cs (omega arith) ∙ set_run-inside i b bs a (padded n cs) (omega arith))
+
+pub used-put_run : (u i : ℕ) (bs : List ℕ) (a : Attributes) (cs : List CellValue) → IsUsedTo u cs → IsUsedTo (max u (i + length bs)) (put_run i bs a cs)
+used-put_run u i [] a cs h = used-more u (max u (i + 0)) cs (omega arith) h
+used-put_run u i (b ∷ bs) a cs h =
+    let e : max (max u (i + 1)) (i + 1 + length bs) ≡ max u (i + suc (length bs)) = omega arith in
+    subst (λ n. IsUsedTo n (put_run i (b ∷ bs) a cs)) e (used-put_run (max u (i + 1)) (i + 1) bs a (set cs i (plain_cell b a)) (used-put u i (plain_cell b a) cs h))

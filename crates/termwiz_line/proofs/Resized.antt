@@ -4,64 +4,37 @@ use Rattle.std.proofs.lemmas.List.{ext_get_or, get_or-take, get_or_append_left, 
 use Rattle.std.proofs.lemmas.Bool.{cases_Bool, cases_lt, cases_order, and_parts, and_left, lt-ltb, le-ltb}
 use Rattle.std.proofs.Math.Seq.{drop-length}
 use Rattle.termwiz_cell.specs.CellValue.{CellValue, blank, half, is_wide}
-use Rattle.termwiz_storage.specs.Stored.{stored, padded}
-use Rattle.termwiz_storage.specs.Halves.{overhang, missing_half, resized}
+use Rattle.termwiz_storage.specs.Stored.{stored, padded, hides}
+use Rattle.termwiz_storage.specs.Halves.{missing_half, resized}
 use Rattle.termwiz_storage.proofs.Halves.{resized-grown, resized-cut}
 use Rattle.termwiz_storage.proofs.SetCell.{stored-padded}
-use Rattle.termwiz_line.specs.Row.{IsRow, hides, settled_at, row_of}
+use Rattle.termwiz_line.specs.Row.{IsRow, settled_at, row_of}
 use Rattle.termwiz_line.proofs.RowOf.{length-row_of, row_of_at}
 
--- the columns that a walk has past the end are those that are hidden there
-overhang_step : (h : Bool) (c : CellValue) (rest : List CellValue) → overhang (cond h 1 0) (c ∷ rest) ≡ overhang (cond (is_wide c && not h) 1 0) rest
-overhang_step true c rest = ap (λ skip. overhang skip rest) (nothing (is_wide c))
-  where
-    nothing : (b : Bool) → zero ≡ cond {A = ℕ} (b && false) 1 0
-    nothing true = refl
-    nothing false = refl
-overhang_step false c rest = ap (λ skip. overhang skip rest) (behind (is_wide c))
-  where
-    behind : (b : Bool) → cond {A = ℕ} b 2 1 - 1 ≡ cond {A = ℕ} (b && true) 1 0
-    behind true = refl
-    behind false = refl
+missing-some : (cs : List CellValue) → hides cs (length cs) ≡ true → missing_half cs ≡ half (stored cs (length cs - 1)) ∷ []
+missing-some cs t = rw t refl
 
-overhang_from : (cs : List CellValue) (k : ℕ) → k ≤ length cs → overhang (cond (hides cs k) 1 0) (drop k cs) ≡ overhang 0 cs
-overhang_from cs zero l = refl
-overhang_from cs (suc k) l =
-    sym (ap (overhang (cond (hides cs k) 1 0)) (drop-cons cs k blank l) ∙ overhang_step (hides cs k) (stored cs k) (drop (suc k) cs)) ∙ overhang_from cs k (omega arith)
-
-overhang_hides : (cs : List CellValue) (n : ℕ) (b : Bool) → length cs ≡ n → hides cs n ≡ b → overhang 0 cs ≡ cond b 1 0
-overhang_hides cs n b e h =
-    sym (overhang_from cs (length cs) (le_refl (length cs)))
-    ∙ ap (overhang (cond (hides cs (length cs)) 1 0)) (drop-length cs)
-    ∙ ap (λ m. cond {A = ℕ} (hides cs m) 1 0) e ∙ ap (λ v. cond {A = ℕ} v 1 0) h
-
-missing-some : (cs : List CellValue) → 0 < overhang 0 cs → missing_half cs ≡ half (stored cs (length cs - 1)) ∷ []
-missing-some cs l = rw (lt-ltb 0 (overhang 0 cs) l) refl
-
-missing-none : (cs : List CellValue) → overhang 0 cs ≤ 0 → missing_half cs ≡ []
-missing-none cs l = rw (le-ltb 0 (overhang 0 cs) l) refl
+missing-none : (cs : List CellValue) → hides cs (length cs) ≡ false → missing_half cs ≡ []
+missing-none cs f = rw f refl
 
 length-missing_half : (cs : List CellValue) → length (missing_half cs) ≤ 1
-length-missing_half cs = elim (cases_lt 0 (overhang 0 cs)) [
-  | inl l ↦ rw (missing-some cs l) (omega arith)
-  | inr g ↦ rw (missing-none cs g) (omega arith)
+length-missing_half cs = elim (cases_Bool (hides cs (length cs))) [
+  | inl t ↦ rw (missing-some cs t) (omega arith)
+  | inr f ↦ rw (missing-none cs f) (omega arith)
 ]
 
 -- the row at the end of the cells, behind it, and before it
 settled_end : (cs : List CellValue) (n : ℕ) → length cs ≡ n → get_or (missing_half cs) 0 blank ≡ settled_at cs n
 settled_end cs zero e =
-    let none : overhang 0 cs ≡ 0 = overhang_hides cs 0 false e refl in
-    ap (λ l. get_or l 0 blank) (missing-none cs (omega arith)) ∙ sym (get_or_past cs 0 blank (omega arith))
+    ap (λ l. get_or l 0 blank) (missing-none cs (ap (hides cs) e)) ∙ sym (get_or_past cs 0 blank (omega arith))
 settled_end cs (suc m) e = elim (cases_Bool (hides cs (suc m))) [
   | inl t ↦
-      let one : overhang 0 cs ≡ 1 = overhang_hides cs (suc m) true e t in
       let back : length cs - 1 ≡ m = omega arith in
       let here : settled_at cs (suc m) ≡ half (stored cs m) = rw t refl in
-      ap (λ l. get_or l 0 blank) (missing-some cs (omega arith)) ∙ ap (λ j. half (stored cs j)) back ∙ sym here
+      ap (λ l. get_or l 0 blank) (missing-some cs (ap (hides cs) e ∙ t)) ∙ ap (λ j. half (stored cs j)) back ∙ sym here
   | inr f ↦
-      let none : overhang 0 cs ≡ 0 = overhang_hides cs (suc m) false e f in
       let here : settled_at cs (suc m) ≡ stored cs (suc m) = rw f refl in
-      ap (λ l. get_or l 0 blank) (missing-none cs (omega arith)) ∙ sym (here ∙ get_or_past cs (suc m) blank (omega arith))
+      ap (λ l. get_or l 0 blank) (missing-none cs (ap (hides cs) e ∙ f)) ∙ sym (here ∙ get_or_past cs (suc m) blank (omega arith))
 ]
 
 settled_past : (cs : List CellValue) (k : ℕ) → length cs < k → settled_at cs k ≡ blank

@@ -5,12 +5,12 @@ use Rattle.std.proofs.lemmas.List.FromFn.{get_or-map-range_with_len, length-map-
 use Rattle.std.proofs.lemmas.Bool.{cases_Bool, and_parts, and_from, and_left, and_right, not_from_true, not_from_false, not-true, false≢true}
 use Rattle.std.proofs.Math.Seq.{drop-length}
 use Rattle.termwiz_cell.specs.CellValue.{CellValue, blank, half, is_wide}
-use Rattle.termwiz_storage.specs.Stored.{stored, padded, visible, visible_from}
+use Rattle.termwiz_storage.specs.Stored.{stored, padded, visible, visible_from, hides}
 use Rattle.termwiz_storage.proofs.Halves.{length-padded}
 use Rattle.termwiz_storage.proofs.SetCell.{stored-padded}
 use Rattle.termwiz_line.specs.RowLaws.{cut_to}
 use Rattle.termwiz_line.proofs.RowVisible.{visible_fixes}
-use Rattle.termwiz_line.specs.Row.{IsRow, is_hidden, visible_upto, hides, settled_at, row_of}
+use Rattle.termwiz_line.specs.Row.{IsRow, is_hidden, visible_upto, settled_at, row_of}
 
 pub length-row_of : (w : ℕ) (cs : List CellValue) → length (row_of w cs) ≡ w
 unfolding row_of

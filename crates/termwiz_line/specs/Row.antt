@@ -1,15 +1,10 @@
 -- The row of a list of stored cells, and painting and clearing it.
 -- A row of width w is the settled list of w cells: the first w stored cells, filled with default blanks, where the cell after a wide one is its half.
 -- A list reads as default blanks past its end, so a wide cell that is cut at the right edge needs no case of its own.
-use Rattle.std.specs.Prelude.{◌≡◌, ℕ, zero, suc, ◌<◌, Bool, true, false, cond, not, ◌&&◌, eqb, leb, List, [], ◌∷◌, ◌++◌, map, length}
+use Rattle.std.specs.Prelude.{◌≡◌, ℕ, zero, suc, ◌<◌, Bool, true, false, cond, ◌&&◌, eqb, leb, List, [], ◌∷◌, ◌++◌, map, length}
 use Rattle.std.specs.List.{range_with_len}
 use Rattle.termwiz_cell.specs.CellValue.{CellValue, half, is_wide}
-use Rattle.termwiz_storage.specs.Stored.{stored}
-
--- an index is hidden where the one before it holds a wide cell and is not hidden itself
-abbrev pub hides : List CellValue → ℕ → Bool
-hides cs zero = false
-hides cs (suc k) = is_wide (stored cs k) && not (hides cs k)
+use Rattle.termwiz_storage.specs.Stored.{stored, hides}
 
 abbrev pub settled_at : List CellValue → ℕ → CellValue
 settled_at cs zero = stored cs zero

@@ -5,8 +5,7 @@ use Rattle.std.proofs.lemmas.Bool.{and_right}
 use Rattle.std.proofs.lemmas.List.{append-nil, get_or-set_same, length-set}
 use Rattle.termwiz_cell.specs.Attributes.{Attributes}
 use Rattle.termwiz_cell.specs.CellValue.{CellValue, blank, is_wide, plain_cell}
-use Rattle.termwiz_storage.specs.Stored.{stored, padded, set_cell, set_run, put_run}
-use Rattle.termwiz_storage.specs.Halves.{torn}
+use Rattle.termwiz_storage.specs.Stored.{torn, stored, padded, set_cell, set_run, put_run}
 use Rattle.termwiz_storage.specs.Used.{IsUsedTo}
 use Rattle.termwiz_storage.proofs.Halves.{length-torn, length-padded, set_cell-torn}
 use Rattle.termwiz_storage.proofs.SetCell.{length-set_cell, set_cell-padded}

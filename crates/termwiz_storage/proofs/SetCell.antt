@@ -4,9 +4,9 @@ use Rattle.std.proofs.lemmas.Bool.{cases_Bool, cases_lt, cases_eq, cases_order, 
 use Rattle.std.proofs.lemmas.List.{get_or_append_left, get_or-append_right, get_or_past, get_or-replicate, length-replicate, get_or-set_same, get_or-set_other, length-set, ext_get_or}
 use Rattle.std.specs.Prelude.{nat_lt}
 use Rattle.termwiz_cell.specs.CellValue.{columns, CellValue, blank, half, is_wide}
-use Rattle.termwiz_storage.specs.Stored.{stored, padded, free, put, set_cell}
+use Rattle.termwiz_storage.specs.Stored.{stored, padded, torn, put, set_cell}
 use Rattle.termwiz_storage.proofs.Widths.{columns-wide, wide_from, columns_bounds}
-use Rattle.termwiz_storage.proofs.Halves.{length-padded}
+use Rattle.termwiz_storage.proofs.Halves.{length-torn, length-padded}
 
 stored-replicate : (n x : ℕ) → get_or (replicate n blank) x blank ≡ blank
 stored-replicate n x = elim (cases_lt x n) [
@@ -30,31 +30,25 @@ pub record IsSet (f : ℕ → CellValue) (i : ℕ) (c : CellValue) (g : ℕ → 
   pub below : (x : ℕ) → x + 1 < i → g x ≡ f x
   pub above : (x : ℕ) → i + (columns c) ≤ x → g x ≡ f x
 
-length-free : (i : ℕ) (cs : List CellValue) → length (free i cs) ≡ length cs
-length-free i cs = elim (cases_Bool (nat_lt 0 i && is_wide (stored cs (i - 1)))) [
-  | inl t ↦ rw t (simp length-set)
-  | inr t ↦ rw t refl
-]
-
-free_else : (i : ℕ) (cs : List CellValue) (x : ℕ) → x ≢ i → x + 1 ≢ i → stored (free i cs) x ≡ stored cs x
-free_else i cs x n m = elim (cases_Bool (nat_lt 0 i && is_wide (stored cs (i - 1)))) [
-  | inl t ↦ let pos : 0 < i = ltb-true 0 i (and_parts _ _ t).0 in let k : x ≢ i - 1 = omega arith in rw t (rw (get_or-set_other, get_or-set_other) refl)
-  | inr t ↦ rw t refl
-]
-
-free_torn : (i : ℕ) (cs : List CellValue) (x : ℕ) → x + 1 ≡ i → i ≤ length cs → is_wide (stored cs x) ≡ true → stored (free i cs) x ≡ half (stored cs x)
-free_torn i cs x e l w =
+-- the cell before a column, once it is torn, and the others
+pub torn_at : (i : ℕ) (cs : List CellValue) (x : ℕ) → x + 1 ≡ i → i ≤ length cs → is_wide (stored cs x) ≡ true → stored (torn i cs) x ≡ half (stored cs x)
+torn_at i cs x e l w =
     let k : i - 1 ≡ x = omega arith in
     let t : nat_lt 0 i ≡ true = lt-ltb 0 i (omega arith) in
-    let n : x ≢ i = omega arith in
     let h : x < length cs = omega arith in
-    rw (t, k, w) (rw (get_or-set_other, get_or-set_same) refl)
+    rw (t, k, w) (rw get_or-set_same refl)
 
-free_narrow : (i : ℕ) (cs : List CellValue) (x : ℕ) → x + 1 ≡ i → is_wide (stored cs x) ≡ false → stored (free i cs) x ≡ stored cs x
-free_narrow i cs x e w =
+pub torn_narrow : (i : ℕ) (cs : List CellValue) (x : ℕ) → x + 1 ≡ i → is_wide (stored cs x) ≡ false → stored (torn i cs) x ≡ stored cs x
+torn_narrow i cs x e w =
     let k : i - 1 ≡ x = omega arith in
     let t : nat_lt 0 i ≡ true = lt-ltb 0 i (omega arith) in
     rw (t, k, w) refl
+
+pub torn_else : (i : ℕ) (cs : List CellValue) (x : ℕ) → x + 1 ≢ i → stored (torn i cs) x ≡ stored cs x
+torn_else i cs x n = elim (cases_Bool (nat_lt 0 i && is_wide (stored cs (i - 1)))) [
+  | inl t ↦ let pos : 0 < i = ltb-true 0 i (and_parts _ _ t).0 in let k : x ≢ i - 1 = omega arith in rw t (get_or-set_other cs (i - 1) x (half (stored cs (i - 1))) blank k)
+  | inr t ↦ rw t refl
+]
 
 put_at : (i : ℕ) (c : CellValue) (cs : List CellValue) → i < length cs → stored (put i c cs) i ≡ c
 put_at i c cs l = elim (cases_Bool (is_wide c)) [
@@ -76,21 +70,21 @@ IsSet-set_cell i c cs =
     let pos : 0 < columns c = (columns_bounds c).0 in
     let two : columns c ≤ 2 = (columns_bounds c).1 in
     let p : List CellValue = padded (i + (columns c)) cs in
-    let q : List CellValue = free i p in
+    let q : List CellValue = torn i p in
     let lp : i + (columns c) ≤ length p = (length-padded (i + (columns c)) cs).0 in
-    let lq : length q ≡ length p = length-free i p in
+    let lq : length q ≡ length p = length-torn i p in
     record {
       at = put_at i c q (omega arith);
       next = λ w. let w2 : (columns c) ≡ 2 = columns-wide c w in put_next i c q (omega arith) w;
       torn = λ x e w.
           let same : stored p x ≡ stored cs x = stored-padded (i + (columns c)) cs x in
-          put_else i c q x (omega arith) (λ _. omega arith) ∙ free_torn i p x e (omega arith) (ap is_wide same ∙ w) ∙ ap half same;
+          put_else i c q x (omega arith) (λ _. omega arith) ∙ torn_at i p x e (omega arith) (ap is_wide same ∙ w) ∙ ap half same;
       narrow = λ x e w.
           let same : stored p x ≡ stored cs x = stored-padded (i + (columns c)) cs x in
-          put_else i c q x (omega arith) (λ _. omega arith) ∙ free_narrow i p x e (ap is_wide same ∙ w) ∙ same;
-      below = λ x l. put_else i c q x (omega arith) (λ _. omega arith) ∙ free_else i p x (omega arith) (omega arith) ∙ stored-padded (i + (columns c)) cs x;
+          put_else i c q x (omega arith) (λ _. omega arith) ∙ torn_narrow i p x e (ap is_wide same ∙ w) ∙ same;
+      below = λ x l. put_else i c q x (omega arith) (λ _. omega arith) ∙ torn_else i p x (omega arith) ∙ stored-padded (i + (columns c)) cs x;
       above = λ x l.
-          put_else i c q x (omega arith) (λ w. let w2 : (columns c) ≡ 2 = columns-wide c w in omega arith) ∙ free_else i p x (omega arith) (omega arith) ∙ stored-padded (i + (columns c)) cs x;
+          put_else i c q x (omega arith) (λ w. let w2 : (columns c) ≡ 2 = columns-wide c w in omega arith) ∙ torn_else i p x (omega arith) ∙ stored-padded (i + (columns c)) cs x;
     }
 
 length-put : (i : ℕ) (c : CellValue) (cs : List CellValue) → length (put i c cs) ≡ length cs
@@ -103,7 +97,7 @@ pub length-set_cell : (i : ℕ) (c : CellValue) (cs : List CellValue) → length
 length-set_cell i c cs =
     let n : ℕ = i + columns c in
     let p : length (padded n cs) ≡ length cs + (n - length cs) = simp (length-append, length-replicate) in
-    length-put i c (free i (padded n cs)) ∙ length-free i (padded n cs) ∙ p ∙ omega arith
+    length-put i c (torn i (padded n cs)) ∙ length-torn i (padded n cs) ∙ p ∙ omega arith
 
 -- a cell that is set fixes what is stored
 IsSet-same : (f h : ℕ → CellValue) (i : ℕ) (c : CellValue) (g k : ℕ → CellValue) → ((x : ℕ) → f x ≡ h x) → IsSet f i c g → IsSet h i c k → (x : ℕ) → g x ≡ k x

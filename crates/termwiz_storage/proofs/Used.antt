@@ -4,10 +4,9 @@ use Rattle.std.specs.Prelude.{nat_lt}
 use Rattle.std.proofs.lemmas.Bool.{cases_Bool, cases_lt, cases_eq, ltb-true, lt-ltb, and_parts}
 use Rattle.std.proofs.lemmas.List.{get_or_past, get_or-set_other, length-replicate, ext_get_or, get_or-replicate, length-set, get_or-set_same}
 use Rattle.termwiz_cell.specs.CellValue.{CellValue, blank, half, is_wide, columns}
-use Rattle.termwiz_storage.specs.Stored.{stored, padded, put, fill}
-use Rattle.termwiz_storage.specs.Halves.{torn}
+use Rattle.termwiz_storage.specs.Stored.{stored, padded, torn, put, fill}
 use Rattle.termwiz_storage.specs.Used.{IsUsedTo, IsBlanked}
-use Rattle.termwiz_storage.proofs.SetCell.{stored-padded, put_else}
+use Rattle.termwiz_storage.proofs.SetCell.{stored-padded, put_else, torn_at, torn_narrow, torn_else}
 use Rattle.termwiz_storage.proofs.Halves.{length-torn, length-padded}
 use Rattle.termwiz_storage.proofs.Fill.{IsFilledFrom, IsFilledFrom-fill, length-fill}
 use Rattle.termwiz_storage.proofs.Widths.{columns-wide, columns_bounds}
@@ -61,26 +60,6 @@ blanked-cut a b i old new l m p = record {
 pub blanked-all : (n : ℕ) (old new : List CellValue) → length old ≡ n → IsBlanked 0 n old new → new ≡ replicate n blank
 blanked-all n old new e p = ext_get_or blank new (replicate n blank) (omega (arith, p.len, length-replicate n blank))
     (λ j l. p.inside j (omega arith) (omega (arith, p.len)) ∙ sym (get_or-replicate n j blank blank (omega (arith, p.len))))
-
--- the cell before a column, once it is torn
-torn_at : (i : ℕ) (cs : List CellValue) (x : ℕ) → x + 1 ≡ i → i ≤ length cs → is_wide (stored cs x) ≡ true → stored (torn i cs) x ≡ half (stored cs x)
-torn_at i cs x e l w =
-    let k : i - 1 ≡ x = omega arith in
-    let t : nat_lt 0 i ≡ true = lt-ltb 0 i (omega arith) in
-    let h : x < length cs = omega arith in
-    rw (t, k, w) (rw get_or-set_same refl)
-
-torn_narrow : (i : ℕ) (cs : List CellValue) (x : ℕ) → x + 1 ≡ i → is_wide (stored cs x) ≡ false → stored (torn i cs) x ≡ stored cs x
-torn_narrow i cs x e w =
-    let k : i - 1 ≡ x = omega arith in
-    let t : nat_lt 0 i ≡ true = lt-ltb 0 i (omega arith) in
-    rw (t, k, w) refl
-
-torn_else : (i : ℕ) (cs : List CellValue) (x : ℕ) → x + 1 ≢ i → stored (torn i cs) x ≡ stored cs x
-torn_else i cs x n = elim (cases_Bool (nat_lt 0 i && is_wide (stored cs (i - 1)))) [
-  | inl t ↦ let pos : 0 < i = ltb-true 0 i (and_parts _ _ t).0 in let k : x ≢ i - 1 = omega arith in rw t (get_or-set_other cs (i - 1) x (half (stored cs (i - 1))) blank k)
-  | inr t ↦ rw t refl
-]
 
 -- blanks that are set one by one
 pub fill-blanked : (a b : ℕ) (cs new : List CellValue) → a < b → IsBlanked a b (torn a (padded b cs)) new → new ≡ fill (b - a) a blank cs

@@ -1,7 +1,7 @@
 -- The halves of wide cells: beside a cell that is set, and where a list grows.
-use Rattle.std.specs.Prelude.{ℕ, zero, suc, ◌-◌, ◌&&◌, nat_lt, nat_le, List, [], ◌∷◌, ◌++◌, length, set, take, Option, Some, None, if◌then◌else◌}
-use Rattle.termwiz_cell.specs.CellValue.{CellValue, half, is_wide, columns}
-use Rattle.termwiz_storage.specs.Stored.{stored, padded}
+use Rattle.std.specs.Prelude.{ℕ, ◌-◌, nat_le, List, [], ◌∷◌, ◌++◌, length, set, take, Option, Some, None, if◌then◌else◌}
+use Rattle.termwiz_cell.specs.CellValue.{CellValue, half, is_wide}
+use Rattle.termwiz_storage.specs.Stored.{stored, padded, hides}
 
 -- what follows a cell
 abbrev pub half_of : CellValue → Option CellValue
@@ -12,19 +12,9 @@ abbrev pub with_half : ℕ → Option CellValue → List CellValue → List Cell
 with_half i None cs = cs
 with_half i (Some h) cs = set cs i h
 
--- a wide cell before i becomes a blank with its attributes
-abbrev pub torn : ℕ → List CellValue → List CellValue
-torn i cs = if nat_lt 0 i && is_wide (stored cs (i - 1)) then set cs (i - 1) (half (stored cs (i - 1))) else cs
-
--- the columns that the last visible cell has past the end of the list; the walk first passes over `skip` hidden cells
-abbrev pub overhang : ℕ → List CellValue → ℕ
-overhang skip [] = skip
-overhang zero (c ∷ cs) = overhang ((columns c) - 1) cs
-overhang (suc k) (c ∷ cs) = overhang k cs
-
--- the half that the last visible cell lacks
+-- the half that the last visible cell lacks, where it is wide and ends the list
 abbrev pub missing_half : List CellValue → List CellValue
-missing_half cs = if nat_lt 0 (overhang 0 cs) then half (stored cs (length cs - 1)) ∷ [] else []
+missing_half cs = if hides cs (length cs) then half (stored cs (length cs - 1)) ∷ [] else []
 
 -- cut to k cells, or grown to k cells: by the half that the last visible cell lacks, and then by default blanks
 abbrev pub resized : ℕ → List CellValue → List CellValue

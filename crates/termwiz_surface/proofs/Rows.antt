@@ -3,11 +3,11 @@ use Rattle.std.proofs.Common.{◌≡◌, ◌≢◌, ℕ, zero, suc, ◌+◌, ◌
 use Rattle.std.proofs.lemmas.List.{ext_get_or, get_or-take, get_or_past, get_or-replicate, length-replicate, length-take}
 use Rattle.std.proofs.lemmas.Bool.{cases_Bool, cases_eq, cases_lt, ne_eqb, eq-eqb, and_parts, and_right, and_from, true≢false}
 use Rattle.termwiz_cell.specs.CellValue.{CellValue, blank, half, is_wide, columns}
-use Rattle.termwiz_storage.specs.Stored.{stored, set_cell}
+use Rattle.termwiz_storage.specs.Stored.{stored, set_cell, hides}
 use Rattle.termwiz_storage.proofs.Widths.{columns-narrow, columns_bounds}
 use Rattle.termwiz_storage.proofs.SetCell.{IsSet, length-set_cell}
 use Rattle.termwiz_line.proofs.RowOf.{length-row_of, row_of_at}
-use Rattle.termwiz_line.specs.Row.{hides, settled_at, row_of}
+use Rattle.termwiz_line.specs.Row.{settled_at, row_of}
 use Rattle.termwiz_surface.specs.Rows.{painted_in}
 
 -- each cell after a wide one is its half

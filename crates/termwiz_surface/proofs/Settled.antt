@@ -1,11 +1,10 @@
 -- A stored row that is cut or filled to the width is its row.
-use Rattle.std.proofs.Common.{◌≡◌, ℕ, zero, suc, ◌+◌, ◌-◌, ◌<◌, ◌≤◌, inl, inr, true, List, [], ◌∷◌, length, map, sym, ◌∙◌, ap, arith, append-nil, le-leb, length-append}
-use Rattle.std.proofs.lemmas.Bool.{cases_lt, le-ltb, lt-leb}
+use Rattle.std.proofs.Common.{◌≡◌, ℕ, zero, suc, ◌+◌, ◌-◌, ◌<◌, ◌≤◌, inl, inr, true, false, not, List, [], ◌∷◌, length, map, sym, ◌∙◌, ap, arith, append-nil, le-leb, length-append}
+use Rattle.std.proofs.lemmas.Bool.{cases_Bool, cases_lt, and_parts, lt-leb}
 use Rattle.std.proofs.lemmas.List.{ext_get_or, get_or-map, length-map, length-replicate, take_all}
-use Rattle.termwiz_cell.specs.CellValue.{CellValue, is_wide, columns}
-use Rattle.termwiz_storage.specs.Stored.{stored, padded}
-use Rattle.termwiz_storage.specs.Halves.{overhang, resized}
-use Rattle.termwiz_storage.proofs.Widths.{wide_from, columns_bounds}
+use Rattle.termwiz_cell.specs.CellValue.{CellValue, is_wide}
+use Rattle.termwiz_storage.specs.Stored.{stored, padded, hides}
+use Rattle.termwiz_storage.specs.Halves.{resized}
 use Rattle.termwiz_storage.proofs.SetCell.{stored-padded}
 use Rattle.termwiz_line.specs.LineValue.{LineValue}
 use Rattle.termwiz_line.specs.Row.{row_of}
@@ -15,34 +14,22 @@ use Rattle.termwiz_surface.specs.SurfaceValue.{SurfaceValue, IsStored, IsSound}
 use Rattle.termwiz_surface.proofs.Rows.{row_ext}
 use Rattle.termwiz_surface.proofs.Stored.{halved}
 
-last-behind : (c d : CellValue) (ds : List CellValue) → stored (c ∷ (d ∷ ds)) (length (c ∷ (d ∷ ds)) - 1) ≡ stored (d ∷ ds) (length (d ∷ ds) - 1)
-last-behind c d ds = let e : length (c ∷ (d ∷ ds)) - 1 ≡ suc (length (d ∷ ds) - 1) = omega arith in ap (stored (c ∷ (d ∷ ds))) e
-
--- the last visible cell has columns past the end only where it is wide, and the last one
-overhang-wide : (s : ℕ) (cs : List CellValue) → s ≤ 1 → 0 < length cs → 0 < overhang s cs → is_wide (stored cs (length cs - 1)) ≡ true
-overhang-wide s [] l p o = absurd (omega arith)
-overhang-wide zero (c ∷ []) l p o = wide_from c (omega arith)
-overhang-wide zero (c ∷ (d ∷ ds)) l p o =
-    let two : columns c ≤ 2 = (columns_bounds c).1 in
-    ap is_wide (last-behind c d ds) ∙ overhang-wide (columns c - 1) (d ∷ ds) (omega arith) (omega arith) o
-overhang-wide (suc zero) (c ∷ []) l p o = absurd (omega arith)
-overhang-wide (suc zero) (c ∷ (d ∷ ds)) l p o = ap is_wide (last-behind c d ds) ∙ overhang-wide 0 (d ∷ ds) (omega arith) (omega arith) o
-overhang-wide (suc (suc s)) (c ∷ cs) l p o = absurd (omega arith)
-
 module _ (f : List ℕ → ℕ) (w : ℕ) (cs : List CellValue) (s : IsStored f w cs) where
-  no_overhang : length cs < w → overhang 0 cs ≤ 0
-  no_overhang l = elim (cases_lt 0 (overhang 0 cs)) [
+  -- a short row does not end in a wide cell
+  lacks_none : length cs < w → hides cs (length cs) ≡ false
+  lacks_none l = elim (cases_Bool (hides cs (length cs))) [
     | inr z ↦ z
     | inl o ↦
         let some : 0 < length cs = s.some in
-        let n : suc (length cs - 1) ≡ length cs = omega arith in
-        let past : suc (length cs - 1) < length cs = s.closed (length cs - 1) (omega arith) (overhang-wide 0 cs (omega arith) some o) in
+        let n : length cs ≡ suc (length cs - 1) = omega arith in
+        let at : hides cs (suc (length cs - 1)) ≡ true = sym (ap (hides cs) n) ∙ o in
+        let past : suc (length cs - 1) < length cs = s.closed (length cs - 1) (omega arith) (and_parts (is_wide (stored cs (length cs - 1))) (not (hides cs (length cs - 1))) at).0 in
         absurd (omega arith)
   ]
 
   resized-padded : resized w cs ≡ padded w cs
   resized-padded = elim (cases_lt (length cs) w) [
-    | inl l ↦ rw (lt-leb w (length cs) l, le-ltb 0 (overhang 0 cs) (no_overhang l)) (ap (padded w) (append-nil cs))
+    | inl l ↦ rw (lt-leb w (length cs) l, lacks_none l) (ap (padded w) (append-nil cs))
     | inr g ↦
         let within : length cs ≤ w = s.within in
         let none : w - length cs ≡ 0 = omega arith in

@@ -9,8 +9,8 @@ use Rattle.std.specs.Bool.{Decides}
 use Rattle.std.specs.Cmp.Lexicographic.{pointwise}
 use Rattle.termwiz_cell.specs.Attributes.{Attributes}
 use Rattle.termwiz_cell.specs.CellValue.{CellValue, blank, is_wide, cell_eq, cell_eq-Decides}
-use Rattle.termwiz_storage.specs.Stored.{stored, visible}
-use Rattle.termwiz_line.specs.Row.{IsRow, is_hidden, visible_upto, hides, row_of}
+use Rattle.termwiz_storage.specs.Stored.{stored, visible, hides}
+use Rattle.termwiz_line.specs.Row.{IsRow, is_hidden, visible_upto, row_of}
 use Rattle.termwiz_line.specs.Entries.{last_attrs}
 use Rattle.termwiz_surface.specs.Padding.{IsPaddable, blanks_from, all_are}
 use Rattle.termwiz_line.proofs.RowOf.{length-row_of, row_of_at, settled_visible, hidden_row, row_of_row, visible_row}

@@ -3,8 +3,8 @@
 use Rattle.std.specs.Prelude.{◌≡◌, ℕ, ◌<◌, ◌≤◌, false, List, length, set, replicate}
 use Rattle.termwiz_cell.specs.Attributes.{Attributes}
 use Rattle.termwiz_cell.specs.CellValue.{CellValue, blank}
-use Rattle.termwiz_storage.specs.Stored.{stored}
-use Rattle.termwiz_line.specs.Row.{IsRow, is_hidden, hides}
+use Rattle.termwiz_storage.specs.Stored.{stored, hides}
+use Rattle.termwiz_line.specs.Row.{IsRow, is_hidden}
 use Rattle.termwiz_surface.specs.Screen.{Screen, row_at}
 use Rattle.termwiz_surface.specs.SurfaceValue.{IsMeasured}
 

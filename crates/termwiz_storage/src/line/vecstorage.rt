@@ -8,8 +8,8 @@ ghost use Rattle.termwiz_text.specs.Plain.{is_plain};
 ghost use Rattle.termwiz_cell.specs.Attributes.{needs_box};
 ghost use Rattle.termwiz_cell.specs.CellValue.{blank, columns, half, is_wide};
 ghost use Rattle.termwiz_storage.specs.CellsLeft.{YieldsCell};
-ghost use Rattle.termwiz_storage.specs.Stored.{fill, padded, put, put_run, stored, set_cell, set_run, visible, IsKept};
-ghost use Rattle.termwiz_storage.specs.Halves.{half_of, overhang, resized, torn, with_half};
+ghost use Rattle.termwiz_storage.specs.Stored.{fill, padded, put, put_run, stored, set_cell, set_run, visible, IsKept, hides, torn};
+ghost use Rattle.termwiz_storage.specs.Halves.{half_of, resized, with_half};
 ghost use Rattle.termwiz_storage.specs.Used.{IsBlanked, IsFilledTo, IsUsedTo};
 ghost use Rattle.termwiz_storage.specs.CellLists.{cells_eq, cells_eq-Decides};
 ghost use Rattle.std.specs.Borrow.{sem};
@@ -206,24 +206,24 @@ impl VecStorage {
         Ok(())
     }
 
-    // The columns that the last visible cell has past the end.
-    fn overhang(&self) -> usize
-        ensures { result ≡ overhang 0 self.now }
+    // Whether the last visible cell is wide, and its half is not stored.
+    fn lacks_half(&self) -> bool
+        ensures { result ≡ hides self.now (length self.now) }
     {
         if self.is_wide_before(self.cells.len()) {
-            return self.walked_overhang();
+            return self.walk_ends_hidden();
         }
-        0
+        false
     }
 
-    fn walked_overhang(&self) -> usize
-        ensures { result ≡ overhang 0 self.now }
+    fn walk_ends_hidden(&self) -> bool
+        ensures { result ≡ hides self.now (length self.now) }
     {
-        let mut skip = 0;
+        let mut hidden = false;
         for cell in &self.cells {
-            skip = if skip > 0 { skip - 1 } else { cell.width() - 1 };
+            hidden = cell.width() > 1 && !hidden;
         }
-        skip
+        hidden
     }
 
     /// Cuts the list, or grows it by default blanks. Where it grows and its last visible cell lacks its half, the half comes first.
@@ -239,7 +239,7 @@ impl VecStorage {
             return Ok(());
         }
         self.cells.reserve(len - have)?;
-        if self.overhang() > 0 {
+        if self.lacks_half() {
             let half = half_behind(&self.cells)?;
             self.cells.push(half)?;
             self.used = self.cells.len();
@@ -438,7 +438,7 @@ impl<'a> Model for VecStorageIter<'a> {
     ghost use Rattle.std.specs.Prelude.{ℕ, List, length, ◌+◌, ◌<◌, ◌^◌};
     ghost use Rattle.std.specs.Slice.Iter.{iter_rest};
     ghost use Rattle.termwiz_cell.specs.CellValue.{CellValue};
-    ghost use Rattle.termwiz_storage.specs.Stored.{visible_from};
+    ghost use Rattle.termwiz_storage.specs.Stored.{visible_from, hides, torn};
 
     ghost Value = { List (ℕ × CellValue) };
 

@@ -1,33 +1,33 @@
-use Rattle.std.proofs.Common.{◌≡◌, ◌-◌, ◌<◌, ◌≤◌, ◌∙◌, ◌++◌, ◌∷◌, [], List, length, ap, arith}
+use Rattle.std.proofs.Common.{◌≡◌, ◌-◌, ◌<◌, ◌≤◌, sym, ◌∙◌, ◌++◌, ◌∷◌, [], List, length, ap, arith}
 use Rattle.termwiz_cell.specs.CellValue.{CellValue, half}
-use Rattle.termwiz_storage.specs.Stored.{stored}
-use Rattle.termwiz_storage.specs.Halves.{overhang, missing_half}
+use Rattle.termwiz_storage.specs.Stored.{stored, hides}
+use Rattle.termwiz_storage.specs.Halves.{missing_half}
 use Rattle.termwiz_storage.specs.Used.{IsUsedTo}
 use Rattle.termwiz_storage.proofs.Used.{used-all, used-more, used-padded}
 use Rattle.termwiz_storage.proofs.Halves.{grown-wide, grown-narrow, resized-grown}
 use Rattle.termwiz_storage.proofs.line.vecstorage.VecStorage.resize.Goals as goal
-use Rattle.termwiz_storage.proofs.line.vecstorage.VecStorage.resize.Goals.{then-overhang-gt0+in_ok-half+in_ok-push, else-overhang-gt0}
+use Rattle.termwiz_storage.proofs.line.vecstorage.VecStorage.resize.Goals.{then-lacks_half+in_ok-half+in_ok-push, else-lacks_half}
 
 pub returns-clause-ok : goal.returns-clause-ok
 returns-clause-ok c =
     let cs : List CellValue = c.args.self.now in
     let base : c.reserve.new.self.items ≡ cs = c.in_ok-reserve.ensures.items ∙ c.self.view_is in
     let short : length cs < c.args.len = omega (arith, c.self.inside.cells.ok.0, ap length c.self.view_is) in
-    let hang : c.overhang.result ≡ overhang 0 cs = c.overhang.ensures ∙ ap (overhang 0) base in
-    let grown : c.if-overhang-gt0.self-inside.cells.items ≡ cs ++ missing_half cs = elim c.if-overhang-gt0.branch [
-      | then-overhang-gt0+in_ok-half+in_ok-push w ↦
+    let hang : c.lacks_half.result ≡ hides cs (length cs) = c.lacks_half.ensures ∙ ap (λ (xs : List CellValue). hides xs (length xs)) base in
+    let grown : c.if-lacks_half.self-inside.cells.items ≡ cs ++ missing_half cs = elim c.if-lacks_half.branch [
+      | then-lacks_half+in_ok-half+in_ok-push w ↦
           let is : w.in_ok-half.half ≡ half (stored cs (length cs - 1)) = w.in_ok-half.ensures ∙ ap (λ (xs : List CellValue). half (stored xs (length xs - 1))) base in
-          rw w.self-inside-is (w.in_ok-push.ensures.items ∙ ap (λ (xs : List CellValue). xs ++ w.in_ok-half.half ∷ []) base ∙ grown-wide cs w.in_ok-half.half (omega arith) is)
-      | else-overhang-gt0 w ↦ rw w.self-inside-is (base ∙ grown-narrow cs (omega arith))
+          rw w.self-inside-is (w.in_ok-push.ensures.items ∙ ap (λ (xs : List CellValue). xs ++ w.in_ok-half.half ∷ []) base ∙ grown-wide cs w.in_ok-half.half (sym hang ∙ w.if-lacks_half.true) is)
+      | else-lacks_half w ↦ rw w.self-inside-is (base ∙ grown-narrow cs (sym hang ∙ w.if-lacks_half.false))
     ] in
-    c.in_ok-pad_cells.ensures.ok ∙ resized-grown c.args.len cs c.if-overhang-gt0.self-inside.cells.items short grown
+    c.in_ok-pad_cells.ensures.ok ∙ resized-grown c.args.len cs c.if-lacks_half.self-inside.cells.items short grown
 
 pub invariant_of-self-3 : goal.invariant_of-self-3
 invariant_of-self-3 c =
-    let before : IsUsedTo c.if-overhang-gt0.self-inside.used c.if-overhang-gt0.self-inside.cells.items = elim c.if-overhang-gt0.branch [
-      | then-overhang-gt0+in_ok-half+in_ok-push w ↦
+    let before : IsUsedTo c.if-lacks_half.self-inside.used c.if-lacks_half.self-inside.cells.items = elim c.if-lacks_half.branch [
+      | then-lacks_half+in_ok-half+in_ok-push w ↦
           let long : length w.push.new.self.items ≤ w.len-self-inside.result = omega (arith, w.push.new.self.ok.0) in
           rw w.self-inside-is (used-more _ _ w.push.new.self.items long (used-all w.push.new.self.items))
-      | else-overhang-gt0 w ↦ rw w.self-inside-is (rw c.in_ok-reserve.ensures.items c.self.invariant)
+      | else-lacks_half w ↦ rw w.self-inside-is (rw c.in_ok-reserve.ensures.items c.self.invariant)
     ] in
     rw c.in_ok-pad_cells.ensures.ok (used-padded _ c.args.len _ before)

@@ -1,7 +1,6 @@
 use Rattle.std.proofs.Common.{◌≡◌, List, ◌∙◌, ap, subst}
 use Rattle.termwiz_cell.specs.CellValue.{CellValue}
-use Rattle.termwiz_storage.specs.Halves.{torn}
-use Rattle.termwiz_storage.specs.Stored.{padded}
+use Rattle.termwiz_storage.specs.Stored.{torn, padded}
 use Rattle.termwiz_storage.specs.Used.{IsBlanked}
 use Rattle.termwiz_storage.proofs.Used.{fill-blanked}
 use Rattle.termwiz_storage.proofs.line.vecstorage.VecStorage.set_blanks.Goals as goal

@@ -1,7 +1,6 @@
 use Rattle.std.proofs.Common.{◌≡◌, ℕ, ◌+◌, ◌∙◌, ap, length, arith}
 use Rattle.termwiz_cell.specs.CellValue.{columns}
-use Rattle.termwiz_storage.specs.Stored.{padded, put}
-use Rattle.termwiz_storage.specs.Halves.{torn}
+use Rattle.termwiz_storage.specs.Stored.{torn, padded, put}
 use Rattle.termwiz_storage.proofs.Halves.{length-torn, length-padded, set_cell-torn}
 use Rattle.termwiz_storage.proofs.line.vecstorage.VecStorage.set_cell.Goals as goal
 

@@ -4,5 +4,3 @@
 pub mod entries;
 pub mod laws;
 pub mod line;
-#[cfg(test)]
-mod tests;

@@ -1,11 +1,10 @@
-//! What lines show after some edits, and each call once.
-use crate::line::line::Line;
+//! What lines show after some edits.
 use std::alloc::{AllocError, Global};
 use std::test::Fail;
 use termwiz_cell::cell::{Cell, CellAttributes};
-use termwiz_cell::emoji::{OneColumn, Presentation};
+use termwiz_line::line::line::Line;
 
-fn cell(alloc: Global, text: &str, width: usize) -> Result<Cell, AllocError> {
+pub(crate) fn cell(alloc: Global, text: &str, width: usize) -> Result<Cell, AllocError> {
     Cell::new_grapheme_with_width(alloc, text, width.min(2), CellAttributes::blank())
 }
 
@@ -15,8 +14,8 @@ fn italic(alloc: Global, text: &str, width: usize) -> Result<Cell, AllocError> {
     Cell::new_grapheme_with_width(alloc, text, width.min(2), attrs)
 }
 
-// A line of these cells, one after another, with number 0.
-fn line_of(alloc: Global, cells: &[(&str, usize)]) -> Result<Line, AllocError> {
+/// A line of these cells, one after another, with number 0.
+pub(crate) fn line_of(alloc: Global, cells: &[(&str, usize)]) -> Result<Line, AllocError> {
     let mut line = Line::with_width(alloc, 0, 0)?;
     for (text, width) in cells {
         let at = line.len();
@@ -115,22 +114,5 @@ fn a_copy_is_equal_until_it_is_changed(rt: HostRuntime) -> Result<(), Fail> {
     assert!(rt; copy == line);
     copy.set_cell(0, cell(rt.alloc(), "a", 1)?, 0)?;
     assert!(rt; copy != line);
-    Ok(())
-}
-
-#[test]
-fn a_visible_cell_answers_for_its_cell(rt: HostRuntime) -> Result<(), Fail> {
-    let line = line_of(rt.alloc(), &[("か", 2), ("か", 2), ("a", 1)])?;
-    let mut cells = line.visible_cells();
-    let first = cells.next().ok_or("no first")?;
-    let second = cells.next().ok_or("no second")?;
-    let third = cells.next().ok_or("no third")?;
-    assert_eq!(rt; second.cell_index(), 2);
-    assert_eq!(rt; second.width(), 2);
-    assert!(rt; first.same_contents(&second));
-    assert!(rt; !second.same_contents(&third));
-    assert!(rt; third.as_cell(rt.alloc())? == cell(rt.alloc(), "a", 1)?);
-    assert!(rt; *third.attrs() == CellAttributes::blank());
-    assert_eq!(rt; third.presentation(&OneColumn), Presentation::Text);
     Ok(())
 }

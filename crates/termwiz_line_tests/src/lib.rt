@@ -1,0 +1,7 @@
+//! What lines show after some edits, and each call once.
+#![tactic(auto)]
+
+#[cfg(test)]
+mod lines;
+#[cfg(test)]
+mod visible_cells;

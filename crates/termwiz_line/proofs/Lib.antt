@@ -9,3 +9,6 @@ pub mod PlainAttributes
 pub mod GrowingText
 pub mod Walk
 pub mod Flags
+pub mod Columns
+pub mod Pruned
+pub mod StoredRows

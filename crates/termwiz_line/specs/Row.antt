@@ -14,6 +14,10 @@ settled_at cs (suc k) = cond (hides cs (suc k)) (half (stored cs k)) (stored cs 
 unfoldable pub row_of : ℕ → List CellValue → List CellValue
 row_of w cs = map (settled_at cs) (range_with_len 0 w)
 
+-- each stored cell before column w that follows a wide one is its half
+pub record HasHalves (w : ℕ) (cs : List CellValue) : Type 0 where
+  pub halves : (k : ℕ) → suc k < w → is_wide (stored cs k) ≡ true → stored cs (suc k) ≡ half (stored cs k)
+
 -- a list of cells in settled form
 pub record IsRow (w : ℕ) (r : List CellValue) : Type 0 where
   pub width : length r ≡ w

@@ -2,9 +2,9 @@
 use Rattle.std.specs.Prelude.{◌≡◌, ℕ, ◌+◌, ◌<◌, ◌≤◌, List, [], ◌∷◌, length, take}
 use Rattle.termwiz_cell.specs.Attributes.{Attributes}
 use Rattle.termwiz_cell.specs.CellValue.{CellValue, blank_of, columns}
-use Rattle.termwiz_storage.specs.Stored.{visible, padded}
+use Rattle.termwiz_storage.specs.Stored.{visible, padded, set_cell, IsPruned}
 use Rattle.termwiz_storage.specs.Halves.{resized}
-use Rattle.termwiz_line.specs.Row.{IsRow, row_of, visible_upto, paint, clear}
+use Rattle.termwiz_line.specs.Row.{HasHalves, IsRow, row_of, visible_upto, paint, clear}
 use Rattle.termwiz_line.specs.Shows.{IsPainted, IsCleared}
 
 -- a painted row is a row, which shows what painting says
@@ -47,3 +47,11 @@ WalkGrows = (cs : List CellValue) → (length (visible cs) ≤ length cs) × Are
 -- cells in settled form that are cut or grown are the row of that width
 abbrev pub ResizedIsRow : Type 0
 ResizedIsRow = (w : ℕ) (cs : List CellValue) → IsRow (length cs) cs → resized w cs ≡ row_of w cs
+
+-- setting a cell paints it in the row
+abbrev pub SetCellPaints : Type 0
+SetCellPaints = (w c : ℕ) (x : CellValue) (cs : List CellValue) → HasHalves w cs → c < w → row_of w (set_cell c x cs) ≡ paint (row_of w cs) c x
+
+-- pruning changes no row
+abbrev pub PruningKeepsRow : Type 0
+PruningKeepsRow = (w : ℕ) (old new : List CellValue) → IsPruned old new → row_of w new ≡ row_of w old

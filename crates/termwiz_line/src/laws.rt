@@ -1,5 +1,5 @@
 //! What rows are: laws of the definitions that the contracts cite, each on a function that does nothing.
-ghost use Rattle.termwiz_line.specs.RowLaws.{PaintPaints, ClearClears, ClearPast, VisibleFixesRow, CellsHaveRow, VisibleFixesRowOf, WalkGrows, ResizedIsRow};
+ghost use Rattle.termwiz_line.specs.RowLaws.{PaintPaints, ClearClears, ClearPast, VisibleFixesRow, CellsHaveRow, VisibleFixesRowOf, WalkGrows, ResizedIsRow, SetCellPaints, PruningKeepsRow};
 
 /// Painting and clearing a row do to what it shows what the words say, and what it shows fixes it.
 pub fn row_laws()
@@ -10,9 +10,12 @@ pub fn row_laws()
 {}
 
 /// Stored cells have a row, which shows what the walk of the cells meets, at growing columns and no more cells than there are; resizing gives it.
+/// Setting a cell paints it in the row, where the stored halves are halves, and pruning changes no row.
 pub fn stored_row_laws()
     ensures row { CellsHaveRow }
     ensures fixed { VisibleFixesRowOf }
     ensures walk { WalkGrows }
     ensures resized { ResizedIsRow }
+    ensures set_cell { SetCellPaints }
+    ensures pruned { PruningKeepsRow }
 {}

@@ -7,13 +7,13 @@ use Rattle.std.proofs.lemmas.Bool.Decides.{nat_tests}
 use Rattle.termwiz_cell.specs.Attributes.{Attributes}
 use Rattle.termwiz_cell.specs.CellValue.{CellValue, blank, blank_of, half, is_wide, cell_eq-Decides}
 use Rattle.termwiz_storage.specs.Stored.{stored, set_cell, fill, cell_at, visible, IsKept, IsPruned}
-use Rattle.termwiz_surface.proofs.Columns.{IsFormed, covered, cell_at-visible}
+use Rattle.termwiz_line.proofs.Columns.{IsFormed, covered, cell_at-visible}
 use Rattle.termwiz_storage.proofs.Fill.{IsFilledFrom, IsFilledFrom-fill, length-fill}
-use Rattle.termwiz_surface.proofs.Pruned.{stored-pruned}
+use Rattle.termwiz_line.proofs.Pruned.{stored-pruned}
 use Rattle.termwiz_line.specs.Row.{row_of, is_hidden, cleared, clear}
 use Rattle.termwiz_surface.specs.SurfaceValue.{IsMeasured, IsStored}
 use Rattle.termwiz_surface.specs.Clear.{is_blank, ends, pruned_length}
-use Rattle.termwiz_surface.proofs.Rows.{row_stored, row_ext}
+use Rattle.termwiz_line.proofs.StoredRows.{row_stored, row_ext}
 use Rattle.termwiz_line.proofs.RowOf.{length-row_of}
 use Rattle.termwiz_line.proofs.RowPainting.{length-clear, clear_at, clear_none}
 use Rattle.termwiz_storage.proofs.SetCell.{length-set_cell}

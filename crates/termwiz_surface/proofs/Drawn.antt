@@ -15,8 +15,8 @@ use Rattle.termwiz_surface.specs.Rows.{painted_in}
 use Rattle.termwiz_surface.specs.Screen.{row_at}
 use Rattle.termwiz_surface.specs.Print.{scrolled}
 use Rattle.termwiz_surface.specs.SurfaceValue.{SurfaceValue, IsMeasured, IsStored, IsSound}
-use Rattle.termwiz_surface.proofs.Rows.{row_blank, length-painted_in}
-use Rattle.termwiz_surface.proofs.Stored.{IsLawful, halved, graphemes-space, IsStored-blank, IsStored-painted_in, row-painted_in}
+use Rattle.termwiz_line.proofs.StoredRows.{row_blank}
+use Rattle.termwiz_surface.proofs.Stored.{IsLawful, halved, length-painted_in, graphemes-space, IsStored-blank, IsStored-painted_in, row-painted_in}
 
 graphemes-replacement : graphemes true replacement ≡ replacement ∷ []
 unfolding unicode_segmentation

@@ -1,7 +1,4 @@
-mod Columns
-mod Pruned
 mod Graphemes
-mod Rows
 mod Stored
 mod Drawn
 mod Clear

@@ -17,7 +17,7 @@ use Rattle.termwiz_surface.specs.declared.view.Event.{Event}
 use Rattle.termwiz_surface.specs.declared.view.Event.TheVariants.{Changes}
 use Rattle.termwiz_surface.specs.declared.view.Outcome.{Outcome}
 use Rattle.termwiz_surface.specs.declared.view.Outcome.TheVariants.{Answered, Refused}
-use Rattle.termwiz_surface.proofs.Rows.{row_blank}
+use Rattle.termwiz_line.proofs.StoredRows.{row_blank}
 use Rattle.termwiz_surface.proofs.SoundRepaint.{sound_has_size, sound_is_printable}
 use Rattle.std.proofs.lemmas.List.{length-map, length-replicate}
 

@@ -11,7 +11,7 @@ use Rattle.termwiz_line.specs.Row.{row_of}
 use Rattle.termwiz_surface.specs.Screen.{row_at}
 use Rattle.termwiz_surface.specs.ScreenValue.{cells_of, numberless}
 use Rattle.termwiz_surface.specs.SurfaceValue.{SurfaceValue, IsStored, IsSound}
-use Rattle.termwiz_surface.proofs.Rows.{row_ext}
+use Rattle.termwiz_line.proofs.StoredRows.{row_ext}
 use Rattle.termwiz_surface.proofs.Stored.{halved}
 
 module _ (f : List ℕ → ℕ) (w : ℕ) (cs : List CellValue) (s : IsStored f w cs) where

@@ -4,8 +4,7 @@ use Rattle.std.proofs.lemmas.Bool.{cases_lt}
 use Rattle.std.proofs.lemmas.List.{get_or-take, get_or_past, length-take}
 use Rattle.termwiz_cell.specs.CellValue.{CellValue, blank}
 use Rattle.termwiz_storage.specs.Stored.{cell_at, visible, stored, IsPruned}
-use Rattle.termwiz_surface.proofs.Columns.{columns_from}
-use Rattle.termwiz_surface.proofs.Columns.{cell_at-columns_0}
+use Rattle.termwiz_line.proofs.Columns.{columns_from, cell_at-columns_0}
 
 columns-stored : (k : ℕ) (cs : List CellValue) (x : ℕ) (e : CellValue) → get_or (columns_from k cs) x None ≡ Some e → stored cs x ≡ e
 columns-stored k [] x e h = absurd (cc)

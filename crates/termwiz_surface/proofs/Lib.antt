@@ -4,6 +4,7 @@ mod Graphemes
 mod Rows
 mod Stored
 mod Drawn
+mod Printing
 mod Clear
 mod Changed
 mod Fills

@@ -1,6 +1,7 @@
 mod Graphemes
 mod Stored
 mod Drawn
+mod Printing
 mod Clear
 mod Changed
 mod Fills

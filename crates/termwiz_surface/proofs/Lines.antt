@@ -1,7 +1,6 @@
 -- The cells of lines that are read, set and taken in turn.
 use Rattle.std.proofs.Common.{◌≡◌, ℕ, ◌+◌, ◌<◌, List, [], ◌∷◌, ◌++◌, length, get_or, map, take, drop, set, sym, ◌∙◌, ap, arith}
-use Rattle.std.specs.List.{flat_map}
-use Rattle.std.proofs.lemmas.List.{get_or-map, map-set, map-append, map_more, at_drop_more, length-map, get_or_read}
+use Rattle.std.proofs.lemmas.List.{get_or-map, map-set, map-append, map_more, at_drop_more, length-map}
 use Rattle.termwiz_cell.specs.CellValue.{CellValue}
 use Rattle.termwiz_line.specs.LineValue.{LineValue}
 use Rattle.termwiz_line.specs.Row.{row_of}

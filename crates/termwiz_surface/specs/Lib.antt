@@ -6,6 +6,7 @@ pub mod Print
 pub mod Clear
 pub mod Step
 pub mod SurfaceValue
+pub mod Printing
 pub mod Repaint
 pub mod Answer
 pub mod Printable

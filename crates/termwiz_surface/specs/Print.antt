@@ -1,5 +1,5 @@
 -- Printing a text, grapheme by grapheme: what it makes of a screen, and beside it of the lengths of the stored rows.
-use Rattle.std.specs.Prelude.{ℕ, ◌+◌, min, max, Bool, true, ◌==◌, nat_lt, List, [], ◌∷◌, ◌++◌, fold, replicate, drop, get_or, set, if◌then◌else◌}
+use Rattle.std.specs.Prelude.{ℕ, ◌+◌, ◌-◌, min, max, Bool, true, ◌==◌, nat_lt, List, [], ◌∷◌, ◌++◌, fold, replicate, drop, get_or, set, if◌then◌else◌}
 use Rattle.std.specs.Str.{bytes_eq}
 use Rattle.unicode_segmentation.specs.Grapheme.{graphemes}
 use Rattle.termwiz_cell.specs.CellValue.{CellValue, blank, columns, measured}
@@ -34,6 +34,10 @@ wraps s = s.x == s.width
 
 abbrev pub wrapped : Screen → Screen
 wrapped s = if wraps s then returned (down s) else s
+
+-- how many columns are left in the row in which the next character is printed
+abbrev pub columns_left : Screen → ℕ
+columns_left s = if wraps s then s.width else s.width - s.x
 
 abbrev pub printed_cell : (List ℕ → ℕ) → Screen → List ℕ → CellValue
 printed_cell width s g = measured width (single g) s.pen

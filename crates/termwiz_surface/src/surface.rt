@@ -1,16 +1,19 @@
 //! Surfaces.
-ghost use Rattle.std.specs.Prelude.{◌≡◌, true, ◌+◌, ◌-◌, ◌*◌, ◌<◌, ◌≤◌, ◌^◌, List, [], ◌∷◌, length, map, vec_len, replicate, string_bytes, IsOk, IfOk, OnOk, OnErr};
+ghost use Rattle.std.specs.Prelude.{◌≡◌, true, ◌+◌, ◌-◌, ◌*◌, ◌<◌, ◌≤◌, ◌^◌, List, [], ◌∷◌, length, map, vec_len, replicate, string_bytes, false, MatchOption, IsOk, IfOk, OnOk, OnErr};
 ghost use Rattle.termwiz_cell.specs.Attributes.{default_attributes, with_background};
 ghost use Rattle.termwiz_cell.specs.CellValue.{blank};
 ghost use Rattle.termwiz_cell.specs.Width.{unversioned};
 ghost use Rattle.termwiz_cell.specs.declared.change.CursorVisibility.TheVariants.{Visible};
-ghost use Rattle.termwiz_surface.specs.Print.{down, put, printed_cell, print_one, print, down_lengths, put_lengths, piece_lengths, print_lengths, break_of};
+ghost use Rattle.termwiz_surface.specs.Print.{down, put, wrapped, printed_cell, print_one, print, columns_left, down_lengths, put_lengths, wrapped_lengths, piece_lengths, print_lengths, break_of};
+ghost use Rattle.termwiz_surface.specs.Printing.{AreNarrow, IsNarrowRun, Prints, PrintsSome};
 ghost use Rattle.termwiz_surface.specs.Clear.{clear_eol, clear_eos, clear_screen, eol_lengths, eos_lengths, screen_lengths};
 ghost use Rattle.termwiz_surface.specs.Place.{placed};
 ghost use Rattle.termwiz_surface.specs.Step.{step, step_lengths, replay, replay_lengths};
 ghost use Rattle.termwiz_cell.specs.AttributeChangeValue.{attribute_change_value, with_attribute};
 ghost use Rattle.termwiz_cell.specs.ChangeValue.{change_value};
-ghost use Rattle.std.specs.List.{All};
+ghost use Rattle.std.specs.List.{All, list_all};
+ghost use Rattle.termwiz_text.specs.Plain.{is_plain};
+ghost use Rattle.termwiz_cell.specs.Attributes.{needs_box};
 ghost use Rattle.unicode_segmentation.specs.Grapheme.{graphemes};
 ghost use Rattle.termwiz_surface.specs.ShownChars.{shown_chars};
 ghost use Rattle.termwiz_surface.specs.ScreenValue.{screen_value};
@@ -32,9 +35,11 @@ mod shown;
 
 use pen::{background_only, blank_with};
 use place::{column_at, row_at};
-use print::{LineBreak, line_break, printed_cell};
+use print::{LineBreak, line_break, printed_cell, split_narrow_run};
 use repaint::{all_rows, framed};
-use rows::{blank_rows, chars_of, fill_row, fill_rows, paint_row, resized_lines, scroll_rows};
+use rows::{
+    blank_rows, chars_of, fill_row, fill_rows, paint_row, paint_run, resized_lines, scroll_rows,
+};
 pub use screen::Screen;
 use std::alloc::{AllocError, Global};
 use std::borrow::CowSlice;
@@ -209,6 +214,19 @@ impl<W: Widths> Surface<W> {
         Ok(())
     }
 
+    // Goes to the next row, where a wrap is pending.
+    fn wrap(&mut self) -> Result<(), AllocError>
+        ensures ok { OnOk result (Draws self.old (wrapped (screen_of self.old)) (wrapped_lengths (screen_of self.old) (lengths_of self.old)) self.new) }
+        ensures inside { OnOk result (self.new.x < self.new.width) }
+        ensures err { OnErr result (self.new ≡ self.old) }
+    {
+        if self.x >= self.width {
+            self.line_feed()?;
+            self.x = 0;
+        }
+        Ok(())
+    }
+
     fn print_one(&mut self, grapheme: &str) -> Result<(), AllocError>
         requires { graphemes true grapheme.now ≡ grapheme.now ∷ [] }
         ensures ok { OnOk result (let f = unversioned (W.width_of self.old.widths) in let s = screen_of self.old in Draws self.old (print_one f s grapheme.now) (piece_lengths f s grapheme.now (break_of grapheme.now) (lengths_of self.old)) self.new) }
@@ -222,14 +240,71 @@ impl<W: Widths> Surface<W> {
                 self.x = 0;
             }
             LineBreak::None => {
-                if self.x >= self.width {
-                    self.line_feed()?;
-                    self.x = 0;
-                }
+                self.wrap()?;
                 self.put(grapheme)?;
             }
         }
         Ok(())
+    }
+
+    // How many characters a run may have: what fits in the row in which the first one comes, and none where the pen takes memory.
+    fn run_limit(&self) -> usize
+        ensures fits { result ≤ columns_left (screen_of self.now) }
+        ensures unboxed { 0 < result → needs_box self.now.pen ≡ false }
+    {
+        if self.pen.unboxed_copy().is_none() {
+            0
+        } else if self.x < self.width {
+            self.width - self.x
+        } else {
+            self.width
+        }
+    }
+
+    // Prints a run of ASCII in the cursor's row.
+    fn put_run(&mut self, run: &str) -> Result<(), AllocError>
+        requires plain { list_all is_plain run.now ≡ true }
+        requires narrow { AreNarrow (unversioned (W.width_of self.old.widths)) run.now }
+        requires unboxed { needs_box self.old.pen ≡ false }
+        requires fits { self.old.x + length run.now ≤ self.old.width }
+        ensures ok { OnOk result (Prints (unversioned (W.width_of self.old.widths)) self.old (map (λ c. c ∷ []) run.now) self.new) }
+        ensures err { OnErr result (self.new ≡ self.old) }
+    {
+        paint_run(&mut self.rows, self.x, self.y, run, &self.pen)?;
+        self.x += run.len();
+        Ok(())
+    }
+
+    // Prints a run of ASCII in the row in which its first character comes.
+    fn print_run(&mut self, run: &str) -> Result<(), AllocError>
+        requires some { 0 < length run.now }
+        requires plain { list_all is_plain run.now ≡ true }
+        requires narrow { AreNarrow (unversioned (W.width_of self.old.widths)) run.now }
+        requires unboxed { needs_box self.old.pen ≡ false }
+        requires fits { length run.now ≤ columns_left (screen_of self.old) }
+        ensures ok { OnOk result (Prints (unversioned (W.width_of self.old.widths)) self.old (map (λ c. c ∷ []) run.now) self.new) }
+        ensures err { OnErr result (SameFrame self.old self.new) }
+    {
+        self.wrap()?;
+        self.put_run(run)?;
+        Ok(())
+    }
+
+    // Prints the run of ASCII that the text begins with, or else its first grapheme, and gives what is left.
+    fn print_first<'a>(&mut self, text: &'a str) -> Result<Option<&'a str>, AllocError>
+        ensures ok { IfOk result (λ left. MatchOption left ((graphemes true text.now ≡ []) × (self.new ≡ self.old)) (λ rest. PrintsSome (unversioned (W.width_of self.old.widths)) self.old text.now rest.now self.new)) }
+        ensures err { OnErr result (SameFrame self.old self.new) }
+    {
+        let (run, rest) = split_narrow_run(&self.widths, text, self.run_limit());
+        if !run.is_empty() {
+            self.print_run(run)?;
+            return Ok(Some(rest));
+        }
+        let Some((grapheme, rest)) = split_first_grapheme(text) else {
+            return Ok(None);
+        };
+        self.print_one(grapheme)?;
+        Ok(Some(rest))
     }
 
     fn print_text(&mut self, text: &str) -> Result<(), AllocError>
@@ -237,9 +312,8 @@ impl<W: Widths> Surface<W> {
         ensures err { OnErr result (SameFrame self.old self.new) }
     {
         let mut rest = text;
-        'graphemes: while let Some((grapheme, more)) = split_first_grapheme(rest) {
-            self.print_one(grapheme)?;
-            rest = more;
+        'pieces: while let Some(left) = self.print_first(rest)? {
+            rest = left;
         }
         Ok(())
     }

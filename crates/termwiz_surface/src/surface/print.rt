@@ -1,14 +1,18 @@
 //! The graphemes of a text, and the cells that they print.
-ghost use Rattle.std.specs.Prelude.{◌≡◌, true, List, [], ◌∷◌, IfOk};
+ghost use Rattle.std.specs.Prelude.{◌≡◌, ◌≤◌, true, List, [], ◌∷◌, length, take, IfOk};
+ghost use Rattle.std.specs.List.{list_all};
+ghost use Rattle.termwiz_text.specs.Plain.{is_plain};
 ghost use Rattle.unicode_segmentation.specs.Grapheme.{graphemes};
 ghost use Rattle.termwiz_cell.specs.CellValue.{measured};
 ghost use Rattle.termwiz_cell.specs.Width.{unversioned};
 ghost use Rattle.termwiz_surface.specs.Graphemes.{single};
 ghost use Rattle.termwiz_surface.specs.Print.{break_of};
+ghost use Rattle.termwiz_surface.specs.Printing.{AreNarrow, IsNarrowRun};
 
 use std::alloc::{AllocError, Global};
 use termwiz_cell::cell::{Cell, CellAttributes};
 use termwiz_cell::emoji::Widths;
+use termwiz_text::split_plain_run;
 
 /// Which line break a grapheme is.
 #[derive(Clone, Copy, Debug)]
@@ -43,4 +47,34 @@ pub(super) fn printed_cell<W: Widths>(
 {
     let attrs = pen.clone()?;
     Cell::new_grapheme(alloc, widths, grapheme, attrs, None)
+}
+
+// How many characters of a run of ASCII, from its first one on, have at most one column each.
+fn narrow_len<W: Widths>(widths: &W, run: &str) -> usize
+    requires { list_all is_plain run.now ≡ true }
+    ensures within { result ≤ length run.now }
+    ensures narrow { AreNarrow (unversioned (W.width_of widths.now)) (take result run.now) }
+{
+    for k in 0..run.len() {
+        if widths.width(&run[k..k + 1], None) > 1 {
+            return k;
+        }
+    }
+    run.len()
+}
+
+/// The run of printable ASCII, each with at most one column, that the text begins with and that fits in this many columns, and what follows it.
+pub(super) fn split_narrow_run<'a, W: Widths>(
+    widths: &W,
+    text: &'a str,
+    columns: usize,
+) -> (&'a str, &'a str)
+    ensures { IsNarrowRun (unversioned (W.width_of widths.now)) text.now columns result.0.now result.1.now }
+{
+    let (run, rest) = split_plain_run(text, columns);
+    let narrow = narrow_len(widths, run);
+    if narrow < run.len() {
+        return split_plain_run(text, narrow);
+    }
+    (run, rest)
 }

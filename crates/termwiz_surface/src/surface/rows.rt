@@ -1,8 +1,11 @@
 //! The rows of a surface: lines whose numbers nothing reads.
-ghost use Rattle.std.specs.Prelude.{◌≡◌, ℕ, length, ◌-◌, ◌<◌, ◌≤◌, slice_set, replicate, take, map, string_bytes, ◌++◌, IfOk, OnOk, OnErr};
+ghost use Rattle.std.specs.Prelude.{◌≡◌, ℕ, true, false, length, ◌-◌, ◌<◌, ◌≤◌, slice_set, replicate, take, map, string_bytes, ◌++◌, IfOk, OnOk, OnErr};
 ghost use Rattle.std.specs.VecDeque.{deque_len};
 ghost use Rattle.termwiz_cell.specs.CellValue.{blank};
-ghost use Rattle.termwiz_storage.specs.Stored.{fill, IsPruned};
+ghost use Rattle.std.specs.List.{list_all};
+ghost use Rattle.termwiz_text.specs.Plain.{is_plain};
+ghost use Rattle.termwiz_cell.specs.Attributes.{needs_box};
+ghost use Rattle.termwiz_storage.specs.Stored.{fill, set_run, IsPruned};
 ghost use Rattle.termwiz_line.specs.Filled.{IsPartFilled};
 ghost use Rattle.termwiz_storage.specs.Halves.{resized};
 ghost use Rattle.termwiz_surface.specs.Chars.{row_chars, screen_chars};
@@ -13,7 +16,7 @@ ghost use Rattle.termwiz_surface.specs.Rows.{painted_in, AreFilled, IsFilledAt, 
 
 use std::alloc::{AllocError, Global};
 use std::collections::VecDeque;
-use termwiz_cell::cell::Cell;
+use termwiz_cell::cell::{Cell, CellAttributes};
 use termwiz_cell::change::SEQ_ZERO;
 use termwiz_line::line::line::Line;
 
@@ -111,6 +114,24 @@ pub(super) fn paint_row(
     Ok(())
 }
 
+/// Paints a run of printable ASCII in a row, with a pen that takes no memory.
+pub(super) fn paint_run(
+    rows: &mut VecDeque<Line>,
+    x: usize,
+    y: usize,
+    run: &str,
+    pen: &CellAttributes,
+) -> Result<(), AllocError>
+    requires inside { y < deque_len rows.old }
+    requires plain { list_all is_plain run.now ≡ true }
+    requires unboxed { needs_box pen.now ≡ false }
+    ensures ok { OnOk result (cells_of rows.new.items ≡ slice_set (cells_of rows.old.items) y (set_run x run.now pen.now (row_at (cells_of rows.old.items) y))) }
+    ensures err { OnErr result (cells_of rows.new.items ≡ cells_of rows.old.items) }
+{
+    rows[y].set_run(x, run, pen, SEQ_ZERO)?;
+    Ok(())
+}
+
 /// Removes row 0, and adds a row of default blanks, which it becomes.
 pub(super) fn scroll_rows(rows: &mut VecDeque<Line>, width: usize) -> Result<(), AllocError>
     requires { 0 < deque_len rows.old }
@@ -118,7 +139,9 @@ pub(super) fn scroll_rows(rows: &mut VecDeque<Line>, width: usize) -> Result<(),
     ensures err { OnErr result (cells_of rows.new.items ≡ cells_of rows.old.items) }
 {
     rows[0].blank_out(width, SEQ_ZERO)?;
-    rows.rotate_left(1);
+    if let Some(row) = rows.pop_front() {
+        rows.push_back_reserved(row);
+    }
     Ok(())
 }
 

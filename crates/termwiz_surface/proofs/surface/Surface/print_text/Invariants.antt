@@ -7,8 +7,8 @@ use Rattle.termwiz_surface.specs.SurfaceValue.{SameFrame, screen_of, lengths_of}
 use Rattle.termwiz_surface.proofs.surface.Surface.print_text.Given as goal
 
 -- what is left to print leads to the whole print
-abbrev pub invariant-graphemes : goal.invariant-graphemes
-invariant-graphemes g l =
+abbrev pub invariant-pieces : goal.invariant-pieces
+invariant-pieces g l =
     let f = unversioned (g.W.Widths.width_of l.fn.self.widths) in
     record {
       is_text : IsUtf8 l.rest;
@@ -17,5 +17,5 @@ invariant-graphemes g l =
       lengths : lengths_after f (screen_of l.self) (lengths_of l.self) (graphemes true l.rest) ≡ print_lengths f (screen_of l.fn.self) l.text (lengths_of l.fn.self);
     }
 
-abbrev pub decreases-graphemes : goal.decreases-graphemes
-decreases-graphemes g l = length l.rest
+abbrev pub decreases-pieces : goal.decreases-pieces
+decreases-pieces g l = length l.rest

@@ -4,7 +4,7 @@ use Rattle.termwiz_surface.specs.Rows.{ArePartly}
 use Rattle.termwiz_surface.specs.Screen.{row_at}
 use Rattle.termwiz_surface.specs.ScreenValue.{cells_of}
 use Rattle.termwiz_surface.proofs.Lines.{length-cells_of, cells-read, cells-set}
-use Rattle.termwiz_surface.proofs.Filling.{filling-first, filling-more, filling-all, filling-partly}
+use Rattle.termwiz_surface.proofs.Filling.{filling-first, filling-more, filling-partly}
 use Rattle.termwiz_surface.proofs.surface.rows.fill_rows.Goals as goal
 
 pub loop-j-init : goal.loop-j-init

@@ -1,0 +1,225 @@
+-- A run of ASCII that is printed at once prints its characters in turn.
+use Rattle.std.proofs.Common.{◌≡◌, ℕ, suc, ◌+◌, ◌-◌, ◌<◌, ◌≤◌, inl, inr, true, false, min, List, [], ◌∷◌, ◌++◌, length, get_or, take, fold, map, refl, sym, ◌∙◌, ap, ap₂, subst, arith}
+use Rattle.std.specs.Prelude.{slice_set, nat_le}
+use Rattle.std.specs.List.{list_all, slice_range}
+use Rattle.std.specs.Str.{IsCharBoundary}
+use Rattle.std.proofs.lemmas.List.Sums.{AllPass-from_list_all, fold-append}
+use Rattle.std.proofs.lemmas.Bool.{cases_Bool, le-ltb, leb-true, and_parts, ne_eqb}
+use Rattle.std.proofs.lemmas.List.{set-get_or, set-set, get_or-set_same, take_all, get_or_append_left, get_or-take, length-take, drop_more}
+use Rattle.unicode_segmentation.specs.Grapheme.{graphemes}
+use Rattle.unicode_segmentation.proofs.Computing.{unicode_segmentation}
+use Rattle.termwiz_text.specs.Plain.{is_plain}
+use Rattle.termwiz_text.proofs.Plain.{graphemes_plain, utf8_one}
+use Rattle.termwiz_cell.specs.Attributes.{Attributes}
+use Rattle.termwiz_cell.specs.CellValue.{CellValue, plain_cell, clean, measured}
+use Rattle.termwiz_storage.specs.Stored.{set_cell, set_run}
+use Rattle.termwiz_storage.proofs.SetCell.{length-set_cell}
+use Rattle.termwiz_surface.specs.declared.surface.print.LineBreak.TheVariants as breaks
+use Rattle.termwiz_surface.specs.Graphemes.{single}
+use Rattle.termwiz_surface.specs.Screen.{Screen, row_at}
+use Rattle.termwiz_surface.specs.Print.{break_of, print_one, put, put_lengths, printed_cell, piece_lengths, lengths_after, wraps, wrapped, wrapped_lengths, columns_left}
+use Rattle.termwiz_surface.specs.Printing.{AreNarrow, Prints, PrintsSome}
+use Rattle.termwiz_surface.specs.Rows.{painted_in}
+use Rattle.termwiz_surface.specs.SurfaceValue.{SurfaceValue, IsMeasured, IsSound, Draws, screen_of, lengths_of}
+use Rattle.termwiz_surface.proofs.Graphemes.{single_same}
+use Rattle.termwiz_surface.proofs.Stored.{IsLawful}
+use Rattle.termwiz_surface.proofs.Drawn.{IsSound-put, rows-put, lengths-put}
+
+graphemes-nothing : graphemes true [] ≡ []
+unfolding unicode_segmentation
+graphemes-nothing = refl
+
+plain_from : (b : ℕ) → is_plain b ≡ true → 32 ≤ b
+plain_from b h = leb-true 32 b (and_parts (nat_le 0x20 b) (nat_le b 0x7E) h).0
+
+plain_to : (b : ℕ) → is_plain b ≡ true → b ≤ 126
+plain_to b h = leb-true b 126 (and_parts (nat_le 0x20 b) (nat_le b 0x7E) h).1
+
+alone-plain : (b : ℕ) → is_plain b ≡ true → graphemes true (b ∷ []) ≡ (b ∷ []) ∷ []
+alone-plain b h = graphemes_plain b [] (utf8_one b h) h refl ∙ ap (λ gs. (b ∷ []) ∷ gs) graphemes-nothing
+
+clean-plain : (b : ℕ) → is_plain b ≡ true → clean (b ∷ []) ≡ b ∷ []
+clean-plain b h =
+    let low : 32 ≤ b = plain_from b h in
+    let high : b ≤ 126 = plain_to b h in
+    rw (le-ltb b 32 low, ne_eqb b 127 (omega arith)) refl
+
+break-plain : (b : ℕ) → is_plain b ≡ true → break_of (b ∷ []) ≡ breaks.None
+break-plain b h =
+    let low : 32 ≤ b = plain_from b h in
+    rw (ne_eqb b 13 (omega arith), ne_eqb b 10 (omega arith)) refl
+
+module _ (f : List ℕ → ℕ) (b : ℕ) (a : Attributes) (plain : is_plain b ≡ true) (narrow : f (b ∷ []) ≤ 1) where
+  measured-plain : measured f (single (b ∷ [])) a ≡ plain_cell b a
+  measured-plain = rw (single_same (b ∷ []) (alone-plain b plain), clean-plain b plain, le-ltb 1 (f (b ∷ [])) narrow) refl
+
+  IsMeasured-plain : IsMeasured f (plain_cell b a)
+  IsMeasured-plain = record { alone = alone-plain b plain; is_clean = clean-plain b plain; wide_is = sym (le-ltb 1 (f (b ∷ [])) narrow) }
+
+-- the graphemes of a run
+abbrev pub pieces : List ℕ → List (List ℕ)
+pieces bs = map (λ c. c ∷ []) bs
+
+module _ {W : Type 0} where
+  -- the surface with one character printed in its row, and with a run
+  abbrev one_more : SurfaceValue W → ℕ → SurfaceValue W
+  one_more s b = record s { lines = slice_set s.lines s.y (painted_in s.width s.x (plain_cell b s.pen) (row_at s.lines s.y)); x = min (s.x + 1) s.width }
+
+  abbrev pub with_run : SurfaceValue W → List ℕ → SurfaceValue W
+  with_run s bs = record s { lines = slice_set s.lines s.y (set_run s.x bs s.pen (row_at s.lines s.y)); x = s.x + length bs }
+
+  -- the form, and what is shown and stored, after graphemes were printed
+  pub record IsPrinted (f : List ℕ → ℕ) (s : SurfaceValue W) (gs : List (List ℕ)) (t : SurfaceValue W) : Type 0 where
+    pub sound : IsSound f t
+    pub screen : screen_of t ≡ fold (print_one f) (screen_of s) gs
+    pub lengths : lengths_of t ≡ lengths_after f (screen_of s) (lengths_of s) gs
+
+module _ {W : Type 0} (f : List ℕ → ℕ) (lawful : IsLawful f) where
+  module _ (s : SurfaceValue W) (sound : IsSound f s) where
+    row_in : s.y < length s.lines
+    row_in = let e : length s.lines ≡ s.height = sound.full in let p : s.y < s.height = sound.row in omega arith
+
+    with_none : with_run s [] ≡ s
+    with_none i = record s { lines = set-get_or s.lines s.y [] i; x = none i }
+      where
+        none : s.x + 0 ≡ s.x
+        none = omega arith
+
+    module _ (b : ℕ) (inside : s.x < s.width) (plain : is_plain b ≡ true) (narrow : f (b ∷ []) ≤ 1) where
+      cell : CellValue
+      cell = plain_cell b s.pen
+
+      sound_more : IsSound f (one_more s b)
+      sound_more = IsSound-put f s (plain_cell b s.pen) sound inside lawful (IsMeasured-plain f b s.pen plain narrow)
+
+      stays : wraps (screen_of s) ≡ false
+      stays = ne_eqb s.x s.width (omega arith)
+
+      printed : print_one f (screen_of s) (b ∷ []) ≡ put (screen_of s) (plain_cell b s.pen)
+      printed =
+          let placed : print_one f (screen_of s) (b ∷ []) ≡ put (screen_of s) (printed_cell f (screen_of s) (b ∷ [])) = rw (break-plain b plain, stays) refl in
+          placed ∙ ap (put (screen_of s)) (measured-plain f b s.pen plain narrow)
+
+      screen_more : screen_of (one_more s b) ≡ print_one f (screen_of s) (b ∷ [])
+      screen_more =
+          let shown : screen_of (one_more s b) ≡ put (screen_of s) (plain_cell b s.pen) = rw (rows-put f s (plain_cell b s.pen) sound inside) refl in
+          shown ∙ sym printed
+
+      lengths_more : lengths_of (one_more s b) ≡ piece_lengths f (screen_of s) (b ∷ []) (break_of (b ∷ [])) (lengths_of s)
+      lengths_more =
+          let placed : piece_lengths f (screen_of s) (b ∷ []) (break_of (b ∷ [])) (lengths_of s) ≡ put_lengths (screen_of s) (printed_cell f (screen_of s) (b ∷ [])) (lengths_of s) = rw (break-plain b plain, stays) refl in
+          lengths-put f s (plain_cell b s.pen) sound inside
+          ∙ sym (placed ∙ ap (λ (c : CellValue). put_lengths (screen_of s) c (lengths_of s)) (measured-plain f b s.pen plain narrow))
+
+      painted-fits : painted_in s.width s.x (plain_cell b s.pen) (row_at s.lines s.y) ≡ set_cell s.x (plain_cell b s.pen) (row_at s.lines s.y)
+      painted-fits =
+          let w : length (row_at s.lines s.y) ≤ s.width = (sound.stored_so s.y sound.row).within in
+          take_all s.width _ (omega (arith, length-set_cell s.x (plain_cell b s.pen) (row_at s.lines s.y)))
+
+      with_more : (bs : List ℕ) → with_run (one_more s b) bs ≡ with_run s (b ∷ bs)
+      with_more bs =
+          let x : min (s.x + 1) s.width ≡ s.x + 1 = omega arith in
+          let at : row_at (slice_set s.lines s.y (painted_in s.width s.x (plain_cell b s.pen) (row_at s.lines s.y))) s.y ≡ set_cell s.x (plain_cell b s.pen) (row_at s.lines s.y) = get_or-set_same s.lines s.y _ [] row_in ∙ painted-fits in
+          let row : set_run (min (s.x + 1) s.width) bs s.pen (row_at (one_more s b).lines s.y) ≡ set_run s.x (b ∷ bs) s.pen (row_at s.lines s.y) = ap₂ (λ (k : ℕ) (r : List CellValue). set_run k bs s.pen r) x at in
+          let lines : (with_run (one_more s b) bs).lines ≡ (with_run s (b ∷ bs)).lines = set-set s.lines s.y _ _ ∙ ap (slice_set s.lines s.y) row in
+          let column : min (s.x + 1) s.width + length bs ≡ s.x + suc (length bs) = omega arith in
+          λ i. record s { lines = lines i; x = column i }
+
+  pub IsPrinted-run : (bs : List ℕ) (s : SurfaceValue W) → IsSound f s → s.x + length bs ≤ s.width → list_all is_plain bs ≡ true → AreNarrow f bs → IsPrinted f s (pieces bs) (with_run s bs)
+  IsPrinted-run [] s sound fits plain narrow = subst (IsPrinted f s []) (sym (with_none s sound)) (record { sound = sound; screen = refl; lengths = refl })
+  IsPrinted-run (b ∷ bs) s sound fits plain narrow =
+      let is : (is_plain b ≡ true) × (list_all is_plain bs ≡ true) = and_parts (is_plain b) (list_all is_plain bs) plain in
+      let inside : s.x < s.width = omega arith in
+      let one : f (b ∷ []) ≤ 1 = narrow 0 0 (omega arith) in
+      let left : min (s.x + 1) s.width + length bs ≤ s.width = omega arith in
+      let more : IsPrinted f (one_more s b) (pieces bs) (with_run (one_more s b) bs) = IsPrinted-run bs (one_more s b) (sound_more s sound b inside is.0 one) left is.1 (λ k d l. narrow (suc k) d (omega arith)) in
+      subst (IsPrinted f s (pieces (b ∷ bs))) (with_more s sound b inside is.0 one bs) (record {
+        sound = more.sound;
+        screen = more.screen ∙ ap (λ (z : Screen). fold (print_one f) z (pieces bs)) (screen_more s sound b inside is.0 one);
+        lengths = more.lengths ∙ ap₂ (λ (z : Screen) (ns : List ℕ). lengths_after f z ns (pieces bs)) (screen_more s sound b inside is.0 one) (lengths_more s sound b inside is.0 one);
+      })
+
+-- what a wrap keeps, and the room that it leaves
+pub pen-wrapped : (s : Screen) → (wrapped s).pen ≡ s.pen
+pen-wrapped s = elim (cases_Bool (wraps s)) [ inl w ↦ rw w refl | inr n ↦ rw n refl ]
+
+pub room-wrapped : (s : Screen) (n : ℕ) → s.x ≤ s.width → n ≤ columns_left s → (wrapped s).x + n ≤ s.width
+room-wrapped s n l h = elim (cases_Bool (wraps s)) [
+  | inl w ↦ let m : n ≤ s.width = rw w at h in rw w (omega arith)
+  | inr q ↦ let m : n ≤ s.width - s.x = rw q at h in rw q (omega arith)
+]
+
+-- a wrap may come before its grapheme
+module _ (f : List ℕ → ℕ) (s : Screen) (ns : List ℕ) (g : List ℕ) (gs : List (List ℕ)) (is_text : break_of g ≡ breaks.None) (settled : wraps (wrapped s) ≡ false) where
+  wrapped-twice : wrapped (wrapped s) ≡ wrapped s
+  wrapped-twice = rw settled refl
+
+  cell-wrapped : printed_cell f (wrapped s) g ≡ printed_cell f s g
+  cell-wrapped = ap (λ (a : Attributes). measured f (single g) a) (pen-wrapped s)
+
+  print-wrapped : print_one f (wrapped s) g ≡ print_one f s g
+  print-wrapped = rw is_text (ap₂ put wrapped-twice cell-wrapped)
+
+  lengths-wrapped : piece_lengths f (wrapped s) g (break_of g) (wrapped_lengths s ns) ≡ piece_lengths f s g (break_of g) ns
+  lengths-wrapped =
+      let once : wrapped_lengths (wrapped s) (wrapped_lengths s ns) ≡ wrapped_lengths s ns = rw settled refl in
+      rw is_text (ap₂ (λ (z : Screen) (ms : List ℕ). put_lengths z (printed_cell f (wrapped s) g) ms) wrapped-twice once ∙ ap (λ (c : CellValue). put_lengths (wrapped s) c (wrapped_lengths s ns)) cell-wrapped)
+
+  pub screen-from_wrap : fold (print_one f) (wrapped s) (g ∷ gs) ≡ fold (print_one f) s (g ∷ gs)
+  screen-from_wrap = ap (λ (z : Screen). fold (print_one f) z gs) print-wrapped
+
+  pub lengths-from_wrap : lengths_after f (wrapped s) (wrapped_lengths s ns) (g ∷ gs) ≡ lengths_after f s ns (g ∷ gs)
+  lengths-from_wrap = ap₂ (λ (z : Screen) (ms : List ℕ). lengths_after f z ms gs) print-wrapped lengths-wrapped
+
+-- a run that is printed after the wrap is printed
+pub prints-after_wrap : {W : Type 0} (f : List ℕ → ℕ) (old mid new : SurfaceValue W) (bs : List ℕ) → 0 < length bs → list_all is_plain bs ≡ true
+    → Draws old (wrapped (screen_of old)) (wrapped_lengths (screen_of old) (lengths_of old)) mid → mid.x < mid.width → Prints f mid (pieces bs) new → Prints f old (pieces bs) new
+prints-after_wrap f old mid new [] some plain d inside p = absurd (omega arith)
+prints-after_wrap f old mid new (b ∷ bs) some plain d inside p =
+    let is : is_plain b ≡ true = (and_parts (is_plain b) (list_all is_plain bs) plain).0 in
+    let settled : wraps (wrapped (screen_of old)) ≡ false = ap wraps (sym d.screen_is) ∙ ne_eqb mid.x mid.width (omega arith) in
+    record {
+      widths = p.widths ∙ d.widths;
+      width = p.width ∙ d.width;
+      height = p.height ∙ d.height;
+      number = p.number ∙ d.number;
+      screen_is = p.screen_is ∙ ap (λ (z : Screen). fold (print_one f) z (pieces (b ∷ bs))) d.screen_is ∙ screen-from_wrap f (screen_of old) (lengths_of old) (b ∷ []) (pieces bs) (break-plain b is) settled;
+      lengths_are = p.lengths_are ∙ ap₂ (λ (z : Screen) (ns : List ℕ). lengths_after f z ns (pieces (b ∷ bs))) d.screen_is d.lengths_are ∙ lengths-from_wrap f (screen_of old) (lengths_of old) (b ∷ []) (pieces bs) (break-plain b is) settled;
+    }
+
+-- a run of ASCII may be cut anywhere
+pub boundary-plain : (bs : List ℕ) (i : ℕ) → list_all is_plain bs ≡ true → i ≤ length bs → IsCharBoundary bs i
+boundary-plain bs i h l = (
+  l,
+  λ m n.
+      let is : is_plain (get_or bs i 0) ≡ true = AllPass-from_list_all is_plain bs h i 0 m in
+      let low : get_or bs i 0 ≤ 126 = plain_to (get_or bs i 0) is in
+      absurd (omega arith),
+)
+
+-- a shorter beginning of the same text is a beginning of the narrow one
+pub narrow-shorter : (f : List ℕ → ℕ) (n : ℕ) (run rest short more : List ℕ) → run ++ rest ≡ short ++ more → length short ≤ n → n ≤ length run → AreNarrow f (take n run) → AreNarrow f short
+narrow-shorter f n run rest short more e s l h = λ k d m.
+    let left : get_or (run ++ rest) k d ≡ get_or run k d = get_or_append_left run rest d k (omega arith) in
+    let right : get_or (short ++ more) k d ≡ get_or short k d = get_or_append_left short more d k m in
+    let same : get_or (take n run) k d ≡ get_or short k d = get_or-take n run k d (omega arith) ∙ sym left ∙ ap (λ (t : List ℕ). get_or t k d) e ∙ right in
+    subst (λ (b : ℕ). f (b ∷ []) ≤ 1) same (h k d (omega (arith, length-take n run)))
+
+pub one_byte : (bs : List ℕ) (k : ℕ) → k < length bs → slice_range bs k (k + 1) ≡ get_or bs k 0 ∷ []
+one_byte bs k l = let one : k + 1 - k ≡ 1 = omega arith in rw (one, drop_more bs k 0 l) refl
+
+lengths_after-append : (f : List ℕ → ℕ) (s : Screen) (ns : List ℕ) (gs hs : List (List ℕ)) → lengths_after f s ns (gs ++ hs) ≡ lengths_after f (fold (print_one f) s gs) (lengths_after f s ns gs) hs
+lengths_after-append f s ns [] hs = refl
+lengths_after-append f s ns (g ∷ gs) hs = lengths_after-append f (print_one f s g) (piece_lengths f s g (break_of g) ns) gs hs
+
+module _ {W : Type 0} (f : List ℕ → ℕ) (old new : SurfaceValue W) (text rest : List ℕ) (p : PrintsSome f old text rest new) where
+  -- printing what is left leads where printing the whole led
+  pub screen-left : fold (print_one f) (screen_of new) (graphemes true rest) ≡ fold (print_one f) (screen_of old) (graphemes true text)
+  screen-left =
+      ap (λ (z : Screen). fold (print_one f) z (graphemes true rest)) p.prints.screen_is
+      ∙ sym (ap (fold (print_one f) (screen_of old)) p.graphemes_are ∙ fold-append (print_one f) (screen_of old) p.printed (graphemes true rest))
+
+  pub lengths-left : lengths_after f (screen_of new) (lengths_of new) (graphemes true rest) ≡ lengths_after f (screen_of old) (lengths_of old) (graphemes true text)
+  lengths-left =
+      ap₂ (λ (z : Screen) (ns : List ℕ). lengths_after f z ns (graphemes true rest)) p.prints.screen_is p.prints.lengths_are
+      ∙ sym (ap (lengths_after f (screen_of old) (lengths_of old)) p.graphemes_are ∙ lengths_after-append f (screen_of old) (lengths_of old) p.printed (graphemes true rest))

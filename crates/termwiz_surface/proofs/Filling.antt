@@ -4,10 +4,9 @@ use Rattle.std.proofs.lemmas.Bool.{cases_eq}
 use Rattle.std.proofs.lemmas.List.{length-set, get_or-set_same, get_or-set_other}
 use Rattle.termwiz_cell.specs.CellValue.{CellValue}
 use Rattle.termwiz_storage.specs.Stored.{fill, IsPruned}
-use Rattle.termwiz_line.specs.Filled.{IsPartFilled}
 use Rattle.termwiz_surface.specs.Screen.{row_at}
-use Rattle.termwiz_surface.specs.Rows.{AreFilled, IsFilledAt, ArePartly}
-use Rattle.termwiz_surface.proofs.Fills.{IsPartly-same, IsPartly-part, ArePartly-during}
+use Rattle.termwiz_surface.specs.Rows.{AreFilled, IsFilledAt, IsPartly, ArePartly}
+use Rattle.termwiz_surface.proofs.Fills.{IsPartly-same, ArePartly-during}
 
 -- one row is filled
 pub filled-set : (w x y : ℕ) (c : CellValue) (old : List (List CellValue)) (r : List CellValue) → y < length old
@@ -18,12 +17,12 @@ filled-set w x y c old r l p = record {
   here = subst (IsPruned (fill (w - x) x c (row_at old y))) (sym (get_or-set_same old y r [] l)) p;
 }
 
-pub partly-set : (w x y : ℕ) (c : CellValue) (old : List (List CellValue)) (r : List CellValue) → x ≤ w → y < length old
-    → IsPartFilled (w - x) x c (row_at old y) r → ArePartly w c old (set old y r)
-partly-set w x y c old r m l p = record {
+pub partly-set : (w y : ℕ) (c : CellValue) (old : List (List CellValue)) (r : List CellValue) → y < length old
+    → IsPartly w c (row_at old y) r → ArePartly w c old (set old y r)
+partly-set w y c old r l p = record {
   same_count = length-set old y r;
   each = λ k kl. elim (cases_eq k y) [
-    | inl e ↦ rw e (rw (get_or-set_same old y r [] l) (IsPartly-part w x c (row_at old y) r m p))
+    | inl e ↦ rw e (rw (get_or-set_same old y r [] l) p)
     | inr n ↦ IsPartly-same w c _ _ (get_or-set_other old y k r [] n)
   ];
 }
@@ -70,5 +69,5 @@ filling-all w x y j c old mid l f = record {
 }
 
 pub filling-partly : (w x y j : ℕ) (c : CellValue) (old mid : List (List CellValue)) (r : List CellValue) → x ≤ w → y < j → j < length mid → IsFilling w x y j c old mid
-    → IsPartFilled (w - 0) 0 c (row_at mid j) r → ArePartly w c old (set mid j r)
+    → IsPartly w c (row_at mid j) r → ArePartly w c old (set mid j r)
 filling-partly w x y j c old mid r m yj jm f p = ArePartly-during w x y j c old mid r m yj jm f.same_count f.above f.here f.below f.left p

@@ -1,6 +1,6 @@
 -- The cells of lines that are read, set and taken in turn.
 use Rattle.std.proofs.Common.{◌≡◌, ℕ, ◌+◌, ◌<◌, List, [], ◌∷◌, ◌++◌, length, get_or, map, take, drop, set, sym, ◌∙◌, ap, arith}
-use Rattle.std.proofs.lemmas.List.{get_or-map, map-set, map-append, map_more, at_drop_more, length-map}
+use Rattle.std.proofs.lemmas.List.{get_or-map, set-get_or, map-set, map-append, map_more, at_drop_more, length-map}
 use Rattle.termwiz_cell.specs.CellValue.{CellValue}
 use Rattle.termwiz_line.specs.LineValue.{LineValue}
 use Rattle.termwiz_line.specs.Row.{row_of}
@@ -20,6 +20,10 @@ row-read w ls i l h e = get_or-map (row_of w) (cells_of ls) i [] [] (omega (arit
 
 pub cells-set : (ls : List LineValue) (i : ℕ) (l : LineValue) → cells_of (set ls i l) ≡ set (cells_of ls) i l.cells
 cells-set ls i l = map-set (λ (v : LineValue). v.cells) ls i l
+
+-- a line that keeps its cells
+pub cells-set_same : (ls : List LineValue) (i : ℕ) (l m : LineValue) → i < length ls → l ≡ get_or ls i l → m.cells ≡ l.cells → cells_of (set ls i m) ≡ cells_of ls
+cells-set_same ls i l m h e q = cells-set ls i m ∙ ap (set (cells_of ls) i) (q ∙ sym (cells-read ls i l h e)) ∙ set-get_or (cells_of ls) i []
 
 -- one more line
 pub mapped-more : {Y : Type 0} (f : List CellValue → Y) (ls : List LineValue) (i : ℕ) (l : LineValue) → i < length ls → l ≡ get_or ls i l

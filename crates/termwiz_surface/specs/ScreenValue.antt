@@ -1,5 +1,5 @@
 -- What contracts see of a copied screen, and its `==`.
-use Rattle.std.specs.Prelude.{◌≡◌, Bool, ◌&&◌, ◌==◌, List, map}
+use Rattle.std.specs.Prelude.{◌≡◌, Bool, ◌&&◌, ◌==◌, List, map, true}
 use Rattle.std.specs.Bool.{Decides}
 use Rattle.std.specs.Cmp.Lexicographic.{pointwise, pointwise_decides}
 use Rattle.std.proofs.lemmas.Bool.Decides.{Decides-like, Decides-and, Decides-eqb}
@@ -7,6 +7,7 @@ use Rattle.termwiz_cell.specs.Attributes.{attributes_eq, attributes_eq-Decides}
 use Rattle.termwiz_cell.specs.CellValue.{CellValue}
 use Rattle.termwiz_cell.specs.ChangeValue.{visibility_eq, visibility_eq-Decides}
 use Rattle.termwiz_storage.specs.CellLists.{cells_eq, cells_eq-Decides}
+use Rattle.termwiz_line.specs.LineFlags.{no_flags}
 use Rattle.termwiz_line.specs.LineValue.{LineValue}
 use Rattle.termwiz_surface.specs.Screen.{Screen}
 use Rattle.termwiz_surface.specs.declared.surface.screen.Screen as code
@@ -18,9 +19,9 @@ cells_of lines = map (λ l. l.cells) lines
 abbrev pub screen_value : code.Screen → Screen
 screen_value s = record { width = s.width; height = s.height; rows = cells_of s.rows.items; x = s.cursor.0; y = s.cursor.1; visibility = s.visibility; pen = s.pen }
 
--- the line of a row of width w, under the number 0
+-- the line of a row: a vector under the number 0, without flags
 abbrev pub numberless : List CellValue → LineValue
-numberless cs = record { cells = cs; seqno = 0 }
+numberless cs = record { cells = cs; seqno = 0; flags = no_flags; is_vector = true }
 
 -- `==` of rows
 abbrev pub rows_eq : List (List CellValue) → List (List CellValue) → Bool

@@ -1,5 +1,5 @@
 //! Lines of cells.
-ghost use Rattle.std.specs.Prelude.{◌≡◌, ◌-◌, ◌<◌, ◌≤◌, ◌↔◌, [], false, true, IsTrue, IsOk, IfOk, OnOk, OnErr, Some, None, length, map, option_map, replicate, if◌then◌else◌};
+ghost use Rattle.std.specs.Prelude.{◌≡◌, ◌-◌, ◌<◌, ◌≤◌, ◌↔◌, [], false, true, IsTrue, IsOk, IfOk, OnOk, OnErr, Some, None, length, map, option_map, replicate, take, if◌then◌else◌};
 ghost use Rattle.std.specs.Cmp.{partial_equiv_from_equiv};
 ghost use Rattle.std.specs.List.{list_all};
 ghost use Rattle.termwiz_text.specs.Plain.{is_plain};
@@ -97,11 +97,11 @@ impl Line {
         Ok(())
     }
 
-    /// A copy with this number and without flags, cut to this many columns, or grown to them as by `resize`.
+    /// A copy that is stored as a vector, with this number and without flags, cut to this many columns, or grown to them as by `resize`.
     pub fn resized(&self, width: usize, seqno: SequenceNo) -> Result<Line, AllocError>
-        ensures { IfOk result (λ line. line ≡ record { cells = resized width self.now.cells; seqno = seqno; flags = no_flags; is_vector = self.now.is_vector }) }
+        ensures { IfOk result (λ line. line ≡ record { cells = resized width self.now.cells; seqno = seqno; flags = no_flags; is_vector = true }) }
     {
-        let mut storage = self.storage.clone()?;
+        let mut storage = CellStorage::V(self.storage.to_vec()?);
         storage.resize(width)?;
         Ok(Line::of(self.alloc, storage, seqno))
     }
@@ -120,6 +120,23 @@ impl Line {
         ensures err { OnErr result (IsUnchanged self.old self.new) }
     {
         self.storage.set_cell(i, cell)?;
+        self.seqno = self.seqno.max(seqno);
+        Ok(())
+    }
+
+    /// Sets the cell at a column as `set_cell` does, in a line that is then cut to `width` columns.
+    /// The line takes the number. On an error, which a column past the greatest number gives too, number, flags and cells are as before.
+    pub fn set_cell_within(
+        &mut self,
+        i: usize,
+        cell: Cell,
+        width: usize,
+        seqno: SequenceNo,
+    ) -> Result<(), AllocError>
+        ensures ok { OnOk result (IsEdited self.old (take width (set_cell i cell self.old.cells)) seqno self.new) }
+        ensures err { OnErr result (IsUnchanged self.old self.new) }
+    {
+        self.storage.set_cell_within(i, cell, width)?;
         self.seqno = self.seqno.max(seqno);
         Ok(())
     }

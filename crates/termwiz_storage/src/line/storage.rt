@@ -82,6 +82,19 @@ impl CellStorage {
         Ok(())
     }
 
+    /// Sets a cell as `set_cell` does, in a list that is then cut to `len` cells.
+    /// On an error, which a column past the greatest number gives too, the cells are as before.
+    pub fn set_cell_within(&mut self, i: usize, cell: Cell, len: usize) -> Result<(), AllocError>
+        ensures ok { OnOk result (cells_of self.new ≡ take len (set_cell i cell (cells_of self.old))) }
+        ensures err { OnErr result (cells_of self.new ≡ cells_of self.old) }
+        ensures vector { is_vector self.old ≡ true → is_vector self.new ≡ true }
+    {
+        match self {
+            CellStorage::V(storage) => storage.set_cell_within(i, cell, len)?,
+        }
+        Ok(())
+    }
+
     /// Sets the cell of each character of a run of printable ASCII, in order from a column on, with attributes that take no memory.
     /// On an error, which a column past the greatest number gives too, the cells are as before.
     pub fn set_run(&mut self, i: usize, run: &str, attrs: &CellAttributes) -> Result<(), AllocError>
@@ -156,6 +169,15 @@ impl CellStorage {
     {
         match self {
             CellStorage::V(storage) => storage.kept_len(),
+        }
+    }
+
+    /// A copy of the cells in a vector.
+    pub fn to_vec(&self) -> Result<VecStorage, AllocError>
+        ensures { IfOk result (λ copy. copy ≡ cells_of self.now) }
+    {
+        match self {
+            CellStorage::V(storage) => storage.clone(),
         }
     }
 

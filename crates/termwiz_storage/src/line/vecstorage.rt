@@ -129,6 +129,21 @@ impl VecStorage {
         Ok(())
     }
 
+    /// Sets a cell as `set_cell` does, in a list that is then cut to `len` cells. On an error, which a column past the greatest number gives too, nothing changed.
+    pub(crate) fn set_cell_within(
+        &mut self,
+        i: usize,
+        cell: Cell,
+        len: usize,
+    ) -> Result<(), AllocError>
+        ensures ok { OnOk result (self.new ≡ take len (set_cell i cell self.old)) }
+        ensures err { OnErr result (self.new ≡ self.old) }
+    {
+        self.set_cell(i, cell)?;
+        self.truncate(len);
+        Ok(())
+    }
+
     /// Sets the cell of each character of a run of printable ASCII, in order from a column on, with attributes that take no memory. It takes memory only where the list grows.
     /// On an error, which a column past the greatest number gives too, nothing changed.
     pub(crate) fn set_run(

@@ -6,13 +6,12 @@ ghost use Rattle.std.specs.List.{list_all};
 ghost use Rattle.termwiz_text.specs.Plain.{is_plain};
 ghost use Rattle.termwiz_cell.specs.Attributes.{needs_box};
 ghost use Rattle.termwiz_storage.specs.Stored.{fill, set_run, IsPruned};
-ghost use Rattle.termwiz_line.specs.Filled.{IsPartFilled};
 ghost use Rattle.termwiz_storage.specs.Halves.{resized};
 ghost use Rattle.termwiz_surface.specs.Chars.{row_chars, screen_chars};
 ghost use Rattle.termwiz_surface.specs.ScreenValue.{cells_of, numberless};
 ghost use Rattle.termwiz_surface.specs.Screen.{row_at};
 ghost use Rattle.termwiz_surface.specs.Print.{scrolled};
-ghost use Rattle.termwiz_surface.specs.Rows.{painted_in, AreFilled, IsFilledAt, ArePartly};
+ghost use Rattle.termwiz_surface.specs.Rows.{painted_in, AreFilled, IsFilledAt, IsPartly, ArePartly};
 
 use std::alloc::{AllocError, Global};
 use std::collections::VecDeque;
@@ -20,28 +19,10 @@ use termwiz_cell::cell::{Cell, CellAttributes};
 use termwiz_cell::change::SEQ_ZERO;
 use termwiz_line::line::line::Line;
 
-// A wide cell in the last column is cut.
-fn paint_line(line: &mut Line, width: usize, column: usize, cell: Cell) -> Result<(), AllocError>
-    ensures ok { OnOk result (line.new.cells ≡ painted_in width column cell line.old.cells) }
-    ensures err { OnErr result (line.new ≡ line.old) }
-{
-    line.set_cell(column, cell, SEQ_ZERO)?;
-    cut_line(line, width);
-    Ok(())
-}
-
-fn cut_line(line: &mut Line, width: usize)
-    ensures { line.new.cells ≡ take width line.old.cells }
-{
-    if line.len() > width {
-        line.resize(width, SEQ_ZERO).unwrap();
-    }
-}
-
 fn fill_line(line: &mut Line, from: usize, to: usize, cell: &Cell) -> Result<(), AllocError>
     requires { 0 < length line.old.cells }
     ensures ok { OnOk result (IsPruned (fill (to - from) from cell.now line.old.cells) line.new.cells) }
-    ensures err { OnErr result (IsPartFilled (to - from) from cell.now line.old.cells line.new.cells) }
+    ensures err { from ≤ to → OnErr result (IsPartly to cell.now line.old.cells line.new.cells) }
 {
     line.fill_range(from..to, cell, SEQ_ZERO)?;
     Ok(())
@@ -110,7 +91,8 @@ pub(super) fn paint_row(
     ensures ok { OnOk result (cells_of rows.new.items ≡ slice_set (cells_of rows.old.items) y (painted_in width x cell (row_at (cells_of rows.old.items) y))) }
     ensures err { OnErr result (cells_of rows.new.items ≡ cells_of rows.old.items) }
 {
-    paint_line(&mut rows[y], width, x, cell)?;
+    // A wide cell in the last column is cut.
+    rows[y].set_cell_within(x, cell, width, SEQ_ZERO)?;
     Ok(())
 }
 

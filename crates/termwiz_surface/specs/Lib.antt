@@ -9,6 +9,7 @@ pub mod SurfaceValue
 pub mod Repaint
 pub mod Answer
 pub mod Printable
+pub mod Drawing
 pub mod RepaintLaws
 pub mod Chars
 pub mod ShownChars
@@ -16,4 +17,3 @@ pub mod Schedule
 pub mod ScreenValue
 pub mod Padding
 pub mod Answered
-pub mod LastChange

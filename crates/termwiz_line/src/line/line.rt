@@ -8,7 +8,6 @@ ghost use Rattle.termwiz_storage.specs.CellsLeft.{cells_left};
 ghost use Rattle.termwiz_line.specs.LineValue.{IsEdited, Prunes};
 ghost use Rattle.termwiz_line.specs.Filled.{filled_line, FillsAs, IsFilled, IsPartlyFilled};
 ghost use Rattle.termwiz_cell.specs.ChangeValue.{change_value};
-ghost use Rattle.termwiz_storage.specs.CellRef.{indexed_cell};
 ghost use Rattle.termwiz_line.specs.Entries.{row_entries};
 ghost use Rattle.termwiz_line.specs.LineEq.{line_eq, line_eq-Decides};
 
@@ -18,7 +17,7 @@ use std::marker::Model;
 use std::ops::Range;
 use termwiz_cell::cell::{Cell, CellAttributes};
 use termwiz_cell::change::{Change, SequenceNo};
-use termwiz_storage::line::cellref::{CellRef, VisibleCellIter};
+use termwiz_storage::line::cellref::VisibleCellIter;
 use termwiz_storage::line::vecstorage::VecStorage;
 
 /// A line: its stored cells, and the number of the last change to it.
@@ -191,9 +190,7 @@ impl Line {
     pub fn changes(&self, start_attr: &CellAttributes) -> Result<Vec<Change>, AllocError>
         ensures { IfOk result (λ out. map change_value out.items ≡ (row_entries start_attr.now (visible self.now.cells)).entries) }
     {
-        let alloc = self.storage.allocator();
-        let cells = collected(alloc, self.visible_cells())?;
-        let row = row_entries(alloc, &cells, start_attr)?;
+        let row = row_entries(self.storage.allocator(), self.visible_cells(), start_attr)?;
         Ok(row.entries)
     }
 
@@ -203,17 +200,6 @@ impl Line {
     {
         Some(self.storage.cells())
     }
-}
-
-// The cells of an iterator, in a list.
-fn collected<'a>(alloc: Global, cells: VisibleCellIter<'a>) -> Result<Vec<CellRef<'a>>, AllocError>
-    ensures { IfOk result (λ out. map indexed_cell out.items ≡ cells_left cells.entry) }
-{
-    let mut out = Vec::new(alloc);
-    for cell in cells {
-        out.push(cell)?;
-    }
-    Ok(out)
 }
 
 impl Clone for Line {

@@ -6,7 +6,9 @@ pub mod RowOf
 pub mod Resized
 pub mod EntryLists
 pub mod PlainAttributes
-pub mod GrowingText
+pub mod LastChange
+pub mod JoinedTexts
+pub mod WrittenRows
 pub mod Walk
 pub mod Flags
 pub mod Columns

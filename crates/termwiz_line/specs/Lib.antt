@@ -7,3 +7,6 @@ pub mod Shows
 pub mod Entries
 pub mod RowLaws
 pub mod PennedValue
+pub mod LastChange
+pub mod GrowingText
+pub mod Writing

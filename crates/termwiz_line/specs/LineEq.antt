@@ -1,12 +1,11 @@
 -- `==` of lines: number, flags and cells, whichever form stores them.
 use Rattle.std.specs.Prelude.{◌≡◌, ℕ, Bool, ◌&&◌, ◌==◌, List}
 use Rattle.std.specs.Bool.{Decides, beq}
-use Rattle.std.specs.Cmp.{IsEquivalence, decided, booleans_Decides}
+use Rattle.std.specs.Cmp.{booleans_Decides}
 use Rattle.std.proofs.lemmas.Bool.Decides.{Decides-like, Decides-and, Decides-eqb}
 use Rattle.termwiz_cell.specs.CellValue.{CellValue}
 use Rattle.termwiz_storage.specs.CellLists.{cells_eq, cells_eq-Decides}
-use Rattle.termwiz_storage.specs.Storage.{equivalence-on}
-use Rattle.termwiz_line.specs.LineFlags.{LineFlags, flags_of, bits_of}
+use Rattle.termwiz_line.specs.LineFlags.{LineFlags}
 use Rattle.termwiz_line.specs.LineValue.{LineValue}
 
 -- what tells a line from another
@@ -31,10 +30,10 @@ flags_eq-Decides a b =
     (Decides-and _ _ (booleans_Decides a.double_height_top b.double_height_top) (Decides-and _ _ (booleans_Decides a.double_height_bottom b.double_height_bottom)
     (Decides-and _ _ (booleans_Decides a.right_to_left b.right_to_left) (booleans_Decides a.auto_detect b.auto_detect))))))
 
-abbrev contents_eq : LineContents → LineContents → Bool
+abbrev pub contents_eq : LineContents → LineContents → Bool
 contents_eq a b = a.seqno == b.seqno && (flags_eq a.flags b.flags && cells_eq a.cells b.cells)
 
-contents_eq-Decides : (a b : LineContents) → Decides (contents_eq a b) (a ≡ b)
+pub contents_eq-Decides : (a b : LineContents) → Decides (contents_eq a b) (a ≡ b)
 contents_eq-Decides a b =
     Decides-like (contents_eq a b)
     (λ e i. record { cells = e.1.1 i; seqno = e.0 i; flags = e.1.0 i })
@@ -46,6 +45,3 @@ line_eq a b = contents_eq (line_contents a) (line_contents b)
 
 pub line_eq-Decides : (a b : LineValue) → Decides (line_eq a b) (line_contents a ≡ line_contents b)
 line_eq-Decides a b = contents_eq-Decides (line_contents a) (line_contents b)
-
-pub line_eq-equivalence : IsEquivalence line_eq
-line_eq-equivalence = equivalence-on line_contents (decided contents_eq contents_eq-Decides)

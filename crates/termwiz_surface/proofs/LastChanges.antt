@@ -2,35 +2,18 @@
 use Rattle.std.proofs.Common.{◌≡◌, ℕ, suc, ◌+◌, ◌-◌, ◌<◌, Bool, true, false, cond, ◌&&◌, List, [], ◌∷◌, ◌++◌, map, length, Option, Some, None, arith, append-nil, append_assoc, refl, sym, ap, ap₂, ◌∙◌}
 use Rattle.std.specs.Prelude.{slice_get, ◌==◌}
 use Rattle.std.specs.Option.{option_to_list, MatchOption}
-use Rattle.std.proofs.lemmas.Bool.{ne_eqb, and_from, and_left, and_right, cond-true, cond-false}
+use Rattle.std.proofs.lemmas.Bool.{true≢false, eq-eqb, ne_eqb, and_from, and_left, and_right, cond-true, cond-false}
 use Rattle.std.proofs.lemmas.List.{map-append}
 use Rattle.std.proofs.lemmas.Bool.Decides.{same_from_decides}
 use Rattle.termwiz_cell.specs.declared.color.ColorAttribute.{ColorAttribute}
 use Rattle.termwiz_cell.specs.Attributes.{Attributes, attributes_eq, attributes_eq-Decides, with_background, is_plain, color_eq, color_eq-Decides}
 use Rattle.termwiz_cell.specs.ChangeValue as change
 use Rattle.termwiz_cell.specs.ChangeValue.{ChangeValue}
-use Rattle.termwiz_surface.specs.LastChange.{last_is}
-use Rattle.termwiz_surface.specs.Repaint.{is_clear_of, ends_with, front_of, is_move, all_moves, without_last_moves, is_nil}
-
--- the last of a list that is seen by a function
-pub last_of : {X : Type 0} (test : ChangeValue → Bool) (f : X → ChangeValue) (xs : List X) (x : X) → slice_get xs (length xs - 1) ≡ Some x → last_is test (map f xs) ≡ test (f x)
-last_of test f [] x e = absurd cc
-last_of test f (y ∷ []) x e = let same : y ≡ x = cc in ap (λ z. test (f z)) same
-last_of test f (y ∷ (z ∷ ys)) x e =
-    let less : length (y ∷ (z ∷ ys)) - 1 ≡ suc (length (z ∷ ys) - 1) = omega arith in
-    last_of test f (z ∷ ys) x (ap (slice_get (y ∷ (z ∷ ys))) (sym less) ∙ e)
-
-pub last_of_none : {X : Type 0} (test : ChangeValue → Bool) (f : X → ChangeValue) (xs : List X) → slice_get xs (length xs - 1) ≡ None → last_is test (map f xs) ≡ false
-last_of_none test f [] e = refl
-last_of_none test f (y ∷ []) e = absurd cc
-last_of_none test f (y ∷ (z ∷ ys)) e =
-    let less : length (y ∷ (z ∷ ys)) - 1 ≡ suc (length (z ∷ ys) - 1) = omega arith in
-    last_of_none test f (z ∷ ys) (ap (slice_get (y ∷ (z ∷ ys))) (sym less) ∙ e)
-
-pub last_pushed : (test : ChangeValue → Bool) (es : List ChangeValue) (e : ChangeValue) → last_is test (es ++ e ∷ []) ≡ test e
-last_pushed test [] e = refl
-last_pushed test (f ∷ []) e = refl
-last_pushed test (f ∷ (g ∷ es)) e = last_pushed test (g ∷ es) e
+use Rattle.termwiz_cell.specs.declared.change.Change.{Change}
+use Rattle.termwiz_line.specs.LastChange.{last_is}
+use Rattle.termwiz_line.specs.GrowingText.{IsLastOf}
+use Rattle.termwiz_surface.specs.Drawing.{clears}
+use Rattle.termwiz_surface.specs.Repaint.{is_clear_of, ends_with, front_of, is_move, all_moves, without_last_moves, is_nil, first_entries}
 
 pub ends_with_last : (a : Attributes) (es : List ChangeValue) → last_is (is_clear_of a) es ≡ ends_with a es
 ends_with_last a [] = refl
@@ -85,9 +68,22 @@ plain_clear a color h = same_from_decides {P = color ≡ a.background} (color_eq
     whole : color ≡ a.background → attributes_eq (with_background color) a ≡ true
     whole e = (attributes_eq-Decides (with_background color) a).1 (ap with_background e ∙ sym ((attributes_eq-Decides a (with_background a.background)).0 h))
 
-pub is_nil_map : {X : Type 0} (f : X → ChangeValue) (xs : List X) → is_nil (map f xs) ≡ (length xs == 0)
-is_nil_map f [] = refl
-is_nil_map f (x ∷ xs) = sym (ne_eqb (suc (length xs)) 0 (omega arith))
+pub nothing_more : (n : ℕ) (es : List ChangeValue) → n ≡ 2 + length es → (n == 2) ≡ is_nil es
+nothing_more n [] e = eq-eqb n 2 (omega arith)
+nothing_more n (x ∷ xs) e = ne_eqb n 2 (omega arith)
+
+-- the last entry, as far as it is no text, tells whether the line is cleared
+pub clears_is : (a : Attributes) (es : List ChangeValue) (o : Option Change) → IsLastOf es o → clears a o ≡ last_is (is_clear_of a) es
+clears_is a es None h = sym (h (is_clear_of a) (λ text. refl))
+clears_is a es (Some e) h = sym (h (is_clear_of a))
+
+pub ends_behind_first : (a : Attributes) (es : List ChangeValue) → last_is (is_clear_of a) (first_entries ++ es) ≡ ends_with a es
+ends_behind_first a [] = refl
+ends_behind_first a (e ∷ es) = ends_with_last a (e ∷ es)
+
+pub front_behind_first : (a : Attributes) (es : List ChangeValue) → ends_with a es ≡ true → front_of (first_entries ++ es) ≡ first_entries ++ front_of es
+front_behind_first a [] h = absurd (true≢false (sym h))
+front_behind_first a (e ∷ es) h = refl
 
 -- lists put behind one another
 pub all_pushed : (a b d e f : List ChangeValue) → (((a ++ b) ++ d) ++ e) ++ f ≡ a ++ (b ++ (d ++ (e ++ f)))

@@ -111,7 +111,7 @@ blank_entries w p a l h n =
 
 module _ (w : ℕ) (a : Attributes) (rows : List (List CellValue)) (i : ℕ) where
   -- the row that is joined ends with the clear
-  joined_ends : 0 < w → is_plain a ≡ true → attributes_eq a default_attributes ≡ false → row_at rows i ≡ replicate w (blank_of a) →
+  pub joined_ends : 0 < w → is_plain a ≡ true → attributes_eq a default_attributes ≡ false → row_at rows i ≡ replicate w (blank_of a) →
       ends_with a (rows_upto w rows (suc (joined_row w a rows i))).entries ≡ true
   joined_ends l h n e = ends (ends_with a (rows_upto w rows i).entries) refl
     where

@@ -1,19 +1,20 @@
 -- Stored cells and default blanks behind them show what the row shows.
-use Rattle.std.proofs.Common.{◌≡◌, ℕ, zero, suc, ◌+◌, ◌-◌, ◌<◌, ◌≤◌, Bool, true, false, cond, not, ◌&&◌, List, [], ◌∷◌, ◌++◌, length, replicate, arith, inl, inr, append-nil, append_assoc, add-suc, add-zero, refl, sym, ap, ap₂, ◌∙◌}
+use Rattle.std.proofs.Common.{◌≡◌, ℕ, zero, suc, ◌+◌, ◌-◌, ◌<◌, ◌≤◌, Bool, true, false, cond, not, ◌&&◌, ◌==◌, List, [], ◌∷◌, ◌++◌, length, replicate, arith, inl, inr, append-nil, append_assoc, add-suc, add-zero, refl, sym, ap, ap₂, ◌∙◌}
 use Rattle.std.proofs.lemmas.Bool.{cases_Bool, cases_eq, cond-false, and_parts, and_from, and_left, true≢false, false_from_ne_true}
 use Rattle.std.proofs.lemmas.Bool.Decides.{same_from_decides}
-use Rattle.std.proofs.lemmas.List.{get_or-replicate, get_or_past, ext_get_or, length-replicate}
+use Rattle.std.proofs.lemmas.List.{get_or-replicate, get_or_past, ext_get_or, length-replicate, length-append}
 use Rattle.std.proofs.lemmas.Slice.Eq.{slice_eq-Decides}
 use Rattle.std.proofs.Math.Bool.{and_assoc}
-use Rattle.std.specs.Bool.{Decides}
+use Rattle.std.specs.Bool.{Decides, beq}
 use Rattle.std.specs.Cmp.Lexicographic.{pointwise}
-use Rattle.termwiz_cell.specs.Attributes.{Attributes}
-use Rattle.termwiz_cell.specs.CellValue.{CellValue, blank, is_wide, cell_eq, cell_eq-Decides}
+use Rattle.termwiz_cell.specs.Attributes.{Attributes, default_attributes}
+use Rattle.termwiz_cell.specs.CellValue.{CellValue, blank, columns, is_wide, cell_eq, cell_eq-Decides}
 use Rattle.termwiz_storage.specs.Stored.{stored, visible, hides}
 use Rattle.termwiz_line.specs.Row.{IsRow, is_hidden, visible_upto, row_of}
-use Rattle.termwiz_line.specs.Entries.{last_attrs}
+use Rattle.termwiz_line.specs.Entries.{last_attrs, all_spaces}
 use Rattle.termwiz_surface.specs.Padding.{IsPaddable, blanks_from, all_are}
 use Rattle.termwiz_line.proofs.RowOf.{length-row_of, row_of_at, settled_visible, hidden_row, row_of_row, visible_row}
+use Rattle.termwiz_line.proofs.EntryLists.{all_spaces_push}
 use Rattle.termwiz_line.proofs.RowVisible.{visible_hidden, visible_shown}
 
 -- cells that agree show the same
@@ -64,13 +65,14 @@ module _ (w : ℕ) (cs : List CellValue) (z : IsPaddable w cs) where
   pub full_visible : length cs ≡ w → visible cs ≡ visible_upto (row_of w cs) w
   full_visible e = sym stored_first ∙ ap (visible_upto (row_of w cs)) e
 
--- blanks, one more at a time
-pub blanks_start : (ps : List (ℕ × CellValue)) (x n : ℕ) → n ≡ 0 → ps ≡ ps ++ blanks_from x n
-blanks_start ps x n e = sym (ap (λ m. ps ++ blanks_from x m) e ∙ append-nil ps)
+-- blanks are spaces with default attributes
+pub blanks_spaces : (x n : ℕ) → all_spaces default_attributes (blanks_from x n) ≡ true
+blanks_spaces x zero = refl
+blanks_spaces x (suc n) = all_spaces_push default_attributes (blanks_from x n) (x + n, blank) refl ∙ blanks_spaces x n
 
-pub blanks_pushed : (ps qs : List (ℕ × CellValue)) (x m n k : ℕ) (c : CellValue) → ps ≡ qs ++ blanks_from x m → n ≡ suc m → k ≡ x + m → c ≡ blank → ps ++ (k, c) ∷ [] ≡ qs ++ blanks_from x n
-blanks_pushed ps qs x m n k c e en ek ec =
-    (λ i. e i ++ (ek i, ec i) ∷ []) ∙ append_assoc qs (blanks_from x m) ((x + m, blank) ∷ []) ∙ sym (ap (λ j. qs ++ blanks_from x j) en)
+pub length-blanks : (x n : ℕ) → length (blanks_from x n) ≡ n
+length-blanks x zero = refl
+length-blanks x (suc n) = length-append (blanks_from x n) ((x + n, blank) ∷ []) ∙ omega (arith, length-blanks x n)
 
 -- the attributes of the last column
 last_pushed : (p : Attributes) (ps : List (ℕ × CellValue)) (k : ℕ) (c : CellValue) → last_attrs p (ps ++ (k, c) ∷ []) ≡ c.attrs
@@ -153,3 +155,7 @@ short_row_of w cs c z other l = false_from_ne_true _ (λ h. true≢false (sym ((
         sym (get_or-replicate w (length cs) c blank l)
         ∙ ap (λ s. stored s (length cs)) (sym ((slice_eq-Decides cell_eq-Decides (row_of w cs) (replicate w c) (pointwise cell_eq (row_of w cs) (replicate w c)) refl).0 h))
         ∙ past_blank w cs z (length cs) (omega arith) l
+
+-- a cell takes one column where it is narrow
+pub narrow_columns : (c : CellValue) → (columns c == 1) ≡ beq (is_wide c) false
+narrow_columns c = elim (cases_Bool (is_wide c)) [ inl t ↦ rw t refl | inr f ↦ rw f refl ]

@@ -10,6 +10,7 @@ pub mod Printing
 pub mod Repaint
 pub mod Answer
 pub mod Printable
+pub mod Drawing
 pub mod RepaintLaws
 pub mod Chars
 pub mod ShownChars
@@ -17,4 +18,3 @@ pub mod Schedule
 pub mod ScreenValue
 pub mod Padding
 pub mod Answered
-pub mod LastChange

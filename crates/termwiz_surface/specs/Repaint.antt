@@ -101,6 +101,10 @@ abbrev pub shown_entry : CursorVisibility → List ChangeValue
 shown_entry cursor.Visible = change.CursorVisibility cursor.Visible ∷ []
 shown_entry cursor.Hidden = []
 
+-- the first entries: the cursor is hidden and the screen cleared
+abbrev pub first_entries : List ChangeValue
+first_entries = change.CursorVisibility cursor.Hidden ∷ change.ClearScreen color.Default ∷ []
+
 -- the entries of the rows, which leave a pen, between the clear and the cursor, pen and visibility of the screen
 abbrev pub repaint_of : Penned → Screen → List ChangeValue
 repaint_of d s =

@@ -462,7 +462,6 @@ impl<W: Widths> Surface<W> {
         let padding = Cell::blank();
         let drawn = all_rows(self.alloc, &self.rows, self.width, &padding)?;
         framed(
-            self.alloc,
             drawn,
             self.x,
             self.y,

@@ -1,21 +1,21 @@
 //! Lines of cells.
 ghost use Rattle.std.specs.Prelude.{◌≡◌, ◌-◌, ◌<◌, ◌≤◌, ◌↔◌, [], false, true, IsTrue, IsOk, IfOk, OnOk, OnErr, Some, None, length, map, option_map, replicate, take, if◌then◌else◌};
-ghost use Rattle.std.specs.Cmp.{partial_equiv_from_equiv};
+ghost use Rattle.std.specs.Cmp.{decided, on_equiv, on_per, partial_equiv_from_equiv};
 ghost use Rattle.std.specs.List.{list_all};
 ghost use Rattle.termwiz_text.specs.Plain.{is_plain};
 ghost use Rattle.termwiz_cell.specs.Attributes.{needs_box};
 ghost use Rattle.termwiz_cell.specs.CellValue.{blank};
 ghost use Rattle.termwiz_storage.specs.Stored.{visible, set_cell, set_run};
 ghost use Rattle.termwiz_storage.specs.Halves.{resized};
+ghost use Rattle.termwiz_storage.specs.CellLists.{cells_eq};
 ghost use Rattle.termwiz_storage.specs.CellsLeft.{cells_left};
 ghost use Rattle.termwiz_storage.specs.Storage.{cells_of, is_vector};
 ghost use Rattle.termwiz_line.specs.LineFlags.{no_flags};
 ghost use Rattle.termwiz_line.specs.LineValue.{IsEdited, IsUnchanged, Prunes};
 ghost use Rattle.termwiz_line.specs.Filled.{Fills, FillsAs, IsFilled, IsPartlyFilled};
 ghost use Rattle.termwiz_cell.specs.ChangeValue.{change_value};
-ghost use Rattle.termwiz_storage.specs.CellRef.{indexed_cell};
 ghost use Rattle.termwiz_line.specs.Entries.{row_entries};
-ghost use Rattle.termwiz_line.specs.LineEq.{flags_eq, line_contents, line_eq, line_eq-equivalence};
+ghost use Rattle.termwiz_line.specs.LineEq.{contents_eq, contents_eq-Decides, flags_eq, line_contents, line_eq};
 
 use crate::entries::row_entries;
 use crate::line::linebits::LineBits;
@@ -24,7 +24,7 @@ use std::marker::Model;
 use std::ops::Range;
 use termwiz_cell::cell::{Cell, CellAttributes};
 use termwiz_cell::change::{Change, SequenceNo};
-use termwiz_storage::line::cellref::{CellRef, VisibleCellIter};
+use termwiz_storage::line::cellref::VisibleCellIter;
 use termwiz_storage::line::storage::CellStorage;
 
 /// A line: its stored cells, the number of the last change to it, and its flags.
@@ -235,10 +235,17 @@ impl Line {
         self.prune_trailing_blanks(seqno)
     }
 
+    /// Whether both lines have the same cells, whatever their numbers and flags, and whichever form stores them.
+    pub fn has_same_cells(&self, other: &Line) -> bool
+        ensures { result ≡ cells_eq self.now.cells other.now.cells }
+    {
+        self.storage == other.storage
+    }
+
     fn is_same(&self, other: &Line) -> bool
         ensures { result ≡ line_eq self.now other.now }
     {
-        self.seqno == other.seqno && (self.has_same_flags(other) && self.storage == other.storage)
+        self.seqno == other.seqno && (self.has_same_flags(other) && self.has_same_cells(other))
     }
 
     #[tactic(auto, using(crate::proofs::Flags::bits_eq))]
@@ -266,8 +273,7 @@ impl Line {
     pub fn changes(&self, start_attr: &CellAttributes) -> Result<Vec<Change>, AllocError>
         ensures { IfOk result (λ out. map change_value out.items ≡ (row_entries start_attr.now (visible self.now.cells)).entries) }
     {
-        let cells = collected(self.alloc, self.visible_cells())?;
-        let row = row_entries(self.alloc, &cells, start_attr)?;
+        let row = row_entries(self.alloc, self.visible_cells(), start_attr)?;
         Ok(row.entries)
     }
 
@@ -277,17 +283,6 @@ impl Line {
     {
         self.storage.cells()
     }
-}
-
-// The cells of an iterator, in a list.
-fn collected<'a>(alloc: Global, cells: VisibleCellIter<'a>) -> Result<Vec<CellRef<'a>>, AllocError>
-    ensures { IfOk result (λ out. map indexed_cell out.items ≡ cells_left cells.entry) }
-{
-    let mut out = Vec::new(alloc);
-    for cell in cells {
-        out.push(cell)?;
-    }
-    Ok(out)
 }
 
 impl Clone for Line {
@@ -307,7 +302,7 @@ impl Clone for Line {
 impl PartialEq for Line {
     ghost eq = { line_eq };
 
-    ghost laws = { partial_equiv_from_equiv line_eq-equivalence };
+    ghost laws = { on_per line_contents (partial_equiv_from_equiv (decided contents_eq contents_eq-Decides)) };
 
     // Whichever form stores the cells.
     fn eq(&self, other: &Line) -> bool
@@ -319,5 +314,5 @@ impl PartialEq for Line {
 }
 
 impl Eq for Line {
-    ghost laws = { line_eq-equivalence };
+    ghost laws = { on_equiv line_contents (decided contents_eq contents_eq-Decides) };
 }

@@ -1,15 +1,16 @@
 //! Where a line keeps its cells, and all that edits them.
 ghost use Rattle.std.specs.Prelude.{◌≡◌, ◌-◌, ◌≤◌, [], ◌↔◌, false, true, length, option_map, replicate, take, IsTrue, IsOk, IfOk, OnOk, OnErr, Some, None, if◌then◌else◌};
 ghost use Rattle.std.specs.Borrow.{sem};
-ghost use Rattle.std.specs.Cmp.{partial_equiv_from_equiv};
+ghost use Rattle.std.specs.Cmp.{decided, on_equiv, on_per, partial_equiv_from_equiv};
 ghost use Rattle.std.specs.List.{list_all};
 ghost use Rattle.termwiz_text.specs.Plain.{is_plain};
 ghost use Rattle.termwiz_cell.specs.Attributes.{needs_box};
 ghost use Rattle.termwiz_cell.specs.CellValue.{blank};
+ghost use Rattle.termwiz_storage.specs.CellLists.{cells_eq, cells_eq-Decides};
 ghost use Rattle.termwiz_storage.specs.CellsLeft.{cells_left};
 ghost use Rattle.termwiz_storage.specs.Stored.{visible, fill, set_cell, set_run, IsKept};
 ghost use Rattle.termwiz_storage.specs.Halves.{resized};
-ghost use Rattle.termwiz_storage.specs.Storage.{cells_of, is_vector, same_cells, same_cells-equivalence};
+ghost use Rattle.termwiz_storage.specs.Storage.{cells_of, is_vector, same_cells};
 ghost use Rattle.termwiz_storage.specs.Lending.{LendsVector};
 
 use crate::line::cellref::VisibleCellIter;
@@ -209,7 +210,7 @@ impl Clone for CellStorage {
 impl PartialEq for CellStorage {
     ghost eq = { same_cells };
 
-    ghost laws = { partial_equiv_from_equiv same_cells-equivalence };
+    ghost laws = { on_per cells_of (partial_equiv_from_equiv (decided cells_eq cells_eq-Decides)) };
 
     fn eq(&self, other: &CellStorage) -> bool
         ensures value { result ≡ same_cells self.now other.now }
@@ -222,5 +223,5 @@ impl PartialEq for CellStorage {
 }
 
 impl Eq for CellStorage {
-    ghost laws = { same_cells-equivalence };
+    ghost laws = { on_equiv cells_of (decided cells_eq cells_eq-Decides) };
 }

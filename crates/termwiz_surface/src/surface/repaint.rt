@@ -1,31 +1,31 @@
 //! Repaints: the changes that bring any screen of that size to the one that rows show.
-ghost use Rattle.std.specs.Prelude.{◌≡◌, ◌-◌, ◌<◌, ◌≤◌, ◌++◌, ◌∷◌, [], ◌&&◌, not, true, false, cond, eqb, map, length, IfOk, OnOk};
+ghost use Rattle.std.specs.Prelude.{◌≡◌, ◌-◌, ◌<◌, ◌≤◌, ◌++◌, ◌∷◌, [], List, ◌&&◌, not, true, false, cond, eqb, map, length, IfOk, OnOk};
+ghost use Rattle.std.specs.Option.{option_copied};
 ghost use Rattle.termwiz_cell.specs.Attributes.{default_attributes, attributes_eq, is_plain, color_eq};
-ghost use Rattle.termwiz_cell.specs.CellValue.{blank, blank_of};
+ghost use Rattle.termwiz_cell.specs.CellValue.{blank};
 ghost use Rattle.termwiz_cell.specs.ChangeValue as change;
-ghost use Rattle.termwiz_cell.specs.ChangeValue.{change_value};
-ghost use Rattle.termwiz_storage.specs.CellRef.{indexed_cell};
+ghost use Rattle.termwiz_cell.specs.ChangeValue.{ChangeValue, change_value, is_text};
 ghost use Rattle.termwiz_line.specs.Entries as line;
+ghost use Rattle.termwiz_line.specs.LastChange.{last_is};
 ghost use Rattle.termwiz_line.specs.PennedValue.{penned_value};
-ghost use Rattle.termwiz_line.specs.Row.{row_of};
+ghost use Rattle.termwiz_line.specs.Row.{row_of, visible_upto};
+ghost use Rattle.termwiz_line.specs.Writing.{behind};
 ghost use Rattle.termwiz_surface.specs.Screen.{Screen};
 ghost use Rattle.termwiz_surface.specs.ScreenValue.{cells_of};
-ghost use Rattle.termwiz_surface.specs.Padding.{ArePaddable};
-ghost use Rattle.termwiz_surface.specs.LastChange.{last_is};
+ghost use Rattle.termwiz_surface.specs.Padding.{IsPaddable, ArePaddable};
+ghost use Rattle.termwiz_surface.specs.Drawing.{clears, IsDrawnUpto};
 ghost use Rattle.termwiz_surface.specs.Repaint as spec;
 
-use crate::surface::pen::blank_with;
-use crate::surface::shown::{is_row_of, last_attrs, visible_cells};
+use crate::surface::shown::{is_blank_row, last_attrs};
 use std::alloc::{AllocError, Global};
 use std::collections::VecDeque;
 use termwiz_cell::cell::{Cell, CellAttributes};
 use termwiz_cell::change::{Change, CursorVisibility, Position};
 use termwiz_cell::color::ColorAttribute;
-use termwiz_line::entries::{Penned, is_default, is_plain, push_pen, row_entries};
+use termwiz_line::entries::{Penned, RowWriter, is_default, is_plain, is_same};
 use termwiz_line::line::line::Line;
-use termwiz_storage::line::cellref::CellRef;
 
-/// The entries of all rows on a cleared screen. Blank rows at the bottom with one background are left to one clear to the end of the screen.
+/// The entries that clear the screen, with the cursor hidden, and those of all rows. Blank rows at the bottom with one background are left to one clear to the end of the screen.
 pub(super) fn all_rows<'a>(
     alloc: Global,
     rows: &'a VecDeque<Line>,
@@ -36,13 +36,42 @@ pub(super) fn all_rows<'a>(
     requires some_row { 0 < length (cells_of rows.now.items) }
     requires paddable { ArePaddable width (cells_of rows.now.items) }
     requires blank { padding.now ≡ blank }
-    ensures { IfOk result (λ drawn. penned_value drawn ≡ spec.all_rows width (length (cells_of rows.now.items)) (map (row_of width) (cells_of rows.now.items))) }
+    ensures { IfOk result (λ drawn. penned_value drawn ≡ behind spec.first_entries (spec.all_rows width (length (cells_of rows.now.items)) (map (row_of width) (cells_of rows.now.items)))) }
 {
-    let attrs = last_attrs(&rows[rows.len() - 1], width, padding);
+    let mut writer = started(alloc, padding)?;
+    let attrs = bottom_attrs(rows, width, padding);
     if is_clearable(attrs) {
-        return joined_rows(alloc, rows, width, padding, attrs);
+        return joined_rows(writer, rows, width, padding, attrs);
     }
-    rows_upto(alloc, rows, width, padding, rows.len())
+    write_rows(&mut writer, rows, width, padding, 0, rows.len())?;
+    writer.into_penned()
+}
+
+// The attributes of the last column of the bottom row.
+fn bottom_attrs<'a>(
+    rows: &'a VecDeque<Line>,
+    width: usize,
+    padding: &'a Cell,
+) -> &'a CellAttributes
+    requires some_column { 0 < width }
+    requires some_row { 0 < length (cells_of rows.now.items) }
+    requires paddable { ArePaddable width (cells_of rows.now.items) }
+    requires blank { padding.now ≡ blank }
+    ensures { result.now ≡ spec.bottom_attrs width (length (cells_of rows.now.items)) (map (row_of width) (cells_of rows.now.items)) }
+{
+    last_attrs(&rows[rows.len() - 1], width, padding)
+}
+
+// A clear of the screen with the cursor hidden.
+fn started<'a>(alloc: Global, padding: &'a Cell) -> Result<RowWriter<'a>, AllocError>
+    requires { padding.now ≡ blank }
+    ensures printed { IfOk result (λ writer. writer.printed ≡ record { entries = spec.first_entries; pen = default_attributes }) }
+    ensures between { IfOk result (λ writer. writer.spaces ≡ 0) }
+{
+    let mut writer = RowWriter::new(alloc, padding.attrs());
+    writer.push(Change::CursorVisibility(CursorVisibility::Hidden))?;
+    writer.push(Change::ClearScreen(ColorAttribute::Default))?;
+    Ok(writer)
 }
 
 // The attributes are default but for the background, which is another one.
@@ -54,62 +83,64 @@ fn is_clearable(attrs: &CellAttributes) -> bool
 
 // The entries of all rows, where the last column of the last row has these attributes.
 fn joined_rows<'a>(
-    alloc: Global,
+    mut writer: RowWriter<'a>,
     rows: &'a VecDeque<Line>,
     width: usize,
     padding: &'a Cell,
     attrs: &'a CellAttributes,
 ) -> Result<Penned<'a>, AllocError>
+    requires upto { IsDrawnUpto width (map (row_of width) (cells_of rows.now.items)) 0 writer }
+    requires some_column { 0 < width }
     requires paddable { ArePaddable width (cells_of rows.now.items) }
     requires blank { padding.now ≡ blank }
     requires bottom { attrs.now ≡ spec.bottom_attrs width (length (cells_of rows.now.items)) (map (row_of width) (cells_of rows.now.items)) }
     requires clearable { (is_plain attrs.now && not (attributes_eq attrs.now default_attributes)) ≡ true }
-    ensures { IfOk result (λ drawn. penned_value drawn ≡ spec.all_rows width (length (cells_of rows.now.items)) (map (row_of width) (cells_of rows.now.items))) }
+    ensures { IfOk result (λ drawn. penned_value drawn ≡ behind spec.first_entries (spec.all_rows width (length (cells_of rows.now.items)) (map (row_of width) (cells_of rows.now.items)))) }
 {
-    let cleared = blank_with(attrs)?;
-    let above = rows_above(rows, width, &cleared);
-    let drawn = rows_upto(alloc, rows, width, padding, above)?;
-    let joined = joined_row(drawn.entries.as_slice(), attrs, above);
+    let above = rows_above(rows, width, attrs);
+    write_rows(&mut writer, rows, width, padding, 0, above)?;
+    let joined = joined_row(writer.last(), attrs, above);
     if above < rows.len() && joined + 1 < rows.len() {
-        let drawn = more_rows(alloc, drawn, rows, width, padding, above, joined + 1)?;
+        write_rows(&mut writer, rows, width, padding, above, joined + 1)?;
+        let drawn = writer.into_penned()?;
         return clear_below(drawn, attrs);
     }
-    more_rows(alloc, drawn, rows, width, padding, above, rows.len())
+    write_rows(&mut writer, rows, width, padding, above, rows.len())?;
+    writer.into_penned()
 }
 
-// How many rows stand above those at the bottom that show this cell alone.
-fn rows_above(rows: &VecDeque<Line>, width: usize, cleared: &Cell) -> usize
+// How many rows stand above those at the bottom that show blanks with these attributes alone.
+fn rows_above(rows: &VecDeque<Line>, width: usize, attrs: &CellAttributes) -> usize
     requires paddable { ArePaddable width (cells_of rows.now.items) }
-    requires blank { cleared.now ≡ blank_of cleared.now.attrs }
-    requires other { attributes_eq cleared.now.attrs default_attributes ≡ false }
-    ensures above { result ≡ spec.first_blank width cleared.now.attrs (map (row_of width) (cells_of rows.now.items)) (length (cells_of rows.now.items)) }
+    requires other { attributes_eq attrs.now default_attributes ≡ false }
+    ensures above { result ≡ spec.first_blank width attrs.now (map (row_of width) (cells_of rows.now.items)) (length (cells_of rows.now.items)) }
     ensures within { result ≤ length (cells_of rows.now.items) }
 {
     let mut above = rows.len();
-    while above > 0 && is_row_of(&rows[above - 1], width, cleared) {
+    while above > 0 && is_blank_row(&rows[above - 1], width, attrs) {
         above -= 1;
     }
     above
 }
 
-// The row whose end clears all below it.
-fn joined_row(entries: &[Change], attrs: &CellAttributes, above: usize) -> usize
+// The row whose end clears all below it, where this is the last entry of the rows above.
+fn joined_row(last: Option<&Change>, attrs: &CellAttributes, above: usize) -> usize
     requires { is_plain attrs.now ≡ true }
-    ensures { result ≡ (cond (spec.ends_with attrs.now (map change_value entries.now)) (above - 1) above) }
+    ensures { result ≡ (cond (clears attrs.now (option_copied last.entry)) (above - 1) above) }
 {
-    if ends_with_clear(entries, attrs) {
+    if is_clear(last, attrs) {
         above.saturating_sub(1)
     } else {
         above
     }
 }
 
-// Whether the last entry clears to the end of the line in this background.
-fn ends_with_clear(entries: &[Change], attrs: &CellAttributes) -> bool
+// Whether the entry clears to the end of the line in this background.
+fn is_clear(last: Option<&Change>, attrs: &CellAttributes) -> bool
     requires { is_plain attrs.now ≡ true }
-    ensures { result ≡ spec.ends_with attrs.now (map change_value entries.now) }
+    ensures { result ≡ clears attrs.now (option_copied last.entry) }
 {
-    match entries.last() {
+    match last {
         Some(last) => is_clear_of(last, attrs),
         None => false,
     }
@@ -146,76 +177,55 @@ fn clear_below<'a>(
     Ok(drawn)
 }
 
-// The entries of the first rows.
-fn rows_upto<'a>(
-    alloc: Global,
-    rows: &'a VecDeque<Line>,
-    width: usize,
-    padding: &'a Cell,
-    count: usize,
-) -> Result<Penned<'a>, AllocError>
-    requires within { count ≤ length (cells_of rows.now.items) }
-    requires paddable { ArePaddable width (cells_of rows.now.items) }
-    requires blank { padding.now ≡ blank }
-    ensures { IfOk result (λ drawn. penned_value drawn ≡ spec.rows_upto width (map (row_of width) (cells_of rows.now.items)) count) }
-{
-    let nothing = Penned {
-        entries: Vec::new(alloc),
-        pen: padding.attrs(),
-    };
-    more_rows(alloc, nothing, rows, width, padding, 0, count)
-}
-
-// The entries of the rows before one, and then those up to another.
-fn more_rows<'a>(
-    alloc: Global,
-    drawn: Penned<'a>,
+// The entries of the rows from one up to another, behind those before it.
+fn write_rows<'a>(
+    writer: &mut RowWriter<'a>,
     rows: &'a VecDeque<Line>,
     width: usize,
     padding: &'a Cell,
     from: usize,
     to: usize,
-) -> Result<Penned<'a>, AllocError>
-    requires upto { penned_value drawn ≡ spec.rows_upto width (map (row_of width) (cells_of rows.now.items)) from }
+) -> Result<(), AllocError>
+    requires upto { IsDrawnUpto width (map (row_of width) (cells_of rows.now.items)) from writer.old }
     requires order { from ≤ to }
     requires within { to ≤ length (cells_of rows.now.items) }
     requires paddable { ArePaddable width (cells_of rows.now.items) }
     requires blank { padding.now ≡ blank }
-    ensures { IfOk result (λ drawn. penned_value drawn ≡ spec.rows_upto width (map (row_of width) (cells_of rows.now.items)) to) }
+    ensures { OnOk result (IsDrawnUpto width (map (row_of width) (cells_of rows.now.items)) to writer.new) }
 {
-    let Penned {
-        mut entries,
-        mut pen,
-    } = drawn;
     for i in from..to {
-        let cells = visible_cells(alloc, &rows[i], width, padding)?;
-        pen = push_row(alloc, &mut entries, i, pen, cells.as_slice())?;
+        push_next_line(writer, i)?;
+        write_row(writer, &rows[i], width, padding)?;
     }
-    Ok(Penned { entries, pen })
+    Ok(())
 }
 
-// The entries of row i, with a move to it unless it is the first. Gives the pen after them.
-fn push_row<'a>(
-    alloc: Global,
-    entries: &mut Vec<Change>,
-    i: usize,
-    pen: &'a CellAttributes,
-    cells: &[CellRef<'a>],
-) -> Result<&'a CellAttributes, AllocError>
-    ensures entries { OnOk result (map change_value entries.new.items ≡ map change_value entries.old.items ++ (cond (eqb i 0) [] (spec.next_line ∷ []) ++ (line.row_entries pen.now (map indexed_cell cells.now)).entries)) }
-    ensures pen { IfOk result (λ after. after.now ≡ (line.row_entries pen.now (map indexed_cell cells.now)).pen) }
+// The entries of a row, up to the width.
+fn write_row<'a>(
+    writer: &mut RowWriter<'a>,
+    row: &'a Line,
+    width: usize,
+    padding: &'a Cell,
+) -> Result<(), AllocError>
+    requires between { writer.old.spaces ≡ 0 }
+    requires apart { last_is is_text writer.old.printed.entries ≡ false }
+    requires paddable { IsPaddable width row.now.cells }
+    requires blank { padding.now ≡ blank }
+    ensures row { OnOk result (writer.new.printed ≡ behind writer.old.printed.entries (line.row_entries writer.old.printed.pen (visible_upto (row_of width row.now.cells) width))) }
+    ensures between { OnOk result (writer.new.spaces ≡ 0) }
 {
-    push_next_line(entries, i)?;
-    let mut row = row_entries(alloc, cells, pen)?;
-    entries.append(&mut row.entries)?;
-    Ok(row.pen)
+    let blanks = width - row.len();
+    writer.row(row.visible_cells(), blanks, padding.attrs())?;
+    Ok(())
 }
 
-fn push_next_line(entries: &mut Vec<Change>, i: usize) -> Result<(), AllocError>
-    ensures { OnOk result (map change_value entries.new.items ≡ map change_value entries.old.items ++ cond (eqb i 0) [] (spec.next_line ∷ [])) }
+// A move to row i, unless it is the first.
+fn push_next_line(writer: &mut RowWriter<'_>, i: usize) -> Result<(), AllocError>
+    ensures printed { OnOk result (writer.new.printed ≡ record writer.old.printed { entries = writer.old.printed.entries ++ cond (eqb i 0) [] (spec.next_line ∷ []) }) }
+    ensures spaces { writer.new.spaces ≡ writer.old.spaces }
 {
     if i != 0 {
-        entries.push(Change::CursorPosition {
+        writer.push(Change::CursorPosition {
             x: Position::Absolute(0),
             y: Position::Relative(1),
         })?;
@@ -223,41 +233,47 @@ fn push_next_line(entries: &mut Vec<Change>, i: usize) -> Result<(), AllocError>
     Ok(())
 }
 
-/// The entries of the rows, between a clear of the screen with the cursor hidden and the cursor, the pen and the visibility.
+/// The entries that clear the screen and draw the rows, and then the cursor, the pen and the visibility.
 pub(super) fn framed(
-    alloc: Global,
-    mut drawn: Penned<'_>,
+    drawn: Penned<'_>,
     x: usize,
     y: usize,
     visibility: CursorVisibility,
     pen: &CellAttributes,
 ) -> Result<Vec<Change>, AllocError>
-    ensures { IfOk result (λ entries. (s : Screen) → s.x ≡ x → s.y ≡ y → s.visibility ≡ visibility → s.pen ≡ pen.now → map change_value entries.items ≡ spec.repaint_of (penned_value drawn.entry) s) }
+    ensures { IfOk result (λ entries. (d : line.Penned) (s : Screen) → penned_value drawn.entry ≡ behind spec.first_entries d → s.x ≡ x → s.y ≡ y → s.visibility ≡ visibility → s.pen ≡ pen.now → map change_value entries.items ≡ spec.repaint_of d s) }
 {
-    drop_last_moves(&mut drawn.entries);
-    let nothing = is_nothing(drawn.entries.as_slice());
-    let mut entries = started(alloc)?;
-    entries.append(&mut drawn.entries)?;
+    let Penned {
+        mut entries,
+        pen: last,
+    } = drawn;
+    drop_last_moves(&mut entries);
+    let nothing = is_started_alone(entries.as_slice());
     push_cursor(&mut entries, nothing, x, y)?;
-    push_pen(&mut entries, drawn.pen, pen)?;
+    push_pen(&mut entries, last, pen)?;
     push_visible(&mut entries, visibility)?;
     Ok(entries)
 }
 
-fn is_nothing(entries: &[Change]) -> bool
-    ensures { result ≡ spec.is_nil (map change_value entries.now) }
+// Whether there are no entries but the first two.
+fn is_started_alone(entries: &[Change]) -> bool
+    ensures { (es : List ChangeValue) → map change_value entries.now ≡ spec.first_entries ++ es → result ≡ spec.is_nil es }
 {
-    entries.is_empty()
+    entries.len() == 2
 }
 
-// A clear of the screen with the cursor hidden.
-fn started(alloc: Global) -> Result<Vec<Change>, AllocError>
-    ensures { IfOk result (λ entries. map change_value entries.items ≡ change.CursorVisibility CursorVisibility.Hidden ∷ change.ClearScreen ColorAttribute.Default ∷ []) }
+// A pen, where it is another one than before.
+fn push_pen(
+    entries: &mut Vec<Change>,
+    old: &CellAttributes,
+    new: &CellAttributes,
+) -> Result<(), AllocError>
+    ensures { OnOk result (map change_value entries.new.items ≡ map change_value entries.old.items ++ line.pen_entry old.now new.now) }
 {
-    let mut entries = Vec::new(alloc);
-    entries.push(Change::CursorVisibility(CursorVisibility::Hidden))?;
-    entries.push(Change::ClearScreen(ColorAttribute::Default))?;
-    Ok(entries)
+    if !is_same(old, new) {
+        entries.push(Change::AllAttributes(new.clone()?))?;
+    }
+    Ok(())
 }
 
 // The cursor's place, unless nothing was drawn and it is the first.

@@ -63,15 +63,6 @@ fn is_same_visibility(a: CursorVisibility, b: CursorVisibility) -> bool
     a == b
 }
 
-fn has_same_cells(a: &Line, b: &Line) -> bool
-    ensures { result ≡ cells_eq a.now.cells b.now.cells }
-{
-    match (a.stored_cells(), b.stored_cells()) {
-        (Some(a), Some(b)) => a == b,
-        _ => false,
-    }
-}
-
 fn has_same_rows(a: &[Line], b: &[Line]) -> bool
     ensures { result ≡ rows_eq (cells_of a.now) (cells_of b.now) }
 {
@@ -79,7 +70,7 @@ fn has_same_rows(a: &[Line], b: &[Line]) -> bool
         return false;
     }
     for i in 0..a.len() {
-        if !has_same_cells(&a[i], &b[i]) {
+        if !a[i].has_same_cells(&b[i]) {
             return false;
         }
     }

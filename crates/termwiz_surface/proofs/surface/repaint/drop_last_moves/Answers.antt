@@ -1,7 +1,7 @@
 use Rattle.std.proofs.Common.{map, length, arith, sym, ap, ◌∙◌}
 use Rattle.std.proofs.lemmas.List.{length-map}
 use Rattle.termwiz_cell.specs.ChangeValue.{change_value}
-use Rattle.termwiz_surface.specs.LastChange.{last_is}
+use Rattle.termwiz_line.specs.LastChange.{last_is}
 use Rattle.termwiz_surface.specs.Repaint.{is_move, without_last_moves}
 use Rattle.termwiz_surface.proofs.LastChanges.{some_change, no_last_move, move_dropped}
 use Rattle.termwiz_surface.proofs.RepaintBottom.{length-front_of}

@@ -1,7 +1,7 @@
 use Rattle.std.proofs.Common.{sym, ◌∙◌}
 use Rattle.termwiz_cell.specs.ChangeValue.{change_value}
 use Rattle.termwiz_surface.specs.Repaint.{is_move}
-use Rattle.termwiz_surface.proofs.LastChanges.{last_of}
+use Rattle.termwiz_line.proofs.LastChange.{last_of}
 use Rattle.termwiz_surface.proofs.surface.repaint.ends_with_move.Goals as goal
 
 pub returns-in-Some : goal.returns-in-Some

@@ -9,8 +9,8 @@ use Rattle.termwiz_surface.proofs.Lines.{length-cells_of, cells-read, row-read}
 use Rattle.termwiz_surface.proofs.JoinedRows.{first_blank-above, first_blank-here}
 use Rattle.termwiz_surface.proofs.surface.repaint.rows_above.Goals as goal
 
-pub is_row_of-requires-clause-paddable : goal.is_row_of-requires-clause-paddable
-is_row_of-requires-clause-paddable c =
+pub is_blank_row-requires-clause-paddable : goal.is_blank_row-requires-clause-paddable
+is_blank_row-requires-clause-paddable c =
     let ls = c.args.rows.now.items in
     let i = c.loop-above.above - 1 in
     let inside : i < length ls = omega (arith, length-cells_of ls) in
@@ -22,23 +22,21 @@ loop-above-preserved c =
     let ls = c.args.rows.now.items in
     let i = c.loop-above.above - 1 in
     let inside : i < length ls = omega (arith, length-cells_of ls) in
-    let here : pointwise cell_eq (row_at (map (row_of w) (cells_of ls)) i) (replicate w (blank_of c.args.cleared.now.attrs)) ≡ true =
-    ap (λ (r : List CellValue). pointwise cell_eq r (replicate w (blank_of c.args.cleared.now.attrs))) (row-read w ls i c.index.result.now inside c.index.ensures)
-    ∙ ap (λ (x : CellValue). pointwise cell_eq (row_of w c.index.result.now.cells) (replicate w x)) (sym c.requires.blank)
-    ∙ sym c.is_row_of.ensures ∙ c.if-is_row_of.true in
+    let here : pointwise cell_eq (row_at (map (row_of w) (cells_of ls)) i) (replicate w (blank_of c.args.attrs.now)) ≡ true =
+    ap (λ (r : List CellValue). pointwise cell_eq r (replicate w (blank_of c.args.attrs.now))) (row-read w ls i c.index.result.now inside c.index.ensures)
+    ∙ sym c.is_blank_row.ensures ∙ c.if-is_blank_row.true in
     record {
       within = omega arith;
-      below = first_blank-above w c.args.cleared.now.attrs (map (row_of w) (cells_of ls)) c.loop-above.above (omega arith) here ∙ c.loop-above.invariant.below;
+      below = first_blank-above w c.args.attrs.now (map (row_of w) (cells_of ls)) c.loop-above.above (omega arith) here ∙ c.loop-above.invariant.below;
     }
 
-pub returns-else-is_row_of-clause-above : goal.returns-else-is_row_of-clause-above
-returns-else-is_row_of-clause-above c =
+pub returns-else-is_blank_row-clause-above : goal.returns-else-is_blank_row-clause-above
+returns-else-is_blank_row-clause-above c =
     let w = c.args.width in
     let ls = c.args.rows.now.items in
     let i = c.loop-above.above - 1 in
     let inside : i < length ls = omega (arith, length-cells_of ls) in
-    let here : pointwise cell_eq (row_at (map (row_of w) (cells_of ls)) i) (replicate w (blank_of c.args.cleared.now.attrs)) ≡ false =
-    ap (λ (r : List CellValue). pointwise cell_eq r (replicate w (blank_of c.args.cleared.now.attrs))) (row-read w ls i c.index.result.now inside c.index.ensures)
-    ∙ ap (λ (x : CellValue). pointwise cell_eq (row_of w c.index.result.now.cells) (replicate w x)) (sym c.requires.blank)
-    ∙ sym c.is_row_of.ensures ∙ c.if-is_row_of.false in
-    first_blank-here w c.args.cleared.now.attrs (map (row_of w) (cells_of ls)) c.loop-above.above (omega arith) here ∙ c.loop-above.invariant.below
+    let here : pointwise cell_eq (row_at (map (row_of w) (cells_of ls)) i) (replicate w (blank_of c.args.attrs.now)) ≡ false =
+    ap (λ (r : List CellValue). pointwise cell_eq r (replicate w (blank_of c.args.attrs.now))) (row-read w ls i c.index.result.now inside c.index.ensures)
+    ∙ sym c.is_blank_row.ensures ∙ c.if-is_blank_row.false in
+    first_blank-here w c.args.attrs.now (map (row_of w) (cells_of ls)) c.loop-above.above (omega arith) here ∙ c.loop-above.invariant.below

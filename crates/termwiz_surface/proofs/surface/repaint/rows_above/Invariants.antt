@@ -8,7 +8,7 @@ use Rattle.termwiz_surface.proofs.surface.repaint.rows_above.Given as goal
 abbrev pub invariant-loop-above : goal.invariant-loop-above
 invariant-loop-above l = record {
   within : l.above ≤ length (cells_of l.rows.items);
-  below : first_blank l.width l.cleared.attrs (map (row_of l.width) (cells_of l.rows.items)) l.above ≡ first_blank l.width l.cleared.attrs (map (row_of l.width) (cells_of l.rows.items)) (length (cells_of l.rows.items));
+  below : first_blank l.width l.attrs (map (row_of l.width) (cells_of l.rows.items)) l.above ≡ first_blank l.width l.attrs (map (row_of l.width) (cells_of l.rows.items)) (length (cells_of l.rows.items));
 }
 
 abbrev pub decreases-loop-above : goal.decreases-loop-above

@@ -14,7 +14,7 @@ returns-in_err-fill_line-clause-err c = λ l.
     let at : row_at (cells_of rows) c.args.y ≡ c.index_mut.result.now.cells = cells-read rows c.args.y c.index_mut.result.now inside c.index_mut.ensures.value in
     let done : ArePartly c.args.width c.args.cell.now (cells_of rows) (cells_of (slice_set rows c.args.y c.fill_line.new.line)) =
     rw (cells-set rows c.args.y c.fill_line.new.line)
-    (partly-set c.args.width c.args.x c.args.y c.args.cell.now (cells_of rows) c.fill_line.new.line.cells l (omega (arith, length-cells_of rows)) (rw at c.in_err-fill_line.ensures.err)) in
+    (partly-set c.args.width c.args.y c.args.cell.now (cells_of rows) c.fill_line.new.line.cells (omega (arith, length-cells_of rows)) (rw at (c.in_err-fill_line.ensures.err l))) in
     on_err _ done
 
 pub returns-clause-ok : goal.returns-clause-ok

@@ -18,7 +18,7 @@ returns-in_err-fill_line-clause-err c = λ l.
     let at : row_at (cells_of rows) c.loop-j.j ≡ c.index_mut.result.now.cells = cells-read rows c.loop-j.j c.index_mut.result.now inside c.index_mut.ensures.value in
     let done : ArePartly c.args.width c.args.cell.now (cells_of c.args.rows.now.items) (cells_of (slice_set rows c.loop-j.j c.fill_line.new.line)) =
     rw (cells-set rows c.loop-j.j c.fill_line.new.line)
-    (filling-partly c.args.width c.args.x c.args.y c.loop-j.j c.args.cell.now (cells_of c.args.rows.now.items) (cells_of rows) c.fill_line.new.line.cells l (omega arith) (omega arith) c.loop-j.invariant (rw at c.in_err-fill_line.ensures.err)) in
+    (filling-partly c.args.width c.args.x c.args.y c.loop-j.j c.args.cell.now (cells_of c.args.rows.now.items) (cells_of rows) c.fill_line.new.line.cells l (omega arith) (omega arith) c.loop-j.invariant (rw at (c.in_err-fill_line.ensures.err (omega arith)))) in
     on_err _ done
 
 pub loop-j-preserved : goal.loop-j-preserved

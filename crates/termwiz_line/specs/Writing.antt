@@ -1,0 +1,36 @@
+-- Rows of entries that are written cell by cell: spaces at the end of what was written are held back until it is known whether they end the row.
+use Rattle.std.specs.Prelude.{◌≡◌, ℕ, Bool, false, ◌&&◌, nat_lt, List, [], ◌∷◌, ◌++◌, fold, replicate}
+use Rattle.termwiz_cell.specs.Attributes.{Attributes, attributes_eq}
+use Rattle.termwiz_cell.specs.CellValue.{CellValue, blank_of}
+use Rattle.termwiz_cell.specs.ChangeValue.{ChangeValue}
+use Rattle.termwiz_line.specs.Entries.{Penned, cell_out, is_space_of, trimmed}
+
+-- what is printed, and so many spaces with these attributes that are not
+pub record Writing : Type 0 where
+  pub printed : Penned
+  pub spaces : ℕ
+  pub space_attrs : Attributes
+
+-- the entries behind others
+abbrev pub behind : List ChangeValue → Penned → Penned
+behind es d = record { entries = es ++ d.entries; pen = d.pen }
+
+-- these visible cells are printed too
+abbrev pub and_cells : Penned → List (ℕ × CellValue) → Penned
+and_cells d cells = fold cell_out d cells
+
+-- the last cell is a space with these attributes
+abbrev pub ends_in_space : Attributes → List (ℕ × CellValue) → Bool
+ends_in_space a [] = false
+ends_in_space a (p ∷ []) = is_space_of a p
+ends_in_space a (p ∷ (q ∷ ps)) = ends_in_space a (q ∷ ps)
+
+-- some spaces
+abbrev pub spaces_of : ℕ → Attributes → List (ℕ × CellValue)
+spaces_of n a = replicate n (0, blank_of a)
+
+-- these cells of a row were written since `from`: those without their last spaces are printed, and with the held spaces it is all of them
+pub record IsWritten (from : Penned) (cells : List (ℕ × CellValue)) (w : Writing) : Type 0 where
+  pub printed : w.printed ≡ and_cells from (trimmed w.space_attrs cells)
+  pub whole : and_cells w.printed (spaces_of w.spaces w.space_attrs) ≡ and_cells from cells
+  pub held : (a : Attributes) → ends_in_space a cells ≡ (nat_lt 0 w.spaces && attributes_eq w.space_attrs a)

@@ -1,0 +1,183 @@
+//! A list of entries whose last text may still grow.
+ghost use Rattle.std.specs.Prelude.{◌≡◌, ◌++◌, ◌∷◌, [], false, ◌&&◌, map, cond, IfOk, OnOk, OnErr, string_bytes};
+ghost use Rattle.std.specs.Option.{option_copied};
+ghost use Rattle.termwiz_cell.specs.ChangeValue.{change_value, is_text};
+ghost use Rattle.termwiz_line.specs.Entries.{add_text, joins, pen_entry};
+ghost use Rattle.termwiz_line.specs.LastChange.{last_is};
+ghost use Rattle.termwiz_line.specs.GrowingText.{with_text, IsLastOf};
+
+use super::is_same;
+use std::alloc::{AllocError, Global};
+use std::marker::Model;
+use termwiz_cell::cell::CellAttributes;
+use termwiz_cell::change::Change;
+use termwiz_text::join;
+
+/// Entries. A text at their end grows by each text that joins it.
+#[derive(Drop)]
+pub struct EntryList {
+    alloc: Global,
+    // All entries but the growing text.
+    pushed: Vec<Change>,
+    // The growing text, while there is one. The next one takes its room.
+    text: String,
+    grows: bool,
+}
+
+impl Model for EntryList {
+    ghost use Rattle.std.specs.Prelude.{◌≡◌, List, false, map, string_bytes};
+    ghost use Rattle.termwiz_cell.specs.ChangeValue.{ChangeValue, change_value, is_text};
+    ghost use Rattle.termwiz_line.specs.LastChange.{last_is};
+    ghost use Rattle.termwiz_line.specs.GrowingText.{with_text};
+
+    ghost Value = { List ChangeValue };
+
+    ghost view = { λ e. with_text (map change_value e.pushed.items) e.grows (string_bytes e.text) };
+
+    ghost invariant = { λ e. e.grows ≡ false → last_is is_text (map change_value e.pushed.items) ≡ false };
+}
+
+impl EntryList {
+    /// No entries.
+    pub fn new(alloc: Global) -> EntryList
+        ensures { result ≡ [] }
+    {
+        EntryList {
+            alloc,
+            pushed: Vec::new(alloc),
+            text: String::new(alloc),
+            grows: false,
+        }
+    }
+
+    /// An entry comes behind the others. It is no text.
+    pub fn push(&mut self, entry: Change) -> Result<(), AllocError>
+        requires { is_text (change_value entry) ≡ false }
+        ensures { OnOk result (self.new ≡ self.old ++ change_value entry ∷ []) }
+    {
+        push_behind(self.alloc, &mut self.pushed, &self.text, self.grows, entry)?;
+        self.grows = false;
+        Ok(())
+    }
+
+    /// A text comes behind the others, and joins the last where that is a text and no grapheme runs over the seam.
+    pub fn push_text(&mut self, more: &str) -> Result<(), AllocError>
+        ensures { OnOk result (self.new ≡ add_text self.old more.now) }
+    {
+        if join_text(&mut self.text, self.grows, more)? {
+            return Ok(());
+        }
+        start_text(
+            self.alloc,
+            &mut self.pushed,
+            &mut self.text,
+            self.grows,
+            more,
+        )?;
+        self.grows = true;
+        Ok(())
+    }
+
+    /// A pen, where it is another one than before.
+    pub fn push_pen(&mut self, old: &CellAttributes, new: &CellAttributes) -> Result<(), AllocError>
+        ensures { OnOk result (self.new ≡ self.old ++ pen_entry old.now new.now) }
+    {
+        if !is_same(old, new) {
+            self.push(Change::AllAttributes(new.clone()?))?;
+        }
+        Ok(())
+    }
+
+    /// Whether the last entry is a text.
+    pub fn ends_with_text(&self) -> bool
+        ensures { result ≡ last_is is_text self.now }
+    {
+        self.grows
+    }
+
+    /// The last entry, if it is no text.
+    pub fn last(&self) -> Option<&Change>
+        ensures { IsLastOf self.now (option_copied result) }
+    {
+        if self.grows {
+            return None;
+        }
+        self.pushed.last()
+    }
+
+    /// The entries in a list.
+    pub fn into_vec(self) -> Result<Vec<Change>, AllocError>
+        ensures { IfOk result (λ entries. map change_value entries.items ≡ self) }
+    {
+        let EntryList {
+            alloc,
+            mut pushed,
+            text,
+            grows,
+        } = self;
+        push_grown(alloc, &mut pushed, &text, grows)?;
+        Ok(pushed)
+    }
+}
+
+// The text, where it grew, takes its place among the entries.
+fn push_grown(
+    alloc: Global,
+    pushed: &mut Vec<Change>,
+    text: &String,
+    grows: bool,
+) -> Result<(), AllocError>
+    ensures ok { OnOk result (map change_value pushed.new.items ≡ with_text (map change_value pushed.old.items) grows (string_bytes text.now)) }
+    ensures nothing { grows ≡ false → pushed.new.items ≡ pushed.old.items }
+{
+    if grows {
+        let text = String::from_str(alloc, text.as_str())?;
+        pushed.push(Change::Text(text))?;
+    }
+    Ok(())
+}
+
+// The text, where it grew, and then the entry.
+fn push_behind(
+    alloc: Global,
+    pushed: &mut Vec<Change>,
+    text: &String,
+    grows: bool,
+    entry: Change,
+) -> Result<(), AllocError>
+    ensures ok { OnOk result (map change_value pushed.new.items ≡ with_text (map change_value pushed.old.items) grows (string_bytes text.now) ++ change_value entry ∷ []) }
+    ensures err { OnErr result (grows ≡ false → pushed.new.items ≡ pushed.old.items) }
+{
+    push_grown(alloc, pushed, text, grows)?;
+    pushed.push(entry)?;
+    Ok(())
+}
+
+// A new text grows. The one before it, where there is one, takes its place among the entries.
+fn start_text(
+    alloc: Global,
+    pushed: &mut Vec<Change>,
+    text: &mut String,
+    grows: bool,
+    first: &str,
+) -> Result<(), AllocError>
+    ensures ok { OnOk result (map change_value pushed.new.items ≡ with_text (map change_value pushed.old.items) grows (string_bytes text.old)) }
+    ensures text { OnOk result (string_bytes text.new ≡ first.now) }
+    ensures err { OnErr result (grows ≡ false → pushed.new.items ≡ pushed.old.items) }
+{
+    push_grown(alloc, pushed, text, grows)?;
+    text.clear();
+    text.push_str(first)?;
+    Ok(())
+}
+
+// Joins a text to the growing one, where there is one and it can be. Says whether it did.
+fn join_text(text: &mut String, grows: bool, more: &str) -> Result<bool, AllocError>
+    ensures joins { IfOk result (λ joined. joined ≡ (grows && joins (string_bytes text.old) more.now)) }
+    ensures grown { IfOk result (λ joined. string_bytes text.new ≡ cond joined (string_bytes text.old ++ more.now) (string_bytes text.old)) }
+{
+    if !grows {
+        return Ok(false);
+    }
+    join(text, more)
+}

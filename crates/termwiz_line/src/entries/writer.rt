@@ -1,0 +1,227 @@
+//! A writer of row entries.
+ghost use Rattle.std.specs.Prelude.{◌≡◌, ◌++◌, ◌∷◌, [], ◌+◌, ◌&&◌, nat_lt, ℕ, List, true, false, not, length, IfOk, OnOk};
+ghost use Rattle.termwiz_cell.specs.Attributes as attributes;
+ghost use Rattle.termwiz_cell.specs.Attributes.{attributes_eq};
+ghost use Rattle.termwiz_cell.specs.CellValue.{CellValue};
+ghost use Rattle.termwiz_cell.specs.ChangeValue.{change_value, is_text};
+ghost use Rattle.termwiz_storage.specs.CellsLeft.{cells_left};
+ghost use Rattle.std.specs.Option.{option_copied};
+ghost use Rattle.termwiz_line.specs.Entries as spec;
+ghost use Rattle.termwiz_line.specs.LastChange.{last_is};
+ghost use Rattle.termwiz_line.specs.GrowingText.{IsLastOf};
+ghost use Rattle.termwiz_line.specs.PennedValue.{penned_value};
+ghost use Rattle.termwiz_line.specs.Writing.{and_cells, behind, spaces_of, IsWritten};
+
+use super::{EntryList, Penned, is_default, is_plain, is_same, is_space};
+use std::alloc::{AllocError, Global};
+use std::marker::Model;
+use termwiz_cell::cell::CellAttributes;
+use termwiz_cell::change::Change;
+use termwiz_storage::line::cellref::VisibleCellIter;
+
+/// Writes rows of visible cells as entries: a pen for each run of equal attributes, then its texts.
+/// Spaces at the end of a row whose attributes are default but for the background are left out, and
+/// a background other than the default one is cleared to the end of the line.
+#[derive(Drop)]
+pub struct RowWriter<'a> {
+    entries: EntryList,
+    pen: &'a CellAttributes,
+    // Spaces that may end the row are held back: how many, and their attributes.
+    spaces: usize,
+    space_attrs: &'a CellAttributes,
+}
+
+impl<'a> Model for RowWriter<'a> {
+    ghost use Rattle.termwiz_line.specs.Writing.{Writing};
+
+    ghost Value = { Writing };
+
+    ghost view = { λ w. record { printed = record { entries = w.entries; pen = w.pen.now }; spaces = w.spaces; space_attrs = w.space_attrs.now } };
+}
+
+impl<'a> RowWriter<'a> {
+    /// A writer of nothing yet, where this pen stands.
+    pub fn new(alloc: Global, pen: &'a CellAttributes) -> RowWriter<'a>
+        ensures printed { result.printed ≡ record { entries = []; pen = pen.now } }
+        ensures spaces { result.spaces ≡ 0 }
+    {
+        RowWriter {
+            entries: EntryList::new(alloc),
+            pen,
+            spaces: 0,
+            space_attrs: pen,
+        }
+    }
+
+    /// An entry between two rows. It is no text.
+    pub fn push(&mut self, entry: Change) -> Result<(), AllocError>
+        requires { is_text (change_value entry) ≡ false }
+        ensures printed { OnOk result (self.new.printed ≡ record self.old.printed { entries = self.old.printed.entries ++ change_value entry ∷ [] }) }
+        ensures spaces { self.new.spaces ≡ self.old.spaces }
+    {
+        self.entries.push(entry)?;
+        Ok(())
+    }
+
+    /// A visible cell with this text comes next.
+    pub fn cell(&mut self, text: &str, attrs: &'a CellAttributes) -> Result<(), AllocError>
+        ensures { OnOk result ((from : spec.Penned) (cells : List (ℕ × CellValue)) (p : ℕ × CellValue) → p.1.text ≡ text.now → p.1.attrs ≡ attrs.now → IsWritten from cells self.old → IsWritten from (cells ++ p ∷ []) self.new) }
+    {
+        if is_space(text) {
+            return self.spaces(1, attrs);
+        }
+        self.print_spaces()?;
+        self.print(text, attrs)
+    }
+
+    /// So many spaces with these attributes come next.
+    pub fn spaces(&mut self, count: usize, attrs: &'a CellAttributes) -> Result<(), AllocError>
+        ensures { OnOk result ((from : spec.Penned) (cells more : List (ℕ × CellValue)) → spec.all_spaces attrs.now more ≡ true → length more ≡ count → IsWritten from cells self.old → IsWritten from (cells ++ more) self.new) }
+    {
+        if count == 0 {
+            return Ok(());
+        }
+        if self.holds_back(attrs) {
+            self.spaces = added(self.spaces, count)?;
+            return Ok(());
+        }
+        self.print_spaces()?;
+        self.spaces = count;
+        self.space_attrs = attrs;
+        Ok(())
+    }
+
+    // Whether spaces with these attributes are held back.
+    fn holds_back(&self, attrs: &CellAttributes) -> bool
+        ensures { result ≡ (nat_lt 0 self.now.spaces && attributes_eq self.now.space_attrs attrs.now) }
+    {
+        self.spaces > 0 && is_same(self.space_attrs, attrs)
+    }
+
+    // The spaces held back are printed.
+    fn print_spaces(&mut self) -> Result<(), AllocError>
+        ensures printed { OnOk result (self.new.printed ≡ and_cells self.old.printed (spaces_of self.old.spaces self.old.space_attrs)) }
+        ensures spaces { OnOk result (self.new.spaces ≡ 0) }
+        ensures space_attrs { self.new.space_attrs ≡ self.old.space_attrs }
+    {
+        let attrs = self.space_attrs;
+        while self.spaces > 0 {
+            self.print(" ", attrs)?;
+            self.spaces -= 1;
+        }
+        Ok(())
+    }
+
+    // A visible cell with this text is printed.
+    fn print(&mut self, text: &str, attrs: &'a CellAttributes) -> Result<(), AllocError>
+        ensures printed { OnOk result ((p : ℕ × CellValue) → p.1.text ≡ text.now → p.1.attrs ≡ attrs.now → self.new.printed ≡ spec.cell_out self.old.printed p) }
+        ensures spaces { self.new.spaces ≡ self.old.spaces }
+        ensures space_attrs { self.new.space_attrs ≡ self.old.space_attrs }
+    {
+        self.entries.push_pen(self.pen, attrs)?;
+        self.pen = attrs;
+        self.entries.push_text(text)?;
+        Ok(())
+    }
+
+    /// A row of these visible cells, with so many spaces behind them, comes behind the others.
+    pub fn row(
+        &mut self,
+        cells: VisibleCellIter<'a>,
+        spaces: usize,
+        attrs: &'a CellAttributes,
+    ) -> Result<(), AllocError>
+        requires between { self.old.spaces ≡ 0 }
+        requires apart { last_is is_text self.old.printed.entries ≡ false }
+        ensures row { OnOk result ((more : List (ℕ × CellValue)) → spec.all_spaces attrs.now more ≡ true → length more ≡ spaces → self.new.printed ≡ behind self.old.printed.entries (spec.row_entries self.old.printed.pen (cells_left cells.entry ++ more))) }
+        ensures between { OnOk result (self.new.spaces ≡ 0) }
+    {
+        self.cells(cells)?;
+        self.spaces(spaces, attrs)?;
+        self.end_row()
+    }
+
+    // Visible cells come next.
+    fn cells(&mut self, cells: VisibleCellIter<'a>) -> Result<(), AllocError>
+        ensures { OnOk result ((from : spec.Penned) (before : List (ℕ × CellValue)) → IsWritten from before self.old → IsWritten from (before ++ cells_left cells.entry) self.new) }
+    {
+        for cell in cells {
+            self.cell(cell.str(), cell.attrs())?;
+        }
+        Ok(())
+    }
+
+    // Whether the spaces held back are left out where the row ends.
+    fn leaves_out(&self) -> bool
+        ensures { result ≡ (nat_lt 0 self.now.spaces && attributes.is_plain self.now.space_attrs) }
+    {
+        self.spaces > 0 && is_plain(self.space_attrs)
+    }
+
+    // The row ends here: the spaces held back are left out, or printed where their attributes are more than a background.
+    fn end_row(&mut self) -> Result<(), AllocError>
+        ensures row { OnOk result ((from : spec.Penned) (cells : List (ℕ × CellValue)) → last_is is_text from.entries ≡ false → IsWritten from cells self.old → self.new.printed ≡ behind from.entries (spec.row_entries from.pen cells)) }
+        ensures between { OnOk result (self.new.spaces ≡ 0) }
+    {
+        if !self.leaves_out() {
+            return self.print_spaces();
+        }
+        self.pen = push_tail(&mut self.entries, self.pen, self.space_attrs)?;
+        self.spaces = 0;
+        Ok(())
+    }
+
+    /// The last entry, if it is no text.
+    pub fn last(&self) -> Option<&Change>
+        ensures { IsLastOf self.now.printed.entries (option_copied result) }
+    {
+        self.entries.last()
+    }
+
+    /// The entries of the rows, and the pen after them.
+    pub fn into_penned(self) -> Result<Penned<'a>, AllocError>
+        ensures { IfOk result (λ row. penned_value row ≡ self.entry.printed) }
+    {
+        let RowWriter {
+            entries,
+            pen,
+            spaces: _,
+            space_attrs: _,
+        } = self;
+        let entries = entries.into_vec()?;
+        Ok(Penned { entries, pen })
+    }
+}
+
+// What ends a row where spaces with these attributes are left out. Gives the pen after it.
+fn push_tail<'a>(
+    entries: &mut EntryList,
+    pen: &'a CellAttributes,
+    end: &'a CellAttributes,
+) -> Result<&'a CellAttributes, AllocError>
+    ensures { IfOk result (λ after. (kept : List (ℕ × CellValue)) → spec.is_empty kept ≡ not (last_is is_text entries.old) → record { entries = entries.new; pen = after.now } ≡ spec.with_tail (record { entries = entries.old; pen = pen.now }) kept end.now) }
+{
+    if entries.ends_with_text() {
+        entries.push_pen(pen, end)?;
+    } else if is_default(end) {
+        return Ok(pen);
+    }
+    push_clear(entries, end)?;
+    Ok(end)
+}
+
+// A background other than the default one, to the end of the line.
+fn push_clear(entries: &mut EntryList, end: &CellAttributes) -> Result<(), AllocError>
+    ensures { OnOk result (entries.new ≡ entries.old ++ spec.clear_entry end.now) }
+{
+    if !is_default(end) {
+        entries.push(Change::ClearToEndOfLine(end.background()))?;
+    }
+    Ok(())
+}
+
+fn added(a: usize, b: usize) -> Result<usize, AllocError>
+    ensures { IfOk result (λ sum. sum ≡ a + b) }
+{
+    a.checked_add(b).ok_or(AllocError)
+}

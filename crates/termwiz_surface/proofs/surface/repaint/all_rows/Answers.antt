@@ -1,0 +1,24 @@
+use Rattle.std.proofs.Common.{◌≡◌, map, length, sym, ap, ◌∙◌}
+use Rattle.std.specs.VecDeque.{deque_len}
+use Rattle.std.proofs.lemmas.Result.{IfOk-weaker}
+use Rattle.termwiz_line.specs.PennedValue.{penned_value}
+use Rattle.termwiz_line.specs.Row.{row_of}
+use Rattle.termwiz_line.specs.Writing.{behind}
+use Rattle.termwiz_surface.specs.ScreenValue.{cells_of}
+use Rattle.termwiz_surface.specs.Repaint.{first_entries, rows_upto, all_rows}
+use Rattle.termwiz_surface.proofs.Lines.{length-cells_of}
+use Rattle.termwiz_surface.proofs.JoinedRows.{not_clearable}
+use Rattle.termwiz_surface.proofs.surface.repaint.all_rows.Goals as goal
+
+pub returns : goal.returns
+returns c =
+    let w = c.args.width in
+    let h = length (cells_of c.args.rows.now.items) in
+    let long : h ≡ deque_len c.args.rows.now = length-cells_of c.args.rows.now.items ∙ sym c.args.rows.now.ok.0 in
+    let rows = map (row_of w) (cells_of c.args.rows.now.items) in
+    IfOk-weaker c.into_penned.result
+    (λ drawn. penned_value drawn ≡ c.write_rows.new.writer.printed)
+    (λ drawn. penned_value drawn ≡ behind first_entries (all_rows w h rows))
+    (λ drawn e. e ∙ c.in_ok-write_rows.ensures.printed ∙ ap (λ j. behind first_entries (rows_upto w rows j)) (c.len.ensures ∙ sym long)
+    ∙ ap (behind first_entries) (sym (not_clearable w h rows c.bottom_attrs-attrs.result.now c.bottom_attrs-attrs.ensures (sym c.is_clearable.ensures ∙ c.if-is_clearable.false))))
+    c.into_penned.ensures

@@ -1,0 +1,8 @@
+use Rattle.std.proofs.Common.{map}
+use Rattle.termwiz_line.specs.Row.{row_of}
+use Rattle.termwiz_surface.specs.ScreenValue.{cells_of}
+use Rattle.termwiz_surface.specs.Drawing.{IsDrawnUpto}
+use Rattle.termwiz_surface.proofs.surface.repaint.write_rows.Given as goal
+
+abbrev pub invariant-loop-i : goal.invariant-loop-i
+invariant-loop-i l = IsDrawnUpto l.width (map (row_of l.width) (cells_of l.rows.items)) l.i l.writer

@@ -1,3 +1,4 @@
 pub mod Plain
+pub mod Letter
 pub mod First
 pub mod Left

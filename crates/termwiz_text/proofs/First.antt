@@ -16,7 +16,7 @@ use Rattle.termwiz_text.proofs.Boundaries.{breaks, breaks-end}
 use Rattle.termwiz_text.proofs.Pieces.{graphemes_first, graphemes_past_char, rest_fresh, IsFirst}
 use Rattle.termwiz_text.proofs.Simple.{simple_breaks, line_end_joins, line_end_breaks}
 
-graphemes-nil : graphemes true [] ≡ []
+pub graphemes-nil : graphemes true [] ≡ []
 unfolding segments cut
 graphemes-nil = ap (λ cs. map encode_utf8_all (cut breaks [] cs [])) chars-nil
 

@@ -6,3 +6,4 @@ pub mod Ascii
 pub mod First
 pub mod Plain
 pub mod Seam
+pub mod CutAt

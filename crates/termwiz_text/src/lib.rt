@@ -9,6 +9,9 @@ ghost use Rattle.termwiz_text.specs.Letter as letter;
 ghost use Rattle.termwiz_text.specs.First.{IsFirst};
 ghost use Rattle.unicode_segmentation.specs.Grapheme.{graphemes};
 
+mod joined;
+
+pub use joined::JoinedText;
 use std::alloc::AllocError;
 use unicode_segmentation::UnicodeSegmentation;
 

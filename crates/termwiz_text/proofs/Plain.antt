@@ -1,22 +1,18 @@
 -- Printable ASCII: each character is a grapheme by itself, where no mark follows it.
-use Rattle.std.proofs.Common.{◌≡◌, ℕ, zero, suc, ◌-◌, ◌<◌, ◌≤◌, true, false, ◌&&◌, ◌||◌, ◌==◌, List, [], ◌∷◌, ◌++◌, map, length, get_or, take, drop, min, length-append, refl, sym, ap, ap₂, subst, ◌∙◌, arith, take-append-drop, length-take-le, append-nil, leb-true, ltb-true, lt-ltb}
+use Rattle.std.proofs.Common.{◌≡◌, ℕ, zero, suc, ◌-◌, ◌<◌, ◌≤◌, true, false, ◌&&◌, ◌||◌, ◌==◌, List, [], ◌∷◌, ◌++◌, map, length, get_or, take, drop, min, refl, sym, ap, ap₂, subst, ◌∙◌, arith, take-append-drop, length-take-le, append-nil, leb-true, ltb-true, lt-ltb}
 use Rattle.std.proofs.lemmas.Bool.{and_parts, ne_eqb}
 use Rattle.std.proofs.lemmas.Str.{chars-nil, encode_ascii, IsUtf8-from_ascii, IsCharBoundary-from_take}
 use Rattle.std.proofs.lemmas.Str.Ascii.{IsAscii-cons, IsAscii-nil}
 use Rattle.std.specs.Prelude.{nat_le, encode_utf8, encode_utf8_all}
 use Rattle.std.specs.Char.{is_ascii}
-use Rattle.std.specs.List.{concat, list_all}
+use Rattle.std.specs.List.{list_all}
 use Rattle.std.specs.Str.{chars, IsUtf8, IsAscii, IsCharBoundary}
-use Rattle.unicode_segmentation.specs.Grapheme.{graphemes, is_grapheme_break}
-use Rattle.unicode_segmentation.specs.Segments.{cut, segments}
-use Rattle.unicode_segmentation.proofs.SegmentsLemmas.{concat-segments}
+use Rattle.unicode_segmentation.specs.Grapheme.{graphemes}
 use Rattle.termwiz_text.specs.Plain.{is_plain, begins_unmarked, begins_alone, IsPlainRun}
-use Rattle.termwiz_text.specs.First as first
 use Rattle.termwiz_text.specs.Letter.{is_letter}
 use Rattle.termwiz_text.proofs.Simple.{simple_breaks}
 use Rattle.termwiz_text.proofs.Ascii.{chars_ascii, IsUtf8-past_ascii, graphemes_ascii}
 use Rattle.termwiz_text.proofs.Boundaries.{breaks, breaks-end}
-use Rattle.termwiz_text.proofs.Pieces.{graphemes_first, IsFirst}
 
 plain_lt : (c : ℕ) → is_plain c ≡ true → c < 127
 plain_lt c h = let le = leb-true c 0x7E (and_parts (nat_le 0x20 c) (nat_le c 0x7E) h).1 in omega arith

@@ -1,26 +1,21 @@
 -- Characters that the rules on graphemes leave apart: between two of them there is a boundary, but for a CR before an LF.
-use Rattle.std.proofs.Common.{◌≡◌, ℕ, ◌<◌, ◌≤◌, Bool, true, false, cond, not, ◌&&◌, ◌||◌, ◌==◌, inl, inr, List, [], ◌∷◌, map, unwrap_or, eqb-true, refl, sym, ap, ap₂, ◌∙◌, arith}
-use Rattle.std.proofs.lemmas.Bool.{and_parts, and_right, or_cases, not-true, ne_eqb, ltb-true, leb-true}
-use Rattle.std.specs.Prelude.{nat_le}
+use Rattle.std.proofs.Common.{◌≡◌, ℕ, ◌<◌, Bool, true, false, cond, not, ◌&&◌, ◌||◌, ◌==◌, inl, inr, List, [], ◌∷◌, map, unwrap_or, eqb-true, refl, sym, ap, ap₂, ◌∙◌, arith}
+use Rattle.std.proofs.lemmas.Bool.{and_right, or_cases, not-true, ne_eqb, ltb-true}
 use Rattle.std.specs.Char.{is_ascii}
-use Rattle.std.specs.Int.{is_in_range}
-use Rattle.ucd_table.specs.Rows.{Range, in_ranges}
 use Rattle.ucd_table.proofs.Computing.{tables}
-use Rattle.ucd_table.proofs.Facts.{Stepped-below, Stepped-everywhere}
-use Rattle.ucd_table.proofs.Stepped.{zip_stepped, of_ranges}
-use Rattle.ucd_table.proofs.StepsLemmas.{rises_from}
+use Rattle.ucd_table.proofs.Facts.{Stepped-below}
 use Rattle.ucd_breaks.specs.GraphemeClusterBreak.{grapheme_cluster_break, grapheme_cluster_break_eq}
 use Rattle.ucd_breaks.specs.declared.GraphemeClusterBreak.{GraphemeClusterBreak}
 use Rattle.ucd_breaks.specs.declared.GraphemeClusterBreak.TheVariants.{Control, Cr, Lf, Other}
 use Rattle.ucd_breaks.proofs.GraphemeClusterBreakLemmas.{grapheme_cluster_break_stepped, grapheme_cluster_break_number_injective}
 use Rattle.ucd_derived.specs.IndicConjunctBreak.{indic_conjunct_break}
-use Rattle.ucd_derived.specs.declared.IndicConjunctBreak.{IndicConjunctBreak}
 use Rattle.ucd_derived.proofs.IndicConjunctBreakLemmas.{indic_conjunct_break_stepped}
 use Rattle.ucd_emoji.specs.Binary.{is_extended_pictographic}
 use Rattle.unicode_segmentation.specs.Grapheme.{break_by_pair, is_consonant, is_zwj, is_regional, ends_in_linker, ends_in_pictograph, ends_in_half_flag, joins_conjunct, joins_emoji, joins_flag, is_grapheme_break}
 use Rattle.termwiz_text.specs.Plain.{is_plain}
 use Rattle.termwiz_text.specs.Letter.{is_letter, is_simple}
 use Rattle.termwiz_text.proofs.Boundaries.{breaks}
+use Rattle.termwiz_text.proofs.Letters.{letters_stepped, Stepped-letters, letter_from}
 
 -- ---- what the tables say of them
 
@@ -49,57 +44,22 @@ simple_ascii c l = record {
   no_consonant = not-true _ (ascii_no_consonant c l);
 }
 
-abbrev letter_ranges : List Range
-letter_ranges = (0x3041, 0x3096) ∷ (0x30A1, 0x30FA) ∷ (0x4E00, 0x9FFF) ∷ []
+letter_other : (c : ℕ) → is_letter c ≡ true → grapheme_cluster_break_eq (grapheme_cluster_break c) Other ≡ true
+unfolding tables grapheme_cluster_break_stepped letters_stepped
+letter_other = Stepped-letters grapheme_cluster_break grapheme_cluster_break_stepped (λ g. grapheme_cluster_break_eq g Other) refl
 
-in_letter_ranges : (c : ℕ) → in_ranges letter_ranges c ≡ is_letter c
-unfolding in_ranges
-in_letter_ranges c = regroup (is_in_range 0x3041 0x3096 c) (is_in_range 0x30A1 0x30FA c) (is_in_range 0x4E00 0x9FFF c)
-  where
-    regroup : (x y z : Bool) → (x || (y || (z || false))) ≡ ((x || y) || z)
-    regroup true y z = refl
-    regroup false true z = refl
-    regroup false false true = refl
-    regroup false false false = refl
-
-letter_value : Bool → GraphemeClusterBreak → Bool
-letter_value letter g = not letter || grapheme_cluster_break_eq g Other
-
-letter_value_passes : (c : ℕ) → letter_value (in_ranges letter_ranges c) (grapheme_cluster_break c) ≡ true
-unfolding tables grapheme_cluster_break_stepped rises_from letter_value
-letter_value_passes = Stepped-everywhere (λ c. letter_value (in_ranges letter_ranges c) (grapheme_cluster_break c))
-    (zip_stepped letter_value (in_ranges letter_ranges) grapheme_cluster_break (of_ranges letter_ranges refl) grapheme_cluster_break_stepped) refl
-
-letter_consonant : Bool → IndicConjunctBreak → Bool
-letter_consonant letter v = not letter || not (is_consonant v)
-
-letter_consonant_passes : (c : ℕ) → letter_consonant (in_ranges letter_ranges c) (indic_conjunct_break c) ≡ true
-unfolding tables indic_conjunct_break_stepped rises_from letter_consonant
-letter_consonant_passes = Stepped-everywhere (λ c. letter_consonant (in_ranges letter_ranges c) (indic_conjunct_break c))
-    (zip_stepped letter_consonant (in_ranges letter_ranges) indic_conjunct_break (of_ranges letter_ranges refl) indic_conjunct_break_stepped) refl
-
-pub letter_from : (c : ℕ) → is_letter c ≡ true → 0x3041 ≤ c
-letter_from c h = elim (or_cases (is_in_range 0x3041 0x3096 c || is_in_range 0x30A1 0x30FA c) (is_in_range 0x4E00 0x9FFF c) h) [
-  | inl kana ↦ elim (or_cases (is_in_range 0x3041 0x3096 c) (is_in_range 0x30A1 0x30FA c) kana) [
-    | inl x ↦ lowest 0x3041 0x3096 x
-    | inr x ↦ let l = lowest 0x30A1 0x30FA x in omega arith
-  ]
-  | inr x ↦ let l = lowest 0x4E00 0x9FFF x in omega arith
-]
-  where
-    lowest : (low high : ℕ) → is_in_range low high c ≡ true → low ≤ c
-    lowest low high x = leb-true low c (and_parts (nat_le low c) (nat_le c high) x).0
+letter_no_consonant : (c : ℕ) → is_letter c ≡ true → not (is_consonant (indic_conjunct_break c)) ≡ true
+unfolding tables indic_conjunct_break_stepped letters_stepped
+letter_no_consonant = Stepped-letters indic_conjunct_break indic_conjunct_break_stepped (λ v. not (is_consonant v)) refl
 
 simple_letter : (c : ℕ) → is_letter c ≡ true → IsSimple c
-unfolding letter_value letter_consonant
 simple_letter c h =
     let from = letter_from c h in
-    let within : in_ranges letter_ranges c ≡ true = in_letter_ranges c ∙ h in
-    let other : grapheme_cluster_break_eq (grapheme_cluster_break c) Other ≡ true = sym (ap (λ b. not b || grapheme_cluster_break_eq (grapheme_cluster_break c) Other) within) ∙ letter_value_passes c in
-    let none : not (is_consonant (indic_conjunct_break c)) ≡ true = sym (ap (λ b. not b || not (is_consonant (indic_conjunct_break c))) within) ∙ letter_consonant_passes c in
     record {
-      value = grapheme_cluster_break_number_injective _ _ (eqb-true _ _ other) ∙ sym (ap₂ (λ a b. value_by a b (is_plain c || is_letter c)) (ne_eqb c 13 (omega arith)) (ne_eqb c 10 (omega arith)) ∙ ap (value_by false false) (ap (λ b. is_plain c || b) h ∙ or_true (is_plain c)));
-      no_consonant = not-true _ none;
+      value =
+          grapheme_cluster_break_number_injective _ _ (eqb-true _ _ (letter_other c h))
+          ∙ sym (ap₂ (λ a b. value_by a b (is_plain c || is_letter c)) (ne_eqb c 13 (omega arith)) (ne_eqb c 10 (omega arith)) ∙ ap (λ b. value_by false false (is_plain c || b)) h ∙ ap (value_by false false) (or_true (is_plain c)));
+      no_consonant = not-true _ (letter_no_consonant c h);
     }
   where
     or_true : (b : Bool) → (b || true) ≡ true

@@ -7,6 +7,11 @@ use Rattle.std.specs.Int.{is_in_range}
 abbrev pub is_letter : ℕ → Bool
 is_letter c = is_in_range 0x3041 0x3096 c || is_in_range 0x30A1 0x30FA c || is_in_range 0x4E00 0x9FFF c
 
+-- the characters are one such letter
+abbrev pub is_one_letter : List ℕ → Bool
+is_one_letter (c ∷ []) = is_letter c
+is_one_letter _ = false
+
 -- between two such characters there is a boundary, but for a CR before an LF
 abbrev pub is_simple : ℕ → Bool
 is_simple c = is_ascii c || is_letter c

@@ -48,6 +48,17 @@ pub fn is_letter(c: char) -> bool
     matches!(c, 'ぁ'..='ゖ' | 'ァ'..='ヺ' | '\u{4E00}'..='\u{9FFF}')
 }
 
+/// Whether the text is one such letter.
+pub fn is_one_letter(text: &str) -> bool
+    ensures { result ≡ letter.is_one_letter (chars text.now) }
+{
+    let mut chars = text.chars();
+    match chars.next() {
+        Some(only) => is_letter(only) && chars.as_str().is_empty(),
+        None => false,
+    }
+}
+
 fn is_simple(c: char) -> bool
     ensures { result ≡ letter.is_simple c }
 {

@@ -1,7 +1,6 @@
-use Rattle.std.proofs.Common.{◌≡◌, List, ℕ, true, ◌++◌, length, cond, sym, ap, ◌∙◌, subst}
+use Rattle.std.proofs.Common.{◌≡◌, List, ℕ, ◌++◌, length, cond, ap, ◌∙◌, subst}
 use Rattle.std.specs.Prelude.{string_bytes}
 use Rattle.std.specs.Str.{IsUtf8}
-use Rattle.termwiz_text.specs.CutAt.{IsCutAt}
 use Rattle.termwiz_text.proofs.CutAt.{cut_at_seam}
 use Rattle.termwiz_text.proofs.joined.JoinedText.join.Goals as goal
 

@@ -177,6 +177,7 @@ impl Widths for UnicodeWidths {
 }
 
 #[tactic(auto, unfolding(crate::specs::Width::unicode_columns))]
+#[inline(never)]
 fn table_width(text: &str) -> usize
     ensures { result ≡ unicode_columns text.now }
 {

@@ -20,3 +20,7 @@ graphemes-single t u h = one_of (graphemes true t) t (concat-segments _ t u) h
 -- a grapheme by itself is stored as it is
 pub single_same : (g : List ℕ) → graphemes true g ≡ g ∷ [] → single g ≡ g
 single_same g h = ap (λ ps. if length ps == 1 then g else replacement) h
+
+-- only a text of nothing has no grapheme
+pub no_grapheme : (t : List ℕ) → IsUtf8 t → graphemes true t ≡ [] → t ≡ []
+no_grapheme t u h = sym (concat-segments _ t u) ∙ ap concat h

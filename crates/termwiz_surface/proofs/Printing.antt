@@ -25,7 +25,7 @@ use Rattle.termwiz_surface.proofs.Graphemes.{single_same}
 use Rattle.termwiz_surface.proofs.Stored.{IsLawful}
 use Rattle.termwiz_surface.proofs.Drawn.{IsSound-put, rows-put, lengths-put}
 
-graphemes-nothing : graphemes true [] ≡ []
+pub graphemes-nothing : graphemes true [] ≡ []
 unfolding unicode_segmentation
 graphemes-nothing = refl
 

@@ -1,5 +1,5 @@
 //! Surfaces.
-ghost use Rattle.std.specs.Prelude.{◌≡◌, true, ◌+◌, ◌-◌, ◌*◌, ◌<◌, ◌≤◌, ◌^◌, List, [], ◌∷◌, length, map, vec_len, replicate, string_bytes, false, MatchOption, IsOk, IfOk, OnOk, OnErr};
+ghost use Rattle.std.specs.Prelude.{◌≡◌, true, ◌+◌, ◌-◌, ◌*◌, ◌<◌, ◌≤◌, ◌^◌, List, [], ◌∷◌, length, map, vec_len, replicate, string_bytes, false, IsOk, IfOk, OnOk, OnErr};
 ghost use Rattle.termwiz_cell.specs.Attributes.{default_attributes, with_background};
 ghost use Rattle.termwiz_cell.specs.CellValue.{blank};
 ghost use Rattle.termwiz_cell.specs.Width.{unversioned};
@@ -291,20 +291,21 @@ impl<W: Widths> Surface<W> {
     }
 
     // Prints the run of ASCII that the text begins with, or else its first grapheme, and gives what is left.
-    fn print_first<'a>(&mut self, text: &'a str) -> Result<Option<&'a str>, AllocError>
-        ensures ok { IfOk result (λ left. MatchOption left ((graphemes true text.now ≡ []) × (self.new ≡ self.old)) (λ rest. PrintsSome (unversioned (W.width_of self.old.widths)) self.old text.now rest.now self.new)) }
+    fn print_first<'a>(&mut self, text: &'a str) -> Result<&'a str, AllocError>
+        requires { 0 < length text.now }
+        ensures ok { IfOk result (λ rest. PrintsSome (unversioned (W.width_of self.old.widths)) self.old text.now rest.now self.new) }
         ensures err { OnErr result (SameFrame self.old self.new) }
     {
         let (run, rest) = split_narrow_run(&self.widths, text, self.run_limit());
         if !run.is_empty() {
             self.print_run(run)?;
-            return Ok(Some(rest));
+            return Ok(rest);
         }
         let Some((grapheme, rest)) = split_first_grapheme(text) else {
-            return Ok(None);
+            unreachable!();
         };
         self.print_one(grapheme)?;
-        Ok(Some(rest))
+        Ok(rest)
     }
 
     fn print_text(&mut self, text: &str) -> Result<(), AllocError>
@@ -312,8 +313,8 @@ impl<W: Widths> Surface<W> {
         ensures err { OnErr result (SameFrame self.old self.new) }
     {
         let mut rest = text;
-        'pieces: while let Some(left) = self.print_first(rest)? {
-            rest = left;
+        'pieces: while !rest.is_empty() {
+            rest = self.print_first(rest)?;
         }
         Ok(())
     }

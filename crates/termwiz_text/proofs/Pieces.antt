@@ -23,6 +23,10 @@ abbrev pub onto : List ℕ → List ℕ → List ℕ
 onto [] before = before
 onto (c ∷ cs) before = onto cs (c ∷ before)
 
+pub onto_append : (cs ds before : List ℕ) → onto (cs ++ ds) before ≡ onto ds (onto cs before)
+onto_append [] ds before = refl
+onto_append (c ∷ cs) ds before = onto_append cs ds (c ∷ before)
+
 cut_nonempty : (before : List ℕ) (c : ℕ) (cs after : List ℕ) → (p : List ℕ) × (ps : List (List ℕ)) × (cut breaks before (c ∷ cs) after ≡ p ∷ ps)
 unfolding cut
 cut_nonempty before c cs after = some (breaks (c ∷ before) (cs ++ after)) (cut breaks (c ∷ before) cs after)
@@ -195,7 +199,7 @@ concat_attach true c ps = refl
 concat_attach false c [] = refl
 concat_attach false c (p ∷ ps) = refl
 
-concat_cut : (before cs : List ℕ) → concat (cut breaks before cs []) ≡ cs
+pub concat_cut : (before cs : List ℕ) → concat (cut breaks before cs []) ≡ cs
 unfolding cut
 concat_cut before [] = refl
 concat_cut before (c ∷ cs) = concat_attach (breaks (c ∷ before) (cs ++ [])) c _ ∙ ap (λ t. c ∷ t) (concat_cut (c ∷ before) cs)

@@ -1,20 +1,18 @@
 -- Printable ASCII: each character is a grapheme by itself, where no mark follows it.
-use Rattle.std.proofs.Common.{◌≡◌, ℕ, zero, suc, ◌-◌, ◌<◌, ◌≤◌, true, false, ◌&&◌, ◌==◌, List, [], ◌∷◌, ◌++◌, map, length, get_or, take, drop, min, length-append, refl, sym, ap, ap₂, subst, ◌∙◌, arith, take-append-drop, length-take-le, append-nil, leb-true, ltb-true, lt-ltb}
+use Rattle.std.proofs.Common.{◌≡◌, ℕ, zero, suc, ◌-◌, ◌<◌, ◌≤◌, true, false, ◌&&◌, ◌||◌, ◌==◌, List, [], ◌∷◌, ◌++◌, map, length, get_or, take, drop, min, refl, sym, ap, ap₂, subst, ◌∙◌, arith, take-append-drop, length-take-le, append-nil, leb-true, ltb-true, lt-ltb}
 use Rattle.std.proofs.lemmas.Bool.{and_parts, ne_eqb}
 use Rattle.std.proofs.lemmas.Str.{chars-nil, encode_ascii, IsUtf8-from_ascii, IsCharBoundary-from_take}
 use Rattle.std.proofs.lemmas.Str.Ascii.{IsAscii-cons, IsAscii-nil}
 use Rattle.std.specs.Prelude.{nat_le, encode_utf8, encode_utf8_all}
 use Rattle.std.specs.Char.{is_ascii}
-use Rattle.std.specs.List.{concat, list_all}
+use Rattle.std.specs.List.{list_all}
 use Rattle.std.specs.Str.{chars, IsUtf8, IsAscii, IsCharBoundary}
-use Rattle.unicode_segmentation.specs.Grapheme.{graphemes, is_grapheme_break}
-use Rattle.unicode_segmentation.specs.Segments.{cut, segments}
-use Rattle.unicode_segmentation.proofs.SegmentsLemmas.{concat-segments}
+use Rattle.unicode_segmentation.specs.Grapheme.{graphemes}
 use Rattle.termwiz_text.specs.Plain.{is_plain, begins_unmarked, begins_alone, IsPlainRun}
-use Rattle.termwiz_text.specs.First as first
-use Rattle.termwiz_text.proofs.Ascii.{ascii_breaks, chars_ascii, IsUtf8-past_ascii, graphemes_ascii}
+use Rattle.termwiz_text.specs.Letter.{is_letter}
+use Rattle.termwiz_text.proofs.Simple.{simple_breaks}
+use Rattle.termwiz_text.proofs.Ascii.{chars_ascii, IsUtf8-past_ascii, graphemes_ascii}
 use Rattle.termwiz_text.proofs.Boundaries.{breaks, breaks-end}
-use Rattle.termwiz_text.proofs.Pieces.{graphemes_first, IsFirst}
 
 plain_lt : (c : ℕ) → is_plain c ≡ true → c < 127
 plain_lt c h = let le = leb-true c 0x7E (and_parts (nat_le 0x20 c) (nat_le c 0x7E) h).1 in omega arith
@@ -22,12 +20,15 @@ plain_lt c h = let le = leb-true c 0x7E (and_parts (nat_le 0x20 c) (nat_le c 0x7
 plain_ascii : (c : ℕ) → is_plain c ≡ true → c < 128
 plain_ascii c h = let l = plain_lt c h in omega arith
 
+pub plain_unmarked : (c : ℕ) → is_plain c ≡ true → is_ascii c ≡ true
+plain_unmarked c h = lt-ltb c 128 (plain_ascii c h)
+
 plain_not_cr : (p q : ℕ) → is_plain p ≡ true → (p == 13 && q == 10) ≡ false
 plain_not_cr p q h = let le = leb-true 0x20 p (and_parts (nat_le 0x20 p) (nat_le p 0x7E) h).0 in ap (λ b. b && q == 10) (ne_eqb p 13 (omega arith))
 
 -- between such a character and one of ASCII there is always a boundary
 pub plain_breaks : (p : ℕ) (before : List ℕ) (q : ℕ) (after : List ℕ) → is_plain p ≡ true → is_ascii q ≡ true → breaks (p ∷ before) (q ∷ after) ≡ true
-plain_breaks p before q after a b = ascii_breaks p before q after (plain_ascii p a) (ltb-true q 128 b) (plain_not_cr p q a)
+plain_breaks p before q after a b = simple_breaks p before q after (ap (λ s. s || is_letter p) (plain_unmarked p a)) (ap (λ s. s || is_letter q) b) (plain_not_cr p q a)
 
 pub chars_plain : (p : ℕ) (b : List ℕ) → IsUtf8 (p ∷ b) → is_plain p ≡ true → chars (p ∷ b) ≡ p ∷ chars b
 chars_plain p b u h = chars_ascii p b u (plain_ascii p h)
@@ -45,9 +46,6 @@ graphemes_plain p (q ∷ b) u h k =
     let later = chars_ascii q b (IsUtf8-past_plain p (q ∷ b) u h) (ltb-true q 128 k) in
     graphemes_ascii p (q ∷ b) u (plain_ascii p h) (ap (breaks (p ∷ [])) later ∙ plain_breaks p [] q (chars b) h k)
 
-pub plain_unmarked : (c : ℕ) → is_plain c ≡ true → is_ascii c ≡ true
-plain_unmarked c h = lt-ltb c 128 (plain_ascii c h)
-
 -- a run of printable ASCII that no mark follows: each character is a grapheme
 pub graphemes_plain_run : (a b : List ℕ) → IsUtf8 (a ++ b) → list_all is_plain a ≡ true → (0 < length a → begins_unmarked b ≡ true) → graphemes true (a ++ b) ≡ map (λ c. c ∷ []) a ++ graphemes true b
 graphemes_plain_run [] b u h k = refl
@@ -57,36 +55,8 @@ graphemes_plain_run (p ∷ (q ∷ a)) b u h k =
     graphemes_plain p (q ∷ (a ++ b)) u parts.0 (plain_unmarked q (and_parts (is_plain q) (list_all is_plain a) parts.1).0)
     ∙ ap (λ ps. (p ∷ []) ∷ ps) (graphemes_plain_run (q ∷ a) b (IsUtf8-past_plain p _ u parts.0) parts.1 (λ _. k (omega arith)))
 
-graphemes-nil : graphemes true [] ≡ []
-unfolding segments cut
-graphemes-nil = ap (λ cs. map encode_utf8_all (cut breaks [] cs [])) chars-nil
-
 pub utf8_one : (p : ℕ) → is_plain p ≡ true → IsUtf8 (p ∷ [])
 utf8_one p h = let l = plain_lt p h in IsUtf8-from_ascii (p ∷ []) (IsAscii-cons p [] (omega arith) IsAscii-nil)
-
-pub first_plain : (text one rest : List ℕ) → IsUtf8 text → begins_alone text ≡ true → one ≡ take 1 text → rest ≡ drop 1 text → first.IsFirst text one rest
-first_plain [] one rest u h a b = absurd cc
-first_plain (p ∷ tail) one rest u h a b =
-    let parts = and_parts (is_plain p) (begins_unmarked tail) h in
-    let one_is : one ≡ p ∷ [] = a in
-    let rest_is : rest ≡ tail = b in
-    rw (one_is, rest_is) (record {
-      graphemes_are = graphemes_plain p tail u parts.0 parts.1;
-      alone = graphemes_plain p [] (utf8_one p parts.0) parts.0 refl ∙ ap (λ ps. (p ∷ []) ∷ ps) graphemes-nil;
-      shrinks = omega arith;
-    })
-
-pub first_piece_of : (text one rest : List ℕ) (gs : List (List ℕ)) → IsUtf8 text → graphemes true text ≡ one ∷ gs → rest ≡ concat gs → first.IsFirst text one rest
-first_piece_of text one rest gs u h e =
-    let f : IsFirst one gs = graphemes_first text one gs u h in
-    let others : graphemes true rest ≡ gs = ap (graphemes true) e ∙ f.others in
-    let whole : one ++ rest ≡ text = ap (λ t. one ++ t) e ∙ sym (ap concat h) ∙ concat-segments (is_grapheme_break true) text u in
-    let some : 0 < length one = nonempty one f.alone in
-    record { graphemes_are = h ∙ ap (λ gs. one ∷ gs) (sym others); alone = f.alone; shrinks = omega (arith, length-append one rest, ap length whole) }
-  where
-    nonempty : (g : List ℕ) → graphemes true g ≡ g ∷ [] → 0 < length g
-    nonempty [] k = let e : [] ≡ [] ∷ [] = sym graphemes-nil ∙ k in absurd cc
-    nonempty (c ∷ g) k = omega arith
 
 -- the last one of a run that a mark follows
 last_of_run : (Q : List ℕ → Type 0) → ((p q : ℕ) (rest : List ℕ) → is_plain p ≡ true → is_ascii q ≡ false → Q (p ∷ (q ∷ rest)))

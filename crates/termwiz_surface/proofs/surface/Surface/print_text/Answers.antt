@@ -1,14 +1,18 @@
-use Rattle.std.proofs.Common.{◌∙◌, subst}
+use Rattle.std.proofs.Common.{◌≡◌, ◌∙◌, ℕ, suc, true, List, [], ◌∷◌, length, fold, refl, ap, sym, subst, arith}
+use Rattle.std.specs.Prelude.{◌==◌}
+use Rattle.std.proofs.lemmas.Bool.{eqb-true}
+use Rattle.unicode_segmentation.specs.Grapheme.{graphemes}
 use Rattle.termwiz_cell.specs.Width.{unversioned}
+use Rattle.termwiz_surface.specs.Print.{print_one, lengths_after}
 use Rattle.termwiz_surface.specs.Printing.{PrintsSome}
-use Rattle.termwiz_surface.proofs.Printing.{screen-left, lengths-left}
+use Rattle.termwiz_surface.specs.SurfaceValue.{screen_of, lengths_of}
+use Rattle.termwiz_surface.proofs.Printing.{screen-left, lengths-left, graphemes-nothing}
 use Rattle.termwiz_surface.proofs.surface.Surface.print_text.Goals as goal
 
 pub pieces-preserved : goal.pieces-preserved
 pieces-preserved g c =
     let before = c.pieces.invariant in
-    let here = rw c.in-Some.is at c.in_ok-left.ensures.ok in
-    let some : PrintsSome (unversioned (g.W.Widths.width_of c.args.self.now.widths)) c.pieces.self c.pieces.rest.now c.in-Some.left.now c.print_first.new.self = subst (λ (w : _). PrintsSome (unversioned (g.W.Widths.width_of w)) c.pieces.self c.pieces.rest.now c.in-Some.left.now c.print_first.new.self) before.frame.widths here in
+    let some : PrintsSome (unversioned (g.W.Widths.width_of c.args.self.now.widths)) c.pieces.self c.pieces.rest.now c.in_ok-rest.rest.now c.print_first.new.self = subst (λ (w : _). PrintsSome (unversioned (g.W.Widths.width_of w)) c.pieces.self c.pieces.rest.now c.in_ok-rest.rest.now c.print_first.new.self) before.frame.widths c.in_ok-rest.ensures.ok in
     record {
       is_text = some.is_text;
       frame = record {
@@ -17,6 +21,25 @@ pieces-preserved g c =
         height = some.prints.height ∙ before.frame.height;
         number = some.prints.number ∙ before.frame.number;
       };
-      screen = screen-left _ c.pieces.self c.print_first.new.self c.pieces.rest.now c.in-Some.left.now some ∙ before.screen;
-      lengths = lengths-left _ c.pieces.self c.print_first.new.self c.pieces.rest.now c.in-Some.left.now some ∙ before.lengths;
+      screen = screen-left _ c.pieces.self c.print_first.new.self c.pieces.rest.now c.in_ok-rest.rest.now some ∙ before.screen;
+      lengths = lengths-left _ c.pieces.self c.print_first.new.self c.pieces.rest.now c.in_ok-rest.rest.now some ∙ before.lengths;
+    }
+
+none_left : (t : List ℕ) → true ≡ (length t == 0) → t ≡ []
+none_left [] e = refl
+none_left (b ∷ t) e = let no : suc (length t) ≡ 0 = eqb-true _ _ (sym e) in absurd (omega arith)
+
+pub returns-clause-ok : goal.returns-clause-ok
+returns-clause-ok g c =
+    let f : List ℕ → ℕ = unversioned (g.W.Widths.width_of c.args.self.now.widths) in
+    let before = c.pieces.invariant in
+    let empty : c.pieces.rest.now ≡ [] = none_left c.pieces.rest.now c.pieces-test.ensures in
+    let nothing : graphemes true c.pieces.rest.now ≡ [] = ap (graphemes true) empty ∙ graphemes-nothing in
+    record {
+      widths = before.frame.widths;
+      width = before.frame.width;
+      height = before.frame.height;
+      number = before.frame.number;
+      screen_is = sym (ap (fold (print_one f) (screen_of c.pieces.self)) nothing) ∙ before.screen;
+      lengths_are = sym (ap (lengths_after f (screen_of c.pieces.self) (lengths_of c.pieces.self)) nothing) ∙ before.lengths;
     }

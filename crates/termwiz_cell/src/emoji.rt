@@ -6,7 +6,7 @@ ghost use Rattle.std.specs.Str.{chars};
 ghost use Rattle.termwiz_cell.specs.Width as spec;
 ghost use Rattle.termwiz_cell.specs.Width.{at_version, columns_of, unicode_columns};
 
-use termwiz_text::{Graphemes, is_one_plain};
+use termwiz_text::{Graphemes, is_one_letter, is_one_plain};
 use unicode_width::UnicodeWidthStr;
 
 /// How a character is shown, where it has two forms.
@@ -157,11 +157,14 @@ impl Widths for UnicodeWidths {
 
     ghost space_has_one = { λ _ _. unicode_columns-space };
 
-    // Most texts are one printable character of ASCII, for which no table is read.
-    #[tactic(auto, using(crate::proofs::PlainWidths::one_plain_width))]
+    // Most texts are one printable character of ASCII, one of kana or one common ideograph: for
+    // these no table is read.
+    #[tactic(auto, using(crate::proofs::PlainWidths::one_plain_width, crate::proofs::PlainWidths::one_letter_width))]
     fn width(&self, text: &str, _version: Option<UnicodeVersion>) -> usize {
         if is_one_plain(text) {
             1
+        } else if is_one_letter(text) {
+            2
         } else {
             table_width(text)
         }

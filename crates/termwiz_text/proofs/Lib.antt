@@ -1,5 +1,10 @@
 pub mod Tables
 pub mod Boundaries
 pub mod Pieces
+pub mod Letters
+pub mod Simple
+pub mod Ascii
+pub mod First
 pub mod Plain
 pub mod Seam
+pub mod CutAt

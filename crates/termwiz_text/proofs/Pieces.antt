@@ -3,7 +3,7 @@ use Rattle.std.proofs.Common.{◌≡◌, ◌≢◌, ℕ, Bool, true, false, cond
 use Rattle.std.proofs.lemmas.Bool.{cases_Bool, cond-true, cond-false, true≢false}
 use Rattle.std.proofs.lemmas.List.{append_cancel_left, append_cancel_right}
 use Rattle.std.proofs.lemmas.List.Folds.{concat-append}
-use Rattle.std.proofs.lemmas.Str.{chars-append, chars_from_encodes, encodes-chars, encodes-append, encodes_same, IsUtf8-past_char}
+use Rattle.std.proofs.lemmas.Str.{chars-append, chars_past_char, chars_from_encodes, encodes-chars, encodes-append, encodes_same, IsUtf8-past_char}
 use Rattle.std.specs.List.{All, concat}
 use Rattle.std.proofs.lemmas.List.Elements.{All-nil, All-cons}
 use Rattle.std.specs.Prelude.{encode_utf8, encode_utf8_all}
@@ -22,6 +22,10 @@ attach b part pieces = cond b (part ∷ pieces) (prepend part pieces)
 abbrev pub onto : List ℕ → List ℕ → List ℕ
 onto [] before = before
 onto (c ∷ cs) before = onto cs (c ∷ before)
+
+pub onto_append : (cs ds before : List ℕ) → onto (cs ++ ds) before ≡ onto ds (onto cs before)
+onto_append [] ds before = refl
+onto_append (c ∷ cs) ds before = onto_append cs ds (c ∷ before)
 
 cut_nonempty : (before : List ℕ) (c : ℕ) (cs after : List ℕ) → (p : List ℕ) × (ps : List (List ℕ)) × (cut breaks before (c ∷ cs) after ≡ p ∷ ps)
 unfolding cut
@@ -159,6 +163,15 @@ graphemes_alone s u (g ∷ gs) h =
     let front : IsUtf8 g = first_text s g gs u h in
     All-cons (λ g. graphemes true g ≡ g ∷ []) g gs first.alone (graphemes_alone (concat gs) (IsUtf8-after s g (concat gs) u front whole) gs first.others)
 
+-- a character with a boundary behind it is the first grapheme
+pub graphemes_past_char : (s rest : List ℕ) (c : ℕ) → IsUtf8 s → s ≡ encode_utf8 c ++ rest → breaks (c ∷ []) (chars rest) ≡ true → graphemes true s ≡ encode_utf8 c ∷ graphemes true rest
+unfolding segments cut
+graphemes_past_char s rest c u split ends =
+    let one : List ℕ = c ∷ [] in
+    ap (λ cs. map encode_utf8_all (cut breaks [] cs [])) (chars_past_char s rest c u split)
+    ∙ ap₂ (λ b (ps : List (List ℕ)). map encode_utf8_all (cond b (one ∷ ps) (prepend one ps))) (ap (breaks one) (append-nil (chars rest)) ∙ ends) (rest_fresh one (chars rest) ends)
+    ∙ ap (λ g. g ∷ map encode_utf8_all (cut breaks [] (chars rest) [])) (append-nil (encode_utf8 c))
+
 -- ---- a text behind another one
 
 -- a piece that ends at a boundary, with more behind it
@@ -186,7 +199,7 @@ concat_attach true c ps = refl
 concat_attach false c [] = refl
 concat_attach false c (p ∷ ps) = refl
 
-concat_cut : (before cs : List ℕ) → concat (cut breaks before cs []) ≡ cs
+pub concat_cut : (before cs : List ℕ) → concat (cut breaks before cs []) ≡ cs
 unfolding cut
 concat_cut before [] = refl
 concat_cut before (c ∷ cs) = concat_attach (breaks (c ∷ before) (cs ++ [])) c _ ∙ ap (λ t. c ∷ t) (concat_cut (c ∷ before) cs)

@@ -1,119 +1,97 @@
 -- Printable ASCII: each character is a grapheme by itself, where no mark follows it.
-use Rattle.std.proofs.Common.{◌≡◌, ℕ, ◌<◌, Bool, true, cond, not, ◌&&◌, ◌||◌, List, [], ◌∷◌, ◌++◌, map, length, take, drop, eqb-true, length-append, refl, sym, ap, ap₂, ◌∙◌, arith, append-nil, leb-true}
-use Rattle.std.proofs.lemmas.Bool.{and_parts}
-use Rattle.std.proofs.lemmas.Str.{chars-nil, chars_past_char, IsUtf8-past_char, encode_ascii, IsUtf8-from_ascii}
+use Rattle.std.proofs.Common.{◌≡◌, ℕ, zero, suc, ◌-◌, ◌<◌, ◌≤◌, true, false, ◌&&◌, ◌||◌, ◌==◌, List, [], ◌∷◌, ◌++◌, map, length, get_or, take, drop, min, refl, sym, ap, ap₂, subst, ◌∙◌, arith, take-append-drop, length-take-le, append-nil, leb-true, ltb-true, lt-ltb}
+use Rattle.std.proofs.lemmas.Bool.{and_parts, ne_eqb}
+use Rattle.std.proofs.lemmas.Str.{chars-nil, encode_ascii, IsUtf8-from_ascii, IsCharBoundary-from_take}
 use Rattle.std.proofs.lemmas.Str.Ascii.{IsAscii-cons, IsAscii-nil}
 use Rattle.std.specs.Prelude.{nat_le, encode_utf8, encode_utf8_all}
-use Rattle.std.specs.List.{concat}
-use Rattle.std.specs.Str.{chars, IsUtf8}
-use Rattle.ucd_table.proofs.Computing.{tables}
-use Rattle.ucd_table.proofs.Facts.{Stepped-below}
-use Rattle.ucd_breaks.specs.GraphemeClusterBreak.{grapheme_cluster_break, grapheme_cluster_break_eq}
-use Rattle.ucd_breaks.specs.declared.GraphemeClusterBreak.{GraphemeClusterBreak}
-use Rattle.ucd_breaks.specs.declared.GraphemeClusterBreak.TheVariants.{Other}
-use Rattle.ucd_breaks.proofs.GraphemeClusterBreakLemmas.{grapheme_cluster_break_stepped, grapheme_cluster_break_number_injective}
-use Rattle.unicode_segmentation.specs.Grapheme.{graphemes, is_grapheme_break}
-use Rattle.unicode_segmentation.specs.Segments.{cut, prepend, segments}
-use Rattle.unicode_segmentation.proofs.GraphemeLemmas.{is_grapheme_break-others}
-use Rattle.unicode_segmentation.proofs.SegmentsLemmas.{concat-segments}
-use Rattle.termwiz_text.specs.Plain.{is_plain, begins_plain, begins_alone}
-use Rattle.termwiz_text.specs.First as first
-use Rattle.termwiz_text.proofs.Boundaries.{breaks}
-use Rattle.termwiz_text.proofs.Pieces.{cut_one, rest_fresh, graphemes_first, IsFirst}
-
-is_other : ℕ → GraphemeClusterBreak → Bool
-is_other c v = not (is_plain c) || grapheme_cluster_break_eq v Other
-
-others : (c : ℕ) → c < 128 → is_other c (grapheme_cluster_break c) ≡ true
-unfolding tables grapheme_cluster_break_stepped is_other
-others = Stepped-below grapheme_cluster_break grapheme_cluster_break_stepped is_other 128 refl
+use Rattle.std.specs.Char.{is_ascii}
+use Rattle.std.specs.List.{list_all}
+use Rattle.std.specs.Str.{chars, IsUtf8, IsAscii, IsCharBoundary}
+use Rattle.unicode_segmentation.specs.Grapheme.{graphemes}
+use Rattle.termwiz_text.specs.Plain.{is_plain, begins_unmarked, begins_alone, IsPlainRun}
+use Rattle.termwiz_text.specs.Letter.{is_letter}
+use Rattle.termwiz_text.proofs.Simple.{simple_breaks}
+use Rattle.termwiz_text.proofs.Ascii.{chars_ascii, IsUtf8-past_ascii, graphemes_ascii}
+use Rattle.termwiz_text.proofs.Boundaries.{breaks, breaks-end}
 
 plain_lt : (c : ℕ) → is_plain c ≡ true → c < 127
 plain_lt c h = let le = leb-true c 0x7E (and_parts (nat_le 0x20 c) (nat_le c 0x7E) h).1 in omega arith
 
-plain_other : (c : ℕ) → is_plain c ≡ true → Other ≡ grapheme_cluster_break c
-unfolding is_other
-plain_other c h =
-    let l = plain_lt c h in
-    let e : grapheme_cluster_break_eq (grapheme_cluster_break c) Other ≡ true = sym (ap (λ b. not b || grapheme_cluster_break_eq (grapheme_cluster_break c) Other) h) ∙ others c (omega arith) in
-    sym (grapheme_cluster_break_number_injective _ _ (eqb-true _ _ e))
+plain_ascii : (c : ℕ) → is_plain c ≡ true → c < 128
+plain_ascii c h = let l = plain_lt c h in omega arith
 
--- between two such characters there is always a boundary
-pub plain_breaks : (p : ℕ) (before : List ℕ) (q : ℕ) (after : List ℕ) → is_plain p ≡ true → is_plain q ≡ true → breaks (p ∷ before) (q ∷ after) ≡ true
-plain_breaks p before q after a b =
-    let l = plain_lt q b in
-    sym (is_grapheme_break-others true (p ∷ before) q after (omega arith) (omega arith) (plain_other p a) (plain_other q b))
+pub plain_unmarked : (c : ℕ) → is_plain c ≡ true → is_ascii c ≡ true
+plain_unmarked c h = lt-ltb c 128 (plain_ascii c h)
 
-past_plain : (p : ℕ) (b : List ℕ) → is_plain p ≡ true → p ∷ b ≡ encode_utf8 p ++ b
-past_plain p b h = let l = plain_lt p h in sym (ap (λ t. t ++ b) (encode_ascii p (omega arith)))
+plain_not_cr : (p q : ℕ) → is_plain p ≡ true → (p == 13 && q == 10) ≡ false
+plain_not_cr p q h = let le = leb-true 0x20 p (and_parts (nat_le 0x20 p) (nat_le p 0x7E) h).0 in ap (λ b. b && q == 10) (ne_eqb p 13 (omega arith))
+
+-- between such a character and one of ASCII there is always a boundary
+pub plain_breaks : (p : ℕ) (before : List ℕ) (q : ℕ) (after : List ℕ) → is_plain p ≡ true → is_ascii q ≡ true → breaks (p ∷ before) (q ∷ after) ≡ true
+plain_breaks p before q after a b = simple_breaks p before q after (ap (λ s. s || is_letter p) (plain_unmarked p a)) (ap (λ s. s || is_letter q) b) (plain_not_cr p q a)
 
 pub chars_plain : (p : ℕ) (b : List ℕ) → IsUtf8 (p ∷ b) → is_plain p ≡ true → chars (p ∷ b) ≡ p ∷ chars b
-chars_plain p b u h = chars_past_char (p ∷ b) b p u (past_plain p b h)
+chars_plain p b u h = chars_ascii p b u (plain_ascii p h)
 
 pub IsUtf8-past_plain : (p : ℕ) (b : List ℕ) → IsUtf8 (p ∷ b) → is_plain p ≡ true → IsUtf8 b
-IsUtf8-past_plain p b u h = IsUtf8-past_char (p ∷ b) b p u (past_plain p b h)
-
-cut_plain : (p q : ℕ) (cs : List ℕ) → is_plain p ≡ true → is_plain q ≡ true → cut breaks [] (p ∷ (q ∷ cs)) [] ≡ (p ∷ []) ∷ cut breaks [] (q ∷ cs) []
-unfolding cut
-cut_plain p q cs a b =
-    ap₂ (λ t (ps : List (List ℕ)). cond t ((p ∷ []) ∷ ps) (prepend (p ∷ []) ps)) (plain_breaks p [] q (cs ++ []) a b) (rest_fresh (p ∷ []) (q ∷ cs) (plain_breaks p [] q cs a b))
+IsUtf8-past_plain p b u h = IsUtf8-past_ascii p b u (plain_ascii p h)
 
 pub encode_one : (p : ℕ) → is_plain p ≡ true → encode_utf8_all (p ∷ []) ≡ p ∷ []
-encode_one p h = let l = plain_lt p h in append-nil (encode_utf8 p) ∙ encode_ascii p (omega arith)
+encode_one p h = append-nil (encode_utf8 p) ∙ encode_ascii p (plain_ascii p h)
 
--- a printable character of ASCII, with nothing or another one behind it, is the first grapheme
-pub graphemes_plain : (p : ℕ) (b : List ℕ) → IsUtf8 (p ∷ b) → is_plain p ≡ true → begins_plain b ≡ true → graphemes true (p ∷ b) ≡ (p ∷ []) ∷ graphemes true b
-unfolding segments cut
-graphemes_plain p [] u h k =
-    ap (λ cs. map encode_utf8_all (cut breaks [] cs [])) (chars_plain p [] u h ∙ ap (λ t. p ∷ t) chars-nil)
-    ∙ ap (map encode_utf8_all) (cut_one [] p) ∙ ap (λ t. t ∷ []) (encode_one p h) ∙ ap (λ cs. (p ∷ []) ∷ map encode_utf8_all (cut breaks [] cs [])) (sym chars-nil)
+-- a printable character of ASCII that no mark follows is the first grapheme
+pub graphemes_plain : (p : ℕ) (b : List ℕ) → IsUtf8 (p ∷ b) → is_plain p ≡ true → begins_unmarked b ≡ true → graphemes true (p ∷ b) ≡ (p ∷ []) ∷ graphemes true b
+graphemes_plain p [] u h k = graphemes_ascii p [] u (plain_ascii p h) (ap (breaks (p ∷ [])) chars-nil ∙ breaks-end p [])
 graphemes_plain p (q ∷ b) u h k =
-    let rest : chars (q ∷ b) ≡ q ∷ chars b = chars_plain q b (IsUtf8-past_plain p (q ∷ b) u h) k in
-    ap (λ cs. map encode_utf8_all (cut breaks [] cs [])) (chars_plain p (q ∷ b) u h ∙ ap (λ t. p ∷ t) rest)
-    ∙ ap (map encode_utf8_all) (cut_plain p q (chars b) h k)
-    ∙ ap (λ t. t ∷ map encode_utf8_all (cut breaks [] (q ∷ chars b) [])) (encode_one p h)
-    ∙ ap (λ cs. (p ∷ []) ∷ map encode_utf8_all (cut breaks [] cs [])) (sym rest)
+    let later = chars_ascii q b (IsUtf8-past_plain p (q ∷ b) u h) (ltb-true q 128 k) in
+    graphemes_ascii p (q ∷ b) u (plain_ascii p h) (ap (breaks (p ∷ [])) later ∙ plain_breaks p [] q (chars b) h k)
 
-abbrev all_plain : List ℕ → Bool
-all_plain [] = true
-all_plain (c ∷ cs) = is_plain c && all_plain cs
-
--- a run of printable ASCII, with nothing or more of it behind: each character is a grapheme
-pub graphemes_plain_run : (a b : List ℕ) → IsUtf8 (a ++ b) → all_plain a ≡ true → begins_plain b ≡ true → graphemes true (a ++ b) ≡ map (λ c. c ∷ []) a ++ graphemes true b
+-- a run of printable ASCII that no mark follows: each character is a grapheme
+pub graphemes_plain_run : (a b : List ℕ) → IsUtf8 (a ++ b) → list_all is_plain a ≡ true → (0 < length a → begins_unmarked b ≡ true) → graphemes true (a ++ b) ≡ map (λ c. c ∷ []) a ++ graphemes true b
 graphemes_plain_run [] b u h k = refl
-graphemes_plain_run (p ∷ []) b u h k = graphemes_plain p b u (and_parts (is_plain p) true h).0 k
+graphemes_plain_run (p ∷ []) b u h k = graphemes_plain p b u (and_parts (is_plain p) true h).0 (k (omega arith))
 graphemes_plain_run (p ∷ (q ∷ a)) b u h k =
-    let parts = and_parts (is_plain p) (is_plain q && all_plain a) h in
-    graphemes_plain p (q ∷ (a ++ b)) u parts.0 (and_parts (is_plain q) (all_plain a) parts.1).0
-    ∙ ap (λ ps. (p ∷ []) ∷ ps) (graphemes_plain_run (q ∷ a) b (IsUtf8-past_plain p _ u parts.0) parts.1 k)
-
-graphemes-nil : graphemes true [] ≡ []
-unfolding segments cut
-graphemes-nil = ap (λ cs. map encode_utf8_all (cut breaks [] cs [])) chars-nil
+    let parts = and_parts (is_plain p) (is_plain q && list_all is_plain a) h in
+    graphemes_plain p (q ∷ (a ++ b)) u parts.0 (plain_unmarked q (and_parts (is_plain q) (list_all is_plain a) parts.1).0)
+    ∙ ap (λ ps. (p ∷ []) ∷ ps) (graphemes_plain_run (q ∷ a) b (IsUtf8-past_plain p _ u parts.0) parts.1 (λ _. k (omega arith)))
 
 pub utf8_one : (p : ℕ) → is_plain p ≡ true → IsUtf8 (p ∷ [])
 utf8_one p h = let l = plain_lt p h in IsUtf8-from_ascii (p ∷ []) (IsAscii-cons p [] (omega arith) IsAscii-nil)
 
-pub first_plain : (text one rest : List ℕ) → IsUtf8 text → begins_alone text ≡ true → one ≡ take 1 text → rest ≡ drop 1 text → first.IsFirst text one rest
-first_plain [] one rest u h a b = absurd cc
-first_plain (p ∷ tail) one rest u h a b =
-    let parts = and_parts (is_plain p) (begins_plain tail) h in
-    let one_is : one ≡ p ∷ [] = a in
-    let rest_is : rest ≡ tail = b in
-    rw (one_is, rest_is) (record {
-      graphemes_are = graphemes_plain p tail u parts.0 parts.1;
-      alone = graphemes_plain p [] (utf8_one p parts.0) parts.0 refl ∙ ap (λ ps. (p ∷ []) ∷ ps) graphemes-nil;
-      shrinks = omega arith;
-    })
+-- the last one of a run that a mark follows
+last_of_run : (Q : List ℕ → Type 0) → ((p q : ℕ) (rest : List ℕ) → is_plain p ≡ true → is_ascii q ≡ false → Q (p ∷ (q ∷ rest)))
+    → (bs : List ℕ) (k : ℕ) → suc k < length bs → list_all is_plain (take (suc k) bs) ≡ true → is_ascii (get_or bs (suc k) 0) ≡ false → Q (drop k bs)
+last_of_run Q f [] k l h e = absurd (omega arith)
+last_of_run Q f (p ∷ []) k l h e = absurd (omega arith)
+last_of_run Q f (p ∷ (q ∷ bs)) zero l h e = f p q bs (and_parts (is_plain p) true h).0 e
+last_of_run Q f (p ∷ (q ∷ bs)) (suc k) l h e = last_of_run Q f (q ∷ bs) k (omega arith) (and_parts (is_plain p) (list_all is_plain (take (suc k) (q ∷ bs))) h).1 e
 
-pub first_piece_of : (text one rest : List ℕ) (gs : List (List ℕ)) → IsUtf8 text → graphemes true text ≡ one ∷ gs → rest ≡ concat gs → first.IsFirst text one rest
-first_piece_of text one rest gs u h e =
-    let f : IsFirst one gs = graphemes_first text one gs u h in
-    let others : graphemes true rest ≡ gs = ap (graphemes true) e ∙ f.others in
-    let whole : one ++ rest ≡ text = ap (λ t. one ++ t) e ∙ sym (ap concat h) ∙ concat-segments (is_grapheme_break true) text u in
-    let some : 0 < length one = nonempty one f.alone in
-    record { graphemes_are = h ∙ ap (λ gs. one ∷ gs) (sym others); alone = f.alone; shrinks = omega (arith, length-append one rest, ap length whole) }
-  where
-    nonempty : (g : List ℕ) → graphemes true g ≡ g ∷ [] → 0 < length g
-    nonempty [] k = let e : [] ≡ [] ∷ [] = sym graphemes-nil ∙ k in absurd cc
-    nonempty (c ∷ g) k = omega arith
+-- so the place before it has no mark behind it, and no character that stands alone
+pub step_back : (bs : List ℕ) (n : ℕ) → 0 < n → n < length bs → list_all is_plain (take n bs) ≡ true → is_ascii (get_or bs n 0) ≡ false
+    → (begins_unmarked (drop (n - 1) bs) ≡ true) × (begins_alone (drop (n - 1) bs) ≡ false)
+step_back bs zero s l h e = absurd (omega arith)
+step_back bs (suc k) s l h e =
+    let Q : List ℕ → Type 0 = λ t. (begins_unmarked t ≡ true) × (begins_alone t ≡ false) in
+    let less : k ≡ suc k - 1 = omega arith in
+    subst (λ (i : ℕ). Q (drop i bs)) less (last_of_run Q (λ p q rest a b. (plain_unmarked p a, ap₂ ◌&&◌ a b)) bs k l h e)
+
+ascii_run : (run : List ℕ) → list_all is_plain run ≡ true → IsAscii run
+ascii_run [] h = IsAscii-nil
+ascii_run (p ∷ run) h = let parts = and_parts (is_plain p) (list_all is_plain run) h in IsAscii-cons p run (plain_ascii p parts.0) (ascii_run run parts.1)
+
+pub boundary_after_run : (text : List ℕ) (n : ℕ) → IsUtf8 text → n ≤ length text → list_all is_plain (take n text) ≡ true → IsCharBoundary text n
+boundary_after_run text n u l h = IsCharBoundary-from_take text n u l (IsUtf8-from_ascii (take n text) (ascii_run (take n text) h))
+
+-- a front of the text that ends where such a run ends, and the rest
+pub run_of : (text run rest : List ℕ) (limit n : ℕ) → IsUtf8 text → run ≡ take n text → rest ≡ drop n text → n ≤ min limit (length text) → list_all is_plain (take n text) ≡ true
+    → (0 < n → begins_unmarked (drop n text) ≡ true) → (n < limit → begins_alone (drop n text) ≡ false) → IsPlainRun text limit run rest
+run_of text run rest limit n u front back within plain unmarked longest =
+    let whole : take n text ++ drop n text ≡ text = take-append-drop n text in
+    let count : length (take n text) ≡ n = length-take-le n text (omega arith) in
+    rw (front, back) (record {
+      whole = whole;
+      plain = plain;
+      within = omega arith;
+      graphemes_are = ap (graphemes true) (sym whole) ∙ graphemes_plain_run (take n text) (drop n text) (subst IsUtf8 (sym whole) u) plain (λ some. unmarked (omega arith));
+      longest = λ l. longest (omega arith);
+    })

@@ -10,7 +10,7 @@ use Rattle.unicode_segmentation.proofs.TextLemmas.{IsUtf8-before}
 use Rattle.termwiz_text.specs.Plain.{is_plain}
 use Rattle.termwiz_text.proofs.Boundaries.{breaks}
 use Rattle.termwiz_text.proofs.Pieces.{onto, cut_one, cut_seam, graphemes_front}
-use Rattle.termwiz_text.proofs.Plain.{plain_breaks, chars_plain, utf8_one, encode_one}
+use Rattle.termwiz_text.proofs.Plain.{plain_breaks, plain_unmarked, chars_plain, utf8_one, encode_one}
 
 last_same : (ps qs : List (List ℕ)) (p q : List ℕ) → ps ++ p ∷ [] ≡ qs ++ q ∷ [] → p ≡ q
 last_same [] [] p q e = cc
@@ -66,7 +66,7 @@ seam_plain b text p q u last one hp hq =
     let b_is : chars b ≡ chars front ++ p ∷ [] = ap chars parts.1 ∙ chars-append front (p ∷ []) early ∙ ap (λ t. chars front ++ t) chars_one in
     let onto_is : onto (chars b) [] ≡ p ∷ onto (chars front) [] = ap (λ t. onto t []) b_is ∙ onto_push (chars front) p [] in
     let some : 0 ≢ length (chars b) = subst (λ (t : List ℕ). 0 ≢ length t) (sym b_is) (push_some (chars front) p) in
-    let ends : breaks (onto (chars b) []) (q ∷ []) ≡ true = ap (λ t. breaks t (q ∷ [])) onto_is ∙ plain_breaks p (onto (chars front) []) q [] hp hq in
+    let ends : breaks (onto (chars b) []) (q ∷ []) ≡ true = ap (λ t. breaks t (q ∷ [])) onto_is ∙ plain_breaks p (onto (chars front) []) q [] hp (plain_unmarked q hq) in
     let whole : chars (b ++ text) ≡ chars b ++ q ∷ [] = ap (λ t. chars (b ++ t)) one ∙ chars-append b (q ∷ []) u ∙ ap (λ t. chars b ++ t) chars_two in
     ap (λ cs. map encode_utf8_all (cut breaks [] cs [])) whole
     ∙ ap (map encode_utf8_all) (cut_seam [] (chars b) (q ∷ []) some ends ∙ ap (λ ps. cut breaks [] (chars b) [] ++ ps) (cut_one (onto (chars b) []) q))

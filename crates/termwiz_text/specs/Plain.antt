@@ -1,20 +1,33 @@
 -- Printable ASCII: a space, or a letter, digit or sign of ASCII.
-use Rattle.std.specs.Prelude.{ℕ, Bool, true, false, ◌&&◌, nat_le, List, [], ◌∷◌}
+use Rattle.std.specs.Prelude.{◌≡◌, ℕ, ◌<◌, ◌≤◌, Bool, true, false, ◌&&◌, nat_le, List, [], ◌∷◌, ◌++◌, map, length}
+use Rattle.std.specs.Char.{is_ascii}
+use Rattle.std.specs.List.{list_all}
+use Rattle.unicode_segmentation.specs.Grapheme.{graphemes}
 
 abbrev pub is_plain : ℕ → Bool
 is_plain c = nat_le 0x20 c && nat_le c 0x7E
 
--- nothing, or something that begins with such a character
-abbrev pub begins_plain : List ℕ → Bool
-begins_plain [] = true
-begins_plain (c ∷ cs) = is_plain c
+-- nothing, or something that begins with any character of ASCII: never a mark on the character before it
+abbrev pub begins_unmarked : List ℕ → Bool
+begins_unmarked [] = true
+begins_unmarked (c ∷ cs) = is_ascii c
 
 -- the text begins with such a character, and no mark follows it
 abbrev pub begins_alone : List ℕ → Bool
 begins_alone [] = false
-begins_alone (c ∷ cs) = is_plain c && begins_plain cs
+begins_alone (c ∷ cs) = is_plain c && begins_unmarked cs
 
 -- the text is one such character
 abbrev pub is_one_plain : List ℕ → Bool
 is_one_plain (c ∷ []) = is_plain c
 is_one_plain _ = false
+
+-- the text is the longest run, within the limit, of such characters that no mark follows, and the rest
+pub record IsPlainRun (text : List ℕ) (limit : ℕ) (run rest : List ℕ) : Type 0 where
+  pub whole : run ++ rest ≡ text
+  pub plain : list_all is_plain run ≡ true
+  pub within : length run ≤ limit
+  -- each of them is a grapheme by itself
+  pub graphemes_are : graphemes true text ≡ map (λ c. c ∷ []) run ++ graphemes true rest
+  -- it ends before the limit only where none follows
+  pub longest : length run < limit → begins_alone rest ≡ false

@@ -1,11 +1,17 @@
 //! Texts cut into graphemes.
 #![tactic(auto)]
 
-ghost use Rattle.std.specs.Prelude.{◌≡◌, ◌≤◌, length, ◌↔◌, ℕ, true, List, [], ◌∷◌, ◌++◌, MatchOption, IsTrue, IfOk, string_bytes, if◌then◌else◌};
+ghost use Rattle.std.specs.Prelude.{◌≡◌, ◌≤◌, ◌<◌, length, ◌↔◌, ℕ, true, false, List, [], ◌∷◌, ◌++◌, min, take, drop, slice_index, MatchOption, IfSome, IsTrue, IfOk, string_bytes, if◌then◌else◌};
+ghost use Rattle.std.specs.List.{list_all};
+ghost use Rattle.std.specs.Str.{chars};
 ghost use Rattle.termwiz_text.specs.Plain as plain;
+ghost use Rattle.termwiz_text.specs.Letter as letter;
 ghost use Rattle.termwiz_text.specs.First.{IsFirst};
 ghost use Rattle.unicode_segmentation.specs.Grapheme.{graphemes};
 
+mod joined;
+
+pub use joined::JoinedText;
 use std::alloc::AllocError;
 use unicode_segmentation::UnicodeSegmentation;
 
@@ -25,27 +31,114 @@ pub fn is_one_plain(text: &str) -> bool
     }
 }
 
-// Whether the text begins with printable ASCII that no mark follows.
-fn begins_alone(text: &str) -> bool
-    ensures { result ≡ plain.begins_alone text.now }
+// Whether the text begins with a CR and an LF.
+fn begins_line_end(text: &str) -> bool
+    ensures { result ≡ letter.begins_line_end text.now }
 {
     match text.as_bytes() {
-        [first, next, ..] => is_plain(*first) && is_plain(*next),
-        [first] => is_plain(*first),
-        [] => false,
+        [first, second, ..] => *first == b'\r' && *second == b'\n',
+        _ => false,
     }
+}
+
+/// Whether the character is a letter of hiragana or katakana, or a common ideograph.
+pub fn is_letter(c: char) -> bool
+    ensures { result ≡ letter.is_letter c }
+{
+    matches!(c, 'ぁ'..='ゖ' | 'ァ'..='ヺ' | '\u{4E00}'..='\u{9FFF}')
+}
+
+/// Whether the text is one such letter.
+pub fn is_one_letter(text: &str) -> bool
+    ensures { result ≡ letter.is_one_letter (chars text.now) }
+{
+    let mut chars = text.chars();
+    match chars.next() {
+        Some(only) => is_letter(only) && chars.as_str().is_empty(),
+        None => false,
+    }
+}
+
+fn is_simple(c: char) -> bool
+    ensures { result ≡ letter.is_simple c }
+{
+    c.is_ascii() || is_letter(c)
+}
+
+// Whether nothing stands there, or a simple character first: no mark on what stands before.
+fn begins_simple(text: &str) -> bool
+    ensures { result ≡ letter.begins_simple (chars text.now) }
+{
+    match text.chars().next() {
+        Some(first) => is_simple(first),
+        None => true,
+    }
+}
+
+// The first grapheme, where it and the next character are so common that no table is needed.
+fn split_first_simple(text: &str) -> Option<(&str, &str)>
+    ensures { IfSome result (λ (first, rest). IsFirst text.now first.now rest.now) }
+{
+    if begins_line_end(text) {
+        return Some(text.split_at(2));
+    }
+    let first = text.chars().next()?;
+    if !is_simple(first) {
+        return None;
+    }
+    let (front, rest) = text.split_at(first.len_utf8());
+    if !begins_simple(rest) {
+        return None;
+    }
+    Some((front, rest))
 }
 
 /// The first grapheme of a text, and what follows it.
 pub fn split_first_grapheme(text: &str) -> Option<(&str, &str)>
     ensures { MatchOption result (graphemes true text.now ≡ []) (λ (first, rest). IsFirst text.now first.now rest.now) }
 {
-    if begins_alone(text) {
-        return Some(text.split_at(1));
+    if let Some(split) = split_first_simple(text) {
+        return Some(split);
     }
     let mut pieces = text.graphemes(true);
     let first = pieces.next()?;
     Some((first, pieces.as_str()))
+}
+
+// How many bytes of the beginning, `limit` at most, are printable ASCII.
+fn count_plain(bytes: &[u8], limit: usize) -> usize
+    ensures within { result ≤ min limit (length bytes.now) }
+    ensures plain { list_all plain.is_plain (take result bytes.now) ≡ true }
+    ensures stops { result < min limit (length bytes.now) → plain.is_plain (slice_index bytes.now result) ≡ false }
+{
+    let end = limit.min(bytes.len());
+    for i in 0..end {
+        if !is_plain(bytes[i]) {
+            return i;
+        }
+    }
+    end
+}
+
+// The same without the last one where a mark may follow it.
+fn count_unmarked(bytes: &[u8], limit: usize) -> usize
+    ensures within { result ≤ min limit (length bytes.now) }
+    ensures plain { list_all plain.is_plain (take result bytes.now) ≡ true }
+    ensures unmarked { 0 < result → plain.begins_unmarked (drop result bytes.now) ≡ true }
+    ensures longest { result < limit → plain.begins_alone (drop result bytes.now) ≡ false }
+{
+    let count = count_plain(bytes, limit);
+    if 0 < count && count < bytes.len() && !bytes[count].is_ascii() {
+        return count - 1;
+    }
+    count
+}
+
+/// The longest run of printable ASCII, of at most `limit` bytes, that the text begins with and that no mark follows, and the rest. Each byte of the run is a grapheme by itself.
+pub fn split_plain_run(text: &str, limit: usize) -> (&str, &str)
+    ensures { plain.IsPlainRun text.now limit result.0.now result.1.now }
+{
+    text.split_at(count_unmarked(text.as_bytes(), limit))
 }
 
 // Whether both are printable ASCII at the seam, and the text is one such character.

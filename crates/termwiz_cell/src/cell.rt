@@ -192,6 +192,7 @@ impl PartialEq for Cell {
 
     ghost laws = { partial_equiv_from_equiv (decided cell_eq cell_eq-Decides) };
 
+    #[inline]
     fn eq(&self, other: &Cell) -> bool
         ensures value { result ≡ cell_eq self.now other.now }
         ensures same { IsTrue result ↔ (self.now ≡ other.now) }
@@ -205,6 +206,7 @@ impl Eq for Cell {
 }
 
 impl Cell {
+    #[inline]
     fn is_same(&self, other: &Cell) -> bool
         ensures { result ≡ cell_eq self.now other.now }
     {

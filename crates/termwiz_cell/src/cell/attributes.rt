@@ -508,6 +508,7 @@ impl PartialEq for CellAttributes {
 
     ghost laws = { partial_equiv_from_equiv (decided attributes_eq attributes_eq-Decides) };
 
+    #[inline]
     fn eq(&self, other: &CellAttributes) -> bool
         ensures value { result ≡ attributes_eq self.now other.now }
         ensures same { IsTrue result ↔ (self.now ≡ other.now) }

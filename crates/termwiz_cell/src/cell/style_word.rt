@@ -70,6 +70,7 @@ impl StyleWord {
     }
 
     /// Whether both have one style.
+    #[inline]
     pub fn is_same(&self, other: &StyleWord) -> bool
         ensures { IsTrue result ↔ (self.now ≡ other.now) }
     {

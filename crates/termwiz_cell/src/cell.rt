@@ -8,7 +8,8 @@ ghost use Rattle.termwiz_cell.specs.Width.{at_version, unversioned};
 
 mod attribute_change;
 mod attributes;
-mod kind;
+mod debug;
+mod form;
 mod style;
 mod style_word;
 mod text;
@@ -26,7 +27,7 @@ use text::{CellText, cleaned};
 /// The text is mostly one grapheme. The empty text, CR LF and each single control character
 /// become a space, so each cell can be shown, and a width of 0 becomes 1. A text of at most
 /// seven bytes takes no memory.
-#[derive(Drop, Debug)]
+#[derive(Drop)]
 pub struct Cell {
     text: CellText,
     attrs: CellAttributes,

@@ -4,7 +4,7 @@ ghost use Rattle.std.specs.Cmp.{decided, on_equiv, on_per, partial_equiv_from_eq
 ghost use Rattle.termwiz_cell.specs.AttributeChangeValue.{attribute_change_value, attribute_change_eq, attribute_change_eq-Decides};
 ghost use Rattle.termwiz_cell.specs.Style.{intensity_eq, underline_eq, blink_eq};
 
-use super::kind::{clone_link, is_same_link};
+use super::form::{clone_link, is_same_link};
 use super::style::{Blink, Intensity, Underline};
 use crate::color::{ColorAttribute, is_same_color};
 use crate::hyperlink::Hyperlink;

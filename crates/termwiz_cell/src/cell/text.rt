@@ -9,14 +9,15 @@ use std::alloc::{AllocError, Global};
 
 /// The text of a cell, and whether it takes two columns. A text of at most seven bytes stands in
 /// the value itself, and a longer one on the heap.
-#[derive(Drop, Debug)]
+#[derive(Drop)]
 pub(super) enum CellText {
     Narrow(ArrayString<7>),
     Wide(ArrayString<7>),
     Long(Box<LongText>),
 }
 
-#[derive(Drop, Debug)]
+/// A text of more than seven bytes.
+#[derive(Drop)]
 pub(super) struct LongText {
     pub(super) text: String,
     pub(super) wide: bool,
@@ -145,7 +146,7 @@ impl CellText {
     }
 }
 
-/// A text of more than seven bytes. It stands apart, so that the way of the others is short.
+/// This text, which has more than seven bytes. It stands apart, so that the way of the others is short.
 #[inline(never)]
 fn long_text(alloc: Global, text: &str, wide: bool) -> Result<CellText, AllocError>
     requires clean { clean text.now ≡ text.now }

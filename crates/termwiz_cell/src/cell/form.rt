@@ -1,5 +1,4 @@
-//! The two forms of attributes: a word alone, and a box with the word and the attributes that few
-//! cells have, which is there only while one of those is not the default.
+//! The two forms of attributes: a word alone, and a box with the word and the rare attributes.
 ghost use Rattle.std.specs.Prelude.{◌≡◌, ◌↔◌, IsTrue, IsNone, IsOk, IfOk, OnOk, OnErr, None, true, false, option_map};
 ghost use Rattle.termwiz_cell.specs.Attributes.{option_link_eq, is_default};
 ghost use Rattle.termwiz_cell.specs.AttributesLayout as spec;
@@ -14,13 +13,15 @@ use crate::hyperlink::Hyperlink;
 use std::alloc::{AllocError, Global};
 use std::rc::Rc;
 
-#[derive(Drop, Debug)]
-pub(super) enum Kind {
+/// Attributes in one of two forms. `Boxed` is there only while a rare attribute isn't default.
+#[derive(Drop)]
+pub(super) enum Form {
     Plain(StyleWord),
-    Rare(Box<Full>),
+    Boxed(Box<Full>),
 }
 
-#[derive(Drop, Debug)]
+/// The word, and the rare attributes: those that few cells have.
+#[derive(Drop)]
 pub(super) struct Full {
     pub(super) style: StyleWord,
     pub(super) foreground: ColorAttribute,
@@ -30,8 +31,8 @@ pub(super) struct Full {
 }
 
 /// Which of the rare colours.
-#[derive(Clone, Copy, Debug)]
-pub(super) enum Part {
+#[derive(Clone, Copy)]
+pub(super) enum RareColor {
     Foreground,
     Background,
     Underline,
@@ -51,17 +52,19 @@ impl Full {
         }
     }
 
-    fn put(&mut self, part: Part, value: ColorAttribute)
-        ensures rare { spec.full_rare self.new ≡ spec.with_color part (spec.full_rare self.old) value }
+    /// Sets one of the rare colours.
+    fn put(&mut self, which: RareColor, value: ColorAttribute)
+        ensures rare { spec.full_rare self.new ≡ spec.with_color which (spec.full_rare self.old) value }
         ensures style { self.new.style ≡ self.old.style }
     {
-        match part {
-            Part::Foreground => self.foreground = value,
-            Part::Background => self.background = value,
-            Part::Underline => self.underline_color = value,
+        match which {
+            RareColor::Foreground => self.foreground = value,
+            RareColor::Background => self.background = value,
+            RareColor::Underline => self.underline_color = value,
         }
     }
 
+    /// Whether all rare attributes have their defaults.
     fn is_default(&self) -> bool
         ensures { result ≡ spec.is_rare_default (spec.full_rare self.now) }
     {
@@ -78,7 +81,7 @@ impl Full {
 
     /// A copy in a box of its own. It stands apart, so that the copy of plain attributes is short.
     #[inline(never)]
-    fn copied(&self, alloc: Global) -> Result<Kind, AllocError>
+    fn copied(&self, alloc: Global) -> Result<Form, AllocError>
         requires { spec.is_rare_default (spec.full_rare self.now) ≡ false }
         ensures style { IfOk result (λ copy. spec.style_in copy ≡ self.now.style) }
         ensures rare { IfOk result (λ copy. spec.rare_in copy ≡ spec.full_rare self.now) }
@@ -92,7 +95,7 @@ impl Full {
             underline_color: self.underline_color,
             hyperlink,
         };
-        Ok(Kind::Rare(Box::new(alloc, copy)?))
+        Ok(Form::Boxed(Box::new(alloc, copy)?))
     }
 
     /// Whether both are the same. It stands apart, so that the test of plain attributes is short.
@@ -119,14 +122,14 @@ impl Full {
     }
 }
 
-impl Kind {
+impl Form {
     /// The small attributes.
     pub(super) fn style(&self) -> &StyleWord
         ensures { result.now ≡ spec.style_in self.now }
     {
         match self {
-            Kind::Plain(style) => style,
-            Kind::Rare(full) => &full.style,
+            Form::Plain(style) => style,
+            Form::Boxed(full) => &full.style,
         }
     }
 
@@ -136,8 +139,8 @@ impl Kind {
         ensures value { result.now ≡ spec.style_in self.old }
     {
         match self {
-            Kind::Plain(style) => style,
-            Kind::Rare(full) => &mut full.style,
+            Form::Plain(style) => style,
+            Form::Boxed(full) => &mut full.style,
         }
     }
 
@@ -147,8 +150,8 @@ impl Kind {
         ensures { IsTrue result ↔ ((spec.style_in self.now ≡ style_at 0) × (spec.rare_in self.now ≡ spec.rare_default)) }
     {
         match self {
-            Kind::Plain(style) => style.is_blank(),
-            Kind::Rare(_) => false,
+            Form::Plain(style) => style.is_blank(),
+            Form::Boxed(_) => false,
         }
     }
 
@@ -157,8 +160,8 @@ impl Kind {
         ensures { result ≡ (spec.rare_in self.now).foreground }
     {
         match self {
-            Kind::Plain(_) => ColorAttribute::Default,
-            Kind::Rare(full) => full.foreground,
+            Form::Plain(_) => ColorAttribute::Default,
+            Form::Boxed(full) => full.foreground,
         }
     }
 
@@ -167,8 +170,8 @@ impl Kind {
         ensures { result ≡ (spec.rare_in self.now).background }
     {
         match self {
-            Kind::Plain(_) => ColorAttribute::Default,
-            Kind::Rare(full) => full.background,
+            Form::Plain(_) => ColorAttribute::Default,
+            Form::Boxed(full) => full.background,
         }
     }
 
@@ -177,8 +180,8 @@ impl Kind {
         ensures { result ≡ (spec.rare_in self.now).underline_color }
     {
         match self {
-            Kind::Plain(_) => ColorAttribute::Default,
-            Kind::Rare(full) => full.underline_color,
+            Form::Plain(_) => ColorAttribute::Default,
+            Form::Boxed(full) => full.underline_color,
         }
     }
 
@@ -187,8 +190,8 @@ impl Kind {
         ensures { option_map (λ rc. rc.now.value) result ≡ (spec.rare_in self.now).hyperlink }
     {
         match self {
-            Kind::Plain(_) => None,
-            Kind::Rare(full) => full.hyperlink.as_ref(),
+            Form::Plain(_) => None,
+            Form::Boxed(full) => full.hyperlink.as_ref(),
         }
     }
 
@@ -197,29 +200,29 @@ impl Kind {
     pub(super) fn set_color(
         &mut self,
         alloc: Global,
-        part: Part,
+        which: RareColor,
         value: ColorAttribute,
     ) -> Result<(), AllocError>
         requires { spec.IsNeeded self.old }
-        ensures ok { OnOk result (spec.rare_in self.new ≡ spec.with_color part (spec.rare_in self.old) value) }
+        ensures ok { OnOk result (spec.rare_in self.new ≡ spec.with_color which (spec.rare_in self.old) value) }
         ensures err { OnErr result (spec.rare_in self.new ≡ spec.rare_in self.old) }
         ensures style { spec.style_in self.new ≡ spec.style_in self.old }
         ensures needed { spec.IsNeeded self.new }
         ensures boxed { IsTrue (spec.is_boxed self.old) → IsOk result }
-        ensures succeeds { spec.is_rare_default (spec.with_color part (spec.rare_in self.old) value) ≡ true → IsOk result }
+        ensures succeeds { spec.is_rare_default (spec.with_color which (spec.rare_in self.old) value) ≡ true → IsOk result }
     {
         match self {
-            Kind::Plain(style) => {
+            Form::Plain(style) => {
                 let mut made = Full::new(style.copied());
-                made.put(part, value);
+                made.put(which, value);
                 if !made.is_default() {
-                    *self = Kind::Rare(Box::new(alloc, made)?);
+                    *self = Form::Boxed(Box::new(alloc, made)?);
                 }
             }
-            Kind::Rare(full) => {
-                full.put(part, value);
+            Form::Boxed(full) => {
+                full.put(which, value);
                 if full.is_default() {
-                    *self = Kind::Plain(full.style.copied());
+                    *self = Form::Plain(full.style.copied());
                 }
             }
         }
@@ -241,17 +244,17 @@ impl Kind {
         ensures succeeds { IsNone value → IsOk result }
     {
         match self {
-            Kind::Plain(style) => {
+            Form::Plain(style) => {
                 if value.is_some() {
                     let mut made = Full::new(style.copied());
                     made.hyperlink = value;
-                    *self = Kind::Rare(Box::new(alloc, made)?);
+                    *self = Form::Boxed(Box::new(alloc, made)?);
                 }
             }
-            Kind::Rare(full) => {
+            Form::Boxed(full) => {
                 full.hyperlink = value;
                 if full.is_default() {
-                    *self = Kind::Plain(full.style.copied());
+                    *self = Form::Plain(full.style.copied());
                 }
             }
         }
@@ -260,20 +263,20 @@ impl Kind {
 
     /// Whether both are the same attributes.
     #[inline]
-    pub(super) fn is_same(&self, other: &Kind) -> bool
+    pub(super) fn is_same(&self, other: &Form) -> bool
         requires self_needed { spec.IsNeeded self.now }
         requires other_needed { spec.IsNeeded other.now }
         ensures { IsTrue result ↔ ((spec.style_in self.now ≡ spec.style_in other.now) × (spec.rare_in self.now ≡ spec.rare_in other.now)) }
     {
         match (self, other) {
-            (Kind::Plain(a), Kind::Plain(b)) => a.is_same(b),
-            (Kind::Rare(a), Kind::Rare(b)) => a.is_same(b),
+            (Form::Plain(a), Form::Plain(b)) => a.is_same(b),
+            (Form::Boxed(a), Form::Boxed(b)) => a.is_same(b),
             _ => false,
         }
     }
 
     /// A copy. It can only fail where it needs a box.
-    pub(super) fn copied(&self) -> Result<Kind, AllocError>
+    pub(super) fn copied(&self) -> Result<Form, AllocError>
         requires { spec.IsNeeded self.now }
         ensures style { IfOk result (λ copy. spec.style_in copy ≡ spec.style_in self.now) }
         ensures rare { IfOk result (λ copy. spec.rare_in copy ≡ spec.rare_in self.now) }
@@ -281,14 +284,14 @@ impl Kind {
         ensures succeeds { spec.is_boxed self.now ≡ false → IsOk result }
     {
         match self {
-            Kind::Plain(style) => Ok(Kind::Plain(style.copied())),
-            Kind::Rare(full) => full.copied(*Box::allocator(full)),
+            Form::Plain(style) => Ok(Form::Plain(style.copied())),
+            Form::Boxed(full) => full.copied(*Box::allocator(full)),
         }
     }
 
-    /// A copy with no zone, underline, overline, strike through and link. It can only fail where
-    /// the copy needs a box.
-    pub(super) fn sgr_only(&self, alloc: Global) -> Result<Kind, AllocError>
+    /// A copy with the semantic type `Output`, and no underline, overline, strike through and
+    /// link. It can only fail where the copy needs a box.
+    pub(super) fn sgr_only(&self, alloc: Global) -> Result<Form, AllocError>
         ensures style { IfOk result (λ copy. spec.style_in copy ≡ style_sgr_only (spec.style_in self.now)) }
         ensures rare { IfOk result (λ copy. spec.rare_in copy ≡ record (spec.rare_in self.now) { hyperlink = None }) }
         ensures needed { IfOk result (λ copy. spec.IsNeeded copy) }
@@ -296,10 +299,10 @@ impl Kind {
     {
         let style = self.style().sgr_only();
         match self {
-            Kind::Plain(_) => Ok(Kind::Plain(style)),
-            Kind::Rare(full) => {
+            Form::Plain(_) => Ok(Form::Plain(style)),
+            Form::Boxed(full) => {
                 if full.has_default_colors() {
-                    return Ok(Kind::Plain(style));
+                    return Ok(Form::Plain(style));
                 }
                 let copy = Full {
                     style,
@@ -308,7 +311,7 @@ impl Kind {
                     underline_color: full.underline_color,
                     hyperlink: None,
                 };
-                Ok(Kind::Rare(Box::new(alloc, copy)?))
+                Ok(Form::Boxed(Box::new(alloc, copy)?))
             }
         }
     }

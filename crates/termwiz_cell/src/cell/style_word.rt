@@ -153,7 +153,8 @@ impl StyleWord {
     pub(super) fn set_underline(&mut self, value: Underline)
         ensures { self.new ≡ record self.old { underline = value } }
     {
-        let word = self.word - self.word / UNDERLINE % 8 * UNDERLINE + value.number() * UNDERLINE;
+        let digit = value.number();
+        let word = self.word - self.word / UNDERLINE % 8 * UNDERLINE + digit * UNDERLINE;
         *self = StyleWord { word };
     }
 
@@ -167,7 +168,8 @@ impl StyleWord {
     pub(super) fn set_blink(&mut self, value: Blink)
         ensures { self.new ≡ record self.old { blink = value } }
     {
-        let word = self.word - self.word / BLINK % 4 * BLINK + value.number() * BLINK;
+        let digit = value.number();
+        let word = self.word - self.word / BLINK % 4 * BLINK + digit * BLINK;
         *self = StyleWord { word };
     }
 
@@ -181,7 +183,8 @@ impl StyleWord {
     pub(super) fn set_italic(&mut self, value: bool)
         ensures { self.new ≡ record self.old { italic = value } }
     {
-        let word = self.word - self.word / ITALIC % 2 * ITALIC + flag_digit(value) * ITALIC;
+        let digit = flag_digit(value);
+        let word = self.word - self.word / ITALIC % 2 * ITALIC + digit * ITALIC;
         *self = StyleWord { word };
     }
 
@@ -195,7 +198,8 @@ impl StyleWord {
     pub(super) fn set_reverse(&mut self, value: bool)
         ensures { self.new ≡ record self.old { reverse = value } }
     {
-        let word = self.word - self.word / REVERSE % 2 * REVERSE + flag_digit(value) * REVERSE;
+        let digit = flag_digit(value);
+        let word = self.word - self.word / REVERSE % 2 * REVERSE + digit * REVERSE;
         *self = StyleWord { word };
     }
 
@@ -209,8 +213,9 @@ impl StyleWord {
     pub(super) fn set_strikethrough(&mut self, value: bool)
         ensures { self.new ≡ record self.old { strikethrough = value } }
     {
+        let digit = flag_digit(value);
         let word = self.word - self.word / STRIKETHROUGH % 2 * STRIKETHROUGH
-            + flag_digit(value) * STRIKETHROUGH;
+            + digit * STRIKETHROUGH;
         *self = StyleWord { word };
     }
 
@@ -224,8 +229,8 @@ impl StyleWord {
     pub(super) fn set_invisible(&mut self, value: bool)
         ensures { self.new ≡ record self.old { invisible = value } }
     {
-        let word = self.word - self.word / INVISIBLE % 2 * INVISIBLE
-            + flag_digit(value) * INVISIBLE;
+        let digit = flag_digit(value);
+        let word = self.word - self.word / INVISIBLE % 2 * INVISIBLE + digit * INVISIBLE;
         *self = StyleWord { word };
     }
 
@@ -239,7 +244,8 @@ impl StyleWord {
     pub(super) fn set_wrapped(&mut self, value: bool)
         ensures { self.new ≡ record self.old { wrapped = value } }
     {
-        let word = self.word - self.word / WRAPPED % 2 * WRAPPED + flag_digit(value) * WRAPPED;
+        let digit = flag_digit(value);
+        let word = self.word - self.word / WRAPPED % 2 * WRAPPED + digit * WRAPPED;
         *self = StyleWord { word };
     }
 
@@ -253,7 +259,8 @@ impl StyleWord {
     pub(super) fn set_overline(&mut self, value: bool)
         ensures { self.new ≡ record self.old { overline = value } }
     {
-        let word = self.word - self.word / OVERLINE % 2 * OVERLINE + flag_digit(value) * OVERLINE;
+        let digit = flag_digit(value);
+        let word = self.word - self.word / OVERLINE % 2 * OVERLINE + digit * OVERLINE;
         *self = StyleWord { word };
     }
 
@@ -267,8 +274,9 @@ impl StyleWord {
     pub(super) fn set_semantic_type(&mut self, value: SemanticType)
         ensures { self.new ≡ record self.old { semantic_type = value } }
     {
+        let digit = value.number();
         let word = self.word - self.word / SEMANTIC_TYPE % 4 * SEMANTIC_TYPE
-            + value.number() * SEMANTIC_TYPE;
+            + digit * SEMANTIC_TYPE;
         *self = StyleWord { word };
     }
 
@@ -282,8 +290,9 @@ impl StyleWord {
     pub(super) fn set_vertical_align(&mut self, value: VerticalAlign)
         ensures { self.new ≡ record self.old { vertical_align = value } }
     {
+        let digit = value.number();
         let word = self.word - self.word / VERTICAL_ALIGN % 4 * VERTICAL_ALIGN
-            + value.number() * VERTICAL_ALIGN;
+            + digit * VERTICAL_ALIGN;
         *self = StyleWord { word };
     }
 

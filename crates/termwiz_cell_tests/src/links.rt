@@ -1,5 +1,8 @@
-use super::*;
+//! Links: parsed, made, copied and printed.
+use std::alloc::{AllocError, Global};
+use std::collections::BTreeMap;
 use std::test::Fail;
+use termwiz_cell::hyperlink::{Hyperlink, LinkError};
 
 /// A sequence's params and uri, read and printed again.
 fn reprinted(alloc: Global, params: &str, uri: &str) -> Result<Option<String>, Fail> {

@@ -90,11 +90,11 @@ pub rare_default_only : (r : Rare) → is_rare_default r ≡ true → r ≡ rare
 rare_default_only r h = (rare_default-Decides r).0 h
 
 -- attributes are equal exactly where word and box are
-pub same-parts : (a b : Inside) → IsSound a → IsSound b → (same : Bool) → Decides same ((style_in a.kind ≡ style_in b.kind) × (rare_in a.kind ≡ rare_in b.kind)) → same ≡ attributes_eq (attributes_of a) (attributes_of b)
+pub same-parts : (a b : Inside) → IsSound a → IsSound b → (same : Bool) → Decides same ((style_in a.form ≡ style_in b.form) × (rare_in a.form ≡ rare_in b.form)) → same ≡ attributes_eq (attributes_of a) (attributes_of b)
 same-parts a b ha hb same h =
     same_from_decides same _
     (Decides-like same
     (λ e i. attributes_from (e.0 i) (e.1 i))
-    (λ e. (sym (style_of-attributes_from (style_in a.kind) (rare_in a.kind) ha.foreground ha.background) ∙ ap style_of e ∙ style_of-attributes_from (style_in b.kind) (rare_in b.kind) hb.foreground hb.background, sym (rare_from-attributes_from (style_in a.kind) (rare_in a.kind) ha.foreground ha.background) ∙ ap rare_from e ∙ rare_from-attributes_from (style_in b.kind) (rare_in b.kind) hb.foreground hb.background))
+    (λ e. (sym (style_of-attributes_from (style_in a.form) (rare_in a.form) ha.foreground ha.background) ∙ ap style_of e ∙ style_of-attributes_from (style_in b.form) (rare_in b.form) hb.foreground hb.background, sym (rare_from-attributes_from (style_in a.form) (rare_in a.form) ha.foreground ha.background) ∙ ap rare_from e ∙ rare_from-attributes_from (style_in b.form) (rare_in b.form) hb.foreground hb.background))
     h)
     (attributes_eq-Decides (attributes_of a) (attributes_of b))

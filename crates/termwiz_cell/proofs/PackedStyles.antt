@@ -151,72 +151,46 @@ same-bits w v hw hv =
     (Decides-eqb (w % 2 ^ 17) (v % 2 ^ 17))
 
 module _ (s : Style) (h : HasPalette s) where
-  intensity-digit : word_of s % 4 ≡ intensity_number s.intensity
-  intensity-digit = digits.digit-a (intensity_number s.intensity) (underline_number s.underline) (blink_number s.blink) (flag_number s.italic) (flag_number s.reverse) (flag_number s.strikethrough) (flag_number s.invisible) (flag_number s.wrapped) (flag_number s.overline) (semantic_number s.semantic_type) (vertical_number s.vertical_align) (palette_number s.foreground) (palette_number s.background) (intensity-lt s.intensity) (underline-lt s.underline) (blink-lt s.blink) (flag-lt s.italic) (flag-lt s.reverse) (flag-lt s.strikethrough) (flag-lt s.invisible) (flag-lt s.wrapped) (flag-lt s.overline) (semantic-lt s.semantic_type) (vertical-lt s.vertical_align) (palette-lt s.foreground h.0) (palette-lt s.background h.1)
-
-  underline-digit : word_of s / 2 ^ 2 % 8 ≡ underline_number s.underline
-  underline-digit = digits.digit-b (intensity_number s.intensity) (underline_number s.underline) (blink_number s.blink) (flag_number s.italic) (flag_number s.reverse) (flag_number s.strikethrough) (flag_number s.invisible) (flag_number s.wrapped) (flag_number s.overline) (semantic_number s.semantic_type) (vertical_number s.vertical_align) (palette_number s.foreground) (palette_number s.background) (intensity-lt s.intensity) (underline-lt s.underline) (blink-lt s.blink) (flag-lt s.italic) (flag-lt s.reverse) (flag-lt s.strikethrough) (flag-lt s.invisible) (flag-lt s.wrapped) (flag-lt s.overline) (semantic-lt s.semantic_type) (vertical-lt s.vertical_align) (palette-lt s.foreground h.0) (palette-lt s.background h.1)
-
-  blink-digit : word_of s / 2 ^ 5 % 4 ≡ blink_number s.blink
-  blink-digit = digits.digit-c (intensity_number s.intensity) (underline_number s.underline) (blink_number s.blink) (flag_number s.italic) (flag_number s.reverse) (flag_number s.strikethrough) (flag_number s.invisible) (flag_number s.wrapped) (flag_number s.overline) (semantic_number s.semantic_type) (vertical_number s.vertical_align) (palette_number s.foreground) (palette_number s.background) (intensity-lt s.intensity) (underline-lt s.underline) (blink-lt s.blink) (flag-lt s.italic) (flag-lt s.reverse) (flag-lt s.strikethrough) (flag-lt s.invisible) (flag-lt s.wrapped) (flag-lt s.overline) (semantic-lt s.semantic_type) (vertical-lt s.vertical_align) (palette-lt s.foreground h.0) (palette-lt s.background h.1)
-
-  italic-digit : word_of s / 2 ^ 7 % 2 ≡ flag_number s.italic
-  italic-digit = digits.digit-d (intensity_number s.intensity) (underline_number s.underline) (blink_number s.blink) (flag_number s.italic) (flag_number s.reverse) (flag_number s.strikethrough) (flag_number s.invisible) (flag_number s.wrapped) (flag_number s.overline) (semantic_number s.semantic_type) (vertical_number s.vertical_align) (palette_number s.foreground) (palette_number s.background) (intensity-lt s.intensity) (underline-lt s.underline) (blink-lt s.blink) (flag-lt s.italic) (flag-lt s.reverse) (flag-lt s.strikethrough) (flag-lt s.invisible) (flag-lt s.wrapped) (flag-lt s.overline) (semantic-lt s.semantic_type) (vertical-lt s.vertical_align) (palette-lt s.foreground h.0) (palette-lt s.background h.1)
-
-  reverse-digit : word_of s / 2 ^ 8 % 2 ≡ flag_number s.reverse
-  reverse-digit = digits.digit-e (intensity_number s.intensity) (underline_number s.underline) (blink_number s.blink) (flag_number s.italic) (flag_number s.reverse) (flag_number s.strikethrough) (flag_number s.invisible) (flag_number s.wrapped) (flag_number s.overline) (semantic_number s.semantic_type) (vertical_number s.vertical_align) (palette_number s.foreground) (palette_number s.background) (intensity-lt s.intensity) (underline-lt s.underline) (blink-lt s.blink) (flag-lt s.italic) (flag-lt s.reverse) (flag-lt s.strikethrough) (flag-lt s.invisible) (flag-lt s.wrapped) (flag-lt s.overline) (semantic-lt s.semantic_type) (vertical-lt s.vertical_align) (palette-lt s.foreground h.0) (palette-lt s.background h.1)
-
-  strikethrough-digit : word_of s / 2 ^ 9 % 2 ≡ flag_number s.strikethrough
-  strikethrough-digit = digits.digit-f (intensity_number s.intensity) (underline_number s.underline) (blink_number s.blink) (flag_number s.italic) (flag_number s.reverse) (flag_number s.strikethrough) (flag_number s.invisible) (flag_number s.wrapped) (flag_number s.overline) (semantic_number s.semantic_type) (vertical_number s.vertical_align) (palette_number s.foreground) (palette_number s.background) (intensity-lt s.intensity) (underline-lt s.underline) (blink-lt s.blink) (flag-lt s.italic) (flag-lt s.reverse) (flag-lt s.strikethrough) (flag-lt s.invisible) (flag-lt s.wrapped) (flag-lt s.overline) (semantic-lt s.semantic_type) (vertical-lt s.vertical_align) (palette-lt s.foreground h.0) (palette-lt s.background h.1)
-
-  invisible-digit : word_of s / 2 ^ 10 % 2 ≡ flag_number s.invisible
-  invisible-digit = digits.digit-g (intensity_number s.intensity) (underline_number s.underline) (blink_number s.blink) (flag_number s.italic) (flag_number s.reverse) (flag_number s.strikethrough) (flag_number s.invisible) (flag_number s.wrapped) (flag_number s.overline) (semantic_number s.semantic_type) (vertical_number s.vertical_align) (palette_number s.foreground) (palette_number s.background) (intensity-lt s.intensity) (underline-lt s.underline) (blink-lt s.blink) (flag-lt s.italic) (flag-lt s.reverse) (flag-lt s.strikethrough) (flag-lt s.invisible) (flag-lt s.wrapped) (flag-lt s.overline) (semantic-lt s.semantic_type) (vertical-lt s.vertical_align) (palette-lt s.foreground h.0) (palette-lt s.background h.1)
-
-  wrapped-digit : word_of s / 2 ^ 11 % 2 ≡ flag_number s.wrapped
-  wrapped-digit = digits.digit-h (intensity_number s.intensity) (underline_number s.underline) (blink_number s.blink) (flag_number s.italic) (flag_number s.reverse) (flag_number s.strikethrough) (flag_number s.invisible) (flag_number s.wrapped) (flag_number s.overline) (semantic_number s.semantic_type) (vertical_number s.vertical_align) (palette_number s.foreground) (palette_number s.background) (intensity-lt s.intensity) (underline-lt s.underline) (blink-lt s.blink) (flag-lt s.italic) (flag-lt s.reverse) (flag-lt s.strikethrough) (flag-lt s.invisible) (flag-lt s.wrapped) (flag-lt s.overline) (semantic-lt s.semantic_type) (vertical-lt s.vertical_align) (palette-lt s.foreground h.0) (palette-lt s.background h.1)
-
-  overline-digit : word_of s / 2 ^ 12 % 2 ≡ flag_number s.overline
-  overline-digit = digits.digit-i (intensity_number s.intensity) (underline_number s.underline) (blink_number s.blink) (flag_number s.italic) (flag_number s.reverse) (flag_number s.strikethrough) (flag_number s.invisible) (flag_number s.wrapped) (flag_number s.overline) (semantic_number s.semantic_type) (vertical_number s.vertical_align) (palette_number s.foreground) (palette_number s.background) (intensity-lt s.intensity) (underline-lt s.underline) (blink-lt s.blink) (flag-lt s.italic) (flag-lt s.reverse) (flag-lt s.strikethrough) (flag-lt s.invisible) (flag-lt s.wrapped) (flag-lt s.overline) (semantic-lt s.semantic_type) (vertical-lt s.vertical_align) (palette-lt s.foreground h.0) (palette-lt s.background h.1)
-
-  semantic_type-digit : word_of s / 2 ^ 13 % 4 ≡ semantic_number s.semantic_type
-  semantic_type-digit = digits.digit-j (intensity_number s.intensity) (underline_number s.underline) (blink_number s.blink) (flag_number s.italic) (flag_number s.reverse) (flag_number s.strikethrough) (flag_number s.invisible) (flag_number s.wrapped) (flag_number s.overline) (semantic_number s.semantic_type) (vertical_number s.vertical_align) (palette_number s.foreground) (palette_number s.background) (intensity-lt s.intensity) (underline-lt s.underline) (blink-lt s.blink) (flag-lt s.italic) (flag-lt s.reverse) (flag-lt s.strikethrough) (flag-lt s.invisible) (flag-lt s.wrapped) (flag-lt s.overline) (semantic-lt s.semantic_type) (vertical-lt s.vertical_align) (palette-lt s.foreground h.0) (palette-lt s.background h.1)
-
-  vertical_align-digit : word_of s / 2 ^ 15 % 4 ≡ vertical_number s.vertical_align
-  vertical_align-digit = digits.digit-k (intensity_number s.intensity) (underline_number s.underline) (blink_number s.blink) (flag_number s.italic) (flag_number s.reverse) (flag_number s.strikethrough) (flag_number s.invisible) (flag_number s.wrapped) (flag_number s.overline) (semantic_number s.semantic_type) (vertical_number s.vertical_align) (palette_number s.foreground) (palette_number s.background) (intensity-lt s.intensity) (underline-lt s.underline) (blink-lt s.blink) (flag-lt s.italic) (flag-lt s.reverse) (flag-lt s.strikethrough) (flag-lt s.invisible) (flag-lt s.wrapped) (flag-lt s.overline) (semantic-lt s.semantic_type) (vertical-lt s.vertical_align) (palette-lt s.foreground h.0) (palette-lt s.background h.1)
-
-  foreground-digit : word_of s / 2 ^ 17 % 512 ≡ palette_number s.foreground
-  foreground-digit = digits.digit-l (intensity_number s.intensity) (underline_number s.underline) (blink_number s.blink) (flag_number s.italic) (flag_number s.reverse) (flag_number s.strikethrough) (flag_number s.invisible) (flag_number s.wrapped) (flag_number s.overline) (semantic_number s.semantic_type) (vertical_number s.vertical_align) (palette_number s.foreground) (palette_number s.background) (intensity-lt s.intensity) (underline-lt s.underline) (blink-lt s.blink) (flag-lt s.italic) (flag-lt s.reverse) (flag-lt s.strikethrough) (flag-lt s.invisible) (flag-lt s.wrapped) (flag-lt s.overline) (semantic-lt s.semantic_type) (vertical-lt s.vertical_align) (palette-lt s.foreground h.0) (palette-lt s.background h.1)
-
-  background-digit : word_of s / 2 ^ 26 % 512 ≡ palette_number s.background
-  background-digit = digits.digit-m (intensity_number s.intensity) (underline_number s.underline) (blink_number s.blink) (flag_number s.italic) (flag_number s.reverse) (flag_number s.strikethrough) (flag_number s.invisible) (flag_number s.wrapped) (flag_number s.overline) (semantic_number s.semantic_type) (vertical_number s.vertical_align) (palette_number s.foreground) (palette_number s.background) (intensity-lt s.intensity) (underline-lt s.underline) (blink-lt s.blink) (flag-lt s.italic) (flag-lt s.reverse) (flag-lt s.strikethrough) (flag-lt s.invisible) (flag-lt s.wrapped) (flag-lt s.overline) (semantic-lt s.semantic_type) (vertical-lt s.vertical_align) (palette-lt s.foreground h.0) (palette-lt s.background h.1)
+  has_digits : digits.HasDigits (word_of s)
+      (intensity_number s.intensity) (underline_number s.underline) (blink_number s.blink) (flag_number s.italic) (flag_number s.reverse)
+      (flag_number s.strikethrough) (flag_number s.invisible) (flag_number s.wrapped) (flag_number s.overline) (semantic_number s.semantic_type)
+      (vertical_number s.vertical_align) (palette_number s.foreground) (palette_number s.background)
+  has_digits =
+      digits.digits-whole
+      (intensity_number s.intensity) (underline_number s.underline) (blink_number s.blink) (flag_number s.italic) (flag_number s.reverse)
+      (flag_number s.strikethrough) (flag_number s.invisible) (flag_number s.wrapped) (flag_number s.overline) (semantic_number s.semantic_type)
+      (vertical_number s.vertical_align) (palette_number s.foreground) (palette_number s.background)
+      (intensity-lt s.intensity) (underline-lt s.underline) (blink-lt s.blink) (flag-lt s.italic) (flag-lt s.reverse)
+      (flag-lt s.strikethrough) (flag-lt s.invisible) (flag-lt s.wrapped) (flag-lt s.overline) (semantic-lt s.semantic_type)
+      (vertical-lt s.vertical_align) (palette-lt s.foreground h.0) (palette-lt s.background h.1)
 
   pub style_at-word_of : style_at (word_of s) ≡ s
   style_at-word_of i = record {
-    intensity = (ap intensity_at intensity-digit ∙ intensity-back s.intensity) i;
-    underline = (ap underline_at underline-digit ∙ underline-back s.underline) i;
-    blink = (ap blink_at blink-digit ∙ blink-back s.blink) i;
-    italic = (ap flag_at italic-digit ∙ flag-back s.italic) i;
-    reverse = (ap flag_at reverse-digit ∙ flag-back s.reverse) i;
-    strikethrough = (ap flag_at strikethrough-digit ∙ flag-back s.strikethrough) i;
-    invisible = (ap flag_at invisible-digit ∙ flag-back s.invisible) i;
-    wrapped = (ap flag_at wrapped-digit ∙ flag-back s.wrapped) i;
-    overline = (ap flag_at overline-digit ∙ flag-back s.overline) i;
-    semantic_type = (ap semantic_at semantic_type-digit ∙ semantic-back s.semantic_type) i;
-    vertical_align = (ap vertical_at vertical_align-digit ∙ vertical-back s.vertical_align) i;
-    foreground = (ap palette_at foreground-digit ∙ palette-back s.foreground) i;
-    background = (ap palette_at background-digit ∙ palette-back s.background) i;
+    intensity = (ap intensity_at has_digits.intensity ∙ intensity-back s.intensity) i;
+    underline = (ap underline_at has_digits.underline ∙ underline-back s.underline) i;
+    blink = (ap blink_at has_digits.blink ∙ blink-back s.blink) i;
+    italic = (ap flag_at has_digits.italic ∙ flag-back s.italic) i;
+    reverse = (ap flag_at has_digits.reverse ∙ flag-back s.reverse) i;
+    strikethrough = (ap flag_at has_digits.strikethrough ∙ flag-back s.strikethrough) i;
+    invisible = (ap flag_at has_digits.invisible ∙ flag-back s.invisible) i;
+    wrapped = (ap flag_at has_digits.wrapped ∙ flag-back s.wrapped) i;
+    overline = (ap flag_at has_digits.overline ∙ flag-back s.overline) i;
+    semantic_type = (ap semantic_at has_digits.semantic_type ∙ semantic-back s.semantic_type) i;
+    vertical_align = (ap vertical_at has_digits.vertical_align ∙ vertical-back s.vertical_align) i;
+    foreground = (ap palette_at has_digits.foreground ∙ palette-back s.foreground) i;
+    background = (ap palette_at has_digits.background ∙ palette-back s.background) i;
   }
 
   pub IsStyleWord-word_of : IsStyleWord (word_of s)
   IsStyleWord-word_of = record {
-    intensity = rw intensity-digit (intensity-lt s.intensity);
-    underline = rw underline-digit (underline-lt s.underline);
-    blink = rw blink-digit (blink-lt s.blink);
-    semantic_type = rw semantic_type-digit (semantic-lt s.semantic_type);
-    vertical_align = rw vertical_align-digit (vertical-lt s.vertical_align);
-    foreground = rw foreground-digit (palette-lt s.foreground h.0);
-    background = rw background-digit (palette-lt s.background h.1);
-    whole = digits.below (intensity_number s.intensity) (underline_number s.underline) (blink_number s.blink) (flag_number s.italic) (flag_number s.reverse) (flag_number s.strikethrough) (flag_number s.invisible) (flag_number s.wrapped) (flag_number s.overline) (semantic_number s.semantic_type) (vertical_number s.vertical_align) (palette_number s.foreground) (palette_number s.background) (intensity-lt s.intensity) (underline-lt s.underline) (blink-lt s.blink) (flag-lt s.italic) (flag-lt s.reverse) (flag-lt s.strikethrough) (flag-lt s.invisible) (flag-lt s.wrapped) (flag-lt s.overline) (semantic-lt s.semantic_type) (vertical-lt s.vertical_align) (palette-lt s.foreground h.0) (palette-lt s.background h.1);
+    intensity = rw has_digits.intensity (intensity-lt s.intensity);
+    underline = rw has_digits.underline (underline-lt s.underline);
+    blink = rw has_digits.blink (blink-lt s.blink);
+    semantic_type = rw has_digits.semantic_type (semantic-lt s.semantic_type);
+    vertical_align = rw has_digits.vertical_align (vertical-lt s.vertical_align);
+    foreground = rw has_digits.foreground (palette-lt s.foreground h.0);
+    background = rw has_digits.background (palette-lt s.background h.1);
+    whole = has_digits.below;
   }
 
 palette-fits : (n : ℕ) → n < 257 → IsPalette (palette_at n)

@@ -51,6 +51,7 @@ with_attribute a (Foreground value) = record a { foreground = value }
 with_attribute a (Background value) = record a { background = value }
 with_attribute a (Hyperlink value) = record a { hyperlink = value }
 
+-- the change has a link, whose copy may find no memory
 abbrev pub is_link : AttributeChangeValue → Bool
 is_link (Hyperlink link) = is_some link
 is_link _ = false

@@ -2,11 +2,11 @@
 use Rattle.std.specs.Prelude.{◌≡◌, ℕ, Bool, true, false, ◌&&◌, Option, None, Some, is_none, ⊤}
 use Rattle.termwiz_cell.specs.declared.color.ColorAttribute.{ColorAttribute}
 use Rattle.termwiz_cell.specs.declared.color.ColorAttribute.TheVariants as color
-use Rattle.termwiz_cell.specs.declared.cell.kind.Full.{Full}
-use Rattle.termwiz_cell.specs.declared.cell.kind.Kind.{Kind}
-use Rattle.termwiz_cell.specs.declared.cell.kind.Kind.TheVariants as kind
-use Rattle.termwiz_cell.specs.declared.cell.kind.Part.{Part}
-use Rattle.termwiz_cell.specs.declared.cell.kind.Part.TheVariants as part
+use Rattle.termwiz_cell.specs.declared.cell.form.Full.{Full}
+use Rattle.termwiz_cell.specs.declared.cell.form.Form.{Form}
+use Rattle.termwiz_cell.specs.declared.cell.form.Form.TheVariants as form
+use Rattle.termwiz_cell.specs.declared.cell.form.RareColor.{RareColor}
+use Rattle.termwiz_cell.specs.declared.cell.form.RareColor.TheVariants as which
 use Rattle.termwiz_cell.specs.declared.cell.attributes.CellAttributes.TheInside.{Inside}
 use Rattle.termwiz_cell.specs.Link.{Link, linked}
 use Rattle.termwiz_cell.specs.declared.cell.style.Style.{Style}
@@ -30,23 +30,23 @@ abbrev pub full_rare : Full → Rare
 full_rare f = record { foreground = f.foreground; background = f.background; underline_color = f.underline_color; hyperlink = linked f.hyperlink }
 
 -- the small attributes of either form
-abbrev pub style_in : Kind → Style
-style_in (kind.Plain style) = style
-style_in (kind.Rare b) = b.value.style
+abbrev pub style_in : Form → Style
+style_in (form.Plain style) = style
+style_in (form.Boxed b) = b.value.style
 
 -- the rare attributes of either form
-abbrev pub rare_in : Kind → Rare
-rare_in (kind.Plain _) = rare_default
-rare_in (kind.Rare b) = full_rare b.value
+abbrev pub rare_in : Form → Rare
+rare_in (form.Plain _) = rare_default
+rare_in (form.Boxed b) = full_rare b.value
 
 -- the form with these small attributes
-abbrev pub with_style : Kind → Style → Kind
-with_style (kind.Plain _) style = kind.Plain style
-with_style (kind.Rare b) style = kind.Rare (record b { value = record b.value { style = style } })
+abbrev pub with_style : Form → Style → Form
+with_style (form.Plain _) style = form.Plain style
+with_style (form.Boxed b) style = form.Boxed (record b { value = record b.value { style = style } })
 
-abbrev pub is_boxed : Kind → Bool
-is_boxed (kind.Plain _) = false
-is_boxed (kind.Rare _) = true
+abbrev pub is_boxed : Form → Bool
+is_boxed (form.Plain _) = false
+is_boxed (form.Boxed _) = true
 
 abbrev pub has_default_colors : Rare → Bool
 has_default_colors r = is_default r.foreground && (is_default r.background && is_default r.underline_color)
@@ -55,15 +55,15 @@ abbrev pub is_rare_default : Rare → Bool
 is_rare_default r = has_default_colors r && is_none r.hyperlink
 
 -- the rare attributes with one colour set
-abbrev pub with_color : Part → Rare → ColorAttribute → Rare
-with_color part.Foreground r value = record r { foreground = value }
-with_color part.Background r value = record r { background = value }
-with_color part.Underline r value = record r { underline_color = value }
+abbrev pub with_color : RareColor → Rare → ColorAttribute → Rare
+with_color which.Foreground r value = record r { foreground = value }
+with_color which.Background r value = record r { background = value }
+with_color which.Underline r value = record r { underline_color = value }
 
 -- the box is there only while an attribute in it is not the default
-abbrev pub IsNeeded : Kind → Type 0
-IsNeeded (kind.Plain _) = ⊤
-IsNeeded (kind.Rare b) = is_rare_default (full_rare b.value) ≡ false
+abbrev pub IsNeeded : Form → Type 0
+IsNeeded (form.Plain _) = ⊤
+IsNeeded (form.Boxed b) = is_rare_default (full_rare b.value) ≡ false
 
 -- the rare colour, and in its absence the palette's
 abbrev pub shown : ColorAttribute → Option ℕ → ColorAttribute
@@ -112,10 +112,10 @@ attributes_from style rare = record {
 }
 
 abbrev pub attributes_of : Inside → Attributes
-attributes_of a = attributes_from (style_in a.kind) (rare_in a.kind)
+attributes_of a = attributes_from (style_in a.form) (rare_in a.form)
 
 -- attributes have one form
 pub record IsSound (a : Inside) : Type 0 where
-  pub needed : IsNeeded a.kind
-  pub foreground : is_apart (rare_in a.kind).foreground (style_in a.kind).foreground ≡ true
-  pub background : is_apart (rare_in a.kind).background (style_in a.kind).background ≡ true
+  pub needed : IsNeeded a.form
+  pub foreground : is_apart (rare_in a.form).foreground (style_in a.form).foreground ≡ true
+  pub background : is_apart (rare_in a.form).background (style_in a.form).background ≡ true

@@ -17,10 +17,10 @@ wide_in (Narrow _) = false
 wide_in (Wide _) = true
 wide_in (Long b) = b.value.wide
 
--- a text is clean, and only one of more than seven bytes is on the heap
+-- a text is clean, and on the heap exactly where it has more than seven bytes
 abbrev pub IsStored : CellText → Type 0
-IsStored (Narrow short) = clean short.bytes ≡ short.bytes
-IsStored (Wide short) = clean short.bytes ≡ short.bytes
+IsStored (Narrow short) = (clean short.bytes ≡ short.bytes) × (length short.bytes ≤ 7)
+IsStored (Wide short) = (clean short.bytes ≡ short.bytes) × (length short.bytes ≤ 7)
 IsStored (Long b) = (clean (string_bytes b.value.text) ≡ string_bytes b.value.text) × (8 ≤ length (string_bytes b.value.text))
 
 abbrev pub cell_value : Inside → CellValue

@@ -6,8 +6,8 @@ use Rattle.std.specs.Cmp.Lexicographic.{bytes_decides}
 use Rattle.std.proofs.lemmas.Bool.Decides.{Decides-like, Decides-and, Decides-eqb, Decides-int_eq}
 use Rattle.std.proofs.Common.{ap}
 use Rattle.termwiz_cell.specs.declared.color.ColorAttribute.{ColorAttribute}
-use Rattle.termwiz_cell.specs.Attributes.{Attributes, color_eq, color_eq-Decides, attributes_eq, attributes_eq-Decides}
-use Rattle.termwiz_cell.specs.AttributeChangeValue.{AttributeChangeValue, attribute_change_value, attribute_change_eq, attribute_change_eq-Decides}
+use Rattle.termwiz_cell.specs.Attributes.{Attributes, needs_box, color_eq, color_eq-Decides, attributes_eq, attributes_eq-Decides}
+use Rattle.termwiz_cell.specs.AttributeChangeValue.{AttributeChangeValue, attribute_change_value, is_link, attribute_change_eq, attribute_change_eq-Decides}
 use Rattle.termwiz_cell.specs.declared.change.Position.{Position}
 use Rattle.termwiz_cell.specs.declared.change.Position.TheVariants.{Relative, Absolute, EndRelative}
 use Rattle.termwiz_cell.specs.declared.change.CursorVisibility as cursor
@@ -39,6 +39,13 @@ change_value (code.CursorVisibility visibility) = CursorVisibility visibility
 abbrev pub is_text : ChangeValue → Bool
 is_text (Text text) = true
 is_text _ = false
+
+-- a copy of the change may find no memory: at a text, a link, and attributes that need a box
+abbrev pub copy_takes_memory : ChangeValue → Bool
+copy_takes_memory (Attribute change) = is_link change
+copy_takes_memory (AllAttributes attrs) = needs_box attrs
+copy_takes_memory (Text text) = true
+copy_takes_memory _ = false
 
 -- `==` of positions
 abbrev pub position_eq : Position → Position → Bool

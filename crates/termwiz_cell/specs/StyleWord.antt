@@ -65,6 +65,6 @@ HasPalette s = IsPalette s.foreground × IsPalette s.background
 abbrev pub bits_at : Style → List ℕ
 bits_at a = intensity_number a.intensity ∷ underline_number a.underline ∷ blink_number a.blink ∷ flag_number a.italic ∷ flag_number a.reverse ∷ flag_number a.strikethrough ∷ flag_number a.invisible ∷ flag_number a.wrapped ∷ flag_number a.overline ∷ semantic_number a.semantic_type ∷ vertical_number a.vertical_align ∷ []
 
--- the style with no zone, underline, overline and strike through
+-- the style with the semantic type Output, and no underline, overline and strike through
 abbrev pub style_sgr_only : Style → Style
 style_sgr_only a = record a { semantic_type = Output; underline = underline.None; overline = false; strikethrough = false }

@@ -9,7 +9,8 @@ ghost use Rattle.termwiz_text.specs.Plain.{is_plain};
 
 mod attribute_change;
 mod attributes;
-mod kind;
+mod debug;
+mod form;
 mod style;
 mod style_word;
 mod text;
@@ -27,7 +28,7 @@ use text::{CellText, cleaned};
 /// The text is mostly one grapheme. The empty text, CR LF and each single control character
 /// become a space, so each cell can be shown, and a width of 0 becomes 1. A text of at most
 /// seven bytes takes no memory.
-#[derive(Drop, Debug)]
+#[derive(Drop)]
 pub struct Cell {
     text: CellText,
     attrs: CellAttributes,
@@ -205,6 +206,7 @@ impl PartialEq for Cell {
 
     ghost laws = { partial_equiv_from_equiv (decided cell_eq cell_eq-Decides) };
 
+    #[inline]
     fn eq(&self, other: &Cell) -> bool
         ensures value { result ≡ cell_eq self.now other.now }
         ensures same { IsTrue result ↔ (self.now ≡ other.now) }
@@ -218,6 +220,7 @@ impl Eq for Cell {
 }
 
 impl Cell {
+    #[inline]
     fn is_same(&self, other: &Cell) -> bool
         ensures { result ≡ cell_eq self.now other.now }
     {

@@ -1,8 +1,8 @@
 //! The changes of a surface, and how places and changes are numbered.
-ghost use Rattle.std.specs.Prelude.{◌≡◌, ◌↔◌, IfOk, IsTrue, string_bytes};
+ghost use Rattle.std.specs.Prelude.{◌≡◌, ◌↔◌, IfOk, IsTrue, false, string_bytes};
 ghost use Rattle.std.specs.Cmp.{decided, on_equiv, on_per, partial_equiv_from_equiv};
 ghost use Rattle.termwiz_cell.specs.AttributeChangeValue.{attribute_change_value};
-ghost use Rattle.termwiz_cell.specs.ChangeValue.{Attribute, Text, change_value, change_eq, change_eq-Decides, is_text, position_eq, visibility_eq};
+ghost use Rattle.termwiz_cell.specs.ChangeValue.{Attribute, Text, change_value, change_eq, change_eq-Decides, copy_takes_memory, is_text, position_eq, visibility_eq};
 
 use crate::cell::{AttributeChange, CellAttributes};
 use crate::color::{ColorAttribute, is_same_color};
@@ -33,26 +33,38 @@ pub type SequenceNo = usize;
 /// The number before any change.
 pub const SEQ_ZERO: SequenceNo = 0;
 
-/// One change of a surface. Changes are added to a surface, which logs them for its viewers, and
-/// are what a viewer is given to follow it.
+/// One change of a surface: a text to print, a pen to set, a part to clear, a place for the cursor.
+///
+/// A program makes changes and adds them to a surface, which applies each to its screen. Whoever
+/// shows the surface, a terminal say, asks it for the changes that are due and applies that list
+/// in its order: its own screen then shows the same. So one type serves both, and what a viewer
+/// was given can be added to a second surface as it is.
+///
+/// A change acts at the cursor and with the pen that those before it left. The pen is the
+/// attributes of coming texts.
 ///
 /// Two changes are equal where they say the same: texts are compared by their bytes, and links
-/// by what they name.
+/// by what they name. A clone can only fail at a text, a link, or attributes that need a box.
 #[derive(Drop, Debug)]
 pub enum Change {
-    /// One attribute of coming texts.
+    /// Sets one attribute of the pen, and leaves the others.
     Attribute(AttributeChange),
-    /// The attributes of coming texts.
+    /// Sets the whole pen.
     AllAttributes(CellAttributes),
-    /// Prints a text at the cursor, with CR, LF and CR LF as moves.
+    /// Prints a text at the cursor with the pen, and goes on in the next row where a row is full.
+    /// CR goes to the first column, LF to the next row, and CR LF does both: for a new line use
+    /// both. Below the last row the rows scroll up by one. Other control characters are spaces.
     Text(String),
-    /// Clears all rows with this background, and takes the cursor home.
+    /// Clears all rows with this background, which is then all that the pen has, and takes the
+    /// cursor to the first column of the first row.
     ClearScreen(ColorAttribute),
-    /// Clears from the cursor to the end of its row with this background.
+    /// Clears from the cursor to the end of its row with this background, which is then all that
+    /// the pen has. The cursor stays.
     ClearToEndOfLine(ColorAttribute),
-    /// Clears from the cursor to the end of the screen with this background.
+    /// Clears from the cursor to the end of its row, and all rows below, with this background,
+    /// which is then all that the pen has. The cursor stays.
     ClearToEndOfScreen(ColorAttribute),
-    /// Moves the cursor.
+    /// Moves the cursor. It stays on the surface, whatever is asked for.
     CursorPosition { x: Position, y: Position },
     /// Shows or hides the cursor.
     CursorVisibility(CursorVisibility),
@@ -60,6 +72,8 @@ pub enum Change {
 
 impl Clone for Change {
     ghost is_clone = { λ a b. change_value b ≡ change_value a };
+
+    ghost is_infallible = { λ change. copy_takes_memory (change_value change) ≡ false };
 
     fn clone(&self) -> Result<Change, AllocError> {
         match self {

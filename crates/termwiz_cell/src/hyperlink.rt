@@ -241,5 +241,3 @@ fn id_params(alloc: Global, id: String) -> Result<BTreeMap<String, String>, Allo
     Ok(params)
 }
 
-#[cfg(test)]
-mod tests;

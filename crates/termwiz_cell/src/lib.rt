@@ -6,5 +6,3 @@ pub mod change;
 pub mod color;
 pub mod emoji;
 pub mod hyperlink;
-#[cfg(test)]
-mod tests;

@@ -1,17 +1,18 @@
 //! Changes of one attribute.
-ghost use Rattle.std.specs.Prelude.{◌≡◌, ◌↔◌, IsTrue};
+ghost use Rattle.std.specs.Prelude.{◌≡◌, ◌↔◌, IsTrue, false};
 ghost use Rattle.std.specs.Cmp.{decided, on_equiv, on_per, partial_equiv_from_equiv};
-ghost use Rattle.termwiz_cell.specs.AttributeChangeValue.{attribute_change_value, attribute_change_eq, attribute_change_eq-Decides};
+ghost use Rattle.termwiz_cell.specs.AttributeChangeValue.{attribute_change_value, attribute_change_eq, attribute_change_eq-Decides, is_link};
 ghost use Rattle.termwiz_cell.specs.Style.{intensity_eq, underline_eq, blink_eq};
 
-use super::kind::{clone_link, is_same_link};
+use super::form::{clone_link, is_same_link};
 use super::style::{Blink, Intensity, Underline};
 use crate::color::{ColorAttribute, is_same_color};
 use crate::hyperlink::Hyperlink;
 use std::alloc::AllocError;
 use std::rc::Rc;
 
-/// One attribute and its new value, which leaves the other attributes as they are.
+/// One attribute and its new value, which leaves the other attributes as they are. A clone can
+/// only fail at a link.
 #[derive(Drop, Debug)]
 pub enum AttributeChange {
     Intensity(Intensity),
@@ -28,6 +29,8 @@ pub enum AttributeChange {
 
 impl Clone for AttributeChange {
     ghost is_clone = { λ a b. attribute_change_value b ≡ attribute_change_value a };
+
+    ghost is_infallible = { λ change. is_link (attribute_change_value change) ≡ false };
 
     fn clone(&self) -> Result<AttributeChange, AllocError> {
         match self {

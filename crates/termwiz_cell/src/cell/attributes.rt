@@ -5,7 +5,7 @@ ghost use Rattle.termwiz_cell.specs.Attributes.{default_attributes, attributes_e
 ghost use Rattle.termwiz_cell.specs.AttributesLayout as spec;
 
 use super::attribute_change::AttributeChange;
-use super::kind::{Kind, Part, clone_link};
+use super::form::{Form, RareColor, clone_link};
 use super::style::{Blink, Intensity, SemanticType, Underline, VerticalAlign};
 use super::style_word::StyleWord;
 use crate::color::ColorAttribute;
@@ -18,9 +18,9 @@ use std::rc::Rc;
 ///
 /// All but true colours, the underline colour and the link stand in one word. Those take
 /// memory, which is given back once all of them have their defaults again.
-#[derive(Drop, Debug)]
+#[derive(Drop)]
 pub struct CellAttributes {
-    kind: Kind,
+    form: Form,
 }
 
 impl Model for CellAttributes {
@@ -44,7 +44,7 @@ impl CellAttributes {
         ensures { result ≡ default_attributes }
     {
         CellAttributes {
-            kind: Kind::Plain(StyleWord::blank()),
+            form: Form::Plain(StyleWord::blank()),
         }
     }
 
@@ -69,14 +69,14 @@ impl CellAttributes {
     pub fn is_blank(&self) -> bool
         ensures { IsTrue result ↔ (self.now ≡ default_attributes) }
     {
-        self.kind.is_blank()
+        self.form.is_blank()
     }
 
     /// How strong the text is.
     pub fn intensity(&self) -> Intensity
         ensures { result ≡ self.now.intensity }
     {
-        self.kind.style().intensity()
+        self.form.style().intensity()
     }
 
     /// Sets how strong the text is.
@@ -84,7 +84,7 @@ impl CellAttributes {
         ensures same_reference { result.ghost_name ≡ self.entry.ghost_name }
         ensures value { result.now ≡ record self.old { intensity = value } }
     {
-        self.kind.style_mut().set_intensity(value);
+        self.form.style_mut().set_intensity(value);
         self
     }
 
@@ -92,7 +92,7 @@ impl CellAttributes {
     pub fn underline(&self) -> Underline
         ensures { result ≡ self.now.underline }
     {
-        self.kind.style().underline()
+        self.form.style().underline()
     }
 
     /// Sets how the text is underlined.
@@ -100,7 +100,7 @@ impl CellAttributes {
         ensures same_reference { result.ghost_name ≡ self.entry.ghost_name }
         ensures value { result.now ≡ record self.old { underline = value } }
     {
-        self.kind.style_mut().set_underline(value);
+        self.form.style_mut().set_underline(value);
         self
     }
 
@@ -108,7 +108,7 @@ impl CellAttributes {
     pub fn blink(&self) -> Blink
         ensures { result ≡ self.now.blink }
     {
-        self.kind.style().blink()
+        self.form.style().blink()
     }
 
     /// Sets how fast the text blinks.
@@ -116,7 +116,7 @@ impl CellAttributes {
         ensures same_reference { result.ghost_name ≡ self.entry.ghost_name }
         ensures value { result.now ≡ record self.old { blink = value } }
     {
-        self.kind.style_mut().set_blink(value);
+        self.form.style_mut().set_blink(value);
         self
     }
 
@@ -124,7 +124,7 @@ impl CellAttributes {
     pub fn italic(&self) -> bool
         ensures { result ≡ self.now.italic }
     {
-        self.kind.style().italic()
+        self.form.style().italic()
     }
 
     /// Sets whether the text is slanted.
@@ -132,7 +132,7 @@ impl CellAttributes {
         ensures same_reference { result.ghost_name ≡ self.entry.ghost_name }
         ensures value { result.now ≡ record self.old { italic = value } }
     {
-        self.kind.style_mut().set_italic(value);
+        self.form.style_mut().set_italic(value);
         self
     }
 
@@ -140,7 +140,7 @@ impl CellAttributes {
     pub fn reverse(&self) -> bool
         ensures { result ≡ self.now.reverse }
     {
-        self.kind.style().reverse()
+        self.form.style().reverse()
     }
 
     /// Sets whether the colours of text and background are exchanged.
@@ -148,7 +148,7 @@ impl CellAttributes {
         ensures same_reference { result.ghost_name ≡ self.entry.ghost_name }
         ensures value { result.now ≡ record self.old { reverse = value } }
     {
-        self.kind.style_mut().set_reverse(value);
+        self.form.style_mut().set_reverse(value);
         self
     }
 
@@ -156,7 +156,7 @@ impl CellAttributes {
     pub fn strikethrough(&self) -> bool
         ensures { result ≡ self.now.strikethrough }
     {
-        self.kind.style().strikethrough()
+        self.form.style().strikethrough()
     }
 
     /// Sets whether the text is struck through.
@@ -164,7 +164,7 @@ impl CellAttributes {
         ensures same_reference { result.ghost_name ≡ self.entry.ghost_name }
         ensures value { result.now ≡ record self.old { strikethrough = value } }
     {
-        self.kind.style_mut().set_strikethrough(value);
+        self.form.style_mut().set_strikethrough(value);
         self
     }
 
@@ -172,7 +172,7 @@ impl CellAttributes {
     pub fn invisible(&self) -> bool
         ensures { result ≡ self.now.invisible }
     {
-        self.kind.style().invisible()
+        self.form.style().invisible()
     }
 
     /// Sets whether the text is hidden.
@@ -180,7 +180,7 @@ impl CellAttributes {
         ensures same_reference { result.ghost_name ≡ self.entry.ghost_name }
         ensures value { result.now ≡ record self.old { invisible = value } }
     {
-        self.kind.style_mut().set_invisible(value);
+        self.form.style_mut().set_invisible(value);
         self
     }
 
@@ -188,7 +188,7 @@ impl CellAttributes {
     pub fn wrapped(&self) -> bool
         ensures { result ≡ self.now.wrapped }
     {
-        self.kind.style().wrapped()
+        self.form.style().wrapped()
     }
 
     /// Sets whether the row was wrapped behind this cell.
@@ -196,7 +196,7 @@ impl CellAttributes {
         ensures same_reference { result.ghost_name ≡ self.entry.ghost_name }
         ensures value { result.now ≡ record self.old { wrapped = value } }
     {
-        self.kind.style_mut().set_wrapped(value);
+        self.form.style_mut().set_wrapped(value);
         self
     }
 
@@ -204,7 +204,7 @@ impl CellAttributes {
     pub fn overline(&self) -> bool
         ensures { result ≡ self.now.overline }
     {
-        self.kind.style().overline()
+        self.form.style().overline()
     }
 
     /// Sets whether a line stands above the text.
@@ -212,7 +212,7 @@ impl CellAttributes {
         ensures same_reference { result.ghost_name ≡ self.entry.ghost_name }
         ensures value { result.now ≡ record self.old { overline = value } }
     {
-        self.kind.style_mut().set_overline(value);
+        self.form.style_mut().set_overline(value);
         self
     }
 
@@ -220,7 +220,7 @@ impl CellAttributes {
     pub fn semantic_type(&self) -> SemanticType
         ensures { result ≡ self.now.semantic_type }
     {
-        self.kind.style().semantic_type()
+        self.form.style().semantic_type()
     }
 
     /// Sets what the text is to its reader.
@@ -228,7 +228,7 @@ impl CellAttributes {
         ensures same_reference { result.ghost_name ≡ self.entry.ghost_name }
         ensures value { result.now ≡ record self.old { semantic_type = value } }
     {
-        self.kind.style_mut().set_semantic_type(value);
+        self.form.style_mut().set_semantic_type(value);
         self
     }
 
@@ -236,7 +236,7 @@ impl CellAttributes {
     pub fn vertical_align(&self) -> VerticalAlign
         ensures { result ≡ self.now.vertical_align }
     {
-        self.kind.style().vertical_align()
+        self.form.style().vertical_align()
     }
 
     /// Sets where the text stands on its line.
@@ -244,7 +244,7 @@ impl CellAttributes {
         ensures same_reference { result.ghost_name ≡ self.entry.ghost_name }
         ensures value { result.now ≡ record self.old { vertical_align = value } }
     {
-        self.kind.style_mut().set_vertical_align(value);
+        self.form.style_mut().set_vertical_align(value);
         self
     }
 
@@ -252,7 +252,7 @@ impl CellAttributes {
     pub fn foreground(&self) -> ColorAttribute
         ensures { result ≡ self.now.foreground }
     {
-        shown(self.kind.foreground(), self.kind.style().foreground())
+        shown(self.form.foreground(), self.form.style().foreground())
     }
 
     /// Sets the foreground as `change_foreground` does, which says that nothing changed at an error.
@@ -284,8 +284,8 @@ impl CellAttributes {
     {
         let palette = palette_part(&value);
         let rare = rare_part(value);
-        self.kind.set_color(alloc, Part::Foreground, rare)?;
-        self.kind.style_mut().set_foreground(palette);
+        self.form.set_color(alloc, RareColor::Foreground, rare)?;
+        self.form.style_mut().set_foreground(palette);
         Ok(())
     }
 
@@ -293,7 +293,7 @@ impl CellAttributes {
     pub fn background(&self) -> ColorAttribute
         ensures { result ≡ self.now.background }
     {
-        shown(self.kind.background(), self.kind.style().background())
+        shown(self.form.background(), self.form.style().background())
     }
 
     /// Sets the background as `change_background` does, which says that nothing changed at an error.
@@ -325,8 +325,8 @@ impl CellAttributes {
     {
         let palette = palette_part(&value);
         let rare = rare_part(value);
-        self.kind.set_color(alloc, Part::Background, rare)?;
-        self.kind.style_mut().set_background(palette);
+        self.form.set_color(alloc, RareColor::Background, rare)?;
+        self.form.style_mut().set_background(palette);
         Ok(())
     }
 
@@ -334,7 +334,7 @@ impl CellAttributes {
     pub fn underline_color(&self) -> ColorAttribute
         ensures { result ≡ self.now.underline_color }
     {
-        self.kind.underline_color()
+        self.form.underline_color()
     }
 
     /// Sets the underline colour as `change_underline_color` does, which says that nothing changed at an error.
@@ -364,14 +364,14 @@ impl CellAttributes {
         ensures boxed { needs_box self.old ≡ true → IsOk result }
         ensures succeeds { needs_box (record self.old { underline_color = value }) ≡ false → IsOk result }
     {
-        self.kind.set_color(alloc, Part::Underline, value)
+        self.form.set_color(alloc, RareColor::Underline, value)
     }
 
     /// The link of the text.
     pub fn hyperlink(&self) -> Option<&Rc<Hyperlink>>
         ensures { option_map (λ rc. rc.now.value) result ≡ self.now.hyperlink }
     {
-        self.kind.hyperlink()
+        self.form.hyperlink()
     }
 
     /// Sets the link as `change_hyperlink` does, which says that nothing changed at an error.
@@ -401,17 +401,17 @@ impl CellAttributes {
         ensures boxed { needs_box self.old ≡ true → IsOk result }
         ensures succeeds { needs_box (record self.old { hyperlink = linked value }) ≡ false → IsOk result }
     {
-        self.kind.set_hyperlink(alloc, value)
+        self.form.set_hyperlink(alloc, value)
     }
 
-    /// A copy with no zone, underline, overline, strike through and link: the attributes with
-    /// which a cleared cell goes on. It can only fail where the copy needs a box.
+    /// A copy with the semantic type `Output`, and no underline, overline, strike through and
+    /// link: the attributes with which a cleared cell goes on. It can only fail where the copy needs a box.
     pub fn clone_sgr_only(&self, alloc: Global) -> Result<CellAttributes, AllocError>
         ensures ok { IfOk result (λ copy. copy ≡ sgr_only self.now) }
         ensures succeeds { needs_box (sgr_only self.now) ≡ false → IsOk result }
     {
-        let kind = self.kind.sgr_only(alloc)?;
-        Ok(CellAttributes { kind })
+        let form = self.form.sgr_only(alloc)?;
+        Ok(CellAttributes { form })
     }
 
     /// Applies a change of one attribute. At an error nothing changed. It can only fail where
@@ -461,17 +461,18 @@ impl CellAttributes {
     pub fn attribute_bits_equal(&self, other: &CellAttributes) -> bool
         ensures { IsTrue result ↔ (without_colors self.now ≡ without_colors other.now) }
     {
-        self.kind.style().has_same_bits(other.kind.style())
+        self.form.style().has_same_bits(other.form.style())
     }
 
     #[inline]
     fn is_same(&self, other: &CellAttributes) -> bool
         ensures { result ≡ attributes_eq self.now other.now }
     {
-        self.kind.is_same(&other.kind)
+        self.form.is_same(&other.form)
     }
 }
 
+/// The rare colour, or else the palette's.
 fn shown(rare: ColorAttribute, index: Option<u8>) -> ColorAttribute
     ensures { result ≡ spec.shown rare index }
 {
@@ -484,6 +485,7 @@ fn shown(rare: ColorAttribute, index: Option<u8>) -> ColorAttribute
     }
 }
 
+/// The part of a colour that the box has.
 fn rare_part(color: ColorAttribute) -> ColorAttribute
     ensures { result ≡ spec.rare_part color }
 {
@@ -493,6 +495,7 @@ fn rare_part(color: ColorAttribute) -> ColorAttribute
     }
 }
 
+/// The part of a colour that the word has.
 fn palette_part(color: &ColorAttribute) -> Option<u8>
     ensures { result ≡ spec.palette_part color.now }
 {
@@ -508,8 +511,8 @@ impl Clone for CellAttributes {
     ghost is_infallible = { λ a. needs_box a ≡ false };
 
     fn clone(&self) -> Result<CellAttributes, AllocError> {
-        let kind = self.kind.copied()?;
-        Ok(CellAttributes { kind })
+        let form = self.form.copied()?;
+        Ok(CellAttributes { form })
     }
 }
 
@@ -518,6 +521,7 @@ impl PartialEq for CellAttributes {
 
     ghost laws = { partial_equiv_from_equiv (decided attributes_eq attributes_eq-Decides) };
 
+    #[inline]
     fn eq(&self, other: &CellAttributes) -> bool
         ensures value { result ≡ attributes_eq self.now other.now }
         ensures same { IsTrue result ↔ (self.now ≡ other.now) }

@@ -6,9 +6,9 @@ ghost use Rattle.termwiz_cell.specs.StyleWord.{palette_number, palette_at, IsPal
 use super::style::{Blink, Intensity, SemanticType, Underline, VerticalAlign};
 use std::marker::Model;
 
-/// The small attributes in a word.
-#[derive(Drop, Clone, Debug)]
-pub struct StyleWord {
+/// The small attributes in a word: one digit each, the lowest first. A style has one word.
+#[derive(Drop)]
+pub(super) struct StyleWord {
     word: u64,
 }
 
@@ -24,9 +24,32 @@ impl Model for StyleWord {
     ghost invariant = { λ s. IsStyleWord s.word };
 }
 
-// Where the digits of the palette begin.
-const PALETTES: u64 = 1 << 17;
+// The place of each digit but the first, which is the intensity. A digit ends where the next begins.
+const UNDERLINE: u64 = 1 << 2;
 
+const BLINK: u64 = 1 << 5;
+
+const ITALIC: u64 = 1 << 7;
+
+const REVERSE: u64 = 1 << 8;
+
+const STRIKETHROUGH: u64 = 1 << 9;
+
+const INVISIBLE: u64 = 1 << 10;
+
+const WRAPPED: u64 = 1 << 11;
+
+const OVERLINE: u64 = 1 << 12;
+
+const SEMANTIC_TYPE: u64 = 1 << 13;
+
+const VERTICAL_ALIGN: u64 = 1 << 15;
+
+const FOREGROUND: u64 = 1 << 17;
+
+const BACKGROUND: u64 = 1 << 26;
+
+/// A digit below 2.
 fn flag_digit(flag: bool) -> u64
     ensures value { result ≡ flag_number flag }
     ensures bound { result < 2 }
@@ -34,6 +57,7 @@ fn flag_digit(flag: bool) -> u64
     if flag { 1 } else { 0 }
 }
 
+/// A digit below 257: 0 for none, and else the index and 1.
 fn palette_digit(index: Option<u8>) -> u64
     ensures value { result ≡ palette_number index }
     ensures palette { IsPalette index }
@@ -57,34 +81,37 @@ fn palette_from(digit: u64) -> Option<u8>
 }
 
 impl StyleWord {
-    pub fn blank() -> StyleWord
+    /// The style of default attributes.
+    pub(super) fn blank() -> StyleWord
         ensures { result ≡ style_at 0 }
     {
         StyleWord { word: 0 }
     }
 
-    pub fn copied(&self) -> StyleWord
+    /// A copy, which never fails.
+    pub(super) fn copied(&self) -> StyleWord
         ensures { result ≡ self.now }
     {
         StyleWord { word: self.word }
     }
 
     /// Whether both have one style.
-    pub fn is_same(&self, other: &StyleWord) -> bool
+    #[inline]
+    pub(super) fn is_same(&self, other: &StyleWord) -> bool
         ensures { IsTrue result ↔ (self.now ≡ other.now) }
     {
         self.word == other.word
     }
 
     /// Whether this is the style of default attributes.
-    pub fn is_blank(&self) -> bool
+    pub(super) fn is_blank(&self) -> bool
         ensures { IsTrue result ↔ (self.now ≡ style_at 0) }
     {
         self.word == 0
     }
 
-    /// The style with no zone, underline, overline and strike through.
-    pub fn sgr_only(&self) -> StyleWord
+    /// The style with the semantic type `Output`, and no underline, overline and strike through.
+    pub(super) fn sgr_only(&self) -> StyleWord
         ensures { result ≡ style_sgr_only self.now }
     {
         let mut copy = self.copied();
@@ -96,193 +123,206 @@ impl StyleWord {
     }
 
     /// Whether both styles are equal but for the palette.
-    pub fn has_same_bits(&self, other: &StyleWord) -> bool
+    pub(super) fn has_same_bits(&self, other: &StyleWord) -> bool
         ensures { IsTrue result ↔ (bits_at self.now ≡ bits_at other.now) }
     {
-        self.word % PALETTES == other.word % PALETTES
+        self.word % FOREGROUND == other.word % FOREGROUND
     }
 
-    pub fn intensity(&self) -> Intensity
+    pub(super) fn intensity(&self) -> Intensity
         ensures { result ≡ self.now.intensity }
     {
-        Intensity::from_number(self.word & 3)
+        Intensity::from_number(self.word % 4)
     }
 
     #[tactic(auto, using(crate::proofs::StyleSetters::intensity))]
-    pub fn set_intensity(&mut self, value: Intensity)
+    pub(super) fn set_intensity(&mut self, value: Intensity)
         ensures { self.new ≡ record self.old { intensity = value } }
     {
         let word = self.word - self.word % 4 + value.number();
         *self = StyleWord { word };
     }
 
-    pub fn underline(&self) -> Underline
+    pub(super) fn underline(&self) -> Underline
         ensures { result ≡ self.now.underline }
     {
-        Underline::from_number(self.word >> 2 & 7)
+        Underline::from_number(self.word / UNDERLINE % 8)
     }
 
     #[tactic(auto, using(crate::proofs::StyleSetters::underline))]
-    pub fn set_underline(&mut self, value: Underline)
+    pub(super) fn set_underline(&mut self, value: Underline)
         ensures { self.new ≡ record self.old { underline = value } }
     {
-        let word = self.word - self.word / 4 % 8 * 4 + value.number() * 4;
+        let digit = value.number();
+        let word = self.word - self.word / UNDERLINE % 8 * UNDERLINE + digit * UNDERLINE;
         *self = StyleWord { word };
     }
 
-    pub fn blink(&self) -> Blink
+    pub(super) fn blink(&self) -> Blink
         ensures { result ≡ self.now.blink }
     {
-        Blink::from_number(self.word >> 5 & 3)
+        Blink::from_number(self.word / BLINK % 4)
     }
 
     #[tactic(auto, using(crate::proofs::StyleSetters::blink))]
-    pub fn set_blink(&mut self, value: Blink)
+    pub(super) fn set_blink(&mut self, value: Blink)
         ensures { self.new ≡ record self.old { blink = value } }
     {
-        let word = self.word - self.word / 32 % 4 * 32 + value.number() * 32;
+        let digit = value.number();
+        let word = self.word - self.word / BLINK % 4 * BLINK + digit * BLINK;
         *self = StyleWord { word };
     }
 
-    pub fn italic(&self) -> bool
+    pub(super) fn italic(&self) -> bool
         ensures { result ≡ self.now.italic }
     {
-        self.word >> 7 & 1 == 1
+        self.word / ITALIC % 2 == 1
     }
 
     #[tactic(auto, using(crate::proofs::StyleSetters::italic))]
-    pub fn set_italic(&mut self, value: bool)
+    pub(super) fn set_italic(&mut self, value: bool)
         ensures { self.new ≡ record self.old { italic = value } }
     {
-        let word = self.word - self.word / 128 % 2 * 128 + flag_digit(value) * 128;
+        let digit = flag_digit(value);
+        let word = self.word - self.word / ITALIC % 2 * ITALIC + digit * ITALIC;
         *self = StyleWord { word };
     }
 
-    pub fn reverse(&self) -> bool
+    pub(super) fn reverse(&self) -> bool
         ensures { result ≡ self.now.reverse }
     {
-        self.word >> 8 & 1 == 1
+        self.word / REVERSE % 2 == 1
     }
 
     #[tactic(auto, using(crate::proofs::StyleSetters::reverse))]
-    pub fn set_reverse(&mut self, value: bool)
+    pub(super) fn set_reverse(&mut self, value: bool)
         ensures { self.new ≡ record self.old { reverse = value } }
     {
-        let word = self.word - self.word / 256 % 2 * 256 + flag_digit(value) * 256;
+        let digit = flag_digit(value);
+        let word = self.word - self.word / REVERSE % 2 * REVERSE + digit * REVERSE;
         *self = StyleWord { word };
     }
 
-    pub fn strikethrough(&self) -> bool
+    pub(super) fn strikethrough(&self) -> bool
         ensures { result ≡ self.now.strikethrough }
     {
-        self.word >> 9 & 1 == 1
+        self.word / STRIKETHROUGH % 2 == 1
     }
 
     #[tactic(auto, using(crate::proofs::StyleSetters::strikethrough))]
-    pub fn set_strikethrough(&mut self, value: bool)
+    pub(super) fn set_strikethrough(&mut self, value: bool)
         ensures { self.new ≡ record self.old { strikethrough = value } }
     {
-        let word = self.word - self.word / 512 % 2 * 512 + flag_digit(value) * 512;
+        let digit = flag_digit(value);
+        let word = self.word - self.word / STRIKETHROUGH % 2 * STRIKETHROUGH
+            + digit * STRIKETHROUGH;
         *self = StyleWord { word };
     }
 
-    pub fn invisible(&self) -> bool
+    pub(super) fn invisible(&self) -> bool
         ensures { result ≡ self.now.invisible }
     {
-        self.word >> 10 & 1 == 1
+        self.word / INVISIBLE % 2 == 1
     }
 
     #[tactic(auto, using(crate::proofs::StyleSetters::invisible))]
-    pub fn set_invisible(&mut self, value: bool)
+    pub(super) fn set_invisible(&mut self, value: bool)
         ensures { self.new ≡ record self.old { invisible = value } }
     {
-        let word = self.word - self.word / 1024 % 2 * 1024 + flag_digit(value) * 1024;
+        let digit = flag_digit(value);
+        let word = self.word - self.word / INVISIBLE % 2 * INVISIBLE + digit * INVISIBLE;
         *self = StyleWord { word };
     }
 
-    pub fn wrapped(&self) -> bool
+    pub(super) fn wrapped(&self) -> bool
         ensures { result ≡ self.now.wrapped }
     {
-        self.word >> 11 & 1 == 1
+        self.word / WRAPPED % 2 == 1
     }
 
     #[tactic(auto, using(crate::proofs::StyleSetters::wrapped))]
-    pub fn set_wrapped(&mut self, value: bool)
+    pub(super) fn set_wrapped(&mut self, value: bool)
         ensures { self.new ≡ record self.old { wrapped = value } }
     {
-        let word = self.word - self.word / 2048 % 2 * 2048 + flag_digit(value) * 2048;
+        let digit = flag_digit(value);
+        let word = self.word - self.word / WRAPPED % 2 * WRAPPED + digit * WRAPPED;
         *self = StyleWord { word };
     }
 
-    pub fn overline(&self) -> bool
+    pub(super) fn overline(&self) -> bool
         ensures { result ≡ self.now.overline }
     {
-        self.word >> 12 & 1 == 1
+        self.word / OVERLINE % 2 == 1
     }
 
     #[tactic(auto, using(crate::proofs::StyleSetters::overline))]
-    pub fn set_overline(&mut self, value: bool)
+    pub(super) fn set_overline(&mut self, value: bool)
         ensures { self.new ≡ record self.old { overline = value } }
     {
-        let word = self.word - self.word / 4096 % 2 * 4096 + flag_digit(value) * 4096;
+        let digit = flag_digit(value);
+        let word = self.word - self.word / OVERLINE % 2 * OVERLINE + digit * OVERLINE;
         *self = StyleWord { word };
     }
 
-    pub fn semantic_type(&self) -> SemanticType
+    pub(super) fn semantic_type(&self) -> SemanticType
         ensures { result ≡ self.now.semantic_type }
     {
-        SemanticType::from_number(self.word >> 13 & 3)
+        SemanticType::from_number(self.word / SEMANTIC_TYPE % 4)
     }
 
     #[tactic(auto, using(crate::proofs::StyleSetters::semantic_type))]
-    pub fn set_semantic_type(&mut self, value: SemanticType)
+    pub(super) fn set_semantic_type(&mut self, value: SemanticType)
         ensures { self.new ≡ record self.old { semantic_type = value } }
     {
-        let word = self.word - self.word / 8192 % 4 * 8192 + value.number() * 8192;
+        let digit = value.number();
+        let word = self.word - self.word / SEMANTIC_TYPE % 4 * SEMANTIC_TYPE
+            + digit * SEMANTIC_TYPE;
         *self = StyleWord { word };
     }
 
-    pub fn vertical_align(&self) -> VerticalAlign
+    pub(super) fn vertical_align(&self) -> VerticalAlign
         ensures { result ≡ self.now.vertical_align }
     {
-        VerticalAlign::from_number(self.word >> 15 & 3)
+        VerticalAlign::from_number(self.word / VERTICAL_ALIGN % 4)
     }
 
     #[tactic(auto, using(crate::proofs::StyleSetters::vertical_align))]
-    pub fn set_vertical_align(&mut self, value: VerticalAlign)
+    pub(super) fn set_vertical_align(&mut self, value: VerticalAlign)
         ensures { self.new ≡ record self.old { vertical_align = value } }
     {
-        let word = self.word - self.word / 32768 % 4 * 32768 + value.number() * 32768;
+        let digit = value.number();
+        let word = self.word - self.word / VERTICAL_ALIGN % 4 * VERTICAL_ALIGN
+            + digit * VERTICAL_ALIGN;
         *self = StyleWord { word };
     }
 
-    pub fn foreground(&self) -> Option<u8>
+    pub(super) fn foreground(&self) -> Option<u8>
         ensures { result ≡ self.now.foreground }
     {
-        palette_from(self.word >> 17 & 511)
+        palette_from(self.word / FOREGROUND % 512)
     }
 
     #[tactic(auto, using(crate::proofs::StyleSetters::foreground))]
-    pub fn set_foreground(&mut self, value: Option<u8>)
+    pub(super) fn set_foreground(&mut self, value: Option<u8>)
         ensures { self.new ≡ record self.old { foreground = value } }
     {
         let digit = palette_digit(value);
-        let word = self.word - self.word / 131072 % 512 * 131072 + digit * 131072;
+        let word = self.word - self.word / FOREGROUND % 512 * FOREGROUND + digit * FOREGROUND;
         *self = StyleWord { word };
     }
 
-    pub fn background(&self) -> Option<u8>
+    pub(super) fn background(&self) -> Option<u8>
         ensures { result ≡ self.now.background }
     {
-        palette_from(self.word >> 26 & 511)
+        palette_from(self.word / BACKGROUND % 512)
     }
 
     #[tactic(auto, using(crate::proofs::StyleSetters::background))]
-    pub fn set_background(&mut self, value: Option<u8>)
+    pub(super) fn set_background(&mut self, value: Option<u8>)
         ensures { self.new ≡ record self.old { background = value } }
     {
         let digit = palette_digit(value);
-        let word = self.word - self.word / 67108864 % 512 * 67108864 + digit * 67108864;
+        let word = self.word - self.word / BACKGROUND % 512 * BACKGROUND + digit * BACKGROUND;
         *self = StyleWord { word };
     }
 }

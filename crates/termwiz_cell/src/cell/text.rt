@@ -1,5 +1,5 @@
 //! The text of a cell, and whether it takes two columns.
-ghost use Rattle.std.specs.Prelude.{◌≡◌, ◌↔◌, ◌≤◌, ◌&&◌, ◌∷◌, [], length, true, false, IsTrue, IfOk, IsOk, bytes_eq};
+ghost use Rattle.std.specs.Prelude.{◌≡◌, ◌↔◌, ◌≤◌, ◌&&◌, ◌∷◌, [], length, true, false, IsTrue, IfOk, IsOk, bytes_eq, string_bytes};
 ghost use Rattle.std.specs.Bool.{beq};
 ghost use Rattle.termwiz_cell.specs.CellLayout.{text_in, wide_in, IsStored};
 ghost use Rattle.termwiz_cell.specs.CellValue.{clean, space};
@@ -10,14 +10,15 @@ use std::alloc::{AllocError, Global};
 
 /// The text of a cell, and whether it takes two columns. A text of at most seven bytes stands in
 /// the value itself, and a longer one on the heap.
-#[derive(Drop, Debug)]
+#[derive(Drop)]
 pub(super) enum CellText {
     Narrow(ArrayString<7>),
     Wide(ArrayString<7>),
     Long(Box<LongText>),
 }
 
-#[derive(Drop, Debug)]
+/// A text of more than seven bytes.
+#[derive(Drop)]
 pub(super) struct LongText {
     pub(super) text: String,
     pub(super) wide: bool,
@@ -31,6 +32,17 @@ pub(super) fn cleaned(text: &str) -> &str
         [] | b"\r\n" => " ",
         [byte] if *byte < 0x20 || *byte == 0x7f => " ",
         _ => text,
+    }
+}
+
+impl LongText {
+    /// Whether both are the same text of the same width. It stands apart, so that the test of
+    /// short texts is short.
+    #[inline(never)]
+    fn is_same(&self, other: &LongText) -> bool
+        ensures { result ≡ (bytes_eq (string_bytes self.now.text) (string_bytes other.now.text) && beq self.now.wide other.now.wide) }
+    {
+        self.text == other.text && self.wide == other.wide
     }
 }
 
@@ -111,13 +123,24 @@ impl CellText {
         }
     }
 
-    /// Whether both are the same text of the same width.
+    /// Whether both are the same text of the same width. The length of a text tells its form, so
+    /// texts of two forms differ.
+    #[inline]
+    #[tactic(auto, using(crate::proofs::TextForms::short_differs_from_long, crate::proofs::TextForms::long_differs_from_short))]
     pub(super) fn is_same(&self, other: &CellText) -> bool
         requires self_stored { IsStored self.now }
         requires other_stored { IsStored other.now }
         ensures { result ≡ (bytes_eq (text_in self.now) (text_in other.now) && beq (wide_in self.now) (wide_in other.now)) }
     {
-        self.str() == other.str() && self.is_wide() == other.is_wide()
+        match (self, other) {
+            (CellText::Narrow(a), CellText::Narrow(b)) => a.as_str() == b.as_str(),
+            (CellText::Wide(a), CellText::Wide(b)) => a.as_str() == b.as_str(),
+            (CellText::Long(a), CellText::Long(b)) => a.is_same(b),
+            (CellText::Narrow(_), CellText::Wide(_)) => false,
+            (CellText::Wide(_), CellText::Narrow(_)) => false,
+            (CellText::Long(_), _) => false,
+            (_, CellText::Long(_)) => false,
+        }
     }
 
     /// A copy. It can only fail where the text is longer than seven bytes.
@@ -136,7 +159,7 @@ impl CellText {
     }
 }
 
-/// A text of more than seven bytes. It stands apart, so that the way of the others is short.
+/// This text, which has more than seven bytes. It stands apart, so that the way of the others is short.
 #[inline(never)]
 fn long_text(alloc: Global, text: &str, wide: bool) -> Result<CellText, AllocError>
     requires clean { clean text.now ≡ text.now }

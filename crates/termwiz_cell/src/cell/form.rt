@@ -1,0 +1,358 @@
+//! The two forms of attributes: a word alone, and a box with the word and the rare attributes.
+ghost use Rattle.std.specs.Prelude.{◌≡◌, ◌↔◌, IsTrue, IsNone, IsOk, IfOk, OnOk, OnErr, MatchOption, None, true, false, option_map};
+ghost use Rattle.termwiz_cell.specs.Attributes.{option_link_eq, is_default};
+ghost use Rattle.termwiz_cell.specs.AttributesLayout as spec;
+ghost use Rattle.std.specs.Borrow.{sem};
+ghost use Rattle.termwiz_cell.specs.StyleLending.{LendsStyle};
+ghost use Rattle.termwiz_cell.specs.Link.{linked};
+ghost use Rattle.termwiz_cell.specs.StyleWord.{style_at, style_sgr_only};
+
+use super::style_word::StyleWord;
+use crate::color::{ColorAttribute, is_same_color};
+use crate::hyperlink::Hyperlink;
+use std::alloc::{AllocError, Global};
+use std::rc::Rc;
+
+/// Attributes in one of two forms. `Boxed` is there only while a rare attribute isn't default.
+#[derive(Drop)]
+pub(super) enum Form {
+    Plain(StyleWord),
+    Boxed(Box<Full>),
+}
+
+/// The word, and the rare attributes: those that few cells have.
+#[derive(Drop)]
+pub(super) struct Full {
+    pub(super) style: StyleWord,
+    pub(super) foreground: ColorAttribute,
+    pub(super) background: ColorAttribute,
+    pub(super) underline_color: ColorAttribute,
+    pub(super) hyperlink: Option<Rc<Hyperlink>>,
+}
+
+/// Which of the rare colours.
+#[derive(Clone, Copy)]
+pub(super) enum RareColor {
+    Foreground,
+    Background,
+    Underline,
+}
+
+impl Full {
+    fn new(style: StyleWord) -> Full
+        ensures rare { spec.full_rare result ≡ spec.rare_default }
+        ensures style { result.style ≡ style }
+    {
+        Full {
+            style,
+            foreground: ColorAttribute::Default,
+            background: ColorAttribute::Default,
+            underline_color: ColorAttribute::Default,
+            hyperlink: None,
+        }
+    }
+
+    /// Sets one of the rare colours.
+    fn put(&mut self, which: RareColor, value: ColorAttribute)
+        ensures rare { spec.full_rare self.new ≡ spec.with_color which (spec.full_rare self.old) value }
+        ensures style { self.new.style ≡ self.old.style }
+    {
+        match which {
+            RareColor::Foreground => self.foreground = value,
+            RareColor::Background => self.background = value,
+            RareColor::Underline => self.underline_color = value,
+        }
+    }
+
+    /// Whether all rare attributes have their defaults.
+    fn is_default(&self) -> bool
+        ensures { result ≡ spec.is_rare_default (spec.full_rare self.now) }
+    {
+        self.has_default_colors() && self.hyperlink.is_none()
+    }
+
+    fn has_default_colors(&self) -> bool
+        ensures { result ≡ spec.has_default_colors (spec.full_rare self.now) }
+    {
+        is_default_color(self.foreground)
+            && is_default_color(self.background)
+            && is_default_color(self.underline_color)
+    }
+
+    /// A copy in a box of its own. It stands apart, so that the copy of plain attributes is short.
+    #[inline(never)]
+    fn copied(&self, alloc: Global) -> Result<Form, AllocError>
+        requires { spec.is_rare_default (spec.full_rare self.now) ≡ false }
+        ensures style { IfOk result (λ copy. spec.style_in copy ≡ self.now.style) }
+        ensures rare { IfOk result (λ copy. spec.rare_in copy ≡ spec.full_rare self.now) }
+        ensures needed { IfOk result (λ copy. spec.IsNeeded copy) }
+    {
+        let hyperlink = clone_link(&self.hyperlink)?;
+        let copy = Full {
+            style: self.style.copied(),
+            foreground: self.foreground,
+            background: self.background,
+            underline_color: self.underline_color,
+            hyperlink,
+        };
+        Ok(Form::Boxed(Box::new(alloc, copy)?))
+    }
+
+    /// Whether both are the same. It stands apart, so that the test of plain attributes is short.
+    #[inline(never)]
+    fn is_same(&self, other: &Full) -> bool
+        ensures { IsTrue result ↔ ((self.now.style ≡ other.now.style) × (spec.full_rare self.now ≡ spec.full_rare other.now)) }
+    {
+        self.style.is_same(&other.style) && self.is_same_rare(other)
+    }
+
+    fn is_same_rare(&self, other: &Full) -> bool
+        ensures { IsTrue result ↔ (spec.full_rare self.now ≡ spec.full_rare other.now) }
+    {
+        self.has_same_parts(other)
+    }
+
+    fn has_same_parts(&self, other: &Full) -> bool
+        ensures { result ≡ spec.rare_eq (spec.full_rare self.now) (spec.full_rare other.now) }
+    {
+        is_same_color(self.foreground, other.foreground)
+            && is_same_color(self.background, other.background)
+            && is_same_color(self.underline_color, other.underline_color)
+            && is_same_link(self.hyperlink.as_ref(), other.hyperlink.as_ref())
+    }
+}
+
+impl Form {
+    /// The small attributes.
+    pub(super) fn style(&self) -> &StyleWord
+        ensures { result.now ≡ spec.style_in self.now }
+    {
+        match self {
+            Form::Plain(style) => style,
+            Form::Boxed(full) => &full.style,
+        }
+    }
+
+    /// The small attributes, for writing.
+    pub(super) fn style_mut(&mut self) -> &mut StyleWord
+        ensures* writes_back { sem 𝓛 (LendsStyle self.entry result) }
+        ensures value { result.now ≡ spec.style_in self.old }
+    {
+        match self {
+            Form::Plain(style) => style,
+            Form::Boxed(full) => &mut full.style,
+        }
+    }
+
+    /// Whether all attributes have their defaults.
+    pub(super) fn is_blank(&self) -> bool
+        requires { spec.IsNeeded self.now }
+        ensures { IsTrue result ↔ ((spec.style_in self.now ≡ style_at 0) × (spec.rare_in self.now ≡ spec.rare_default)) }
+    {
+        match self {
+            Form::Plain(style) => style.is_blank(),
+            Form::Boxed(_) => false,
+        }
+    }
+
+    /// The rare foreground.
+    pub(super) fn foreground(&self) -> ColorAttribute
+        ensures { result ≡ (spec.rare_in self.now).foreground }
+    {
+        match self {
+            Form::Plain(_) => ColorAttribute::Default,
+            Form::Boxed(full) => full.foreground,
+        }
+    }
+
+    /// The rare background.
+    pub(super) fn background(&self) -> ColorAttribute
+        ensures { result ≡ (spec.rare_in self.now).background }
+    {
+        match self {
+            Form::Plain(_) => ColorAttribute::Default,
+            Form::Boxed(full) => full.background,
+        }
+    }
+
+    /// The underline colour.
+    pub(super) fn underline_color(&self) -> ColorAttribute
+        ensures { result ≡ (spec.rare_in self.now).underline_color }
+    {
+        match self {
+            Form::Plain(_) => ColorAttribute::Default,
+            Form::Boxed(full) => full.underline_color,
+        }
+    }
+
+    /// The link.
+    pub(super) fn hyperlink(&self) -> Option<&Rc<Hyperlink>>
+        ensures { option_map (λ rc. rc.now.value) result ≡ (spec.rare_in self.now).hyperlink }
+    {
+        match self {
+            Form::Plain(_) => None,
+            Form::Boxed(full) => full.hyperlink.as_ref(),
+        }
+    }
+
+    /// Sets one of the rare colours. It can only fail where a box is needed that was not there.
+    #[tactic(auto, using(crate::proofs::Boxes::rare_default_only))]
+    pub(super) fn set_color(
+        &mut self,
+        alloc: Global,
+        which: RareColor,
+        value: ColorAttribute,
+    ) -> Result<(), AllocError>
+        requires { spec.IsNeeded self.old }
+        ensures ok { OnOk result (spec.rare_in self.new ≡ spec.with_color which (spec.rare_in self.old) value) }
+        ensures err { OnErr result (spec.rare_in self.new ≡ spec.rare_in self.old) }
+        ensures style { spec.style_in self.new ≡ spec.style_in self.old }
+        ensures needed { spec.IsNeeded self.new }
+        ensures boxed { IsTrue (spec.is_boxed self.old) → IsOk result }
+        ensures succeeds { spec.is_rare_default (spec.with_color which (spec.rare_in self.old) value) ≡ true → IsOk result }
+    {
+        match self {
+            Form::Plain(style) => {
+                let mut made = Full::new(style.copied());
+                made.put(which, value);
+                if !made.is_default() {
+                    *self = Form::Boxed(Box::new(alloc, made)?);
+                }
+            }
+            Form::Boxed(full) => {
+                full.put(which, value);
+                if full.is_default() {
+                    *self = Form::Plain(full.style.copied());
+                }
+            }
+        }
+        Ok(())
+    }
+
+    /// Sets the link. It can only fail where a box is needed that was not there.
+    pub(super) fn set_hyperlink(
+        &mut self,
+        alloc: Global,
+        value: Option<Rc<Hyperlink>>,
+    ) -> Result<(), AllocError>
+        requires { spec.IsNeeded self.old }
+        ensures ok { OnOk result (spec.rare_in self.new ≡ record (spec.rare_in self.old) { hyperlink = linked value }) }
+        ensures err { OnErr result (spec.rare_in self.new ≡ spec.rare_in self.old) }
+        ensures style { spec.style_in self.new ≡ spec.style_in self.old }
+        ensures needed { spec.IsNeeded self.new }
+        ensures boxed { IsTrue (spec.is_boxed self.old) → IsOk result }
+        ensures succeeds { IsNone value → IsOk result }
+    {
+        match self {
+            Form::Plain(style) => {
+                if value.is_some() {
+                    let mut made = Full::new(style.copied());
+                    made.hyperlink = value;
+                    *self = Form::Boxed(Box::new(alloc, made)?);
+                }
+            }
+            Form::Boxed(full) => {
+                full.hyperlink = value;
+                if full.is_default() {
+                    *self = Form::Plain(full.style.copied());
+                }
+            }
+        }
+        Ok(())
+    }
+
+    /// Whether both are the same attributes.
+    #[inline]
+    pub(super) fn is_same(&self, other: &Form) -> bool
+        requires self_needed { spec.IsNeeded self.now }
+        requires other_needed { spec.IsNeeded other.now }
+        ensures { IsTrue result ↔ ((spec.style_in self.now ≡ spec.style_in other.now) × (spec.rare_in self.now ≡ spec.rare_in other.now)) }
+    {
+        match (self, other) {
+            (Form::Plain(a), Form::Plain(b)) => a.is_same(b),
+            (Form::Boxed(a), Form::Boxed(b)) => a.is_same(b),
+            _ => false,
+        }
+    }
+
+    /// A copy. It can only fail where it needs a box.
+    pub(super) fn copied(&self) -> Result<Form, AllocError>
+        requires { spec.IsNeeded self.now }
+        ensures style { IfOk result (λ copy. spec.style_in copy ≡ spec.style_in self.now) }
+        ensures rare { IfOk result (λ copy. spec.rare_in copy ≡ spec.rare_in self.now) }
+        ensures needed { IfOk result (λ copy. spec.IsNeeded copy) }
+        ensures succeeds { spec.is_boxed self.now ≡ false → IsOk result }
+    {
+        match self {
+            Form::Plain(style) => Ok(Form::Plain(style.copied())),
+            Form::Boxed(full) => full.copied(*Box::allocator(full)),
+        }
+    }
+
+    /// A copy of the word, where there is no box.
+    #[inline]
+    pub(super) fn unboxed_copy(&self) -> Option<Form>
+        ensures { MatchOption result (spec.is_boxed self.now ≡ true) (λ copy. (copy ≡ self.now) × (spec.is_boxed self.now ≡ false)) }
+    {
+        match self {
+            Form::Plain(style) => Some(Form::Plain(style.copied())),
+            Form::Rare(_) => None,
+        }
+    }
+
+    /// A copy with the semantic type `Output`, and no underline, overline, strike through and
+    /// link. It can only fail where the copy needs a box.
+    pub(super) fn sgr_only(&self, alloc: Global) -> Result<Form, AllocError>
+        ensures style { IfOk result (λ copy. spec.style_in copy ≡ style_sgr_only (spec.style_in self.now)) }
+        ensures rare { IfOk result (λ copy. spec.rare_in copy ≡ record (spec.rare_in self.now) { hyperlink = None }) }
+        ensures needed { IfOk result (λ copy. spec.IsNeeded copy) }
+        ensures succeeds { spec.is_rare_default (record (spec.rare_in self.now) { hyperlink = None }) ≡ true → IsOk result }
+    {
+        let style = self.style().sgr_only();
+        match self {
+            Form::Plain(_) => Ok(Form::Plain(style)),
+            Form::Boxed(full) => {
+                if full.has_default_colors() {
+                    return Ok(Form::Plain(style));
+                }
+                let copy = Full {
+                    style,
+                    foreground: full.foreground,
+                    background: full.background,
+                    underline_color: full.underline_color,
+                    hyperlink: None,
+                };
+                Ok(Form::Boxed(Box::new(alloc, copy)?))
+            }
+        }
+    }
+}
+
+pub(super) fn clone_link(link: &Option<Rc<Hyperlink>>) -> Result<Option<Rc<Hyperlink>>, AllocError>
+    ensures ok { IfOk result (λ copy. linked copy ≡ linked link.now) }
+    ensures succeeds { IsNone link.now → IsOk result }
+{
+    match link {
+        None => Ok(None),
+        Some(link) => {
+            let copy = link.clone()?;
+            Ok(Some(copy))
+        }
+    }
+}
+
+fn is_default_color(color: ColorAttribute) -> bool
+    ensures { result ≡ is_default color }
+{
+    matches!(color, ColorAttribute::Default)
+}
+
+pub(super) fn is_same_link(a: Option<&Rc<Hyperlink>>, b: Option<&Rc<Hyperlink>>) -> bool
+    ensures { result ≡ option_link_eq (option_map (λ rc. rc.now.value) a.entry) (option_map (λ rc. rc.now.value) b.entry) }
+{
+    match (a, b) {
+        (None, None) => true,
+        (Some(a), Some(b)) => **a == **b,
+        _ => false,
+    }
+}

@@ -1,0 +1,46 @@
+//! Changes of one attribute, applied.
+use crate::samples::{link, true_color};
+use std::alloc::{AllocError, Global};
+use std::test::Fail;
+use termwiz_cell::cell::{AttributeChange, Blink, CellAttributes, Intensity, Underline};
+
+fn changed(alloc: Global, change: AttributeChange) -> Result<CellAttributes, AllocError> {
+    let copy = change.clone()?;
+    let mut attrs = CellAttributes::blank();
+    attrs.apply_change(alloc, &copy)?;
+    Ok(attrs)
+}
+
+#[test]
+fn changes_set_styles(rt: HostRuntime) -> Result<(), Fail> {
+    let bold = changed(rt.alloc(), AttributeChange::Intensity(Intensity::Bold))?;
+    assert_eq!(rt; bold.intensity(), Intensity::Bold);
+    let single = changed(rt.alloc(), AttributeChange::Underline(Underline::Single))?;
+    assert_eq!(rt; single.underline(), Underline::Single);
+    let slow = changed(rt.alloc(), AttributeChange::Blink(Blink::Slow))?;
+    assert_eq!(rt; slow.blink(), Blink::Slow);
+    Ok(())
+}
+
+#[test]
+fn changes_set_flags(rt: HostRuntime) -> Result<(), Fail> {
+    assert!(rt; changed(rt.alloc(), AttributeChange::Italic(true))?.italic());
+    assert!(rt; changed(rt.alloc(), AttributeChange::Reverse(true))?.reverse());
+    assert!(rt; changed(rt.alloc(), AttributeChange::StrikeThrough(true))?.strikethrough());
+    assert!(rt; changed(rt.alloc(), AttributeChange::Invisible(true))?.invisible());
+    Ok(())
+}
+
+#[test]
+fn changes_set_colours_and_the_link(rt: HostRuntime) -> Result<(), Fail> {
+    let red = changed(rt.alloc(), AttributeChange::Foreground(true_color()))?;
+    assert_eq!(rt; red.foreground(), true_color());
+    let behind = changed(rt.alloc(), AttributeChange::Background(true_color()))?;
+    assert_eq!(rt; behind.background(), true_color());
+    let to = changed(
+        rt.alloc(),
+        AttributeChange::Hyperlink(Some(link(rt.alloc())?)),
+    )?;
+    assert!(rt; to.hyperlink().is_some());
+    Ok(())
+}

@@ -2,5 +2,8 @@
 #![tactic(auto)]
 
 pub mod comparison;
+pub mod last_row;
 pub mod status;
+#[cfg(test)]
+mod tests;
 pub mod viewer;

@@ -24,11 +24,7 @@ impl<W: Widths> Model for Viewer<W> {
 
 impl<W: Widths> Viewer<W> {
     /// A blank viewer of a surface's size, which measures texts by `widths`: give it what the surface measures by.
-    pub fn new(
-        alloc: Global,
-        surface: &Surface<W>,
-        widths: W,
-    ) -> Result<Viewer<W>, AllocError>
+    pub fn new(alloc: Global, surface: &Surface<W>, widths: W) -> Result<Viewer<W>, AllocError>
         ensures width { IfOk result (λ viewer. viewer.width ≡ surface.now.width) }
         ensures height { IfOk result (λ viewer. viewer.height ≡ surface.now.height) }
         ensures widths { IfOk result (λ viewer. viewer.widths ≡ widths) }
@@ -36,6 +32,13 @@ impl<W: Widths> Viewer<W> {
         let (width, height) = surface.dimensions();
         let shown = Surface::new(alloc, width, height, widths)?;
         Ok(Viewer { alloc, shown })
+    }
+
+    /// What the viewer shows.
+    pub fn shown(&self) -> &Surface<W>
+        ensures { result.now ≡ self.now }
+    {
+        &self.shown
     }
 
     /// Catches up with a surface of the viewer's size that measures texts alike. Whatever the viewer showed, it has the surface's rows, cursor, visibility and pen then.

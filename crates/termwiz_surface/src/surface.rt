@@ -139,6 +139,8 @@ impl<W: Widths> Surface<W> {
         ensures height { result.1 ≡ self.now.height }
         // Every surface has its form.
         ensures sound { IsSound (unversioned (W.width_of self.now.widths)) self.now }
+        // Its screen has its size, so repaints can be replayed on it.
+        ensures sized { HasSize self.now.width self.now.height (screen_of self.now) }
     {
         (self.width, self.height)
     }

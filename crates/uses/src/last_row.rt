@@ -1,0 +1,50 @@
+//! The last row, cleared: what a reader wants of it in words, by the laws of rows.
+ghost use Rattle.std.specs.Prelude.{◌≡◌, ℕ, ◌-◌, ◌<◌, IfOk, OnOk, map};
+ghost use Rattle.termwiz_cell.specs.Attributes.{with_background};
+ghost use Rattle.termwiz_cell.specs.CellValue.{blank_of};
+ghost use Rattle.termwiz_cell.specs.ChangeValue.{change_value};
+ghost use Rattle.termwiz_storage.specs.Stored.{stored};
+ghost use Rattle.termwiz_surface.specs.Screen.{row_at};
+ghost use Rattle.termwiz_surface.specs.SurfaceValue.{screen_of};
+ghost use Rattle.uses.specs.LastRow.{last_row_cleared};
+
+use std::alloc::{AllocError, Global};
+use termwiz_cell::change::{Change, Position};
+use termwiz_cell::color::ColorAttribute;
+use termwiz_cell::emoji::Widths;
+use termwiz_line::laws::{row_laws, stored_row_laws};
+use termwiz_surface::surface::{Surface, SurfaceError};
+
+/// Clears the last row with a background. The rows above stay.
+/// At an error the surface keeps its size.
+pub fn clear_last_row<W: Widths>(
+    alloc: Global,
+    surface: &mut Surface<W>,
+    background: ColorAttribute,
+) -> Result<(), SurfaceError>
+    ensures above { OnOk result ((j : ℕ) → j < surface.old.height - 1 → row_at (screen_of surface.new).rows j ≡ row_at (screen_of surface.old).rows j) }
+    ensures cleared { OnOk result ((k : ℕ) → k < surface.old.width → stored (row_at (screen_of surface.new).rows (surface.old.height - 1)) k ≡ blank_of (with_background background)) }
+    ensures width { surface.new.width ≡ surface.old.width }
+    ensures height { surface.new.height ≡ surface.old.height }
+{
+    // What is known of rows, of their number and of clearing them.
+    stored_row_laws();
+    row_laws();
+    let _form = surface.dimensions();
+    let changes = clear_changes(alloc, background)?;
+    surface.add_changes(changes)?;
+    Ok(())
+}
+
+fn clear_changes(alloc: Global, background: ColorAttribute) -> Result<Vec<Change>, AllocError>
+    ensures { IfOk result (λ changes. map change_value changes.items ≡ last_row_cleared background) }
+{
+    let changes = vec![in alloc;
+        Change::CursorPosition {
+            x: Position::Absolute(0),
+            y: Position::EndRelative(1),
+        },
+        Change::ClearToEndOfLine(background),
+    ]?;
+    Ok(changes)
+}

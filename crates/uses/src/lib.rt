@@ -1,0 +1,9 @@
+//! Proved callers of surfaces: each file is one that a reader may begin with.
+#![tactic(auto)]
+
+pub mod comparison;
+pub mod last_row;
+pub mod status;
+#[cfg(test)]
+mod tests;
+pub mod viewer;

@@ -1,0 +1,50 @@
+//! Each caller once, on its way to success.
+use crate::comparison::show_the_same;
+use crate::last_row::clear_last_row;
+use crate::status::draw_status;
+use crate::viewer::Viewer;
+use std::test::Fail;
+use termwiz_cell::cell::CellAttributes;
+use termwiz_cell::change::Change;
+use termwiz_cell::color::ColorAttribute;
+use termwiz_cell::emoji::UnicodeWidths;
+use termwiz_surface::surface::Surface;
+
+#[test]
+fn a_viewer_catches_up(rt: HostRuntime) -> Result<(), Fail> {
+    let alloc = rt.alloc();
+    let mut surface = Surface::new(alloc, 4, 3, UnicodeWidths)?;
+    let mut viewer = Viewer::new(alloc, &surface, UnicodeWidths)?;
+    surface.add_change(Change::text_from(alloc, "w00t\r\nかfoo")?)?;
+    assert!(rt; !show_the_same(viewer.shown(), &surface)?);
+    viewer.catch_up(&surface)?;
+    assert!(rt; show_the_same(viewer.shown(), &surface)?);
+    Ok(())
+}
+
+#[test]
+fn a_status_line_is_drawn_and_cleared(rt: HostRuntime) -> Result<(), Fail> {
+    let alloc = rt.alloc();
+    let mut surface = Surface::new(alloc, 6, 2, UnicodeWidths)?;
+    surface.add_change(Change::text_from(alloc, "w00t\r\nfoobar")?)?;
+    let mut pen = CellAttributes::blank();
+    pen.set_reverse(true);
+    draw_status(
+        alloc,
+        &mut surface,
+        ColorAttribute::PaletteIndex(4),
+        pen,
+        "1:2",
+    )?;
+    assert_eq!(rt;
+        surface.screen_chars_to_string()?.as_str(),
+        "w00t  \n1:2   \n"
+    );
+    assert_eq!(rt; surface.current_seqno(), 5);
+    clear_last_row(alloc, &mut surface, ColorAttribute::Default)?;
+    assert_eq!(rt;
+        surface.screen_chars_to_string()?.as_str(),
+        "w00t  \n      \n"
+    );
+    Ok(())
+}

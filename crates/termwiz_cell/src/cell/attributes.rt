@@ -54,8 +54,8 @@ impl CellAttributes {
         ensures same { IfSome result (λ copy. copy ≡ self.now) }
         ensures unboxed { IsSome result ↔ (needs_box self.now ≡ false) }
     {
-        let kind = self.kind.unboxed_copy()?;
-        Some(CellAttributes { kind })
+        let form = self.form.unboxed_copy()?;
+        Some(CellAttributes { form })
     }
 
     /// Sets all attributes to their defaults.

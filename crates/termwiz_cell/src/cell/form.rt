@@ -296,7 +296,7 @@ impl Form {
     {
         match self {
             Form::Plain(style) => Some(Form::Plain(style.copied())),
-            Form::Rare(_) => None,
+            Form::Boxed(_) => None,
         }
     }
 

@@ -240,4 +240,3 @@ fn id_params(alloc: Global, id: String) -> Result<BTreeMap<String, String>, Allo
     params.insert(String::from_str(alloc, "id")?, id)?;
     Ok(params)
 }
-

@@ -3,15 +3,6 @@ use Rattle.std.specs.Prelude.{ℕ, zero, suc, ◌-◌, ◌&&◌, nat_lt, nat_le,
 use Rattle.termwiz_cell.specs.CellValue.{CellValue, half, is_wide, columns}
 use Rattle.termwiz_storage.specs.Stored.{stored, padded}
 
--- what follows a cell
-abbrev pub half_of : CellValue → Option CellValue
-half_of c = if is_wide c then Some (half c) else None
-
--- the half, where there is one, comes to column i
-abbrev pub with_half : ℕ → Option CellValue → List CellValue → List CellValue
-with_half i None cs = cs
-with_half i (Some h) cs = set cs i h
-
 -- a wide cell before i becomes a blank with its attributes
 abbrev pub torn : ℕ → List CellValue → List CellValue
 torn i cs = if nat_lt 0 i && is_wide (stored cs (i - 1)) then set cs (i - 1) (half (stored cs (i - 1))) else cs

@@ -5,21 +5,9 @@ use Rattle.std.specs.Option.{ForSome}
 use Rattle.std.proofs.lemmas.Bool.{cases_Bool, lt-ltb, le-ltb, lt-leb}
 use Rattle.std.proofs.lemmas.List.{set-set, set_comm, append-nil, length-replicate}
 use Rattle.termwiz_cell.specs.CellValue.{CellValue, half, is_wide, columns}
-use Rattle.termwiz_storage.proofs.Widths.{columns-narrow, columns_bounds}
+use Rattle.termwiz_storage.proofs.Widths.{columns-narrow, columns-wide}
 use Rattle.termwiz_storage.specs.Stored.{stored, padded, hides, torn, put, set_cell}
-use Rattle.termwiz_storage.specs.Halves.{half_of, with_half, missing_half, resized}
-
-pub half-has_room : (c : CellValue) (o : Option CellValue) (i n : ℕ) → o ≡ half_of c → i + columns c ≤ n → ForSome o (λ _. i + 1 < n)
-half-has_room c o i n e l = elim (cases_Bool (is_wide c)) [
-  | inl w ↦ rw (e, w) (let two : i + 2 ≤ n = rw w at l in omega arith)
-  | inr f ↦ rw (e, f) (λ x n. absurd (cc))
-]
-
-pub put-halves : (i : ℕ) (c : CellValue) (o : Option CellValue) (cs : List CellValue) → o ≡ half_of c → set (with_half (i + 1) o cs) i c ≡ put i c cs
-put-halves i c o cs e = elim (cases_Bool (is_wide c)) [
-  | inl w ↦ rw (e, w) refl
-  | inr f ↦ rw (e, f) refl
-]
+use Rattle.termwiz_storage.specs.Halves.{missing_half, resized}
 
 pub length-torn : (i : ℕ) (cs : List CellValue) → length (torn i cs) ≡ length cs
 length-torn i cs = elim (cases_Bool (nat_lt 0 i && is_wide (stored cs (i - 1)))) [
@@ -29,6 +17,19 @@ length-torn i cs = elim (cases_Bool (nat_lt 0 i && is_wide (stored cs (i - 1))))
 
 pub set_cell-torn : (i e : ℕ) (c : CellValue) (cs : List CellValue) → e ≡ i + columns c → put i c (torn i (padded e cs)) ≡ set_cell i c cs
 set_cell-torn i e c cs h = rw h refl
+
+-- the same for a narrow cell, and for a wide one with its half
+pub set_narrow-torn : (i e : ℕ) (c : CellValue) (cs : List CellValue) → is_wide c ≡ false → e ≡ i + 1 → set (torn i (padded e cs)) i c ≡ set_cell i c cs
+set_narrow-torn i e c cs n h =
+    let one : columns c ≡ 1 = columns-narrow c n in
+    let same : put i c (torn i (padded e cs)) ≡ set (torn i (padded e cs)) i c = rw n refl in
+    sym same ∙ set_cell-torn i e c cs (omega arith)
+
+pub set_wide-torn : (i e : ℕ) (c : CellValue) (cs : List CellValue) → is_wide c ≡ true → e ≡ i + 2 → set (set (torn i (padded e cs)) (i + 1) (half c)) i c ≡ set_cell i c cs
+set_wide-torn i e c cs w h =
+    let two : columns c ≡ 2 = columns-wide c w in
+    let same : put i c (torn i (padded e cs)) ≡ set (set (torn i (padded e cs)) (i + 1) (half c)) i c = rw w refl in
+    sym same ∙ set_cell-torn i e c cs (omega arith)
 
 pub length-padded : (n : ℕ) (cs : List CellValue) → (n ≤ length (padded n cs)) × (length cs ≤ length (padded n cs))
 length-padded n cs = let e : length (padded n cs) ≡ length cs + (n - length cs) = simp (length-append, length-replicate) in (omega arith, omega arith)

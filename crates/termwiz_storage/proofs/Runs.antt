@@ -9,7 +9,7 @@ use Rattle.termwiz_storage.specs.Stored.{torn, stored, padded, set_cell, set_run
 use Rattle.termwiz_storage.specs.Used.{IsUsedTo}
 use Rattle.termwiz_storage.proofs.Halves.{length-torn, length-padded, set_cell-torn}
 use Rattle.termwiz_storage.proofs.SetCell.{length-set_cell, set_cell-padded}
-use Rattle.termwiz_storage.proofs.Used.{used-put, used-more}
+use Rattle.termwiz_storage.proofs.Used.{used-set, used-more}
 
 -- a list that is long enough is not padded
 padded-long : (n : ℕ) (cs : List CellValue) → n ≤ length cs → padded n cs ≡ cs
@@ -66,4 +66,4 @@ pub used-put_run : (u i : ℕ) (bs : List ℕ) (a : Attributes) (cs : List CellV
 used-put_run u i [] a cs h = used-more u (max u (i + 0)) cs (omega arith) h
 used-put_run u i (b ∷ bs) a cs h =
     let e : max (max u (i + 1)) (i + 1 + length bs) ≡ max u (i + suc (length bs)) = omega arith in
-    subst (λ n. IsUsedTo n (put_run i (b ∷ bs) a cs)) e (used-put_run (max u (i + 1)) (i + 1) bs a (set cs i (plain_cell b a)) (used-put u i (plain_cell b a) cs h))
+    subst (λ n. IsUsedTo n (put_run i (b ∷ bs) a cs)) e (used-put_run (max u (i + 1)) (i + 1) bs a (set cs i (plain_cell b a)) (used-set u i (plain_cell b a) cs h))

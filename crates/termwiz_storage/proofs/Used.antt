@@ -20,12 +20,8 @@ used-more u v cs l h = record { rest = λ x m. h.rest x (omega arith) }
 pub used-padded : (u n : ℕ) (cs : List CellValue) → IsUsedTo u cs → IsUsedTo u (padded n cs)
 used-padded u n cs h = record { rest = λ x m. stored-padded n cs x ∙ h.rest x m }
 
-pub used-put : (u i : ℕ) (c : CellValue) (cs : List CellValue) → IsUsedTo u cs → IsUsedTo (max u (i + columns c)) (put i c cs)
-used-put u i c cs h = record {
-  rest = λ x m.
-      let w : 0 < columns c = (columns_bounds c).0 in
-      put_else i c cs x (omega arith) (λ t. let two : columns c ≡ 2 = columns-wide c t in omega arith) ∙ h.rest x (omega arith);
-}
+pub used-set : (u i : ℕ) (c : CellValue) (cs : List CellValue) → IsUsedTo u cs → IsUsedTo (max u (i + 1)) (set cs i c)
+used-set u i c cs h = record { rest = λ x m. let n : x ≢ i = omega arith in get_or-set_other cs i x c blank n ∙ h.rest x (omega arith) }
 
 -- one more cell becomes a default blank
 pub blanked-more : (a i : ℕ) (old mid : List CellValue) → a ≤ i → i < length mid → IsBlanked a i old mid → IsBlanked a (i + 1) old (set mid i blank)

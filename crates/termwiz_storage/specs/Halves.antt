@@ -3,15 +3,6 @@ use Rattle.std.specs.Prelude.{ℕ, ◌-◌, nat_le, List, [], ◌∷◌, ◌++�
 use Rattle.termwiz_cell.specs.CellValue.{CellValue, half, is_wide}
 use Rattle.termwiz_storage.specs.Stored.{stored, padded, hides}
 
--- what follows a cell
-abbrev pub half_of : CellValue → Option CellValue
-half_of c = if is_wide c then Some (half c) else None
-
--- the half, where there is one, comes to column i
-abbrev pub with_half : ℕ → Option CellValue → List CellValue → List CellValue
-with_half i None cs = cs
-with_half i (Some h) cs = set cs i h
-
 -- the half that the last visible cell lacks, where it is wide and ends the list
 abbrev pub missing_half : List CellValue → List CellValue
 missing_half cs = if hides cs (length cs) then half (stored cs (length cs - 1)) ∷ [] else []

@@ -1,15 +1,14 @@
 //! Cells stored one by one.
-ghost use Rattle.std.specs.Prelude.{◌≡◌, [], false, true, ◌+◌, ◌-◌, ◌<◌, ◌≤◌, ◌↔◌, ◌&&◌, nat_lt, IsTrue, OnErr, OnOk, IsOk, IfOk, length, take, replicate, vec_capacity, vec_len};
-ghost use Rattle.std.specs.Option.{ForSome};
+ghost use Rattle.std.specs.Prelude.{◌≡◌, [], false, true, ◌+◌, ◌-◌, ◌<◌, ◌≤◌, ◌↔◌, ◌&&◌, nat_lt, IsTrue, OnErr, OnOk, IsOk, IfOk, length, take, replicate, slice_set, vec_capacity, vec_len};
 ghost use Rattle.std.specs.Cmp.{decided, partial_equiv_from_equiv};
 ghost use Rattle.std.specs.Iterator.{item_count};
 ghost use Rattle.std.specs.List.{list_all};
 ghost use Rattle.termwiz_text.specs.Plain.{is_plain};
 ghost use Rattle.termwiz_cell.specs.Attributes.{needs_box};
-ghost use Rattle.termwiz_cell.specs.CellValue.{blank, columns, half, is_wide};
+ghost use Rattle.termwiz_cell.specs.CellValue.{blank, half, is_wide};
 ghost use Rattle.termwiz_storage.specs.CellsLeft.{YieldsCell};
-ghost use Rattle.termwiz_storage.specs.Stored.{fill, padded, put, put_run, stored, set_cell, set_run, visible, IsKept, hides, torn};
-ghost use Rattle.termwiz_storage.specs.Halves.{half_of, resized, with_half};
+ghost use Rattle.termwiz_storage.specs.Stored.{fill, hides, padded, put_run, stored, set_cell, set_run, torn, visible, IsKept};
+ghost use Rattle.termwiz_storage.specs.Halves.{resized};
 ghost use Rattle.termwiz_storage.specs.Used.{IsBlanked, IsFilledTo, IsUsedTo};
 ghost use Rattle.termwiz_storage.specs.CellLists.{cells_eq, cells_eq-Decides};
 ghost use Rattle.std.specs.Borrow.{sem};
@@ -104,15 +103,49 @@ impl VecStorage {
         }
     }
 
-    // The cell comes to column i, and the half of a wide one behind it.
-    fn put(&mut self, i: usize, cell: Cell, half: Option<Cell>)
-        requires room { i + columns cell ≤ length self.old }
-        requires half_is { half ≡ half_of cell }
-        ensures { self.new ≡ put i cell self.old }
+    // Makes room for what comes to the columns from i up to another. On an error nothing changed.
+    fn make_room(&mut self, i: usize, end: usize) -> Result<(), AllocError>
+        requires { i ≤ end }
+        ensures ok { OnOk result (self.new ≡ torn i (padded end self.old)) }
+        ensures room { OnOk result (end ≤ length self.new) }
+        ensures err { OnErr result (self.new ≡ self.old) }
     {
-        self.used = self.used.max(i + cell.width());
-        set_half(&mut self.cells, i + 1, half);
+        self.pad(end)?;
+        self.tear(i);
+        Ok(())
+    }
+
+    // The cell comes to column i.
+    fn store(&mut self, i: usize, cell: Cell)
+        requires { i < length self.old }
+        ensures { self.new ≡ slice_set self.old i cell }
+    {
+        self.used = self.used.max(i + 1);
         self.cells[i] = cell;
+    }
+
+    fn set_narrow(&mut self, i: usize, cell: Cell) -> Result<(), AllocError>
+        requires { is_wide cell ≡ false }
+        ensures ok { OnOk result (self.new ≡ set_cell i cell self.old) }
+        ensures err { OnErr result (self.new ≡ self.old) }
+    {
+        let end = end_of(i, 1)?;
+        self.make_room(i, end)?;
+        self.store(i, cell);
+        Ok(())
+    }
+
+    fn set_wide(&mut self, i: usize, cell: Cell) -> Result<(), AllocError>
+        requires { is_wide cell ≡ true }
+        ensures ok { OnOk result (self.new ≡ set_cell i cell self.old) }
+        ensures err { OnErr result (self.new ≡ self.old) }
+    {
+        let end = end_of(i, 2)?;
+        let half = half_of(&cell)?;
+        self.make_room(i, end)?;
+        self.store(i + 1, half);
+        self.store(i, cell);
+        Ok(())
     }
 
     /// Sets a cell. The list is padded so far, a wide cell that is cut leaves a blank with its attributes, and the half of a wide cell follows it.
@@ -121,11 +154,11 @@ impl VecStorage {
         ensures ok { OnOk result (self.new ≡ set_cell i cell self.old) }
         ensures err { OnErr result (self.new ≡ self.old) }
     {
-        let end = end_of(i, cell.width())?;
-        let half = half_if_wide(&cell)?;
-        self.pad(end)?;
-        self.tear(i);
-        self.put(i, cell, half);
+        if cell.width() > 1 {
+            self.set_wide(i, cell)?;
+        } else {
+            self.set_narrow(i, cell)?;
+        }
         Ok(())
     }
 
@@ -159,8 +192,7 @@ impl VecStorage {
     {
         let end = end_of(i, run.len())?;
         if i < end {
-            self.pad(end)?;
-            self.tear(i);
+            self.make_room(i, end)?;
             self.put_run(i, run.as_bytes(), attrs);
         }
         Ok(())
@@ -183,8 +215,7 @@ impl VecStorage {
         ensures err { OnErr result (self.new ≡ self.old) }
     {
         if from < to {
-            self.pad(to)?;
-            self.tear(from);
+            self.make_room(from, to)?;
             self.blank_between(from, to);
         }
         Ok(())
@@ -378,31 +409,20 @@ fn half_behind(cells: &Vec<Cell>) -> Result<Cell, AllocError>
     Ok(Cell::blank_with_attrs(attrs))
 }
 
+// What follows a wide cell.
+fn half_of(cell: &Cell) -> Result<Cell, AllocError>
+    ensures { IfOk result (λ made. made ≡ half cell.now) }
+{
+    let attrs = cell.attrs().clone()?;
+    Ok(Cell::blank_with_attrs(attrs))
+}
+
 // A blank with the cell's attributes comes in its place.
 fn blank_out(cell: &mut Cell)
     ensures { cell.new ≡ half cell.old }
 {
     let attrs = mem::replace(cell.attrs_mut(), CellAttributes::blank());
     *cell = Cell::blank_with_attrs(attrs);
-}
-
-fn set_half(cells: &mut Vec<Cell>, i: usize, half: Option<Cell>)
-    requires { ForSome half (λ _. i < vec_len cells.old) }
-    ensures { cells.new.items ≡ with_half i half cells.old.items }
-{
-    if let Some(half) = half {
-        cells[i] = half;
-    }
-}
-
-fn half_if_wide(cell: &Cell) -> Result<Option<Cell>, AllocError>
-    ensures { IfOk result (λ made. made ≡ half_of cell.now) }
-{
-    if cell.width() < 2 {
-        return Ok(None);
-    }
-    let attrs = cell.attrs().clone()?;
-    Ok(Some(Cell::blank_with_attrs(attrs)))
 }
 
 impl DerefSlice for VecStorage {

@@ -1,5 +1,5 @@
 //! A text that grows by whole graphemes.
-ghost use Rattle.std.specs.Prelude.{◌≡◌, ◌↔◌, ◌++◌, ◌∷◌, [], List, ℕ, true, IsTrue, IfOk, OnErr, string_bytes, if◌then◌else◌};
+ghost use Rattle.std.specs.Prelude.{◌≡◌, ◌↔◌, ◌++◌, ◌∷◌, [], List, ℕ, true, IsTrue, IfOk, OnOk, OnErr, string_bytes, if◌then◌else◌};
 ghost use Rattle.termwiz_text.specs.CutAt.{IsCutAt};
 ghost use Rattle.unicode_segmentation.specs.Grapheme.{graphemes};
 
@@ -23,8 +23,24 @@ impl Model for JoinedText {
     ghost invariant = { λ joined. IsCutAt (string_bytes joined.text) joined.last };
 }
 
-// Puts a text behind the one before it, exactly where no grapheme runs over the seam. Only what stands from `last` on is cut.
+// Puts a text behind the one before it, exactly where no grapheme runs over the seam.
+#[inline(always)]
 fn join_behind(text: &mut String, last: usize, more: &str) -> Result<bool, AllocError>
+    requires { IsCutAt (string_bytes text.old) last }
+    ensures joins { IfOk result (λ joined. IsTrue joined ↔ (graphemes true (string_bytes text.old ++ more.now) ≡ graphemes true (string_bytes text.old) ++ more.now ∷ [])) }
+    ensures text { IfOk result (λ joined. string_bytes text.new ≡ (if joined then string_bytes text.old ++ more.now else string_bytes text.old)) }
+    ensures err { OnErr result (string_bytes text.new ≡ string_bytes text.old) }
+{
+    if both_plain(text.as_str(), more) {
+        text.push_str(more)?;
+        return Ok(true);
+    }
+    join_by_cut(text, last, more)
+}
+
+// The same for any text: what stands from `last` on is cut. It stands apart, so that the way of printable ASCII is short.
+#[inline(never)]
+fn join_by_cut(text: &mut String, last: usize, more: &str) -> Result<bool, AllocError>
     requires { IsCutAt (string_bytes text.old) last }
     ensures joins { IfOk result (λ joined. IsTrue joined ↔ (graphemes true (string_bytes text.old ++ more.now) ≡ graphemes true (string_bytes text.old) ++ more.now ∷ [])) }
     ensures text { IfOk result (λ joined. string_bytes text.new ≡ (if joined then string_bytes text.old ++ more.now else string_bytes text.old)) }
@@ -32,10 +48,6 @@ fn join_behind(text: &mut String, last: usize, more: &str) -> Result<bool, Alloc
 {
     let before = text.as_str();
     let seam = before.len();
-    if both_plain(before, more) {
-        text.push_str(more)?;
-        return Ok(true);
-    }
     text.push_str(more)?;
     let (_, tail) = text.as_str().split_at(last);
     if is_last_grapheme(tail, more) {
@@ -46,6 +58,26 @@ fn join_behind(text: &mut String, last: usize, more: &str) -> Result<bool, Alloc
 }
 
 impl JoinedText {
+    /// The empty text. It takes no memory.
+    pub fn empty(alloc: Global) -> JoinedText
+        ensures { result ≡ [] }
+    {
+        JoinedText {
+            text: String::new(alloc),
+            last: 0,
+        }
+    }
+
+    /// Begins anew with this text, in the room of the one before it.
+    pub fn restart(&mut self, first: &str) -> Result<(), AllocError>
+        ensures { OnOk result (self.new ≡ first.now) }
+    {
+        self.last = 0;
+        self.text.clear();
+        self.text.push_str(first)?;
+        Ok(())
+    }
+
     /// A text to which others may be joined.
     pub fn new(alloc: Global, first: &str) -> Result<JoinedText, AllocError>
         ensures { IfOk result (λ joined. joined ≡ first.now) }
@@ -70,6 +102,7 @@ impl JoinedText {
     /// Puts a text behind, exactly where no grapheme runs over the seam: cut together, they are cut as before, with the text as the last grapheme. Says whether it did. At an error the text is as before.
     ///
     /// Only the text that was joined last is cut, whatever stands before it.
+    #[inline(always)]
     pub fn join(&mut self, more: &str) -> Result<bool, AllocError>
         ensures joins { IfOk result (λ joined. IsTrue joined ↔ (graphemes true (self.old ++ more.now) ≡ graphemes true self.old ++ more.now ∷ [])) }
         ensures text { IfOk result (λ joined. self.new ≡ (if joined then self.old ++ more.now else self.old)) }

@@ -142,6 +142,7 @@ pub fn split_plain_run(text: &str, limit: usize) -> (&str, &str)
 }
 
 // Whether both are printable ASCII at the seam, and the text is one such character.
+#[inline(always)]
 fn both_plain(before: &str, text: &str) -> bool
     ensures { IsTrue result → graphemes true (before.now ++ text.now) ≡ graphemes true before.now ++ text.now ∷ [] }
 {

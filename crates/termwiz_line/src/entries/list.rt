@@ -1,6 +1,7 @@
 //! A list of entries whose last text may still grow.
-ghost use Rattle.std.specs.Prelude.{◌≡◌, ◌++◌, ◌∷◌, [], false, ◌&&◌, map, cond, IfOk, OnOk, OnErr, string_bytes};
+ghost use Rattle.std.specs.Prelude.{◌≡◌, ◌++◌, ◌∷◌, [], false, ◌&&◌, map, cond, IfOk, OnOk, OnErr};
 ghost use Rattle.std.specs.Option.{option_copied};
+ghost use Rattle.termwiz_cell.specs.ChangeValue as change;
 ghost use Rattle.termwiz_cell.specs.ChangeValue.{change_value, is_text};
 ghost use Rattle.termwiz_line.specs.Entries.{add_text, joins, pen_entry};
 ghost use Rattle.termwiz_line.specs.LastChange.{last_is};
@@ -11,7 +12,7 @@ use std::alloc::{AllocError, Global};
 use std::marker::Model;
 use termwiz_cell::cell::CellAttributes;
 use termwiz_cell::change::Change;
-use termwiz_text::join;
+use termwiz_text::JoinedText;
 
 /// Entries. A text at their end grows by each text that joins it.
 #[derive(Drop)]
@@ -20,19 +21,19 @@ pub struct EntryList {
     // All entries but the growing text.
     pushed: Vec<Change>,
     // The growing text, while there is one. The next one takes its room.
-    text: String,
+    text: JoinedText,
     grows: bool,
 }
 
 impl Model for EntryList {
-    ghost use Rattle.std.specs.Prelude.{◌≡◌, List, false, map, string_bytes};
+    ghost use Rattle.std.specs.Prelude.{◌≡◌, List, false, map};
     ghost use Rattle.termwiz_cell.specs.ChangeValue.{ChangeValue, change_value, is_text};
     ghost use Rattle.termwiz_line.specs.LastChange.{last_is};
     ghost use Rattle.termwiz_line.specs.GrowingText.{with_text};
 
     ghost Value = { List ChangeValue };
 
-    ghost view = { λ e. with_text (map change_value e.pushed.items) e.grows (string_bytes e.text) };
+    ghost view = { λ e. with_text (map change_value e.pushed.items) e.grows e.text };
 
     ghost invariant = { λ e. e.grows ≡ false → last_is is_text (map change_value e.pushed.items) ≡ false };
 }
@@ -45,7 +46,7 @@ impl EntryList {
         EntryList {
             alloc,
             pushed: Vec::new(alloc),
-            text: String::new(alloc),
+            text: JoinedText::empty(alloc),
             grows: false,
         }
     }
@@ -61,30 +62,43 @@ impl EntryList {
     }
 
     /// A text comes behind the others, and joins the last where that is a text and no grapheme runs over the seam.
+    #[inline(always)]
     pub fn push_text(&mut self, more: &str) -> Result<(), AllocError>
         ensures { OnOk result (self.new ≡ add_text self.old more.now) }
     {
         if join_text(&mut self.text, self.grows, more)? {
             return Ok(());
         }
-        start_text(
-            self.alloc,
-            &mut self.pushed,
-            &mut self.text,
-            self.grows,
-            more,
-        )?;
+        self.start_text(more)
+    }
+
+    // A text of its own comes behind the others. It stands apart, so that the way of a text that joins is short.
+    #[inline(never)]
+    fn start_text(&mut self, first: &str) -> Result<(), AllocError>
+        ensures { OnOk result (self.new ≡ self.old ++ change.Text first.now ∷ []) }
+    {
+        push_grown(self.alloc, &mut self.pushed, &self.text, self.grows)?;
         self.grows = true;
+        self.text.restart(first)?;
         Ok(())
     }
 
     /// A pen, where it is another one than before.
+    #[inline(always)]
     pub fn push_pen(&mut self, old: &CellAttributes, new: &CellAttributes) -> Result<(), AllocError>
         ensures { OnOk result (self.new ≡ self.old ++ pen_entry old.now new.now) }
     {
         if !is_same(old, new) {
-            self.push(Change::AllAttributes(new.clone()?))?;
+            self.change_pen(new)?;
         }
+        Ok(())
+    }
+
+    #[inline(never)]
+    fn change_pen(&mut self, new: &CellAttributes) -> Result<(), AllocError>
+        ensures { OnOk result (self.new ≡ self.old ++ change.AllAttributes new.now ∷ []) }
+    {
+        self.push(Change::AllAttributes(new.clone()?))?;
         Ok(())
     }
 
@@ -124,10 +138,10 @@ impl EntryList {
 fn push_grown(
     alloc: Global,
     pushed: &mut Vec<Change>,
-    text: &String,
+    text: &JoinedText,
     grows: bool,
 ) -> Result<(), AllocError>
-    ensures ok { OnOk result (map change_value pushed.new.items ≡ with_text (map change_value pushed.old.items) grows (string_bytes text.now)) }
+    ensures ok { OnOk result (map change_value pushed.new.items ≡ with_text (map change_value pushed.old.items) grows text.now) }
     ensures nothing { grows ≡ false → pushed.new.items ≡ pushed.old.items }
 {
     if grows {
@@ -141,11 +155,11 @@ fn push_grown(
 fn push_behind(
     alloc: Global,
     pushed: &mut Vec<Change>,
-    text: &String,
+    text: &JoinedText,
     grows: bool,
     entry: Change,
 ) -> Result<(), AllocError>
-    ensures ok { OnOk result (map change_value pushed.new.items ≡ with_text (map change_value pushed.old.items) grows (string_bytes text.now) ++ change_value entry ∷ []) }
+    ensures ok { OnOk result (map change_value pushed.new.items ≡ with_text (map change_value pushed.old.items) grows text.now ++ change_value entry ∷ []) }
     ensures err { OnErr result (grows ≡ false → pushed.new.items ≡ pushed.old.items) }
 {
     push_grown(alloc, pushed, text, grows)?;
@@ -153,31 +167,14 @@ fn push_behind(
     Ok(())
 }
 
-// A new text grows. The one before it, where there is one, takes its place among the entries.
-fn start_text(
-    alloc: Global,
-    pushed: &mut Vec<Change>,
-    text: &mut String,
-    grows: bool,
-    first: &str,
-) -> Result<(), AllocError>
-    ensures ok { OnOk result (map change_value pushed.new.items ≡ with_text (map change_value pushed.old.items) grows (string_bytes text.old)) }
-    ensures text { OnOk result (string_bytes text.new ≡ first.now) }
-    ensures err { OnErr result (grows ≡ false → pushed.new.items ≡ pushed.old.items) }
-{
-    push_grown(alloc, pushed, text, grows)?;
-    text.clear();
-    text.push_str(first)?;
-    Ok(())
-}
-
 // Joins a text to the growing one, where there is one and it can be. Says whether it did.
-fn join_text(text: &mut String, grows: bool, more: &str) -> Result<bool, AllocError>
-    ensures joins { IfOk result (λ joined. joined ≡ (grows && joins (string_bytes text.old) more.now)) }
-    ensures grown { IfOk result (λ joined. string_bytes text.new ≡ cond joined (string_bytes text.old ++ more.now) (string_bytes text.old)) }
+#[inline(always)]
+fn join_text(text: &mut JoinedText, grows: bool, more: &str) -> Result<bool, AllocError>
+    ensures joins { IfOk result (λ joined. joined ≡ (grows && joins text.old more.now)) }
+    ensures grown { IfOk result (λ joined. text.new ≡ cond joined (text.old ++ more.now) text.old) }
 {
     if !grows {
         return Ok(false);
     }
-    join(text, more)
+    text.join(more)
 }

@@ -64,6 +64,7 @@ impl<'a> RowWriter<'a> {
     }
 
     /// A visible cell with this text comes next.
+    #[inline(always)]
     pub fn cell(&mut self, text: &str, attrs: &'a CellAttributes) -> Result<(), AllocError>
         ensures { OnOk result ((from : spec.Penned) (cells : List (ℕ × CellValue)) (p : ℕ × CellValue) → p.1.text ≡ text.now → p.1.attrs ≡ attrs.now → IsWritten from cells self.old → IsWritten from (cells ++ p ∷ []) self.new) }
     {
@@ -75,6 +76,7 @@ impl<'a> RowWriter<'a> {
     }
 
     /// So many spaces with these attributes come next.
+    #[inline(never)]
     pub fn spaces(&mut self, count: usize, attrs: &'a CellAttributes) -> Result<(), AllocError>
         ensures { OnOk result ((from : spec.Penned) (cells more : List (ℕ × CellValue)) → spec.all_spaces attrs.now more ≡ true → length more ≡ count → IsWritten from cells self.old → IsWritten from (cells ++ more) self.new) }
     {
@@ -99,7 +101,21 @@ impl<'a> RowWriter<'a> {
     }
 
     // The spaces held back are printed.
+    #[inline(always)]
     fn print_spaces(&mut self) -> Result<(), AllocError>
+        ensures printed { OnOk result (self.new.printed ≡ and_cells self.old.printed (spaces_of self.old.spaces self.old.space_attrs)) }
+        ensures spaces { OnOk result (self.new.spaces ≡ 0) }
+        ensures space_attrs { self.new.space_attrs ≡ self.old.space_attrs }
+    {
+        if self.spaces > 0 {
+            self.print_held()?;
+        }
+        Ok(())
+    }
+
+    // The same, apart, so that a cell behind no spaces is written at once.
+    #[inline(never)]
+    fn print_held(&mut self) -> Result<(), AllocError>
         ensures printed { OnOk result (self.new.printed ≡ and_cells self.old.printed (spaces_of self.old.spaces self.old.space_attrs)) }
         ensures spaces { OnOk result (self.new.spaces ≡ 0) }
         ensures space_attrs { self.new.space_attrs ≡ self.old.space_attrs }
@@ -113,6 +129,7 @@ impl<'a> RowWriter<'a> {
     }
 
     // A visible cell with this text is printed.
+    #[inline(always)]
     fn print(&mut self, text: &str, attrs: &'a CellAttributes) -> Result<(), AllocError>
         ensures printed { OnOk result ((p : ℕ × CellValue) → p.1.text ≡ text.now → p.1.attrs ≡ attrs.now → self.new.printed ≡ spec.cell_out self.old.printed p) }
         ensures spaces { self.new.spaces ≡ self.old.spaces }

@@ -2,7 +2,7 @@ use Rattle.std.proofs.Common.{◌<◌, ◌-◌, ap, sym, ◌∙◌, refl, subst}
 use Rattle.termwiz_cell.specs.CellValue.{blank_of}
 use Rattle.termwiz_line.specs.Writing.{Writing, and_cells, spaces_of}
 use Rattle.termwiz_line.proofs.WrittenRows.{one_space}
-use Rattle.termwiz_line.proofs.entries.writer.RowWriter.print_spaces.Goals as goal
+use Rattle.termwiz_line.proofs.entries.writer.RowWriter.print_held.Goals as goal
 
 pub loop-self-preserved : goal.loop-self-preserved
 loop-self-preserved c =

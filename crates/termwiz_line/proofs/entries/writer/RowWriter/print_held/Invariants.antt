@@ -1,6 +1,6 @@
 use Rattle.std.proofs.Common.{◌≡◌}
 use Rattle.termwiz_line.specs.Writing.{and_cells, spaces_of}
-use Rattle.termwiz_line.proofs.entries.writer.RowWriter.print_spaces.Given as goal
+use Rattle.termwiz_line.proofs.entries.writer.RowWriter.print_held.Given as goal
 
 -- what is printed, with the spaces left, is what was to be printed
 abbrev pub invariant-loop-self : goal.invariant-loop-self

@@ -1,3 +1,4 @@
 pub mod Number
+pub mod Run
 pub mod Size
 pub mod Status

@@ -79,10 +79,10 @@ fn event(alloc: Global, line: &str) -> Result<Event, LineError> {
     }
 }
 
-/// The event of one change.
+/// The event of one change, whose list has room for it alone.
 fn changes(alloc: Global, change: Change) -> Result<Event, LineError> {
-    let mut changes = Vec::new(alloc);
-    changes.push(change).map_err(AllocError::from)?;
+    let mut changes = Vec::with_capacity(alloc, 1)?;
+    changes.push_reserved(change);
     Ok(Event::Changes(changes))
 }
 

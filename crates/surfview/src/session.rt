@@ -1,7 +1,8 @@
 //! One run of the program: from its words and its input to what it prints and its exit status.
-ghost use Rattle.std.specs.Prelude.{◌≡◌, ◌≤◌, ◌⊎◌, ◌↔◌, IfSome, IfErr, IsSome, IsErr};
+ghost use Rattle.std.specs.Prelude.{◌≡◌, ◌≤◌, ◌⊎◌, ◌↔◌, IfOk, IfSome, IfErr, IsSome, IsErr};
 ghost use Rattle.std.specs.Option.{SomeIff};
 ghost use Rattle.surfview.specs.Number.{value_of};
+ghost use Rattle.surfview.specs.Run.{IsRun};
 ghost use Rattle.surfview.specs.Size.{IsSize, AreSizes, GiveSizes};
 ghost use Rattle.surfview.specs.Status.{status_of};
 
@@ -110,13 +111,14 @@ pub fn session<R: Read, O: Write, E: Write>(
     }
 }
 
-/// What comes of the script that `input` holds.
+/// What comes of the script that `input` holds, on a surface of the width and the height that the words give.
 fn outcomes<R: Read>(
     alloc: Global,
     args: &[String],
     input: &mut R,
 ) -> Result<Vec<Outcome>, SessionError>
-    ensures { AreSizes args.now ⊎ (IsErr result × (input.new ≡ input.old)) }
+    ensures usage { AreSizes args.now ⊎ (IsErr result × (input.new ≡ input.old)) }
+    ensures run { IfOk result (λ outcomes. IsRun args.now outcomes.items) }
 {
     let (width, height) = dimensions(args).ok_or(SessionError::Usage)?;
     let events = events(alloc, input)?;

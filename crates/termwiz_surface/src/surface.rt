@@ -75,7 +75,15 @@ impl From<AllocError> for SurfaceError {
     }
 }
 
-/// A screen of cells that is changed by lists of changes, which it numbers.
+/// What a terminal's screen holds, with no terminal behind it: rows of cells, a cursor, whether it is shown, and the pen, which is the attributes of coming text.
+///
+/// Changes go in, one by `add_change` or several as one list by `add_changes`: texts, pens, clears and moves. The surface makes them in order, and the number of each is how many came before it.
+///
+/// A stream of changes comes out: `get_changes` answers with changes that bring any screen of this size to this one, whatever that screen shows. `screen` copies what the surface shows.
+///
+/// A viewer is whoever applies that stream: one that writes to a terminal, one at the other end of a connection, or a second surface. It has to measure texts as this surface does, by the width value that it was made with.
+///
+/// A program may draw the parts of a picture on surfaces of their own, each of which knows nothing of the others, and show a surface that is made of them. Drawing one surface on another and sending only what has changed are not built yet: today a surface gives its whole screen to screens of its size.
 #[derive(Drop)]
 pub struct Surface<W: Widths> {
     widths: W,

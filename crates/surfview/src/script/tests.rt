@@ -3,6 +3,9 @@ use super::{Event, events};
 use crate::printed::Printed;
 use std::alloc::Global;
 use std::test::Fail;
+use termwiz_cell::cell::CellAttributes;
+use termwiz_cell::change::Change;
+use termwiz_cell::color::{ColorAttribute, RgbColor};
 use termwiz_surface::view::Outcome;
 
 /// What the changes of a script print, below the line of the number 7.
@@ -51,6 +54,40 @@ fn makes_the_change_of_each_line(rt: HostRuntime) -> Result<(), Fail> {
         let printed = printed(rt.alloc(), line)?;
         assert_eq!(rt; printed.as_str(), want.as_str(), "{line}");
     }
+    Ok(())
+}
+
+/// The changes of a script, in order.
+fn all_changes(alloc: Global, script: &str) -> Result<Vec<Change>, Fail> {
+    let mut all = Vec::new(alloc);
+    for event in events(alloc, script)? {
+        if let Event::Changes(changes) = event {
+            for change in changes {
+                all.push(change)?;
+            }
+        }
+    }
+    Ok(all)
+}
+
+/// The colour `#ff000a`.
+fn true_color() -> ColorAttribute {
+    ColorAttribute::TrueColorWithDefaultFallback(RgbColor::new_8bpc(255, 0, 10))
+}
+
+#[test]
+fn takes_the_default_colour_for_the_fallback_of_a_true_one(rt: HostRuntime) -> Result<(), Fail> {
+    let mut pen = CellAttributes::blank();
+    pen.set_foreground(rt.alloc(), true_color())?;
+    let want = vec![in rt.alloc();
+        Change::ClearScreen(true_color()),
+        Change::ClearToEndOfLine(true_color()),
+        Change::ClearToEndOfScreen(true_color()),
+        Change::AllAttributes(pen),
+    ]?;
+    let script = "clear #ff000a\neol #FF000A\neos #fF000a\npen fg=#ff000A\n";
+    let made = all_changes(rt.alloc(), script)?;
+    assert!(rt; made.as_slice() == want.as_slice());
     Ok(())
 }
 

@@ -63,6 +63,25 @@ impl Write for FailingWriter {
     }
 }
 
+/// Takes all writes, and counts them.
+#[derive(Drop)]
+struct CountingWriter {
+    writes: usize,
+    flushes: usize,
+}
+
+impl Write for CountingWriter {
+    fn write(&mut self, buf: &[u8]) -> io::Result<usize> {
+        self.writes = self.writes.saturating_add(1);
+        Ok(buf.len())
+    }
+
+    fn flush(&mut self) -> io::Result<()> {
+        self.flushes = self.flushes.saturating_add(1);
+        Ok(())
+    }
+}
+
 /// Takes all writes, and fails to flush them.
 #[derive(Drop)]
 struct UnflushedWriter;
@@ -216,6 +235,22 @@ fn names_the_first_bad_line_and_prints_nothing(rt: HostRuntime) -> Result<(), Fa
 }
 
 #[test]
+fn counts_comments_and_empty_lines(rt: HostRuntime) -> Result<(), Fail> {
+    for (script, want) in [
+        ("# head\nfly\n", "line 2: bad command\n"),
+        ("\n\n\nfly", "line 4: bad command\n"),
+        ("#\n\nshow\n# more\n\nfly\nfly\n", "line 6: bad command\n"),
+        ("\nshow\n\n#\ntext a\n\r\n", "line 6: bad command\n"),
+    ] {
+        let ended = run_session(rt.alloc(), &["4", "3"], script.as_bytes())?;
+        assert_eq!(rt; ended.out.as_str(), "", "{script}");
+        assert_eq!(rt; ended.err.as_str(), want, "{script}");
+        assert_eq!(rt; ended.status, 2, "{script}");
+    }
+    Ok(())
+}
+
+#[test]
 fn takes_a_byte_order_mark_for_a_part_of_its_line(rt: HostRuntime) -> Result<(), Fail> {
     let ended = run_session(rt.alloc(), &["4", "3"], "\u{feff}show\n".as_bytes())?;
     assert_eq!(rt; ended.err.as_str(), "line 1: bad command\n");
@@ -303,6 +338,31 @@ fn ends_at_a_read_that_finds_no_memory(rt: HostRuntime) -> Result<(), Fail> {
     assert_eq!(rt; out.as_slice(), b"".as_slice());
     assert_eq!(rt; err.as_slice(), b"out of memory\n".as_slice());
     assert_eq!(rt; status, 3);
+    Ok(())
+}
+
+#[test]
+fn writes_each_outcome_at_once(rt: HostRuntime) -> Result<(), Fail> {
+    for (script, writes) in [
+        ("", 0),
+        ("text a\nclear\n", 0),
+        ("show\n", 1),
+        ("ask 0\n", 1),
+        ("show\ntext a\nb\n", 0),
+        ("show\ntext a\nask 0\n\n# show\nclear 9\nshow\nshow\n", 4),
+    ] {
+        let args = args(rt.alloc(), &["4", "3"])?;
+        let mut input = script.as_bytes();
+        let mut out = CountingWriter {
+            writes: 0,
+            flushes: 0,
+        };
+        let mut err = Vec::new(rt.alloc());
+        let status = session(rt.alloc(), args.as_slice(), &mut input, &mut out, &mut err);
+        assert_eq!(rt; out.writes, writes, "{script}");
+        // A run that is done flushes once, at its end.
+        assert_eq!(rt; out.flushes, usize::from(status == 0), "{script}");
+    }
     Ok(())
 }
 

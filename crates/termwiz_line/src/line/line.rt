@@ -27,7 +27,13 @@ use termwiz_cell::change::{Change, SequenceNo};
 use termwiz_storage::line::cellref::VisibleCellIter;
 use termwiz_storage::line::storage::CellStorage;
 
-/// A line: its stored cells, the number of the last change to it, and its flags.
+/// A line of cells by itself: a row of a copied screen is one, and so may be what a program keeps of rows that have scrolled away.
+///
+/// It stores cells from the first column on, and the half of a wide cell follows it. How many it stores is not how wide it is shown: who shows a line reads default blanks behind its last cell, and cuts what is too long.
+///
+/// Each edit is given the number of the change that it belongs to, and the line keeps the greatest that it has taken. Where each change has a new number, whoever keeps something that was made from a line sees by it that the line has changed since. Two lines are equal where their cells, numbers and flags are, whichever form stores the cells.
+///
+/// `visible_cells` walks what is seen of a line, and `changes` gives the changes that print it, for whoever has to write it somewhere else.
 #[derive(Drop, Debug)]
 pub struct Line {
     alloc: Global,

@@ -18,4 +18,6 @@ mod printing;
 mod repaints;
 #[cfg(test)]
 mod runs;
+#[cfg(test)]
+mod runs_of_text;
 pub mod widths;

@@ -35,7 +35,7 @@ mod shown;
 
 use pen::{background_only, blank_with};
 use place::{column_at, row_at};
-use print::{LineBreak, line_break, printed_cell, split_narrow_run};
+use print::{LineBreak, begins_plain, line_break, printed_cell, split_narrow_run};
 use repaint::{all_rows, framed};
 use rows::{
     blank_rows, chars_of, fill_row, fill_rows, paint_row, paint_run, resized_lines, scroll_rows,
@@ -48,6 +48,7 @@ use std::marker::Model;
 use std::slice;
 use termwiz_cell::cell::{AttributeChange, Cell, CellAttributes};
 use termwiz_cell::change::{Change, CursorVisibility, Position, SEQ_ZERO, SequenceNo};
+use termwiz_cell::color::ColorAttribute;
 use termwiz_cell::emoji::Widths;
 use termwiz_line::line::line::Line;
 use termwiz_text::split_first_grapheme;
@@ -306,10 +307,12 @@ impl<W: Widths> Surface<W> {
         ensures ok { IfOk result (λ rest. PrintsSome (unversioned (W.width_of self.old.widths)) self.old text.now rest.now self.new) }
         ensures err { OnErr result (SameFrame self.old self.new) }
     {
-        let (run, rest) = split_narrow_run(&self.widths, text, self.run_limit());
-        if !run.is_empty() {
-            self.print_run(run)?;
-            return Ok(rest);
+        if begins_plain(text) {
+            let (run, rest) = split_narrow_run(&self.widths, text, self.run_limit());
+            if !run.is_empty() {
+                self.print_run(run)?;
+                return Ok(rest);
+            }
         }
         let Some((grapheme, rest)) = split_first_grapheme(text) else {
             unreachable!();
@@ -329,11 +332,13 @@ impl<W: Widths> Surface<W> {
         Ok(())
     }
 
-    // Clears from the cursor to the end of its row, with this pen from then on.
-    fn clear_to_end_of_line(&mut self, pen: CellAttributes) -> Result<(), AllocError>
-        ensures ok { OnOk result (let s = screen_of self.old in Draws self.old (clear_eol s pen) (eol_lengths s pen (lengths_of self.old)) self.new) }
+    // Clears from the cursor to the end of its row, with a pen of this background from then on. The clears stand apart, so that the way of a text is short.
+    #[inline(never)]
+    fn clear_to_end_of_line(&mut self, color: ColorAttribute) -> Result<(), AllocError>
+        ensures ok { OnOk result (let s = screen_of self.old in Draws self.old (clear_eol s (with_background color)) (eol_lengths s (with_background color) (lengths_of self.old)) self.new) }
         ensures err { OnErr result (SameFrame self.old self.new) }
     {
+        let pen = background_only(self.alloc, color)?;
         let cleared = blank_with(&pen)?;
         fill_row(&mut self.rows, self.width, self.x, self.y, &cleared)?;
         self.pen = pen;
@@ -341,10 +346,12 @@ impl<W: Widths> Surface<W> {
     }
 
     // Clears from the cursor to the end of the screen.
-    fn clear_to_end_of_screen(&mut self, pen: CellAttributes) -> Result<(), AllocError>
-        ensures ok { OnOk result (let s = screen_of self.old in Draws self.old (clear_eos s pen) (eos_lengths s pen (lengths_of self.old)) self.new) }
+    #[inline(never)]
+    fn clear_to_end_of_screen(&mut self, color: ColorAttribute) -> Result<(), AllocError>
+        ensures ok { OnOk result (let s = screen_of self.old in Draws self.old (clear_eos s (with_background color)) (eos_lengths s (with_background color) (lengths_of self.old)) self.new) }
         ensures err { OnErr result (SameFrame self.old self.new) }
     {
+        let pen = background_only(self.alloc, color)?;
         let cleared = blank_with(&pen)?;
         fill_rows(&mut self.rows, self.width, self.x, self.y, &cleared)?;
         self.pen = pen;
@@ -352,10 +359,12 @@ impl<W: Widths> Surface<W> {
     }
 
     // Clears all rows, and takes the cursor home.
-    fn clear_screen(&mut self, pen: CellAttributes) -> Result<(), AllocError>
-        ensures ok { OnOk result (let s = screen_of self.old in Draws self.old (clear_screen s pen) (screen_lengths s pen (lengths_of self.old)) self.new) }
+    #[inline(never)]
+    fn clear_screen(&mut self, color: ColorAttribute) -> Result<(), AllocError>
+        ensures ok { OnOk result (let s = screen_of self.old in Draws self.old (clear_screen s (with_background color)) (screen_lengths s (with_background color) (lengths_of self.old)) self.new) }
         ensures err { OnErr result (SameFrame self.old self.new) }
     {
+        let pen = background_only(self.alloc, color)?;
         let cleared = blank_with(&pen)?;
         fill_rows(&mut self.rows, self.width, 0, 0, &cleared)?;
         self.pen = pen;
@@ -364,6 +373,7 @@ impl<W: Widths> Surface<W> {
         Ok(())
     }
 
+    #[inline(never)]
     fn change_pen(&mut self, change: &AttributeChange) -> Result<(), AllocError>
         ensures ok { OnOk result (Draws self.old (record (screen_of self.old) { pen = with_attribute self.old.pen (attribute_change_value change.now) }) (lengths_of self.old) self.new) }
         ensures err { OnErr result (self.new ≡ self.old) }
@@ -387,18 +397,9 @@ impl<W: Widths> Surface<W> {
             Change::Attribute(change) => self.change_pen(change)?,
             Change::AllAttributes(attrs) => self.pen = attrs.clone()?,
             Change::Text(text) => self.print_text(text.as_str())?,
-            Change::ClearScreen(color) => {
-                let pen = background_only(self.alloc, *color)?;
-                self.clear_screen(pen)?;
-            }
-            Change::ClearToEndOfLine(color) => {
-                let pen = background_only(self.alloc, *color)?;
-                self.clear_to_end_of_line(pen)?;
-            }
-            Change::ClearToEndOfScreen(color) => {
-                let pen = background_only(self.alloc, *color)?;
-                self.clear_to_end_of_screen(pen)?;
-            }
+            Change::ClearScreen(color) => self.clear_screen(*color)?,
+            Change::ClearToEndOfLine(color) => self.clear_to_end_of_line(*color)?,
+            Change::ClearToEndOfScreen(color) => self.clear_to_end_of_screen(*color)?,
             Change::CursorPosition { x, y } => self.place_cursor(*x, *y),
             Change::CursorVisibility(visibility) => self.visibility = *visibility,
         }

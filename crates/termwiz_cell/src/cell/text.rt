@@ -79,8 +79,7 @@ impl CellText {
         ensures succeeds { length text.now ≤ 7 → IsOk result }
     {
         if text.len() <= 7 {
-            let mut short = ArrayString::new();
-            short.push_str(text);
+            let short = short_text(text);
             return Ok(if wide {
                 CellText::Wide(short)
             } else {
@@ -157,6 +156,30 @@ impl CellText {
             CellText::Long(long) => long_text(*Box::allocator(long), &long.text, long.wide),
         }
     }
+}
+
+/// A text of at most seven bytes. Most texts past ASCII have three, and the copy of a known length
+/// needs no call.
+fn short_text(text: &str) -> ArrayString<7>
+    requires { length text.now ≤ 7 }
+    ensures { result.bytes ≡ text.now }
+{
+    if text.len() == 3 {
+        let mut short = ArrayString::new();
+        short.push_str(text);
+        return short;
+    }
+    other_short_text(text)
+}
+
+#[inline(never)]
+fn other_short_text(text: &str) -> ArrayString<7>
+    requires { length text.now ≤ 7 }
+    ensures { result.bytes ≡ text.now }
+{
+    let mut short = ArrayString::new();
+    short.push_str(text);
+    short
 }
 
 /// This text, which has more than seven bytes. It stands apart, so that the way of the others is short.

@@ -89,7 +89,9 @@ impl VecStorage {
         ensures err { OnErr result (self.new ≡ self.old) }
         ensures succeeds { len ≤ length self.old → IsOk result }
     {
-        pad_cells(&mut self.cells, len)?;
+        if self.cells.len() < len {
+            pad_cells(&mut self.cells, len)?;
+        }
         Ok(())
     }
 
@@ -104,6 +106,7 @@ impl VecStorage {
     }
 
     // Makes room for what comes to the columns from i up to another. On an error nothing changed.
+    #[inline(always)]
     fn make_room(&mut self, i: usize, end: usize) -> Result<(), AllocError>
         requires { i ≤ end }
         ensures ok { OnOk result (self.new ≡ torn i (padded end self.old)) }
@@ -116,6 +119,7 @@ impl VecStorage {
     }
 
     // The cell comes to column i.
+    #[inline(always)]
     fn store(&mut self, i: usize, cell: Cell)
         requires { i < length self.old }
         ensures { self.new ≡ slice_set self.old i cell }
@@ -354,7 +358,8 @@ impl VecStorage {
     }
 }
 
-// Pads with default blanks, for which there may be room.
+// Pads with default blanks, for which there may be room. It stands apart, so that the way of a list that is long enough is short.
+#[inline(never)]
 fn pad_cells(cells: &mut Vec<Cell>, len: usize) -> Result<(), AllocError>
     ensures ok { OnOk result (cells.new.items ≡ padded len cells.old.items) }
     ensures err { OnErr result (cells.new.items ≡ cells.old.items) }
@@ -371,7 +376,6 @@ fn pad_cells(cells: &mut Vec<Cell>, len: usize) -> Result<(), AllocError>
 }
 
 // The cells of the run come to the columns from i on.
-#[inline(never)]
 fn put_cells(cells: &mut Vec<Cell>, i: usize, run: &[u8], attrs: &CellAttributes)
     requires plain { list_all is_plain run.now ≡ true }
     requires unboxed { needs_box attrs.now ≡ false }
@@ -418,6 +422,7 @@ fn half_of(cell: &Cell) -> Result<Cell, AllocError>
 }
 
 // A blank with the cell's attributes comes in its place.
+#[inline(never)]
 fn blank_out(cell: &mut Cell)
     ensures { cell.new ≡ half cell.old }
 {

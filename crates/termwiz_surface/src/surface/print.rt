@@ -49,6 +49,11 @@ pub(super) fn printed_cell<W: Widths>(
     Cell::new_grapheme(alloc, widths, grapheme, attrs, None)
 }
 
+/// Whether a text begins with printable ASCII. Where it does not, there is no run to look for.
+pub(super) fn begins_plain(text: &str) -> bool {
+    matches!(text.as_bytes(), [b' '..=b'~', ..])
+}
+
 // How many characters of a run of ASCII, from its first one on, have at most one column each.
 fn narrow_len<W: Widths>(widths: &W, run: &str) -> usize
     requires { list_all is_plain run.now ≡ true }

@@ -52,17 +52,32 @@ fn faults_are_named_in_their_order(rt: HostRuntime) {
 }
 
 #[test]
-fn made_links_are_printed(rt: HostRuntime) -> Result<(), Fail> {
+fn a_link_with_an_id_is_printed_with_it(rt: HostRuntime) -> Result<(), Fail> {
     let alloc = rt.alloc();
-    let uri = String::from_str(alloc, "http://a")?;
-    let with_id = Hyperlink::new_with_id(alloc, uri, String::from_str(alloc, "7")?)?;
-    assert_eq!(rt; with_id.to_string(alloc)?.as_str(), "8;id=7;http://a");
-    assert_eq!(rt; with_id.uri(), "http://a");
-    let plain = Hyperlink::new(alloc, String::from_str(alloc, "u")?);
-    assert_eq!(rt; plain.to_string(alloc)?.as_str(), "8;;u");
-    assert!(rt; plain.params().is_empty() && !plain.is_implicit());
-    let implicit = Hyperlink::new_implicit(alloc, String::from_str(alloc, "u")?);
-    assert!(rt; implicit.is_implicit() && implicit != plain);
+    let uri = "http://a".to_owned(alloc)?;
+    let link = Hyperlink::new_with_id(alloc, uri, "7".to_owned(alloc)?)?;
+    assert_eq!(rt; link.to_string(alloc)?.as_str(), "8;id=7;http://a");
+    assert_eq!(rt; link.uri(), "http://a");
+    Ok(())
+}
+
+#[test]
+fn a_plain_link_is_printed_with_its_uri_alone(rt: HostRuntime) -> Result<(), Fail> {
+    let alloc = rt.alloc();
+    let link = Hyperlink::new(alloc, "u".to_owned(alloc)?);
+    assert_eq!(rt; link.to_string(alloc)?.as_str(), "8;;u");
+    assert!(rt; link.params().is_empty());
+    assert!(rt; !link.is_implicit());
+    Ok(())
+}
+
+#[test]
+fn an_implicit_link_differs_from_a_plain_one(rt: HostRuntime) -> Result<(), Fail> {
+    let alloc = rt.alloc();
+    let plain = Hyperlink::new(alloc, "u".to_owned(alloc)?);
+    let implicit = Hyperlink::new_implicit(alloc, "u".to_owned(alloc)?);
+    assert!(rt; implicit.is_implicit());
+    assert_ne!(rt; implicit, plain);
     Ok(())
 }
 

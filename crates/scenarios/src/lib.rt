@@ -20,4 +20,6 @@ mod repaints;
 mod runs;
 #[cfg(test)]
 mod runs_of_text;
+#[cfg(test)]
+mod texts_cut;
 pub mod widths;

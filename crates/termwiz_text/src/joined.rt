@@ -86,19 +86,6 @@ impl JoinedText {
         Ok(JoinedText { text, last: 0 })
     }
 
-    /// The same with room for `capacity` bytes in all, so that joining within them takes no new memory.
-    pub fn with_capacity(
-        alloc: Global,
-        capacity: usize,
-        first: &str,
-    ) -> Result<JoinedText, AllocError>
-        ensures { IfOk result (λ joined. joined ≡ first.now) }
-    {
-        let mut text = String::with_capacity(alloc, capacity)?;
-        text.push_str(first)?;
-        Ok(JoinedText { text, last: 0 })
-    }
-
     /// Puts a text behind, exactly where no grapheme runs over the seam: cut together, they are cut as before, with the text as the last grapheme. Says whether it did. At an error the text is as before.
     ///
     /// Only the text that was joined last is cut, whatever stands before it.

@@ -12,7 +12,6 @@ ghost use Rattle.unicode_segmentation.specs.Grapheme.{graphemes};
 mod joined;
 
 pub use joined::JoinedText;
-use std::alloc::AllocError;
 use unicode_segmentation::UnicodeSegmentation;
 
 fn is_plain(byte: u8) -> bool
@@ -163,25 +162,6 @@ fn is_last_grapheme(whole: &str, text: &str) -> bool
         Some(last) => last == text,
         None => false,
     }
-}
-
-/// Puts a text behind the one before it, exactly where no grapheme runs over the seam: cut together, they are cut as before, with the text as the last grapheme. Says whether it did.
-pub fn join(before: &mut String, text: &str) -> Result<bool, AllocError>
-    ensures joins { IfOk result (λ joined. IsTrue joined ↔ (graphemes true (string_bytes before.old ++ text.now) ≡ graphemes true (string_bytes before.old) ++ text.now ∷ [])) }
-    ensures text { IfOk result (λ joined. string_bytes before.new ≡ (if joined then string_bytes before.old ++ text.now else string_bytes before.old)) }
-{
-    let front = before.as_str();
-    let seam = front.len();
-    if both_plain(front, text) {
-        before.push_str(text)?;
-        return Ok(true);
-    }
-    before.push_str(text)?;
-    if is_last_grapheme(before.as_str(), text) {
-        return Ok(true);
-    }
-    before.truncate(seam);
-    Ok(false)
 }
 
 /// The graphemes of a text in order.

@@ -1,0 +1,129 @@
+//! The quick ways beside the clear one, by which the whole text is cut by the rules.
+use std::alloc::{AllocError, Global};
+use std::process::Abort;
+use std::test::Fail;
+use termwiz_text::{Graphemes, JoinedText, split_plain_run};
+use unicode_segmentation::UnicodeSegmentation;
+
+const TEXTS: [&str; 12] = [
+    "",
+    "plain text, with signs: ~!",
+    "one\r\ntwo\n\rthree\r\r\n\n\tfour\u{7f}",
+    "e\u{301}a\u{308}\u{301}bc\u{20dd}",
+    "\r\u{301}\n\u{301}",
+    "👩\u{200d}👩\u{200d}👧 👍🏽x",
+    "か\u{3099}は\u{309a}かな\u{3099}",
+    "カタカナ漢字ひらがな",
+    "漢\u{fe00}字a漢b\u{301}字\r\n",
+    "🇫🇷🇩🇪🇯a🇵",
+    "क\u{94d}षa\u{94d}ब",
+    "각\u{1100}\u{1161}가",
+];
+
+// Regional indicators, of which two make a flag.
+fn indicators(alloc: Global, count: usize) -> Result<String, AllocError> {
+    let mut row = String::new(alloc);
+    for _ in 0..count {
+        row.push_str("🇦")?;
+    }
+    Ok(row)
+}
+
+fn assert_pieces(rt: &impl Abort, text: &str) {
+    let mut pieces = text.graphemes(true);
+    for first in Graphemes::new(text) {
+        assert!(rt; pieces.next() == Some(first));
+    }
+    assert!(rt; pieces.next().is_none());
+}
+
+#[test]
+fn the_first_graphemes_are_those_of_the_whole(rt: HostRuntime) -> Result<(), Fail> {
+    for text in TEXTS {
+        assert_pieces(&rt, text);
+    }
+    assert_pieces(&rt, indicators(rt.alloc(), 200)?.as_str());
+    Ok(())
+}
+
+fn assert_run(rt: &impl Abort, text: &str, limit: usize) {
+    let (run, rest) = split_plain_run(text, limit);
+    assert!(rt; run.len() <= limit);
+    let mut pieces = text.graphemes(true);
+    for _ in 0..run.len() {
+        let piece = pieces.next();
+        assert!(rt; piece.is_some_and(|piece| piece.len() == 1));
+    }
+    assert_eq!(rt; pieces.as_str(), rest);
+}
+
+#[test]
+fn a_run_is_cut_byte_by_byte(rt: HostRuntime) -> Result<(), Fail> {
+    for text in TEXTS {
+        for limit in 0..30 {
+            assert_run(&rt, text, limit);
+        }
+    }
+    let (run, rest) = split_plain_run("abce\u{301}", 10);
+    assert_eq!(rt; run, "abc");
+    assert_eq!(rt; rest, "e\u{301}");
+    let (run, rest) = split_plain_run("abc\r\n", 2);
+    assert_eq!(rt; run, "ab");
+    assert_eq!(rt; rest, "c\r\n");
+    Ok(())
+}
+
+// Cut together, the two are cut as before, with the second as the last grapheme.
+fn joins(alloc: Global, before: &str, more: &str) -> Result<bool, AllocError> {
+    let mut whole = String::from_str(alloc, before)?;
+    whole.push_str(more)?;
+    let mut pieces = whole.as_str().graphemes(true);
+    for piece in before.graphemes(true) {
+        if pieces.next() != Some(piece) {
+            return Ok(false);
+        }
+    }
+    Ok(pieces.next() == Some(more) && pieces.next().is_none())
+}
+
+// Joins the text's characters one by one.
+fn assert_joins(rt: &impl Abort, alloc: Global, text: &str) -> Result<(), Fail> {
+    let mut joined = JoinedText::new(alloc, "a")?;
+    let mut before = String::from_str(alloc, "a")?;
+    for c in text.chars() {
+        let mut one = String::new(alloc);
+        one.push(c)?;
+        let more = one.as_str();
+        let expected = joins(alloc, before.as_str(), more)?;
+        if expected {
+            before.push_str(more)?;
+        }
+        assert_eq!(rt; joined.join(more)?, expected);
+        assert_eq!(rt; joined.as_str(), before.as_str());
+    }
+    assert_eq!(rt; joined.into_string().as_str(), before.as_str());
+    Ok(())
+}
+
+// Joins the text's graphemes one by one: each joins, since they are cut apart in the text.
+fn assert_grows(rt: &impl Abort, alloc: Global, text: &str) -> Result<(), Fail> {
+    let mut joined = JoinedText::new(alloc, "")?;
+    for piece in text.graphemes(true) {
+        assert!(rt; joined.join(piece)?);
+    }
+    assert_eq!(rt; joined.into_string().as_str(), text);
+    Ok(())
+}
+
+#[test]
+fn texts_are_joined_as_they_are_cut(rt: HostRuntime) -> Result<(), Fail> {
+    let alloc = rt.alloc();
+    for text in TEXTS {
+        assert_joins(&rt, alloc, text)?;
+        assert_grows(&rt, alloc, text)?;
+    }
+    let row = indicators(alloc, 200)?;
+    assert_joins(&rt, alloc, row.as_str())?;
+    assert_grows(&rt, alloc, row.as_str())?;
+    Ok(())
+}

@@ -39,9 +39,9 @@ module _ (w : ℕ) (rows : List (List CellValue)) (v u t : Writing) where
       t.printed ≡ behind u.printed.entries (row_entries u.printed.pen (visible_upto row w)) → row_at rows i ≡ row → t.spaces ≡ 0 → IsDrawnUpto w rows (i + 1) t
   row_drawn i row z eu et er es = record {
     printed =
-      et ∙ (λ k. behind (drawn k).entries (row_entries (drawn k).pen (visible_upto (sym er k) w)))
-      ∙ (λ k. record { entries = first_entries ++ regroup k; pen = (row_entries above.pen (visible_upto (row_at rows i) w)).pen })
-      ∙ sym (ap (λ j. behind first_entries (rows_upto w rows j)) (add-one i));
+        et ∙ (λ k. behind (drawn k).entries (row_entries (drawn k).pen (visible_upto (sym er k) w)))
+        ∙ (λ k. record { entries = first_entries ++ regroup k; pen = (row_entries above.pen (visible_upto (row_at rows i) w)).pen })
+        ∙ sym (ap (λ j. behind first_entries (rows_upto w rows j)) (add-one i));
     between = es;
   }
     where

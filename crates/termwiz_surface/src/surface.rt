@@ -473,12 +473,6 @@ impl<W: Widths> Surface<W> {
     {
         let padding = Cell::blank();
         let drawn = all_rows(self.alloc, &self.rows, self.width, &padding)?;
-        framed(
-            drawn,
-            self.x,
-            self.y,
-            self.visibility,
-            &self.pen,
-        )
+        framed(drawn, self.x, self.y, self.visibility, &self.pen)
     }
 }

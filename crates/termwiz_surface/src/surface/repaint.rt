@@ -48,11 +48,7 @@ pub(super) fn all_rows<'a>(
 }
 
 // The attributes of the last column of the bottom row.
-fn bottom_attrs<'a>(
-    rows: &'a VecDeque<Line>,
-    width: usize,
-    padding: &'a Cell,
-) -> &'a CellAttributes
+fn bottom_attrs<'a>(rows: &'a VecDeque<Line>, width: usize, padding: &'a Cell) -> &'a CellAttributes
     requires some_column { 0 < width }
     requires some_row { 0 < length (cells_of rows.now.items) }
     requires paddable { ArePaddable width (cells_of rows.now.items) }

@@ -93,6 +93,7 @@ impl Line {
 
     /// Sets the cell at a column. The line is padded with default blanks so far, a wide cell that is cut leaves a blank with its attributes, and the half of a wide cell follows it.
     /// The line takes the number. On an error, which a column past the greatest number gives too, nothing changed.
+    #[inline(always)]
     pub fn set_cell(&mut self, i: usize, cell: Cell, seqno: SequenceNo) -> Result<(), AllocError>
         ensures ok { OnOk result (IsEdited self.old (set_cell i cell self.old.cells) seqno self.new) }
         ensures err { OnErr result (self.new ≡ self.old) }

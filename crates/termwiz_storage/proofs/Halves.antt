@@ -3,7 +3,7 @@ use Rattle.std.proofs.Common.{[], ◌∷◌, ◌++◌, length, take, length-appe
 use Rattle.std.specs.Prelude.{nat_lt, if◌then◌else◌}
 use Rattle.std.specs.Option.{ForSome}
 use Rattle.std.proofs.lemmas.Bool.{cases_Bool, lt-ltb, le-ltb, lt-leb}
-use Rattle.std.proofs.lemmas.List.{set-set, set_comm, append-nil, length-replicate}
+use Rattle.std.proofs.lemmas.List.{append-nil, length-replicate, take_all}
 use Rattle.termwiz_cell.specs.CellValue.{CellValue, half, is_wide, columns}
 use Rattle.termwiz_storage.proofs.Widths.{columns-narrow, columns-wide}
 use Rattle.termwiz_storage.specs.Stored.{stored, padded, hides, torn, put, set_cell}
@@ -55,3 +55,7 @@ hides-narrow cs (suc k) h =
     let back : suc k - 1 ≡ k = omega arith in
     let narrow : is_wide (stored cs k) ≡ false = rw (some, back) at h in
     rw narrow refl
+
+-- a list that is short enough is not cut
+pub take_whole : (n : ℕ) (cs : List CellValue) → length cs ≤ n → cs ≡ take n cs
+take_whole n cs l = sym (take_all n cs l)

@@ -132,6 +132,7 @@ impl Line {
 
     /// Sets the cell at a column as `set_cell` does, in a line that is then cut to `width` columns.
     /// The line takes the number. On an error, which a column past the greatest number gives too, number, flags and cells are as before.
+    #[inline(always)]
     pub fn set_cell_within(
         &mut self,
         i: usize,

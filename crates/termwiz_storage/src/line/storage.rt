@@ -85,6 +85,7 @@ impl CellStorage {
 
     /// Sets a cell as `set_cell` does, in a list that is then cut to `len` cells.
     /// On an error, which a column past the greatest number gives too, the cells are as before.
+    #[inline(always)]
     pub fn set_cell_within(&mut self, i: usize, cell: Cell, len: usize) -> Result<(), AllocError>
         ensures ok { OnOk result (cells_of self.new ≡ take len (set_cell i cell (cells_of self.old))) }
         ensures err { OnErr result (cells_of self.new ≡ cells_of self.old) }
@@ -98,6 +99,7 @@ impl CellStorage {
 
     /// Sets the cell of each character of a run of printable ASCII, in order from a column on, with attributes that take no memory.
     /// On an error, which a column past the greatest number gives too, the cells are as before.
+    #[inline]
     pub fn set_run(&mut self, i: usize, run: &str, attrs: &CellAttributes) -> Result<(), AllocError>
         requires plain { list_all is_plain run.now ≡ true }
         requires unboxed { needs_box attrs.now ≡ false }

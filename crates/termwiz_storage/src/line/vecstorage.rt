@@ -128,6 +128,17 @@ impl VecStorage {
         self.cells[i] = cell;
     }
 
+    // A wide cell comes to column i, and its half behind it.
+    #[inline(always)]
+    fn store_wide(&mut self, i: usize, cell: Cell, half: Cell)
+        requires { i + 1 < length self.old }
+        ensures { self.new ≡ slice_set (slice_set self.old (i + 1) half) i cell }
+    {
+        self.used = self.used.max(i + 2);
+        self.cells[i + 1] = half;
+        self.cells[i] = cell;
+    }
+
     fn set_narrow(&mut self, i: usize, cell: Cell) -> Result<(), AllocError>
         requires { is_wide cell ≡ false }
         ensures ok { OnOk result (self.new ≡ set_cell i cell self.old) }
@@ -147,8 +158,7 @@ impl VecStorage {
         let end = end_of(i, 2)?;
         let half = half_of(&cell)?;
         self.make_room(i, end)?;
-        self.store(i + 1, half);
-        self.store(i, cell);
+        self.store_wide(i, cell, half);
         Ok(())
     }
 
@@ -167,6 +177,7 @@ impl VecStorage {
     }
 
     /// Sets a cell as `set_cell` does, in a list that is then cut to `len` cells. On an error, which a column past the greatest number gives too, nothing changed.
+    #[inline(always)]
     pub(crate) fn set_cell_within(
         &mut self,
         i: usize,
@@ -177,8 +188,19 @@ impl VecStorage {
         ensures err { OnErr result (self.new ≡ self.old) }
     {
         self.set_cell(i, cell)?;
-        self.truncate(len);
+        self.cut(len);
         Ok(())
+    }
+
+    // Cuts the list where it is longer.
+    #[inline]
+    #[tactic(auto, using(crate::proofs::Halves::take_whole))]
+    fn cut(&mut self, len: usize)
+        ensures { self.new ≡ take len self.old }
+    {
+        if len < self.cells.len() {
+            self.truncate(len);
+        }
     }
 
     /// Sets the cell of each character of a run of printable ASCII, in order from a column on, with attributes that take no memory. It takes memory only where the list grows.
@@ -226,6 +248,7 @@ impl VecStorage {
     }
 
     // The cells from one column up to another become default blanks.
+    #[inline(always)]
     fn blank_between(&mut self, from: usize, to: usize)
         requires { to ≤ length self.old }
         ensures { IsBlanked from to self.old self.new }
@@ -390,6 +413,7 @@ fn put_cells(cells: &mut Vec<Cell>, i: usize, run: &[u8], attrs: &CellAttributes
 }
 
 // The cells from one column up to another, as far as there are any, become default blanks.
+#[inline(always)]
 fn blank_cells(cells: &mut Vec<Cell>, from: usize, to: usize)
     ensures { IsBlanked from to cells.old.items cells.new.items }
 {

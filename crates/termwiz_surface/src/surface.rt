@@ -334,11 +334,11 @@ impl<W: Widths> Surface<W> {
 
     // Clears from the cursor to the end of its row, with a pen of this background from then on. The clears stand apart, so that the way of a text is short.
     #[inline(never)]
-    fn clear_to_end_of_line(&mut self, color: ColorAttribute) -> Result<(), AllocError>
-        ensures ok { OnOk result (let s = screen_of self.old in Draws self.old (clear_eol s (with_background color)) (eol_lengths s (with_background color) (lengths_of self.old)) self.new) }
+    fn clear_to_end_of_line(&mut self, color: &ColorAttribute) -> Result<(), AllocError>
+        ensures ok { OnOk result (let s = screen_of self.old in Draws self.old (clear_eol s (with_background color.now)) (eol_lengths s (with_background color.now) (lengths_of self.old)) self.new) }
         ensures err { OnErr result (SameFrame self.old self.new) }
     {
-        let pen = background_only(self.alloc, color)?;
+        let pen = background_only(self.alloc, *color)?;
         let cleared = blank_with(&pen)?;
         fill_row(&mut self.rows, self.width, self.x, self.y, &cleared)?;
         self.pen = pen;
@@ -347,11 +347,11 @@ impl<W: Widths> Surface<W> {
 
     // Clears from the cursor to the end of the screen.
     #[inline(never)]
-    fn clear_to_end_of_screen(&mut self, color: ColorAttribute) -> Result<(), AllocError>
-        ensures ok { OnOk result (let s = screen_of self.old in Draws self.old (clear_eos s (with_background color)) (eos_lengths s (with_background color) (lengths_of self.old)) self.new) }
+    fn clear_to_end_of_screen(&mut self, color: &ColorAttribute) -> Result<(), AllocError>
+        ensures ok { OnOk result (let s = screen_of self.old in Draws self.old (clear_eos s (with_background color.now)) (eos_lengths s (with_background color.now) (lengths_of self.old)) self.new) }
         ensures err { OnErr result (SameFrame self.old self.new) }
     {
-        let pen = background_only(self.alloc, color)?;
+        let pen = background_only(self.alloc, *color)?;
         let cleared = blank_with(&pen)?;
         fill_rows(&mut self.rows, self.width, self.x, self.y, &cleared)?;
         self.pen = pen;
@@ -360,11 +360,11 @@ impl<W: Widths> Surface<W> {
 
     // Clears all rows, and takes the cursor home.
     #[inline(never)]
-    fn clear_screen(&mut self, color: ColorAttribute) -> Result<(), AllocError>
-        ensures ok { OnOk result (let s = screen_of self.old in Draws self.old (clear_screen s (with_background color)) (screen_lengths s (with_background color) (lengths_of self.old)) self.new) }
+    fn clear_screen(&mut self, color: &ColorAttribute) -> Result<(), AllocError>
+        ensures ok { OnOk result (let s = screen_of self.old in Draws self.old (clear_screen s (with_background color.now)) (screen_lengths s (with_background color.now) (lengths_of self.old)) self.new) }
         ensures err { OnErr result (SameFrame self.old self.new) }
     {
-        let pen = background_only(self.alloc, color)?;
+        let pen = background_only(self.alloc, *color)?;
         let cleared = blank_with(&pen)?;
         fill_rows(&mut self.rows, self.width, 0, 0, &cleared)?;
         self.pen = pen;
@@ -397,9 +397,9 @@ impl<W: Widths> Surface<W> {
             Change::Attribute(change) => self.change_pen(change)?,
             Change::AllAttributes(attrs) => self.pen = attrs.clone()?,
             Change::Text(text) => self.print_text(text.as_str())?,
-            Change::ClearScreen(color) => self.clear_screen(*color)?,
-            Change::ClearToEndOfLine(color) => self.clear_to_end_of_line(*color)?,
-            Change::ClearToEndOfScreen(color) => self.clear_to_end_of_screen(*color)?,
+            Change::ClearScreen(color) => self.clear_screen(color)?,
+            Change::ClearToEndOfLine(color) => self.clear_to_end_of_line(color)?,
+            Change::ClearToEndOfScreen(color) => self.clear_to_end_of_screen(color)?,
             Change::CursorPosition { x, y } => self.place_cursor(*x, *y),
             Change::CursorVisibility(visibility) => self.visibility = *visibility,
         }

@@ -139,6 +139,7 @@ impl VecStorage {
         self.cells[i] = cell;
     }
 
+    #[inline(always)]
     fn set_narrow(&mut self, i: usize, cell: Cell) -> Result<(), AllocError>
         requires { is_wide cell ≡ false }
         ensures ok { OnOk result (self.new ≡ set_cell i cell self.old) }
@@ -150,6 +151,7 @@ impl VecStorage {
         Ok(())
     }
 
+    #[inline(always)]
     fn set_wide(&mut self, i: usize, cell: Cell) -> Result<(), AllocError>
         requires { is_wide cell ≡ true }
         ensures ok { OnOk result (self.new ≡ set_cell i cell self.old) }
@@ -164,6 +166,7 @@ impl VecStorage {
 
     /// Sets a cell. The list is padded so far, a wide cell that is cut leaves a blank with its attributes, and the half of a wide cell follows it.
     /// On an error, which a column past the greatest number gives too, nothing changed.
+    #[inline(always)]
     pub(crate) fn set_cell(&mut self, i: usize, cell: Cell) -> Result<(), AllocError>
         ensures ok { OnOk result (self.new ≡ set_cell i cell self.old) }
         ensures err { OnErr result (self.new ≡ self.old) }
@@ -412,12 +415,13 @@ fn put_cells(cells: &mut Vec<Cell>, i: usize, run: &[u8], attrs: &CellAttributes
     }
 }
 
-// The cells from one column up to another, as far as there are any, become default blanks.
+// The cells from one column up to another become default blanks.
 #[inline(always)]
 fn blank_cells(cells: &mut Vec<Cell>, from: usize, to: usize)
+    requires { to ≤ vec_len cells.old }
     ensures { IsBlanked from to cells.old.items cells.new.items }
 {
-    for i in from..to.min(cells.len()) {
+    for i in from..to {
         cells[i] = Cell::blank();
     }
 }

@@ -8,11 +8,11 @@ use Rattle.termwiz_surface.proofs.surface.Surface.clear_to_end_of_screen.Goals a
 
 pub invariant_of-self : goal.invariant_of-self
 invariant_of-self g c =
-    IsSound-partly (unversioned (g.W.Widths.width_of c.self.inside.widths)) _ (record { space = g.met.W.Widths.space_has_one c.self.inside.widths None }) c.self.invariant (with_background c.args.color) _ (rw (c.in_ok-cleared.ensures, c.in_ok-pen.ensures) at (c.in_err-fill_rows.ensures.err c.self.invariant.column))
+    IsSound-partly (unversioned (g.W.Widths.width_of c.self.inside.widths)) _ (record { space = g.met.W.Widths.space_has_one c.self.inside.widths None }) c.self.invariant (with_background c.args.color.now) _ (rw (c.in_ok-cleared.ensures, c.in_ok-pen.ensures) at (c.in_err-fill_rows.ensures.err c.self.invariant.column))
 
 pub invariant_of-self-2 : goal.invariant_of-self-2
 invariant_of-self-2 g c =
-    rw c.in_ok-pen.ensures (IsSound-eos (unversioned (g.W.Widths.width_of c.self.inside.widths)) _ (record { space = g.met.W.Widths.space_has_one c.self.inside.widths None }) c.self.invariant (with_background c.args.color) _ (rw (c.in_ok-cleared.ensures, c.in_ok-pen.ensures) at c.in_ok-fill_rows.ensures.ok))
+    rw c.in_ok-pen.ensures (IsSound-eos (unversioned (g.W.Widths.width_of c.self.inside.widths)) _ (record { space = g.met.W.Widths.space_has_one c.self.inside.widths None }) c.self.invariant (with_background c.args.color.now) _ (rw (c.in_ok-cleared.ensures, c.in_ok-pen.ensures) at c.in_ok-fill_rows.ensures.ok))
 
 pub returns-clause-ok : goal.returns-clause-ok
 returns-clause-ok g c =
@@ -23,6 +23,6 @@ returns-clause-ok g c =
       width = refl;
       height = refl;
       number = refl;
-      screen_is = rw (rows-eos f _ (record { space = g.met.W.Widths.space_has_one c.self.inside.widths None }) c.self.invariant (with_background c.args.color) (cells_of c.fill_rows.new.rows.items) done) refl;
-      lengths_are = lengths-eos f _ (record { space = g.met.W.Widths.space_has_one c.self.inside.widths None }) c.self.invariant (with_background c.args.color) (cells_of c.fill_rows.new.rows.items) done;
+      screen_is = rw (rows-eos f _ (record { space = g.met.W.Widths.space_has_one c.self.inside.widths None }) c.self.invariant (with_background c.args.color.now) (cells_of c.fill_rows.new.rows.items) done) refl;
+      lengths_are = lengths-eos f _ (record { space = g.met.W.Widths.space_has_one c.self.inside.widths None }) c.self.invariant (with_background c.args.color.now) (cells_of c.fill_rows.new.rows.items) done;
     })

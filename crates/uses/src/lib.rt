@@ -3,6 +3,7 @@
 
 pub mod comparison;
 pub mod last_row;
+pub mod one_by_one;
 pub mod status;
 #[cfg(test)]
 mod tests;

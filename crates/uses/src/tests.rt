@@ -1,6 +1,7 @@
 //! Each caller once, on its way to success.
 use crate::comparison::show_the_same;
 use crate::last_row::clear_last_row;
+use crate::one_by_one::make_one_by_one;
 use crate::status::draw_status;
 use crate::viewer::Viewer;
 use std::test::Fail;
@@ -46,5 +47,18 @@ fn a_status_line_is_drawn_and_cleared(rt: HostRuntime) -> Result<(), Fail> {
         surface.screen_chars_to_string()?.as_str(),
         "w00t  \n      \n"
     );
+    Ok(())
+}
+
+#[test]
+fn changes_are_made_one_by_one(rt: HostRuntime) -> Result<(), Fail> {
+    let alloc = rt.alloc();
+    let mut surface = Surface::new(alloc, 4, 1, UnicodeWidths)?;
+    let first = Change::text_from(alloc, "e")?;
+    let second = Change::text_from(alloc, "\u{301}f")?;
+    let changes = vec![in alloc; first, second]?;
+    make_one_by_one(&mut surface, changes)?;
+    assert_eq!(rt; surface.cursor_position(), (3, 0));
+    assert_eq!(rt; surface.current_seqno(), 2);
     Ok(())
 }

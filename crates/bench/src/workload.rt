@@ -23,6 +23,10 @@ pub enum Workload {
     Repaint,
     /// A repaint of a coloured 200x60.
     LargeRepaint,
+    /// A repaint of a 200x60 full of text in one pen.
+    OnePen,
+    /// Making an 80x24.
+    New,
     /// A setter of an attribute.
     Setter,
     /// A clone of plain attributes.
@@ -40,6 +44,8 @@ impl Workload {
             "scroll" => Some(Workload::Scroll),
             "repaint" => Some(Workload::Repaint),
             "large-repaint" => Some(Workload::LargeRepaint),
+            "one-pen" => Some(Workload::OnePen),
+            "new" => Some(Workload::New),
             "setter" => Some(Workload::Setter),
             "clone" => Some(Workload::Clone),
             "equality" => Some(Workload::Equality),
@@ -64,6 +70,8 @@ pub fn run(alloc: Global, workload: Workload, count: u32) -> Result<usize, Surfa
         Workload::Scroll => printed(alloc, "x\r\n", count),
         Workload::Repaint => repainted(alloc, 80, 24, count),
         Workload::LargeRepaint => repainted(alloc, 200, 60, count),
+        Workload::OnePen => one_pen(alloc, count),
+        Workload::New => made(alloc, count),
         Workload::Setter => Ok(set(count)),
         Workload::Clone => Ok(cloned(count)?),
         Workload::Equality => Ok(compared(count)),
@@ -107,12 +115,34 @@ fn repainted(alloc: Global, width: usize, height: usize, count: u32) -> Result<u
         surface.add_change(pen(alloc, (cell % 10) as u8)?)?;
         surface.add_change(Change::text_from(alloc, EIGHT)?)?;
     }
+    repaints(&surface, count)
+}
+
+fn one_pen(alloc: Global, count: u32) -> Result<usize, SurfaceError> {
+    let mut surface = Surface::new(alloc, 200, 60, UnicodeWidths)?;
+    for _ in 0..200 * 60 / 8 {
+        surface.add_change(Change::text_from(alloc, EIGHT)?)?;
+    }
+    repaints(&surface, count)
+}
+
+// How many entries so many repaints have.
+fn repaints(surface: &Surface<UnicodeWidths>, count: u32) -> Result<usize, SurfaceError> {
     let mut entries = 0usize;
     for _ in 0..count {
         let (_, changes) = surface.get_changes(0)?;
         entries = entries.wrapping_add(changes.as_slice().len());
     }
     Ok(entries)
+}
+
+fn made(alloc: Global, count: u32) -> Result<usize, SurfaceError> {
+    let mut columns = 0usize;
+    for _ in 0..count {
+        let (width, _) = Surface::new(alloc, 80, 24, UnicodeWidths)?.dimensions();
+        columns = columns.wrapping_add(width);
+    }
+    Ok(columns)
 }
 
 fn set(count: u32) -> usize {

@@ -1,5 +1,5 @@
 //! A text that grows by whole graphemes.
-ghost use Rattle.std.specs.Prelude.{◌≡◌, ◌↔◌, ◌++◌, ◌∷◌, [], List, ℕ, true, IsTrue, IfOk, OnOk, OnErr, string_bytes, if◌then◌else◌};
+ghost use Rattle.std.specs.Prelude.{◌≡◌, ◌↔◌, ◌++◌, ◌∷◌, [], List, ℕ, true, IsTrue, ◌<◌, IfSome, OnSome, IfOk, OnOk, OnErr, string_bytes, if◌then◌else◌};
 ghost use Rattle.termwiz_text.specs.CutAt.{IsCutAt};
 ghost use Rattle.unicode_segmentation.specs.Grapheme.{graphemes};
 
@@ -31,11 +31,24 @@ fn join_behind(text: &mut String, last: usize, more: &str) -> Result<bool, Alloc
     ensures text { IfOk result (λ joined. string_bytes text.new ≡ (if joined then string_bytes text.old ++ more.now else string_bytes text.old)) }
     ensures err { OnErr result (string_bytes text.new ≡ string_bytes text.old) }
 {
-    if both_plain(text.as_str(), more) {
-        text.push_str(more)?;
+    if let Some(byte) = plain_behind(text.as_str(), more) {
+        text.push(byte as char)?;
         return Ok(true);
     }
     join_by_cut(text, last, more)
+}
+
+// The only byte of a text that is printable ASCII behind printable ASCII.
+#[inline(always)]
+fn plain_behind(before: &str, text: &str) -> Option<u8>
+    ensures ascii { IfSome result (λ byte. byte < 128) }
+    ensures only { IfSome result (λ byte. text.now ≡ byte ∷ []) }
+    ensures joins { OnSome result (graphemes true (before.now ++ text.now) ≡ graphemes true before.now ++ text.now ∷ []) }
+{
+    match text.as_bytes() {
+        [only] if both_plain(before, text) && only.is_ascii() => Some(*only),
+        _ => None,
+    }
 }
 
 // The same for any text: what stands from `last` on is cut. It stands apart, so that the way of printable ASCII is short.

@@ -52,6 +52,7 @@ impl EntryList {
     }
 
     /// An entry comes behind the others. It is no text.
+    #[inline(always)]
     pub fn push(&mut self, entry: Change) -> Result<(), AllocError>
         requires { is_text (change_value entry) ≡ false }
         ensures { OnOk result (self.new ≡ self.old ++ change_value entry ∷ []) }
@@ -102,6 +103,14 @@ impl EntryList {
         Ok(())
     }
 
+    /// Room for so many times more entries than there are, where memory allows.
+    pub fn reserve_times(&mut self, times: usize)
+        ensures { self.new ≡ self.old }
+    {
+        let more = self.pushed.len().saturating_mul(times);
+        let _ = self.pushed.reserve(more);
+    }
+
     /// Whether the last entry is a text.
     pub fn ends_with_text(&self) -> bool
         ensures { result ≡ last_is is_text self.now }
@@ -135,6 +144,7 @@ impl EntryList {
 }
 
 // The text, where it grew, takes its place among the entries.
+#[inline(always)]
 fn push_grown(
     alloc: Global,
     pushed: &mut Vec<Change>,
@@ -152,6 +162,7 @@ fn push_grown(
 }
 
 // The text, where it grew, and then the entry.
+#[inline(always)]
 fn push_behind(
     alloc: Global,
     pushed: &mut Vec<Change>,

@@ -76,7 +76,7 @@ impl<'a> RowWriter<'a> {
     }
 
     /// So many spaces with these attributes come next.
-    #[inline(never)]
+    #[inline(always)]
     pub fn spaces(&mut self, count: usize, attrs: &'a CellAttributes) -> Result<(), AllocError>
         ensures { OnOk result ((from : spec.Penned) (cells more : List (ℕ × CellValue)) → spec.all_spaces attrs.now more ≡ true → length more ≡ count → IsWritten from cells self.old → IsWritten from (cells ++ more) self.new) }
     {
@@ -186,6 +186,13 @@ impl<'a> RowWriter<'a> {
         self.pen = push_tail(&mut self.entries, self.pen, self.space_attrs)?;
         self.spaces = 0;
         Ok(())
+    }
+
+    /// Room for so many rows like those that were written, where memory allows.
+    pub fn reserve_rows(&mut self, rows: usize)
+        ensures { self.new ≡ self.old }
+    {
+        self.entries.reserve_times(rows);
     }
 
     /// The last entry, if it is no text.

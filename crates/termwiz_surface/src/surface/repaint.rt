@@ -192,8 +192,18 @@ fn write_rows<'a>(
     for i in from..to {
         push_next_line(writer, i)?;
         write_row(writer, &rows[i], width, padding)?;
+        expect_rows(writer, i, rows.len());
     }
     Ok(())
+}
+
+// Behind the first row, room for so many like it: then the list mostly grows but once.
+fn expect_rows(writer: &mut RowWriter<'_>, i: usize, count: usize)
+    ensures { writer.new ≡ writer.old }
+{
+    if i == 0 {
+        writer.reserve_rows(count);
+    }
 }
 
 // The entries of a row, up to the width.

@@ -1,6 +1,7 @@
-use Rattle.std.proofs.Common.{◌≡◌, ◌<◌, map, length, arith, subst, ◌∙◌}
+use Rattle.std.proofs.Common.{◌≡◌, ◌+◌, ◌<◌, map, length, arith, subst, sym, ◌∙◌}
 use Rattle.termwiz_line.specs.Row.{row_of}
 use Rattle.termwiz_surface.specs.ScreenValue.{cells_of}
+use Rattle.termwiz_surface.specs.Drawing.{IsDrawnUpto}
 use Rattle.termwiz_surface.specs.Padding.{IsPaddable}
 use Rattle.termwiz_surface.proofs.Lines.{length-cells_of, cells-read, row-read}
 use Rattle.termwiz_surface.proofs.JoinedRows.{no_text, row_drawn}
@@ -26,5 +27,6 @@ loop-i-preserved c =
     let i = c.loop-i.i in
     let ls = c.args.rows.now.items in
     let inside : i < length ls = omega (arith, c.requires.within, length-cells_of ls) in
-    row_drawn w (map (row_of w) (cells_of ls)) c.loop-i.writer c.push_next_line.new.writer c.write_row.new.writer i (row_of w c.index.result.now.cells) c.loop-i.invariant
-    c.in_ok-push_next_line.ensures.printed c.in_ok-write_row.ensures.row (row-read w ls i c.index.result.now inside c.index.ensures) c.in_ok-write_row.ensures.between
+    subst (IsDrawnUpto w (map (row_of w) (cells_of ls)) (i + 1)) (sym c.expect_rows.ensures)
+    (row_drawn w (map (row_of w) (cells_of ls)) c.loop-i.writer c.push_next_line.new.writer c.write_row.new.writer i (row_of w c.index.result.now.cells) c.loop-i.invariant
+    c.in_ok-push_next_line.ensures.printed c.in_ok-write_row.ensures.row (row-read w ls i c.index.result.now inside c.index.ensures) c.in_ok-write_row.ensures.between)

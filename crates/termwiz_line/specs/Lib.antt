@@ -1,4 +1,5 @@
 pub mod LineFlags
+pub mod Directions
 pub mod LineValue
 pub mod LineEq
 pub mod Filled

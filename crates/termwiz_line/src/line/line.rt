@@ -17,6 +17,8 @@ ghost use Rattle.termwiz_cell.specs.ChangeValue.{change_value};
 ghost use Rattle.termwiz_line.specs.Entries.{row_entries};
 ghost use Rattle.termwiz_line.specs.LineEq.{contents_eq, contents_eq-Decides, flags_eq, line_contents, line_eq};
 
+mod flags;
+
 use crate::entries::row_entries;
 use crate::line::linebits::LineBits;
 use std::alloc::{AllocError, Global};
@@ -110,13 +112,6 @@ impl Line {
         let mut storage = CellStorage::V(self.storage.to_vec()?);
         storage.resize(width)?;
         Ok(Line::of(self.alloc, storage, seqno))
-    }
-
-    /// The number of the last change.
-    pub fn current_seqno(&self) -> SequenceNo
-        ensures { result ≡ self.now.seqno }
-    {
-        self.seqno
     }
 
     /// Sets the cell at a column. The line is padded with default blanks so far, a wide cell that is cut leaves a blank with its attributes, and the half of a wide cell follows it.

@@ -1,3 +1,6 @@
+pub mod Pieces
+pub mod Trim
+pub mod Zones
 pub mod LineFlags
 pub mod Directions
 pub mod LineValue

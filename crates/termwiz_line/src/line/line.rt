@@ -29,6 +29,10 @@ use termwiz_cell::change::{Change, SequenceNo};
 use termwiz_storage::line::cellref::VisibleCellIter;
 use termwiz_storage::line::storage::CellStorage;
 
+mod zones;
+
+pub use zones::ZoneRange;
+
 /// A line of cells by itself: a row of a copied screen is one, and so may be what a program keeps of rows that have scrolled away.
 ///
 /// It stores cells from the first column on, and the half of a wide cell follows it. How many it stores is not how wide it is shown: who shows a line reads default blanks behind its last cell, and cuts what is too long.
@@ -42,6 +46,8 @@ pub struct Line {
     storage: CellStorage,
     seqno: SequenceNo,
     bits: LineBits,
+    // The zones, once they were asked for: each edit drops them.
+    zones: Option<Vec<ZoneRange>>,
 }
 
 impl Model for Line {
@@ -49,13 +55,14 @@ impl Model for Line {
     ghost use Rattle.termwiz_storage.specs.Storage.{cells_of, is_vector};
     ghost use Rattle.termwiz_line.specs.LineFlags.{flags_of, bits_of};
     ghost use Rattle.termwiz_line.specs.LineValue.{LineValue};
+    ghost use Rattle.termwiz_line.specs.Zones.{AreUpToDate};
 
     ghost Value = { LineValue };
 
     ghost view = { λ l. record { cells = cells_of l.storage; seqno = l.seqno; flags = flags_of l.bits.0; is_vector = is_vector l.storage } };
 
-    // There are no other bits.
-    ghost invariant = { λ l. bits_of (flags_of l.bits.0) ≡ l.bits.0 };
+    // There are no other bits, and zones that are kept are those of the cells.
+    ghost invariant = { λ l. (bits_of (flags_of l.bits.0) ≡ l.bits.0) × AreUpToDate l.zones (cells_of l.storage) };
 }
 
 impl Line {
@@ -77,6 +84,7 @@ impl Line {
             storage,
             seqno,
             bits: LineBits::NONE,
+            zones: None,
         }
     }
 
@@ -87,6 +95,7 @@ impl Line {
         ensures err { OnErr result (IsUnchanged self.old self.new) }
         ensures succeeds { self.old.is_vector ≡ true → width ≤ length self.old.cells → IsOk result }
     {
+        self.zones = None;
         self.storage.blank_out(width)?;
         self.seqno = seqno;
         self.bits = LineBits::NONE;
@@ -100,6 +109,7 @@ impl Line {
         ensures err { OnErr result (IsUnchanged self.old self.new) }
         ensures succeeds { self.old.is_vector ≡ true → width ≤ length self.old.cells → IsOk result }
     {
+        self.zones = None;
         self.storage.resize(width)?;
         self.seqno = self.seqno.max(seqno);
         Ok(())
@@ -120,6 +130,7 @@ impl Line {
         ensures ok { OnOk result (IsEdited self.old (set_cell i cell self.old.cells) seqno self.new) }
         ensures err { OnErr result (IsUnchanged self.old self.new) }
     {
+        self.zones = None;
         self.storage.set_cell(i, cell)?;
         self.seqno = self.seqno.max(seqno);
         Ok(())
@@ -138,6 +149,7 @@ impl Line {
         ensures ok { OnOk result (IsEdited self.old (take width (set_cell i cell self.old.cells)) seqno self.new) }
         ensures err { OnErr result (IsUnchanged self.old self.new) }
     {
+        self.zones = None;
         self.storage.set_cell_within(i, cell, width)?;
         self.seqno = self.seqno.max(seqno);
         Ok(())
@@ -157,6 +169,7 @@ impl Line {
         ensures ok { OnOk result (IsEdited self.old (set_run i run.now attrs.now self.old.cells) seqno self.new) }
         ensures err { OnErr result (IsUnchanged self.old self.new) }
     {
+        self.zones = None;
         self.storage.set_run(i, run, attrs)?;
         self.seqno = self.seqno.max(seqno);
         Ok(())
@@ -171,6 +184,7 @@ impl Line {
     {
         let kept = self.storage.kept_len();
         if kept > 0 && kept < self.len() {
+            self.zones = None;
             self.storage.truncate(kept)?;
             self.seqno = self.seqno.max(seqno);
         }
@@ -182,6 +196,7 @@ impl Line {
         ensures ok { OnOk result (Fills self.old (to - from) from blank seqno self.new) }
         ensures err { OnErr result (IsUnchanged self.old self.new) }
     {
+        self.zones = None;
         self.storage.set_blanks(from, to)?;
         if from < to {
             self.seqno = self.seqno.max(seqno);
@@ -297,6 +312,7 @@ impl Clone for Line {
             storage,
             seqno: self.seqno,
             bits: self.bits,
+            zones: None,
         })
     }
 }

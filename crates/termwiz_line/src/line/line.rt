@@ -17,8 +17,6 @@ ghost use Rattle.termwiz_cell.specs.ChangeValue.{change_value};
 ghost use Rattle.termwiz_line.specs.Entries.{row_entries};
 ghost use Rattle.termwiz_line.specs.LineEq.{contents_eq, contents_eq-Decides, flags_eq, line_contents, line_eq};
 
-mod flags;
-
 use crate::entries::row_entries;
 use crate::line::linebits::LineBits;
 use std::alloc::{AllocError, Global};
@@ -29,6 +27,7 @@ use termwiz_cell::change::{Change, SequenceNo};
 use termwiz_storage::line::cellref::VisibleCellIter;
 use termwiz_storage::line::storage::CellStorage;
 
+mod flags;
 mod zones;
 
 pub use zones::ZoneRange;

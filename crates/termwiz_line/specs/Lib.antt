@@ -1,4 +1,8 @@
+pub mod Pieces
+pub mod Trim
+pub mod Zones
 pub mod LineFlags
+pub mod Directions
 pub mod LineValue
 pub mod LineEq
 pub mod Filled

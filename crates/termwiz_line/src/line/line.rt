@@ -27,6 +27,11 @@ use termwiz_cell::change::{Change, SequenceNo};
 use termwiz_storage::line::cellref::VisibleCellIter;
 use termwiz_storage::line::storage::CellStorage;
 
+mod flags;
+mod zones;
+
+pub use zones::ZoneRange;
+
 /// A line of cells by itself: a row of a copied screen is one, and so may be what a program keeps of rows that have scrolled away.
 ///
 /// It stores cells from the first column on, and the half of a wide cell follows it. How many it stores is not how wide it is shown: who shows a line reads default blanks behind its last cell, and cuts what is too long.
@@ -40,6 +45,8 @@ pub struct Line {
     storage: CellStorage,
     seqno: SequenceNo,
     bits: LineBits,
+    // The zones, once they were asked for: each edit drops them.
+    zones: Option<Vec<ZoneRange>>,
 }
 
 impl Model for Line {
@@ -47,13 +54,14 @@ impl Model for Line {
     ghost use Rattle.termwiz_storage.specs.Storage.{cells_of, is_vector};
     ghost use Rattle.termwiz_line.specs.LineFlags.{flags_of, bits_of};
     ghost use Rattle.termwiz_line.specs.LineValue.{LineValue};
+    ghost use Rattle.termwiz_line.specs.Zones.{AreUpToDate};
 
     ghost Value = { LineValue };
 
     ghost view = { λ l. record { cells = cells_of l.storage; seqno = l.seqno; flags = flags_of l.bits.0; is_vector = is_vector l.storage } };
 
-    // There are no other bits.
-    ghost invariant = { λ l. bits_of (flags_of l.bits.0) ≡ l.bits.0 };
+    // There are no other bits, and zones that are kept are those of the cells.
+    ghost invariant = { λ l. (bits_of (flags_of l.bits.0) ≡ l.bits.0) × AreUpToDate l.zones (cells_of l.storage) };
 }
 
 impl Line {
@@ -75,6 +83,7 @@ impl Line {
             storage,
             seqno,
             bits: LineBits::NONE,
+            zones: None,
         }
     }
 
@@ -85,6 +94,7 @@ impl Line {
         ensures err { OnErr result (IsUnchanged self.old self.new) }
         ensures succeeds { self.old.is_vector ≡ true → width ≤ length self.old.cells → IsOk result }
     {
+        self.zones = None;
         self.storage.blank_out(width)?;
         self.seqno = seqno;
         self.bits = LineBits::NONE;
@@ -98,6 +108,7 @@ impl Line {
         ensures err { OnErr result (IsUnchanged self.old self.new) }
         ensures succeeds { self.old.is_vector ≡ true → width ≤ length self.old.cells → IsOk result }
     {
+        self.zones = None;
         self.storage.resize(width)?;
         self.seqno = self.seqno.max(seqno);
         Ok(())
@@ -112,19 +123,13 @@ impl Line {
         Ok(Line::of(self.alloc, storage, seqno))
     }
 
-    /// The number of the last change.
-    pub fn current_seqno(&self) -> SequenceNo
-        ensures { result ≡ self.now.seqno }
-    {
-        self.seqno
-    }
-
     /// Sets the cell at a column. The line is padded with default blanks so far, a wide cell that is cut leaves a blank with its attributes, and the half of a wide cell follows it.
     /// The line takes the number. On an error, which a column past the greatest number gives too, number, flags and cells are as before.
     pub fn set_cell(&mut self, i: usize, cell: Cell, seqno: SequenceNo) -> Result<(), AllocError>
         ensures ok { OnOk result (IsEdited self.old (set_cell i cell self.old.cells) seqno self.new) }
         ensures err { OnErr result (IsUnchanged self.old self.new) }
     {
+        self.zones = None;
         self.storage.set_cell(i, cell)?;
         self.seqno = self.seqno.max(seqno);
         Ok(())
@@ -143,6 +148,7 @@ impl Line {
         ensures ok { OnOk result (IsEdited self.old (take width (set_cell i cell self.old.cells)) seqno self.new) }
         ensures err { OnErr result (IsUnchanged self.old self.new) }
     {
+        self.zones = None;
         self.storage.set_cell_within(i, cell, width)?;
         self.seqno = self.seqno.max(seqno);
         Ok(())
@@ -162,6 +168,7 @@ impl Line {
         ensures ok { OnOk result (IsEdited self.old (set_run i run.now attrs.now self.old.cells) seqno self.new) }
         ensures err { OnErr result (IsUnchanged self.old self.new) }
     {
+        self.zones = None;
         self.storage.set_run(i, run, attrs)?;
         self.seqno = self.seqno.max(seqno);
         Ok(())
@@ -176,6 +183,7 @@ impl Line {
     {
         let kept = self.storage.kept_len();
         if kept > 0 && kept < self.len() {
+            self.zones = None;
             self.storage.truncate(kept)?;
             self.seqno = self.seqno.max(seqno);
         }
@@ -187,6 +195,7 @@ impl Line {
         ensures ok { OnOk result (Fills self.old (to - from) from blank seqno self.new) }
         ensures err { OnErr result (IsUnchanged self.old self.new) }
     {
+        self.zones = None;
         self.storage.set_blanks(from, to)?;
         if from < to {
             self.seqno = self.seqno.max(seqno);
@@ -302,6 +311,7 @@ impl Clone for Line {
             storage,
             seqno: self.seqno,
             bits: self.bits,
+            zones: None,
         })
     }
 }

@@ -1,0 +1,51 @@
+-- Zones: the visible cells are cut where their semantic type changes.
+use Rattle.std.specs.declared.alloc.Global.{Global}
+use Rattle.std.specs.Prelude.{◌≡◌, ◌≢◌, ℕ, List, [], ◌∷◌, map, Option, Some, None, Vec}
+use Rattle.termwiz_cell.specs.CellValue.{CellValue, blank}
+use Rattle.termwiz_cell.specs.declared.cell.style.SemanticType.{SemanticType}
+use Rattle.termwiz_cell.specs.declared.cell.style.SemanticType.TheVariants.{Output}
+use Rattle.termwiz_storage.specs.Stored.{visible}
+use Rattle.termwiz_line.specs.declared.line.line.zones.ZoneRange.{ZoneRange}
+use Rattle.termwiz_line.specs.Pieces.{IsCut, AreEqualBy}
+use Rattle.termwiz_line.specs.Trim.{IsTrimmed}
+
+abbrev pub semantic : ℕ × CellValue → SemanticType
+semantic c = c.1.attrs.semantic_type
+
+abbrev pub first_index : List (ℕ × CellValue) → ℕ
+first_index [] = 0
+first_index (c ∷ cs) = c.0
+
+abbrev pub last_index : List (ℕ × CellValue) → ℕ
+last_index [] = 0
+last_index (c ∷ []) = c.0
+last_index (c ∷ d ∷ ds) = last_index (d ∷ ds)
+
+abbrev pub semantic_of : List (ℕ × CellValue) → SemanticType
+semantic_of [] = Output
+semantic_of (c ∷ cs) = semantic c
+
+-- from the index of a piece's first cell to that of its last
+abbrev pub zone_of : List (ℕ × CellValue) → ZoneRange
+zone_of p = record { semantic_type = semantic_of p; range = record { start = first_index p; end = last_index p } }
+
+-- the zones of the longest pieces of one semantic type
+pub record AreZonesOf (cells : List (ℕ × CellValue)) (zones : List ZoneRange) : Type 0 where
+  pub pieces : List (List (ℕ × CellValue))
+  pub cut : IsCut (AreEqualBy semantic) cells pieces
+  pub zones_are : zones ≡ map zone_of pieces
+
+abbrev pub IsBlank : ℕ × CellValue → Type 0
+IsBlank c = c.1 ≡ blank
+
+-- the zones of visible cells: of those up to the last that isn't a default blank, or of all where all are
+pub record AreZones (cells : List (ℕ × CellValue)) (zones : List ZoneRange) : Type 0 where
+  pub kept : List (ℕ × CellValue)
+  pub trimmed : IsTrimmed IsBlank cells kept
+  pub of_kept : kept ≢ [] → AreZonesOf kept zones
+  pub of_all : kept ≡ [] → AreZonesOf cells zones
+
+-- zones that are kept from before are those of the stored cells
+abbrev pub AreUpToDate : Option (Vec ZoneRange Global) → List CellValue → Type 0
+AreUpToDate None cells = Unit {0}
+AreUpToDate (Some zones) cells = AreZones (visible cells) zones.items

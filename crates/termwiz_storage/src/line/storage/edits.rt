@@ -1,5 +1,6 @@
 //! Edits that move the stored cells.
 ghost use Rattle.std.specs.Prelude.{◌≡◌, ◌≤◌, ◌++◌, true, take, drop, replicate, IsOk, IfOk, OnOk, OnErr};
+ghost use Rattle.termwiz_cell.specs.CellValue.{blank_of};
 ghost use Rattle.termwiz_storage.specs.Stored.{visible};
 ghost use Rattle.termwiz_storage.specs.Edits.{columns_between, erased, erased_within, inserted, removed, with_halves};
 ghost use Rattle.termwiz_storage.specs.Storage.{cells_of, is_vector};
@@ -17,6 +18,26 @@ impl CellStorage {
     {
         let storage = VecStorage::copies(alloc, len, cell)?;
         Ok(CellStorage::V(storage))
+    }
+
+    /// Makes the list this many blanks with these attributes, in a vector. On an error the cells are as before.
+    pub fn clear_to(
+        &mut self,
+        alloc: Global,
+        len: usize,
+        attrs: CellAttributes,
+    ) -> Result<(), AllocError>
+        ensures ok { OnOk result (cells_of self.new ≡ replicate len (blank_of attrs)) }
+        ensures err { OnErr result (cells_of self.new ≡ cells_of self.old) }
+        ensures vector { is_vector self.old ≡ true → is_vector self.new ≡ true }
+        ensures made { OnOk result (is_vector self.new ≡ true) }
+    {
+        if attrs.is_blank() {
+            self.blank_out(len)?;
+            return Ok(());
+        }
+        *self = CellStorage::copies(alloc, len, Cell::blank_with_attrs(attrs))?;
+        Ok(())
     }
 
     /// Removes the cell at a column, where there is one. A wide cell that this cuts becomes a blank with its attributes.

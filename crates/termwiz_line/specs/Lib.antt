@@ -4,6 +4,8 @@ pub mod Zones
 pub mod LineFlags
 pub mod Directions
 pub mod LineValue
+pub mod LineEdits
+pub mod Lending
 pub mod LineEq
 pub mod Filled
 pub mod Row

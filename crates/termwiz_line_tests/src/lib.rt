@@ -2,6 +2,10 @@
 #![tactic(auto)]
 
 #[cfg(test)]
+mod edit_table;
+#[cfg(test)]
+mod edits;
+#[cfg(test)]
 mod flags;
 #[cfg(test)]
 mod lines;

@@ -27,6 +27,7 @@ use termwiz_cell::change::{Change, SequenceNo};
 use termwiz_storage::line::cellref::VisibleCellIter;
 use termwiz_storage::line::storage::CellStorage;
 
+mod edits;
 mod flags;
 mod zones;
 

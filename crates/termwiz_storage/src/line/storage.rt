@@ -13,6 +13,8 @@ ghost use Rattle.termwiz_storage.specs.Halves.{resized};
 ghost use Rattle.termwiz_storage.specs.Storage.{cells_of, is_vector, same_cells};
 ghost use Rattle.termwiz_storage.specs.Lending.{LendsVector};
 
+mod edits;
+
 use crate::line::cellref::VisibleCellIter;
 use crate::line::vecstorage::VecStorage;
 use std::alloc::AllocError;

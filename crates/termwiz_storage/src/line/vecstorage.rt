@@ -14,6 +14,8 @@ ghost use Rattle.termwiz_storage.specs.CellLists.{cells_eq, cells_eq-Decides};
 ghost use Rattle.std.specs.Borrow.{sem};
 ghost use Rattle.termwiz_storage.specs.Lending.{LendsCells};
 
+mod edits;
+
 use crate::line::cellref::CellRef;
 use std::alloc::{AllocError, Global};
 use std::marker::Model;
@@ -390,6 +392,7 @@ fn pad_cells(cells: &mut Vec<Cell>, len: usize) -> Result<(), AllocError>
     ensures ok { OnOk result (cells.new.items ≡ padded len cells.old.items) }
     ensures err { OnErr result (cells.new.items ≡ cells.old.items) }
     ensures succeeds { len ≤ vec_capacity cells.old → IsOk result }
+    ensures capacity { vec_capacity cells.old ≤ vec_capacity cells.new }
 {
     let have = cells.len();
     if have < len {

@@ -1,8 +1,11 @@
 pub mod Pieces
 pub mod Trim
 pub mod Zones
+pub mod Wrapped
+pub mod Clicks
 pub mod LineFlags
 pub mod LineValue
+pub mod LineLending
 pub mod LineEq
 pub mod Filled
 pub mod Row

@@ -4,6 +4,7 @@ pub mod Zones
 pub mod Wrapped
 pub mod Clicks
 pub mod LineFlags
+pub mod Directions
 pub mod LineValue
 pub mod LineLending
 pub mod LineEq

@@ -1,6 +1,5 @@
 -- The flags of a line: its size, and how its direction is told.
-use Rattle.std.specs.Prelude.{ℕ, ◌+◌, Bool, false, cond, ◌==◌, ◌&&◌}
-use Rattle.std.specs.Bool.{beq}
+use Rattle.std.specs.Prelude.{ℕ, ◌+◌, Bool, false, cond, ◌==◌}
 use Rattle.std.specs.Int.RustNames.{bit_and}
 
 pub record LineFlags : Type 0 where
@@ -28,3 +27,10 @@ flags_of n = record {
 -- the number that has the bits of these flags alone
 abbrev pub bits_of : LineFlags → ℕ
 bits_of f = cond f.bidi_enabled 1 0 + (cond f.double_width 16 0 + (cond f.double_height_top 32 0 + (cond f.double_height_bottom 64 0 + (cond f.right_to_left 128 0 + cond f.auto_detect 256 0))))
+
+-- how large the cells are shown: twice as wide, and then also two rows high, of which this is the upper or the lower one
+abbrev pub with_sizes : Bool → Bool → Bool → LineFlags → LineFlags
+with_sizes double_width top bottom f = record f { double_width = double_width; double_height_top = top; double_height_bottom = bottom }
+
+abbrev pub with_direction : Bool → Bool → LineFlags → LineFlags
+with_direction right_to_left auto f = record f { right_to_left = right_to_left; auto_detect = auto }

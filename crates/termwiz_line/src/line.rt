@@ -1,3 +1,4 @@
 //! A line, and the changes that print it.
+pub mod bidi;
 pub mod line;
 mod linebits;

@@ -2,6 +2,8 @@
 #![tactic(auto)]
 
 #[cfg(test)]
+mod flags;
+#[cfg(test)]
 mod lines;
 #[cfg(test)]
 mod visible_cells;

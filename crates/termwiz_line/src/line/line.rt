@@ -28,6 +28,7 @@ use termwiz_storage::line::cellref::VisibleCellIter;
 use termwiz_storage::line::storage::CellStorage;
 
 mod clicks;
+mod flags;
 mod wrapped;
 mod zones;
 
@@ -123,13 +124,6 @@ impl Line {
         let mut storage = CellStorage::V(self.storage.to_vec()?);
         storage.resize(width)?;
         Ok(Line::of(self.alloc, storage, seqno))
-    }
-
-    /// The number of the last change.
-    pub fn current_seqno(&self) -> SequenceNo
-        ensures { result ≡ self.now.seqno }
-    {
-        self.seqno
     }
 
     /// Sets the cell at a column. The line is padded with default blanks so far, a wide cell that is cut leaves a blank with its attributes, and the half of a wide cell follows it.

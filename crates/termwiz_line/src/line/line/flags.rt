@@ -1,0 +1,146 @@
+//! The number of a line, and its flags: how large its characters are, and the direction of its text.
+ghost use Rattle.std.specs.Prelude.{◌≡◌, ◌<◌, ◌↔◌, ◌&&◌, ◌||◌, ◌⊎◌, IsTrue, false, max, not, true};
+ghost use Rattle.termwiz_line.specs.Directions.{goes_left, is_auto, is_right_to_left};
+ghost use Rattle.termwiz_line.specs.LineFlags.{with_direction, with_sizes};
+
+use crate::line::bidi::{Direction, ParagraphDirectionHint};
+use crate::line::line::Line;
+use crate::line::linebits::LineBits;
+use bitflags::Flags;
+use termwiz_cell::change::{SEQ_ZERO, SequenceNo};
+
+impl Line {
+    /// The number of the last change.
+    pub fn current_seqno(&self) -> SequenceNo
+        ensures { result ≡ self.now.seqno }
+    {
+        self.seqno
+    }
+
+    /// Whether the line has changed since this number. One with the number 0 always counts as changed.
+    pub fn changed_since(&self, seqno: SequenceNo) -> bool
+        ensures { IsTrue result ↔ ((self.now.seqno ≡ 0) ⊎ (seqno < self.now.seqno)) }
+    {
+        self.seqno == SEQ_ZERO || self.seqno > seqno
+    }
+
+    /// Takes the number: the line keeps the greater of it and its own.
+    pub fn update_last_change_seqno(&mut self, seqno: SequenceNo)
+        ensures { self.new ≡ record self.old { seqno = max self.old.seqno seqno } }
+    {
+        self.seqno = self.seqno.max(seqno);
+    }
+
+    /// Whether each cell is shown one column wide and one row high.
+    pub fn is_single_width(&self) -> bool
+        ensures { result ≡ not (self.now.flags.double_width || self.now.flags.double_height_top || self.now.flags.double_height_bottom) }
+    {
+        !(self.bits.contains(LineBits::DOUBLE_WIDTH)
+            || self.bits.contains(LineBits::DOUBLE_HEIGHT_TOP)
+            || self.bits.contains(LineBits::DOUBLE_HEIGHT_BOTTOM))
+    }
+
+    /// Shows each cell one column wide and one row high. The line takes the number.
+    pub fn set_single_width(&mut self, seqno: SequenceNo)
+        ensures { self.new ≡ record self.old { flags = with_sizes false false false self.old.flags; seqno = max self.old.seqno seqno } }
+    {
+        self.bits.set_sizes(false, false, false);
+        self.seqno = self.seqno.max(seqno);
+    }
+
+    /// Whether each cell is shown twice as wide, and one row high.
+    pub fn is_double_width(&self) -> bool
+        ensures { result ≡ (self.now.flags.double_width && not self.now.flags.double_height_top && not self.now.flags.double_height_bottom) }
+    {
+        self.bits.contains(LineBits::DOUBLE_WIDTH)
+            && !self.bits.contains(LineBits::DOUBLE_HEIGHT_TOP)
+            && !self.bits.contains(LineBits::DOUBLE_HEIGHT_BOTTOM)
+    }
+
+    /// Shows each cell twice as wide, and one row high. The line takes the number.
+    pub fn set_double_width(&mut self, seqno: SequenceNo)
+        ensures { self.new ≡ record self.old { flags = with_sizes true false false self.old.flags; seqno = max self.old.seqno seqno } }
+    {
+        self.bits.set_sizes(true, false, false);
+        self.seqno = self.seqno.max(seqno);
+    }
+
+    /// Whether the line shows the upper half of cells that are twice as wide and two rows high.
+    pub fn is_double_height_top(&self) -> bool
+        ensures { result ≡ (self.now.flags.double_width && self.now.flags.double_height_top && not self.now.flags.double_height_bottom) }
+    {
+        self.bits.contains(LineBits::DOUBLE_WIDTH)
+            && self.bits.contains(LineBits::DOUBLE_HEIGHT_TOP)
+            && !self.bits.contains(LineBits::DOUBLE_HEIGHT_BOTTOM)
+    }
+
+    /// Shows the upper half of cells that are twice as wide and two rows high. The line takes the number.
+    pub fn set_double_height_top(&mut self, seqno: SequenceNo)
+        ensures { self.new ≡ record self.old { flags = with_sizes true true false self.old.flags; seqno = max self.old.seqno seqno } }
+    {
+        self.bits.set_sizes(true, true, false);
+        self.seqno = self.seqno.max(seqno);
+    }
+
+    /// Whether the line shows the lower half of cells that are twice as wide and two rows high.
+    pub fn is_double_height_bottom(&self) -> bool
+        ensures { result ≡ (self.now.flags.double_width && not self.now.flags.double_height_top && self.now.flags.double_height_bottom) }
+    {
+        self.bits.contains(LineBits::DOUBLE_WIDTH)
+            && !self.bits.contains(LineBits::DOUBLE_HEIGHT_TOP)
+            && self.bits.contains(LineBits::DOUBLE_HEIGHT_BOTTOM)
+    }
+
+    /// Shows the lower half of cells that are twice as wide and two rows high. The line takes the number.
+    pub fn set_double_height_bottom(&mut self, seqno: SequenceNo)
+        ensures { self.new ≡ record self.old { flags = with_sizes true false true self.old.flags; seqno = max self.old.seqno seqno } }
+    {
+        self.bits.set_sizes(true, false, true);
+        self.seqno = self.seqno.max(seqno);
+    }
+
+    /// Says whether who shows the line may lay out its text by the bidirectional algorithm. The line takes the number.
+    pub fn set_bidi_enabled(&mut self, enabled: bool, seqno: SequenceNo)
+        ensures { self.new ≡ record self.old { flags = record self.old.flags { bidi_enabled = enabled }; seqno = max self.old.seqno seqno } }
+    {
+        self.bits.set_bidi_enabled(enabled);
+        self.seqno = self.seqno.max(seqno);
+    }
+
+    /// Sets the direction of the text, and whether the text itself is asked first. The line takes the number.
+    pub fn set_direction(&mut self, direction: Direction, auto_detect: bool, seqno: SequenceNo)
+        ensures { self.new ≡ record self.old { flags = with_direction (goes_left direction) auto_detect self.old.flags; seqno = max self.old.seqno seqno } }
+    {
+        self.bits
+            .set_direction(direction == Direction::RightToLeft, auto_detect);
+        self.seqno = self.seqno.max(seqno);
+    }
+
+    /// Sets both: whether the bidirectional algorithm may lay out the text, and what decides its direction. The line takes the number.
+    pub fn set_bidi_info(
+        &mut self,
+        enabled: bool,
+        direction: ParagraphDirectionHint,
+        seqno: SequenceNo,
+    )
+        ensures { self.new ≡ record self.old { flags = with_direction (is_right_to_left direction) (is_auto direction) (record self.old.flags { bidi_enabled = enabled }); seqno = max self.old.seqno seqno } }
+    {
+        self.bits.set_bidi_enabled(enabled);
+        self.bits
+            .set_direction(direction.is_right_to_left(), direction.is_auto());
+        self.seqno = self.seqno.max(seqno);
+    }
+
+    /// Whether the bidirectional algorithm may lay out the text, and what decides its direction.
+    pub fn bidi_info(&self) -> (bool, ParagraphDirectionHint)
+        ensures enabled { result.0 ≡ self.now.flags.bidi_enabled }
+        ensures direction { is_right_to_left result.1 ≡ self.now.flags.right_to_left }
+        ensures auto { is_auto result.1 ≡ self.now.flags.auto_detect }
+    {
+        let hint = ParagraphDirectionHint::new(
+            self.bits.contains(LineBits::RTL),
+            self.bits.contains(LineBits::AUTO_DETECT_DIRECTION),
+        );
+        (self.bits.contains(LineBits::BIDI_ENABLED), hint)
+    }
+}

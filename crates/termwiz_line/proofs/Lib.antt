@@ -6,6 +6,7 @@ pub mod Trims
 pub mod Zoning
 pub mod Zoned
 pub mod LastWrapped
+pub mod LastMarked
 pub mod Clicking
 pub mod Fills
 pub mod RowPainting

@@ -2,9 +2,10 @@
 use Rattle.std.proofs.Common.{◌≡◌, ◌≢◌, ℕ, List, [], ◌∷◌, ◌++◌, map, refl, sym, ◌∙◌, ap}
 use Rattle.std.proofs.lemmas.List.{map-append}
 use Rattle.termwiz_cell.specs.CellValue.{CellValue}
+use Rattle.termwiz_storage.specs.Wrapped.{last_index}
 use Rattle.termwiz_line.specs.declared.line.line.zones.ZoneRange.{ZoneRange}
 use Rattle.termwiz_line.specs.Pieces.{AreEqualBy}
-use Rattle.termwiz_line.specs.Zones.{semantic, zone_of, semantic_of, first_index, last_index, AreZonesOf}
+use Rattle.termwiz_line.specs.Zones.{semantic, zone_of, semantic_of, first_index, AreZonesOf}
 use Rattle.termwiz_line.proofs.EqualBy.{AreEqualBy-closed, AreEqualBy-grows, AreEqualBy-ends}
 use Rattle.termwiz_line.proofs.Ends.{not_nil-append}
 use Rattle.termwiz_line.proofs.Cuts.{IsUnderWay, under_way-start, under_way-grows, under_way-ends, under_way-done}

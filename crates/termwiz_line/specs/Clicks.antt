@@ -2,9 +2,9 @@
 use Rattle.std.specs.Prelude.{◌≡◌, ◌≢◌, ℕ, ◌+◌, Bool, true, false, List, [], ◌∷◌, ◌++◌, filter, nat_le}
 use Rattle.std.specs.List.{All}
 use Rattle.termwiz_cell.specs.CellValue.{CellValue}
+use Rattle.termwiz_storage.specs.Wrapped.{last_index}
 use Rattle.termwiz_line.specs.declared.line.line.clicks.DoubleClickRange.{DoubleClickRange}
 use Rattle.termwiz_line.specs.declared.line.line.clicks.DoubleClickRange.TheVariants.{Range as Plain, RangeWithWrap}
-use Rattle.termwiz_line.specs.Zones.{last_index}
 
 -- a predicate answers as a test of texts does
 abbrev pub AnswersAs : (List ℕ → Bool → Type 0) → (List ℕ → Bool) → Type 0

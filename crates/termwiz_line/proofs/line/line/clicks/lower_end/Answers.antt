@@ -1,4 +1,4 @@
-use Rattle.std.proofs.Common.{ℕ, ◌∷◌, ◌∙◌}
+use Rattle.std.proofs.Common.{ℕ, ◌∷◌}
 use Rattle.termwiz_cell.specs.CellValue.{CellValue}
 use Rattle.termwiz_storage.specs.CellRef.{indexed_cell}
 use Rattle.termwiz_storage.specs.CellsLeft.{cells_left}

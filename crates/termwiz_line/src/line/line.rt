@@ -27,10 +27,13 @@ use termwiz_cell::change::{Change, SequenceNo};
 use termwiz_storage::line::cellref::VisibleCellIter;
 use termwiz_storage::line::storage::CellStorage;
 
+mod clicks;
 mod edits;
 mod flags;
+mod wrapped;
 mod zones;
 
+pub use clicks::DoubleClickRange;
 pub use zones::ZoneRange;
 
 /// A line of cells by itself: a row of a copied screen is one, and so may be what a program keeps of rows that have scrolled away.

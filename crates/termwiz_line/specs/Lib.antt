@@ -10,6 +10,7 @@ pub mod LineEdits
 pub mod Lending
 pub mod LineEq
 pub mod Filled
+pub mod Texts
 pub mod Row
 pub mod Shows
 pub mod Entries

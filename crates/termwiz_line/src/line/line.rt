@@ -30,6 +30,7 @@ use termwiz_storage::line::storage::CellStorage;
 mod clicks;
 mod edits;
 mod flags;
+mod texts;
 mod wrapped;
 mod zones;
 

@@ -1,3 +1,13 @@
+pub mod Takes
+pub mod Ends
+pub mod Cuts
+pub mod EqualBy
+pub mod Trims
+pub mod Zoning
+pub mod Zoned
+pub mod LastWrapped
+pub mod LastMarked
+pub mod Clicking
 pub mod Fills
 pub mod RowPainting
 pub mod RowVisible

@@ -1,5 +1,7 @@
 -- The walk of stored cells meets no more cells than there are, at growing indices.
-use Rattle.std.proofs.Common.{ℕ, zero, suc, ◌+◌, ◌-◌, ◌≤◌, List, [], ◌∷◌, length, arith, subst}
+use Rattle.std.proofs.Common.{ℕ, zero, suc, ◌+◌, ◌-◌, ◌<◌, ◌≤◌, List, [], ◌∷◌, length, arith, subst}
+use Rattle.std.specs.List.{All}
+use Rattle.std.proofs.lemmas.List.Elements.{All-nil, All-cons}
 use Rattle.termwiz_cell.specs.CellValue.{CellValue, columns}
 use Rattle.termwiz_storage.specs.Stored.{visible_from}
 use Rattle.termwiz_storage.proofs.Widths.{columns_bounds}
@@ -14,3 +16,8 @@ walk_grows i zero (c ∷ cs) =
 walk_grows i (suc k) (c ∷ cs) =
     let rest = walk_grows (i + 1) k cs in
     (omega (arith, rest.0), subst (λ n. AreGrowing n (visible_from (i + 1) k cs)) (omega arith) rest.1)
+
+pub walk_within : (n i skip : ℕ) (cs : List CellValue) → i + length cs ≤ n → All (λ p. p.0 < n) (visible_from i skip cs)
+walk_within n i skip [] h = All-nil (λ (p : ℕ × CellValue). p.0 < n)
+walk_within n i zero (c ∷ cs) h = All-cons (λ (p : ℕ × CellValue). p.0 < n) (i, c) (visible_from (i + 1) (columns c - 1) cs) (omega arith) (walk_within n (i + 1) (columns c - 1) cs (omega arith))
+walk_within n i (suc k) (c ∷ cs) h = walk_within n (i + 1) k cs (omega arith)

@@ -1,6 +1,8 @@
 pub mod Pieces
 pub mod Trim
 pub mod Zones
+pub mod Wrapped
+pub mod Clicks
 pub mod LineFlags
 pub mod Directions
 pub mod LineValue

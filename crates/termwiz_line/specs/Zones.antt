@@ -5,6 +5,7 @@ use Rattle.termwiz_cell.specs.CellValue.{CellValue, blank}
 use Rattle.termwiz_cell.specs.declared.cell.style.SemanticType.{SemanticType}
 use Rattle.termwiz_cell.specs.declared.cell.style.SemanticType.TheVariants.{Output}
 use Rattle.termwiz_storage.specs.Stored.{visible}
+use Rattle.termwiz_storage.specs.Wrapped.{last_index}
 use Rattle.termwiz_line.specs.declared.line.line.zones.ZoneRange.{ZoneRange}
 use Rattle.termwiz_line.specs.Pieces.{IsCut, AreEqualBy}
 use Rattle.termwiz_line.specs.Trim.{IsTrimmed}
@@ -15,11 +16,6 @@ semantic c = c.1.attrs.semantic_type
 abbrev pub first_index : List (ℕ × CellValue) → ℕ
 first_index [] = 0
 first_index (c ∷ cs) = c.0
-
-abbrev pub last_index : List (ℕ × CellValue) → ℕ
-last_index [] = 0
-last_index (c ∷ []) = c.0
-last_index (c ∷ d ∷ ds) = last_index (d ∷ ds)
 
 abbrev pub semantic_of : List (ℕ × CellValue) → SemanticType
 semantic_of [] = Output

@@ -12,7 +12,7 @@ ghost use Rattle.termwiz_storage.specs.CellsLeft.{cells_left};
 ghost use Rattle.termwiz_storage.specs.Storage.{cells_of, is_vector};
 ghost use Rattle.termwiz_line.specs.LineFlags.{no_flags};
 ghost use Rattle.termwiz_line.specs.LineValue.{IsEdited, IsUnchanged, Prunes};
-ghost use Rattle.termwiz_line.specs.Filled.{Fills, FillsAs, IsFilled, IsPartlyFilled};
+ghost use Rattle.termwiz_line.specs.Filled.{Fills, IsFilled, IsPartlyFilled};
 ghost use Rattle.termwiz_cell.specs.ChangeValue.{change_value};
 ghost use Rattle.termwiz_line.specs.Entries.{row_entries};
 ghost use Rattle.termwiz_line.specs.LineEq.{contents_eq, contents_eq-Decides, flags_eq, line_contents, line_eq};
@@ -27,10 +27,13 @@ use termwiz_cell::change::{Change, SequenceNo};
 use termwiz_storage::line::cellref::VisibleCellIter;
 use termwiz_storage::line::storage::CellStorage;
 
+mod clicks;
 mod edits;
 mod flags;
+mod wrapped;
 mod zones;
 
+pub use clicks::DoubleClickRange;
 pub use zones::ZoneRange;
 
 /// A line of cells by itself: a row of a copied screen is one, and so may be what a program keeps of rows that have scrolled away.
@@ -242,7 +245,6 @@ impl Line {
         seqno: SequenceNo,
     ) -> Result<(), AllocError>
         ensures ok { OnOk result (IsFilled self.old range.start range.end cell.now seqno self.new) }
-        ensures form { range.start < range.end → ((self.old.cells ≡ []) × (cell.now ≡ blank) → ⊥) → OnOk result (FillsAs range.start range.end cell.now self.old.cells self.new.cells) }
         ensures err { OnErr result (IsPartlyFilled self.old range.start range.end cell.now seqno self.new) }
     {
         if self.stays_empty(cell) {

@@ -1,5 +1,5 @@
 //! Where a line keeps its cells, and all that edits them.
-ghost use Rattle.std.specs.Prelude.{◌≡◌, ◌-◌, ◌≤◌, [], ◌↔◌, false, true, length, option_map, replicate, take, IsTrue, IsOk, IfOk, OnOk, OnErr, Some, None, if◌then◌else◌};
+ghost use Rattle.std.specs.Prelude.{◌≡◌, ◌-◌, ◌<◌, ◌≤◌, [], ◌↔◌, false, true, length, option_map, replicate, take, IsTrue, IsOk, IfOk, OnOk, OnErr, Some, None, if◌then◌else◌};
 ghost use Rattle.std.specs.Borrow.{sem};
 ghost use Rattle.std.specs.Cmp.{decided, on_equiv, on_per, partial_equiv_from_equiv};
 ghost use Rattle.std.specs.List.{list_all};
@@ -12,6 +12,7 @@ ghost use Rattle.termwiz_storage.specs.Stored.{visible, fill, set_cell, set_run,
 ghost use Rattle.termwiz_storage.specs.Halves.{resized};
 ghost use Rattle.termwiz_storage.specs.Storage.{cells_of, is_vector, same_cells};
 ghost use Rattle.termwiz_storage.specs.Lending.{LendsVector};
+ghost use Rattle.termwiz_storage.specs.Wrapped.{set_last_wrapped};
 
 mod edits;
 
@@ -164,6 +165,20 @@ impl CellStorage {
     {
         match self {
             CellStorage::V(storage) => storage.truncate(len),
+        }
+        Ok(())
+    }
+
+    /// Marks the last visible cell and the stored cell that it hides as wrapped, or not. An empty list first gets a default blank.
+    /// On an error the cells are as before.
+    pub fn set_last_wrapped(&mut self, wrapped: bool) -> Result<(), AllocError>
+        ensures ok { OnOk result (cells_of self.new ≡ set_last_wrapped wrapped (cells_of self.old)) }
+        ensures err { OnErr result (cells_of self.new ≡ cells_of self.old) }
+        ensures succeeds { is_vector self.old ≡ true → 0 < length (cells_of self.old) → IsOk result }
+        ensures vector { is_vector self.old ≡ true → is_vector self.new ≡ true }
+    {
+        match self {
+            CellStorage::V(storage) => storage.set_last_wrapped(wrapped)?,
         }
         Ok(())
     }

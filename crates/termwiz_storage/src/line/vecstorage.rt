@@ -23,6 +23,8 @@ use std::ops::{DerefSlice, DerefSliceMut};
 use std::{mem, slice};
 use termwiz_cell::cell::{Cell, CellAttributes};
 
+mod wrapped;
+
 /// The cells of a line, each with a place of its own.
 #[derive(Drop, Debug)]
 pub struct VecStorage {

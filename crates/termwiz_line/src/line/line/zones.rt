@@ -1,6 +1,20 @@
 //! Zones: the runs of cells of one semantic type.
+ghost use Rattle.std.specs.Prelude.{◌≡◌, ◌<◌, ◌^◌, ◌↔◌, ◌∷◌, [], IsTrue, IfOk, length, take};
+ghost use Rattle.std.specs.Borrow.{sem};
+ghost use Rattle.termwiz_storage.specs.CellRef.{indexed_cell};
+ghost use Rattle.termwiz_storage.specs.CellsLeft.{cells_left};
+ghost use Rattle.termwiz_storage.specs.Storage.{cells_of};
+ghost use Rattle.termwiz_storage.specs.Stored.{visible};
+ghost use Rattle.termwiz_line.specs.Lending.{KeepsLine};
+ghost use Rattle.termwiz_line.specs.Trim.{IsTrimmed};
+ghost use Rattle.termwiz_line.specs.Zones.{AreZones, AreZonesOf, IsBlank, semantic, zone_of};
+
+use super::Line;
+use std::alloc::{AllocError, Global};
 use std::ops::Range;
 use termwiz_cell::cell::SemanticType;
+use termwiz_storage::line::cellref::{CellRef, VisibleCellIter};
+use termwiz_storage::line::storage::CellStorage;
 
 /// A run of visible cells of one semantic type.
 #[derive(Clone, Debug, PartialEq, Eq, Drop)]
@@ -9,4 +23,99 @@ pub struct ZoneRange {
     pub semantic_type: SemanticType,
     /// From the column of the first cell to that of the last: the zone of one cell is an empty range.
     pub range: Range<usize>,
+}
+
+impl Line {
+    /// The runs of visible cells of one semantic type, in order, up to the last cell that isn't a default blank. Where all are, they are in a zone too.
+    /// They are kept until the next edit. The line is as before, also on an error.
+    pub fn semantic_zone_ranges(&mut self) -> Result<&[ZoneRange], AllocError>
+        ensures* unchanged { sem 𝓛 (KeepsLine self.entry) }
+        ensures value { IfOk result (λ zones. AreZones (visible self.old.cells) zones.now) }
+    {
+        if self.zones.is_none() {
+            let zones = zones_of(self.alloc, &self.storage)?;
+            self.zones = Some(zones);
+        }
+        match &self.zones {
+            Some(zones) => Ok(zones),
+            None => Ok(&[]),
+        }
+    }
+}
+
+// The zones of the visible cells.
+fn zones_of(alloc: Global, storage: &CellStorage) -> Result<Vec<ZoneRange>, AllocError>
+    ensures { IfOk result (λ zones. AreZones (visible (cells_of storage.now)) zones.items) }
+{
+    let len = storage.len();
+    let kept = kept_count(storage.iter());
+    let mut rest = storage.iter();
+    match rest.next() {
+        None => Ok(Vec::new(alloc)),
+        Some(first) => {
+            let count = if kept == 0 { len } else { kept - 1 };
+            zones_from(alloc, first, rest, count)
+        }
+    }
+}
+
+// How many visible cells there are up to the last that isn't a default blank.
+fn kept_count(cells: VisibleCellIter<'_>) -> usize
+    requires { length (cells_left cells) < 2 ^ 64 }
+    ensures { IsTrimmed IsBlank (cells_left cells.entry) (take result (cells_left cells.entry)) }
+{
+    let mut seen = 0;
+    let mut kept = 0;
+    for cell in cells {
+        seen += 1;
+        if !cell.is_blank() {
+            kept = seen;
+        }
+    }
+    kept
+}
+
+// The zones of a cell and of those after it, up to a count.
+fn zones_from(
+    alloc: Global,
+    first: CellRef<'_>,
+    rest: VisibleCellIter<'_>,
+    count: usize,
+) -> Result<Vec<ZoneRange>, AllocError>
+    ensures { IfOk result (λ zones. AreZonesOf (indexed_cell first.entry ∷ take count (cells_left rest.entry)) zones.items) }
+{
+    let mut zones = Vec::new(alloc);
+    let mut zone = zone_at(first);
+    let mut left = count;
+    for cell in rest {
+        if left == 0 {
+            break;
+        }
+        left -= 1;
+        if has_type(cell, zone.semantic_type) {
+            zone.range.end = cell.cell_index();
+        } else {
+            zones.push(zone)?;
+            zone = zone_at(cell);
+        }
+    }
+    zones.push(zone)?;
+    Ok(zones)
+}
+
+fn has_type(cell: CellRef<'_>, semantic_type: SemanticType) -> bool
+    ensures { IsTrue result ↔ (semantic (indexed_cell cell.entry) ≡ semantic_type) }
+{
+    cell.attrs().semantic_type() == semantic_type
+}
+
+// The zone of a cell alone.
+fn zone_at(cell: CellRef<'_>) -> ZoneRange
+    ensures { result ≡ zone_of (indexed_cell cell.entry ∷ []) }
+{
+    let index = cell.cell_index();
+    ZoneRange {
+        semantic_type: cell.attrs().semantic_type(),
+        range: index..index,
+    }
 }

@@ -1,0 +1,67 @@
+-- The state of a walk that finds zones.
+use Rattle.std.proofs.Common.{◌≡◌, ◌≢◌, ℕ, List, [], ◌∷◌, ◌++◌, map, refl, sym, ◌∙◌, ap}
+use Rattle.std.proofs.lemmas.List.{map-append}
+use Rattle.termwiz_cell.specs.CellValue.{CellValue}
+use Rattle.termwiz_storage.specs.Wrapped.{last_index}
+use Rattle.termwiz_line.specs.declared.line.line.zones.ZoneRange.{ZoneRange}
+use Rattle.termwiz_line.specs.Pieces.{AreEqualBy}
+use Rattle.termwiz_line.specs.Zones.{semantic, zone_of, semantic_of, first_index, AreZonesOf}
+use Rattle.termwiz_line.proofs.EqualBy.{AreEqualBy-closed, AreEqualBy-grows, AreEqualBy-ends}
+use Rattle.termwiz_line.proofs.Ends.{not_nil-append}
+use Rattle.termwiz_line.proofs.Cuts.{IsUnderWay, under_way-start, under_way-grows, under_way-ends, under_way-done}
+
+grows : (p : List (ℕ × CellValue)) (x : ℕ × CellValue) → p ≢ [] → semantic x ≡ semantic_of p → AreEqualBy semantic p → AreEqualBy semantic (p ++ x ∷ [])
+grows [] x s e h = absurd (s refl)
+grows (c ∷ cs) x s e h = AreEqualBy-grows semantic c x cs e h
+
+ends : (p : List (ℕ × CellValue)) (x : ℕ × CellValue) → p ≢ [] → (semantic x ≡ semantic_of p → ⊥) → AreEqualBy semantic (p ++ x ∷ []) → ⊥
+ends [] x s n h = s refl
+ends (c ∷ cs) x s n h = AreEqualBy-ends semantic c x cs n h
+
+pub last_index-push : (p : List (ℕ × CellValue)) (x : ℕ × CellValue) → last_index (p ++ x ∷ []) ≡ x.0
+last_index-push [] x = refl
+last_index-push (c ∷ []) x = refl
+last_index-push (c ∷ d ∷ ds) x = last_index-push (d ∷ ds) x
+
+zone_of-push : (p : List (ℕ × CellValue)) (x : ℕ × CellValue) → p ≢ [] → zone_of (p ++ x ∷ []) ≡ record { semantic_type = semantic_of p; range = record { start = first_index p; end = x.0 } }
+zone_of-push [] x s = absurd (s refl)
+zone_of-push (c ∷ cs) x s = rw (last_index-push (c ∷ cs) x) refl
+
+-- the state of the loop: zones that are done, and one that may grow
+pub record IsZoning (first : ℕ × CellValue) (rest left : List (ℕ × CellValue)) (zones : List ZoneRange) (zone : ZoneRange) : Type 0 where
+  pub before : List (List (ℕ × CellValue))
+  pub now : List (ℕ × CellValue)
+  pub some : now ≢ []
+  pub under_way : IsUnderWay (AreEqualBy semantic) first rest before now left
+  pub zones_are : zones ≡ map zone_of before
+  pub zone_is : zone ≡ zone_of now
+
+pub zoning-start : (first : ℕ × CellValue) (rest : List (ℕ × CellValue)) → IsZoning first rest rest [] (zone_of (first ∷ []))
+zoning-start first rest = record { before = []; now = first ∷ []; some = λ e. cc; under_way = under_way-start (AreEqualBy semantic) (AreEqualBy-closed semantic) first rest; zones_are = refl; zone_is = refl }
+
+pub zoning-grows : (first : ℕ × CellValue) (rest left : List (ℕ × CellValue)) (zones : List ZoneRange) (zone : ZoneRange) (x : ℕ × CellValue) → x.1.attrs.semantic_type ≡ zone.semantic_type → IsZoning first rest (x ∷ left) zones zone → IsZoning first rest left zones (record { semantic_type = zone.semantic_type; range = record { start = zone.range.start; end = x.0 } })
+zoning-grows first rest left zones zone x e z = record {
+  before = z.before;
+  now = z.now ++ x ∷ [];
+  some = not_nil-append z.now x [];
+  under_way = under_way-grows (AreEqualBy semantic) first rest z.before z.now left x (grows z.now x z.some (e ∙ ap (λ (r : ZoneRange). r.semantic_type) z.zone_is) z.under_way.piece) z.under_way;
+  zones_are = z.zones_are;
+  zone_is = rw z.zone_is (sym (zone_of-push z.now x z.some));
+}
+
+pub zoning-ends : (first : ℕ × CellValue) (rest left : List (ℕ × CellValue)) (zones : List ZoneRange) (zone : ZoneRange) (x : ℕ × CellValue) → (x.1.attrs.semantic_type ≡ zone.semantic_type → ⊥) → IsZoning first rest (x ∷ left) zones zone → IsZoning first rest left (zones ++ zone ∷ []) (zone_of (x ∷ []))
+zoning-ends first rest left zones zone x n z = record {
+  before = z.before ++ z.now ∷ [];
+  now = x ∷ [];
+  some = λ e. cc;
+  under_way = under_way-ends (AreEqualBy semantic) (AreEqualBy-closed semantic) first rest z.before z.now left x (ends z.now x z.some (λ e. n (e ∙ sym (ap (λ (r : ZoneRange). r.semantic_type) z.zone_is)))) z.under_way;
+  zones_are = rw (z.zones_are, z.zone_is) (sym (map-append zone_of z.before (z.now ∷ [])));
+  zone_is = refl;
+}
+
+pub zoning-done : (first : ℕ × CellValue) (rest : List (ℕ × CellValue)) (zones : List ZoneRange) (zone : ZoneRange) → IsZoning first rest [] zones zone → AreZonesOf (first ∷ rest) (zones ++ zone ∷ [])
+zoning-done first rest zones zone z = record {
+  pieces = z.before ++ z.now ∷ [];
+  cut = under_way-done (AreEqualBy semantic) (AreEqualBy-closed semantic) first rest z.before z.now z.under_way;
+  zones_are = rw (z.zones_are, z.zone_is) (sym (map-append zone_of z.before (z.now ∷ [])));
+}

@@ -1,0 +1,14 @@
+use Rattle.std.proofs.Common.{ℕ, ◌≤◌, Bool, List, IfSome}
+use Rattle.std.specs.Fn.{FnReturnsAt}
+use Rattle.termwiz_storage.specs.CellsLeft.{cells_left}
+use Rattle.termwiz_line.specs.Clicks.{AnswersAs}
+use Rattle.termwiz_line.proofs.Clicking.{IsLowering}
+use Rattle.termwiz_line.proofs.line.line.clicks.lower_end.Given as goal
+
+abbrev pub invariant-loop-cell : goal.invariant-loop-cell
+invariant-loop-cell g l = record {
+  can : (goal.iterator-loop-cell g).can_next l.cell-iterator;
+  finite : (goal.iterator-loop-cell g).is_finite l.cell-iterator;
+  at_most : IfSome l.start (λ s. s ≤ l.click);
+  agreed : (word : List ℕ → Bool) → AnswersAs (FnReturnsAt g.F.Fn l.is_word) word → IsLowering word (cells_left l.fn.cells) (cells_left l.cell-iterator) l.click l.start;
+}

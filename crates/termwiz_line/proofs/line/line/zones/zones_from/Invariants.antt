@@ -1,0 +1,12 @@
+use Rattle.std.proofs.Common.{take}
+use Rattle.termwiz_storage.specs.CellRef.{indexed_cell}
+use Rattle.termwiz_storage.specs.CellsLeft.{cells_left}
+use Rattle.termwiz_line.proofs.Zoning.{IsZoning}
+use Rattle.termwiz_line.proofs.line.line.zones.zones_from.Given as goal
+
+abbrev pub invariant-loop-cell : goal.invariant-loop-cell
+invariant-loop-cell l = record {
+  can : (goal.iterator-loop-cell).can_next l.cell-iterator;
+  finite : (goal.iterator-loop-cell).is_finite l.cell-iterator;
+  zoning : IsZoning (indexed_cell l.fn.first) (take l.fn.count (cells_left l.fn.rest)) (take l.left (cells_left l.cell-iterator)) l.zones.items l.zone;
+}

@@ -1,0 +1,107 @@
+//! What a double click selects.
+ghost use Rattle.std.specs.Prelude.{◌≡◌, ℕ, ◌<◌, ◌≤◌, ◌↔◌, Bool, IsTrue, List, false, length};
+ghost use Rattle.std.specs.Fn.{FnReturnsAt};
+ghost use Rattle.std.specs.List.{All};
+ghost use Rattle.termwiz_storage.specs.CellRef.{ref_cell};
+ghost use Rattle.termwiz_storage.specs.CellsLeft.{cells_left};
+ghost use Rattle.termwiz_storage.specs.Stored.{visible};
+ghost use Rattle.termwiz_line.specs.Clicks.{AnswersAs, IsLower, IsUpper, goes_on, lower_of, upper_of};
+ghost use Rattle.termwiz_line.specs.Wrapped.{last_is_wrapped};
+
+use super::Line;
+use std::ops;
+use termwiz_storage::line::cellref::{CellRef, VisibleCellIter};
+
+/// The columns that a double click selects: from the first up to, but without, the second.
+#[derive(Clone, Debug, PartialEq, Drop)]
+pub enum DoubleClickRange {
+    /// They lie in this line.
+    Range(ops::Range<usize>),
+    /// They go up to the end of this line, and the text goes on in the next one.
+    RangeWithWrap(ops::Range<usize>),
+}
+
+impl Line {
+    /// The columns of the word in which a double click at a column lies: from the first cell of the longest run of word cells that ends at the column or before it, up to behind the last cell of the longest run of them that starts at the column or after it.
+    /// Where there is no such cell on a side, that end is the column itself, and so are both where the column lies behind the line. It takes no memory.
+    pub fn compute_double_click_range<F: Fn(&str) -> bool>(
+        &self,
+        click_col: usize,
+        is_word: F,
+    ) -> DoubleClickRange
+        requires { F.IsAlwaysCallable is_word }
+        ensures outside { length self.now.cells ≤ click_col → (lower_of result ≡ click_col) × (upper_of result ≡ click_col) × (goes_on result ≡ false) }
+        ensures around { click_col < length self.now.cells → (lower_of result ≤ click_col) × (click_col ≤ upper_of result) × (upper_of result ≤ length self.now.cells) }
+        // For a predicate that answers the same for the same text.
+        ensures upper { click_col < length self.now.cells → (word : List ℕ → Bool) → AnswersAs (FnReturnsAt F.Fn is_word) word → IsUpper word (visible self.now.cells) click_col (upper_of result) }
+        ensures lower { click_col < length self.now.cells → (word : List ℕ → Bool) → AnswersAs (FnReturnsAt F.Fn is_word) word → IsLower word (visible self.now.cells) click_col (lower_of result) }
+        ensures wraps { click_col < length self.now.cells → (IsTrue (goes_on result) ↔ ((lower_of result < upper_of result) × (length self.now.cells ≤ upper_of result) × IsTrue (last_is_wrapped (visible self.now.cells)))) }
+    {
+        let len = self.len();
+        if click_col >= len {
+            return DoubleClickRange::Range(click_col..click_col);
+        }
+        let upper = upper_end(self.visible_cells(), click_col, &is_word, len);
+        let lower = lower_end(self.visible_cells(), click_col, &is_word);
+        if upper > lower && upper >= len && self.last_cell_was_wrapped() {
+            DoubleClickRange::RangeWithWrap(lower..upper)
+        } else {
+            DoubleClickRange::Range(lower..upper)
+        }
+    }
+}
+
+// Whether the predicate says of the cell that it belongs to a word.
+fn is_in_word<F: Fn(&str) -> bool>(cell: CellRef<'_>, is_word: &F) -> bool
+    requires { F.IsAlwaysCallable is_word.now }
+    ensures { (word : List ℕ → Bool) → AnswersAs (FnReturnsAt F.Fn is_word.now) word → result ≡ word (ref_cell cell.entry).text }
+{
+    is_word(cell.str())
+}
+
+// Where the word ends that the click is in.
+fn upper_end<F: Fn(&str) -> bool>(
+    cells: VisibleCellIter<'_>,
+    click: usize,
+    is_word: &F,
+    len: usize,
+) -> usize
+    requires callable { F.IsAlwaysCallable is_word.now }
+    requires indices { All (λ p. p.0 < len) (cells_left cells) }
+    requires click { click < len }
+    ensures at_least { click ≤ result }
+    ensures at_most { result ≤ len }
+    ensures agreed { (word : List ℕ → Bool) → AnswersAs (FnReturnsAt F.Fn is_word.now) word → IsUpper word (cells_left cells.entry) click result }
+{
+    let mut upper = click;
+    for cell in cells {
+        let index = cell.cell_index();
+        if index >= click {
+            if !is_in_word(cell, is_word) {
+                break;
+            }
+            upper = index + 1;
+        }
+    }
+    upper
+}
+
+// Where the word starts that the click is in.
+fn lower_end<F: Fn(&str) -> bool>(cells: VisibleCellIter<'_>, click: usize, is_word: &F) -> usize
+    requires callable { F.IsAlwaysCallable is_word.now }
+    ensures at_most { result ≤ click }
+    ensures agreed { (word : List ℕ → Bool) → AnswersAs (FnReturnsAt F.Fn is_word.now) word → IsLower word (cells_left cells.entry) click result }
+{
+    let mut start = None;
+    for cell in cells {
+        let index = cell.cell_index();
+        if index <= click {
+            if !is_in_word(cell, is_word) {
+                start = None;
+            } else if start.is_none() {
+                start = Some(index);
+            }
+        }
+    }
+    start.unwrap_or(click)
+}

@@ -1,0 +1,49 @@
+//! The mark of a line whose text goes on in the next one.
+ghost use Rattle.std.specs.Prelude.{◌≡◌, ◌<◌, IsOk, OnErr, OnOk, length, true};
+ghost use Rattle.termwiz_storage.specs.CellsLeft.{cells_left};
+ghost use Rattle.termwiz_storage.specs.Stored.{visible};
+ghost use Rattle.termwiz_storage.specs.Wrapped.{set_last_wrapped};
+ghost use Rattle.termwiz_line.specs.LineValue.{IsEdited, IsUnchanged};
+ghost use Rattle.termwiz_line.specs.Wrapped.{last_is_wrapped};
+
+use super::Line;
+use std::alloc::AllocError;
+use termwiz_cell::change::SequenceNo;
+use termwiz_storage::line::cellref::VisibleCellIter;
+
+impl Line {
+    /// Marks the last visible cell, and the stored cell that it hides, as wrapped, or not. An empty line first gets a default blank.
+    /// The line takes the number. On an error number, flags and cells are as before.
+    pub fn set_last_cell_was_wrapped(
+        &mut self,
+        wrapped: bool,
+        seqno: SequenceNo,
+    ) -> Result<(), AllocError>
+        ensures ok { OnOk result (IsEdited self.old (set_last_wrapped wrapped self.old.cells) seqno self.new) }
+        ensures marked { OnOk result (last_is_wrapped (visible self.new.cells) ≡ wrapped) }
+        ensures err { OnErr result (IsUnchanged self.old self.new) }
+        ensures succeeds { self.old.is_vector ≡ true → 0 < length self.old.cells → IsOk result }
+    {
+        self.zones = None;
+        self.storage.set_last_wrapped(wrapped)?;
+        self.seqno = self.seqno.max(seqno);
+        Ok(())
+    }
+
+    /// Whether the last visible cell is marked as wrapped: then the text goes on in the next line.
+    pub fn last_cell_was_wrapped(&self) -> bool
+        ensures { result ≡ last_is_wrapped (visible self.now.cells) }
+    {
+        is_last_wrapped(self.visible_cells())
+    }
+}
+
+fn is_last_wrapped(cells: VisibleCellIter<'_>) -> bool
+    ensures { result ≡ last_is_wrapped (cells_left cells.entry) }
+{
+    let mut is_wrapped = false;
+    for cell in cells {
+        is_wrapped = cell.attrs().wrapped();
+    }
+    is_wrapped
+}

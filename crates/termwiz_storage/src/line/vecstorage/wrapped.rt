@@ -1,0 +1,60 @@
+//! The mark of the last visible cell, behind which the text goes on in the next line.
+ghost use Rattle.std.specs.Prelude.{◌≡◌, ◌<◌, ◌≤◌, IsTrue, OnErr, OnOk, IsOk, length, slice_set, vec_len};
+ghost use Rattle.termwiz_storage.specs.Stored.{hides, stored};
+ghost use Rattle.termwiz_storage.specs.Wrapped.{set_last_wrapped, with_wrapped, wrapped_last};
+
+use super::VecStorage;
+use std::alloc::AllocError;
+use termwiz_cell::cell::{Cell, CellAttributes};
+
+impl VecStorage {
+    /// Marks the last visible cell and the stored cell that it hides as wrapped, or not. An empty list first gets a default blank.
+    /// On an error, which only an empty list gives, nothing changed.
+    pub(crate) fn set_last_wrapped(&mut self, wrapped: bool) -> Result<(), AllocError>
+        ensures ok { OnOk result (self.new ≡ set_last_wrapped wrapped self.old) }
+        ensures err { OnErr result (self.new ≡ self.old) }
+        ensures succeeds { 0 < length self.old → IsOk result }
+    {
+        self.pad(1)?;
+        self.wrap_last(wrapped);
+        Ok(())
+    }
+
+    fn wrap_last(&mut self, wrapped: bool)
+        requires { 0 < length self.old }
+        ensures { self.new ≡ wrapped_last wrapped self.old }
+    {
+        let last = self.cells.len() - 1;
+        if self.is_hidden(last) {
+            put_wrapped(&mut self.cells, last - 1, wrapped);
+        }
+        put_wrapped(&mut self.cells, last, wrapped);
+        self.used = self.cells.len();
+    }
+
+    // Whether the cell before column i covers it.
+    fn is_hidden(&self, i: usize) -> bool
+        requires { i ≤ length self.now }
+        ensures value { result ≡ hides self.now i }
+        ensures some { IsTrue result → 0 < i }
+    {
+        let mut hidden = false;
+        for k in 0..i {
+            hidden = self.cells[k].width() > 1 && !hidden;
+        }
+        hidden
+    }
+}
+
+fn put_wrapped(cells: &mut Vec<Cell>, i: usize, wrapped: bool)
+    requires { i < vec_len cells.old }
+    ensures { cells.new.items ≡ slice_set cells.old.items i (with_wrapped wrapped (stored cells.old.items i)) }
+{
+    set_wrapped(cells[i].attrs_mut(), wrapped);
+}
+
+fn set_wrapped(attrs: &mut CellAttributes, wrapped: bool)
+    ensures { attrs.new ≡ record attrs.old { wrapped = wrapped } }
+{
+    attrs.set_wrapped(wrapped);
+}

@@ -171,6 +171,16 @@ fn takes_number(edit: Edit, inside: bool) -> bool {
     }
 }
 
+fn agrees(alloc: Global, start: &str, edit: Edit, x: usize) -> Result<bool, AllocError> {
+    let mut line = line_for(alloc, start)?;
+    edit_line(alloc, &mut line, edit, x)?;
+    let mut letters = Vec::from_slice(alloc, start.as_bytes())?;
+    edit_letters(&mut letters, edit, x)?;
+    let got = letters_of(alloc, &line)?;
+    let number = usize::from(takes_number(edit, x < start.len()));
+    Ok(got == letters && line.current_seqno() == number)
+}
+
 #[test]
 fn edits_do_to_cells_what_they_do_to_letters(rt: HostRuntime) -> Result<(), Fail> {
     let edits = [
@@ -189,18 +199,8 @@ fn edits_do_to_cells_what_they_do_to_letters(rt: HostRuntime) -> Result<(), Fail
     for start in ["", "a", "W_", "aW", "aW_b", "W_W_", "abcd"] {
         for x in [0, 1, 2, 3, 4, 6] {
             for edit in edits {
-                let mut line = line_for(rt.alloc(), start)?;
-                edit_line(rt.alloc(), &mut line, edit, x)?;
-                let mut letters = Vec::from_slice(rt.alloc(), start.as_bytes())?;
-                edit_letters(&mut letters, edit, x)?;
-                let got = letters_of(rt.alloc(), &line)?;
-                assert!(rt; got == letters, "{start}: {edit:?} at {x}");
-                let taken = takes_number(edit, x < start.len());
-                assert_eq!(rt;
-                    line.current_seqno(),
-                    usize::from(taken),
-                    "{start}: {edit:?} at {x}"
-                );
+                let same = agrees(rt.alloc(), start, edit, x)?;
+                assert!(rt; same, "{start}: {edit:?} at {x}");
             }
         }
     }

@@ -1,4 +1,6 @@
 //! What edits leave that move cells.
+ghost use Rattle.std.specs.Prelude.{◌≡◌, ◌<◌, OnOk, length, slice_set, true};
+
 use crate::lines::{cell, line_of};
 use std::alloc::{AllocError, Global};
 use std::test::Fail;
@@ -149,6 +151,23 @@ fn what_is_appended_or_taken_out_has_its_halves_again(rt: HostRuntime) -> Result
         assert_eq!(rt; part.current_seqno(), 3);
         assert!(rt; part.is_single_width());
     }
+    Ok(())
+}
+
+// Writes one of the cells that a line lends.
+fn write(line: &mut Line, i: usize, cell: Cell) -> Result<(), AllocError>
+    requires { i < length line.old.cells }
+    ensures { OnOk result (line.new ≡ record line.old { cells = slice_set line.old.cells i cell; is_vector = true }) }
+{
+    line.cells_mut()?[i] = cell;
+    Ok(())
+}
+
+#[test]
+fn a_cell_is_written_where_it_is_lent(rt: HostRuntime) -> Result<(), Fail> {
+    let mut line = Line::with_width(rt.alloc(), 3, 5)?;
+    write(&mut line, 1, cell(rt.alloc(), "x", 1)?)?;
+    assert_eq!(rt; stored(rt.alloc(), &line)?.as_str(), " x ");
     Ok(())
 }
 

@@ -3,10 +3,12 @@ pub mod Trim
 pub mod Zones
 pub mod Wrapped
 pub mod Clicks
+pub mod Wraps
 pub mod LineFlags
 pub mod Directions
 pub mod LineValue
-pub mod LineLending
+pub mod LineEdits
+pub mod Lending
 pub mod LineEq
 pub mod Filled
 pub mod Row

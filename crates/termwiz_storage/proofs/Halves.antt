@@ -1,8 +1,7 @@
 -- The halves of wide cells: room for one, what is left of one, and the one that a list lacks.
-use Rattle.std.proofs.Common.{[], ◌∷◌, ◌++◌, length, take, length-append, length-set, le-leb, ◌≡◌, ◌≢◌, ℕ, ◌+◌, ◌-◌, ◌<◌, ◌≤◌, inl, inr, Bool, true, false, ◌&&◌, List, Option, set, refl, sym, ◌∙◌, ap, arith, zero, suc}
-use Rattle.std.specs.Prelude.{nat_lt, if◌then◌else◌}
-use Rattle.std.specs.Option.{ForSome}
-use Rattle.std.proofs.lemmas.Bool.{cases_Bool, lt-ltb, le-ltb, lt-leb}
+use Rattle.std.proofs.Common.{[], ◌∷◌, ◌++◌, length, take, length-append, length-set, le-leb, ◌≡◌, ℕ, ◌+◌, ◌-◌, ◌<◌, ◌≤◌, inl, inr, true, false, ◌&&◌, List, set, refl, sym, ◌∙◌, arith, zero, suc}
+use Rattle.std.specs.Prelude.{nat_lt}
+use Rattle.std.proofs.lemmas.Bool.{cases_Bool, lt-ltb, lt-leb}
 use Rattle.std.proofs.lemmas.List.{append-nil, length-replicate, take_all}
 use Rattle.termwiz_cell.specs.CellValue.{CellValue, half, is_wide, columns}
 use Rattle.termwiz_storage.proofs.Widths.{columns-narrow, columns-wide}

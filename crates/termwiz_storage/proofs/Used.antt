@@ -1,15 +1,13 @@
 -- Up to which column cells were used, once they are edited.
-use Rattle.std.proofs.Common.{◌≡◌, ◌≢◌, ℕ, ◌+◌, ◌-◌, ◌<◌, ◌≤◌, inl, inr, true, ◌&&◌, min, max, List, length, set, replicate, refl, sym, ◌∙◌, ap, arith, length-append, suc, false}
-use Rattle.std.specs.Prelude.{nat_lt}
-use Rattle.std.proofs.lemmas.Bool.{cases_Bool, cases_lt, cases_eq, ltb-true, lt-ltb, and_parts}
+use Rattle.std.proofs.Common.{◌≡◌, ◌≢◌, ℕ, ◌+◌, ◌-◌, ◌<◌, ◌≤◌, inl, inr, min, max, List, length, set, replicate, refl, sym, ◌∙◌, ap, arith, length-append, suc}
+use Rattle.std.proofs.lemmas.Bool.{cases_Bool, cases_lt, cases_eq}
 use Rattle.std.proofs.lemmas.List.{get_or_past, get_or-set_other, length-replicate, ext_get_or, get_or-replicate, length-set, get_or-set_same}
 use Rattle.termwiz_cell.specs.CellValue.{CellValue, blank, half, is_wide, columns}
-use Rattle.termwiz_storage.specs.Stored.{stored, padded, torn, put, fill}
+use Rattle.termwiz_storage.specs.Stored.{stored, padded, torn, fill}
 use Rattle.termwiz_storage.specs.Used.{IsUsedTo, IsBlanked}
-use Rattle.termwiz_storage.proofs.SetCell.{stored-padded, put_else, torn_at, torn_narrow, torn_else}
+use Rattle.termwiz_storage.proofs.SetCell.{stored-padded, torn_at, torn_narrow, torn_else}
 use Rattle.termwiz_storage.proofs.Halves.{length-torn, length-padded}
 use Rattle.termwiz_storage.proofs.Fill.{IsFilledFrom, IsFilledFrom-fill, length-fill}
-use Rattle.termwiz_storage.proofs.Widths.{columns-wide, columns_bounds}
 
 pub used-all : (cs : List CellValue) → IsUsedTo (length cs) cs
 used-all cs = record { rest = λ x l. get_or_past cs x blank l }

@@ -1,6 +1,6 @@
 -- The halves of wide cells: beside a cell that is set, and where a list grows.
-use Rattle.std.specs.Prelude.{ℕ, ◌-◌, nat_le, List, [], ◌∷◌, ◌++◌, length, set, take, Option, Some, None, if◌then◌else◌}
-use Rattle.termwiz_cell.specs.CellValue.{CellValue, half, is_wide}
+use Rattle.std.specs.Prelude.{ℕ, ◌-◌, nat_le, List, [], ◌∷◌, ◌++◌, length, take, if◌then◌else◌}
+use Rattle.termwiz_cell.specs.CellValue.{CellValue, half}
 use Rattle.termwiz_storage.specs.Stored.{stored, padded, hides}
 
 -- the half that the last visible cell lacks, where it is wide and ends the list

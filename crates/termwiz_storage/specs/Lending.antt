@@ -1,5 +1,5 @@
 -- Lending what is stored, for writing.
-use Rattle.std.specs.Prelude.{ℕ, List, ◌++◌, length, take, drop, Result}
+use Rattle.std.specs.Prelude.{List, ◌++◌, length, take, drop, Result}
 use Rattle.std.specs.Borrow.{Lends, LendsIfOk, MutBor, Fml, Array}
 use Rattle.std.specs.declared.alloc.AllocError.{AllocError}
 use Rattle.termwiz_cell.specs.CellValue.{CellValue}

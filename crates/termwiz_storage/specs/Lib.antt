@@ -2,6 +2,7 @@ pub mod Stored
 pub mod Used
 pub mod Halves
 pub mod Wrapped
+pub mod Edits
 pub mod FilledAs
 pub mod CellLists
 pub mod CellRef

@@ -28,8 +28,10 @@ use termwiz_storage::line::cellref::VisibleCellIter;
 use termwiz_storage::line::storage::CellStorage;
 
 mod clicks;
+mod edits;
 mod flags;
 mod wrapped;
+mod wraps;
 mod zones;
 
 pub use clicks::DoubleClickRange;

@@ -14,6 +14,8 @@ ghost use Rattle.termwiz_storage.specs.Storage.{cells_of, is_vector, same_cells}
 ghost use Rattle.termwiz_storage.specs.Lending.{LendsVector};
 ghost use Rattle.termwiz_storage.specs.Wrapped.{set_last_wrapped};
 
+mod edits;
+
 use crate::line::cellref::VisibleCellIter;
 use crate::line::vecstorage::VecStorage;
 use std::alloc::AllocError;

@@ -14,14 +14,15 @@ ghost use Rattle.termwiz_storage.specs.CellLists.{cells_eq, cells_eq-Decides};
 ghost use Rattle.std.specs.Borrow.{sem};
 ghost use Rattle.termwiz_storage.specs.Lending.{LendsCells};
 
+mod edits;
+mod wrapped;
+
 use crate::line::cellref::CellRef;
 use std::alloc::{AllocError, Global};
 use std::marker::Model;
 use std::ops::{DerefSlice, DerefSliceMut};
 use std::{mem, slice};
 use termwiz_cell::cell::{Cell, CellAttributes};
-
-mod wrapped;
 
 /// The cells of a line, each with a place of its own.
 #[derive(Drop, Debug)]
@@ -392,6 +393,7 @@ fn pad_cells(cells: &mut Vec<Cell>, len: usize) -> Result<(), AllocError>
     ensures ok { OnOk result (cells.new.items ≡ padded len cells.old.items) }
     ensures err { OnErr result (cells.new.items ≡ cells.old.items) }
     ensures succeeds { len ≤ vec_capacity cells.old → IsOk result }
+    ensures capacity { vec_capacity cells.old ≤ vec_capacity cells.new }
 {
     let have = cells.len();
     if have < len {
@@ -560,6 +562,8 @@ impl<'a> Iterator for VecStorageIter<'a> {
             self.idx += 1;
         }
         let cell = self.cells.next()?;
+        // A cell's text is clean, which its reader knows.
+        let _text = cell.str();
         let cell_index = self.idx;
         self.idx += 1;
         self.skip_width = cell.width() - 1;

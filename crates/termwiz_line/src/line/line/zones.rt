@@ -5,7 +5,7 @@ ghost use Rattle.termwiz_storage.specs.CellRef.{indexed_cell};
 ghost use Rattle.termwiz_storage.specs.CellsLeft.{cells_left};
 ghost use Rattle.termwiz_storage.specs.Storage.{cells_of};
 ghost use Rattle.termwiz_storage.specs.Stored.{visible};
-ghost use Rattle.termwiz_line.specs.LineLending.{KeepsLine};
+ghost use Rattle.termwiz_line.specs.Lending.{KeepsLine};
 ghost use Rattle.termwiz_line.specs.Trim.{IsTrimmed};
 ghost use Rattle.termwiz_line.specs.Zones.{AreZones, AreZonesOf, IsBlank, semantic, zone_of};
 

@@ -9,6 +9,7 @@ loop-preserved c =
     record {
       items = rw (e, ← replicate_more, ← append_assoc) (rw (c.in_ok-push.ensures.items, c.blank.ensures, c.loop.invariant.items) refl);
       room = omega (arith, c.in_ok-push.ensures.len, c.in_ok-push.ensures.capacity);
+      capacity = omega (arith, c.in_ok-push.ensures.capacity);
     }
 
 pub returns-after-loop-clause-ok : goal.returns-after-loop-clause-ok

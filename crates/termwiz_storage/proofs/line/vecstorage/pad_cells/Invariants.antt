@@ -6,4 +6,5 @@ abbrev pub invariant-loop : goal.invariant-loop
 invariant-loop l = record {
   items : l.cells.items ≡ l.initial.cells.items ++ replicate (l.counter - l.have) blank;
   room : vec_len l.cells + (l.len - l.counter) ≤ vec_capacity l.cells;
+  capacity : vec_capacity l.initial.cells ≤ vec_capacity l.cells;
 }

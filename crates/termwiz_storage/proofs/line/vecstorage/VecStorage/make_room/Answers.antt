@@ -1,4 +1,4 @@
-use Rattle.std.proofs.Common.{◌≡◌, ◌≤◌, ◌∙◌, ap, length, arith}
+use Rattle.std.proofs.Common.{◌≡◌, ◌∙◌, ap, length, arith}
 use Rattle.termwiz_storage.specs.Stored.{padded}
 use Rattle.termwiz_storage.proofs.Halves.{length-torn, length-padded}
 use Rattle.termwiz_storage.proofs.line.vecstorage.VecStorage.make_room.Goals as goal

@@ -1,6 +1,5 @@
-use Rattle.std.proofs.Common.{◌≡◌, List, ◌∙◌, ap, subst}
+use Rattle.std.proofs.Common.{List, subst}
 use Rattle.termwiz_cell.specs.CellValue.{CellValue}
-use Rattle.termwiz_storage.specs.Stored.{torn, padded}
 use Rattle.termwiz_storage.specs.Used.{IsBlanked}
 use Rattle.termwiz_storage.proofs.Used.{fill-blanked}
 use Rattle.termwiz_storage.proofs.line.vecstorage.VecStorage.set_blanks.Goals as goal

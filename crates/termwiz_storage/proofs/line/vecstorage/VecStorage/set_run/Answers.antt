@@ -1,7 +1,6 @@
-use Rattle.std.proofs.Common.{◌≡◌, ℕ, ◌+◌, ◌∙◌, List, ap, ap₂, length, arith}
+use Rattle.std.proofs.Common.{ℕ, ◌∙◌, List, ap₂}
 use Rattle.termwiz_cell.specs.CellValue.{CellValue}
-use Rattle.termwiz_storage.specs.Stored.{torn, padded, put_run}
-use Rattle.termwiz_storage.proofs.Halves.{length-torn, length-padded}
+use Rattle.termwiz_storage.specs.Stored.{put_run}
 use Rattle.termwiz_storage.proofs.Runs.{put_run-torn}
 use Rattle.termwiz_storage.proofs.line.vecstorage.VecStorage.set_run.Goals as goal
 

@@ -1,0 +1,210 @@
+//! Lines that are made of cells, and edits of a line's cells.
+ghost use Rattle.std.specs.Prelude.{◌≡◌, ◌≤◌, ◌++◌, [], true, max, take, drop, replicate, IsOk, IfOk, OnOk, OnErr};
+ghost use Rattle.std.specs.Borrow.{sem};
+ghost use Rattle.termwiz_cell.specs.CellValue.{blank_of, cell_of};
+ghost use Rattle.termwiz_storage.specs.Stored.{set_cell, visible};
+ghost use Rattle.termwiz_storage.specs.Edits.{columns_between, erased, erased_within, inserted, removed, with_halves};
+ghost use Rattle.termwiz_line.specs.Lending.{LendsLine};
+ghost use Rattle.termwiz_line.specs.LineEdits.{HasCells, IsEditedAt, IsMade, IsTakenFrom};
+ghost use Rattle.termwiz_line.specs.LineFlags.{no_flags};
+ghost use Rattle.termwiz_line.specs.LineValue.{IsEdited, IsUnchanged};
+
+use crate::line::line::Line;
+use crate::line::linebits::LineBits;
+use std::alloc::{AllocError, Global};
+use std::ops::Range;
+use termwiz_cell::cell::{Cell, CellAttributes};
+use termwiz_cell::change::SequenceNo;
+use termwiz_storage::line::storage::CellStorage;
+use termwiz_storage::line::vecstorage::VecStorage;
+
+impl Line {
+    /// A line of this many copies of a cell.
+    pub fn with_width_and_cell(
+        alloc: Global,
+        width: usize,
+        cell: Cell,
+        seqno: SequenceNo,
+    ) -> Result<Line, AllocError>
+        ensures { IfOk result (λ line. line ≡ record { cells = replicate width cell; seqno = seqno; flags = no_flags; is_vector = true }) }
+    {
+        let storage = CellStorage::copies(alloc, width, cell)?;
+        Ok(Line::of(alloc, storage, seqno))
+    }
+
+    /// A line of these stored cells. The half of a wide cell is one of them.
+    pub fn from_cells(cells: Vec<Cell>, seqno: SequenceNo) -> Line
+        ensures { result ≡ record { cells = cells.items; seqno = seqno; flags = no_flags; is_vector = true } }
+    {
+        let alloc = *cells.allocator();
+        Line::of(alloc, CellStorage::vector(cells), seqno)
+    }
+
+    /// A line without cells.
+    pub fn new(alloc: Global, seqno: SequenceNo) -> Line
+        ensures { IsMade [] seqno result }
+    {
+        Line::from_cells(Vec::new(alloc), seqno)
+    }
+
+    /// Makes the line this many blanks with these attributes, without flags. It takes the number. On an error number, flags and cells are as before.
+    pub fn resize_and_clear(
+        &mut self,
+        width: usize,
+        seqno: SequenceNo,
+        blank_attr: CellAttributes,
+    ) -> Result<(), AllocError>
+        ensures ok { OnOk result (self.new ≡ record { cells = replicate width (blank_of blank_attr); seqno = max self.old.seqno seqno; flags = no_flags; is_vector = true }) }
+        ensures err { OnErr result (IsUnchanged self.old self.new) }
+    {
+        self.zones = None;
+        self.storage.clear_to(self.alloc, width, blank_attr)?;
+        self.seqno = self.seqno.max(seqno);
+        self.bits = LineBits::NONE;
+        Ok(())
+    }
+
+    /// Sets the cell of a text of this width at a column, as `set_cell` does. A width of 0 counts as 1.
+    /// The line takes the number. On an error, which a column past the greatest number gives too, number, flags and cells are as before.
+    pub fn set_cell_grapheme(
+        &mut self,
+        i: usize,
+        text: &str,
+        width: usize,
+        attrs: CellAttributes,
+        seqno: SequenceNo,
+    ) -> Result<(), AllocError>
+        requires { width ≤ 2 }
+        ensures ok { OnOk result (IsEdited self.old (set_cell i (cell_of text.now width attrs) self.old.cells) seqno self.new) }
+        ensures err { OnErr result (IsUnchanged self.old self.new) }
+    {
+        let cell = Cell::new_grapheme_with_width(self.alloc, text, width, attrs)?;
+        self.set_cell(i, cell, seqno)?;
+        Ok(())
+    }
+
+    /// Inserts a cell at a column, and its half behind a wide one, which moves the cells from there on. First the last cell before the margin is removed, where there is one, and then a line that is too short is padded with default blanks.
+    /// A margin is the column behind the last one that it holds, so it is at least 1. A wide cell that this cuts stays as it is.
+    /// The line takes the number. On an error, which a column past the greatest number gives too, number, flags and cells are as before.
+    pub fn insert_cell(
+        &mut self,
+        x: usize,
+        cell: Cell,
+        right_margin: usize,
+        seqno: SequenceNo,
+    ) -> Result<(), AllocError>
+        requires { 1 ≤ right_margin }
+        ensures ok { OnOk result (IsEdited self.old (inserted x cell right_margin self.old.cells) seqno self.new) }
+        ensures err { OnErr result (IsUnchanged self.old self.new) }
+    {
+        self.zones = None;
+        self.storage.insert_cell(x, cell, right_margin)?;
+        self.seqno = self.seqno.max(seqno);
+        Ok(())
+    }
+
+    /// Removes the cell at a column, which moves those behind it, and appends a default blank. A wide cell before it that this cuts becomes a blank with its attributes. Past the end of the line nothing changes.
+    /// The line takes the number where it changes. A vector takes no memory. On an error number, flags and cells are as before.
+    pub fn erase_cell(&mut self, x: usize, seqno: SequenceNo) -> Result<(), AllocError>
+        ensures ok { OnOk result (IsEditedAt x self.old (erased x self.old.cells) seqno self.new) }
+        ensures err { OnErr result (IsUnchanged self.old self.new) }
+        ensures succeeds { self.old.is_vector ≡ true → IsOk result }
+    {
+        if x < self.len() {
+            self.zones = None;
+            self.storage.erase_cell(x)?;
+            self.seqno = self.seqno.max(seqno);
+        }
+        Ok(())
+    }
+
+    /// Removes the cell at a column, which moves those behind it. A wide cell before it that this cuts becomes a blank with its attributes. Past the end of the line nothing changes.
+    /// The line takes the number where it changes. A vector takes no memory. On an error number, flags and cells are as before.
+    pub fn remove_cell(&mut self, x: usize, seqno: SequenceNo) -> Result<(), AllocError>
+        ensures ok { OnOk result (IsEditedAt x self.old (removed x self.old.cells) seqno self.new) }
+        ensures err { OnErr result (IsUnchanged self.old self.new) }
+        ensures succeeds { self.old.is_vector ≡ true → IsOk result }
+    {
+        if x < self.len() {
+            self.zones = None;
+            self.storage.remove_cell(x)?;
+            self.seqno = self.seqno.max(seqno);
+        }
+        Ok(())
+    }
+
+    /// Removes the cell at a column as `remove_cell` does, and inserts a blank with these attributes in the last column before the margin, where the line reaches up to it.
+    /// A margin is the column behind the last one that it holds, so it is at least 1.
+    /// The line takes the number. On an error number, flags and cells are as before.
+    pub fn erase_cell_with_margin(
+        &mut self,
+        x: usize,
+        right_margin: usize,
+        seqno: SequenceNo,
+        blank_attr: CellAttributes,
+    ) -> Result<(), AllocError>
+        requires { 1 ≤ right_margin }
+        ensures ok { OnOk result (IsEdited self.old (erased_within x right_margin blank_attr self.old.cells) seqno self.new) }
+        ensures err { OnErr result (IsUnchanged self.old self.new) }
+    {
+        self.zones = None;
+        self.storage
+            .erase_cell_with_margin(x, right_margin, blank_attr)?;
+        self.seqno = self.seqno.max(seqno);
+        Ok(())
+    }
+
+    /// Keeps the cells up to a column, and the number. The rest is handed out as a line with the same flags and with the number that is given.
+    /// On an error number, flags and cells are as before.
+    pub fn split_off(&mut self, i: usize, seqno: SequenceNo) -> Result<Line, AllocError>
+        ensures kept { OnOk result (HasCells self.old (take i self.old.cells) self.new) }
+        ensures rest { IfOk result (λ rest. IsTakenFrom self.old (drop i self.old.cells) seqno rest) }
+        ensures err { OnErr result (IsUnchanged self.old self.new) }
+    {
+        self.zones = None;
+        let storage = self.storage.split_off(i)?;
+        let mut rest = Line::of(self.alloc, storage, seqno);
+        rest.bits = self.bits;
+        Ok(rest)
+    }
+
+    /// Appends the visible cells of another line, the half of each wide one behind it.
+    /// The line takes the number. On an error number, flags and cells are as before.
+    pub fn append_line(&mut self, other: Line, seqno: SequenceNo) -> Result<(), AllocError>
+        ensures ok { OnOk result (IsEdited self.old (self.old.cells ++ with_halves (visible other.cells)) seqno self.new) }
+        ensures err { OnErr result (IsUnchanged self.old self.new) }
+    {
+        self.zones = None;
+        self.storage.append_visible(&other.storage)?;
+        self.seqno = self.seqno.max(seqno);
+        Ok(())
+    }
+
+    /// A line of the visible cells that begin in these columns, the half of each wide one behind it. It has this line's number, and no flags.
+    pub fn columns_as_line(&self, range: Range<usize>) -> Result<Line, AllocError>
+        ensures { IfOk result (λ line. line ≡ record { cells = columns_between range.start range.end self.now.cells; seqno = self.now.seqno; flags = no_flags; is_vector = true }) }
+    {
+        let storage = self.storage.columns(range.start, range.end)?;
+        Ok(Line::of(self.alloc, storage, self.seqno))
+    }
+
+    /// The stored cells, for writing: `line.cells_mut()?[i] = cell`. The line is a vector from then on, and its number stays.
+    /// On an error, which a vector never gives, number, flags and cells are as before.
+    pub fn cells_mut(&mut self) -> Result<&mut VecStorage, AllocError>
+        ensures* writes_back { sem 𝓛 (LendsLine self.entry result) }
+        ensures value { IfOk result (λ cells. cells.now ≡ self.old.cells) }
+        ensures succeeds { self.old.is_vector ≡ true → IsOk result }
+    {
+        self.zones = None;
+        self.storage.coerce_vec()
+    }
+
+    /// The stored cells, as `cells_mut` lends them, for whoever writes attributes alone.
+    pub fn cells_mut_for_attr_changes_only(&mut self) -> Result<&mut VecStorage, AllocError>
+        ensures* writes_back { sem 𝓛 (LendsLine self.entry result) }
+        ensures value { IfOk result (λ cells. cells.now ≡ self.old.cells) }
+        ensures succeeds { self.old.is_vector ≡ true → IsOk result }
+    {
+        self.cells_mut()
+    }
+}

@@ -1,0 +1,123 @@
+-- Stored cells that are removed, inserted, and copied.
+use Rattle.std.proofs.Common.{suc, zero, min, drop-cons, add-one, ◌≡◌, ℕ, ◌+◌, ◌-◌, ◌<◌, ◌≤◌, inl, inr, Bool, true, false, cond, not, ◌&&◌, List, [], ◌∷◌, ◌++◌, length, get_or, take, drop, replicate, refl, sym, ◌∙◌, ap, arith, append_assoc}
+use Rattle.std.specs.List.{AllClonesOf, AppendsClonesOf, filter, remove}
+use Rattle.std.specs.Prelude.{nat_le}
+use Rattle.std.proofs.lemmas.Bool.{cases_Bool, cases_lt, le-leb, lt-leb, lt-ltb, le-ltb}
+use Rattle.std.proofs.Math.ListN.{drop_of_length-le}
+use Rattle.std.proofs.lemmas.List.{get_or_append_left, get_or-append_right}
+use Rattle.std.proofs.lemmas.List.Edits.{length-remove, get_or-remove_above, get_or-remove_below}
+use Rattle.termwiz_cell.specs.CellValue.{CellValue, blank, is_wide, columns}
+use Rattle.termwiz_storage.specs.Edits.{begins_within, columns_between, removed_at_margin, with_half, with_halves}
+use Rattle.termwiz_storage.specs.Stored.{visible, visible_from}
+use Rattle.termwiz_storage.specs.Used.{IsUsedTo}
+
+-- clones of a cell are that cell
+copies_same : (c : CellValue) (cs : List CellValue) → AllClonesOf (λ a b. b ≡ a) c cs → cs ≡ replicate (length cs) c
+copies_same c [] h = refl
+copies_same c (d ∷ ds) h =
+    let e : d ≡ c = elim h.0 [ inl e ↦ e | inr e ↦ e ] in
+    let r : ds ≡ replicate (length ds) c = copies_same c ds h.1 in
+    λ i. e i ∷ r i
+
+take-none : (n : ℕ) → take {A = CellValue} n [] ≡ []
+take-none zero = refl
+take-none (suc n) = refl
+
+pub copies-made : (n : ℕ) (c : CellValue) (old new : List CellValue) → old ≡ [] → length new ≡ n → AppendsClonesOf (λ a b. b ≡ a) (take n old) new c → new ≡ replicate n c
+copies-made n c old new e l h =
+    let same : new ≡ h.0 = h.1 ∙ ap (λ xs. take n xs ++ h.0) e ∙ ap (λ xs. xs ++ h.0) (take-none n) in
+    same ∙ copies_same c h.0 h.2 ∙ ap (λ k. replicate k c) (sym (ap length same) ∙ l)
+
+-- cells that move to the left
+pub used-remove : (u x : ℕ) (cs : List CellValue) → x < length cs → IsUsedTo u cs → IsUsedTo u (remove cs x)
+used-remove u x cs l h = record {
+  rest = λ y m. elim (cases_lt y x) [
+    | inr g ↦ get_or-remove_above cs x blank y g l ∙ h.rest (y + 1) (omega arith)
+    | inl g ↦ get_or-remove_below cs x blank y g l ∙ h.rest y m
+  ];
+}
+
+pub used-blank : (u : ℕ) (cs : List CellValue) → IsUsedTo u cs → IsUsedTo u (cs ++ blank ∷ [])
+used-blank u cs h = record {
+  rest = λ y m. elim (cases_lt y (length cs)) [
+    | inl l ↦ get_or_append_left cs (blank ∷ []) blank y l ∙ h.rest y m
+    | inr g ↦ get_or-append_right cs (blank ∷ []) (length cs) y blank refl g ∙ alone (y - length cs)
+  ];
+}
+  where
+    alone : (k : ℕ) → get_or (blank ∷ []) k blank ≡ blank
+    alone zero = refl
+    alone (suc k) = refl
+
+pub length-removed_at_margin : (m : ℕ) (cs : List CellValue) → 1 ≤ m → length (removed_at_margin m cs) ≡ cond (nat_le m (length cs)) (length cs - 1) (length cs)
+length-removed_at_margin m cs p = elim (cases_lt (length cs) m) [
+  | inl l ↦ rw (lt-leb m (length cs) l) refl
+  | inr g ↦
+      let r : length (remove cs (m - 1)) + 1 ≡ length cs = length-remove cs (m - 1) (omega arith) in
+      rw (le-leb m (length cs) g) (omega arith)
+]
+
+-- how many cells are passed over
+abbrev pub passed : Bool → ℕ
+passed hidden = cond hidden 1 0
+
+-- one more cell of a walk through the columns
+columns-more : (a b i : ℕ) (hidden : Bool) (c : CellValue) (cs : List CellValue) → i < b
+    → with_halves (filter (begins_within a b) (visible_from i (passed hidden) (c ∷ cs)))
+    ≡ cond (nat_le a i && not hidden) (with_half c) [] ++ with_halves (filter (begins_within a b) (visible_from (i + 1) (passed (is_wide c && not hidden)) cs))
+columns-more a b i true c cs l = elim (cases_Bool (is_wide c)) [
+  | inl w ↦ elim (cases_lt i a) [
+    | inl m ↦ rw (w, lt-leb a i m) refl
+    | inr m ↦ rw (w, le-leb a i m) refl
+  ]
+  | inr w ↦ elim (cases_lt i a) [
+    | inl m ↦ rw (w, lt-leb a i m) refl
+    | inr m ↦ rw (w, le-leb a i m) refl
+  ]
+]
+columns-more a b i false c cs l = elim (cases_Bool (is_wide c)) [
+  | inl w ↦ elim (cases_lt i a) [
+    | inl m ↦ rw (w, lt-leb a i m) refl
+    | inr m ↦ rw (w, le-leb a i m, lt-ltb i b l) refl
+  ]
+  | inr w ↦ elim (cases_lt i a) [
+    | inl m ↦ rw (w, lt-leb a i m) refl
+    | inr m ↦ rw (w, le-leb a i m, lt-ltb i b l) refl
+  ]
+]
+
+-- what a walk through the columns has left at column i
+abbrev pub left : ℕ → ℕ → ℕ → Bool → List CellValue → List CellValue
+left a b i hidden cs = with_halves (filter (begins_within a b) (visible_from i (passed hidden) (drop i cs)))
+
+pub left-more : (a b i : ℕ) (hidden next shown : Bool) (c : CellValue) (cs out new all : List CellValue) → i < b → i < length cs → c ≡ get_or cs i c
+    → shown ≡ (nat_le a i && not hidden) → next ≡ (is_wide c && not hidden) → new ≡ out ++ cond shown (with_half c) [] → out ++ left a b i hidden cs ≡ all
+    → new ++ left a b (i + 1) next cs ≡ all
+left-more a b i hidden next shown c cs out new all l m at s n o h =
+    let d : drop i cs ≡ c ∷ drop (i + 1) cs = rw (add-one, drop-cons cs i c) (ap (λ x. x ∷ drop (suc i) cs) (sym at)) in
+    let here : left a b i hidden cs ≡ cond shown (with_half c) [] ++ left a b (i + 1) next cs = rw (d, s, n) (columns-more a b i hidden c (drop (i + 1) cs) l) in
+    rw (o, append_assoc) (ap (λ xs. out ++ xs) (sym here) ∙ h)
+
+-- the walk is behind the columns
+columns-none : (a b i s : ℕ) (cs : List CellValue) → b ≤ i → filter (begins_within a b) (visible_from i s cs) ≡ []
+columns-none a b i s [] l = refl
+columns-none a b i zero (c ∷ cs) l = elim (cases_Bool (nat_le a i)) [
+  | inl t ↦ rw (t, le-ltb i b l) (columns-none a b (i + 1) (columns c - 1) cs (omega arith))
+  | inr f ↦ rw f (columns-none a b (i + 1) (columns c - 1) cs (omega arith))
+]
+columns-none a b i (suc s) (c ∷ cs) l = columns-none a b (i + 1) s cs (omega arith)
+
+pub left-none : (a b i : ℕ) (hidden : Bool) (cs : List CellValue) → min b (length cs) ≤ i → left a b i hidden cs ≡ []
+left-none a b i hidden cs l = elim (cases_lt i b) [
+  | inr m ↦ ap with_halves (columns-none a b i (passed hidden) (drop i cs) m)
+  | inl m ↦ ap (λ ds. with_halves (filter (begins_within a b) (visible_from i (passed hidden) ds))) (drop_of_length-le cs (omega arith))
+]
+
+-- all cells of a list begin within its length
+columns-from : (b i s : ℕ) (cs : List CellValue) → i + length cs ≤ b → filter (begins_within 0 b) (visible_from i s cs) ≡ visible_from i s cs
+columns-from b i s [] l = refl
+columns-from b i zero (c ∷ cs) l = rw (lt-ltb i b (omega arith), le-leb 0 i (omega arith)) (ap (λ ps. (i, c) ∷ ps) (columns-from b (i + 1) (columns c - 1) cs (omega arith)))
+columns-from b i (suc s) (c ∷ cs) l = columns-from b (i + 1) s cs (omega arith)
+
+pub columns-all : (b : ℕ) (cs : List CellValue) → b ≡ length cs → columns_between 0 b cs ≡ with_halves (visible cs)
+columns-all b cs e = ap with_halves (columns-from b 0 0 cs (omega arith))

@@ -1,0 +1,144 @@
+//! Edits that move the stored cells.
+ghost use Rattle.std.specs.Prelude.{◌≡◌, ◌≤◌, ◌++◌, true, take, drop, replicate, IsOk, IfOk, OnOk, OnErr};
+ghost use Rattle.termwiz_cell.specs.CellValue.{blank_of};
+ghost use Rattle.termwiz_storage.specs.Stored.{visible};
+ghost use Rattle.termwiz_storage.specs.Edits.{columns_between, erased, erased_within, inserted, removed, with_halves};
+ghost use Rattle.termwiz_storage.specs.Storage.{cells_of, is_vector};
+
+use crate::line::storage::CellStorage;
+use crate::line::vecstorage::VecStorage;
+use std::alloc::{AllocError, Global};
+use termwiz_cell::cell::{Cell, CellAttributes};
+
+impl CellStorage {
+    /// A vector of this many copies of a cell.
+    pub fn copies(alloc: Global, len: usize, cell: Cell) -> Result<CellStorage, AllocError>
+        ensures cells { IfOk result (λ storage. cells_of storage ≡ replicate len cell) }
+        ensures vector { IfOk result (λ storage. is_vector storage ≡ true) }
+    {
+        let storage = VecStorage::copies(alloc, len, cell)?;
+        Ok(CellStorage::V(storage))
+    }
+
+    /// Makes the list this many blanks with these attributes, in a vector. On an error the cells are as before.
+    pub fn clear_to(
+        &mut self,
+        alloc: Global,
+        len: usize,
+        attrs: CellAttributes,
+    ) -> Result<(), AllocError>
+        ensures ok { OnOk result (cells_of self.new ≡ replicate len (blank_of attrs)) }
+        ensures err { OnErr result (cells_of self.new ≡ cells_of self.old) }
+        ensures vector { is_vector self.old ≡ true → is_vector self.new ≡ true }
+        ensures made { OnOk result (is_vector self.new ≡ true) }
+    {
+        if attrs.is_blank() {
+            self.blank_out(len)?;
+            return Ok(());
+        }
+        *self = CellStorage::copies(alloc, len, Cell::blank_with_attrs(attrs))?;
+        Ok(())
+    }
+
+    /// Removes the cell at a column, where there is one. A wide cell that this cuts becomes a blank with its attributes.
+    /// A vector takes no memory. On an error the cells are as before.
+    pub fn remove_cell(&mut self, x: usize) -> Result<(), AllocError>
+        ensures ok { OnOk result (cells_of self.new ≡ removed x (cells_of self.old)) }
+        ensures err { OnErr result (cells_of self.new ≡ cells_of self.old) }
+        ensures succeeds { is_vector self.old ≡ true → IsOk result }
+        ensures vector { is_vector self.old ≡ true → is_vector self.new ≡ true }
+    {
+        match self {
+            CellStorage::V(storage) => storage.remove_cell(x),
+        }
+        Ok(())
+    }
+
+    /// Removes the cell at a column as `remove_cell` does, where there is one, and then appends a default blank.
+    /// A vector takes no memory. On an error the cells are as before.
+    pub fn erase_cell(&mut self, x: usize) -> Result<(), AllocError>
+        ensures ok { OnOk result (cells_of self.new ≡ erased x (cells_of self.old)) }
+        ensures err { OnErr result (cells_of self.new ≡ cells_of self.old) }
+        ensures succeeds { is_vector self.old ≡ true → IsOk result }
+        ensures vector { is_vector self.old ≡ true → is_vector self.new ≡ true }
+    {
+        match self {
+            CellStorage::V(storage) => storage.erase_cell(x),
+        }
+        Ok(())
+    }
+
+    /// Removes the cell at a column as `remove_cell` does, and inserts a blank with these attributes in the last column before a margin, where the list reaches up to it.
+    /// On an error the cells are as before.
+    pub fn erase_cell_with_margin(
+        &mut self,
+        x: usize,
+        margin: usize,
+        attrs: CellAttributes,
+    ) -> Result<(), AllocError>
+        requires { 1 ≤ margin }
+        ensures ok { OnOk result (cells_of self.new ≡ erased_within x margin attrs (cells_of self.old)) }
+        ensures err { OnErr result (cells_of self.new ≡ cells_of self.old) }
+        ensures vector { is_vector self.old ≡ true → is_vector self.new ≡ true }
+    {
+        match self {
+            CellStorage::V(storage) => storage.erase_cell_with_margin(x, margin, attrs)?,
+        }
+        Ok(())
+    }
+
+    /// Inserts a cell at a column, and its half behind a wide one. The list is padded so far, and its last cell before a margin is removed first.
+    /// On an error, which a column past the greatest number gives too, the cells are as before.
+    pub fn insert_cell(&mut self, x: usize, cell: Cell, margin: usize) -> Result<(), AllocError>
+        requires { 1 ≤ margin }
+        ensures ok { OnOk result (cells_of self.new ≡ inserted x cell margin (cells_of self.old)) }
+        ensures err { OnErr result (cells_of self.new ≡ cells_of self.old) }
+        ensures vector { is_vector self.old ≡ true → is_vector self.new ≡ true }
+    {
+        match self {
+            CellStorage::V(storage) => storage.insert_cell(x, cell, margin)?,
+        }
+        Ok(())
+    }
+
+    /// Keeps the cells up to a column, and hands out the rest in the same form. On an error the cells are as before.
+    pub fn split_off(&mut self, at: usize) -> Result<CellStorage, AllocError>
+        ensures kept { OnOk result (cells_of self.new ≡ take at (cells_of self.old)) }
+        ensures rest { IfOk result (λ rest. cells_of rest ≡ drop at (cells_of self.old)) }
+        ensures err { OnErr result (cells_of self.new ≡ cells_of self.old) }
+        ensures vector { is_vector self.old ≡ true → is_vector self.new ≡ true }
+        ensures rest_vector { is_vector self.old ≡ true → IfOk result (λ rest. is_vector rest ≡ true) }
+    {
+        match self {
+            CellStorage::V(storage) => {
+                let rest = storage.split_off(at)?;
+                Ok(CellStorage::V(rest))
+            }
+        }
+    }
+
+    /// Appends the visible cells of another list, the half of each wide one behind it. On an error the cells are as before.
+    pub fn append_visible(&mut self, other: &CellStorage) -> Result<(), AllocError>
+        ensures ok { OnOk result (cells_of self.new ≡ cells_of self.old ++ with_halves (visible (cells_of other.now))) }
+        ensures err { OnErr result (cells_of self.new ≡ cells_of self.old) }
+        ensures vector { is_vector self.old ≡ true → is_vector self.new ≡ true }
+    {
+        match (self, other) {
+            (CellStorage::V(storage), CellStorage::V(other)) => storage.append_visible(other)?,
+        }
+        Ok(())
+    }
+
+    /// A vector of the visible cells that begin in the columns from one up to another, the half of each wide one behind it.
+    pub fn columns(&self, from: usize, to: usize) -> Result<CellStorage, AllocError>
+        ensures cells { IfOk result (λ cells. cells_of cells ≡ columns_between from to (cells_of self.now)) }
+        ensures vector { IfOk result (λ cells. is_vector cells ≡ true) }
+    {
+        match self {
+            CellStorage::V(storage) => {
+                let cells = storage.columns(from, to)?;
+                Ok(CellStorage::V(cells))
+            }
+        }
+    }
+}

@@ -1,0 +1,288 @@
+//! Edits that move stored cells.
+ghost use Rattle.std.specs.Prelude.{◌≡◌, [], ◌∷◌, ◌+◌, ◌<◌, ◌≤◌, ◌-◌, ◌++◌, nat_le, ◌&&◌, not, false, true, length, take, drop, replicate, IfOk, OnOk, OnErr, if◌then◌else◌, vec_capacity, vec_len};
+ghost use Rattle.std.specs.List.{insert, remove};
+ghost use Rattle.termwiz_cell.specs.CellValue.{blank, is_wide};
+ghost use Rattle.termwiz_storage.specs.Stored.{padded, visible};
+ghost use Rattle.termwiz_storage.specs.Edits.{columns_between, erased, erased_within, inserted, inserted_at_margin, removed, removed_at_margin, with_half, with_halves};
+
+use crate::line::vecstorage::{VecStorage, end_of, half_of, pad_cells};
+use std::alloc::{AllocError, Global};
+use termwiz_cell::cell::{Cell, CellAttributes};
+
+impl VecStorage {
+    /// This many copies of a cell.
+    pub(crate) fn copies(alloc: Global, len: usize, cell: Cell) -> Result<VecStorage, AllocError>
+        ensures { IfOk result (λ storage. storage ≡ replicate len cell) }
+    {
+        let mut cells = Vec::new(alloc);
+        VecCloneMethods::resize(&mut cells, len, cell)?;
+        Ok(VecStorage::new(cells))
+    }
+
+    /// Removes the cell at a column, where there is one. A wide cell that this cuts becomes a blank with its attributes.
+    pub(crate) fn remove_cell(&mut self, x: usize)
+        ensures { self.new ≡ removed x self.old }
+    {
+        if x < self.cells.len() {
+            self.tear(x);
+            take_out(&mut self.cells, x);
+        }
+    }
+
+    /// Removes the cell at a column as `remove_cell` does, and appends a default blank.
+    pub(crate) fn erase_cell(&mut self, x: usize)
+        ensures { self.new ≡ erased x self.old }
+    {
+        if x < self.cells.len() {
+            self.tear(x);
+            shift_out(&mut self.cells, x);
+        }
+    }
+
+    /// Removes the cell at a column as `remove_cell` does, and inserts a blank with these attributes in the last column before a margin, where the list reaches up to it.
+    /// On an error nothing changed.
+    pub(crate) fn erase_cell_with_margin(
+        &mut self,
+        x: usize,
+        margin: usize,
+        attrs: CellAttributes,
+    ) -> Result<(), AllocError>
+        requires { 1 ≤ margin }
+        ensures ok { OnOk result (self.new ≡ erased_within x margin attrs self.old) }
+        ensures err { OnErr result (self.new ≡ self.old) }
+    {
+        let blank = Cell::blank_with_attrs(attrs);
+        if x < self.cells.len() {
+            self.tear(x);
+            shift_to_margin(&mut self.cells, x, margin, blank);
+            self.used = self.cells.len();
+            return Ok(());
+        }
+        insert_at_margin(&mut self.cells, margin, blank)?;
+        self.used = self.cells.len();
+        Ok(())
+    }
+
+    /// Inserts a cell at a column, and its half behind a wide one. The list is padded so far, and its last cell before a margin is removed first.
+    /// On an error, which a column past the greatest number gives too, nothing changed.
+    pub(crate) fn insert_cell(
+        &mut self,
+        x: usize,
+        cell: Cell,
+        margin: usize,
+    ) -> Result<(), AllocError>
+        requires { 1 ≤ margin }
+        ensures ok { OnOk result (self.new ≡ inserted x cell margin self.old) }
+        ensures err { OnErr result (self.new ≡ self.old) }
+    {
+        insert_moving(&mut self.cells, x, cell, margin)?;
+        self.used = self.cells.len();
+        Ok(())
+    }
+
+    /// Keeps the cells up to a column, and hands out the rest. On an error nothing changed.
+    pub(crate) fn split_off(&mut self, at: usize) -> Result<VecStorage, AllocError>
+        ensures kept { OnOk result (self.new ≡ take at self.old) }
+        ensures rest { IfOk result (λ rest. rest ≡ drop at self.old) }
+        ensures err { OnErr result (self.new ≡ self.old) }
+    {
+        let at = at.min(self.cells.len());
+        let rest = self.cells.split_off(at)?;
+        self.used = self.used.min(at);
+        Ok(VecStorage::new(rest))
+    }
+
+    /// Appends the visible cells of another list, the half of each wide one behind it. On an error nothing changed.
+    pub(crate) fn append_visible(&mut self, other: &VecStorage) -> Result<(), AllocError>
+        ensures ok { OnOk result (self.new ≡ self.old ++ with_halves (visible other.now)) }
+        ensures err { OnErr result (self.new ≡ self.old) }
+    {
+        let mut more = other.columns(0, other.len())?;
+        self.cells.append(&mut more.cells)?;
+        self.used = self.cells.len();
+        Ok(())
+    }
+
+    /// The visible cells that begin in the columns from one up to another, the half of each wide one behind it.
+    pub(crate) fn columns(&self, from: usize, to: usize) -> Result<VecStorage, AllocError>
+        ensures { IfOk result (λ cells. cells ≡ columns_between from to self.now) }
+    {
+        let mut out = Vec::new(self.allocator());
+        push_columns(&mut out, &self.cells, from, to)?;
+        Ok(VecStorage::new(out))
+    }
+}
+
+// Removes the cell at a column, which leaves room for another.
+fn take_out(cells: &mut Vec<Cell>, x: usize)
+    requires { x < vec_len cells.old }
+    ensures items { cells.new.items ≡ remove cells.old.items x }
+    ensures len { vec_len cells.new + 1 ≡ vec_len cells.old }
+    ensures room { vec_len cells.new < vec_capacity cells.new }
+    ensures capacity { vec_capacity cells.new ≡ vec_capacity cells.old }
+{
+    cells.remove(x);
+}
+
+// Removes the cell at a column, and appends a default blank.
+fn shift_out(cells: &mut Vec<Cell>, x: usize)
+    requires { x < vec_len cells.old }
+    ensures { cells.new.items ≡ remove cells.old.items x ++ blank ∷ [] }
+{
+    take_out(cells, x);
+    cells.push(Cell::blank()).unwrap();
+}
+
+// Removes the cell at a column, and inserts one in the last column before a margin, where the list reaches up to it.
+fn shift_to_margin(cells: &mut Vec<Cell>, x: usize, margin: usize, cell: Cell)
+    requires place { x < vec_len cells.old }
+    requires margin { 1 ≤ margin }
+    ensures { cells.new.items ≡ inserted_at_margin margin cell (remove cells.old.items x) }
+{
+    take_out(cells, x);
+    insert_at_margin(cells, margin, cell).unwrap();
+}
+
+// Inserts a cell in the last column before a margin, where the list reaches up to it.
+fn insert_at_margin(cells: &mut Vec<Cell>, margin: usize, cell: Cell) -> Result<(), AllocError>
+    requires { 1 ≤ margin }
+    ensures ok { OnOk result (cells.new.items ≡ inserted_at_margin margin cell cells.old.items) }
+    ensures err { OnErr result (cells.new.items ≡ cells.old.items) }
+    ensures full { OnErr result (vec_capacity cells.old ≤ vec_len cells.old) }
+{
+    if margin - 1 <= cells.len() {
+        cells.insert(margin - 1, cell)?;
+    }
+    Ok(())
+}
+
+// Removes the cell in the last column before a margin, where there is one.
+fn remove_at_margin(cells: &mut Vec<Cell>, margin: usize)
+    requires { 1 ≤ margin }
+    ensures items { cells.new.items ≡ removed_at_margin margin cells.old.items }
+    ensures capacity { vec_capacity cells.new ≡ vec_capacity cells.old }
+{
+    if margin <= cells.len() {
+        take_out(cells, margin - 1);
+    }
+}
+
+// How many cells are left of so many once the one before a margin is removed.
+fn len_before_margin(len: usize, margin: usize) -> usize
+    requires { 1 ≤ margin }
+    ensures { result ≡ (if nat_le margin len then len - 1 else len) }
+{
+    if margin <= len {
+        return len - 1;
+    }
+    len
+}
+
+// Removes the cell before a margin, and pads up to a column, with room for so many cells more. On an error nothing changed.
+fn make_gap(
+    cells: &mut Vec<Cell>,
+    x: usize,
+    margin: usize,
+    columns: usize,
+) -> Result<(), AllocError>
+    requires { 1 ≤ margin }
+    ensures ok { OnOk result (cells.new.items ≡ padded x (removed_at_margin margin cells.old.items)) }
+    ensures room { OnOk result (vec_len cells.new + columns ≤ vec_capacity cells.new) }
+    ensures err { OnErr result (cells.new.items ≡ cells.old.items) }
+{
+    let len = cells.len();
+    let end = end_of(x.max(len_before_margin(len, margin)), columns)?;
+    cells.reserve(end.saturating_sub(len))?;
+    remove_at_margin(cells, margin);
+    pad_cells(cells, x).unwrap();
+    Ok(())
+}
+
+// Inserts a cell, for which there is room.
+fn insert_in_gap(cells: &mut Vec<Cell>, x: usize, cell: Cell)
+    requires place { x ≤ vec_len cells.old }
+    requires room { vec_len cells.old < vec_capacity cells.old }
+    ensures items { cells.new.items ≡ insert cells.old.items x cell }
+    ensures len { vec_len cells.new ≡ vec_len cells.old + 1 }
+    ensures capacity { vec_capacity cells.old ≤ vec_capacity cells.new }
+{
+    cells.insert(x, cell).unwrap();
+}
+
+// Inserts a cell, and its half behind a wide one, once the cell before a margin is removed.
+fn insert_moving(
+    cells: &mut Vec<Cell>,
+    x: usize,
+    cell: Cell,
+    margin: usize,
+) -> Result<(), AllocError>
+    requires { 1 ≤ margin }
+    ensures ok { OnOk result (cells.new.items ≡ inserted x cell margin cells.old.items) }
+    ensures err { OnErr result (cells.new.items ≡ cells.old.items) }
+{
+    if cell.width() > 1 {
+        let half = half_of(&cell)?;
+        make_gap(cells, x, margin, 2)?;
+        insert_in_gap(cells, x, half);
+        insert_in_gap(cells, x, cell);
+        return Ok(());
+    }
+    make_gap(cells, x, margin, 1)?;
+    insert_in_gap(cells, x, cell);
+    Ok(())
+}
+
+// Pushes a copy of a cell, and of its half behind a wide one.
+fn push_with_half(out: &mut Vec<Cell>, cell: &Cell) -> Result<(), AllocError>
+    ensures { OnOk result (out.new.items ≡ out.old.items ++ with_half cell.now) }
+{
+    let copy = cell.clone()?;
+    out.push(copy)?;
+    if cell.width() > 1 {
+        let half = half_of(cell)?;
+        out.push(half)?;
+    }
+    Ok(())
+}
+
+// Whether a cell at this column is visible, and is one of those from a column on.
+fn is_shown(i: usize, from: usize, hidden: bool) -> bool
+    ensures { result ≡ (nat_le from i && not hidden) }
+{
+    i >= from && !hidden
+}
+
+// Whether a cell hides the next one.
+fn hides_next(cell: &Cell, hidden: bool) -> bool
+    ensures { result ≡ (is_wide cell.now && not hidden) }
+{
+    cell.width() > 1 && !hidden
+}
+
+// Pushes a copy of a cell that is shown, and of its half.
+fn push_where(out: &mut Vec<Cell>, cell: &Cell, shown: bool) -> Result<(), AllocError>
+    ensures { OnOk result (out.new.items ≡ out.old.items ++ (if shown then with_half cell.now else [])) }
+{
+    if shown {
+        push_with_half(out, cell)?;
+    }
+    Ok(())
+}
+
+// Pushes copies of the visible cells that begin in the columns from one up to another, with their halves.
+fn push_columns(
+    out: &mut Vec<Cell>,
+    cells: &[Cell],
+    from: usize,
+    to: usize,
+) -> Result<(), AllocError>
+    ensures { OnOk result (out.new.items ≡ out.old.items ++ columns_between from to cells.now) }
+{
+    let mut hidden = false;
+    for i in 0..to.min(cells.len()) {
+        let cell = &cells[i];
+        push_where(out, cell, is_shown(i, from, hidden))?;
+        hidden = hides_next(cell, hidden);
+    }
+    Ok(())
+}

@@ -8,6 +8,8 @@ pub mod Zoned
 pub mod LastWrapped
 pub mod LastMarked
 pub mod Clicking
+pub mod Wrapping
+pub mod WrappedLines
 pub mod Fills
 pub mod RowPainting
 pub mod RowVisible

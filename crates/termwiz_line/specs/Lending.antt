@@ -1,4 +1,4 @@
--- Lending a line's cells, for writing, and what a line keeps.
+-- Lending what a line has: its cells, for writing, and its zones.
 use Rattle.std.specs.Prelude.{◌≡◌, ⊤, List, Result, true}
 use Rattle.std.specs.Borrow.{LendsIfOk, MutBor, Fml, follows_so}
 use mathlib.Core.Option as maybe

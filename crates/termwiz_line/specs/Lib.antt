@@ -3,6 +3,7 @@ pub mod Trim
 pub mod Zones
 pub mod Wrapped
 pub mod Clicks
+pub mod Wraps
 pub mod LineFlags
 pub mod Directions
 pub mod LineValue

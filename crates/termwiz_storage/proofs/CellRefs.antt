@@ -1,7 +1,9 @@
 -- What a borrowed cell shows, and the cell that it stands for.
 use Rattle.std.proofs.Common.{◌≡◌, ℕ, Bool, true, false, cond, refl, sym, ap, ◌∙◌}
-use Rattle.termwiz_cell.specs.CellValue.{CellValue, columns}
+use Rattle.std.specs.Prelude.{nat_lt}
+use Rattle.termwiz_cell.specs.CellValue.{CellValue, cell_of, columns}
 use Rattle.termwiz_storage.specs.CellRef.{Contents, contents, contents_of, ref_cell, ref_width}
+use Rattle.termwiz_storage.specs.CellsLeft.{IsOfCell}
 use Rattle.termwiz_storage.specs.declared.line.cellref.CellRef.{CellRef}
 
 abbrev width_of : Bool → ℕ
@@ -30,3 +32,15 @@ ref_cell-is r c e h = contents_of-injective (ref_cell r) c (sym (contents-own r 
 
 pub contents-is : (r : CellRef) (c : CellValue) → ref_width r ≡ columns (ref_cell r) → ref_cell r ≡ c → contents r ≡ contents_of c
 contents-is r c e h = contents-own r e ∙ ap contents_of h
+
+-- the cell that is made of what it tells
+pub cell_of-own : (r : CellRef) → IsOfCell r → cell_of (ref_cell r).text (ref_width r) (ref_cell r).attrs ≡ ref_cell r
+cell_of-own r h = λ i. record {
+  text = h.clean i;
+  wide = (ap (nat_lt 1) h.width ∙ same (ref_cell r).wide) i;
+  attrs = (ref_cell r).attrs;
+}
+  where
+    same : (w : Bool) → nat_lt 1 (width_of w) ≡ w
+    same true = refl
+    same false = refl

@@ -1,6 +1,6 @@
 -- The visible cells that an iterator has left, each with its column.
 use Rattle.std.specs.Prelude.{◌≡◌, ℕ, List, [], ◌∷◌, Option, Some, None}
-use Rattle.termwiz_cell.specs.CellValue.{CellValue, columns}
+use Rattle.termwiz_cell.specs.CellValue.{CellValue, clean, columns}
 use Rattle.termwiz_storage.specs.CellRef.{indexed_cell, ref_cell, ref_width}
 use Rattle.termwiz_storage.specs.declared.line.cellref.CellRef.{CellRef}
 use Rattle.termwiz_storage.specs.declared.line.cellref.VisibleCellIter.{VisibleCellIter}
@@ -9,7 +9,12 @@ use Rattle.termwiz_storage.specs.declared.line.cellref.VisibleCellIter.TheVarian
 abbrev pub cells_left : VisibleCellIter → List (ℕ × CellValue)
 cells_left (V s) = s
 
--- the first cell that is left comes, and tells its own width; None at the end
+-- what a borrowed cell tells is true of a cell: its width is the cell's, and its text is one that cells have
+pub record IsOfCell (r : CellRef) : Type 0 where
+  pub width : ref_width r ≡ columns (ref_cell r)
+  pub clean : clean (ref_cell r).text ≡ (ref_cell r).text
+
+-- the first cell that is left comes; None at the end
 abbrev pub YieldsCell : {S : Type 0} → (S → List (ℕ × CellValue)) → S → Option CellRef → S → Type 0
 YieldsCell rest s None t = (rest s ≡ []) × (rest t ≡ [])
-YieldsCell rest s (Some r) t = (rest s ≡ indexed_cell r ∷ rest t) × (ref_width r ≡ columns (ref_cell r))
+YieldsCell rest s (Some r) t = (rest s ≡ indexed_cell r ∷ rest t) × IsOfCell r

@@ -28,6 +28,7 @@ mod edits;
 mod flags;
 mod texts;
 mod wrapped;
+mod wraps;
 mod zones;
 
 pub use clicks::DoubleClickRange;

@@ -4,7 +4,7 @@ ghost use Rattle.std.specs.Option.{unwrap_or};
 ghost use Rattle.std.specs.Iterator.{item_count};
 ghost use Rattle.termwiz_cell.specs.CellValue.{blank, cell_of, columns};
 ghost use Rattle.termwiz_storage.specs.CellRef.{contents, contents_of, ref_index, ref_cell, ref_width};
-ghost use Rattle.termwiz_storage.specs.CellsLeft.{cells_left, YieldsCell};
+ghost use Rattle.termwiz_storage.specs.CellsLeft.{cells_left, IsOfCell, YieldsCell};
 
 use crate::line::vecstorage::VecStorageIter;
 use std::alloc::{AllocError, Global};
@@ -94,6 +94,14 @@ impl<'a> CellRef<'a> {
                 Cell::new_grapheme_with_width(alloc, text, *width, attrs)
             }
         }
+    }
+
+    /// A copy of the cell that a walk gave.
+    pub fn to_cell(&self, alloc: Global) -> Result<Cell, AllocError>
+        requires { IsOfCell self.now }
+        ensures { IfOk result (λ cell. cell ≡ ref_cell self.now) }
+    {
+        self.as_cell(alloc)
     }
 
     /// Whether text, width and attributes are the same, wherever the cells stand.

@@ -15,6 +15,7 @@ ghost use Rattle.std.specs.Borrow.{sem};
 ghost use Rattle.termwiz_storage.specs.Lending.{LendsCells};
 
 mod edits;
+mod wrapped;
 
 use crate::line::cellref::CellRef;
 use std::alloc::{AllocError, Global};
@@ -22,8 +23,6 @@ use std::marker::Model;
 use std::ops::{DerefSlice, DerefSliceMut};
 use std::{mem, slice};
 use termwiz_cell::cell::{Cell, CellAttributes};
-
-mod wrapped;
 
 /// The cells of a line, each with a place of its own.
 #[derive(Drop, Debug)]
@@ -563,6 +562,8 @@ impl<'a> Iterator for VecStorageIter<'a> {
             self.idx += 1;
         }
         let cell = self.cells.next()?;
+        // A cell's text is clean, which its reader knows.
+        let _text = cell.str();
         let cell_index = self.idx;
         self.idx += 1;
         self.skip_width = cell.width() - 1;

@@ -24,7 +24,7 @@ loop-cell-init c = record { can = tt; finite = tt; end_is = (0, omega arith, λ 
 pub loop-cell-preserved : goal.loop-cell-preserved
 loop-cell-preserved c =
     let h = c.loop-cell.invariant.end_is in
-    record { can = tt; finite = tt; end_is = (h.0, h.1, λ e t. h.2 e (subst (λ (z : List (ℕ × CellValue)). EndsAt h.0 z e) (sym c.in-Some.ensures.steps.0) (blank_cell (ref_cell-is c.in-Some.cell blank c.in-Some.ensures.steps.1 (c.is_blank.ensures.0 (search rules))) t))) }
+    record { can = tt; finite = tt; end_is = (h.0, h.1, λ e t. h.2 e (subst (λ (z : List (ℕ × CellValue)). EndsAt h.0 z e) (sym c.in-Some.ensures.steps.0) (blank_cell (ref_cell-is c.in-Some.cell blank c.in-Some.ensures.steps.1.width (c.is_blank.ensures.0 (search rules))) t))) }
 
 pub loop-cell-preserved-then-not-is_blank : goal.loop-cell-preserved-then-not-is_blank
 loop-cell-preserved-then-not-is_blank c =
@@ -33,5 +33,5 @@ loop-cell-preserved-then-not-is_blank c =
     record {
       can = tt;
       finite = tt;
-      end_is = (p.0 + columns p.1, c.saturating_add-kept.ensures ∙ rw (c.cell_index.ensures, c.width.ensures, c.in-Some.ensures.steps.1) refl, λ e t. h.2 e (subst (λ (z : List (ℕ × CellValue)). EndsAt h.0 z e) (sym c.in-Some.ensures.steps.0) (other_cell (λ e. iff_false c.is_blank.ensures c.if-not-is_blank.true (contents-is c.in-Some.cell blank c.in-Some.ensures.steps.1 e)) t)));
+      end_is = (p.0 + columns p.1, c.saturating_add-kept.ensures ∙ rw (c.cell_index.ensures, c.width.ensures, c.in-Some.ensures.steps.1.width) refl, λ e t. h.2 e (subst (λ (z : List (ℕ × CellValue)). EndsAt h.0 z e) (sym c.in-Some.ensures.steps.0) (other_cell (λ e. iff_false c.is_blank.ensures c.if-not-is_blank.true (contents-is c.in-Some.cell blank c.in-Some.ensures.steps.1.width e)) t)));
     }

@@ -49,7 +49,7 @@ overlaying-more {old} {now} {new} {all} {left} {seqno} p h t = record {
         let some : nat_lt 0 (length (h.set ++ p ∷ [])) ≡ true = lt-ltb 0 _ (omega (arith, more)) in
         let taken-is : taken (length (h.set ++ p ∷ [])) old.seqno seqno ≡ max old.seqno seqno = rw some refl in
         t.number ∙ ap (λ n. max n seqno) h.overlays.number ∙ taken-more (length h.set) old.seqno seqno ∙ sym taken-is
-    );
+        );
     flags = t.flags ∙ h.overlays.flags;
     vector = λ v. t.vector (h.overlays.vector v);
   };

@@ -1,11 +1,12 @@
 -- The cells of a text, and the texts of cells.
-use Rattle.std.specs.Prelude.{◌≡◌, ℕ, ◌+◌, List, [], ◌∷◌, ◌++◌, length, map, true, if◌then◌else◌}
+use Rattle.std.specs.Prelude.{◌≡◌, ℕ, ◌+◌, List, [], ◌∷◌, ◌++◌, ◌==◌, length, map, true, if◌then◌else◌}
 use Rattle.std.specs.List.{flat_map}
 use Rattle.unicode_segmentation.specs.Grapheme.{graphemes}
 use Rattle.termwiz_cell.specs.Attributes.{Attributes}
 use Rattle.termwiz_cell.specs.CellValue.{CellValue, columns, measured}
-use Rattle.termwiz_storage.specs.Edits.{begins_within}
+use Rattle.termwiz_storage.specs.Edits.{begins_within, with_halves}
 use Rattle.termwiz_storage.specs.Stored.{set_cell}
+use Rattle.termwiz_storage.specs.Wrapped.{set_last_wrapped}
 use Rattle.termwiz_line.specs.Filled.{taken}
 use Rattle.termwiz_line.specs.LineValue.{LineValue}
 
@@ -17,6 +18,14 @@ placed x (c ∷ cs) = (x, c) ∷ placed (x + columns c) cs
 -- the cells of a text's graphemes, with these attributes
 abbrev pub cells_of_text : (List ℕ → ℕ) → Attributes → List ℕ → List CellValue
 cells_of_text measure a text = map (λ g. measured measure g a) (graphemes true text)
+
+-- a text as it is stored: a wide cell is followed by its half
+abbrev pub stored_text : (List ℕ → ℕ) → Attributes → List ℕ → List CellValue
+stored_text measure a text = with_halves (placed 0 (cells_of_text measure a text))
+
+-- the same where the text goes on in the next line; an empty text has no cell to mark
+abbrev pub wrapped_text : (List ℕ → ℕ) → Attributes → List ℕ → List CellValue
+wrapped_text measure a text = if length (stored_text measure a text) == 0 then [] else set_last_wrapped true (stored_text measure a text)
 
 -- the texts of visible cells
 abbrev pub texts_of : List (ℕ × CellValue) → List ℕ

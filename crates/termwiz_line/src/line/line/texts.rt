@@ -1,16 +1,16 @@
 //! Lines of texts, and the texts of a line.
-ghost use Rattle.std.specs.Prelude.{◌≡◌, ◌+◌, ◌↔◌, [], ◌∷◌, ◌++◌, false, true, IfOk, IfSome, IsTrue, OnErr, OnOk, option_map, string_bytes};
+ghost use Rattle.std.specs.Prelude.{◌≡◌, ◌+◌, ◌↔◌, ◌++◌, false, true, IfOk, IfSome, IsTrue, OnErr, OnOk, option_map, string_bytes};
 ghost use Rattle.std.specs.Cow.{cow_str_bytes};
-ghost use Rattle.std.specs.List.{All};
+ghost use Rattle.std.specs.List.{All, list_any};
 ghost use Rattle.termwiz_cell.specs.Attributes.{default_attributes};
-ghost use Rattle.termwiz_cell.specs.CellValue.{columns, half, measured, space};
+ghost use Rattle.termwiz_cell.specs.CellValue.{columns, measured, space};
 ghost use Rattle.termwiz_cell.specs.Width.{at_version, unversioned};
 ghost use Rattle.termwiz_storage.specs.CellRef.{indexed_cell, ref_cell, ref_index};
 ghost use Rattle.termwiz_storage.specs.CellsLeft.{cells_left};
-ghost use Rattle.termwiz_storage.specs.Edits.{with_half, with_halves};
-ghost use Rattle.termwiz_storage.specs.Stored.{cell_at, visible};
+ghost use Rattle.termwiz_storage.specs.Stored.{cell_at, is_linked, visible};
+ghost use Rattle.termwiz_line.specs.LineEdits.{IsMade};
 ghost use Rattle.termwiz_line.specs.LineFlags.{no_flags};
-ghost use Rattle.termwiz_line.specs.Texts.{IsPartlyOverlaid, Overlays, cells_of_text, placed, text_within, texts_of, texts_between};
+ghost use Rattle.termwiz_line.specs.Texts.{IsPartlyOverlaid, Overlays, cells_of_text, placed, stored_text, text_within, texts_of, texts_between, wrapped_text};
 
 use super::Line;
 use std::alloc::{AllocError, Global};
@@ -20,6 +20,7 @@ use termwiz_cell::cell::{Cell, CellAttributes};
 use termwiz_cell::change::{SEQ_ZERO, SequenceNo};
 use termwiz_cell::emoji::{UnicodeVersion, Widths};
 use termwiz_storage::line::cellref::{CellRef, VisibleCellIter};
+use termwiz_storage::line::vecstorage::push_with_half;
 use termwiz_text::Graphemes;
 
 impl Line {
@@ -32,7 +33,7 @@ impl Line {
         version: Option<UnicodeVersion>,
         widths: &W,
     ) -> Result<Line, AllocError>
-        ensures { IfOk result (λ line. line ≡ record { cells = with_halves (placed 0 (cells_of_text (at_version (W.width_of widths.now) version) attrs.now text.now)); seqno = seqno; flags = no_flags; is_vector = true }) }
+        ensures { IfOk result (λ line. line ≡ record { cells = stored_text (at_version (W.width_of widths.now) version) attrs.now text.now; seqno = seqno; flags = no_flags; is_vector = true }) }
     {
         let mut cells = Vec::new(alloc);
         push_text(&mut cells, alloc, text, attrs, version, widths)?;
@@ -41,9 +42,33 @@ impl Line {
 
     /// A line of a text in default attributes, measured without a version, with the number 0.
     pub fn from_plain<W: Widths>(alloc: Global, text: &str, widths: &W) -> Result<Line, AllocError>
-        ensures { IfOk result (λ line. line ≡ record { cells = with_halves (placed 0 (cells_of_text (unversioned (W.width_of widths.now)) default_attributes text.now)); seqno = 0; flags = no_flags; is_vector = true }) }
+        ensures { IfOk result (λ line. line ≡ record { cells = stored_text (unversioned (W.width_of widths.now)) default_attributes text.now; seqno = 0; flags = no_flags; is_vector = true }) }
     {
-        Line::from_text(alloc, text, &CellAttributes::blank(), SEQ_ZERO, None, widths)
+        Line::from_text(
+            alloc,
+            text,
+            &CellAttributes::blank(),
+            SEQ_ZERO,
+            None,
+            widths,
+        )
+    }
+
+    /// A line of a text, as `from_text` makes it without a version, whose last visible cell is marked as wrapped, with its half. An empty text makes a line without cells.
+    pub fn from_text_with_wrapped_last_col<W: Widths>(
+        alloc: Global,
+        text: &str,
+        attrs: &CellAttributes,
+        seqno: SequenceNo,
+        widths: &W,
+    ) -> Result<Line, AllocError>
+        ensures { IfOk result (IsMade (wrapped_text (unversioned (W.width_of widths.now)) attrs.now text.now) seqno) }
+    {
+        let mut line = Line::from_text(alloc, text, attrs, seqno, None, widths)?;
+        if line.len() > 0 {
+            line.set_last_cell_was_wrapped(true, seqno)?;
+        }
+        Ok(line)
     }
 
     /// Sets the cells of a text's graphemes, as `set_cell` does, the first at a column and each of the others behind the last one.
@@ -102,12 +127,19 @@ impl Line {
         None
     }
 
+    /// Whether a stored cell has a link.
+    pub fn has_hyperlink(&self) -> bool
+        ensures { result ≡ list_any is_linked self.now.cells }
+    {
+        self.storage.has_hyperlink()
+    }
+
     /// Whether the text of each visible cell is a single space.
     pub fn is_whitespace(&self) -> bool
         ensures { IsTrue result ↔ All (λ p. p.1.text ≡ space) (visible self.now.cells) }
     {
         for cell in self.visible_cells() {
-            if !is_space(cell) {
+            if !cell.is_space() {
                 return false;
             }
         }
@@ -145,7 +177,7 @@ fn push_text<W: Widths>(
     version: Option<UnicodeVersion>,
     widths: &W,
 ) -> Result<(), AllocError>
-    ensures { OnOk result (cells.new.items ≡ cells.old.items ++ with_halves (placed 0 (cells_of_text (at_version (W.width_of widths.now) version) attrs.now text.now))) }
+    ensures { OnOk result (cells.new.items ≡ cells.old.items ++ stored_text (at_version (W.width_of widths.now) version) attrs.now text.now) }
 {
     for grapheme in Graphemes::new(text) {
         let cell = measured_cell(alloc, grapheme, attrs, version, widths)?;
@@ -179,32 +211,4 @@ fn push_within(
         text.push_str(cell.str())?;
     }
     Ok(())
-}
-
-// Pushes a cell, and its half behind a wide one.
-fn push_with_half(out: &mut Vec<Cell>, cell: Cell) -> Result<(), AllocError>
-    ensures { OnOk result (out.new.items ≡ out.old.items ++ with_half cell) }
-{
-    if cell.width() > 1 {
-        push_wide(out, cell)?;
-    } else {
-        out.push(cell)?;
-    }
-    Ok(())
-}
-
-fn push_wide(out: &mut Vec<Cell>, cell: Cell) -> Result<(), AllocError>
-    ensures { OnOk result (out.new.items ≡ out.old.items ++ cell ∷ half cell ∷ []) }
-{
-    let half = Cell::blank_with_attrs(cell.attrs().clone()?);
-    out.push(cell)?;
-    out.push(half)?;
-    Ok(())
-}
-
-// Whether the text is a single space.
-fn is_space(cell: CellRef<'_>) -> bool
-    ensures { IsTrue result ↔ ((ref_cell cell.entry).text ≡ space) }
-{
-    matches!(cell.str().as_bytes(), b" ")
 }

@@ -8,6 +8,7 @@ pub mod LineFlags
 pub mod Directions
 pub mod LineValue
 pub mod LineEdits
+pub mod EditLaws
 pub mod Lending
 pub mod LineEq
 pub mod Filled

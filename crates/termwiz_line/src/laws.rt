@@ -1,4 +1,5 @@
-//! What rows are: laws of the definitions that the contracts cite, each on a function that does nothing.
+//! What rows and edits are: laws of the definitions that the contracts cite, each on a function that does nothing.
+ghost use Rattle.termwiz_line.specs.EditLaws.{AllColumnsShow, StoredAgainShows};
 ghost use Rattle.termwiz_line.specs.RowLaws.{PaintPaints, ClearClears, ClearPast, VisibleFixesRow, CellsHaveRow, VisibleFixesRowOf, WalkGrows, ResizedIsRow, SetCellPaints, PruningKeepsRow};
 
 /// Painting and clearing a row do to what it shows what the words say, and what it shows fixes it.
@@ -18,4 +19,10 @@ pub fn stored_row_laws()
     ensures resized { ResizedIsRow }
     ensures set_cell { SetCellPaints }
     ensures pruned { PruningKeepsRow }
+{}
+
+/// Visible cells that are appended to an empty line, or taken out by all columns, show what they showed, at the same columns.
+pub fn edit_laws()
+    ensures again { StoredAgainShows }
+    ensures all { AllColumnsShow }
 {}

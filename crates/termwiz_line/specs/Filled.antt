@@ -1,5 +1,5 @@
 -- What filling columns of a line leaves.
-use Rattle.std.specs.Prelude.{◌≡◌, ℕ, ◌-◌, ◌<◌, ◌≤◌, nat_lt, max, true, List, [], if◌then◌else◌}
+use Rattle.std.specs.Prelude.{◌≡◌, ℕ, ◌-◌, ◌<◌, ◌≤◌, nat_lt, max, true, [], if◌then◌else◌}
 use Rattle.termwiz_cell.specs.CellValue.{CellValue, blank}
 use Rattle.termwiz_storage.specs.Stored.{fill}
 use Rattle.termwiz_storage.specs.FilledAs.{IsFilledAs}

@@ -10,4 +10,6 @@ mod flags;
 #[cfg(test)]
 mod lines;
 #[cfg(test)]
+mod texts;
+#[cfg(test)]
 mod visible_cells;

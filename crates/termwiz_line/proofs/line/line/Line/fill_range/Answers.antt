@@ -1,8 +1,6 @@
-use Rattle.std.proofs.Common.{◌-◌, ◌≡◌, ap, sym, subst}
 use Rattle.std.proofs.lemmas.Bool.{iff_false}
 use Rattle.std.proofs.lemmas.Result.{on_ok_weaker}
 use Rattle.termwiz_line.specs.LineValue.{Prunes}
-use Rattle.termwiz_storage.specs.Stored.{fill, IsPruned}
 use Rattle.termwiz_storage.proofs.Fill.{fill-closed_form}
 use Rattle.termwiz_line.proofs.line.line.Line.fill_range.Goals as goal
 

@@ -62,8 +62,8 @@ fn marks(alloc: Global, text: &str) -> Result<Vec<bool>, AllocError> {
 
 #[test]
 fn the_last_cell_of_a_wrapped_text_is_marked_with_its_half(rt: HostRuntime) -> Result<(), Fail> {
-    assert!(rt; *marks(rt.alloc(), "ab")?.as_slice() == [false, true]);
-    assert!(rt; *marks(rt.alloc(), "aか")?.as_slice() == [false, true, true]);
+    assert!(rt; marks(rt.alloc(), "ab")?.as_slice() == [false, true].as_slice());
+    assert!(rt; marks(rt.alloc(), "aか")?.as_slice() == [false, true, true].as_slice());
     assert!(rt; marks(rt.alloc(), "")?.is_empty());
     Ok(())
 }

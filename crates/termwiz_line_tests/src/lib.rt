@@ -5,6 +5,7 @@
 mod edit_table;
 #[cfg(test)]
 mod edits;
+mod cuts;
 #[cfg(test)]
 mod flags;
 #[cfg(test)]

@@ -1,0 +1,289 @@
+//! Zones, double clicks and wraps of lines.
+use crate::lines::{cell, line_of};
+use std::alloc::{AllocError, Global};
+use std::test::Fail;
+use termwiz_cell::cell::{Cell, CellAttributes, SemanticType};
+use termwiz_line::line::line::{DoubleClickRange, Line, ZoneRange};
+
+fn typed(alloc: Global, text: &str, semantic_type: SemanticType) -> Result<Cell, AllocError> {
+    let mut attrs = CellAttributes::blank();
+    attrs.set_semantic_type(semantic_type);
+    Cell::new_grapheme_with_width(alloc, text, 1, attrs)
+}
+
+// `ab` as a prompt, `c` as its input, and two default blanks.
+fn prompt(alloc: Global) -> Result<Line, AllocError> {
+    let mut line = Line::with_width(alloc, 5, 0)?;
+    line.set_cell(0, typed(alloc, "a", SemanticType::Prompt)?, 0)?;
+    line.set_cell(1, typed(alloc, "b", SemanticType::Prompt)?, 0)?;
+    line.set_cell(2, typed(alloc, "c", SemanticType::Input)?, 0)?;
+    Ok(line)
+}
+
+fn zone(semantic_type: SemanticType, from: usize, to: usize) -> ZoneRange {
+    ZoneRange {
+        semantic_type,
+        range: from..to,
+    }
+}
+
+#[test]
+fn a_zone_ends_where_the_semantic_type_changes(rt: HostRuntime) -> Result<(), Fail> {
+    let mut line = prompt(rt.alloc())?;
+    let zones = line.semantic_zone_ranges()?;
+    assert_eq!(rt; zones.len(), 2);
+    assert!(rt; zones[0] == zone(SemanticType::Prompt, 0, 1));
+    assert!(rt; zones[1] == zone(SemanticType::Input, 2, 2));
+    Ok(())
+}
+
+#[test]
+fn blanks_alone_are_in_a_zone_and_no_cells_in_none(rt: HostRuntime) -> Result<(), Fail> {
+    let mut blanks = Line::with_width(rt.alloc(), 3, 0)?;
+    let zones = blanks.semantic_zone_ranges()?;
+    assert_eq!(rt; zones.len(), 1);
+    assert!(rt; zones[0] == zone(SemanticType::Output, 0, 2));
+    let mut empty = Line::with_width(rt.alloc(), 0, 0)?;
+    assert_eq!(rt; empty.semantic_zone_ranges()?.len(), 0);
+    Ok(())
+}
+
+// The same, whose zones were asked for.
+fn zoned(alloc: Global) -> Result<Line, AllocError> {
+    let mut line = prompt(alloc)?;
+    line.semantic_zone_ranges()?;
+    Ok(line)
+}
+
+// Whether the zones are those of a copy, which keeps none.
+fn has_own_zones(line: &mut Line) -> Result<bool, AllocError> {
+    let mut copy = line.clone()?;
+    let fresh = copy.semantic_zone_ranges()?;
+    let kept = line.semantic_zone_ranges()?;
+    Ok(kept == fresh)
+}
+
+fn after_setting(alloc: Global) -> Result<bool, AllocError> {
+    let mut line = zoned(alloc)?;
+    line.set_cell(3, typed(alloc, "d", SemanticType::Output)?, 0)?;
+    has_own_zones(&mut line)
+}
+
+fn after_setting_within(alloc: Global) -> Result<bool, AllocError> {
+    let mut line = zoned(alloc)?;
+    line.set_cell_within(1, typed(alloc, "d", SemanticType::Input)?, 2, 0)?;
+    has_own_zones(&mut line)
+}
+
+fn after_a_run(alloc: Global) -> Result<bool, AllocError> {
+    let mut line = zoned(alloc)?;
+    line.set_run(1, "xy", &CellAttributes::blank(), 0)?;
+    has_own_zones(&mut line)
+}
+
+fn after_filling(alloc: Global) -> Result<bool, AllocError> {
+    let mut line = zoned(alloc)?;
+    line.fill_range(1..4, &typed(alloc, "d", SemanticType::Input)?, 0)?;
+    has_own_zones(&mut line)
+}
+
+fn after_the_mark(alloc: Global) -> Result<bool, AllocError> {
+    let mut line = zoned(alloc)?;
+    line.set_last_cell_was_wrapped(true, 0)?;
+    has_own_zones(&mut line)
+}
+
+fn after_writing(alloc: Global) -> Result<bool, AllocError> {
+    let mut line = zoned(alloc)?;
+    let cells: &mut [Cell] = line.cells_mut()?;
+    for cell in cells.iter_mut() {
+        cell.attrs_mut().set_semantic_type(SemanticType::Input);
+    }
+    has_own_zones(&mut line)
+}
+
+#[test]
+fn setting_cells_drops_the_zones(rt: HostRuntime) -> Result<(), Fail> {
+    assert!(rt; after_setting(rt.alloc())?);
+    assert!(rt; after_setting_within(rt.alloc())?);
+    assert!(rt; after_a_run(rt.alloc())?);
+    assert!(rt; after_filling(rt.alloc())?);
+    assert!(rt; after_the_mark(rt.alloc())?);
+    assert!(rt; after_writing(rt.alloc())?);
+    Ok(())
+}
+
+fn after_inserting(alloc: Global) -> Result<bool, AllocError> {
+    let mut line = zoned(alloc)?;
+    line.insert_cell(1, typed(alloc, "d", SemanticType::Input)?, 9, 0)?;
+    has_own_zones(&mut line)
+}
+
+fn after_erasing(alloc: Global) -> Result<bool, AllocError> {
+    let mut line = zoned(alloc)?;
+    line.erase_cell(0, 0)?;
+    has_own_zones(&mut line)
+}
+
+fn after_removing(alloc: Global) -> Result<bool, AllocError> {
+    let mut line = zoned(alloc)?;
+    line.remove_cell(0, 0)?;
+    has_own_zones(&mut line)
+}
+
+fn after_appending(alloc: Global) -> Result<bool, AllocError> {
+    let mut line = zoned(alloc)?;
+    line.append_line(prompt(alloc)?, 0)?;
+    has_own_zones(&mut line)
+}
+
+fn after_splitting(alloc: Global) -> Result<bool, AllocError> {
+    let mut line = zoned(alloc)?;
+    let _rest = line.split_off(1, 0)?;
+    has_own_zones(&mut line)
+}
+
+#[test]
+fn moving_cells_drops_the_zones(rt: HostRuntime) -> Result<(), Fail> {
+    assert!(rt; after_inserting(rt.alloc())?);
+    assert!(rt; after_erasing(rt.alloc())?);
+    assert!(rt; after_removing(rt.alloc())?);
+    assert!(rt; after_appending(rt.alloc())?);
+    assert!(rt; after_splitting(rt.alloc())?);
+    Ok(())
+}
+
+fn after_cutting(alloc: Global) -> Result<bool, AllocError> {
+    let mut line = zoned(alloc)?;
+    line.resize(1, 0)?;
+    has_own_zones(&mut line)
+}
+
+fn after_pruning(alloc: Global) -> Result<bool, AllocError> {
+    let mut line = Line::with_width(alloc, 5, 0)?;
+    line.set_cell(0, cell(alloc, "a", 1)?, 0)?;
+    line.semantic_zone_ranges()?;
+    line.prune_trailing_blanks(0)?;
+    has_own_zones(&mut line)
+}
+
+fn after_blanking_out(alloc: Global) -> Result<bool, AllocError> {
+    let mut line = zoned(alloc)?;
+    line.blank_out(3, 0)?;
+    has_own_zones(&mut line)
+}
+
+fn after_clearing(alloc: Global) -> Result<bool, AllocError> {
+    let mut line = zoned(alloc)?;
+    line.resize_and_clear(3, 0, CellAttributes::blank())?;
+    has_own_zones(&mut line)
+}
+
+#[test]
+fn another_length_drops_the_zones(rt: HostRuntime) -> Result<(), Fail> {
+    assert!(rt; after_cutting(rt.alloc())?);
+    assert!(rt; after_pruning(rt.alloc())?);
+    assert!(rt; after_blanking_out(rt.alloc())?);
+    assert!(rt; after_clearing(rt.alloc())?);
+    Ok(())
+}
+
+fn foo_bar(alloc: Global) -> Result<Line, AllocError> {
+    line_of(
+        alloc,
+        &[
+            ("f", 1),
+            ("o", 1),
+            ("o", 1),
+            (" ", 1),
+            ("b", 1),
+            ("a", 1),
+            ("r", 1),
+        ],
+    )
+}
+
+fn clicked(line: &Line, column: usize) -> DoubleClickRange {
+    line.compute_double_click_range(column, |text| text != " ")
+}
+
+#[test]
+fn a_double_click_selects_the_word(rt: HostRuntime) -> Result<(), Fail> {
+    let mut line = foo_bar(rt.alloc())?;
+    assert!(rt; clicked(&line, 1) == DoubleClickRange::Range(0..3));
+    assert!(rt; clicked(&line, 3) == DoubleClickRange::Range(3..3));
+    assert!(rt; clicked(&line, 5) == DoubleClickRange::Range(4..7));
+    assert!(rt; clicked(&line, 7) == DoubleClickRange::Range(7..7));
+    line.set_last_cell_was_wrapped(true, 1)?;
+    assert!(rt; clicked(&line, 5) == DoubleClickRange::RangeWithWrap(4..7));
+    assert!(rt; clicked(&line, 1) == DoubleClickRange::Range(0..3));
+    Ok(())
+}
+
+#[test]
+fn a_double_click_on_a_half_selects_up_to_it(rt: HostRuntime) -> Result<(), Fail> {
+    let line = line_of(rt.alloc(), &[("か", 2), (" ", 1), ("b", 1)])?;
+    assert!(rt; clicked(&line, 1) == DoubleClickRange::Range(0..1));
+    Ok(())
+}
+
+#[test]
+fn the_mark_is_set_on_a_wide_cell_and_its_half(rt: HostRuntime) -> Result<(), Fail> {
+    let mut line = line_of(rt.alloc(), &[("a", 1), ("か", 2)])?;
+    line.set_last_cell_was_wrapped(true, 4)?;
+    let cells = line.stored_cells().ok_or("no cells")?;
+    assert_eq!(rt; cells.len(), 3);
+    assert!(rt; !cells[0].attrs().wrapped());
+    assert!(rt; cells[1].attrs().wrapped());
+    assert!(rt; cells[2].attrs().wrapped());
+    assert_eq!(rt; line.current_seqno(), 4);
+    Ok(())
+}
+
+#[test]
+fn an_empty_line_is_marked_on_a_blank(rt: HostRuntime) -> Result<(), Fail> {
+    let mut line = Line::with_width(rt.alloc(), 0, 0)?;
+    assert!(rt; !line.last_cell_was_wrapped());
+    line.set_last_cell_was_wrapped(true, 1)?;
+    assert_eq!(rt; line.len(), 1);
+    assert!(rt; line.last_cell_was_wrapped());
+    line.set_last_cell_was_wrapped(false, 1)?;
+    assert!(rt; !line.last_cell_was_wrapped());
+    Ok(())
+}
+
+// The texts of the lines, each with its length, and `>` where the text goes on.
+fn wrapped(alloc: Global, line: Line, width: usize) -> Result<String, AllocError> {
+    let mut text = String::new(alloc);
+    for line in line.wrap(width, 1)? {
+        for cell in line.visible_cells() {
+            text.push_str(cell.str())?;
+        }
+        let len = line.len();
+        let mark = if line.last_cell_was_wrapped() {
+            ">"
+        } else {
+            ""
+        };
+        write!(text, "{len}{mark}|")?;
+    }
+    Ok(text)
+}
+
+#[test]
+fn a_line_is_wrapped_where_the_next_cell_has_no_room(rt: HostRuntime) -> Result<(), Fail> {
+    let line = line_of(rt.alloc(), &[("a", 1), ("か", 2), ("b", 1)])?;
+    assert_eq!(rt; wrapped(rt.alloc(), line, 2)?.as_str(), "a1>|か2>|b1|");
+    Ok(())
+}
+
+#[test]
+fn each_line_takes_a_cell_and_spaces_at_the_end_are_dropped(rt: HostRuntime) -> Result<(), Fail> {
+    let spaces = line_of(rt.alloc(), &[(" ", 1), (" ", 1), (" ", 1)])?;
+    assert_eq!(rt; wrapped(rt.alloc(), spaces, 1)?.as_str(), "   3|");
+    let ab = line_of(rt.alloc(), &[("a", 1), ("b", 1)])?;
+    assert_eq!(rt; wrapped(rt.alloc(), ab, 0)?.as_str(), "a1>|b1|");
+    let wide = line_of(rt.alloc(), &[("a", 1), ("か", 2), (" ", 1)])?;
+    assert_eq!(rt; wrapped(rt.alloc(), wide, 1)?.as_str(), "a1>|か2|");
+    Ok(())
+}

@@ -2,10 +2,11 @@
 #![tactic(auto)]
 
 #[cfg(test)]
+mod cuts;
+#[cfg(test)]
 mod edit_table;
 #[cfg(test)]
 mod edits;
-mod cuts;
 #[cfg(test)]
 mod flags;
 #[cfg(test)]

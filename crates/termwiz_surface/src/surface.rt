@@ -212,6 +212,7 @@ impl<W: Widths> Surface<W> {
         Ok(())
     }
 
+    #[inline(always)]
     fn put(&mut self, cell: Cell) -> Result<(), AllocError>
         requires inside { self.old.x < self.old.width }
         requires measured { IsMeasured (unversioned (W.width_of self.old.widths)) cell }

@@ -33,6 +33,7 @@ mod zones;
 
 pub use clicks::DoubleClickRange;
 pub use zones::ZoneRange;
+use zones::drop_zones;
 
 /// A line of cells by itself: a row of a copied screen is one, and so may be what a program keeps of rows that have scrolled away.
 ///
@@ -123,7 +124,7 @@ impl Line {
         ensures err { OnErr result (IsUnchanged self.old self.new) }
         ensures succeeds { self.old.is_vector ≡ true → width ≤ length self.old.cells → IsOk result }
     {
-        self.zones = None;
+        drop_zones(&mut self.zones);
         self.storage.blank_out(width)?;
         self.seqno = seqno;
         self.bits = LineBits::NONE;
@@ -137,7 +138,7 @@ impl Line {
         ensures err { OnErr result (IsUnchanged self.old self.new) }
         ensures succeeds { self.old.is_vector ≡ true → width ≤ length self.old.cells → IsOk result }
     {
-        self.zones = None;
+        drop_zones(&mut self.zones);
         self.storage.resize(width)?;
         self.seqno = self.seqno.max(seqno);
         Ok(())

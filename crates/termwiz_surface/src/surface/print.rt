@@ -25,6 +25,7 @@ pub enum Piece {
 }
 
 /// The piece that a grapheme prints with a pen.
+#[inline(always)]
 pub(super) fn printed_piece<W: Widths>(
     alloc: Global,
     widths: &W,
@@ -44,6 +45,7 @@ pub(super) fn printed_piece<W: Widths>(
 }
 
 // The cell of a grapheme.
+#[inline(always)]
 #[tactic(auto, using(crate::proofs::Graphemes::single_same))]
 fn printed_cell<W: Widths>(
     alloc: Global,

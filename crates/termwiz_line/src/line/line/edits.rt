@@ -14,6 +14,7 @@ ghost use Rattle.termwiz_line.specs.LineFlags.{no_flags};
 ghost use Rattle.termwiz_line.specs.LineValue.{IsEdited, IsUnchanged, Prunes};
 
 use crate::line::line::Line;
+use crate::line::line::zones::drop_zones;
 use crate::line::linebits::LineBits;
 use std::alloc::AllocError;
 use std::ops::Range;
@@ -32,7 +33,7 @@ impl Line {
         ensures ok { OnOk result (self.new ≡ record { cells = replicate width (blank_of blank_attr); seqno = max self.old.seqno seqno; flags = no_flags; is_vector = true }) }
         ensures err { OnErr result (IsUnchanged self.old self.new) }
     {
-        self.zones = None;
+        drop_zones(&mut self.zones);
         self.storage.clear_to(self.alloc, width, blank_attr)?;
         self.seqno = self.seqno.max(seqno);
         self.bits = LineBits::NONE;
@@ -45,7 +46,7 @@ impl Line {
         ensures ok { OnOk result (IsEdited self.old (set_cell i cell self.old.cells) seqno self.new) }
         ensures err { OnErr result (IsUnchanged self.old self.new) }
     {
-        self.zones = None;
+        drop_zones(&mut self.zones);
         self.storage.set_cell(i, cell)?;
         self.seqno = self.seqno.max(seqno);
         Ok(())
@@ -83,7 +84,7 @@ impl Line {
         ensures ok { OnOk result (IsEdited self.old (take width (set_cell i cell self.old.cells)) seqno self.new) }
         ensures err { OnErr result (IsUnchanged self.old self.new) }
     {
-        self.zones = None;
+        drop_zones(&mut self.zones);
         self.storage.set_cell_within(i, cell, width)?;
         self.seqno = self.seqno.max(seqno);
         Ok(())
@@ -103,7 +104,7 @@ impl Line {
         ensures ok { OnOk result (IsEdited self.old (set_run i run.now attrs.now self.old.cells) seqno self.new) }
         ensures err { OnErr result (IsUnchanged self.old self.new) }
     {
-        self.zones = None;
+        drop_zones(&mut self.zones);
         self.storage.set_run(i, run, attrs)?;
         self.seqno = self.seqno.max(seqno);
         Ok(())
@@ -118,7 +119,7 @@ impl Line {
     {
         let kept = self.storage.kept_len();
         if kept > 0 && kept < self.len() {
-            self.zones = None;
+            drop_zones(&mut self.zones);
             self.storage.truncate(kept)?;
             self.seqno = self.seqno.max(seqno);
         }
@@ -130,7 +131,7 @@ impl Line {
         ensures ok { OnOk result (Fills self.old (to - from) from blank seqno self.new) }
         ensures err { OnErr result (IsUnchanged self.old self.new) }
     {
-        self.zones = None;
+        drop_zones(&mut self.zones);
         self.storage.set_blanks(from, to)?;
         if from < to {
             self.seqno = self.seqno.max(seqno);
@@ -199,7 +200,7 @@ impl Line {
         ensures ok { OnOk result (IsEdited self.old (inserted x cell right_margin self.old.cells) seqno self.new) }
         ensures err { OnErr result (IsUnchanged self.old self.new) }
     {
-        self.zones = None;
+        drop_zones(&mut self.zones);
         self.storage.insert_cell(x, cell, right_margin)?;
         self.seqno = self.seqno.max(seqno);
         Ok(())
@@ -213,7 +214,7 @@ impl Line {
         ensures succeeds { self.old.is_vector ≡ true → IsOk result }
     {
         if x < self.len() {
-            self.zones = None;
+            drop_zones(&mut self.zones);
             self.storage.erase_cell(x)?;
             self.seqno = self.seqno.max(seqno);
         }
@@ -228,7 +229,7 @@ impl Line {
         ensures succeeds { self.old.is_vector ≡ true → IsOk result }
     {
         if x < self.len() {
-            self.zones = None;
+            drop_zones(&mut self.zones);
             self.storage.remove_cell(x)?;
             self.seqno = self.seqno.max(seqno);
         }
@@ -249,7 +250,7 @@ impl Line {
         ensures ok { OnOk result (IsEdited self.old (erased_within x right_margin blank_attr self.old.cells) seqno self.new) }
         ensures err { OnErr result (IsUnchanged self.old self.new) }
     {
-        self.zones = None;
+        drop_zones(&mut self.zones);
         self.storage
             .erase_cell_with_margin(x, right_margin, blank_attr)?;
         self.seqno = self.seqno.max(seqno);
@@ -263,7 +264,7 @@ impl Line {
         ensures rest { IfOk result (λ rest. IsTakenFrom self.old (drop i self.old.cells) seqno rest) }
         ensures err { OnErr result (IsUnchanged self.old self.new) }
     {
-        self.zones = None;
+        drop_zones(&mut self.zones);
         let storage = self.storage.split_off(i)?;
         let mut rest = Line::of(self.alloc, storage, seqno);
         rest.bits = self.bits;
@@ -276,7 +277,7 @@ impl Line {
         ensures ok { OnOk result (IsEdited self.old (self.old.cells ++ with_halves (visible other.cells)) seqno self.new) }
         ensures err { OnErr result (IsUnchanged self.old self.new) }
     {
-        self.zones = None;
+        drop_zones(&mut self.zones);
         self.storage.append_visible(&other.storage)?;
         self.seqno = self.seqno.max(seqno);
         Ok(())
@@ -297,7 +298,7 @@ impl Line {
         ensures value { IfOk result (λ cells. cells.now ≡ self.old.cells) }
         ensures succeeds { self.old.is_vector ≡ true → IsOk result }
     {
-        self.zones = None;
+        drop_zones(&mut self.zones);
         self.storage.coerce_vec()
     }
 

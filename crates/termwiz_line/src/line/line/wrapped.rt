@@ -7,6 +7,7 @@ ghost use Rattle.termwiz_line.specs.LineValue.{IsEdited, IsUnchanged};
 ghost use Rattle.termwiz_line.specs.Wrapped.{last_is_wrapped};
 
 use super::Line;
+use super::zones::drop_zones;
 use std::alloc::AllocError;
 use termwiz_cell::change::SequenceNo;
 use termwiz_storage::line::cellref::VisibleCellIter;
@@ -24,7 +25,7 @@ impl Line {
         ensures err { OnErr result (IsUnchanged self.old self.new) }
         ensures succeeds { self.old.is_vector ≡ true → 0 < length self.old.cells → IsOk result }
     {
-        self.zones = None;
+        drop_zones(&mut self.zones);
         self.storage.set_last_wrapped(wrapped)?;
         self.seqno = self.seqno.max(seqno);
         Ok(())

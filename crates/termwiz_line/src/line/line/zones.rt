@@ -1,5 +1,5 @@
 //! Zones: the runs of cells of one semantic type.
-ghost use Rattle.std.specs.Prelude.{◌≡◌, ◌<◌, ◌^◌, ◌↔◌, ◌∷◌, [], IsTrue, IfOk, length, take};
+ghost use Rattle.std.specs.Prelude.{◌≡◌, None, ◌<◌, ◌^◌, ◌↔◌, ◌∷◌, [], IsTrue, IfOk, length, take};
 ghost use Rattle.std.specs.Borrow.{sem};
 ghost use Rattle.termwiz_storage.specs.CellRef.{indexed_cell};
 ghost use Rattle.termwiz_storage.specs.CellsLeft.{cells_left};
@@ -40,6 +40,16 @@ impl Line {
             Some(zones) => Ok(zones),
             None => Ok(&[]),
         }
+    }
+}
+
+/// Drops zones that are kept. Mostly there are none, which is seen at once.
+#[inline(always)]
+pub(super) fn drop_zones(zones: &mut Option<Vec<ZoneRange>>)
+    ensures { zones.new ≡ None }
+{
+    if zones.is_some() {
+        *zones = None;
     }
 }
 

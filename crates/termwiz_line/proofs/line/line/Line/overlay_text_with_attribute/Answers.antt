@@ -1,6 +1,6 @@
-use Rattle.std.proofs.Common.{◌≡◌, ◌∷◌, ℕ, List, map}
+use Rattle.std.proofs.Common.{◌≡◌, ◌∷◌, ℕ, List}
 use Rattle.termwiz_text.specs.Left.{graphemes_to_come}
-use Rattle.termwiz_cell.specs.CellValue.{CellValue, measured}
+use Rattle.termwiz_cell.specs.CellValue.{measured}
 use Rattle.termwiz_cell.specs.Width.{unversioned}
 use Rattle.termwiz_line.proofs.Overlays.{overlaying-none, overlaying-more}
 use Rattle.termwiz_line.proofs.line.line.Line.overlay_text_with_attribute.Goals as goal

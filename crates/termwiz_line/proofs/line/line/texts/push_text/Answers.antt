@@ -1,6 +1,6 @@
 use Rattle.std.proofs.Common.{◌≡◌, ◌∷◌, ℕ, List, map}
 use Rattle.termwiz_text.specs.Left.{graphemes_to_come}
-use Rattle.termwiz_cell.specs.CellValue.{CellValue, measured}
+use Rattle.termwiz_cell.specs.CellValue.{measured}
 use Rattle.termwiz_cell.specs.Width.{at_version}
 use Rattle.termwiz_line.proofs.Overlays.{pushed-more}
 use Rattle.termwiz_line.proofs.line.line.texts.push_text.Goals as goal

@@ -1,5 +1,6 @@
-//! What rows are: laws of the definitions that the contracts cite, each on a function that does nothing.
+//! What rows are, and what lines are cut into: laws of the definitions that the contracts cite, each on a function that does nothing.
 ghost use Rattle.termwiz_line.specs.RowLaws.{PaintPaints, ClearClears, ClearPast, VisibleFixesRow, CellsHaveRow, VisibleFixesRowOf, WalkGrows, ResizedIsRow, SetCellPaints, PruningKeepsRow};
+ghost use Rattle.termwiz_line.specs.CutLaws.{WrapsAreOne, ZonesAreOne};
 
 /// Painting and clearing a row do to what it shows what the words say, and what it shows fixes it.
 pub fn row_laws()
@@ -18,4 +19,10 @@ pub fn stored_row_laws()
     ensures resized { ResizedIsRow }
     ensures set_cell { SetCellPaints }
     ensures pruned { PruningKeepsRow }
+{}
+
+/// The zones of a line, and the lines into which it is wrapped, follow from its cells, whichever form stores them.
+pub fn cut_laws()
+    ensures zones { ZonesAreOne }
+    ensures wraps { WrapsAreOne }
 {}

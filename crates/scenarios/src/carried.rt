@@ -20,12 +20,26 @@ fn assert_carried<W: Widths>(
     let (width, height) = surface.dimensions();
     let mut viewer = Surface::new(alloc, width, height, widths)?;
     fill(alloc, &mut viewer)?;
+    repaint(alloc, surface, &mut viewer)?;
+    assert!(rt; has_same_screen(surface, &viewer)?);
+    Ok(())
+}
+
+fn repaint<W: Widths>(
+    alloc: Global,
+    surface: &Surface<W>,
+    viewer: &mut Surface<W>,
+) -> Result<(), SurfaceError> {
     let (_, changes) = surface.get_changes(0)?;
     viewer.add_changes(changes.into_owned(alloc)?)?;
-    let shown = viewer.screen()?;
-    let wanted = surface.screen()?;
-    assert!(rt; shown == wanted);
     Ok(())
+}
+
+fn has_same_screen<W: Widths>(
+    surface: &Surface<W>,
+    viewer: &Surface<W>,
+) -> Result<bool, AllocError> {
+    Ok(viewer.screen()? == surface.screen()?)
 }
 
 // Other text, wide and narrow, a hidden cursor and another pen.

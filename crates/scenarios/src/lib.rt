@@ -2,8 +2,6 @@
 #![tactic(auto)]
 
 #[cfg(test)]
-mod attributes;
-#[cfg(test)]
 mod carried;
 pub mod changes;
 #[cfg(test)]

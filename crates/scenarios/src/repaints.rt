@@ -20,14 +20,17 @@ fn assert_repaint<W: Widths>(
 ) -> Result<(), AllocError> {
     let (answered, changes) = surface.get_changes(0)?;
     assert_eq!(rt; answered, number);
-    let changes = changes.as_slice();
+    assert_entries(rt, changes.as_slice(), &rest);
+    Ok(())
+}
+
+fn assert_entries(rt: &impl Abort, changes: &[Change], rest: &[Change]) {
     assert_eq!(rt; changes.len(), rest.len() + 2);
     assert!(rt; changes[0] == hidden());
     assert!(rt; changes[1] == cleared());
-    for (entry, expected) in changes[2..].iter().zip(&rest) {
+    for (entry, expected) in changes[2..].iter().zip(rest) {
         assert!(rt; *entry == *expected);
     }
-    Ok(())
 }
 
 fn bold() -> CellAttributes {

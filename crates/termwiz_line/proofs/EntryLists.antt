@@ -1,15 +1,9 @@
 -- Lists of visible cells and of entries, one more at the end at a time.
-use Rattle.std.proofs.Common.{◌≡◌, ℕ, suc, ◌+◌, ◌-◌, ◌<◌, Bool, true, false, cond, ◌&&◌, List, [], ◌∷◌, ◌++◌, length, map, Some, refl, sym, ap, ap₂, ◌∙◌, arith, inl, inr, get_or, take, add-one}
-use Rattle.std.specs.Prelude.{slice_get, ◌==◌, IsTrue, ◌↔◌}
-use Rattle.std.specs.Cmp.Lexicographic.{pointwise_decides, bytes_decides}
-use Rattle.std.proofs.Math.Seq.{take-suc}
-use Rattle.std.proofs.lemmas.List.{length-map, get_or-map}
-use Rattle.std.proofs.lemmas.Bool.{cases_Bool, and_from, and_left, and_right, ne_eqb, cond-true, cond-false, true≢false}
-use Rattle.unicode_segmentation.specs.Grapheme.{graphemes}
-use Rattle.termwiz_cell.specs.Attributes.{Attributes, is_plain}
+use Rattle.std.proofs.Common.{◌≡◌, ℕ, true, false, cond, ◌&&◌, List, [], ◌∷◌, ◌++◌, refl, ap, ap₂, ◌∙◌}
+use Rattle.std.proofs.lemmas.Bool.{and_from, and_left, and_right, cond-true, cond-false}
+use Rattle.termwiz_cell.specs.Attributes.{Attributes}
 use Rattle.termwiz_cell.specs.CellValue.{CellValue}
-use Rattle.termwiz_cell.specs.ChangeValue.{ChangeValue}
-use Rattle.termwiz_line.specs.Entries.{joins, join, add_text, is_space_of, all_spaces, trimmed, last_attrs, is_empty, ends_plain, cells_out, with_tail, row_entries}
+use Rattle.termwiz_line.specs.Entries.{is_space_of, all_spaces, trimmed, last_attrs, ends_plain, cells_out, with_tail, row_entries}
 
 -- one cell more at the end
 pub all_spaces_push : (a : Attributes) (ps : List (ℕ × CellValue)) (p : ℕ × CellValue) → is_space_of a p ≡ true → all_spaces a (ps ++ p ∷ []) ≡ all_spaces a ps

@@ -14,7 +14,7 @@ fill-more (suc n) x c cs =
     let e : x + 1 + n ≡ x + suc n = omega arith in
     fill-more n (x + 1) c (set_cell x c cs) ∙ ap (λ k. set_cell k c (fill n (x + 1) c (set_cell x c cs))) e
 
-taken-more : (n old seqno : ℕ) → max (taken n old seqno) seqno ≡ max old seqno
+pub taken-more : (n old seqno : ℕ) → max (taken n old seqno) seqno ≡ max old seqno
 taken-more n old seqno = elim (cases_lt 0 n) [
   | inl l ↦ rw (lt-ltb 0 n l) (omega arith)
   | inr g ↦ rw (le-ltb 0 n g) refl

@@ -27,3 +27,4 @@ pub mod Flags
 pub mod Columns
 pub mod Pruned
 pub mod StoredRows
+pub mod Overlays

@@ -1,8 +1,7 @@
 -- Cells that are cut or grown are the row of that width.
-use Rattle.std.proofs.Common.{◌≡◌, ℕ, zero, suc, ◌+◌, ◌-◌, ◌<◌, ◌≤◌, ◌⊎◌, inl, inr, Bool, true, false, cond, not, ◌&&◌, List, [], ◌∷◌, ◌++◌, length, take, drop, get_or, arith, drop-cons, length-append, length-take, le_refl, refl, sym, ap, ◌∙◌}
+use Rattle.std.proofs.Common.{◌≡◌, ℕ, zero, suc, ◌+◌, ◌-◌, ◌<◌, ◌≤◌, ◌⊎◌, inl, inr, true, false, not, List, [], ◌∷◌, ◌++◌, length, take, get_or, arith, length-append, length-take, refl, sym, ap, ◌∙◌}
 use Rattle.std.proofs.lemmas.List.{ext_get_or, get_or-take, get_or_append_left, get_or-append_right, get_or_past, length-replicate}
-use Rattle.std.proofs.lemmas.Bool.{cases_Bool, cases_lt, cases_order, and_parts, and_left, lt-ltb, le-ltb}
-use Rattle.std.proofs.Math.Seq.{drop-length}
+use Rattle.std.proofs.lemmas.Bool.{cases_Bool, cases_lt, cases_order, and_parts, and_left}
 use Rattle.termwiz_cell.specs.CellValue.{CellValue, blank, half, is_wide}
 use Rattle.termwiz_storage.specs.Stored.{stored, padded, hides}
 use Rattle.termwiz_storage.specs.Halves.{missing_half, resized}

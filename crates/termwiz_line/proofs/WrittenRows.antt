@@ -1,18 +1,17 @@
 -- Rows that are written cell by cell, with spaces held back.
-use Rattle.std.proofs.Common.{◌≡◌, ℕ, zero, suc, ◌+◌, ◌-◌, ◌<◌, ◌≤◌, Bool, true, false, cond, not, ◌&&◌, List, [], ◌∷◌, ◌++◌, map, length, fold, replicate, refl, sym, ap, ap₂, ◌∙◌, subst, arith, ltb-true, append_assoc, append-nil, inl, inr, bytes_eq}
+use Rattle.std.proofs.Common.{◌≡◌, ℕ, zero, suc, ◌+◌, ◌-◌, ◌<◌, Bool, true, false, cond, not, ◌&&◌, List, [], ◌∷◌, ◌++◌, length, refl, sym, ap, ap₂, ◌∙◌, subst, arith, ltb-true, append_assoc, append-nil, inl, inr, bytes_eq}
 use Rattle.std.specs.Prelude.{nat_lt}
 use Rattle.std.specs.Cmp.Lexicographic.{bytes_decides}
-use Rattle.std.proofs.lemmas.Bool.{cases_Bool, and_from, and_left, and_right, and_parts, cond-true, cond-false, true≢false, lt-ltb}
+use Rattle.std.proofs.lemmas.Bool.{cases_Bool, and_from, and_left, and_right, and_parts, cond-false, true≢false, lt-ltb}
 use Rattle.std.proofs.lemmas.List.{replicate-append-replicate}
 use Rattle.std.proofs.lemmas.List.Sums.{fold-append}
 use Rattle.termwiz_cell.specs.Attributes.{Attributes, attributes_eq, attributes_eq-Decides, default_attributes, is_plain}
 use Rattle.termwiz_cell.specs.CellValue.{CellValue, blank_of, space}
-use Rattle.termwiz_cell.specs.ChangeValue as change
 use Rattle.termwiz_cell.specs.ChangeValue.{ChangeValue, is_text}
 use Rattle.termwiz_line.specs.LastChange.{last_is}
 use Rattle.termwiz_line.specs.Entries.{Penned, pen_entry, add_text, cell_out, cells_out, is_space_of, all_spaces, trimmed, last_attrs, is_empty, clear_entry, with_tail, ends_plain, row_entries}
 use Rattle.termwiz_line.specs.Writing.{Writing, behind, and_cells, ends_in_space, spaces_of, IsWritten}
-use Rattle.termwiz_line.proofs.EntryLists.{trimmed_push, untrimmed_push, row_entries_plain}
+use Rattle.termwiz_line.proofs.EntryLists.{trimmed_push, row_entries_plain}
 use Rattle.termwiz_line.proofs.JoinedTexts.{add_text_behind, ends_with_added}
 
 -- a cell more at the end

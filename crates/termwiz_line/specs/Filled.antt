@@ -1,7 +1,7 @@
 -- What filling columns of a line leaves.
-use Rattle.std.specs.Prelude.{◌≡◌, ℕ, ◌-◌, ◌≤◌, nat_lt, max, true, List, [], if◌then◌else◌}
+use Rattle.std.specs.Prelude.{◌≡◌, ℕ, ◌-◌, ◌<◌, ◌≤◌, nat_lt, max, true, [], if◌then◌else◌}
 use Rattle.termwiz_cell.specs.CellValue.{CellValue, blank}
-use Rattle.termwiz_storage.specs.Stored.{fill, IsPruned}
+use Rattle.termwiz_storage.specs.Stored.{fill}
 use Rattle.termwiz_storage.specs.FilledAs.{IsFilledAs}
 use Rattle.termwiz_line.specs.LineValue.{LineValue, Prunes}
 
@@ -16,10 +16,11 @@ pub record Fills (old : LineValue) (count from : ℕ) (c : CellValue) (seqno : �
   pub flags : new.flags ≡ old.flags
   pub vector : old.is_vector ≡ true → new.is_vector ≡ true
 
--- the cell is set in each column from a to b - 1, and then the line is pruned
+-- the cell is set in each column from a to b - 1, which leaves what the form says, and then the line is pruned
 pub record FillsAndPrunes (old : LineValue) (a b : ℕ) (c : CellValue) (seqno : ℕ) (new : LineValue) : Type 0 where
   pub full : LineValue
   pub fills : Fills old (b - a) a c seqno full
+  pub form : a < b → IsFilledAs a b c old.cells full.cells
   pub prunes : Prunes full seqno new
 
 -- an empty line stays where the cell is a default blank, and is filled otherwise
@@ -32,9 +33,3 @@ pub record IsPartlyFilled (old : LineValue) (a b : ℕ) (c : CellValue) (seqno :
   pub count : ℕ
   pub within : count ≤ b - a
   pub fills : Fills old count a c seqno new
-
--- the cell stands in each column from a to b - 1, of which there are some, before the default blanks at the end are cut
-pub record FillsAs (a b : ℕ) (c : CellValue) (old new : List CellValue) : Type 0 where
-  pub full : List CellValue
-  pub form : IsFilledAs a b c old full
-  pub pruned : IsPruned full new

@@ -8,9 +8,11 @@ pub mod LineFlags
 pub mod Directions
 pub mod LineValue
 pub mod LineEdits
+pub mod EditLaws
 pub mod Lending
 pub mod LineEq
 pub mod Filled
+pub mod Texts
 pub mod Row
 pub mod Shows
 pub mod Entries

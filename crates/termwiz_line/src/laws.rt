@@ -1,6 +1,7 @@
-//! What rows are, and what lines are cut into: laws of the definitions that the contracts cite, each on a function that does nothing.
-ghost use Rattle.termwiz_line.specs.RowLaws.{PaintPaints, ClearClears, ClearPast, VisibleFixesRow, CellsHaveRow, VisibleFixesRowOf, WalkGrows, ResizedIsRow, SetCellPaints, PruningKeepsRow};
+//! What rows, edits and cuts are: laws of the definitions that the contracts cite, each on a function that does nothing.
 ghost use Rattle.termwiz_line.specs.CutLaws.{WrapsAreOne, ZonesAreOne};
+ghost use Rattle.termwiz_line.specs.EditLaws.{AllColumnsShow, StoredAgainShows};
+ghost use Rattle.termwiz_line.specs.RowLaws.{PaintPaints, ClearClears, ClearPast, VisibleFixesRow, CellsHaveRow, VisibleFixesRowOf, WalkGrows, ResizedIsRow, SetCellPaints, PruningKeepsRow};
 
 /// Painting and clearing a row do to what it shows what the words say, and what it shows fixes it.
 pub fn row_laws()
@@ -19,6 +20,12 @@ pub fn stored_row_laws()
     ensures resized { ResizedIsRow }
     ensures set_cell { SetCellPaints }
     ensures pruned { PruningKeepsRow }
+{}
+
+/// Visible cells that are appended to an empty line, or taken out by all columns, show what they showed, at the same columns.
+pub fn edit_laws()
+    ensures again { StoredAgainShows }
+    ensures all { AllColumnsShow }
 {}
 
 /// The zones of a line, and the lines into which it is wrapped, follow from its cells, whichever form stores them.

@@ -4,8 +4,14 @@
 #[cfg(test)]
 mod cuts;
 #[cfg(test)]
+mod edit_table;
+#[cfg(test)]
+mod edits;
+#[cfg(test)]
 mod flags;
 #[cfg(test)]
 mod lines;
+#[cfg(test)]
+mod texts;
 #[cfg(test)]
 mod visible_cells;

@@ -121,3 +121,22 @@ columns-from b i (suc s) (c ∷ cs) l = columns-from b (i + 1) s cs (omega arith
 
 pub columns-all : (b : ℕ) (cs : List CellValue) → b ≡ length cs → columns_between 0 b cs ≡ with_halves (visible cs)
 columns-all b cs e = ap with_halves (columns-from b 0 0 cs (omega arith))
+
+-- visible cells that are stored again show what they showed, at the same columns
+shown-again : (i s : ℕ) (cs : List CellValue) → visible_from (i + s) 0 (with_halves (visible_from i s cs)) ≡ visible_from i s cs
+shown-again i s [] = refl
+shown-again i zero (c ∷ cs) =
+    let z : i + 0 ≡ i = omega arith in
+    rw z (elim (cases_Bool (is_wide c)) [
+      | inl w ↦
+          let d : CellValue = record { text = c.text; wide = true; attrs = c.attrs } in
+          rw w (ap (λ ps. (i, d) ∷ ps) (shown-again (i + 1) 1 cs))
+      | inr w ↦
+          let d : CellValue = record { text = c.text; wide = false; attrs = c.attrs } in
+          let y : i + 1 + 0 ≡ i + 1 = omega arith in
+          rw w (ap (λ ps. (i, d) ∷ ps) (rw y at (shown-again (i + 1) 0 cs)))
+    ])
+shown-again i (suc s) (c ∷ cs) = let e : i + suc s ≡ i + 1 + s = omega arith in rw e (shown-again (i + 1) s cs)
+
+pub visible-with_halves : (cs : List CellValue) → visible (with_halves (visible cs)) ≡ visible cs
+visible-with_halves cs = shown-again 0 0 cs

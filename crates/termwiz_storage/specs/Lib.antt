@@ -1,8 +1,8 @@
 pub mod Stored
 pub mod Used
 pub mod Halves
-pub mod Wrapped
 pub mod Edits
+pub mod Wrapped
 pub mod FilledAs
 pub mod CellLists
 pub mod CellRef

@@ -1,5 +1,5 @@
 -- What clearing makes of a surface.
-use Rattle.std.proofs.Common.{◌≡◌, ℕ, zero, suc, ◌-◌, ◌<◌, ◌≤◌, inl, inr, Bool, cond, List, [], ◌∷◌, ◌++◌, length, get_or, map, take, drop, set, refl, sym, ◌∙◌, ap, ap₂, subst, arith}
+use Rattle.std.proofs.Common.{◌≡◌, ◌+◌, ℕ, zero, suc, ◌-◌, ◌<◌, ◌≤◌, inl, inr, Bool, cond, List, [], ◌∷◌, ◌++◌, length, get_or, map, take, drop, set, refl, sym, ◌∙◌, ap, ap₂, subst, arith}
 use Rattle.std.specs.Prelude.{nat_lt}
 use Rattle.std.proofs.lemmas.List.{get_or-map, length-map, length-set, get_or-set_same, get_or-set_other, ext_get_or, map-set}
 use Rattle.std.proofs.lemmas.Bool.{cases_eq, cases_lt, lt-ltb}
@@ -10,7 +10,8 @@ use Rattle.termwiz_line.specs.Row.{row_of, clear}
 use Rattle.termwiz_surface.specs.Screen.{row_at}
 use Rattle.termwiz_surface.specs.SurfaceValue.{SurfaceValue, IsStored, IsSound, screen_of}
 use Rattle.termwiz_surface.specs.Clear.{pruned_length, cleared_row, cleared_row_length, cleared_length}
-use Rattle.termwiz_surface.specs.Rows.{IsPartly, ArePartly, AreFilled, IsFilledAt}
+use Rattle.termwiz_surface.specs.Rows.{IsPartly, ArePartly, AreFilled}
+use Rattle.termwiz_surface.proofs.Filling.{filled-others}
 use Rattle.termwiz_surface.proofs.Stored.{IsLawful}
 use Rattle.termwiz_surface.proofs.Clear.{IsStored-fill, length-filled, row-fill, row-pruned, length-pruned, IsStored-pruned}
 
@@ -110,27 +111,30 @@ module _ {W : Type 0} (f : List ℕ → ℕ) (s : SurfaceValue W) (lawful : IsLa
         ∙ ap (λ (n : ℕ). pruned_length (clear (row_at (map (row_of s.width) s.lines) j) 0 (blank_of a)) n)
         (ap (λ (b : Bool). cond b s.width (get_or (map length s.lines) j 0)) (lt-ltb 0 s.width sound.some_column))
 
-    below_new : (x y : ℕ) → AreFilled s.width x y (blank_of a) s.lines new → (j : ℕ) → y < j → j < length s.lines → IsPruned (fill (s.width - 0) 0 (blank_of a) (row_at s.lines j)) (row_at new j)
+    below_new : (x y : ℕ) → AreFilled s.width x y (length s.lines) (blank_of a) s.lines new → (j : ℕ) → y < j → j < length s.lines → IsPruned (fill (s.width - 0) 0 (blank_of a) (row_at s.lines j)) (row_at new j)
     below_new x y p j u l = let z : s.width - 0 ≡ s.width = omega arith in rw z (p.below j u l)
 
   -- one row
-  module _ (new : List (List CellValue)) (p : IsFilledAt s.width s.x s.y (blank_of a) s.lines new) where
+  module _ (new : List (List CellValue)) (p : AreFilled s.width s.x s.y (s.y + 1) (blank_of a) s.lines new) where
+    others : (j : ℕ) → ((j ≡ s.y) → ⊥) → row_at new j ≡ row_at s.lines j
+    others = filled-others s.width s.x s.y (blank_of a) s.lines new p
+
     pub IsSound-eol : IsSound f (record s { lines = new; pen = a })
     IsSound-eol = IsSound-with new s.x s.y a p.same_count sound.column sound.row (λ j l. elim (cases_eq j s.y) [
       | inl q ↦ subst (λ (i : ℕ). IsStored f s.width (row_at new i)) (sym q) (stored_new s.x sound.column new s.y in_rows p.here)
-      | inr n ↦ subst (IsStored f s.width) (sym (p.others j n)) (at_row j l)
+      | inr n ↦ subst (IsStored f s.width) (sym (others j n)) (at_row j l)
     ])
 
     pub rows-eol : map (row_of s.width) new ≡ set (map (row_of s.width) s.lines) s.y (cleared_row (screen_of s) a)
-    rows-eol = ap (map (row_of s.width)) (set-ext [] (row_at new s.y) s.lines new s.y in_rows p.same_count p.others refl) ∙ map-set (row_of s.width) s.lines s.y (row_at new s.y)
+    rows-eol = ap (map (row_of s.width)) (set-ext [] (row_at new s.y) s.lines new s.y in_rows p.same_count others refl) ∙ map-set (row_of s.width) s.lines s.y (row_at new s.y)
         ∙ ap (set (map (row_of s.width) s.lines) s.y) (sym (get_or-map (row_of s.width) new s.y [] [] (omega (arith, p.same_count, in_rows))) ∙ row_new s.x sound.column new s.y in_rows p.same_count p.here)
 
     pub lengths-eol : map length new ≡ set (map length s.lines) s.y (cleared_row_length (screen_of s) a (map length s.lines))
-    lengths-eol = ap (map length) (set-ext [] (row_at new s.y) s.lines new s.y in_rows p.same_count p.others refl) ∙ map-set length s.lines s.y (row_at new s.y)
+    lengths-eol = ap (map length) (set-ext [] (row_at new s.y) s.lines new s.y in_rows p.same_count others refl) ∙ map-set length s.lines s.y (row_at new s.y)
         ∙ ap (set (map length s.lines) s.y) (sym (get_or-map length new s.y [] 0 (omega (arith, p.same_count, in_rows))) ∙ length_new s.x sound.column new s.y in_rows p.same_count p.here)
 
   -- a row and those below it
-  module _ (new : List (List CellValue)) (p : AreFilled s.width s.x s.y (blank_of a) s.lines new) where
+  module _ (new : List (List CellValue)) (p : AreFilled s.width s.x s.y (length s.lines) (blank_of a) s.lines new) where
     pub IsSound-eos : IsSound f (record s { lines = new; pen = a })
     IsSound-eos = IsSound-with new s.x s.y a p.same_count sound.column sound.row (λ j l. elim (cases_lt j s.y) [
       | inl q ↦ subst (IsStored f s.width) (sym (p.above j q)) (at_row j l)
@@ -155,7 +159,7 @@ module _ {W : Type 0} (f : List ℕ → ℕ) (s : SurfaceValue W) (lawful : IsLa
         (λ k u l. let m : k < length s.lines = rw length-map at l in whole_length new k m p.same_count (below_new new s.x s.y p k u m))
 
   -- all rows
-  module _ (new : List (List CellValue)) (p : AreFilled s.width 0 0 (blank_of a) s.lines new) where
+  module _ (new : List (List CellValue)) (p : AreFilled s.width 0 0 (length s.lines) (blank_of a) s.lines new) where
     each_new : (j : ℕ) → j < length s.lines → IsPruned (fill (s.width - 0) 0 (blank_of a) (row_at s.lines j)) (row_at new j)
     each_new zero l = p.here
     each_new (suc j) l = below_new new 0 0 p (suc j) (omega arith) l

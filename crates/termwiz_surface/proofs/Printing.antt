@@ -14,10 +14,10 @@ use Rattle.termwiz_cell.specs.Attributes.{Attributes}
 use Rattle.termwiz_cell.specs.CellValue.{CellValue, plain_cell, clean, measured}
 use Rattle.termwiz_storage.specs.Stored.{set_cell, set_run}
 use Rattle.termwiz_storage.proofs.SetCell.{length-set_cell}
-use Rattle.termwiz_surface.specs.declared.surface.print.LineBreak.TheVariants as breaks
+use Rattle.termwiz_surface.specs.declared.surface.print.Piece.TheVariants.{Cell}
 use Rattle.termwiz_surface.specs.Graphemes.{single}
 use Rattle.termwiz_surface.specs.Screen.{Screen, row_at}
-use Rattle.termwiz_surface.specs.Print.{break_of, print_one, put, put_lengths, printed_cell, piece_lengths, lengths_after, wraps, wrapped, wrapped_lengths, columns_left}
+use Rattle.termwiz_surface.specs.Print.{piece_of, print_piece, print_one, put, put_lengths, printed_cell, piece_lengths, one_lengths, lengths_after, wraps, wrapped, wrapped_lengths, columns_left}
 use Rattle.termwiz_surface.specs.Printing.{AreNarrow, Prints, PrintsSome}
 use Rattle.termwiz_surface.specs.Rows.{painted_in}
 use Rattle.termwiz_surface.specs.SurfaceValue.{SurfaceValue, IsMeasured, IsSound, Draws, screen_of, lengths_of}
@@ -44,8 +44,8 @@ clean-plain b h =
     let high : b ≤ 126 = plain_to b h in
     rw (le-ltb b 32 low, ne_eqb b 127 (omega arith)) refl
 
-break-plain : (b : ℕ) → is_plain b ≡ true → break_of (b ∷ []) ≡ breaks.None
-break-plain b h =
+piece-plain : (f : List ℕ → ℕ) (pen : Attributes) (b : ℕ) → is_plain b ≡ true → piece_of f pen (b ∷ []) ≡ Cell (printed_cell f pen (b ∷ []))
+piece-plain f pen b h =
     let low : 32 ≤ b = plain_from b h in
     rw (ne_eqb b 13 (omega arith), ne_eqb b 10 (omega arith)) refl
 
@@ -97,7 +97,7 @@ module _ {W : Type 0} (f : List ℕ → ℕ) (lawful : IsLawful f) where
 
       printed : print_one f (screen_of s) (b ∷ []) ≡ put (screen_of s) (plain_cell b s.pen)
       printed =
-          let placed : print_one f (screen_of s) (b ∷ []) ≡ put (screen_of s) (printed_cell f (screen_of s) (b ∷ [])) = rw (break-plain b plain, stays) refl in
+          let placed : print_one f (screen_of s) (b ∷ []) ≡ put (screen_of s) (printed_cell f s.pen (b ∷ [])) = rw (piece-plain f s.pen b plain, stays) refl in
           placed ∙ ap (put (screen_of s)) (measured-plain f b s.pen plain narrow)
 
       screen_more : screen_of (one_more s b) ≡ print_one f (screen_of s) (b ∷ [])
@@ -105,9 +105,9 @@ module _ {W : Type 0} (f : List ℕ → ℕ) (lawful : IsLawful f) where
           let shown : screen_of (one_more s b) ≡ put (screen_of s) (plain_cell b s.pen) = rw (rows-put f s (plain_cell b s.pen) sound inside) refl in
           shown ∙ sym printed
 
-      lengths_more : lengths_of (one_more s b) ≡ piece_lengths f (screen_of s) (b ∷ []) (break_of (b ∷ [])) (lengths_of s)
+      lengths_more : lengths_of (one_more s b) ≡ one_lengths f (screen_of s) (b ∷ []) (lengths_of s)
       lengths_more =
-          let placed : piece_lengths f (screen_of s) (b ∷ []) (break_of (b ∷ [])) (lengths_of s) ≡ put_lengths (screen_of s) (printed_cell f (screen_of s) (b ∷ [])) (lengths_of s) = rw (break-plain b plain, stays) refl in
+          let placed : one_lengths f (screen_of s) (b ∷ []) (lengths_of s) ≡ put_lengths (screen_of s) (printed_cell f s.pen (b ∷ [])) (lengths_of s) = rw (piece-plain f s.pen b plain, stays) refl in
           lengths-put f s (plain_cell b s.pen) sound inside
           ∙ sym (placed ∙ ap (λ (c : CellValue). put_lengths (screen_of s) c (lengths_of s)) (measured-plain f b s.pen plain narrow))
 
@@ -150,20 +150,22 @@ room-wrapped s n l h = elim (cases_Bool (wraps s)) [
 ]
 
 -- a wrap may come before its grapheme
-module _ (f : List ℕ → ℕ) (s : Screen) (ns : List ℕ) (g : List ℕ) (gs : List (List ℕ)) (is_text : break_of g ≡ breaks.None) (settled : wraps (wrapped s) ≡ false) where
+module _ (f : List ℕ → ℕ) (s : Screen) (ns : List ℕ) (g : List ℕ) (gs : List (List ℕ)) (is_text : piece_of f s.pen g ≡ Cell (printed_cell f s.pen g)) (settled : wraps (wrapped s) ≡ false) where
   wrapped-twice : wrapped (wrapped s) ≡ wrapped s
   wrapped-twice = rw settled refl
 
-  cell-wrapped : printed_cell f (wrapped s) g ≡ printed_cell f s g
-  cell-wrapped = ap (λ (a : Attributes). measured f (single g) a) (pen-wrapped s)
+  piece-wrapped : piece_of f (wrapped s).pen g ≡ Cell (printed_cell f s.pen g)
+  piece-wrapped = ap (λ (a : Attributes). piece_of f a g) (pen-wrapped s) ∙ is_text
 
   print-wrapped : print_one f (wrapped s) g ≡ print_one f s g
-  print-wrapped = rw is_text (ap₂ put wrapped-twice cell-wrapped)
+  print-wrapped = ap (print_piece (wrapped s)) piece-wrapped ∙ ap (λ (z : Screen). put z (printed_cell f s.pen g)) wrapped-twice ∙ sym (ap (print_piece s) is_text)
 
-  lengths-wrapped : piece_lengths f (wrapped s) g (break_of g) (wrapped_lengths s ns) ≡ piece_lengths f s g (break_of g) ns
+  lengths-wrapped : one_lengths f (wrapped s) g (wrapped_lengths s ns) ≡ one_lengths f s g ns
   lengths-wrapped =
       let once : wrapped_lengths (wrapped s) (wrapped_lengths s ns) ≡ wrapped_lengths s ns = rw settled refl in
-      rw is_text (ap₂ (λ (z : Screen) (ms : List ℕ). put_lengths z (printed_cell f (wrapped s) g) ms) wrapped-twice once ∙ ap (λ (c : CellValue). put_lengths (wrapped s) c (wrapped_lengths s ns)) cell-wrapped)
+      ap (λ p. piece_lengths (wrapped s) p (wrapped_lengths s ns)) piece-wrapped
+      ∙ ap₂ (λ (z : Screen) (ms : List ℕ). put_lengths z (printed_cell f s.pen g) ms) wrapped-twice once
+      ∙ sym (ap (λ p. piece_lengths s p ns) is_text)
 
   pub screen-from_wrap : fold (print_one f) (wrapped s) (g ∷ gs) ≡ fold (print_one f) s (g ∷ gs)
   screen-from_wrap = ap (λ (z : Screen). fold (print_one f) z gs) print-wrapped
@@ -183,8 +185,8 @@ prints-after_wrap f old mid new (b ∷ bs) some plain d inside p =
       width = p.width ∙ d.width;
       height = p.height ∙ d.height;
       number = p.number ∙ d.number;
-      screen_is = p.screen_is ∙ ap (λ (z : Screen). fold (print_one f) z (pieces (b ∷ bs))) d.screen_is ∙ screen-from_wrap f (screen_of old) (lengths_of old) (b ∷ []) (pieces bs) (break-plain b is) settled;
-      lengths_are = p.lengths_are ∙ ap₂ (λ (z : Screen) (ns : List ℕ). lengths_after f z ns (pieces (b ∷ bs))) d.screen_is d.lengths_are ∙ lengths-from_wrap f (screen_of old) (lengths_of old) (b ∷ []) (pieces bs) (break-plain b is) settled;
+      screen_is = p.screen_is ∙ ap (λ (z : Screen). fold (print_one f) z (pieces (b ∷ bs))) d.screen_is ∙ screen-from_wrap f (screen_of old) (lengths_of old) (b ∷ []) (pieces bs) (piece-plain f old.pen b is) settled;
+      lengths_are = p.lengths_are ∙ ap₂ (λ (z : Screen) (ns : List ℕ). lengths_after f z ns (pieces (b ∷ bs))) d.screen_is d.lengths_are ∙ lengths-from_wrap f (screen_of old) (lengths_of old) (b ∷ []) (pieces bs) (piece-plain f old.pen b is) settled;
     }
 
 -- a run of ASCII may be cut anywhere
@@ -210,7 +212,7 @@ one_byte bs k l = let one : k + 1 - k ≡ 1 = omega arith in rw (one, drop_more 
 
 lengths_after-append : (f : List ℕ → ℕ) (s : Screen) (ns : List ℕ) (gs hs : List (List ℕ)) → lengths_after f s ns (gs ++ hs) ≡ lengths_after f (fold (print_one f) s gs) (lengths_after f s ns gs) hs
 lengths_after-append f s ns [] hs = refl
-lengths_after-append f s ns (g ∷ gs) hs = lengths_after-append f (print_one f s g) (piece_lengths f s g (break_of g) ns) gs hs
+lengths_after-append f s ns (g ∷ gs) hs = lengths_after-append f (print_one f s g) (one_lengths f s g ns) gs hs
 
 module _ {W : Type 0} (f : List ℕ → ℕ) (old new : SurfaceValue W) (text rest : List ℕ) (p : PrintsSome f old text rest new) where
   -- printing what is left leads where printing the whole led

@@ -9,7 +9,7 @@ use Rattle.termwiz_cell.specs.declared.change.Change.{Change}
 use Rattle.termwiz_cell.specs.declared.change.CursorVisibility.TheVariants.{Visible}
 use Rattle.termwiz_line.specs.Row.{row_of}
 use Rattle.termwiz_surface.specs.SurfaceValue.{SurfaceValue}
-use Rattle.termwiz_surface.specs.Answer.{Adds}
+use Rattle.termwiz_surface.specs.Adding.{Adds}
 use Rattle.termwiz_surface.specs.Schedule.{State, Allows, Runs, Ended, Next, state_of, first_state}
 use Rattle.termwiz_surface.specs.declared.surface.SurfaceError.{SurfaceError}
 use Rattle.termwiz_surface.specs.declared.surface.SurfaceError.TheVariants.{Numbers, Memory}
@@ -25,8 +25,8 @@ map-replicate : {X Y : Type 0} (f : X → Y) (n : ℕ) (x : X) → map f (replic
 map-replicate f zero x = refl
 map-replicate f (suc n) x = ap (λ t. f x ∷ t) (map-replicate f n x)
 
-pub Runs-push : {width : List ℕ → ℕ} {a b : State} {events : List Event} {outcomes : List Outcome} (event : Event) (outcome : Outcome) (c : State)
-    → Runs width a events outcomes b → Allows width b event outcome c → Runs width a (events ++ event ∷ []) (outcomes ++ outcome ∷ []) c
+pub Runs-push : {measure : List ℕ → ℕ} {a b : State} {events : List Event} {outcomes : List Outcome} (event : Event) (outcome : Outcome) (c : State)
+    → Runs measure a events outcomes b → Allows measure b event outcome c → Runs measure a (events ++ event ∷ []) (outcomes ++ outcome ∷ []) c
 Runs-push event outcome c (Ended s) h = Next s c c event outcome [] [] h (Ended c)
 Runs-push event outcome c (Next old mid new e o es os k r) h = Next old mid c e o (es ++ event ∷ []) (os ++ outcome ∷ []) k (Runs-push event outcome c r h)
 
@@ -40,21 +40,21 @@ module _ {W : Type 0} where
   }
 
   -- a list is answered as the schedule says
-  pub Allows-answered : (width : List ℕ → ℕ) (old new : SurfaceValue W) (changes : Vec Change Global) (n : ℕ)
-      → Adds width old (map change_value changes.items) (old.number - 1 + vec_len changes) (Ok n) new → Allows width (state_of old) (Changes changes) (Answered n) (state_of new)
-  Allows-answered width old new changes n h =
+  pub Allows-answered : (measure : List ℕ → ℕ) (old new : SurfaceValue W) (changes : Vec Change Global) (n : ℕ)
+      → Adds measure old (map change_value changes.items) (old.number - 1 + vec_len changes) (Ok n) new → Allows measure (state_of old) (Changes changes) (Answered n) (state_of new)
+  Allows-answered measure old new changes n h =
       let count : length (map change_value changes.items) ≡ length changes.items = length-map changes.items change_value in
       (omega (arith, h.0), h.1 ∙ ap (λ k. old.number - 1 + k) changes.ok.0, record { screen = h.2.screen_is; lengths = h.2.lengths_are; number = h.2.number })
 
   -- a refused list is refused as the schedule says
-  pub Allows-refused : (width : List ℕ → ℕ) (old new : SurfaceValue W) (changes : Vec Change Global) (answer : ℕ) (e : SurfaceError)
-      → Adds width old (map change_value changes.items) answer (Err e) new → Allows width (state_of old) (Changes changes) (Refused e) (state_of new)
-  Allows-refused width old new changes answer Numbers h =
+  pub Allows-refused : (measure : List ℕ → ℕ) (old new : SurfaceValue W) (changes : Vec Change Global) (answer : ℕ) (e : SurfaceError)
+      → Adds measure old (map change_value changes.items) answer (Err e) new → Allows measure (state_of old) (Changes changes) (Refused e) (state_of new)
+  Allows-refused measure old new changes answer Numbers h =
       let count : length (map change_value changes.items) ≡ length changes.items = length-map changes.items change_value in
       (omega (arith, h.0), ap state_of h.1)
-  Allows-refused width old new changes answer Memory h =
+  Allows-refused measure old new changes answer Memory h =
       let count : length (map change_value changes.items) ≡ length changes.items = length-map changes.items change_value in
-      let form = sound_has_size width new h.3 in (
+      let form = sound_has_size measure new h.3 in (
         omega (arith, h.0),
         omega (arith, h.1),
         record {
@@ -64,7 +64,7 @@ module _ {W : Type 0} where
             full = form.full ∙ h.2.height;
             row_length = λ j l. form.row_length j (omega (arith, h.2.height)) ∙ h.2.width;
           };
-          form = sound_is_printable width new h.3;
+          form = sound_is_printable measure new h.3;
           lines = new.lines;
           stored_so = h.3.stored_so;
           rows = refl;

@@ -1,5 +1,5 @@
 -- A stored row that is cut or filled to the width is its row.
-use Rattle.std.proofs.Common.{◌≡◌, ℕ, zero, suc, ◌+◌, ◌-◌, ◌<◌, ◌≤◌, inl, inr, true, false, not, List, [], ◌∷◌, length, map, sym, ◌∙◌, ap, arith, append-nil, le-leb, length-append}
+use Rattle.std.proofs.Common.{◌≡◌, ℕ, suc, ◌+◌, ◌-◌, ◌<◌, ◌≤◌, inl, inr, true, false, not, List, [], length, map, sym, ◌∙◌, ap, arith, append-nil, le-leb, length-append}
 use Rattle.std.proofs.lemmas.Bool.{cases_Bool, cases_lt, and_parts, lt-leb}
 use Rattle.std.proofs.lemmas.List.{ext_get_or, get_or-map, length-map, length-replicate, take_all}
 use Rattle.termwiz_cell.specs.CellValue.{CellValue, is_wide}

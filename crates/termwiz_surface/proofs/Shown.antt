@@ -4,7 +4,8 @@ use Rattle.termwiz_cell.specs.CellValue.{CellValue, is_wide}
 use Rattle.termwiz_storage.specs.Stored.{stored, visible}
 use Rattle.termwiz_line.specs.Row.{is_hidden, visible_upto, row_of}
 use Rattle.termwiz_surface.specs.Screen.{row_at}
-use Rattle.termwiz_surface.specs.Chars.{newline, texts_of, screen_chars}
+use Rattle.termwiz_line.specs.Texts.{texts_of}
+use Rattle.termwiz_surface.specs.Chars.{newline, screen_chars}
 use Rattle.termwiz_surface.specs.ShownChars.{shown_chars}
 use Rattle.termwiz_line.proofs.RowOf.{row_of_at, visible_row}
 

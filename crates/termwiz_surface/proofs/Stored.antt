@@ -1,12 +1,12 @@
 -- Painting keeps the form of a stored row, and paints the row.
-use Rattle.std.proofs.Common.{◌≡◌, ◌≢◌, ℕ, suc, ◌+◌, ◌<◌, ◌≤◌, ◌⊎◌, inl, inr, true, false, min, max, List, [], ◌∷◌, length, replicate, refl, sym, ◌∙◌, ap, subst, arith}
+use Rattle.std.proofs.Common.{◌≡◌, ℕ, suc, ◌+◌, ◌<◌, ◌≤◌, inl, inr, true, min, max, List, [], ◌∷◌, length, replicate, refl, sym, ◌∙◌, ap, subst, arith}
 use Rattle.std.proofs.lemmas.List.{get_or-take, get_or_past, length-replicate, length-take}
-use Rattle.std.proofs.lemmas.Bool.{cases_Bool, cases_eq, cases_lt, cases_order, true≢false}
+use Rattle.std.proofs.lemmas.Bool.{cases_lt, true≢false}
 use Rattle.unicode_segmentation.specs.Grapheme.{graphemes}
 use Rattle.unicode_segmentation.proofs.Computing.{unicode_segmentation}
 use Rattle.termwiz_cell.specs.CellValue.{CellValue, blank, blank_of, half, is_wide, columns}
 use Rattle.termwiz_storage.specs.Stored.{stored, set_cell}
-use Rattle.termwiz_storage.proofs.Widths.{columns-wide, columns-narrow, wide_from, columns_bounds}
+use Rattle.termwiz_storage.proofs.Widths.{columns-wide}
 use Rattle.termwiz_storage.proofs.SetCell.{IsSet, IsSet-set_cell, length-set_cell}
 use Rattle.termwiz_cell.specs.Attributes.{Attributes, default_attributes}
 use Rattle.termwiz_line.specs.Row.{row_of, paint}

@@ -3,14 +3,11 @@ use Rattle.std.specs.Prelude.{ℕ, List, [], ◌∷◌, ◌++◌}
 use Rattle.std.specs.List.{flat_map}
 use Rattle.termwiz_cell.specs.CellValue.{CellValue}
 use Rattle.termwiz_storage.specs.Stored.{visible}
+use Rattle.termwiz_line.specs.Texts.{texts_of}
 
 -- a newline
 abbrev pub newline : List ℕ
 newline = 10 ∷ []
-
--- the texts of visible cells
-abbrev pub texts_of : List (ℕ × CellValue) → List ℕ
-texts_of cells = flat_map (λ p. p.1.text) cells
 
 abbrev pub row_chars : List CellValue → List ℕ
 row_chars cs = texts_of (visible cs) ++ newline

@@ -8,7 +8,7 @@ pub mod Step
 pub mod SurfaceValue
 pub mod Printing
 pub mod Repaint
-pub mod Answer
+pub mod Adding
 pub mod Printable
 pub mod Drawing
 pub mod RepaintLaws
@@ -17,4 +17,4 @@ pub mod ShownChars
 pub mod Schedule
 pub mod ScreenValue
 pub mod Padding
-pub mod Answered
+pub mod Stream

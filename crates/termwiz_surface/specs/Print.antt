@@ -2,16 +2,13 @@
 use Rattle.std.specs.Prelude.{ℕ, ◌+◌, ◌-◌, min, max, Bool, true, ◌==◌, nat_lt, List, [], ◌∷◌, ◌++◌, fold, replicate, drop, get_or, set, if◌then◌else◌}
 use Rattle.std.specs.Str.{bytes_eq}
 use Rattle.unicode_segmentation.specs.Grapheme.{graphemes}
+use Rattle.termwiz_cell.specs.Attributes.{Attributes}
 use Rattle.termwiz_cell.specs.CellValue.{CellValue, blank, columns, measured}
 use Rattle.termwiz_surface.specs.Graphemes.{single}
 use Rattle.termwiz_surface.specs.Screen.{Screen, row_at}
 use Rattle.termwiz_line.specs.Row.{paint}
-use Rattle.termwiz_surface.specs.declared.surface.print.LineBreak.{LineBreak}
-use Rattle.termwiz_surface.specs.declared.surface.print.LineBreak.TheVariants as breaks
-
--- which line break a grapheme is
-abbrev pub break_of : List ℕ → LineBreak
-break_of g = if bytes_eq g (13 ∷ []) then breaks.CarriageReturn else (if bytes_eq g (10 ∷ []) then breaks.LineFeed else (if bytes_eq g (13 ∷ 10 ∷ []) then breaks.CarriageReturnLineFeed else breaks.None))
+use Rattle.termwiz_surface.specs.declared.surface.print.Piece.{Piece}
+use Rattle.termwiz_surface.specs.declared.surface.print.Piece.TheVariants.{CarriageReturn, LineFeed, CarriageReturnLineFeed, Cell}
 
 -- row 0 is removed, and a default row is added
 abbrev pub scrolled : ℕ → List (List CellValue) → List (List CellValue)
@@ -39,21 +36,30 @@ wrapped s = if wraps s then returned (down s) else s
 abbrev pub columns_left : Screen → ℕ
 columns_left s = if wraps s then s.width else s.width - s.x
 
-abbrev pub printed_cell : (List ℕ → ℕ) → Screen → List ℕ → CellValue
-printed_cell width s g = measured width (single g) s.pen
+-- the cell of a grapheme in this pen
+abbrev pub printed_cell : (List ℕ → ℕ) → Attributes → List ℕ → CellValue
+printed_cell measure pen g = measured measure (single g) pen
 
-abbrev pub print_piece : (List ℕ → ℕ) → Screen → List ℕ → LineBreak → Screen
-print_piece width s g breaks.CarriageReturn = returned s
-print_piece width s g breaks.LineFeed = down s
-print_piece width s g breaks.CarriageReturnLineFeed = returned (down s)
-print_piece width s g breaks.None = put (wrapped s) (printed_cell width s g)
+-- what a grapheme prints: a line break, or its cell
+abbrev pub piece_of : (List ℕ → ℕ) → Attributes → List ℕ → Piece
+piece_of measure pen g =
+    if bytes_eq g (13 ∷ []) then CarriageReturn
+    else (if bytes_eq g (10 ∷ []) then LineFeed
+    else (if bytes_eq g (13 ∷ 10 ∷ []) then CarriageReturnLineFeed
+    else Cell (printed_cell measure pen g)))
+
+abbrev pub print_piece : Screen → Piece → Screen
+print_piece s CarriageReturn = returned s
+print_piece s LineFeed = down s
+print_piece s CarriageReturnLineFeed = returned (down s)
+print_piece s (Cell c) = put (wrapped s) c
 
 -- a grapheme is printed
 abbrev pub print_one : (List ℕ → ℕ) → Screen → List ℕ → Screen
-print_one width s g = print_piece width s g (break_of g)
+print_one measure s g = print_piece s (piece_of measure s.pen g)
 
 abbrev pub print : (List ℕ → ℕ) → Screen → List ℕ → Screen
-print width s text = fold (print_one width) s (graphemes true text)
+print measure s text = fold (print_one measure) s (graphemes true text)
 
 -- the lengths of the stored rows beside it
 abbrev pub down_lengths : Screen → List ℕ → List ℕ
@@ -65,16 +71,19 @@ put_lengths s c ns = set ns s.y (max (get_or ns s.y 0) (min (s.x + columns c) s.
 abbrev pub wrapped_lengths : Screen → List ℕ → List ℕ
 wrapped_lengths s ns = if wraps s then down_lengths s ns else ns
 
-abbrev pub piece_lengths : (List ℕ → ℕ) → Screen → List ℕ → LineBreak → List ℕ → List ℕ
-piece_lengths width s g breaks.CarriageReturn ns = ns
-piece_lengths width s g breaks.LineFeed ns = down_lengths s ns
-piece_lengths width s g breaks.CarriageReturnLineFeed ns = down_lengths s ns
-piece_lengths width s g breaks.None ns = put_lengths (wrapped s) (printed_cell width s g) (wrapped_lengths s ns)
+abbrev pub piece_lengths : Screen → Piece → List ℕ → List ℕ
+piece_lengths s CarriageReturn ns = ns
+piece_lengths s LineFeed ns = down_lengths s ns
+piece_lengths s CarriageReturnLineFeed ns = down_lengths s ns
+piece_lengths s (Cell c) ns = put_lengths (wrapped s) c (wrapped_lengths s ns)
+
+abbrev pub one_lengths : (List ℕ → ℕ) → Screen → List ℕ → List ℕ → List ℕ
+one_lengths measure s g ns = piece_lengths s (piece_of measure s.pen g) ns
 
 -- the lengths after graphemes
 abbrev pub lengths_after : (List ℕ → ℕ) → Screen → List ℕ → List (List ℕ) → List ℕ
-lengths_after width s ns [] = ns
-lengths_after width s ns (g ∷ gs) = lengths_after width (print_one width s g) (piece_lengths width s g (break_of g) ns) gs
+lengths_after measure s ns [] = ns
+lengths_after measure s ns (g ∷ gs) = lengths_after measure (print_one measure s g) (one_lengths measure s g ns) gs
 
 abbrev pub print_lengths : (List ℕ → ℕ) → Screen → List ℕ → List ℕ → List ℕ
-print_lengths width s text ns = lengths_after width s ns (graphemes true text)
+print_lengths measure s text ns = lengths_after measure s ns (graphemes true text)

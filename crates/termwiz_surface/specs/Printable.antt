@@ -9,19 +9,19 @@ use Rattle.termwiz_surface.specs.Screen.{Screen, row_at}
 use Rattle.termwiz_surface.specs.SurfaceValue.{IsMeasured}
 
 -- stored cells whose visible ones are measured
-pub record ArePrintable (width : List ℕ → ℕ) (cells : List CellValue) : Type 0 where
-  pub measured : (k : ℕ) → k < length cells → hides cells k ≡ false → IsMeasured width (stored cells k)
+pub record ArePrintable (measure : List ℕ → ℕ) (cells : List CellValue) : Type 0 where
+  pub measured : (k : ℕ) → k < length cells → hides cells k ≡ false → IsMeasured measure (stored cells k)
 
 -- a row whose visible cells are measured
-pub record IsPrintableRow (width : List ℕ → ℕ) (w : ℕ) (r : List CellValue) : Type 0 where
+pub record IsPrintableRow (measure : List ℕ → ℕ) (w : ℕ) (r : List CellValue) : Type 0 where
   pub row : IsRow w r
-  pub measured : (k : ℕ) → k < w → is_hidden r k ≡ false → IsMeasured width (stored r k)
+  pub measured : (k : ℕ) → k < w → is_hidden r k ≡ false → IsMeasured measure (stored r k)
 
 -- a screen of such rows, with the cursor inside or one past the end of its row
-pub record IsPrintable (width : List ℕ → ℕ) (t : Screen) : Type 0 where
+pub record IsPrintable (measure : List ℕ → ℕ) (t : Screen) : Type 0 where
   pub some_column : 0 < t.width
   pub full : length t.rows ≡ t.height
-  pub rows_so : (j : ℕ) → j < t.height → IsPrintableRow width t.width (row_at t.rows j)
+  pub rows_so : (j : ℕ) → j < t.height → IsPrintableRow measure t.width (row_at t.rows j)
   pub column : t.x ≤ t.width
   pub row : t.y < t.height
 

@@ -11,7 +11,7 @@ use Rattle.termwiz_surface.specs.Printable.{ArePrintable, IsPrintable, IsAtBlank
 
 -- the repaint of a screen that text can print, replayed on any screen of that size, gives the screen: its rows, cursor, visibility and pen
 abbrev pub RepaintGivesScreen : Type 0
-RepaintGivesScreen = (width : List ℕ → ℕ) → width space ≡ 1 → (t s : Screen) → IsPrintable width t → HasSize t.width t.height s → replay width s (repaint t) ≡ t
+RepaintGivesScreen = (measure : List ℕ → ℕ) → measure space ≡ 1 → (t s : Screen) → IsPrintable measure t → HasSize t.width t.height s → replay measure s (repaint t) ≡ t
 
 -- a repaint has at most two entries for each column of each row, one more for each row, and six more
 abbrev pub RepaintIsShort : Type 0
@@ -20,6 +20,6 @@ RepaintIsShort = (t : Screen) → length (repaint t) ≤ 2 * (t.width * t.height
 -- the entries of a line that is as wide as the screen, replayed from the start of a blank row on, leave the line's row there, and nothing else is changed but the pen and the cursor's column
 abbrev pub LineEntriesGiveRow : Type 0
 LineEntriesGiveRow =
-    (width : List ℕ → ℕ) → width space ≡ 1 → (s : Screen) (cells : List CellValue) → length cells ≡ s.width → ArePrintable width cells → IsAtBlankRow s →
+    (measure : List ℕ → ℕ) → measure space ≡ 1 → (s : Screen) (cells : List CellValue) → length cells ≡ s.width → ArePrintable measure cells → IsAtBlankRow s →
     let d = row_entries s.pen (visible cells) in
-    LeavesRow s (row_of s.width cells) d.pen (replay width s d.entries)
+    LeavesRow s (row_of s.width cells) d.pen (replay measure s d.entries)

@@ -15,18 +15,13 @@ pub record IsPartly (w : ℕ) (c : CellValue) (old new : List CellValue) : Type 
   pub inside : from + count ≤ w
   pub left : (new ≡ fill count from c old) ⊎ IsPruned (fill count from c old) new
 
--- row y is filled from column x on, and each row below it from the start
-pub record AreFilled (w x y : ℕ) (c : CellValue) (old new : List (List CellValue)) : Type 0 where
+-- the rows from y to z - 1 are filled: row y from column x on, and each row below it from the start
+pub record AreFilled (w x y z : ℕ) (c : CellValue) (old new : List (List CellValue)) : Type 0 where
   pub same_count : length new ≡ length old
   pub above : (j : ℕ) → j < y → row_at new j ≡ row_at old j
   pub here : IsPruned (fill (w - x) x c (row_at old y)) (row_at new y)
-  pub below : (j : ℕ) → y < j → j < length old → IsPruned (fill w 0 c (row_at old j)) (row_at new j)
-
--- only row y is filled, from column x on
-pub record IsFilledAt (w x y : ℕ) (c : CellValue) (old new : List (List CellValue)) : Type 0 where
-  pub same_count : length new ≡ length old
-  pub others : (j : ℕ) → ((j ≡ y) → ⊥) → row_at new j ≡ row_at old j
-  pub here : IsPruned (fill (w - x) x c (row_at old y)) (row_at new y)
+  pub below : (j : ℕ) → y < j → j < z → IsPruned (fill w 0 c (row_at old j)) (row_at new j)
+  pub left : (j : ℕ) → z ≤ j → row_at new j ≡ row_at old j
 
 -- each row is filled somewhere, or as it was
 pub record ArePartly (w : ℕ) (c : CellValue) (old new : List (List CellValue)) : Type 0 where

@@ -7,7 +7,7 @@ use Rattle.termwiz_cell.specs.declared.change.CursorVisibility.TheVariants.{Visi
 use Rattle.termwiz_line.specs.Row.{row_of}
 use Rattle.termwiz_surface.specs.Screen.{Screen, row_at}
 use Rattle.termwiz_surface.specs.Step.{replay, replay_lengths}
-use Rattle.termwiz_surface.specs.Answer.{broken_number}
+use Rattle.termwiz_surface.specs.Adding.{broken_number}
 use Rattle.termwiz_surface.specs.Printable.{HasSize, IsPrintable}
 use Rattle.termwiz_surface.specs.ShownChars.{shown_chars}
 use Rattle.termwiz_surface.specs.SurfaceValue.{SurfaceValue, IsStored, screen_of, lengths_of}
@@ -35,44 +35,44 @@ first_state w h = record {
 }
 
 -- the changes are done, in order
-pub record Does (width : List ℕ → ℕ) (changes : List ChangeValue) (old new : State) : Type 0 where
-  pub screen : new.screen ≡ replay width old.screen changes
-  pub lengths : new.lengths ≡ replay_lengths width old.screen old.lengths changes
+pub record Does (measure : List ℕ → ℕ) (changes : List ChangeValue) (old new : State) : Type 0 where
+  pub screen : new.screen ≡ replay measure old.screen changes
+  pub lengths : new.lengths ≡ replay_lengths measure old.screen old.lengths changes
   pub number : new.number ≡ old.number + length changes
 
 -- what a list leaves that ran out of memory: any screen of that size and form over some stored rows, and a new number
-pub record IsBroken (width : List ℕ → ℕ) (old new : State) : Type 0 where
+pub record IsBroken (measure : List ℕ → ℕ) (old new : State) : Type 0 where
   pub size : HasSize old.screen.width old.screen.height new.screen
-  pub form : IsPrintable width new.screen
+  pub form : IsPrintable measure new.screen
   pub lines : List (List CellValue)
-  pub stored_so : (j : ℕ) → j < new.screen.height → IsStored width new.screen.width (row_at lines j)
+  pub stored_so : (j : ℕ) → j < new.screen.height → IsStored measure new.screen.width (row_at lines j)
   pub rows : new.screen.rows ≡ map (row_of new.screen.width) lines
   pub lengths : new.lengths ≡ map length lines
   pub number : new.number ≡ broken_number old.number
 
 -- the event may have this outcome, and go over from old to new
 abbrev pub Allows : (List ℕ → ℕ) → State → Event → Outcome → State → Type 0
-Allows width old (Changes changes) (Answered n) new =
-    (old.number + length changes.items < 2 ^ 64) × (n ≡ old.number - 1 + length changes.items) × Does width (map change_value changes.items) old new
-Allows width old (Changes changes) (Refused Numbers) new = (2 ^ 64 ≤ old.number + length changes.items) × (new ≡ old)
-Allows width old (Changes changes) (Refused Memory) new =
-    (old.number + length changes.items < 2 ^ 64) × (0 < length changes.items) × IsBroken width old new
-Allows width old Show (Shown text cursor) new =
+Allows measure old (Changes changes) (Answered n) new =
+    (old.number + length changes.items < 2 ^ 64) × (n ≡ old.number - 1 + length changes.items) × Does measure (map change_value changes.items) old new
+Allows measure old (Changes changes) (Refused Numbers) new = (2 ^ 64 ≤ old.number + length changes.items) × (new ≡ old)
+Allows measure old (Changes changes) (Refused Memory) new =
+    (old.number + length changes.items < 2 ^ 64) × (0 < length changes.items) × IsBroken measure old new
+Allows measure old Show (Shown text cursor) new =
     (string_bytes text ≡ shown_chars old.screen.rows old.lengths) × (cursor ≡ (old.screen.x, old.screen.y)) × (new ≡ old)
-Allows width old Show (Refused Memory) new = new ≡ old
+Allows measure old Show (Refused Memory) new = new ≡ old
 -- whatever screen of that size has it, the answer brings it to this one
-Allows width old (Ask n) (Asked k changes) new =
-    (k ≡ old.number) × ((s : Screen) → HasSize old.screen.width old.screen.height s → replay width s (map change_value changes.items) ≡ old.screen) × (new ≡ old)
-Allows width old (Ask n) (Refused Memory) new = new ≡ old
+Allows measure old (Ask n) (Asked k changes) new =
+    (k ≡ old.number) × ((s : Screen) → HasSize old.screen.width old.screen.height s → replay measure s (map change_value changes.items) ≡ old.screen) × (new ≡ old)
+Allows measure old (Ask n) (Refused Memory) new = new ≡ old
 -- no other outcome comes
-Allows width old _ _ new = ⊥
+Allows measure old _ _ new = ⊥
 
 -- the events may have these outcomes, and go over from old to new
-pub data Runs (width : List ℕ → ℕ) : State → List Event → List Outcome → State → Type 0 where
-  Ended : (s : State) → Runs width s [] [] s
+pub data Runs (measure : List ℕ → ℕ) : State → List Event → List Outcome → State → Type 0 where
+  Ended : (s : State) → Runs measure s [] [] s
   Next : (old mid new : State) (event : Event) (outcome : Outcome) (events : List Event) (outcomes : List Outcome)
-      → Allows width old event outcome mid → Runs width mid events outcomes new → Runs width old (event ∷ events) (outcome ∷ outcomes) new
+      → Allows measure old event outcome mid → Runs measure mid events outcomes new → Runs measure old (event ∷ events) (outcome ∷ outcomes) new
 
 -- the outcomes are those of some run from a blank screen
 abbrev pub IsSchedule : (List ℕ → ℕ) → ℕ → ℕ → List Event → List Outcome → Type 0
-IsSchedule width w h events outcomes = (end : State) × Runs width (first_state w h) events outcomes end
+IsSchedule measure w h events outcomes = (end : State) × Runs measure (first_state w h) events outcomes end

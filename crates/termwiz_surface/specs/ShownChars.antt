@@ -2,7 +2,8 @@
 use Rattle.std.specs.Prelude.{ℕ, List, [], ◌∷◌, ◌++◌}
 use Rattle.termwiz_cell.specs.CellValue.{CellValue}
 use Rattle.termwiz_line.specs.Row.{visible_upto}
-use Rattle.termwiz_surface.specs.Chars.{newline, texts_of}
+use Rattle.termwiz_line.specs.Texts.{texts_of}
+use Rattle.termwiz_surface.specs.Chars.{newline}
 
 abbrev pub shown_chars : List (List CellValue) → List ℕ → List ℕ
 shown_chars [] lengths = []

@@ -11,28 +11,28 @@ use Rattle.termwiz_surface.specs.Place.{placed}
 
 -- the screen after a change, by a width function
 abbrev pub step : (List ℕ → ℕ) → Screen → ChangeValue → Screen
-step width s (change.Attribute value) = record s { pen = with_attribute s.pen value }
-step width s (change.AllAttributes attrs) = record s { pen = attrs }
-step width s (change.Text text) = print width s text
-step width s (change.ClearScreen color) = clear_screen s (with_background color)
-step width s (change.ClearToEndOfLine color) = clear_eol s (with_background color)
-step width s (change.ClearToEndOfScreen color) = clear_eos s (with_background color)
-step width s (change.CursorPosition x y) = placed s x y
-step width s (change.CursorVisibility visibility) = record s { visibility = visibility }
+step measure s (change.Attribute value) = record s { pen = with_attribute s.pen value }
+step measure s (change.AllAttributes attrs) = record s { pen = attrs }
+step measure s (change.Text text) = print measure s text
+step measure s (change.ClearScreen color) = clear_screen s (with_background color)
+step measure s (change.ClearToEndOfLine color) = clear_eol s (with_background color)
+step measure s (change.ClearToEndOfScreen color) = clear_eos s (with_background color)
+step measure s (change.CursorPosition x y) = placed s x y
+step measure s (change.CursorVisibility visibility) = record s { visibility = visibility }
 
 -- the lengths after a change of the screen s
 abbrev pub step_lengths : (List ℕ → ℕ) → Screen → List ℕ → ChangeValue → List ℕ
-step_lengths width s ns (change.Text text) = print_lengths width s text ns
-step_lengths width s ns (change.ClearScreen color) = screen_lengths s (with_background color) ns
-step_lengths width s ns (change.ClearToEndOfLine color) = eol_lengths s (with_background color) ns
-step_lengths width s ns (change.ClearToEndOfScreen color) = eos_lengths s (with_background color) ns
-step_lengths width s ns _ = ns
+step_lengths measure s ns (change.Text text) = print_lengths measure s text ns
+step_lengths measure s ns (change.ClearScreen color) = screen_lengths s (with_background color) ns
+step_lengths measure s ns (change.ClearToEndOfLine color) = eol_lengths s (with_background color) ns
+step_lengths measure s ns (change.ClearToEndOfScreen color) = eos_lengths s (with_background color) ns
+step_lengths measure s ns _ = ns
 
 -- the steps in order
 abbrev pub replay : (List ℕ → ℕ) → Screen → List ChangeValue → Screen
-replay width s changes = fold (step width) s changes
+replay measure s changes = fold (step measure) s changes
 
 -- the lengths after them
 abbrev pub replay_lengths : (List ℕ → ℕ) → Screen → List ℕ → List ChangeValue → List ℕ
-replay_lengths width s ns [] = ns
-replay_lengths width s ns (c ∷ cs) = replay_lengths width (step width s c) (step_lengths width s ns c) cs
+replay_lengths measure s ns [] = ns
+replay_lengths measure s ns (c ∷ cs) = replay_lengths measure (step measure s c) (step_lengths measure s ns c) cs

@@ -30,22 +30,22 @@ module _ {W : Type 0} where
   lengths_of s = map length s.lines
 
 -- the cell's text is one clean grapheme, and its width is measured
-pub record IsMeasured (width : List ℕ → ℕ) (c : CellValue) : Type 0 where
+pub record IsMeasured (measure : List ℕ → ℕ) (c : CellValue) : Type 0 where
   pub alone : graphemes true c.text ≡ c.text ∷ []
   pub is_clean : clean c.text ≡ c.text
-  pub wide_is : c.wide ≡ nat_lt 1 (width c.text)
+  pub wide_is : c.wide ≡ nat_lt 1 (measure c.text)
 
 -- the form of the cells that are stored in a row of width w
-pub record IsStored (width : List ℕ → ℕ) (w : ℕ) (cs : List CellValue) : Type 0 where
+pub record IsStored (measure : List ℕ → ℕ) (w : ℕ) (cs : List CellValue) : Type 0 where
   pub some : 0 < length cs
   pub within : length cs ≤ w
   pub halves : (k : ℕ) → suc k < w → is_wide (stored cs k) ≡ true → stored cs (suc k) ≡ half (stored cs k)
   -- a short row does not end in a wide cell
   pub closed : (k : ℕ) → suc k < w → is_wide (stored cs k) ≡ true → suc k < length cs
-  pub measured : (k : ℕ) → IsMeasured width (stored cs k)
+  pub measured : (k : ℕ) → IsMeasured measure (stored cs k)
 
 -- the form that every surface keeps
-pub record IsSound {W : Type 0} (width : List ℕ → ℕ) (s : SurfaceValue W) : Type 0 where
+pub record IsSound {W : Type 0} (measure : List ℕ → ℕ) (s : SurfaceValue W) : Type 0 where
   pub some_column : 0 < s.width
   pub some_row : 0 < s.height
   pub fits : s.width < 2 ^ 32
@@ -53,7 +53,7 @@ pub record IsSound {W : Type 0} (width : List ℕ → ℕ) (s : SurfaceValue W) 
   pub full : length s.lines ≡ s.height
   pub column : s.x ≤ s.width
   pub row : s.y < s.height
-  pub stored_so : (j : ℕ) → j < s.height → IsStored width s.width (row_at s.lines j)
+  pub stored_so : (j : ℕ) → j < s.height → IsStored measure s.width (row_at s.lines j)
   pub number_fits : s.number < 2 ^ 64
 
 module _ {W : Type 0} where

@@ -4,7 +4,7 @@ ghost use Rattle.termwiz_cell.specs.Attributes.{default_attributes, with_backgro
 ghost use Rattle.termwiz_cell.specs.CellValue.{blank};
 ghost use Rattle.termwiz_cell.specs.Width.{unversioned};
 ghost use Rattle.termwiz_cell.specs.declared.change.CursorVisibility.TheVariants.{Visible};
-ghost use Rattle.termwiz_surface.specs.Print.{down, put, wrapped, printed_cell, print_one, print, columns_left, down_lengths, put_lengths, wrapped_lengths, piece_lengths, print_lengths, break_of};
+ghost use Rattle.termwiz_surface.specs.Print.{down, put, wrapped, print_one, one_lengths, print, columns_left, down_lengths, put_lengths, wrapped_lengths, print_lengths};
 ghost use Rattle.termwiz_surface.specs.Printing.{AreNarrow, IsNarrowRun, Prints, PrintsSome};
 ghost use Rattle.termwiz_surface.specs.Clear.{clear_eol, clear_eos, clear_screen, eol_lengths, eos_lengths, screen_lengths};
 ghost use Rattle.termwiz_surface.specs.Place.{placed};
@@ -17,10 +17,10 @@ ghost use Rattle.termwiz_cell.specs.Attributes.{needs_box};
 ghost use Rattle.unicode_segmentation.specs.Grapheme.{graphemes};
 ghost use Rattle.termwiz_surface.specs.ShownChars.{shown_chars};
 ghost use Rattle.termwiz_surface.specs.ScreenValue.{screen_value};
-ghost use Rattle.termwiz_surface.specs.SurfaceValue.{IsSound};
-ghost use Rattle.termwiz_surface.specs.Answer.{Adds};
+ghost use Rattle.termwiz_surface.specs.SurfaceValue.{IsMeasured, IsSound};
+ghost use Rattle.termwiz_surface.specs.Adding.{Adds};
 ghost use Rattle.std.specs.Cow.{IsOwnedSlice};
-ghost use Rattle.termwiz_surface.specs.Answered.{answered};
+ghost use Rattle.termwiz_surface.specs.Stream.{stream_of};
 ghost use Rattle.termwiz_surface.specs.Printable.{HasSize};
 ghost use Rattle.termwiz_surface.specs.Repaint.{repaint};
 ghost use Rattle.termwiz_surface.specs.Screen.{Screen as SeenScreen};
@@ -35,7 +35,7 @@ mod shown;
 
 use pen::{background_only, blank_with};
 use place::{column_at, row_at};
-use print::{LineBreak, begins_plain, line_break, printed_cell, split_narrow_run};
+use print::{Piece, begins_plain, printed_piece, split_narrow_run};
 use repaint::{all_rows, framed};
 use rows::{
     blank_rows, chars_of, fill_row, fill_rows, paint_row, paint_run, resized_lines, scroll_rows,
@@ -212,13 +212,12 @@ impl<W: Widths> Surface<W> {
         Ok(())
     }
 
-    fn put(&mut self, grapheme: &str) -> Result<(), AllocError>
+    fn put(&mut self, cell: Cell) -> Result<(), AllocError>
         requires inside { self.old.x < self.old.width }
-        requires alone { graphemes true grapheme.now ≡ grapheme.now ∷ [] }
-        ensures ok { OnOk result (let s = screen_of self.old in let c = printed_cell (unversioned (W.width_of self.old.widths)) s grapheme.now in Draws self.old (put s c) (put_lengths s c (lengths_of self.old)) self.new) }
+        requires measured { IsMeasured (unversioned (W.width_of self.old.widths)) cell }
+        ensures ok { OnOk result (let s = screen_of self.old in Draws self.old (put s cell) (put_lengths s cell (lengths_of self.old)) self.new) }
         ensures err { OnErr result (self.new ≡ self.old) }
     {
-        let cell = printed_cell(self.alloc, &self.widths, grapheme, &self.pen)?;
         let end = self.x + cell.width();
         paint_row(&mut self.rows, self.width, self.x, self.y, cell)?;
         self.x = end.min(self.width);
@@ -240,19 +239,19 @@ impl<W: Widths> Surface<W> {
 
     fn print_one(&mut self, grapheme: &str) -> Result<(), AllocError>
         requires { graphemes true grapheme.now ≡ grapheme.now ∷ [] }
-        ensures ok { OnOk result (let f = unversioned (W.width_of self.old.widths) in let s = screen_of self.old in Draws self.old (print_one f s grapheme.now) (piece_lengths f s grapheme.now (break_of grapheme.now) (lengths_of self.old)) self.new) }
+        ensures ok { OnOk result (let f = unversioned (W.width_of self.old.widths) in let s = screen_of self.old in Draws self.old (print_one f s grapheme.now) (one_lengths f s grapheme.now (lengths_of self.old)) self.new) }
         ensures err { OnErr result (SameFrame self.old self.new) }
     {
-        match line_break(grapheme) {
-            LineBreak::CarriageReturn => self.x = 0,
-            LineBreak::LineFeed => self.line_feed()?,
-            LineBreak::CarriageReturnLineFeed => {
+        match printed_piece(self.alloc, &self.widths, grapheme, &self.pen)? {
+            Piece::CarriageReturn => self.x = 0,
+            Piece::LineFeed => self.line_feed()?,
+            Piece::CarriageReturnLineFeed => {
                 self.line_feed()?;
                 self.x = 0;
             }
-            LineBreak::None => {
+            Piece::Cell(cell) => {
                 self.wrap()?;
-                self.put(grapheme)?;
+                self.put(cell)?;
             }
         }
         Ok(())
@@ -418,8 +417,8 @@ impl<W: Widths> Surface<W> {
     }
 
     // Makes the changes and counts them.
-    fn make(&mut self, changes: &[Change], answer: SequenceNo) -> Result<SequenceNo, SurfaceError>
-        ensures { Adds (unversioned (W.width_of self.old.widths)) self.old (map change_value changes.now) answer result self.new }
+    fn make(&mut self, changes: &[Change], told: SequenceNo) -> Result<SequenceNo, SurfaceError>
+        ensures { Adds (unversioned (W.width_of self.old.widths)) self.old (map change_value changes.now) told result self.new }
     {
         let before = self.number;
         if changes.len() > usize::MAX - before {
@@ -431,7 +430,7 @@ impl<W: Widths> Surface<W> {
             return Err(SurfaceError::Memory);
         }
         self.number = number;
-        Ok(answer)
+        Ok(told)
     }
 
     /// Makes one change. The answer is the number before it.
@@ -450,8 +449,8 @@ impl<W: Widths> Surface<W> {
         ensures empty { vec_len changes ≡ 0 → IsOk result }
     {
         let before = self.number.saturating_sub(1);
-        let answer = before.saturating_add(changes.len());
-        self.make(changes.as_slice(), answer)
+        let told = before.saturating_add(changes.len());
+        self.make(changes.as_slice(), told)
     }
 
     /// The number of the coming change, and changes that bring any screen of this size to this one. There is no log yet, so every number is answered by such a repaint.
@@ -461,8 +460,8 @@ impl<W: Widths> Surface<W> {
     ) -> Result<(SequenceNo, CowSlice<'_, Change>), AllocError>
         ensures number { IfOk result (λ answer. answer.0 ≡ self.now.number) }
         // Replayed on any screen of that size, whatever it shows, the changes give this one: rows, cursor, visibility and pen.
-        ensures repaint { IfOk result (λ answer. (s : SeenScreen) → HasSize self.now.width self.now.height s → replay (unversioned (W.width_of self.now.widths)) s (answered answer.1) ≡ screen_of self.now) }
-        ensures short { IfOk result (λ answer. length (answered answer.1) ≤ 2 * (self.now.width * self.now.height) + self.now.height + 6) }
+        ensures repaint { IfOk result (λ answer. (s : SeenScreen) → HasSize self.now.width self.now.height s → replay (unversioned (W.width_of self.now.widths)) s (stream_of answer.1) ≡ screen_of self.now) }
+        ensures short { IfOk result (λ answer. length (stream_of answer.1) ≤ 2 * (self.now.width * self.now.height) + self.now.height + 6) }
         ensures owned { IfOk result (λ answer. IsOwnedSlice answer.1) }
     {
         Ok((self.number, CowSlice::Owned(self.repaint()?)))

@@ -1,8 +1,9 @@
-//! Proved callers of surfaces: each file is one that a reader may begin with.
+//! Proved callers of surfaces and lines: each file is one that a reader may begin with.
 #![tactic(auto)]
 
 pub mod comparison;
 pub mod last_row;
+pub mod lines;
 pub mod one_by_one;
 pub mod status;
 #[cfg(test)]

@@ -1,18 +1,15 @@
 //! Lines of cells.
-ghost use Rattle.std.specs.Prelude.{◌≡◌, ◌-◌, ◌<◌, ◌≤◌, ◌↔◌, [], false, true, IsTrue, IsOk, IfOk, OnOk, OnErr, Some, None, length, map, option_map, replicate, take, if◌then◌else◌};
+ghost use Rattle.std.specs.Prelude.{◌≡◌, ◌≤◌, ◌↔◌, [], false, true, IsTrue, IsOk, IfOk, OnOk, OnErr, Some, None, length, map, option_map, replicate, if◌then◌else◌};
 ghost use Rattle.std.specs.Cmp.{decided, on_equiv, on_per, partial_equiv_from_equiv};
-ghost use Rattle.std.specs.List.{list_all};
-ghost use Rattle.termwiz_text.specs.Plain.{is_plain};
-ghost use Rattle.termwiz_cell.specs.Attributes.{needs_box};
 ghost use Rattle.termwiz_cell.specs.CellValue.{blank};
-ghost use Rattle.termwiz_storage.specs.Stored.{visible, set_cell, set_run};
+ghost use Rattle.termwiz_storage.specs.Stored.{visible};
 ghost use Rattle.termwiz_storage.specs.Halves.{resized};
 ghost use Rattle.termwiz_storage.specs.CellLists.{cells_eq};
 ghost use Rattle.termwiz_storage.specs.CellsLeft.{cells_left};
 ghost use Rattle.termwiz_storage.specs.Storage.{cells_of, is_vector};
 ghost use Rattle.termwiz_line.specs.LineFlags.{no_flags};
-ghost use Rattle.termwiz_line.specs.LineValue.{IsEdited, IsUnchanged, Prunes};
-ghost use Rattle.termwiz_line.specs.Filled.{Fills, FillsAs, IsFilled, IsPartlyFilled};
+ghost use Rattle.termwiz_line.specs.LineEdits.{IsMade};
+ghost use Rattle.termwiz_line.specs.LineValue.{IsEdited, IsUnchanged};
 ghost use Rattle.termwiz_cell.specs.ChangeValue.{change_value};
 ghost use Rattle.termwiz_line.specs.Entries.{row_entries};
 ghost use Rattle.termwiz_line.specs.LineEq.{contents_eq, contents_eq-Decides, flags_eq, line_contents, line_eq};
@@ -21,7 +18,6 @@ use crate::entries::row_entries;
 use crate::line::linebits::LineBits;
 use std::alloc::{AllocError, Global};
 use std::marker::Model;
-use std::ops::Range;
 use termwiz_cell::cell::{Cell, CellAttributes};
 use termwiz_cell::change::{Change, SequenceNo};
 use termwiz_storage::line::cellref::VisibleCellIter;
@@ -30,6 +26,7 @@ use termwiz_storage::line::storage::CellStorage;
 mod clicks;
 mod edits;
 mod flags;
+mod texts;
 mod wrapped;
 mod wraps;
 mod zones;
@@ -79,6 +76,33 @@ impl Line {
         Ok(Line::of(alloc, storage, seqno))
     }
 
+    /// A line of this many copies of a cell.
+    pub fn with_width_and_cell(
+        alloc: Global,
+        width: usize,
+        cell: Cell,
+        seqno: SequenceNo,
+    ) -> Result<Line, AllocError>
+        ensures { IfOk result (λ line. line ≡ record { cells = replicate width cell; seqno = seqno; flags = no_flags; is_vector = true }) }
+    {
+        Ok(Line::of(alloc, CellStorage::copies(alloc, width, cell)?, seqno))
+    }
+
+    /// A line of these stored cells. The half of a wide cell is one of them.
+    pub fn from_cells(cells: Vec<Cell>, seqno: SequenceNo) -> Line
+        ensures { result ≡ record { cells = cells.items; seqno = seqno; flags = no_flags; is_vector = true } }
+    {
+        let alloc = *cells.allocator();
+        Line::of(alloc, CellStorage::vector(cells), seqno)
+    }
+
+    /// A line without cells.
+    pub fn new(alloc: Global, seqno: SequenceNo) -> Line
+        ensures { IsMade [] seqno result }
+    {
+        Line::from_cells(Vec::new(alloc), seqno)
+    }
+
     // A line without flags.
     fn of(alloc: Global, storage: CellStorage, seqno: SequenceNo) -> Line
         ensures { result ≡ record { cells = cells_of storage; seqno = seqno; flags = no_flags; is_vector = is_vector storage } }
@@ -126,134 +150,6 @@ impl Line {
         let mut storage = CellStorage::V(self.storage.to_vec()?);
         storage.resize(width)?;
         Ok(Line::of(self.alloc, storage, seqno))
-    }
-
-    /// Sets the cell at a column. The line is padded with default blanks so far, a wide cell that is cut leaves a blank with its attributes, and the half of a wide cell follows it.
-    /// The line takes the number. On an error, which a column past the greatest number gives too, number, flags and cells are as before.
-    pub fn set_cell(&mut self, i: usize, cell: Cell, seqno: SequenceNo) -> Result<(), AllocError>
-        ensures ok { OnOk result (IsEdited self.old (set_cell i cell self.old.cells) seqno self.new) }
-        ensures err { OnErr result (IsUnchanged self.old self.new) }
-    {
-        self.zones = None;
-        self.storage.set_cell(i, cell)?;
-        self.seqno = self.seqno.max(seqno);
-        Ok(())
-    }
-
-    /// Sets the cell at a column as `set_cell` does, in a line that is then cut to `width` columns.
-    /// The line takes the number. On an error, which a column past the greatest number gives too, number, flags and cells are as before.
-    #[inline(always)]
-    pub fn set_cell_within(
-        &mut self,
-        i: usize,
-        cell: Cell,
-        width: usize,
-        seqno: SequenceNo,
-    ) -> Result<(), AllocError>
-        ensures ok { OnOk result (IsEdited self.old (take width (set_cell i cell self.old.cells)) seqno self.new) }
-        ensures err { OnErr result (IsUnchanged self.old self.new) }
-    {
-        self.zones = None;
-        self.storage.set_cell_within(i, cell, width)?;
-        self.seqno = self.seqno.max(seqno);
-        Ok(())
-    }
-
-    /// Sets the cell of each character of a run of printable ASCII, in order from a column on, with attributes that take no memory. It takes memory only where the line grows.
-    /// The line takes the number. On an error, which a column past the greatest number gives too, number, flags and cells are as before.
-    pub fn set_run(
-        &mut self,
-        i: usize,
-        run: &str,
-        attrs: &CellAttributes,
-        seqno: SequenceNo,
-    ) -> Result<(), AllocError>
-        requires plain { list_all is_plain run.now ≡ true }
-        requires unboxed { needs_box attrs.now ≡ false }
-        ensures ok { OnOk result (IsEdited self.old (set_run i run.now attrs.now self.old.cells) seqno self.new) }
-        ensures err { OnErr result (IsUnchanged self.old self.new) }
-    {
-        self.zones = None;
-        self.storage.set_run(i, run, attrs)?;
-        self.seqno = self.seqno.max(seqno);
-        Ok(())
-    }
-
-    /// Cuts the default blanks at the end, unless there is nothing else. The line takes the number where that changes it.
-    /// A vector takes no memory. On an error number, flags and cells are as before.
-    pub fn prune_trailing_blanks(&mut self, seqno: SequenceNo) -> Result<(), AllocError>
-        ensures ok { OnOk result (Prunes self.old seqno self.new) }
-        ensures err { OnErr result (IsUnchanged self.old self.new) }
-        ensures succeeds { self.old.is_vector ≡ true → IsOk result }
-    {
-        let kept = self.storage.kept_len();
-        if kept > 0 && kept < self.len() {
-            self.zones = None;
-            self.storage.truncate(kept)?;
-            self.seqno = self.seqno.max(seqno);
-        }
-        Ok(())
-    }
-
-    // Sets a default blank in each of the columns from one up to another.
-    fn set_blanks(&mut self, from: usize, to: usize, seqno: SequenceNo) -> Result<(), AllocError>
-        ensures ok { OnOk result (Fills self.old (to - from) from blank seqno self.new) }
-        ensures err { OnErr result (IsUnchanged self.old self.new) }
-    {
-        self.zones = None;
-        self.storage.set_blanks(from, to)?;
-        if from < to {
-            self.seqno = self.seqno.max(seqno);
-        }
-        Ok(())
-    }
-
-    // Sets the cell in each of the columns from one up to another.
-    fn set_cells(
-        &mut self,
-        from: usize,
-        to: usize,
-        cell: &Cell,
-        seqno: SequenceNo,
-    ) -> Result<(), AllocError>
-        ensures ok { OnOk result (Fills self.old (to - from) from cell.now seqno self.new) }
-        ensures err { OnErr result (IsPartlyFilled self.old from to cell.now seqno self.new) }
-    {
-        if cell.is_blank() {
-            self.set_blanks(from, to, seqno)?;
-            return Ok(());
-        }
-        for i in from..to {
-            let copy = cell.clone()?;
-            self.set_cell(i, copy, seqno)?;
-        }
-        Ok(())
-    }
-
-    // Whether filling with the cell leaves the line empty.
-    fn stays_empty(&self, cell: &Cell) -> bool
-        ensures { IsTrue result ↔ ((self.now.cells ≡ []) × (cell.now ≡ blank)) }
-    {
-        self.storage.is_empty() && cell.is_blank()
-    }
-
-    /// Sets the cell in each of the columns, in order, and then prunes. An empty line stays as it is where the cell is a default blank.
-    /// On an error the cell was set in some first columns, and nothing was pruned.
-    pub fn fill_range(
-        &mut self,
-        range: Range<usize>,
-        cell: &Cell,
-        seqno: SequenceNo,
-    ) -> Result<(), AllocError>
-        ensures ok { OnOk result (IsFilled self.old range.start range.end cell.now seqno self.new) }
-        ensures form { range.start < range.end → ((self.old.cells ≡ []) × (cell.now ≡ blank) → ⊥) → OnOk result (FillsAs range.start range.end cell.now self.old.cells self.new.cells) }
-        ensures err { OnErr result (IsPartlyFilled self.old range.start range.end cell.now seqno self.new) }
-    {
-        if self.stays_empty(cell) {
-            return Ok(());
-        }
-        self.set_cells(range.start, range.end, cell, seqno)?;
-        self.prune_trailing_blanks(seqno)
     }
 
     /// Whether both lines have the same cells, whatever their numbers and flags, and whichever form stores them.

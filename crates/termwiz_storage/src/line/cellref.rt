@@ -2,7 +2,7 @@
 ghost use Rattle.std.specs.Prelude.{◌≡◌, ◌≤◌, ◌↔◌, IsTrue, IfOk};
 ghost use Rattle.std.specs.Option.{unwrap_or};
 ghost use Rattle.std.specs.Iterator.{item_count};
-ghost use Rattle.termwiz_cell.specs.CellValue.{blank, cell_of, columns};
+ghost use Rattle.termwiz_cell.specs.CellValue.{blank, cell_of, columns, space};
 ghost use Rattle.termwiz_storage.specs.CellRef.{contents, contents_of, ref_index, ref_cell, ref_width};
 ghost use Rattle.termwiz_storage.specs.CellsLeft.{cells_left, IsOfCell, YieldsCell};
 
@@ -122,11 +122,18 @@ impl<'a> CellRef<'a> {
         })
     }
 
+    /// Whether the text is a single space.
+    pub fn is_space(&self) -> bool
+        ensures { IsTrue result ↔ ((ref_cell self.now).text ≡ space) }
+    {
+        matches!(self.str().as_bytes(), b" ")
+    }
+
     /// Whether it shows a default blank.
     pub fn is_blank(&self) -> bool
         ensures { IsTrue result ↔ (contents self.now ≡ contents_of blank) }
     {
-        matches!(self.str().as_bytes(), b" ") && (self.width() == 1 && self.attrs().is_blank())
+        self.is_space() && (self.width() == 1 && self.attrs().is_blank())
     }
 }
 

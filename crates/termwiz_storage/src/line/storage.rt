@@ -2,7 +2,7 @@
 ghost use Rattle.std.specs.Prelude.{◌≡◌, ◌-◌, ◌<◌, ◌≤◌, [], ◌↔◌, false, true, length, option_map, replicate, take, IsTrue, IsOk, IfOk, OnOk, OnErr, Some, None, if◌then◌else◌};
 ghost use Rattle.std.specs.Borrow.{sem};
 ghost use Rattle.std.specs.Cmp.{decided, on_equiv, on_per, partial_equiv_from_equiv};
-ghost use Rattle.std.specs.List.{list_all};
+ghost use Rattle.std.specs.List.{list_all, list_any};
 ghost use Rattle.termwiz_text.specs.Plain.{is_plain};
 ghost use Rattle.termwiz_cell.specs.Attributes.{needs_box};
 ghost use Rattle.termwiz_cell.specs.CellValue.{blank};
@@ -11,6 +11,7 @@ ghost use Rattle.termwiz_storage.specs.CellsLeft.{cells_left};
 ghost use Rattle.termwiz_storage.specs.Stored.{visible, fill, set_cell, set_run, IsKept};
 ghost use Rattle.termwiz_storage.specs.Halves.{resized};
 ghost use Rattle.termwiz_storage.specs.Storage.{cells_of, is_vector, same_cells};
+ghost use Rattle.termwiz_storage.specs.Stored.{is_linked};
 ghost use Rattle.termwiz_storage.specs.Lending.{LendsVector};
 ghost use Rattle.termwiz_storage.specs.Wrapped.{set_last_wrapped};
 
@@ -189,6 +190,15 @@ impl CellStorage {
     {
         match self {
             CellStorage::V(storage) => storage.kept_len(),
+        }
+    }
+
+    /// Whether a stored cell has a link.
+    pub fn has_hyperlink(&self) -> bool
+        ensures { result ≡ list_any is_linked (cells_of self.now) }
+    {
+        match self {
+            CellStorage::V(storage) => storage.has_hyperlink(),
         }
     }
 

@@ -2,12 +2,12 @@
 ghost use Rattle.std.specs.Prelude.{◌≡◌, [], false, true, ◌+◌, ◌-◌, ◌<◌, ◌≤◌, ◌↔◌, ◌&&◌, nat_lt, IsTrue, OnErr, OnOk, IsOk, IfOk, length, take, replicate, slice_set, vec_capacity, vec_len};
 ghost use Rattle.std.specs.Cmp.{decided, partial_equiv_from_equiv};
 ghost use Rattle.std.specs.Iterator.{item_count};
-ghost use Rattle.std.specs.List.{list_all};
+ghost use Rattle.std.specs.List.{list_all, list_any};
 ghost use Rattle.termwiz_text.specs.Plain.{is_plain};
 ghost use Rattle.termwiz_cell.specs.Attributes.{needs_box};
 ghost use Rattle.termwiz_cell.specs.CellValue.{blank, half, is_wide};
 ghost use Rattle.termwiz_storage.specs.CellsLeft.{YieldsCell};
-ghost use Rattle.termwiz_storage.specs.Stored.{fill, hides, padded, put_run, stored, set_cell, set_run, torn, visible, IsKept};
+ghost use Rattle.termwiz_storage.specs.Stored.{fill, hides, is_linked, padded, put_run, stored, set_cell, set_run, torn, visible, IsKept};
 ghost use Rattle.termwiz_storage.specs.Halves.{resized};
 ghost use Rattle.termwiz_storage.specs.Used.{IsBlanked, IsFilledTo, IsUsedTo};
 ghost use Rattle.termwiz_storage.specs.CellLists.{cells_eq, cells_eq-Decides};
@@ -18,6 +18,7 @@ mod edits;
 mod wrapped;
 
 use crate::line::cellref::CellRef;
+pub use edits::push_with_half;
 use std::alloc::{AllocError, Global};
 use std::marker::Model;
 use std::ops::{DerefSlice, DerefSliceMut};
@@ -352,6 +353,18 @@ impl VecStorage {
         end
     }
 
+    /// Whether a stored cell has a link.
+    pub(crate) fn has_hyperlink(&self) -> bool
+        ensures { result ≡ list_any is_linked self.now }
+    {
+        for cell in &self.cells {
+            if has_link(cell) {
+                return true;
+            }
+        }
+        false
+    }
+
     // Whether a wide cell stands before column i.
     fn is_wide_before(&self, i: usize) -> bool
         requires { i ≤ length self.now }
@@ -384,6 +397,15 @@ impl VecStorage {
             }
         }
         kept.min(self.cells.len())
+    }
+}
+
+fn has_link(cell: &Cell) -> bool
+    ensures { result ≡ is_linked cell.now }
+{
+    match cell.attrs().hyperlink() {
+        Some(_) => true,
+        None => false,
     }
 }
 

@@ -6,47 +6,58 @@ ghost use Rattle.unicode_segmentation.specs.Grapheme.{graphemes};
 ghost use Rattle.termwiz_cell.specs.CellValue.{measured};
 ghost use Rattle.termwiz_cell.specs.Width.{unversioned};
 ghost use Rattle.termwiz_surface.specs.Graphemes.{single};
-ghost use Rattle.termwiz_surface.specs.Print.{break_of};
-ghost use Rattle.termwiz_surface.specs.Printing.{AreNarrow, IsNarrowRun};
+ghost use Rattle.termwiz_surface.specs.Print.{piece_of, printed_cell};
+ghost use Rattle.termwiz_surface.specs.SurfaceValue.{IsMeasured};
+ghost use Rattle.termwiz_surface.specs.Printing.{AreNarrow, IsMeasuredPiece, IsNarrowRun};
 
 use std::alloc::{AllocError, Global};
 use termwiz_cell::cell::{Cell, CellAttributes};
 use termwiz_cell::emoji::Widths;
 use termwiz_text::split_plain_run;
 
-/// Which line break a grapheme is.
-#[derive(Clone, Copy, Debug)]
-pub enum LineBreak {
+/// What a grapheme prints: a line break, or a cell.
+#[derive(Drop, Debug)]
+pub enum Piece {
     CarriageReturn,
     LineFeed,
     CarriageReturnLineFeed,
-    None,
+    Cell(Cell),
 }
 
-pub(super) fn line_break(grapheme: &str) -> LineBreak
-    ensures { result ≡ break_of grapheme.now }
+/// The piece that a grapheme prints with a pen.
+pub(super) fn printed_piece<W: Widths>(
+    alloc: Global,
+    widths: &W,
+    grapheme: &str,
+    pen: &CellAttributes,
+) -> Result<Piece, AllocError>
+    requires { graphemes true grapheme.now ≡ grapheme.now ∷ [] }
+    ensures piece { IfOk result (λ piece. piece ≡ piece_of (unversioned (W.width_of widths.now)) pen.now grapheme.now) }
+    ensures measured { IfOk result (IsMeasuredPiece (unversioned (W.width_of widths.now))) }
 {
-    match grapheme.as_bytes() {
-        [b'\r'] => LineBreak::CarriageReturn,
-        [b'\n'] => LineBreak::LineFeed,
-        [b'\r', b'\n'] => LineBreak::CarriageReturnLineFeed,
-        _ => LineBreak::None,
-    }
+    Ok(match grapheme.as_bytes() {
+        [b'\r'] => Piece::CarriageReturn,
+        [b'\n'] => Piece::LineFeed,
+        [b'\r', b'\n'] => Piece::CarriageReturnLineFeed,
+        _ => Piece::Cell(printed_cell(alloc, widths, grapheme, pen)?),
+    })
 }
 
-/// The cell that a grapheme prints with a pen.
+// The cell of a grapheme.
 #[tactic(auto, using(crate::proofs::Graphemes::single_same))]
-pub(super) fn printed_cell<W: Widths>(
+fn printed_cell<W: Widths>(
     alloc: Global,
     widths: &W,
     grapheme: &str,
     pen: &CellAttributes,
 ) -> Result<Cell, AllocError>
     requires { graphemes true grapheme.now ≡ grapheme.now ∷ [] }
-    ensures { IfOk result (λ cell. cell ≡ measured (unversioned (W.width_of widths.now)) (single grapheme.now) pen.now) }
+    ensures cell { IfOk result (λ cell. cell ≡ printed_cell (unversioned (W.width_of widths.now)) pen.now grapheme.now) }
+    ensures measured { IfOk result (IsMeasured (unversioned (W.width_of widths.now))) }
 {
     let attrs = pen.clone()?;
-    Cell::new_grapheme(alloc, widths, grapheme, attrs, None)
+    let cell = Cell::new_grapheme(alloc, widths, grapheme, attrs, None)?;
+    Ok(cell)
 }
 
 /// Whether a text begins with printable ASCII. Where it does not, there is no run to look for.

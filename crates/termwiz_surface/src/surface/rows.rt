@@ -1,5 +1,5 @@
 //! The rows of a surface: lines whose numbers nothing reads.
-ghost use Rattle.std.specs.Prelude.{◌≡◌, ℕ, true, false, length, ◌-◌, ◌<◌, ◌≤◌, slice_set, replicate, take, map, string_bytes, ◌++◌, IfOk, OnOk, OnErr};
+ghost use Rattle.std.specs.Prelude.{◌≡◌, ◌+◌, ℕ, true, false, length, ◌-◌, ◌<◌, ◌≤◌, slice_set, replicate, take, map, string_bytes, ◌++◌, IfOk, OnOk, OnErr};
 ghost use Rattle.std.specs.VecDeque.{deque_len};
 ghost use Rattle.termwiz_cell.specs.CellValue.{blank};
 ghost use Rattle.std.specs.List.{list_all};
@@ -11,7 +11,7 @@ ghost use Rattle.termwiz_surface.specs.Chars.{row_chars, screen_chars};
 ghost use Rattle.termwiz_surface.specs.ScreenValue.{cells_of, numberless};
 ghost use Rattle.termwiz_surface.specs.Screen.{row_at};
 ghost use Rattle.termwiz_surface.specs.Print.{scrolled};
-ghost use Rattle.termwiz_surface.specs.Rows.{painted_in, AreFilled, IsFilledAt, IsPartly, ArePartly};
+ghost use Rattle.termwiz_surface.specs.Rows.{painted_in, AreFilled, IsPartly, ArePartly};
 
 use std::alloc::{AllocError, Global};
 use std::collections::VecDeque;
@@ -137,7 +137,7 @@ pub(super) fn fill_row(
 ) -> Result<(), AllocError>
     requires inside { y < deque_len rows.old }
     requires some { 0 < length (row_at (cells_of rows.old.items) y) }
-    ensures ok { OnOk result (IsFilledAt width x y cell.now (cells_of rows.old.items) (cells_of rows.new.items)) }
+    ensures ok { OnOk result (AreFilled width x y (y + 1) cell.now (cells_of rows.old.items) (cells_of rows.new.items)) }
     ensures err { x ≤ width → OnErr result (ArePartly width cell.now (cells_of rows.old.items) (cells_of rows.new.items)) }
 {
     fill_line(&mut rows[y], x, width, cell)?;
@@ -154,7 +154,7 @@ pub(super) fn fill_rows(
 ) -> Result<(), AllocError>
     requires inside { y < deque_len rows.old }
     requires some { (j : ℕ) → j < deque_len rows.old → 0 < length (row_at (cells_of rows.old.items) j) }
-    ensures ok { OnOk result (AreFilled width x y cell.now (cells_of rows.old.items) (cells_of rows.new.items)) }
+    ensures ok { OnOk result (AreFilled width x y (length (cells_of rows.old.items)) cell.now (cells_of rows.old.items) (cells_of rows.new.items)) }
     ensures err { x ≤ width → OnErr result (ArePartly width cell.now (cells_of rows.old.items) (cells_of rows.new.items)) }
 {
     fill_row(rows, width, x, y, cell)?;

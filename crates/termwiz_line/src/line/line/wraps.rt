@@ -13,6 +13,7 @@ use std::alloc::{AllocError, Global};
 use termwiz_cell::cell::{Cell, CellAttributes};
 use termwiz_cell::change::SequenceNo;
 use termwiz_storage::line::cellref::{CellRef, VisibleCellIter};
+use termwiz_storage::line::vecstorage::push_with_half;
 
 impl Line {
     /// Cuts the line into lines of at most this many columns, which have the number and no flags. A line takes as many cells as fit, and one at least; the half of a wide cell follows it. The cells behind the last one that isn't a space are dropped, and each line but the last is marked as wrapped.
@@ -45,17 +46,11 @@ fn text_count(cells: VisibleCellIter<'_>) -> usize
     let mut kept = 0;
     for cell in cells {
         seen += 1;
-        if !is_space(cell) {
+        if !cell.is_space() {
             kept = seen;
         }
     }
     kept
-}
-
-fn is_space(cell: CellRef<'_>) -> bool
-    ensures { IsTrue result ↔ ((ref_cell cell.entry).text ≡ space) }
-{
-    matches!(cell.str().as_bytes(), b" ")
 }
 
 // The lines of a cell and of those after it, up to a count. The last cell of a line is held back until it is known whether another line follows.
@@ -126,24 +121,4 @@ fn mark(attrs: &mut CellAttributes)
     ensures { attrs.new ≡ record attrs.old { wrapped = true } }
 {
     attrs.set_wrapped(true);
-}
-
-fn push_with_half(line: &mut Vec<Cell>, cell: Cell) -> Result<(), AllocError>
-    ensures { OnOk result (line.new.items ≡ line.old.items ++ with_half cell) }
-{
-    if cell.width() > 1 {
-        push_wide(line, cell)?;
-    } else {
-        line.push(cell)?;
-    }
-    Ok(())
-}
-
-fn push_wide(line: &mut Vec<Cell>, cell: Cell) -> Result<(), AllocError>
-    ensures { OnOk result (line.new.items ≡ line.old.items ++ cell ∷ half cell ∷ []) }
-{
-    let half = Cell::blank_with_attrs(cell.attrs().clone()?);
-    line.push(cell)?;
-    line.push(half)?;
-    Ok(())
 }

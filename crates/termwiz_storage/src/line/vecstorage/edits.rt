@@ -1,7 +1,7 @@
 //! Edits that move stored cells.
 ghost use Rattle.std.specs.Prelude.{◌≡◌, [], ◌∷◌, ◌+◌, ◌<◌, ◌≤◌, ◌-◌, ◌++◌, nat_le, ◌&&◌, not, false, true, length, take, drop, replicate, IfOk, OnOk, OnErr, if◌then◌else◌, vec_capacity, vec_len};
 ghost use Rattle.std.specs.List.{insert, remove};
-ghost use Rattle.termwiz_cell.specs.CellValue.{blank, is_wide};
+ghost use Rattle.termwiz_cell.specs.CellValue.{blank, half, is_wide};
 ghost use Rattle.termwiz_storage.specs.Stored.{padded, visible};
 ghost use Rattle.termwiz_storage.specs.Edits.{columns_between, erased, erased_within, inserted, inserted_at_margin, removed, removed_at_margin, with_half, with_halves};
 
@@ -232,16 +232,24 @@ fn insert_moving(
     Ok(())
 }
 
-// Pushes a copy of a cell, and of its half behind a wide one.
-fn push_with_half(out: &mut Vec<Cell>, cell: &Cell) -> Result<(), AllocError>
-    ensures { OnOk result (out.new.items ≡ out.old.items ++ with_half cell.now) }
+/// Pushes a cell, and its half behind a wide one.
+pub fn push_with_half(out: &mut Vec<Cell>, cell: Cell) -> Result<(), AllocError>
+    ensures { OnOk result (out.new.items ≡ out.old.items ++ with_half cell) }
 {
-    let copy = cell.clone()?;
-    out.push(copy)?;
     if cell.width() > 1 {
-        let half = half_of(cell)?;
-        out.push(half)?;
+        push_wide(out, cell)?;
+    } else {
+        out.push(cell)?;
     }
+    Ok(())
+}
+
+fn push_wide(out: &mut Vec<Cell>, cell: Cell) -> Result<(), AllocError>
+    ensures { OnOk result (out.new.items ≡ out.old.items ++ cell ∷ half cell ∷ []) }
+{
+    let half = half_of(&cell)?;
+    out.push(cell)?;
+    out.push(half)?;
     Ok(())
 }
 
@@ -264,7 +272,7 @@ fn push_where(out: &mut Vec<Cell>, cell: &Cell, shown: bool) -> Result<(), Alloc
     ensures { OnOk result (out.new.items ≡ out.old.items ++ (if shown then with_half cell.now else [])) }
 {
     if shown {
-        push_with_half(out, cell)?;
+        push_with_half(out, cell.clone()?)?;
     }
     Ok(())
 }

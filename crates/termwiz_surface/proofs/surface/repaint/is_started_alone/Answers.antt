@@ -1,4 +1,4 @@
-use Rattle.std.proofs.Common.{◌+◌, map, length, sym, ap, ◌∙◌, arith}
+use Rattle.std.proofs.Common.{length, ap, arith}
 use Rattle.std.proofs.lemmas.List.{length-map}
 use Rattle.termwiz_cell.specs.ChangeValue.{change_value}
 use Rattle.termwiz_surface.proofs.LastChanges.{nothing_more}

@@ -1,9 +1,9 @@
-use Rattle.std.proofs.Common.{◌≡◌, suc, ◌+◌, ◌-◌, ◌<◌, true, cond, map, length, arith, add-one, le_refl, sym, ap, ◌∙◌, subst, ◌≤◌}
+use Rattle.std.proofs.Common.{◌≡◌, suc, ◌+◌, ◌-◌, ◌<◌, true, cond, map, length, arith, add-one, sym, ap, ◌∙◌, ◌≤◌}
 use Rattle.std.specs.Option.{option_copied}
 use Rattle.std.specs.VecDeque.{deque_len}
 use Rattle.std.proofs.lemmas.Bool.{and_parts, not-true}
 use Rattle.std.proofs.lemmas.Result.{IfOk-weaker}
-use Rattle.termwiz_cell.specs.Attributes.{default_attributes, attributes_eq, is_plain}
+use Rattle.termwiz_cell.specs.Attributes.{is_plain}
 use Rattle.termwiz_line.specs.Entries.{Penned}
 use Rattle.termwiz_line.specs.LastChange.{last_is}
 use Rattle.termwiz_line.specs.PennedValue.{penned_value}
@@ -11,7 +11,7 @@ use Rattle.termwiz_line.specs.Row.{row_of}
 use Rattle.termwiz_line.specs.Writing.{behind}
 use Rattle.termwiz_surface.specs.ScreenValue.{cells_of}
 use Rattle.termwiz_surface.specs.Drawing.{clears}
-use Rattle.termwiz_surface.specs.Repaint.{first_blank, ends_with, is_clear_of, joined_row, first_entries, rows_upto, all_rows}
+use Rattle.termwiz_surface.specs.Repaint.{first_blank, ends_with, is_clear_of, first_entries, rows_upto, all_rows}
 use Rattle.termwiz_surface.proofs.Lines.{length-cells_of}
 use Rattle.termwiz_surface.proofs.LastChanges.{clears_is, ends_behind_first}
 use Rattle.termwiz_surface.proofs.RepaintBottom.{first_blank_same, joined_ends}

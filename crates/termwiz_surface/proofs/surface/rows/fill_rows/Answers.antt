@@ -4,11 +4,11 @@ use Rattle.termwiz_surface.specs.Rows.{ArePartly}
 use Rattle.termwiz_surface.specs.Screen.{row_at}
 use Rattle.termwiz_surface.specs.ScreenValue.{cells_of}
 use Rattle.termwiz_surface.proofs.Lines.{length-cells_of, cells-read, cells-set}
-use Rattle.termwiz_surface.proofs.Filling.{filling-first, filling-more, filling-partly}
+use Rattle.termwiz_surface.proofs.Filling.{filling-more, filling-partly}
 use Rattle.termwiz_surface.proofs.surface.rows.fill_rows.Goals as goal
 
 pub loop-j-init : goal.loop-j-init
-loop-j-init c = filling-first c.args.width c.args.x c.args.y c.args.cell.now (cells_of c.args.rows.now.items) (cells_of c.fill_row.new.rows.items) c.in_ok-fill_row.ensures.ok
+loop-j-init c = c.in_ok-fill_row.ensures.ok
 
 pub returns-in_err-fill_line-clause-err : goal.returns-in_err-fill_line-clause-err
 returns-in_err-fill_line-clause-err c = λ l.

@@ -1,6 +1,4 @@
-use Rattle.std.proofs.Common.{◌<◌, length, set, take, arith, sym, ap, ◌∙◌}
-use Rattle.std.proofs.lemmas.List.{set-get_or}
-use Rattle.termwiz_cell.specs.CellValue.{CellValue}
+use Rattle.std.proofs.Common.{◌<◌, length, set, arith, sym, ap, ◌∙◌}
 use Rattle.termwiz_line.proofs.Fills.{on_err}
 use Rattle.termwiz_surface.specs.Rows.{painted_in}
 use Rattle.termwiz_surface.specs.ScreenValue.{cells_of}

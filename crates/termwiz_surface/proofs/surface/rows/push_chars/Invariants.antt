@@ -1,7 +1,7 @@
 use Rattle.std.proofs.Common.{◌≡◌, ◌++◌, string_bytes}
 use Rattle.termwiz_storage.specs.CellsLeft.{cells_left}
 use Rattle.termwiz_storage.specs.Stored.{visible}
-use Rattle.termwiz_surface.specs.Chars.{texts_of}
+use Rattle.termwiz_line.specs.Texts.{texts_of}
 use Rattle.termwiz_surface.proofs.surface.rows.push_chars.Given as goal
 
 -- what is left to write leads to the whole row

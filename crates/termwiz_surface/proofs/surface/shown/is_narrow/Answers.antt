@@ -1,4 +1,4 @@
-use Rattle.std.proofs.Common.{◌≡◌, ◌==◌, ap, ◌∙◌}
+use Rattle.std.proofs.Common.{◌==◌, ap, ◌∙◌}
 use Rattle.termwiz_surface.proofs.ShownCells.{narrow_columns}
 use Rattle.termwiz_storage.specs.CellRef.{ref_cell}
 use Rattle.termwiz_surface.proofs.surface.shown.is_narrow.Goals as goal

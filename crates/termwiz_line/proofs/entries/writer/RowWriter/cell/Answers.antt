@@ -1,4 +1,4 @@
-use Rattle.std.proofs.Common.{◌≡◌, ◌∷◌, [], refl, ap, sym, ◌∙◌, true, bytes_eq}
+use Rattle.std.proofs.Common.{◌∷◌, [], refl, ap, sym, ◌∙◌, true, bytes_eq}
 use Rattle.std.proofs.lemmas.Bool.{and_from}
 use Rattle.std.proofs.lemmas.Result.{on_ok_weaker}
 use Rattle.termwiz_cell.specs.Attributes.{attributes_eq, attributes_eq-Decides}

@@ -1,4 +1,4 @@
-use Rattle.std.proofs.Common.{◌≡◌, ◌<◌, not, ap, sym, ◌∙◌, ltb-true}
+use Rattle.std.proofs.Common.{not, ap, sym, ◌∙◌, ltb-true}
 use Rattle.std.specs.Prelude.{nat_lt}
 use Rattle.std.proofs.lemmas.Bool.{and_parts}
 use Rattle.std.proofs.lemmas.Result.{on_ok_weaker}

@@ -1,10 +1,10 @@
-use Rattle.std.proofs.Common.{◌≡◌, ◌+◌, ◌<◌, length, ap, sym, ◌∙◌, arith, ltb-true}
+use Rattle.std.proofs.Common.{◌+◌, ◌<◌, length, ap, sym, ◌∙◌, arith, ltb-true}
 use Rattle.std.specs.Prelude.{nat_lt}
 use Rattle.std.proofs.lemmas.Bool.{and_parts}
 use Rattle.termwiz_cell.specs.Attributes.{attributes_eq, attributes_eq-Decides}
 use Rattle.termwiz_line.specs.Entries.{all_spaces}
 use Rattle.termwiz_line.specs.Writing.{Writing}
-use Rattle.termwiz_line.proofs.WrittenRows.{written_none, written_spaces, other_spaces}
+use Rattle.termwiz_line.proofs.WrittenRows.{written_spaces, other_spaces}
 use Rattle.termwiz_line.proofs.entries.writer.RowWriter.spaces.Goals as goal
 
 pub returns-then-holds_back : goal.returns-then-holds_back

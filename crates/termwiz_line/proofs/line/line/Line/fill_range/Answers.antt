@@ -1,8 +1,6 @@
-use Rattle.std.proofs.Common.{◌-◌, ◌≡◌, ap, sym, subst}
 use Rattle.std.proofs.lemmas.Bool.{iff_false}
 use Rattle.std.proofs.lemmas.Result.{on_ok_weaker}
 use Rattle.termwiz_line.specs.LineValue.{Prunes}
-use Rattle.termwiz_storage.specs.Stored.{fill, IsPruned}
 use Rattle.termwiz_storage.proofs.Fill.{fill-closed_form}
 use Rattle.termwiz_line.proofs.line.line.Line.fill_range.Goals as goal
 
@@ -11,16 +9,11 @@ returns-clause-ok c =
     on_ok_weaker c.prune_trailing_blanks.result
     (λ (p : Prunes c.set_cells.new.self c.args.seqno c.prune_trailing_blanks.new.self). record {
       nothing = λ e b. absurd (iff_false c.stays_empty.ensures c.if-stays_empty.false (e, b));
-      filled = λ _. record { full = c.set_cells.new.self; fills = c.in_ok-set_cells.ensures.ok; prunes = p };
-    })
-    c.prune_trailing_blanks.ensures.ok
-
-pub returns-clause-form : goal.returns-clause-form
-returns-clause-form c =
-    λ l n. on_ok_weaker c.prune_trailing_blanks.result
-    (λ (p : Prunes c.set_cells.new.self c.args.seqno c.prune_trailing_blanks.new.self). record {
-      full = fill (c.args.range.end - c.args.range.start) c.args.range.start c.args.cell.now c.args.self.now.cells;
-      form = fill-closed_form c.args.range.start c.args.range.end c.args.cell.now c.args.self.now.cells l;
-      pruned = rw c.in_ok-set_cells.ensures.ok.cells at p.cells;
+      filled = λ _. record {
+        full = c.set_cells.new.self;
+        fills = c.in_ok-set_cells.ensures.ok;
+        form = λ l. rw c.in_ok-set_cells.ensures.ok.cells (fill-closed_form c.args.range.start c.args.range.end c.args.cell.now c.args.self.now.cells l);
+        prunes = p;
+      };
     })
     c.prune_trailing_blanks.ensures.ok

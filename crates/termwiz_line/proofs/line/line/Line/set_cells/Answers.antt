@@ -1,4 +1,4 @@
-use Rattle.std.proofs.Common.{◌-◌, arith}
+use Rattle.std.proofs.Common.{arith}
 use Rattle.termwiz_line.proofs.Fills.{on_err, partly_filled, Fills-none, Fills-more, Fills-unchanged, Fills-all}
 use Rattle.termwiz_line.proofs.line.line.Line.set_cells.Goals as goal
 

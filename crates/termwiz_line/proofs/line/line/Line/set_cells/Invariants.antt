@@ -1,4 +1,4 @@
-use Rattle.std.proofs.Common.{◌≡◌, ◌-◌, ◌≤◌}
+use Rattle.std.proofs.Common.{◌-◌, ◌≤◌}
 use Rattle.termwiz_line.specs.Filled.{Fills}
 use Rattle.termwiz_line.proofs.line.line.Line.set_cells.Given as goal
 

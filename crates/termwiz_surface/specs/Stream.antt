@@ -1,4 +1,4 @@
--- The changes that an answer holds.
+-- The stream that a viewer applies: the changes that are lent, or owned.
 use Rattle.std.specs.Prelude.{List, map}
 use Rattle.std.specs.Cow.{cow_slice_items}
 use Rattle.std.specs.declared.borrow.CowSlice.{CowSlice}
@@ -6,5 +6,5 @@ use Rattle.std.specs.declared.alloc.Global.{Global}
 use Rattle.termwiz_cell.specs.declared.change.Change.{Change}
 use Rattle.termwiz_cell.specs.ChangeValue.{ChangeValue, change_value}
 
-abbrev pub answered : CowSlice Change Global → List ChangeValue
-answered answer = map change_value (cow_slice_items answer)
+abbrev pub stream_of : CowSlice Change Global → List ChangeValue
+stream_of changes = map change_value (cow_slice_items changes)

@@ -1,4 +1,4 @@
--- What a list of changes answers, and what it makes of a surface.
+-- What adding a list of changes makes of a surface, and the number that is told of it.
 use Rattle.std.specs.Prelude.{◌≡◌, ℕ, ◌+◌, ◌<◌, ◌≤◌, ◌^◌, ◌==◌, List, length, Result, Ok, Err, if◌then◌else◌}
 use Rattle.termwiz_cell.specs.ChangeValue.{ChangeValue}
 use Rattle.termwiz_surface.specs.SurfaceValue.{SurfaceValue, screen_of, lengths_of, IsSound, SameFrame, Draws}
@@ -17,13 +17,13 @@ module _ {W : Type 0} where
 
   -- the changes are made, and counted
   abbrev pub Makes : (List ℕ → ℕ) → SurfaceValue W → List ChangeValue → SurfaceValue W → Type 0
-  Makes width old changes new = Draws (numbered old (old.number + length changes)) (replay width (screen_of old) changes) (replay_lengths width (screen_of old) (lengths_of old) changes) new
+  Makes measure old changes new = Draws (numbered old (old.number + length changes)) (replay measure (screen_of old) changes) (replay_lengths measure (screen_of old) (lengths_of old) changes) new
 
-  -- a list of changes is answered by this number, or refused
+  -- a list of changes is made, and this number told, or refused
   abbrev pub Adds : (List ℕ → ℕ) → SurfaceValue W → List ChangeValue → ℕ → Result ℕ SurfaceError → SurfaceValue W → Type 0
-  Adds width old changes answer (Ok n) new = (old.number + length changes < 2 ^ 64) × (n ≡ answer) × Makes width old changes new
+  Adds measure old changes told (Ok n) new = (old.number + length changes < 2 ^ 64) × (n ≡ told) × Makes measure old changes new
   -- the numbers would pass the greatest: nothing has changed
-  Adds width old changes answer (Err Numbers) new = (2 ^ 64 ≤ old.number + length changes) × (new ≡ old)
+  Adds measure old changes told (Err Numbers) new = (2 ^ 64 ≤ old.number + length changes) × (new ≡ old)
   -- some memory was refused: the surface is any one of that size in its form, under a new number
-  Adds width old changes answer (Err Memory) new =
-      (old.number + length changes < 2 ^ 64) × (0 < length changes) × SameFrame (numbered old (broken_number old.number)) new × IsSound width new
+  Adds measure old changes told (Err Memory) new =
+      (old.number + length changes < 2 ^ 64) × (0 < length changes) × SameFrame (numbered old (broken_number old.number)) new × IsSound measure new

@@ -1,0 +1,16 @@
+use Rattle.std.proofs.Common.{◌≡◌, ◌∷◌, ℕ, List, map}
+use Rattle.termwiz_text.specs.Left.{graphemes_to_come}
+use Rattle.termwiz_cell.specs.CellValue.{CellValue, measured}
+use Rattle.termwiz_cell.specs.Width.{unversioned}
+use Rattle.termwiz_line.proofs.Overlays.{overlaying-none, overlaying-more}
+use Rattle.termwiz_line.proofs.line.line.Line.overlay_text_with_attribute.Goals as goal
+
+pub loop-grapheme-init : goal.loop-grapheme-init
+loop-grapheme-init g c = rw (c.into_iter-grapheme-iterator.ensures.into_iter_gives, c.new-grapheme-items.ensures.left) (overlaying-none c.args.self.now _ c.args.seqno)
+
+pub loop-grapheme-preserved : goal.loop-grapheme-preserved
+loop-grapheme-preserved g c =
+    let measure : List ℕ → ℕ = unversioned (g.W.Widths.width_of c.args.widths.now) in
+    let here : graphemes_to_come c.loop-grapheme.grapheme-iterator ≡ c.in-Some.grapheme.now ∷ graphemes_to_come c.next.new.self = c.in-Some.ensures.steps in
+    rw (c.in_ok-end.ensures, c.in_ok-cell.ensures)
+    (overlaying-more (c.loop-grapheme.column, measured measure c.in-Some.grapheme.now c.args.attr.now) (rw here at c.loop-grapheme.invariant) (rw c.in_ok-cell.ensures at c.in_ok-set_cell.ensures.ok))

@@ -1,0 +1,8 @@
+use Rattle.std.proofs.Common.{◌≡◌, ◌++◌, string_bytes}
+use Rattle.termwiz_storage.specs.CellsLeft.{cells_left}
+use Rattle.termwiz_line.specs.Texts.{texts_of}
+use Rattle.termwiz_line.proofs.line.line.texts.joined_texts.Given as goal
+
+-- what is left to write leads to the whole text
+abbrev pub invariant-loop-cell : goal.invariant-loop-cell
+invariant-loop-cell l = string_bytes l.text ++ texts_of (cells_left l.cell-iterator) ≡ texts_of (cells_left l.fn.cells)

@@ -1,0 +1,214 @@
+//! Lines of texts, and the texts of a line.
+ghost use Rattle.std.specs.Prelude.{◌≡◌, ◌+◌, ◌↔◌, ◌++◌, false, true, IfOk, IfSome, IsTrue, OnErr, OnOk, option_map, string_bytes};
+ghost use Rattle.std.specs.Cow.{cow_str_bytes};
+ghost use Rattle.std.specs.List.{All, list_any};
+ghost use Rattle.termwiz_cell.specs.Attributes.{default_attributes};
+ghost use Rattle.termwiz_cell.specs.CellValue.{columns, measured, space};
+ghost use Rattle.termwiz_cell.specs.Width.{at_version, unversioned};
+ghost use Rattle.termwiz_storage.specs.CellRef.{indexed_cell, ref_cell, ref_index};
+ghost use Rattle.termwiz_storage.specs.CellsLeft.{cells_left};
+ghost use Rattle.termwiz_storage.specs.Stored.{cell_at, is_linked, visible};
+ghost use Rattle.termwiz_line.specs.LineEdits.{IsMade};
+ghost use Rattle.termwiz_line.specs.LineFlags.{no_flags};
+ghost use Rattle.termwiz_line.specs.Texts.{IsPartlyOverlaid, Overlays, cells_of_text, placed, stored_text, text_within, texts_of, texts_between, wrapped_text};
+
+use super::Line;
+use std::alloc::{AllocError, Global};
+use std::borrow::CowStr;
+use std::ops::Range;
+use termwiz_cell::cell::{Cell, CellAttributes};
+use termwiz_cell::change::{SEQ_ZERO, SequenceNo};
+use termwiz_cell::emoji::{UnicodeVersion, Widths};
+use termwiz_storage::line::cellref::{CellRef, VisibleCellIter};
+use termwiz_storage::line::vecstorage::push_with_half;
+use termwiz_text::Graphemes;
+
+impl Line {
+    /// A line of the cells of a text's graphemes, the half of each wide one behind it, with these attributes. They are measured by the given version.
+    pub fn from_text<W: Widths>(
+        alloc: Global,
+        text: &str,
+        attrs: &CellAttributes,
+        seqno: SequenceNo,
+        version: Option<UnicodeVersion>,
+        widths: &W,
+    ) -> Result<Line, AllocError>
+        ensures { IfOk result (λ line. line ≡ record { cells = stored_text (at_version (W.width_of widths.now) version) attrs.now text.now; seqno = seqno; flags = no_flags; is_vector = true }) }
+    {
+        let mut cells = Vec::new(alloc);
+        push_text(&mut cells, alloc, text, attrs, version, widths)?;
+        Ok(Line::from_cells(cells, seqno))
+    }
+
+    /// A line of a text in default attributes, measured without a version, with the number 0.
+    pub fn from_plain<W: Widths>(alloc: Global, text: &str, widths: &W) -> Result<Line, AllocError>
+        ensures { IfOk result (λ line. line ≡ record { cells = stored_text (unversioned (W.width_of widths.now)) default_attributes text.now; seqno = 0; flags = no_flags; is_vector = true }) }
+    {
+        Line::from_text(
+            alloc,
+            text,
+            &CellAttributes::blank(),
+            SEQ_ZERO,
+            None,
+            widths,
+        )
+    }
+
+    /// A line of a text, as `from_text` makes it without a version, whose last visible cell is marked as wrapped, with its half. An empty text makes a line without cells.
+    pub fn from_text_with_wrapped_last_col<W: Widths>(
+        alloc: Global,
+        text: &str,
+        attrs: &CellAttributes,
+        seqno: SequenceNo,
+        widths: &W,
+    ) -> Result<Line, AllocError>
+        ensures { IfOk result (IsMade (wrapped_text (unversioned (W.width_of widths.now)) attrs.now text.now) seqno) }
+    {
+        let mut line = Line::from_text(alloc, text, attrs, seqno, None, widths)?;
+        if line.len() > 0 {
+            line.set_last_cell_was_wrapped(true, seqno)?;
+        }
+        Ok(line)
+    }
+
+    /// Sets the cells of a text's graphemes, as `set_cell` does, the first at a column and each of the others behind the last one.
+    /// The line takes the number with the first; an empty text changes nothing.
+    /// On an error, which a column past the greatest number gives too, some first ones are set.
+    pub fn overlay_text_with_attribute<W: Widths>(
+        &mut self,
+        start: usize,
+        text: &str,
+        attr: &CellAttributes,
+        seqno: SequenceNo,
+        widths: &W,
+    ) -> Result<(), AllocError>
+        ensures ok { OnOk result (Overlays self.old (placed start (cells_of_text (unversioned (W.width_of widths.now)) attr.now text.now)) seqno self.new) }
+        ensures err { OnErr result (IsPartlyOverlaid self.old (placed start (cells_of_text (unversioned (W.width_of widths.now)) attr.now text.now)) seqno self.new) }
+    {
+        let mut column = start;
+        for grapheme in Graphemes::new(text) {
+            let cell = measured_cell(self.alloc, grapheme, attr, None, widths)?;
+            let end = end_of(column, &cell)?;
+            self.set_cell(column, cell, seqno)?;
+            column = end;
+        }
+        Ok(())
+    }
+
+    /// The texts of the visible cells, one after another.
+    pub fn as_str(&self) -> Result<CowStr<'_>, AllocError>
+        ensures { IfOk result (λ text. cow_str_bytes text ≡ texts_of (visible self.now.cells)) }
+    {
+        let text = joined_texts(self.alloc, self.visible_cells())?;
+        Ok(CowStr::Owned(text))
+    }
+
+    /// The texts of the visible cells that begin in these columns, one after another.
+    pub fn columns_as_str(&self, range: Range<usize>) -> Result<String, AllocError>
+        ensures { IfOk result (λ text. string_bytes text ≡ texts_between range.start range.end (visible self.now.cells)) }
+    {
+        let mut text = String::new(self.alloc);
+        for cell in self.visible_cells() {
+            push_within(&mut text, cell, range.start, range.end)?;
+        }
+        Ok(text)
+    }
+
+    /// The visible cell that begins at a column. There is none at the half of a wide cell, or behind the line.
+    pub fn get_cell(&self, cell_index: usize) -> Option<CellRef<'_>>
+        ensures cell { option_map ref_cell result ≡ cell_at (visible self.now.cells) cell_index }
+        ensures index { IfSome result (λ cell. ref_index cell ≡ cell_index) }
+    {
+        for cell in self.visible_cells() {
+            if cell.cell_index() == cell_index {
+                return Some(cell);
+            }
+        }
+        None
+    }
+
+    /// Whether a stored cell has a link.
+    pub fn has_hyperlink(&self) -> bool
+        ensures { result ≡ list_any is_linked self.now.cells }
+    {
+        self.storage.has_hyperlink()
+    }
+
+    /// Whether the text of each visible cell is a single space.
+    pub fn is_whitespace(&self) -> bool
+        ensures { IsTrue result ↔ All (λ p. p.1.text ≡ space) (visible self.now.cells) }
+    {
+        for cell in self.visible_cells() {
+            if !cell.is_space() {
+                return false;
+            }
+        }
+        true
+    }
+}
+
+// The cell of a grapheme.
+fn measured_cell<W: Widths>(
+    alloc: Global,
+    grapheme: &str,
+    attrs: &CellAttributes,
+    version: Option<UnicodeVersion>,
+    widths: &W,
+) -> Result<Cell, AllocError>
+    ensures { IfOk result (λ cell. cell ≡ measured (at_version (W.width_of widths.now) version) grapheme.now attrs.now) }
+{
+    let attrs = attrs.clone()?;
+    Cell::new_grapheme(alloc, widths, grapheme, attrs, version)
+}
+
+// The column behind a cell.
+fn end_of(column: usize, cell: &Cell) -> Result<usize, AllocError>
+    ensures { IfOk result (λ end. end ≡ column + columns cell.now) }
+{
+    column.checked_add(cell.width()).ok_or(AllocError)
+}
+
+// Pushes the cells of a text's graphemes with their halves.
+fn push_text<W: Widths>(
+    cells: &mut Vec<Cell>,
+    alloc: Global,
+    text: &str,
+    attrs: &CellAttributes,
+    version: Option<UnicodeVersion>,
+    widths: &W,
+) -> Result<(), AllocError>
+    ensures { OnOk result (cells.new.items ≡ cells.old.items ++ stored_text (at_version (W.width_of widths.now) version) attrs.now text.now) }
+{
+    for grapheme in Graphemes::new(text) {
+        let cell = measured_cell(alloc, grapheme, attrs, version, widths)?;
+        push_with_half(cells, cell)?;
+    }
+    Ok(())
+}
+
+// The texts of cells, one after another.
+fn joined_texts(alloc: Global, cells: VisibleCellIter<'_>) -> Result<String, AllocError>
+    ensures { IfOk result (λ text. string_bytes text ≡ texts_of (cells_left cells.entry)) }
+{
+    let mut text = String::new(alloc);
+    for cell in cells {
+        text.push_str(cell.str())?;
+    }
+    Ok(text)
+}
+
+// Pushes the text of a cell that begins in the columns from one up to another.
+fn push_within(
+    text: &mut String,
+    cell: CellRef<'_>,
+    from: usize,
+    to: usize,
+) -> Result<(), AllocError>
+    ensures { OnOk result (string_bytes text.new ≡ string_bytes text.old ++ text_within from to (indexed_cell cell.entry)) }
+{
+    let index = cell.cell_index();
+    if from <= index && index < to {
+        text.push_str(cell.str())?;
+    }
+    Ok(())
+}

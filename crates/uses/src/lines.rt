@@ -1,0 +1,40 @@
+//! Lines by themselves: a heading, and the word under a pointer.
+ghost use Rattle.std.specs.Prelude.{◌≡◌, ◌<◌, ◌≤◌, IfOk, false, length, true};
+ghost use Rattle.termwiz_cell.specs.Attributes.{default_attributes};
+ghost use Rattle.termwiz_cell.specs.Width.{unversioned};
+ghost use Rattle.termwiz_line.specs.LineFlags.{no_flags, with_sizes};
+ghost use Rattle.termwiz_line.specs.Texts.{stored_text};
+
+use std::alloc::{AllocError, Global};
+use std::ops::Range;
+use termwiz_cell::change::SequenceNo;
+use termwiz_cell::emoji::Widths;
+use termwiz_line::line::line::{DoubleClickRange, Line};
+
+/// A line of a text that is shown twice as wide.
+pub fn heading<W: Widths>(
+    alloc: Global,
+    text: &str,
+    seqno: SequenceNo,
+    widths: &W,
+) -> Result<Line, AllocError>
+    ensures text { IfOk result (λ line. line.cells ≡ stored_text (unversioned (W.width_of widths.now)) default_attributes text.now) }
+    ensures wide { IfOk result (λ line. line.flags ≡ with_sizes true false false no_flags) }
+{
+    let mut line = Line::from_plain(alloc, text, widths)?;
+    line.set_double_width(seqno);
+    Ok(line)
+}
+
+/// The columns of the word at a column of a line.
+pub fn word_at(line: &Line, column: usize) -> Range<usize>
+    requires { column < length line.now.cells }
+    ensures before { result.start ≤ column }
+    ensures behind { column ≤ result.end }
+    ensures within { result.end ≤ length line.now.cells }
+{
+    match line.compute_double_click_range(column, |text| text != " ") {
+        DoubleClickRange::Range(columns) => columns,
+        DoubleClickRange::RangeWithWrap(columns) => columns,
+    }
+}

@@ -73,7 +73,7 @@ under_way-done IsPiece k first rest before now u = IsCut-from IsPiece k (first �
 
 -- ---- a cut is the only one
 
-same_append : {A : Type 0} (p q r s : List A) → p ++ r ≡ q ++ s → ((more : List A) × (q ≡ p ++ more) × (r ≡ more ++ s)) ⊎ ((more : List A) × (p ≡ q ++ more) × (s ≡ more ++ r))
+pub same_append : {A : Type 0} (p q r s : List A) → p ++ r ≡ q ++ s → ((more : List A) × (q ≡ p ++ more) × (r ≡ more ++ s)) ⊎ ((more : List A) × (p ≡ q ++ more) × (s ≡ more ++ r))
 same_append [] q r s e = inl (q, refl, e)
 same_append (x ∷ p) [] r s e = inr (x ∷ p, refl, sym e)
 same_append {A} (x ∷ p) (y ∷ q) r s e =

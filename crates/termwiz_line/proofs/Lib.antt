@@ -10,6 +10,7 @@ pub mod LastMarked
 pub mod Clicking
 pub mod Wrapping
 pub mod WrappedLines
+pub mod CutsAreOne
 pub mod Fills
 pub mod RowPainting
 pub mod RowVisible

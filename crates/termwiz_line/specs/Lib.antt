@@ -17,6 +17,7 @@ pub mod Row
 pub mod Shows
 pub mod Entries
 pub mod RowLaws
+pub mod CutLaws
 pub mod PennedValue
 pub mod LastChange
 pub mod GrowingText

@@ -1,4 +1,5 @@
-//! What rows and edits are: laws of the definitions that the contracts cite, each on a function that does nothing.
+//! What rows, edits and cuts are: laws of the definitions that the contracts cite, each on a function that does nothing.
+ghost use Rattle.termwiz_line.specs.CutLaws.{WrapsAreOne, ZonesAreOne};
 ghost use Rattle.termwiz_line.specs.EditLaws.{AllColumnsShow, StoredAgainShows};
 ghost use Rattle.termwiz_line.specs.RowLaws.{PaintPaints, ClearClears, ClearPast, VisibleFixesRow, CellsHaveRow, VisibleFixesRowOf, WalkGrows, ResizedIsRow, SetCellPaints, PruningKeepsRow};
 
@@ -25,4 +26,10 @@ pub fn stored_row_laws()
 pub fn edit_laws()
     ensures again { StoredAgainShows }
     ensures all { AllColumnsShow }
+{}
+
+/// The zones of a line, and the lines into which it is wrapped, follow from its cells, whichever form stores them.
+pub fn cut_laws()
+    ensures zones { ZonesAreOne }
+    ensures wraps { WrapsAreOne }
 {}

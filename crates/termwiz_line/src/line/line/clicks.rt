@@ -23,6 +23,9 @@ pub enum DoubleClickRange {
 
 impl Line {
     /// The columns of the word in which a double click at a column lies: from the first cell of the longest run of word cells that ends at the column or before it, up to behind the last cell of the longest run of them that starts at the column or after it.
+    /// ```text
+    /// |foo bar|  at column 1:  0..3      at column 3, the space:  3..3      at column 5:  4..7
+    /// ```
     /// Where there is no such cell on a side, that end is the column itself, and so are both where the column lies behind the line. It takes no memory.
     pub fn compute_double_click_range<F: Fn(&str) -> bool>(
         &self,

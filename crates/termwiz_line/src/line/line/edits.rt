@@ -188,6 +188,9 @@ impl Line {
 
     /// Inserts a cell at a column, and its half behind a wide one, which moves the cells from there on. First the last cell before the margin is removed, where there is one, and then a line that is too short is padded with default blanks.
     /// A margin is the column behind the last one that it holds, so it is at least 1. A wide cell that this cuts stays as it is.
+    /// ```text
+    /// |abcd|  X at 1, margin 4:  |aXbc|      X at 1, margin 3:  |aXbd|
+    /// ```
     /// The line takes the number. On an error, which a column past the greatest number gives too, number, flags and cells are as before.
     pub fn insert_cell(
         &mut self,
@@ -238,6 +241,9 @@ impl Line {
 
     /// Removes the cell at a column as `remove_cell` does, and inserts a blank with these attributes in the last column before the margin, where the line reaches up to it.
     /// A margin is the column behind the last one that it holds, so it is at least 1.
+    /// ```text
+    /// |abcd|  column 0, margin 3:  |bc d|
+    /// ```
     /// The line takes the number. On an error number, flags and cells are as before.
     pub fn erase_cell_with_margin(
         &mut self,

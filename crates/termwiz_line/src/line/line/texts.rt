@@ -72,6 +72,9 @@ impl Line {
     }
 
     /// Sets the cells of a text's graphemes, as `set_cell` does, the first at a column and each of the others behind the last one.
+    /// ```text
+    /// |abcdef|  `xかy` from column 1:  |axかyf|      |ab|  `x` from column 4:  |ab  x|
+    /// ```
     /// The line takes the number with the first; an empty text changes nothing.
     /// On an error, which a column past the greatest number gives too, some first ones are set.
     pub fn overlay_text_with_attribute<W: Widths>(

@@ -17,6 +17,9 @@ use termwiz_storage::line::vecstorage::push_with_half;
 
 impl Line {
     /// Cuts the line into lines of at most this many columns, which have the number and no flags. A line takes as many cells as fit, and one at least; the half of a wide cell follows it. The cells behind the last one that isn't a space are dropped, and each line but the last is marked as wrapped.
+    /// ```text
+    /// |aかb |  at 2 columns:  |a|  |か|  |b|
+    /// ```
     /// A line of spaces alone, or of no cells, comes back as it is. On an error the line is dropped.
     pub fn wrap(self, width: usize, seqno: SequenceNo) -> Result<Vec<Line>, AllocError>
         ensures ok { IfOk result (λ lines. IsWrapped width seqno self lines.items) }

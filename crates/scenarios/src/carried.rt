@@ -1,11 +1,14 @@
 //! Screens that are carried to a viewer by a repaint.
-use crate::changes::{at, text};
+ghost use Rattle.std.specs.Prelude.{◌<◌, ◌^◌};
+
+use crate::steps::{PLAIN, RED, Step, Style};
+use crate::surfaces::{assert_same_screen, draw, drawn, repaint};
 use crate::widths::AllWide;
-use std::alloc::{AllocError, Global};
+use std::alloc::Global;
 use std::process::Abort;
 use std::test::Fail;
-use termwiz_cell::cell::{AttributeChange, CellAttributes, Intensity, Underline};
-use termwiz_cell::change::{Change, CursorVisibility};
+use termwiz_cell::cell::{CellAttributes, Underline};
+use termwiz_cell::change::Change;
 use termwiz_cell::color::ColorAttribute;
 use termwiz_cell::emoji::{OneColumn, UnicodeWidths, Widths};
 use termwiz_surface::surface::{Surface, SurfaceError};
@@ -16,30 +19,13 @@ fn assert_carried<W: Widths>(
     alloc: Global,
     widths: W,
     surface: &Surface<W>,
-) -> Result<(), Fail> {
+) -> Result<(), SurfaceError> {
     let (width, height) = surface.dimensions();
-    let mut viewer = Surface::new(alloc, width, height, widths)?;
+    let mut viewer = drawn(alloc, width, height, widths, &[])?;
     fill(alloc, &mut viewer)?;
     repaint(alloc, surface, &mut viewer)?;
-    assert!(rt; has_same_screen(surface, &viewer)?);
+    assert_same_screen(rt, surface, &viewer)?;
     Ok(())
-}
-
-fn repaint<W: Widths>(
-    alloc: Global,
-    surface: &Surface<W>,
-    viewer: &mut Surface<W>,
-) -> Result<(), SurfaceError> {
-    let (_, changes) = surface.get_changes(0)?;
-    viewer.add_changes(changes.into_owned(alloc)?)?;
-    Ok(())
-}
-
-fn has_same_screen<W: Widths>(
-    surface: &Surface<W>,
-    viewer: &Surface<W>,
-) -> Result<bool, AllocError> {
-    Ok(viewer.screen()? == surface.screen()?)
 }
 
 // Other text, wide and narrow, a hidden cursor and another pen.
@@ -48,47 +34,9 @@ fn fill<W: Widths>(alloc: Global, viewer: &mut Surface<W>) -> Result<(), Surface
     pen.set_underline(Underline::Double);
     viewer.add_change(Change::AllAttributes(pen))?;
     for _ in 0..12 {
-        viewer.add_change(text(alloc, "か#")?)?;
+        draw(alloc, viewer, &[Step::Print("か#")])?;
     }
-    viewer.add_change(Change::CursorVisibility(CursorVisibility::Hidden))?;
-    Ok(())
-}
-
-// What is drawn before a text: a background, and whether the text is bold.
-#[derive(Clone, Copy)]
-struct Ground {
-    color: ColorAttribute,
-    bold: bool,
-}
-
-const GROUNDS: [Ground; 3] = [
-    Ground {
-        color: ColorAttribute::Default,
-        bold: false,
-    },
-    Ground {
-        color: ColorAttribute::PaletteIndex(9),
-        bold: false,
-    },
-    Ground {
-        color: ColorAttribute::PaletteIndex(4),
-        bold: true,
-    },
-];
-
-fn drawn<W: Widths>(
-    alloc: Global,
-    surface: &mut Surface<W>,
-    ground: Ground,
-    line: &str,
-) -> Result<(), SurfaceError> {
-    surface.add_change(Change::ClearScreen(ground.color))?;
-    if ground.bold {
-        let bold = AttributeChange::Intensity(Intensity::Bold);
-        surface.add_change(Change::Attribute(bold))?;
-    }
-    surface.add_change(text(alloc, line)?)?;
-    Ok(())
+    draw(alloc, viewer, &[Step::Hide])
 }
 
 // Each cursor column of the last row, the pending wrap too.
@@ -97,13 +45,65 @@ fn assert_columns<W: Widths>(
     alloc: Global,
     widths: W,
     surface: &mut Surface<W>,
-) -> Result<(), Fail> {
+) -> Result<(), SurfaceError> {
     let (width, height) = surface.dimensions();
     for column in 0..width + 1 {
-        surface.add_change(at(column, height - 1))?;
+        draw(alloc, surface, &[Step::At(column, height - 1)])?;
         assert_carried(rt, alloc, widths, surface)?;
     }
     Ok(())
+}
+
+// A new surface after these steps, at each cursor column.
+fn assert_drawn(
+    rt: &impl Abort,
+    alloc: Global,
+    width: usize,
+    height: usize,
+    steps: &[Step<'_>],
+) -> Result<(), SurfaceError>
+    requires some_column { 0 < width }
+    requires some_row { 0 < height }
+    requires fits { width < 2 ^ 32 }
+    requires fits_height { height < 2 ^ 32 }
+{
+    let mut surface = drawn(alloc, width, height, OneColumn, steps)?;
+    assert_columns(rt, alloc, OneColumn, &mut surface)
+}
+
+// The text on the default ground, on red, and bold on blue.
+fn assert_grounds(
+    rt: &impl Abort,
+    alloc: Global,
+    width: usize,
+    height: usize,
+    line: &str,
+) -> Result<(), SurfaceError>
+    requires some_column { 0 < width }
+    requires some_row { 0 < height }
+    requires fits { width < 2 ^ 32 }
+    requires fits_height { height < 2 ^ 32 }
+{
+    assert_drawn(
+        rt,
+        alloc,
+        width,
+        height,
+        &[Step::Clear(PLAIN), Step::Print(line)],
+    )?;
+    assert_drawn(
+        rt,
+        alloc,
+        width,
+        height,
+        &[Step::Clear(RED), Step::Print(line)],
+    )?;
+    let steps = [
+        Step::Clear(ColorAttribute::PaletteIndex(4)),
+        Step::Set(Style::Bold),
+        Step::Print(line),
+    ];
+    assert_drawn(rt, alloc, width, height, &steps)
 }
 
 #[test]
@@ -118,29 +118,38 @@ fn screens_of_ascii(rt: HostRuntime) -> Result<(), Fail> {
             "\n\n x",
             "abcdefghijklmnopqrstuvwxyz",
         ] {
-            for ground in GROUNDS {
-                let mut surface = Surface::new(alloc, width, height, OneColumn)?;
-                drawn(alloc, &mut surface, ground, line)?;
-                assert_columns(&rt, alloc, OneColumn, &mut surface)?;
-            }
+            assert_grounds(&rt, alloc, width, height, line)?;
         }
     }
     Ok(())
 }
 
+// Text that is cleared in this colour from a column of a row on.
+fn assert_cleared(
+    rt: &impl Abort,
+    alloc: Global,
+    color: &ColorAttribute,
+    x: usize,
+    y: usize,
+) -> Result<(), SurfaceError> {
+    let steps = [
+        Step::Print("w00t foo bar"),
+        Step::At(x, y),
+        Step::ClearToEndOfLine(*color),
+    ];
+    let mut surface = drawn(alloc, 4, 3, UnicodeWidths, &steps)?;
+    assert_columns(rt, alloc, UnicodeWidths, &mut surface)?;
+    let steps = [Step::At(x, y), Step::ClearToEndOfScreen(*color)];
+    draw(alloc, &mut surface, &steps)?;
+    assert_columns(rt, alloc, UnicodeWidths, &mut surface)
+}
+
 #[test]
 fn short_and_coloured_rows(rt: HostRuntime) -> Result<(), Fail> {
     let alloc = rt.alloc();
-    for color in [ColorAttribute::Default, ColorAttribute::PaletteIndex(9)] {
+    for color in [PLAIN, RED] {
         for (x, y) in [(0, 0), (1, 0), (3, 1), (4, 2), (0, 2)] {
-            let mut surface = Surface::new(alloc, 4, 3, UnicodeWidths)?;
-            surface.add_change(text(alloc, "w00t foo bar")?)?;
-            surface.add_change(at(x, y))?;
-            surface.add_change(Change::ClearToEndOfLine(color))?;
-            assert_columns(&rt, alloc, UnicodeWidths, &mut surface)?;
-            surface.add_change(at(x, y))?;
-            surface.add_change(Change::ClearToEndOfScreen(color))?;
-            assert_columns(&rt, alloc, UnicodeWidths, &mut surface)?;
+            assert_cleared(&rt, alloc, &color, x, y)?;
         }
     }
     Ok(())
@@ -209,19 +218,25 @@ const TEXTS: [&str; 60] = [
     "１２３",
 ];
 
+// The text in two rows of this width: once and twice, and once where all is wide.
+fn assert_text(rt: &impl Abort, alloc: Global, width: usize, line: &str) -> Result<(), SurfaceError>
+    requires some_column { 0 < width }
+    requires fits { width < 2 ^ 32 }
+{
+    let print = [Step::Print(line)];
+    let mut surface = drawn(alloc, width, 2, UnicodeWidths, &print)?;
+    assert_carried(rt, alloc, UnicodeWidths, &surface)?;
+    draw(alloc, &mut surface, &print)?;
+    assert_carried(rt, alloc, UnicodeWidths, &surface)?;
+    let wide = drawn(alloc, width, 2, AllWide, &print)?;
+    assert_carried(rt, alloc, AllWide, &wide)
+}
+
 #[test]
 fn texts_past_ascii(rt: HostRuntime) -> Result<(), Fail> {
-    let alloc = rt.alloc();
     for line in TEXTS {
         for width in 1..6 {
-            let mut surface = Surface::new(alloc, width, 2, UnicodeWidths)?;
-            surface.add_change(text(alloc, line)?)?;
-            assert_carried(&rt, alloc, UnicodeWidths, &surface)?;
-            surface.add_change(text(alloc, line)?)?;
-            assert_carried(&rt, alloc, UnicodeWidths, &surface)?;
-            let mut wide = Surface::new(alloc, width, 2, AllWide)?;
-            wide.add_change(text(alloc, line)?)?;
-            assert_carried(&rt, alloc, AllWide, &wide)?;
+            assert_text(&rt, rt.alloc(), width, line)?;
         }
     }
     Ok(())
@@ -230,9 +245,9 @@ fn texts_past_ascii(rt: HostRuntime) -> Result<(), Fail> {
 #[test]
 fn a_long_run_scrolls(rt: HostRuntime) -> Result<(), Fail> {
     let alloc = rt.alloc();
-    let mut surface = Surface::new(alloc, 80, 24, UnicodeWidths)?;
+    let mut surface = drawn(alloc, 80, 24, UnicodeWidths, &[])?;
     for _ in 0..1000 {
-        surface.add_change(text(alloc, "x\r\n")?)?;
+        draw(alloc, &mut surface, &[Step::Print("x\r\n")])?;
     }
     assert_carried(&rt, alloc, UnicodeWidths, &surface)?;
     Ok(())

@@ -19,5 +19,9 @@ mod runs;
 #[cfg(test)]
 mod runs_of_text;
 #[cfg(test)]
+mod steps;
+#[cfg(test)]
+mod surfaces;
+#[cfg(test)]
 mod texts_cut;
 pub mod widths;

@@ -1,67 +1,71 @@
 //! Texts on a screen.
-use crate::changes::{at, hidden, text};
+use crate::steps::{PLAIN, Step};
+use crate::surfaces::{add, add_list, assert_rows, assert_shows, draw, drawn};
+use std::alloc::Global;
+use std::process::Abort;
 use std::test::Fail;
 use termwiz_cell::change::{Change, CursorVisibility, Position};
 use termwiz_cell::color::ColorAttribute;
-use termwiz_cell::emoji::{OneColumn, UnicodeWidths};
-use termwiz_surface::surface::{Surface, SurfaceError};
+use termwiz_cell::emoji::{OneColumn, UnicodeWidths, Widths};
+use termwiz_surface::surface::{Screen, Surface, SurfaceError};
+
+// Prints the texts, which are numbered from 0 on.
+fn assert_numbers<W: Widths>(
+    rt: &impl Abort,
+    alloc: Global,
+    surface: &mut Surface<W>,
+    texts: &[&str],
+) -> Result<(), SurfaceError> {
+    for (number, text) in texts.iter().enumerate() {
+        assert_eq!(rt; add(alloc, surface, &Step::Print(text))?, number);
+    }
+    Ok(())
+}
 
 #[test]
 fn texts_wrap_and_scroll(rt: HostRuntime) -> Result<(), Fail> {
     let alloc = rt.alloc();
-    let mut surface = Surface::new(alloc, 4, 3, UnicodeWidths)?;
-    for (number, line) in ["w00t", "foo", "baar", "baz"].into_iter().enumerate() {
-        assert_eq!(rt; surface.add_change(text(alloc, line)?)?, number);
-    }
-    assert_eq!(rt;
-        surface.screen_chars_to_string()?.as_str(),
-        "foob\naarb\naz  \n"
-    );
-    assert_eq!(rt; surface.cursor_position(), (2, 2));
+    let mut surface = drawn(alloc, 4, 3, UnicodeWidths, &[])?;
+    assert_numbers(&rt, alloc, &mut surface, &["w00t", "foo", "baar", "baz"])?;
+    assert_shows(&rt, &surface, "foob\naarb\naz  \n", (2, 2))?;
     assert_eq!(rt; surface.current_seqno(), 4);
     Ok(())
 }
 
 #[test]
 fn line_breaks_move_and_scroll(rt: HostRuntime) -> Result<(), Fail> {
-    let mut surface = Surface::new(rt.alloc(), 4, 4, UnicodeWidths)?;
-    surface.add_change(text(rt.alloc(), "bloo\rwat\n hey\r\nho")?)?;
-    assert_eq!(rt;
-        surface.screen_chars_to_string()?.as_str(),
-        "wato\n    \nhey \nho  \n"
-    );
+    let steps = [Step::Print("bloo\rwat\n hey\r\nho")];
+    let surface = drawn(rt.alloc(), 4, 4, UnicodeWidths, &steps)?;
+    assert_rows(&rt, &surface, "wato\n    \nhey \nho  \n")?;
     Ok(())
 }
 
 #[test]
 fn scroll_at_the_last_row(rt: HostRuntime) -> Result<(), Fail> {
-    let mut surface = Surface::new(rt.alloc(), 2, 2, OneColumn)?;
-    surface.add_change(text(rt.alloc(), "a\nb\n")?)?;
-    assert_eq!(rt; surface.screen_chars_to_string()?.as_str(), " b\n  \n");
-    assert_eq!(rt; surface.cursor_position(), (2, 1));
+    let surface = drawn(rt.alloc(), 2, 2, OneColumn, &[Step::Print("a\nb\n")])?;
+    assert_shows(&rt, &surface, " b\n  \n", (2, 1))?;
     Ok(())
 }
 
 #[test]
 fn line_breaks_do_not_wrap_first(rt: HostRuntime) -> Result<(), Fail> {
     let alloc = rt.alloc();
-    let mut surface = Surface::new(alloc, 2, 3, OneColumn)?;
-    surface.add_change(text(alloc, "ab\n")?)?;
+    let mut surface = drawn(alloc, 2, 3, OneColumn, &[Step::Print("ab\n")])?;
     assert_eq!(rt; surface.cursor_position(), (2, 1));
-    surface.add_change(text(alloc, "\r")?)?;
+    draw(alloc, &mut surface, &[Step::Print("\r")])?;
     assert_eq!(rt; surface.cursor_position(), (0, 1));
-    surface.add_change(text(alloc, "cd\r\ne")?)?;
-    assert_eq!(rt; surface.screen_chars_to_string()?.as_str(), "ab\ncd\ne \n");
+    draw(alloc, &mut surface, &[Step::Print("cd\r\ne")])?;
+    assert_rows(&rt, &surface, "ab\ncd\ne \n")?;
     Ok(())
 }
 
 #[test]
 fn answers_and_empty_lists(rt: HostRuntime) -> Result<(), Fail> {
     let alloc = rt.alloc();
-    let mut surface = Surface::new(alloc, 2, 2, UnicodeWidths)?;
-    assert_eq!(rt; surface.add_change(text(alloc, "foo")?)?, 0);
-    assert_eq!(rt; surface.add_changes(Vec::new(alloc))?, 0);
-    assert_eq!(rt; surface.add_changes(vec![in alloc; text(alloc, "a")?]?)?, 1);
+    let mut surface = drawn(alloc, 2, 2, UnicodeWidths, &[])?;
+    assert_eq!(rt; add(alloc, &mut surface, &Step::Print("foo"))?, 0);
+    assert_eq!(rt; add_list(alloc, &mut surface, &[])?, 0);
+    assert_eq!(rt; add_list(alloc, &mut surface, &[Step::Print("a")])?, 1);
     assert_eq!(rt; surface.current_seqno(), 2);
     Ok(())
 }
@@ -69,98 +73,96 @@ fn answers_and_empty_lists(rt: HostRuntime) -> Result<(), Fail> {
 #[test]
 fn a_list_of_one_answers_one_more_than_its_change(rt: HostRuntime) -> Result<(), Fail> {
     let alloc = rt.alloc();
-    let mut surface = Surface::new(alloc, 2, 1, OneColumn)?;
-    assert_eq!(rt; surface.add_changes(vec![in alloc; text(alloc, "a")?]?)?, 1);
-    let mut other = Surface::new(alloc, 2, 1, OneColumn)?;
-    assert_eq!(rt; other.add_change(text(alloc, "a")?)?, 0);
+    let mut surface = drawn(alloc, 2, 1, OneColumn, &[])?;
+    assert_eq!(rt; add_list(alloc, &mut surface, &[Step::Print("a")])?, 1);
+    let mut other = drawn(alloc, 2, 1, OneColumn, &[])?;
+    assert_eq!(rt; add(alloc, &mut other, &Step::Print("a"))?, 0);
     Ok(())
 }
 
 #[test]
 fn clears_to_the_end_of_the_line_prune(rt: HostRuntime) -> Result<(), Fail> {
     let alloc = rt.alloc();
-    let mut surface = Surface::new(alloc, 3, 3, UnicodeWidths)?;
-    surface.add_change(text(alloc, "helwowfoo")?)?;
-    surface.add_change(Change::ClearToEndOfLine(ColorAttribute::Default))?;
-    assert_eq!(rt;
-        surface.screen_chars_to_string()?.as_str(),
-        "hel\nwow\nfoo\n"
-    );
-    for (x, y) in [(0, 0), (1, 1)] {
-        surface.add_change(at(x, y))?;
-        surface.add_change(Change::ClearToEndOfLine(ColorAttribute::Default))?;
-    }
-    assert_eq!(rt; surface.screen_chars_to_string()?.as_str(), "   \nw\nfoo\n");
+    let steps = [Step::Print("helwowfoo"), Step::ClearToEndOfLine(PLAIN)];
+    let mut surface = drawn(alloc, 3, 3, UnicodeWidths, &steps)?;
+    assert_rows(&rt, &surface, "hel\nwow\nfoo\n")?;
+    let steps = [
+        Step::At(0, 0),
+        Step::ClearToEndOfLine(PLAIN),
+        Step::At(1, 1),
+        Step::ClearToEndOfLine(PLAIN),
+    ];
+    draw(alloc, &mut surface, &steps)?;
+    assert_rows(&rt, &surface, "   \nw\nfoo\n")?;
     Ok(())
 }
 
 #[test]
 fn clears_to_the_end_of_the_screen(rt: HostRuntime) -> Result<(), Fail> {
-    let alloc = rt.alloc();
-    let mut surface = Surface::new(alloc, 3, 3, UnicodeWidths)?;
-    surface.add_change(text(alloc, "helwowfoo")?)?;
-    surface.add_change(at(1, 1))?;
-    surface.add_change(Change::ClearToEndOfScreen(ColorAttribute::Default))?;
-    assert_eq!(rt; surface.screen_chars_to_string()?.as_str(), "hel\nw\n   \n");
+    let steps = [
+        Step::Print("helwowfoo"),
+        Step::At(1, 1),
+        Step::ClearToEndOfScreen(PLAIN),
+    ];
+    let surface = drawn(rt.alloc(), 3, 3, UnicodeWidths, &steps)?;
+    assert_rows(&rt, &surface, "hel\nw\n   \n")?;
     Ok(())
+}
+
+// A surface of which the second row has two cells, and the cursor behind them.
+fn pruned(alloc: Global) -> Result<Surface<UnicodeWidths>, SurfaceError> {
+    let mut surface = drawn(alloc, 4, 3, UnicodeWidths, &[Step::Print("abcdefgh")])?;
+    surface.add_change(Change::CursorPosition {
+        x: Position::Relative(-2),
+        y: Position::EndRelative(2),
+    })?;
+    draw(alloc, &mut surface, &[Step::ClearToEndOfScreen(PLAIN)])?;
+    Ok(surface)
 }
 
 #[test]
 fn a_coloured_clear_fills_a_pruned_row(rt: HostRuntime) -> Result<(), Fail> {
     let alloc = rt.alloc();
-    let mut surface = Surface::new(alloc, 4, 3, UnicodeWidths)?;
-    surface.add_change(text(alloc, "abcdefgh")?)?;
-    surface.add_change(Change::CursorPosition {
-        x: Position::Relative(-2),
-        y: Position::EndRelative(2),
-    })?;
-    surface.add_change(Change::ClearToEndOfScreen(ColorAttribute::Default))?;
-    assert_eq!(rt;
-        surface.screen_chars_to_string()?.as_str(),
-        "abcd\nef\n    \n"
-    );
-    surface.add_change(Change::ClearToEndOfLine(ColorAttribute::PaletteIndex(7)))?;
-    assert_eq!(rt;
-        surface.screen_chars_to_string()?.as_str(),
-        "abcd\nef  \n    \n"
-    );
-    surface.add_change(Change::ClearScreen(ColorAttribute::Default))?;
-    assert_eq!(rt;
-        surface.screen_chars_to_string()?.as_str(),
-        "    \n    \n    \n"
-    );
-    assert_eq!(rt; surface.cursor_position(), (0, 0));
+    let mut surface = pruned(alloc)?;
+    assert_rows(&rt, &surface, "abcd\nef\n    \n")?;
+    let coloured = Step::ClearToEndOfLine(ColorAttribute::PaletteIndex(7));
+    draw(alloc, &mut surface, &[coloured])?;
+    assert_rows(&rt, &surface, "abcd\nef  \n    \n")?;
+    draw(alloc, &mut surface, &[Step::Clear(PLAIN)])?;
+    assert_shows(&rt, &surface, "    \n    \n    \n", (0, 0))?;
     Ok(())
 }
 
 #[test]
 fn a_list_is_counted_and_hides_the_cursor(rt: HostRuntime) -> Result<(), Fail> {
     let alloc = rt.alloc();
-    let mut surface = Surface::new(alloc, 2, 1, OneColumn)?;
-    surface.add_change(text(alloc, "a")?)?;
+    let mut surface = drawn(alloc, 2, 1, OneColumn, &[Step::Print("a")])?;
     assert_eq!(rt; surface.cursor_visibility(), CursorVisibility::Visible);
-    let changes = vec![in alloc; hidden(), text(alloc, "b")?]?;
-    assert_eq!(rt; surface.add_changes(changes)?, 2);
+    let number = add_list(alloc, &mut surface, &[Step::Hide, Step::Print("b")])?;
+    assert_eq!(rt; number, 2);
     assert_eq!(rt; surface.current_seqno(), 3);
     assert_eq!(rt; surface.cursor_visibility(), CursorVisibility::Hidden);
     Ok(())
 }
 
+fn screen_with(alloc: Global, steps: &[Step<'_>]) -> Result<Screen, SurfaceError> {
+    Ok(drawn(alloc, 3, 2, UnicodeWidths, steps)?.screen()?)
+}
+
+fn assert_size(rt: &impl Abort, screen: &Screen, width: usize, height: usize) {
+    assert_eq!(rt; screen.rows.len(), height);
+    for row in &screen.rows {
+        assert_eq!(rt; row.len(), width);
+    }
+}
+
 #[test]
 fn screens_are_compared_by_what_they_show(rt: HostRuntime) -> Result<(), Fail> {
     let alloc = rt.alloc();
-    let mut surface = Surface::new(alloc, 3, 2, UnicodeWidths)?;
-    let blank = surface.screen()?;
-    surface.add_change(text(alloc, "か")?)?;
-    let printed = surface.screen()?;
-    assert!(rt; printed != blank);
-    assert_eq!(rt; printed.rows.len(), 2);
-    for row in &printed.rows {
-        assert_eq!(rt; row.len(), 3);
-    }
-    let mut other = Surface::new(alloc, 3, 2, UnicodeWidths)?;
-    other.add_change(text(alloc, "x\rか")?)?;
-    assert!(rt; other.screen()? == printed);
+    let printed = screen_with(alloc, &[Step::Print("か")])?;
+    assert!(rt; printed != screen_with(alloc, &[])?);
+    assert_size(&rt, &printed, 3, 2);
+    assert!(rt; printed == screen_with(alloc, &[Step::Print("x\rか")])?);
     Ok(())
 }
 

@@ -1,5 +1,6 @@
 //! Texts that are printed in runs, beside the same texts set grapheme by grapheme.
-use crate::changes::{at, text};
+use crate::steps::Step;
+use crate::surfaces::{assert_same_screen, draw, drawn, repaint};
 use std::alloc::{AllocError, Global};
 use std::process::Abort;
 use std::test::Fail;
@@ -8,7 +9,7 @@ use termwiz_cell::change::{Change, CursorVisibility, SEQ_ZERO};
 use termwiz_cell::color::{ColorAttribute, RgbColor};
 use termwiz_cell::emoji::UnicodeWidths;
 use termwiz_line::line::line::Line;
-use termwiz_surface::surface::{Screen, Surface};
+use termwiz_surface::surface::{Screen, SurfaceError};
 use unicode_segmentation::UnicodeSegmentation;
 
 // Lines on which each grapheme is set by itself, and a cursor.
@@ -135,29 +136,49 @@ fn pens(alloc: Global) -> Result<[CellAttributes; 3], AllocError> {
     Ok([CellAttributes::blank(), red, orange])
 }
 
-// Both print the text with the pen from a column of a row on.
-fn assert_same_print(
-    rt: &impl Abort,
+// A sheet's screen after the text, which is set with the pen from a column of a row on.
+fn set(
     alloc: Global,
     pen: &CellAttributes,
     x: usize,
     y: usize,
     line: &str,
-) -> Result<(), Fail> {
-    let mut surface = Surface::new(alloc, 5, 2, UnicodeWidths)?;
-    surface.add_change(text(alloc, BEFORE)?)?;
-    surface.add_change(Change::AllAttributes(pen.clone()?))?;
-    surface.add_change(at(x, y))?;
-    surface.add_change(text(alloc, line)?)?;
+) -> Result<Screen, AllocError> {
     let mut sheet = Sheet::new(alloc, 5, 2)?;
     sheet.print(BEFORE)?;
     sheet.pen = pen.clone()?;
     sheet.x = x;
     sheet.y = y;
     sheet.print(line)?;
-    let printed = surface.screen()?;
-    let wanted = sheet.screen()?;
-    assert!(rt; printed == wanted);
+    sheet.screen()
+}
+
+// A surface's screen after the same.
+fn printed(
+    alloc: Global,
+    pen: &CellAttributes,
+    x: usize,
+    y: usize,
+    line: &str,
+) -> Result<Screen, SurfaceError> {
+    let mut surface = drawn(alloc, 5, 2, UnicodeWidths, &[Step::Print(BEFORE)])?;
+    surface.add_change(Change::AllAttributes(pen.clone()?))?;
+    draw(alloc, &mut surface, &[Step::At(x, y), Step::Print(line)])?;
+    Ok(surface.screen()?)
+}
+
+// Both show the same, wherever the text is printed.
+fn assert_same_print(
+    rt: &impl Abort,
+    alloc: Global,
+    pen: &CellAttributes,
+    line: &str,
+) -> Result<(), SurfaceError> {
+    for x in 0..6 {
+        for y in 0..2 {
+            assert!(rt; printed(alloc, pen, x, y, line)? == set(alloc, pen, x, y, line)?);
+        }
+    }
     Ok(())
 }
 
@@ -166,11 +187,7 @@ fn runs_print_their_graphemes(rt: HostRuntime) -> Result<(), Fail> {
     let alloc = rt.alloc();
     for pen in pens(alloc)? {
         for line in TEXTS {
-            for x in 0..6 {
-                for y in 0..2 {
-                    assert_same_print(&rt, alloc, &pen, x, y, line)?;
-                }
-            }
+            assert_same_print(&rt, alloc, &pen, line)?;
         }
     }
     Ok(())
@@ -179,15 +196,12 @@ fn runs_print_their_graphemes(rt: HostRuntime) -> Result<(), Fail> {
 #[test]
 fn a_hundred_thousand_lines(rt: HostRuntime) -> Result<(), Fail> {
     let alloc = rt.alloc();
-    let mut surface = Surface::new(alloc, 80, 24, UnicodeWidths)?;
+    let mut surface = drawn(alloc, 80, 24, UnicodeWidths, &[])?;
     for _ in 0..100_000 {
-        surface.add_change(text(alloc, "x\r\n")?)?;
+        draw(alloc, &mut surface, &[Step::Print("x\r\n")])?;
     }
-    let (_, changes) = surface.get_changes(0)?;
-    let mut viewer = Surface::new(alloc, 80, 24, UnicodeWidths)?;
-    viewer.add_changes(changes.into_owned(alloc)?)?;
-    let shown = viewer.screen()?;
-    let wanted = surface.screen()?;
-    assert!(rt; shown == wanted);
+    let mut viewer = drawn(alloc, 80, 24, UnicodeWidths, &[])?;
+    repaint(alloc, &surface, &mut viewer)?;
+    assert_same_screen(&rt, &surface, &viewer)?;
     Ok(())
 }

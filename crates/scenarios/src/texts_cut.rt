@@ -86,27 +86,43 @@ fn joins(alloc: Global, before: &str, more: &str) -> Result<bool, AllocError> {
     Ok(pieces.next() == Some(more) && pieces.next().is_none())
 }
 
+fn string_of(alloc: Global, c: char) -> Result<String, AllocError> {
+    let mut string = String::new(alloc);
+    string.push(c)?;
+    Ok(string)
+}
+
+// Joins one text more where the two, cut together, are one grapheme more.
+fn assert_join(
+    rt: &impl Abort,
+    alloc: Global,
+    joined: &mut JoinedText,
+    before: &mut String,
+    more: &str,
+) -> Result<(), AllocError> {
+    let expected = joins(alloc, before.as_str(), more)?;
+    if expected {
+        before.push_str(more)?;
+    }
+    assert_eq!(rt; joined.join(more)?, expected);
+    assert_eq!(rt; joined.as_str(), before.as_str());
+    Ok(())
+}
+
 // Joins the text's characters one by one.
-fn assert_joins(rt: &impl Abort, alloc: Global, text: &str) -> Result<(), Fail> {
+fn assert_joins(rt: &impl Abort, alloc: Global, text: &str) -> Result<(), AllocError> {
     let mut joined = JoinedText::new(alloc, "a")?;
     let mut before = String::from_str(alloc, "a")?;
     for c in text.chars() {
-        let mut one = String::new(alloc);
-        one.push(c)?;
-        let more = one.as_str();
-        let expected = joins(alloc, before.as_str(), more)?;
-        if expected {
-            before.push_str(more)?;
-        }
-        assert_eq!(rt; joined.join(more)?, expected);
-        assert_eq!(rt; joined.as_str(), before.as_str());
+        let one = string_of(alloc, c)?;
+        assert_join(rt, alloc, &mut joined, &mut before, one.as_str())?;
     }
     assert_eq!(rt; joined.into_string().as_str(), before.as_str());
     Ok(())
 }
 
 // Joins the text's graphemes one by one: each joins, since they are cut apart in the text.
-fn assert_grows(rt: &impl Abort, alloc: Global, text: &str) -> Result<(), Fail> {
+fn assert_grows(rt: &impl Abort, alloc: Global, text: &str) -> Result<(), AllocError> {
     let mut joined = JoinedText::new(alloc, "")?;
     for piece in text.graphemes(true) {
         assert!(rt; joined.join(piece)?);

@@ -147,10 +147,12 @@ fn linked(alloc: Global) -> Result<Cell, AllocError> {
 
 #[test]
 fn a_link_is_found_in_any_stored_cell(rt: HostRuntime) -> Result<(), Fail> {
-    let mut line = plain(rt.alloc(), "か")?;
-    assert!(rt; !line.has_hyperlink());
+    assert!(rt; !plain(rt.alloc(), "か")?.has_hyperlink());
     // Behind a wide cell, where no cell is visible.
-    line.cells_mut()?[1] = linked(rt.alloc())?;
+    let mut cells = Vec::new(rt.alloc());
+    cells.push(cell(rt.alloc(), "か", 2)?)?;
+    cells.push(linked(rt.alloc())?)?;
+    let mut line = Line::from_cells(cells, 0);
     assert!(rt; line.has_hyperlink());
     line.set_cell(1, cell(rt.alloc(), "y", 1)?, 1)?;
     assert!(rt; !line.has_hyperlink());

@@ -25,16 +25,16 @@ pub struct Hyperlink {
 /// Why a text is no link. The first fault that applies, in this order, is the one that is named.
 #[derive(Debug, Clone, Copy, PartialEq, Eq, Error)]
 pub enum LinkError {
-    /// There are not three parts.
+    /// Error 1: there are not three parts.
     #[error("a link has three parts")]
     WrongParamCount,
-    /// The params or the uri are not UTF-8.
+    /// Error 2: the params or the uri are not UTF-8.
     #[error("a link is UTF-8")]
     NotUtf8,
-    /// A param has no `=`.
+    /// Error 3: a param has no `=`.
     #[error("a link's params are `key=value` between `:`")]
     BadParams,
-    /// Memory was refused.
+    /// Error 4: memory was refused.
     #[error("out of memory")]
     Memory,
 }

@@ -171,14 +171,28 @@ fn takes_number(edit: Edit, inside: bool) -> bool {
     }
 }
 
-fn agrees(alloc: Global, start: &str, edit: Edit, x: usize) -> Result<bool, AllocError> {
+fn edited_line(alloc: Global, start: &str, edit: Edit, x: usize) -> Result<Line, AllocError> {
     let mut line = line_for(alloc, start)?;
     edit_line(alloc, &mut line, edit, x)?;
+    Ok(line)
+}
+
+fn edited_letters(alloc: Global, start: &str, edit: Edit, x: usize) -> Result<Vec<u8>, AllocError> {
     let mut letters = Vec::from_slice(alloc, start.as_bytes())?;
     edit_letters(&mut letters, edit, x)?;
-    let got = letters_of(alloc, &line)?;
+    Ok(letters)
+}
+
+fn has_letters(alloc: Global, line: &Line, letters: &[u8]) -> Result<bool, AllocError> {
+    let got = letters_of(alloc, line)?;
+    Ok(*got.as_slice() == *letters)
+}
+
+fn agrees(alloc: Global, start: &str, edit: Edit, x: usize) -> Result<bool, AllocError> {
+    let line = edited_line(alloc, start, edit, x)?;
+    let letters = edited_letters(alloc, start, edit, x)?;
     let number = usize::from(takes_number(edit, x < start.len()));
-    Ok(got == letters && line.current_seqno() == number)
+    Ok(line.current_seqno() == number && has_letters(alloc, &line, letters.as_slice())?)
 }
 
 #[test]

@@ -184,7 +184,7 @@ prints-after_wrap f old mid new (b ∷ bs) some plain d inside p =
       widths = p.widths ∙ d.widths;
       width = p.width ∙ d.width;
       height = p.height ∙ d.height;
-      number = p.number ∙ d.number;
+      log = p.log ∙ d.log;
       screen_is = p.screen_is ∙ ap (λ (z : Screen). fold (print_one f) z (pieces (b ∷ bs))) d.screen_is ∙ screen-from_wrap f (screen_of old) (lengths_of old) (b ∷ []) (pieces bs) (piece-plain f old.pen b is) settled;
       lengths_are = p.lengths_are ∙ ap₂ (λ (z : Screen) (ns : List ℕ). lengths_after f z ns (pieces (b ∷ bs))) d.screen_is d.lengths_are ∙ lengths-from_wrap f (screen_of old) (lengths_of old) (b ∷ []) (pieces bs) (piece-plain f old.pen b is) settled;
     }

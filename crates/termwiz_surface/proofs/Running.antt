@@ -10,6 +10,7 @@ use Rattle.termwiz_cell.specs.declared.change.CursorVisibility.TheVariants.{Visi
 use Rattle.termwiz_line.specs.Row.{row_of}
 use Rattle.termwiz_surface.specs.SurfaceValue.{SurfaceValue}
 use Rattle.termwiz_surface.specs.Adding.{Adds}
+use Rattle.termwiz_surface.specs.Log.{next_number}
 use Rattle.termwiz_surface.specs.Schedule.{State, Allows, Runs, Ended, Next, state_of, first_state}
 use Rattle.termwiz_surface.specs.declared.surface.SurfaceError.{SurfaceError}
 use Rattle.termwiz_surface.specs.declared.surface.SurfaceError.TheVariants.{Numbers, Memory}
@@ -32,19 +33,19 @@ Runs-push event outcome c (Next old mid new e o es os k r) h = Next old mid c e 
 
 module _ {W : Type 0} where
   -- a new surface is in the first state
-  pub state_of-blank : (widths : W) (w h : ℕ) → state_of {W = W} (record { widths = widths; width = w; height = h; lines = replicate h (replicate w blank); x = 0; y = 0; visibility = Visible; pen = default_attributes; number = 0 }) ≡ first_state w h
+  pub state_of-blank : (widths : W) (w h : ℕ) → state_of {W = W} (record { widths = widths; width = w; height = h; lines = replicate h (replicate w blank); x = 0; y = 0; visibility = Visible; pen = default_attributes; log = record { first = 0; changes = [] } }) ≡ first_state w h
   state_of-blank widths w h i = record {
     screen = record { width = w; height = h; rows = (map-replicate (row_of w) h (replicate w blank) ∙ ap (replicate h) (row_blank w)) i; x = 0; y = 0; visibility = Visible; pen = default_attributes };
     lengths = (map-replicate length h (replicate w blank) ∙ ap (replicate h) (length-replicate w blank)) i;
-    number = 0;
+    log = record { first = 0; changes = [] };
   }
 
   -- a list is answered as the schedule says
   pub Allows-answered : (measure : List ℕ → ℕ) (old new : SurfaceValue W) (changes : Vec Change Global) (n : ℕ)
-      → Adds measure old (map change_value changes.items) (old.number - 1 + vec_len changes) (Ok n) new → Allows measure (state_of old) (Changes changes) (Answered n) (state_of new)
+      → Adds measure old (map change_value changes.items) (next_number old.log - 1 + vec_len changes) (Ok n) new → Allows measure (state_of old) (Changes changes) (Answered n) (state_of new)
   Allows-answered measure old new changes n h =
       let count : length (map change_value changes.items) ≡ length changes.items = length-map changes.items change_value in
-      (omega (arith, h.0), h.1 ∙ ap (λ k. old.number - 1 + k) changes.ok.0, record { screen = h.2.screen_is; lengths = h.2.lengths_are; number = h.2.number })
+      (omega (arith, h.0), h.1 ∙ ap (λ k. next_number old.log - 1 + k) changes.ok.0, record { screen = h.2.screen_is; lengths = h.2.lengths_are; log = h.2.log })
 
   -- a refused list is refused as the schedule says
   pub Allows-refused : (measure : List ℕ → ℕ) (old new : SurfaceValue W) (changes : Vec Change Global) (answer : ℕ) (e : SurfaceError)
@@ -69,6 +70,6 @@ module _ {W : Type 0} where
           stored_so = h.3.stored_so;
           rows = refl;
           lengths = refl;
-          number = h.2.number;
+          log = h.2.log;
         },
       )

@@ -18,3 +18,4 @@ pub mod Schedule
 pub mod ScreenValue
 pub mod Padding
 pub mod Stream
+pub mod Log

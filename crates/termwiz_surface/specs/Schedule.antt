@@ -7,7 +7,8 @@ use Rattle.termwiz_cell.specs.declared.change.CursorVisibility.TheVariants.{Visi
 use Rattle.termwiz_line.specs.Row.{row_of}
 use Rattle.termwiz_surface.specs.Screen.{Screen, row_at}
 use Rattle.termwiz_surface.specs.Step.{replay, replay_lengths}
-use Rattle.termwiz_surface.specs.Adding.{broken_number}
+use Rattle.termwiz_surface.specs.Log.{LogValue, next_number, appended, restarted}
+use Rattle.termwiz_surface.specs.Stream.{IsStream}
 use Rattle.termwiz_surface.specs.Printable.{HasSize, IsPrintable}
 use Rattle.termwiz_surface.specs.ShownChars.{shown_chars}
 use Rattle.termwiz_surface.specs.SurfaceValue.{SurfaceValue, IsStored, screen_of, lengths_of}
@@ -17,30 +18,30 @@ use Rattle.termwiz_surface.specs.declared.view.Event.TheVariants.{Changes, Show,
 use Rattle.termwiz_surface.specs.declared.view.Outcome.{Outcome}
 use Rattle.termwiz_surface.specs.declared.view.Outcome.TheVariants.{Answered, Refused, Shown, Asked}
 
--- a screen, how many cells are stored in each of its rows, and how many changes were made
+-- a screen, how many cells are stored in each of its rows, and the log of the changes that were made
 pub record State : Type 0 where
   pub screen : Screen
   pub lengths : List ℕ
-  pub number : ℕ
+  pub log : LogValue
 
 abbrev pub state_of : {W : Type 0} → SurfaceValue W → State
-state_of s = record { screen = screen_of s; lengths = lengths_of s; number = s.number }
+state_of s = record { screen = screen_of s; lengths = lengths_of s; log = s.log }
 
 -- a blank screen of this size, before any change
 abbrev pub first_state : ℕ → ℕ → State
 first_state w h = record {
   screen = record { width = w; height = h; rows = replicate h (replicate w blank); x = 0; y = 0; visibility = Visible; pen = default_attributes };
   lengths = replicate h w;
-  number = 0;
+  log = record { first = 0; changes = [] };
 }
 
 -- the changes are done, in order
 pub record Does (measure : List ℕ → ℕ) (changes : List ChangeValue) (old new : State) : Type 0 where
   pub screen : new.screen ≡ replay measure old.screen changes
   pub lengths : new.lengths ≡ replay_lengths measure old.screen old.lengths changes
-  pub number : new.number ≡ old.number + length changes
+  pub log : new.log ≡ appended old.log changes
 
--- what a list leaves that ran out of memory: any screen of that size and form over some stored rows, and a new number
+-- what a list leaves that ran out of memory: any screen of that size and form over some stored rows, and an empty log under a new number
 pub record IsBroken (measure : List ℕ → ℕ) (old new : State) : Type 0 where
   pub size : HasSize old.screen.width old.screen.height new.screen
   pub form : IsPrintable measure new.screen
@@ -48,21 +49,20 @@ pub record IsBroken (measure : List ℕ → ℕ) (old new : State) : Type 0 wher
   pub stored_so : (j : ℕ) → j < new.screen.height → IsStored measure new.screen.width (row_at lines j)
   pub rows : new.screen.rows ≡ map (row_of new.screen.width) lines
   pub lengths : new.lengths ≡ map length lines
-  pub number : new.number ≡ broken_number old.number
+  pub log : new.log ≡ restarted old.log
 
 -- the event may have this outcome, and go over from old to new
 abbrev pub Allows : (List ℕ → ℕ) → State → Event → Outcome → State → Type 0
 Allows measure old (Changes changes) (Answered n) new =
-    (old.number + length changes.items < 2 ^ 64) × (n ≡ old.number - 1 + length changes.items) × Does measure (map change_value changes.items) old new
-Allows measure old (Changes changes) (Refused Numbers) new = (2 ^ 64 ≤ old.number + length changes.items) × (new ≡ old)
+    (next_number old.log + length changes.items < 2 ^ 64) × (n ≡ next_number old.log - 1 + length changes.items) × Does measure (map change_value changes.items) old new
+Allows measure old (Changes changes) (Refused Numbers) new = (2 ^ 64 ≤ next_number old.log + length changes.items) × (new ≡ old)
 Allows measure old (Changes changes) (Refused Memory) new =
-    (old.number + length changes.items < 2 ^ 64) × (0 < length changes.items) × IsBroken measure old new
+    (next_number old.log + length changes.items < 2 ^ 64) × (0 < length changes.items) × IsBroken measure old new
 Allows measure old Show (Shown text cursor) new =
     (string_bytes text ≡ shown_chars old.screen.rows old.lengths) × (cursor ≡ (old.screen.x, old.screen.y)) × (new ≡ old)
 Allows measure old Show (Refused Memory) new = new ≡ old
--- whatever screen of that size has it, the answer brings it to this one
 Allows measure old (Ask n) (Asked k changes) new =
-    (k ≡ old.number) × ((s : Screen) → HasSize old.screen.width old.screen.height s → replay measure s (map change_value changes.items) ≡ old.screen) × (new ≡ old)
+    (k ≡ next_number old.log) × IsStream measure old.screen old.log n (map change_value changes.items) × (new ≡ old)
 Allows measure old (Ask n) (Refused Memory) new = new ≡ old
 -- no other outcome comes
 Allows measure old _ _ new = ⊥

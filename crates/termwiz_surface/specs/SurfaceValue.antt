@@ -6,6 +6,7 @@ use Rattle.termwiz_cell.specs.CellValue.{CellValue, half, is_wide, clean}
 use Rattle.termwiz_cell.specs.declared.change.CursorVisibility.{CursorVisibility}
 use Rattle.termwiz_storage.specs.Stored.{stored}
 use Rattle.termwiz_line.specs.Row.{row_of}
+use Rattle.termwiz_surface.specs.Log.{LogValue, next_number}
 use Rattle.termwiz_surface.specs.Screen.{Screen, row_at}
 
 pub record SurfaceValue (W : Type 0) : Type 0 where
@@ -18,8 +19,7 @@ pub record SurfaceValue (W : Type 0) : Type 0 where
   pub y : ℕ
   pub visibility : CursorVisibility
   pub pen : Attributes
-  -- how many changes were made
-  pub number : ℕ
+  pub log : LogValue
 
 module _ {W : Type 0} where
   abbrev pub screen_of : SurfaceValue W → Screen
@@ -54,7 +54,7 @@ pub record IsSound {W : Type 0} (measure : List ℕ → ℕ) (s : SurfaceValue W
   pub column : s.x ≤ s.width
   pub row : s.y < s.height
   pub stored_so : (j : ℕ) → j < s.height → IsStored measure s.width (row_at s.lines j)
-  pub number_fits : s.number < 2 ^ 64
+  pub number_fits : next_number s.log < 2 ^ 64
 
 module _ {W : Type 0} where
   -- the same but for the rows, the cursor, its visibility and the pen
@@ -62,13 +62,13 @@ module _ {W : Type 0} where
     pub widths : new.widths ≡ old.widths
     pub width : new.width ≡ old.width
     pub height : new.height ≡ old.height
-    pub number : new.number ≡ old.number
+    pub log : new.log ≡ old.log
 
-  -- the surface has this screen and these lengths now, and its old number
+  -- the surface has this screen and these lengths now, and its old log
   pub record Draws (old : SurfaceValue W) (screen : Screen) (lengths : List ℕ) (new : SurfaceValue W) : Type 0 where
     pub widths : new.widths ≡ old.widths
     pub width : new.width ≡ old.width
     pub height : new.height ≡ old.height
-    pub number : new.number ≡ old.number
+    pub log : new.log ≡ old.log
     pub screen_is : screen_of new ≡ screen
     pub lengths_are : lengths_of new ≡ lengths

@@ -1,5 +1,5 @@
 //! Surfaces.
-ghost use Rattle.std.specs.Prelude.{◌≡◌, true, ◌+◌, ◌-◌, ◌*◌, ◌<◌, ◌≤◌, ◌^◌, List, [], ◌∷◌, length, map, vec_len, replicate, string_bytes, false, IsOk, IfOk, OnOk, OnErr};
+ghost use Rattle.std.specs.Prelude.{◌≡◌, true, ◌+◌, ◌-◌, ◌*◌, ◌<◌, ◌≤◌, ◌^◌, List, [], ◌∷◌, length, map, vec_len, replicate, string_bytes, false, not, ◌==◌, IsOk, IsOkAnd, IfOk, IfErr, OnOk, OnErr};
 ghost use Rattle.termwiz_cell.specs.Attributes.{default_attributes, with_background};
 ghost use Rattle.termwiz_cell.specs.CellValue.{blank};
 ghost use Rattle.termwiz_cell.specs.Width.{unversioned};
@@ -18,13 +18,16 @@ ghost use Rattle.unicode_segmentation.specs.Grapheme.{graphemes};
 ghost use Rattle.termwiz_surface.specs.ShownChars.{shown_chars};
 ghost use Rattle.termwiz_surface.specs.ScreenValue.{screen_value};
 ghost use Rattle.termwiz_surface.specs.SurfaceValue.{IsMeasured, IsSound};
-ghost use Rattle.termwiz_surface.specs.Adding.{Adds};
+ghost use Rattle.termwiz_surface.specs.Adding.{Adds, Makes, with_log};
+ghost use Rattle.termwiz_surface.specs.Log.{due, flushed, is_known, next_number, worth};
+ghost use Rattle.termwiz_surface.specs.declared.surface.SurfaceError.TheVariants.{Numbers};
 ghost use Rattle.std.specs.Cow.{IsOwnedSlice};
-ghost use Rattle.termwiz_surface.specs.Stream.{stream_of};
+ghost use Rattle.termwiz_surface.specs.Stream.{Lends, stream_of};
 ghost use Rattle.termwiz_surface.specs.Printable.{HasSize};
 ghost use Rattle.termwiz_surface.specs.Repaint.{repaint};
 ghost use Rattle.termwiz_surface.specs.Screen.{Screen as SeenScreen};
 
+mod log;
 mod pen;
 mod place;
 mod print;
@@ -34,6 +37,7 @@ mod screen;
 mod shown;
 
 use pen::{background_only, blank_with};
+use log::{Log, worth};
 use place::{column_at, row_at};
 use print::{Piece, begins_plain, printed_piece, split_narrow_run};
 use repaint::{all_rows, framed};
@@ -47,7 +51,7 @@ use std::collections::VecDeque;
 use std::marker::Model;
 use std::slice;
 use termwiz_cell::cell::{AttributeChange, Cell, CellAttributes};
-use termwiz_cell::change::{Change, CursorVisibility, Position, SEQ_ZERO, SequenceNo};
+use termwiz_cell::change::{Change, CursorVisibility, Position, SequenceNo};
 use termwiz_cell::color::ColorAttribute;
 use termwiz_cell::emoji::Widths;
 use termwiz_line::line::line::Line;
@@ -96,7 +100,7 @@ pub struct Surface<W: Widths> {
     y: usize,
     visibility: CursorVisibility,
     pen: CellAttributes,
-    number: SequenceNo,
+    log: Log,
 }
 
 impl<W: Widths> Model for Surface<W> {
@@ -106,9 +110,9 @@ impl<W: Widths> Model for Surface<W> {
 
     ghost Value = { SurfaceValue W };
 
-    ghost view = { λ s. record { widths = s.widths; width = s.width; height = s.height; lines = cells_of s.rows.items; x = s.x; y = s.y; visibility = s.visibility; pen = s.pen; number = s.number } };
+    ghost view = { λ s. record { widths = s.widths; width = s.width; height = s.height; lines = cells_of s.rows.items; x = s.x; y = s.y; visibility = s.visibility; pen = s.pen; log = s.log } };
 
-    ghost invariant = { λ s. IsSound (unversioned (W.width_of s.widths)) (record { widths = s.widths; width = s.width; height = s.height; lines = cells_of s.rows.items; x = s.x; y = s.y; visibility = s.visibility; pen = s.pen; number = s.number }) };
+    ghost invariant = { λ s. IsSound (unversioned (W.width_of s.widths)) (record { widths = s.widths; width = s.width; height = s.height; lines = cells_of s.rows.items; x = s.x; y = s.y; visibility = s.visibility; pen = s.pen; log = s.log }) };
 }
 
 impl<W: Widths> Surface<W> {
@@ -125,7 +129,7 @@ impl<W: Widths> Surface<W> {
         requires some_row { 0 < height }
         requires fits { width < 2 ^ 32 }
         requires fits_height { height < 2 ^ 32 }
-        ensures { IfOk result (λ s. s ≡ record { widths = widths; width = width; height = height; lines = replicate height (replicate width blank); x = 0; y = 0; visibility = Visible; pen = default_attributes; number = 0 }) }
+        ensures { IfOk result (λ s. s ≡ record { widths = widths; width = width; height = height; lines = replicate height (replicate width blank); x = 0; y = 0; visibility = Visible; pen = default_attributes; log = record { first = 0; changes = [] } }) }
     {
         let rows = blank_rows(alloc, width, height)?;
         Ok(Surface {
@@ -138,7 +142,7 @@ impl<W: Widths> Surface<W> {
             y: 0,
             visibility: CursorVisibility::Visible,
             pen: CellAttributes::blank(),
-            number: SEQ_ZERO,
+            log: Log::new(alloc),
         })
     }
 
@@ -171,9 +175,10 @@ impl<W: Widths> Surface<W> {
 
     /// The number of the coming change: how many changes were made.
     pub fn current_seqno(&self) -> SequenceNo
-        ensures { result ≡ self.now.number }
+        ensures value { result ≡ next_number self.now.log }
+        ensures fits { result < 2 ^ 64 }
     {
-        self.number
+        self.log.next_number()
     }
 
     /// The texts of each row's visible cells within its stored length, with a newline behind each row.
@@ -417,55 +422,104 @@ impl<W: Widths> Surface<W> {
         Ok(())
     }
 
-    // Makes the changes and counts them.
-    fn make(&mut self, changes: &[Change], told: SequenceNo) -> Result<SequenceNo, SurfaceError>
-        ensures { Adds (unversioned (W.width_of self.old.widths)) self.old (map change_value changes.now) told result self.new }
+    // Tells why a list of changes is refused before any is made.
+    fn refuse(&self, changes: &[Change]) -> Result<(), SurfaceError>
+        ensures ok { OnOk result (next_number self.now.log + length changes.now < 2 ^ 64) }
+        ensures numbers { IfErr result (λ error. (error ≡ Numbers) × (2 ^ 64 ≤ next_number self.now.log + length changes.now)) }
     {
-        let before = self.number;
-        if changes.len() > usize::MAX - before {
+        if !self.log.has_numbers(changes.len()) {
             return Err(SurfaceError::Numbers);
         }
-        let number = before + changes.len();
-        if self.apply_all(changes).is_err() {
-            self.number = if before == 0 { 0 } else { before + 1 };
-            return Err(SurfaceError::Memory);
-        }
-        self.number = number;
-        Ok(told)
+        Ok(())
+    }
+
+    // Makes a change and logs it.
+    fn make_one(&mut self, change: Change) -> Result<(), AllocError>
+        requires { next_number self.old.log + 1 < 2 ^ 64 }
+        ensures ok { OnOk result (Makes (unversioned (W.width_of self.old.widths)) self.old (change_value change ∷ []) self.new) }
+        ensures err { OnErr result (SameFrame self.old self.new) }
+    {
+        self.log.reserve(1)?;
+        self.apply(&change)?;
+        self.log.push(change)?;
+        Ok(())
+    }
+
+    // Makes the changes and logs them.
+    fn make_all(&mut self, changes: Vec<Change>) -> Result<(), AllocError>
+        requires { next_number self.old.log + vec_len changes < 2 ^ 64 }
+        ensures ok { OnOk result (Makes (unversioned (W.width_of self.old.widths)) self.old (map change_value changes.items) self.new) }
+        ensures err { OnErr result (SameFrame self.old self.new) }
+        ensures some { OnErr result (0 < vec_len changes) }
+    {
+        self.log.reserve(changes.len())?;
+        self.apply_all(changes.as_slice())?;
+        self.log.append(changes)?;
+        Ok(())
     }
 
     /// Makes one change. The answer is the number before it.
-    /// `Numbers`: nothing has changed. `Memory`: the size and the form of the rows stay, the cursor is inside, and the number grows by one, unless it is 0.
+    /// `Numbers`: nothing has changed. `Memory`: the size and the form of the rows stay, the cursor is inside, and the log is empty under a number that is greater by one, or 0 where it was 0.
     pub fn add_change(&mut self, change: Change) -> Result<SequenceNo, SurfaceError>
-        ensures { Adds (unversioned (W.width_of self.old.widths)) self.old (change_value change ∷ []) self.old.number result self.new }
+        ensures { Adds (unversioned (W.width_of self.old.widths)) self.old (change_value change ∷ []) (next_number self.old.log) result self.new }
     {
-        let number = self.number;
-        self.make(slice::from_ref(&change), number)
+        self.refuse(slice::from_ref(&change))?;
+        let told = self.log.next_number();
+        if self.make_one(change).is_err() {
+            self.log.restart();
+            return Err(SurfaceError::Memory);
+        }
+        Ok(told)
     }
 
     /// Makes the changes in order. The answer is the number before them less one, or 0 where it is 0, and how many they are.
-    /// `Numbers`: nothing has changed. `Memory`: some were made and the last perhaps in part; the size and the form of the rows stay, the cursor is inside, and the number grows by one, unless it is 0.
+    /// `Numbers`: nothing has changed. `Memory`: some were made and the last perhaps in part; the size and the form of the rows stay, the cursor is inside, and the log is empty under a number that is greater by one, or 0 where it was 0.
     pub fn add_changes(&mut self, changes: Vec<Change>) -> Result<SequenceNo, SurfaceError>
-        ensures adds { Adds (unversioned (W.width_of self.old.widths)) self.old (map change_value changes.items) (self.old.number - 1 + vec_len changes) result self.new }
+        ensures adds { Adds (unversioned (W.width_of self.old.widths)) self.old (map change_value changes.items) (next_number self.old.log - 1 + vec_len changes) result self.new }
         ensures empty { vec_len changes ≡ 0 → IsOk result }
     {
-        let before = self.number.saturating_sub(1);
-        let told = before.saturating_add(changes.len());
-        self.make(changes.as_slice(), told)
+        self.refuse(changes.as_slice())?;
+        let told = self.log.next_number().saturating_sub(1) + changes.len();
+        if self.make_all(changes).is_err() {
+            self.log.restart();
+            return Err(SurfaceError::Memory);
+        }
+        Ok(told)
     }
 
-    /// The number of the coming change, and changes that bring any screen of this size to this one. There is no log yet, so every number is answered by such a repaint.
+    /// Whether there are changes that a viewer with this number lacks: whether it isn't the coming change's.
+    pub fn has_changes(&self, seq: SequenceNo) -> bool
+        ensures { result ≡ not (seq == next_number self.now.log) }
+    {
+        seq != self.log.next_number()
+    }
+
+    /// Forgets the changes before this number, where it is from the first number of the log on up to the coming change's. All viewers with greater numbers are answered as before.
+    pub fn flush_changes_older_than(&mut self, seq: SequenceNo)
+        ensures { self.new ≡ with_log self.old (flushed self.old.log seq) }
+    {
+        self.log.flush(seq);
+    }
+
+    /// The number of the coming change, and what a viewer that was last given this number has to apply.
+    ///
+    /// The changes from that number on are lent, without a copy, where the log has them and they are worth sending. Else the answer is a repaint, which brings any screen of this size to this one: so for 0, which is the number of a viewer that was given none, for a number that was flushed or that this surface never gave, and where more changes are due than three and six fifths of the cells. A delta takes no memory.
     pub fn get_changes(
         &self,
-        _seq: SequenceNo,
+        seq: SequenceNo,
     ) -> Result<(SequenceNo, CowSlice<'_, Change>), AllocError>
-        ensures number { IfOk result (λ answer. answer.0 ≡ self.now.number) }
-        // Replayed on any screen of that size, whatever it shows, the changes give this one: rows, cursor, visibility and pen.
-        ensures repaint { IfOk result (λ answer. (s : SeenScreen) → HasSize self.now.width self.now.height s → replay (unversioned (W.width_of self.now.widths)) s (stream_of answer.1) ≡ screen_of self.now) }
-        ensures short { IfOk result (λ answer. length (stream_of answer.1) ≤ 2 * (self.now.width * self.now.height) + self.now.height + 6) }
-        ensures owned { IfOk result (λ answer. IsOwnedSlice answer.1) }
+        ensures number { IfOk result (λ answer. answer.0 ≡ next_number self.now.log) }
+        ensures due { is_known (worth self.now.width self.now.height) self.now.log seq ≡ true → IsOkAnd result (λ answer. Lends answer.1 (due self.now.log seq)) }
+        // Replayed on any screen of that size, whatever it shows, a repaint gives this one: rows, cursor, visibility and pen.
+        ensures repaint { is_known (worth self.now.width self.now.height) self.now.log seq ≡ false → IfOk result (λ answer. (s : SeenScreen) → HasSize self.now.width self.now.height s → replay (unversioned (W.width_of self.now.widths)) s (stream_of answer.1) ≡ screen_of self.now) }
+        ensures short { is_known (worth self.now.width self.now.height) self.now.log seq ≡ false → IfOk result (λ answer. length (stream_of answer.1) ≤ 2 * (self.now.width * self.now.height) + self.now.height + 6) }
+        ensures owned { is_known (worth self.now.width self.now.height) self.now.log seq ≡ false → IfOk result (λ answer. IsOwnedSlice answer.1) }
     {
-        Ok((self.number, CowSlice::Owned(self.repaint()?)))
+        let number = self.log.next_number();
+        match self.log.due(seq, worth(self.width, self.height)) {
+            Some(due) => Ok((number, CowSlice::Borrowed(due))),
+            None => Ok((number, CowSlice::Owned(self.repaint()?))),
+        }
     }
 
     fn repaint(&self) -> Result<Vec<Change>, AllocError>

@@ -1,5 +1,6 @@
 use Rattle.std.proofs.Common.{◌+◌, ◌-◌, vec_len}
 use Rattle.termwiz_cell.specs.Width.{unversioned}
+use Rattle.termwiz_surface.specs.Log.{next_number}
 use Rattle.termwiz_surface.proofs.Running.{Allows-answered, Allows-refused}
 use Rattle.termwiz_surface.proofs.view.serve.Goals as goal
 
@@ -9,5 +10,5 @@ returns-in-Ok-clause-step g c = rw c.in-Changes.is (Allows-answered _ _ _ c.in-C
 pub returns-in-Err-clause-step : goal.returns-in-Err-clause-step
 returns-in-Err-clause-step g c =
     let width = unversioned (g.W.Widths.width_of c.args.surface.now.widths) in
-    let answer = c.args.surface.now.number - 1 + vec_len c.in-Changes.changes in
+    let answer = next_number c.args.surface.now.log - 1 + vec_len c.in-Changes.changes in
     rw c.in-Changes.is (Allows-refused width c.args.surface.now c.add_changes.new.self c.in-Changes.changes answer c.in-Err.error c.in-Err.ensures.adds)

@@ -22,7 +22,7 @@ returns-clause-ok g c =
       widths = refl;
       width = refl;
       height = refl;
-      number = refl;
+      log = refl;
       screen_is = rw (rows-eol f _ (record { space = g.met.W.Widths.space_has_one c.self.inside.widths None }) c.self.invariant (with_background c.args.color.now) (cells_of c.fill_row.new.rows.items) done) refl;
       lengths_are = lengths-eol f _ (record { space = g.met.W.Widths.space_has_one c.self.inside.widths None }) c.self.invariant (with_background c.args.color.now) (cells_of c.fill_row.new.rows.items) done;
     })

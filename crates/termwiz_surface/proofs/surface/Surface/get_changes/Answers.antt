@@ -1,19 +1,33 @@
-use Rattle.std.proofs.Common.{◌*◌, ◌+◌, ◌≤◌, length, sym, ap, ◌∙◌, subst}
+use Rattle.std.proofs.Common.{◌≡◌, ◌*◌, ◌+◌, ◌≤◌, false, length, refl, sym, ap, ◌∙◌, subst}
+use Rattle.std.proofs.lemmas.Bool.{true≢false}
 use Rattle.std.specs.Prelude.{None}
 use Rattle.termwiz_cell.specs.Width.{unversioned}
+use Rattle.termwiz_surface.specs.Log.{is_known, worth}
 use Rattle.termwiz_surface.specs.Step.{replay}
 use Rattle.termwiz_surface.specs.SurfaceValue.{SurfaceValue, IsSound, screen_of}
+use Rattle.termwiz_surface.proofs.Logs.{known-least}
 use Rattle.termwiz_surface.proofs.RepaintLength.{repaint_short}
 use Rattle.termwiz_surface.proofs.SoundRepaint.{sound_repaint}
+use Rattle.termwiz_surface.proofs.surface.Surface.get_changes.Given as given
 use Rattle.termwiz_surface.proofs.surface.Surface.get_changes.Goals as goal
 
-pub returns-clause-repaint : goal.returns-clause-repaint
-returns-clause-repaint g c =
+module _ (g : given.Over) (c : goal.In_ok-repaint-in-None g) where
+  pub unknown : is_known (worth c.args.self.now.width c.args.self.now.height) c.args.self.now.log c.args.seq ≡ false
+  unknown =
+      subst (λ (v : SurfaceValue _). is_known (worth v.width v.height) v.log c.args.seq ≡ false) c.self.view_is
+      (sym (known-least c.self.inside.log c.args.seq (worth c.self.inside.width c.self.inside.height) c.self.invariant.number_fits)
+      ∙ sym (ap (λ most. is_known most c.self.inside.log c.args.seq) c.worth.ensures) ∙ c.in-None.ensures.none refl)
+
+pub returns-in_ok-repaint-in-None-clause-due : goal.returns-in_ok-repaint-in-None-clause-due
+returns-in_ok-repaint-in-None-clause-due g c = λ known. absurd (true≢false (sym known ∙ unknown g c))
+
+pub returns-in_ok-repaint-in-None-clause-repaint : goal.returns-in_ok-repaint-in-None-clause-repaint
+returns-in_ok-repaint-in-None-clause-repaint g c =
     let width = unversioned (g.W.Widths.width_of c.args.self.now.widths) in
     let sound = subst (λ (v : SurfaceValue _). IsSound (unversioned (g.W.Widths.width_of v.widths)) v) c.self.view_is c.self.invariant in
-    λ s size. ap (replay width s) c.in_ok-repaint.ensures ∙ sound_repaint width c.args.self.now sound (g.met.W.Widths.space_has_one c.args.self.now.widths None) s size
+    λ known s size. ap (replay width s) c.in_ok-repaint-in-None.ensures ∙ sound_repaint width c.args.self.now sound (g.met.W.Widths.space_has_one c.args.self.now.widths None) s size
 
-pub returns-clause-short : goal.returns-clause-short
-returns-clause-short g c =
+pub returns-in_ok-repaint-in-None-clause-short : goal.returns-in_ok-repaint-in-None-clause-short
+returns-in_ok-repaint-in-None-clause-short g c =
     let s = screen_of c.args.self.now in
-    subst (λ changes. length changes ≤ 2 * (s.width * s.height) + s.height + 6) (sym c.in_ok-repaint.ensures) (repaint_short s)
+    λ known. subst (λ changes. length changes ≤ 2 * (s.width * s.height) + s.height + 6) (sym c.in_ok-repaint-in-None.ensures) (repaint_short s)

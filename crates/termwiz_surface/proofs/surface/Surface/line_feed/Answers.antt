@@ -18,7 +18,7 @@ returns-clause-ok g c =
       widths = refl;
       width = refl;
       height = refl;
-      number = refl;
+      log = refl;
       screen_is = rw (rows-scrolled c.self.inside.width (cells_of c.self.inside.rows.items)) refl;
       lengths_are = lengths-scrolled c.self.inside.width (cells_of c.self.inside.rows.items);
     })

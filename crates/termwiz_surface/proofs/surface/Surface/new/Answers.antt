@@ -1,8 +1,9 @@
-use Rattle.std.proofs.Common.{[], arith, replicate, subst, sym}
+use Rattle.std.proofs.Common.{[], ap, arith, replicate, subst, sym}
 use Rattle.std.proofs.lemmas.List.{length-replicate, get_or-replicate}
 use Rattle.termwiz_cell.specs.Width.{unversioned}
 use Rattle.std.specs.Prelude.{None}
 use Rattle.termwiz_cell.specs.CellValue.{blank}
+use Rattle.termwiz_surface.specs.Log.{next_number}
 use Rattle.termwiz_surface.specs.SurfaceValue.{IsStored}
 use Rattle.termwiz_surface.proofs.Stored.{IsStored-blank}
 use Rattle.termwiz_surface.proofs.surface.Surface.new.Goals as goal
@@ -16,6 +17,6 @@ invariant_of-result g c = rw c.in_ok-rows.ensures (record {
   full = length-replicate _ _;
   column = omega arith;
   row = c.requires.some_row;
-  number_fits = omega arith;
+  number_fits = omega (arith, ap next_number c.new.ensures);
   stored_so = λ j l. subst (IsStored (unversioned (g.W.Widths.width_of c.args.widths)) c.args.width) (sym (get_or-replicate c.args.height j (replicate c.args.width blank) [] l)) (IsStored-blank (unversioned (g.W.Widths.width_of c.args.widths)) c.args.width (record { space = g.met.W.Widths.space_has_one c.args.widths None }) c.requires.some_column);
 })

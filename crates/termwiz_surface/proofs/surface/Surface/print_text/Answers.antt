@@ -19,7 +19,7 @@ pieces-preserved g c =
         widths = some.prints.widths ∙ before.frame.widths;
         width = some.prints.width ∙ before.frame.width;
         height = some.prints.height ∙ before.frame.height;
-        number = some.prints.number ∙ before.frame.number;
+        log = some.prints.log ∙ before.frame.log;
       };
       screen = screen-left _ c.pieces.self c.print_first.new.self c.pieces.rest.now c.in_ok-rest.rest.now some ∙ before.screen;
       lengths = lengths-left _ c.pieces.self c.print_first.new.self c.pieces.rest.now c.in_ok-rest.rest.now some ∙ before.lengths;
@@ -39,7 +39,7 @@ returns-clause-ok g c =
       widths = before.frame.widths;
       width = before.frame.width;
       height = before.frame.height;
-      number = before.frame.number;
+      log = before.frame.log;
       screen_is = sym (ap (fold (print_one f) (screen_of c.pieces.self)) nothing) ∙ before.screen;
       lengths_are = sym (ap (lengths_after f (screen_of c.pieces.self) (lengths_of c.pieces.self)) nothing) ∙ before.lengths;
     }

@@ -31,7 +31,7 @@ returns-clause-ok g c =
       widths = refl;
       width = refl;
       height = refl;
-      number = refl;
+      log = refl;
       screen_is = rw (rows-put (width g c) _ c.args.cell c.self.invariant (inside g c)) refl;
       lengths_are = lengths-put (width g c) _ c.args.cell c.self.invariant (inside g c);
     })

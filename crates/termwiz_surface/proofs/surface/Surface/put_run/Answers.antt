@@ -20,7 +20,7 @@ returns-clause-ok g c =
       widths = refl;
       width = refl;
       height = refl;
-      number = refl;
+      log = refl;
       screen_is = (IsPrinted-run (unversioned (g.W.Widths.width_of c.self.inside.widths)) (record { space = g.met.W.Widths.space_has_one c.self.inside.widths None }) c.args.run.now _ c.self.invariant fits c.requires.plain narrow).screen;
       lengths_are = (IsPrinted-run (unversioned (g.W.Widths.width_of c.self.inside.widths)) (record { space = g.met.W.Widths.space_has_one c.self.inside.widths None }) c.args.run.now _ c.self.invariant fits c.requires.plain narrow).lengths;
     })

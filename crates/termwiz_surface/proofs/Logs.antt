@@ -1,0 +1,27 @@
+-- What a log has from a number on.
+use Rattle.std.proofs.Common.{◌≡◌, ℕ, ◌-◌, ◌≤◌, ◌<◌, ◌^◌, min, true, inl, inr, List, length, take, drop, map, refl, sym, ◌∙◌, ap, arith, length-drop}
+use Rattle.std.proofs.lemmas.Bool.{cases_lt, ne_eqb, le-leb}
+use Rattle.std.proofs.lemmas.List.{take_all, drop-map}
+use Rattle.termwiz_surface.specs.Log.{LogValue, due, reaches, is_known, next_number}
+
+module _ (l : LogValue) (n : ℕ) (from : l.first ≤ n) (upto : n ≤ next_number l) where
+  pub reaches_it : reaches l n ≡ true
+  reaches_it = rw (le-leb l.first n from, le-leb n (next_number l) upto) refl
+
+  pub known : (most : ℕ) → (n ≡ 0 → ⊥) → length (due l n) ≤ most → is_known most l n ≡ true
+  known most other few = rw (ne_eqb n 0 other, reaches_it, le-leb (length (due l n)) most few) refl
+
+-- the elements from one on, and all of them
+pub rest_mapped : {X Y : Type 0} (f : X → Y) (xs : List X) (k m : ℕ) → length xs - k ≤ m → map f (take m (drop k xs)) ≡ drop k (map f xs)
+rest_mapped f xs k m l = ap (map f) (take_all m (drop k xs) (omega (arith, length-drop k xs))) ∙ sym (drop-map f k xs)
+
+-- no more changes are due than there are numbers
+pub known-least : (l : LogValue) (n most : ℕ) → next_number l < 2 ^ 64 → is_known (min most (2 ^ 64 - 1)) l n ≡ is_known most l n
+known-least l n most fits = elim (cases_lt most (2 ^ 64)) [
+  | inl small ↦
+      let same : min most (2 ^ 64 - 1) ≡ most = omega arith in
+      ap (λ k. is_known k l n) same
+  | inr large ↦
+      let few : length (due l n) ≤ min most (2 ^ 64 - 1) = omega (arith, length-drop (n - l.first) l.changes) in
+      rw (le-leb (length (due l n)) (min most (2 ^ 64 - 1)) few, le-leb (length (due l n)) most (omega arith)) refl
+]

@@ -2,7 +2,7 @@
 ghost use Rattle.std.specs.Prelude.{◌≡◌, ◌↔◌, IfOk, IsTrue, false, string_bytes};
 ghost use Rattle.std.specs.Cmp.{decided, on_equiv, on_per, partial_equiv_from_equiv};
 ghost use Rattle.termwiz_cell.specs.AttributeChangeValue.{attribute_change_value};
-ghost use Rattle.termwiz_cell.specs.ChangeValue.{Attribute, LineAttribute, Text, change_value, change_eq, change_eq-Decides, copy_takes_memory, is_text, position_eq, visibility_eq};
+ghost use Rattle.termwiz_cell.specs.ChangeValue.{Attribute, LineAttribute, Text, change_value, change_eq, change_eq-Decides, copy_takes_memory, is_text, position_eq, scroll_eq, visibility_eq};
 ghost use Rattle.termwiz_cell.specs.Shapes.{is_blinking_shape, line_eq, shape_eq};
 
 use crate::cell::{AttributeChange, CellAttributes};
@@ -296,7 +296,7 @@ impl Change {
                     region_size: e,
                     scroll_count: f,
                 },
-            ) => *a == *d && *b == *e && *c == *f,
+            ) => is_same_scroll((*a, *b, *c), (*d, *e, *f)),
             (
                 Change::ScrollRegionDown {
                     first_row: a,
@@ -308,7 +308,7 @@ impl Change {
                     region_size: e,
                     scroll_count: f,
                 },
-            ) => *a == *d && *b == *e && *c == *f,
+            ) => is_same_scroll((*a, *b, *c), (*d, *e, *f)),
             (Change::Title(a), Change::Title(b)) => *a == *b,
             (Change::LineAttribute(a), Change::LineAttribute(b)) => is_same_line(*a, *b),
             _ => false,
@@ -338,4 +338,11 @@ fn is_same_line(a: LineAttribute, b: LineAttribute) -> bool
     ensures { result ≡ line_eq a b }
 {
     a == b
+}
+
+/// Whether two scrolls have the same first row, size and count.
+fn is_same_scroll(a: (usize, usize, usize), b: (usize, usize, usize)) -> bool
+    ensures { result ≡ scroll_eq a.0 a.1 a.2 b.0 b.1 b.2 }
+{
+    a.0 == b.0 && a.1 == b.1 && a.2 == b.2
 }

@@ -190,7 +190,7 @@ impl Clone for Change {
                 let copy = title.clone()?;
                 Ok(Change::Title(copy))
             }
-            Change::LineAttribute(attribute) => Ok(Change::LineAttribute(*attribute)),
+            Change::LineAttribute(line) => Ok(Change::LineAttribute(*line)),
         }
     }
 }

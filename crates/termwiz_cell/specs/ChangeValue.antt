@@ -12,6 +12,9 @@ use Rattle.termwiz_cell.specs.declared.change.Position.{Position}
 use Rattle.termwiz_cell.specs.declared.change.Position.TheVariants.{Relative, Absolute, EndRelative}
 use Rattle.termwiz_cell.specs.declared.change.CursorVisibility as cursor
 use Rattle.termwiz_cell.specs.declared.change.CursorVisibility.TheVariants.{Hidden, Visible}
+use Rattle.termwiz_cell.specs.declared.change.CursorShape as shapes
+use Rattle.termwiz_cell.specs.declared.change.LineAttribute as lines
+use Rattle.termwiz_cell.specs.Shapes.{shape_eq, shape_eq-Decides, line_eq, line_eq-Decides}
 use Rattle.termwiz_cell.specs.declared.change.Change.{Change}
 use Rattle.termwiz_cell.specs.declared.change.Change.TheVariants as code
 
@@ -23,7 +26,13 @@ pub data ChangeValue : Type 0 where
   ClearToEndOfLine : (color : ColorAttribute) → ChangeValue
   ClearToEndOfScreen : (color : ColorAttribute) → ChangeValue
   CursorPosition : (x y : Position) → ChangeValue
+  CursorColor : (color : ColorAttribute) → ChangeValue
+  CursorShape : (shape : shapes.CursorShape) → ChangeValue
   CursorVisibility : (visibility : cursor.CursorVisibility) → ChangeValue
+  ScrollRegionUp : (first size count : ℕ) → ChangeValue
+  ScrollRegionDown : (first size count : ℕ) → ChangeValue
+  Title : (title : List ℕ) → ChangeValue
+  LineAttribute : (attribute : lines.LineAttribute) → ChangeValue
 
 abbrev pub change_value : Change → ChangeValue
 change_value (code.Attribute change) = Attribute (attribute_change_value change)
@@ -33,18 +42,25 @@ change_value (code.ClearScreen color) = ClearScreen color
 change_value (code.ClearToEndOfLine color) = ClearToEndOfLine color
 change_value (code.ClearToEndOfScreen color) = ClearToEndOfScreen color
 change_value (code.CursorPosition x y) = CursorPosition x y
+change_value (code.CursorColor color) = CursorColor color
+change_value (code.CursorShape shape) = CursorShape shape
 change_value (code.CursorVisibility visibility) = CursorVisibility visibility
+change_value (code.ScrollRegionUp first size count) = ScrollRegionUp first size count
+change_value (code.ScrollRegionDown first size count) = ScrollRegionDown first size count
+change_value (code.Title title) = Title (string_bytes title)
+change_value (code.LineAttribute attribute) = LineAttribute attribute
 
 -- the change prints a text
 abbrev pub is_text : ChangeValue → Bool
 is_text (Text text) = true
 is_text _ = false
 
--- a copy of the change may find no memory: at a text, a link, and attributes that need a box
+-- a copy of the change may find no memory: at a text, a title, a link, and attributes that need a box
 abbrev pub copy_takes_memory : ChangeValue → Bool
 copy_takes_memory (Attribute change) = is_link change
 copy_takes_memory (AllAttributes attrs) = needs_box attrs
 copy_takes_memory (Text text) = true
+copy_takes_memory (Title title) = true
 copy_takes_memory _ = false
 
 -- `==` of positions
@@ -71,6 +87,15 @@ visibility_eq-Decides Hidden Hidden = ((λ _. refl), (λ _. refl))
 visibility_eq-Decides Visible Visible = ((λ _. refl), (λ _. refl))
 visibility_eq-Decides _ _ = ((λ e. cc), (λ e. cc))
 
+-- `==` of scrolls, number by number
+abbrev pub scroll_eq : ℕ → ℕ → ℕ → ℕ → ℕ → ℕ → Bool
+scroll_eq a b c d e f = a == d && (b == e && c == f)
+
+pub scroll_eq-Decides : (a b c d e f : ℕ) → Decides (scroll_eq a b c d e f) ((a ≡ d) × ((b ≡ e) × (c ≡ f)))
+scroll_eq-Decides a b c d e f =
+    Decides-and (a == d) (b == e && c == f) (Decides-eqb a d)
+    (Decides-and (b == e) (c == f) (Decides-eqb b e) (Decides-eqb c f))
+
 -- `==` of changes
 abbrev pub change_eq : ChangeValue → ChangeValue → Bool
 change_eq (Attribute a) (Attribute b) = attribute_change_eq a b
@@ -80,7 +105,13 @@ change_eq (ClearScreen a) (ClearScreen b) = color_eq a b
 change_eq (ClearToEndOfLine a) (ClearToEndOfLine b) = color_eq a b
 change_eq (ClearToEndOfScreen a) (ClearToEndOfScreen b) = color_eq a b
 change_eq (CursorPosition a b) (CursorPosition c d) = position_eq a c && position_eq b d
+change_eq (CursorColor a) (CursorColor b) = color_eq a b
+change_eq (CursorShape a) (CursorShape b) = shape_eq a b
 change_eq (CursorVisibility a) (CursorVisibility b) = visibility_eq a b
+change_eq (ScrollRegionUp a b c) (ScrollRegionUp d e f) = scroll_eq a b c d e f
+change_eq (ScrollRegionDown a b c) (ScrollRegionDown d e f) = scroll_eq a b c d e f
+change_eq (Title a) (Title b) = bytes_eq a b
+change_eq (LineAttribute a) (LineAttribute b) = line_eq a b
 change_eq _ _ = false
 
 pub change_eq-Decides : (a b : ChangeValue) → Decides (change_eq a b) (a ≡ b)
@@ -95,5 +126,19 @@ change_eq-Decides (CursorPosition a b) (CursorPosition c d) =
     (λ e i. CursorPosition (e.0 i) (e.1 i))
     (λ e. (cc, cc))
     (Decides-and (position_eq a c) (position_eq b d) (position_eq-Decides a c) (position_eq-Decides b d))
+change_eq-Decides (CursorColor a) (CursorColor b) = Decides-like (color_eq a b) (ap CursorColor) (λ e. cc) (color_eq-Decides a b)
+change_eq-Decides (CursorShape a) (CursorShape b) = Decides-like (shape_eq a b) (ap CursorShape) (λ e. cc) (shape_eq-Decides a b)
 change_eq-Decides (CursorVisibility a) (CursorVisibility b) = Decides-like (visibility_eq a b) (ap CursorVisibility) (λ e. cc) (visibility_eq-Decides a b)
+change_eq-Decides (ScrollRegionUp a b c) (ScrollRegionUp d e f) =
+    Decides-like (scroll_eq a b c d e f)
+    (λ e i. ScrollRegionUp (e.0 i) (e.1.0 i) (e.1.1 i))
+    (λ e. (cc, (cc, cc)))
+    (scroll_eq-Decides a b c d e f)
+change_eq-Decides (ScrollRegionDown a b c) (ScrollRegionDown d e f) =
+    Decides-like (scroll_eq a b c d e f)
+    (λ e i. ScrollRegionDown (e.0 i) (e.1.0 i) (e.1.1 i))
+    (λ e. (cc, (cc, cc)))
+    (scroll_eq-Decides a b c d e f)
+change_eq-Decides (Title a) (Title b) = Decides-like (bytes_eq a b) (ap Title) (λ e. cc) (bytes_decides a b)
+change_eq-Decides (LineAttribute a) (LineAttribute b) = Decides-like (line_eq a b) (ap LineAttribute) (λ e. cc) (line_eq-Decides a b)
 change_eq-Decides _ _ = ((λ e. cc), (λ e. cc))

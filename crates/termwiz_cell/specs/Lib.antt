@@ -13,6 +13,7 @@ pub mod CellValue
 pub mod CellLayout
 pub mod Lending
 pub mod AttributeChangeValue
+pub mod Shapes
 pub mod ChangeValue
 pub mod AnsiColor
 pub mod ColorSpec

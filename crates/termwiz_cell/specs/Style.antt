@@ -122,7 +122,7 @@ flag-back true = refl
 flag-back false = refl
 
 -- values that their numbers tell apart are compared by them
-numbers-Decide : {T : Type 0} (number : T → ℕ) (at : ℕ → T) (back : (v : T) → at (number v) ≡ v) (a b : T) → Decides (number a == number b) (a ≡ b)
+pub numbers-Decide : {T : Type 0} (number : T → ℕ) (at : ℕ → T) (back : (v : T) → at (number v) ≡ v) (a b : T) → Decides (number a == number b) (a ≡ b)
 numbers-Decide number at back a b = Decides-like (number a == number b) (λ e. sym (back a) ∙ ap at e ∙ back b) (ap number) (Decides-eqb (number a) (number b))
 
 pub intensity_eq-Decides : (a b : Intensity) → Decides (intensity_eq a b) (a ≡ b)

@@ -2,7 +2,8 @@
 ghost use Rattle.std.specs.Prelude.{◌≡◌, ◌↔◌, IfOk, IsTrue, false, string_bytes};
 ghost use Rattle.std.specs.Cmp.{decided, on_equiv, on_per, partial_equiv_from_equiv};
 ghost use Rattle.termwiz_cell.specs.AttributeChangeValue.{attribute_change_value};
-ghost use Rattle.termwiz_cell.specs.ChangeValue.{Attribute, Text, change_value, change_eq, change_eq-Decides, copy_takes_memory, is_text, position_eq, visibility_eq};
+ghost use Rattle.termwiz_cell.specs.ChangeValue.{Attribute, LineAttribute, Text, change_value, change_eq, change_eq-Decides, copy_takes_memory, is_text, position_eq, scroll_eq, visibility_eq};
+ghost use Rattle.termwiz_cell.specs.Shapes.{is_blinking_shape, line_eq, shape_eq};
 
 use crate::cell::{AttributeChange, CellAttributes};
 use crate::color::{ColorAttribute, is_same_color};
@@ -27,13 +28,53 @@ pub enum CursorVisibility {
     Visible,
 }
 
+/// How the cursor is drawn where it is shown.
+#[derive(Clone, Copy, PartialEq, Eq, Hash, Debug, Default)]
+pub enum CursorShape {
+    /// As whoever shows the surface draws it by default.
+    #[default]
+    Default,
+    BlinkingBlock,
+    SteadyBlock,
+    BlinkingUnderline,
+    SteadyUnderline,
+    BlinkingBar,
+    SteadyBar,
+}
+
+impl CursorShape {
+    /// Whether this is one of the three blinking shapes. The default is none of them.
+    pub fn is_blinking(&self) -> bool
+        ensures { result ≡ is_blinking_shape self.now }
+    {
+        matches!(
+            self,
+            CursorShape::BlinkingBlock | CursorShape::BlinkingUnderline | CursorShape::BlinkingBar
+        )
+    }
+}
+
+/// How large the cells of a line are shown. The cells stay as they are.
+#[derive(Clone, Copy, PartialEq, Eq, Debug)]
+pub enum LineAttribute {
+    /// Twice as wide and twice as high, of which this line shows the upper half.
+    DoubleHeightTopHalfLine,
+    /// Twice as wide and twice as high, of which this line shows the lower half.
+    DoubleHeightBottomHalfLine,
+    /// Twice as wide.
+    DoubleWidthLine,
+    /// As large as on any line.
+    SingleWidthLine,
+}
+
 /// The number of a change: how many came before it.
 pub type SequenceNo = usize;
 
 /// The number before any change.
 pub const SEQ_ZERO: SequenceNo = 0;
 
-/// One change of a surface: a text to print, a pen to set, a part to clear, a place for the cursor.
+/// One change of a surface: a text to print, a pen to set, a part to clear or scroll, a place for
+/// the cursor.
 ///
 /// A program makes changes and adds them to a surface, which applies each to its screen. Whoever
 /// shows the surface, a terminal say, asks it for the changes that are due and applies that list
@@ -41,10 +82,12 @@ pub const SEQ_ZERO: SequenceNo = 0;
 /// was given can be added to a second surface as it is.
 ///
 /// A change acts at the cursor and with the pen that those before it left. The pen is the
-/// attributes of coming texts.
+/// attributes of coming texts. The cursor's colour and shape, the title, and how large lines are
+/// shown are kept beside the screen: setting one of them changes no cell.
 ///
 /// Two changes are equal where they say the same: texts are compared by their bytes, and links
-/// by what they name. A clone can only fail at a text, a link, or attributes that need a box.
+/// by what they name. A clone can only fail at a text, a title, a link, or attributes that need a
+/// box.
 #[derive(Drop, Debug)]
 pub enum Change {
     /// Sets one attribute of the pen, and leaves the others.
@@ -65,9 +108,38 @@ pub enum Change {
     /// which is then all that the pen has. The cursor stays.
     ClearToEndOfScreen(ColorAttribute),
     /// Moves the cursor. It stays on the surface, whatever is asked for.
-    CursorPosition { x: Position, y: Position },
+    CursorPosition {
+        x: Position,
+        y: Position,
+    },
+    /// Sets the cursor's colour.
+    CursorColor(ColorAttribute),
+    /// Sets the cursor's shape.
+    CursorShape(CursorShape),
     /// Shows or hides the cursor.
     CursorVisibility(CursorVisibility),
+    /// Takes `scroll_count` rows, at most all, off the top of the region of `region_size` rows
+    /// that begins at `first_row`, moves the others up, and adds as many default rows at the
+    /// region's bottom. A region that goes past the last row refuses its whole list. The cursor
+    /// stays.
+    ScrollRegionUp {
+        first_row: usize,
+        region_size: usize,
+        scroll_count: usize,
+    },
+    /// Takes `scroll_count` rows, at most all, off the bottom of the region of `region_size` rows
+    /// that begins at `first_row`, moves the others down, and adds as many default rows at the
+    /// region's top. A region that goes past the last row refuses its whole list. The cursor
+    /// stays.
+    ScrollRegionDown {
+        first_row: usize,
+        region_size: usize,
+        scroll_count: usize,
+    },
+    /// Sets the title of the surface.
+    Title(String),
+    /// Sets how large the cursor's line is shown.
+    LineAttribute(LineAttribute),
 }
 
 impl Clone for Change {
@@ -93,7 +165,32 @@ impl Clone for Change {
             Change::ClearToEndOfLine(color) => Ok(Change::ClearToEndOfLine(*color)),
             Change::ClearToEndOfScreen(color) => Ok(Change::ClearToEndOfScreen(*color)),
             Change::CursorPosition { x, y } => Ok(Change::CursorPosition { x: *x, y: *y }),
+            Change::CursorColor(color) => Ok(Change::CursorColor(*color)),
+            Change::CursorShape(shape) => Ok(Change::CursorShape(*shape)),
             Change::CursorVisibility(visibility) => Ok(Change::CursorVisibility(*visibility)),
+            Change::ScrollRegionUp {
+                first_row,
+                region_size,
+                scroll_count,
+            } => Ok(Change::ScrollRegionUp {
+                first_row: *first_row,
+                region_size: *region_size,
+                scroll_count: *scroll_count,
+            }),
+            Change::ScrollRegionDown {
+                first_row,
+                region_size,
+                scroll_count,
+            } => Ok(Change::ScrollRegionDown {
+                first_row: *first_row,
+                region_size: *region_size,
+                scroll_count: *scroll_count,
+            }),
+            Change::Title(title) => {
+                let copy = title.clone()?;
+                Ok(Change::Title(copy))
+            }
+            Change::LineAttribute(line) => Ok(Change::LineAttribute(*line)),
         }
     }
 }
@@ -142,6 +239,14 @@ impl From<AttributeChange> for Change {
     }
 }
 
+impl From<LineAttribute> for Change {
+    ghost from_gives = { λ attribute change. change_value change ≡ LineAttribute attribute };
+
+    fn from(attribute: LineAttribute) -> Change {
+        Change::LineAttribute(attribute)
+    }
+}
+
 impl PartialEq for Change {
     ghost eq = { λ a b. change_eq (change_value a) (change_value b) };
 
@@ -175,9 +280,37 @@ impl Change {
             (Change::CursorPosition { x: a, y: b }, Change::CursorPosition { x: c, y: d }) => {
                 is_same_position(*a, *c) && is_same_position(*b, *d)
             }
+            (Change::CursorColor(a), Change::CursorColor(b)) => is_same_color(*a, *b),
+            (Change::CursorShape(a), Change::CursorShape(b)) => is_same_shape(*a, *b),
             (Change::CursorVisibility(a), Change::CursorVisibility(b)) => {
                 is_same_visibility(*a, *b)
             }
+            (
+                Change::ScrollRegionUp {
+                    first_row: a,
+                    region_size: b,
+                    scroll_count: c,
+                },
+                Change::ScrollRegionUp {
+                    first_row: d,
+                    region_size: e,
+                    scroll_count: f,
+                },
+            ) => is_same_scroll((*a, *b, *c), (*d, *e, *f)),
+            (
+                Change::ScrollRegionDown {
+                    first_row: a,
+                    region_size: b,
+                    scroll_count: c,
+                },
+                Change::ScrollRegionDown {
+                    first_row: d,
+                    region_size: e,
+                    scroll_count: f,
+                },
+            ) => is_same_scroll((*a, *b, *c), (*d, *e, *f)),
+            (Change::Title(a), Change::Title(b)) => *a == *b,
+            (Change::LineAttribute(a), Change::LineAttribute(b)) => is_same_line(*a, *b),
             _ => false,
         }
     }
@@ -193,4 +326,23 @@ fn is_same_visibility(a: CursorVisibility, b: CursorVisibility) -> bool
     ensures { result ≡ visibility_eq a b }
 {
     a == b
+}
+
+fn is_same_shape(a: CursorShape, b: CursorShape) -> bool
+    ensures { result ≡ shape_eq a b }
+{
+    a == b
+}
+
+fn is_same_line(a: LineAttribute, b: LineAttribute) -> bool
+    ensures { result ≡ line_eq a b }
+{
+    a == b
+}
+
+/// Whether two scrolls have the same first row, size and count.
+fn is_same_scroll(a: (usize, usize, usize), b: (usize, usize, usize)) -> bool
+    ensures { result ≡ scroll_eq a.0 a.1 a.2 b.0 b.1 b.2 }
+{
+    a.0 == b.0 && a.1 == b.1 && a.2 == b.2
 }

@@ -4,9 +4,10 @@ ghost use Rattle.termwiz_cell.specs.declared.cell.style.Intensity.TheVariants.{N
 ghost use Rattle.termwiz_cell.specs.declared.cell.style.Underline.TheVariants.{None};
 ghost use Rattle.termwiz_cell.specs.declared.cell.style.SemanticType.TheVariants.{Output};
 ghost use Rattle.termwiz_cell.specs.declared.change.CursorVisibility.TheVariants.{Visible};
+ghost use Rattle.termwiz_cell.specs.declared.change.CursorShape.TheVariants as shape;
 
 use termwiz_cell::cell::{Intensity, SemanticType, Underline};
-use termwiz_cell::change::{CursorVisibility, SEQ_ZERO, SequenceNo};
+use termwiz_cell::change::{CursorShape, CursorVisibility, SEQ_ZERO, SequenceNo};
 use termwiz_cell::emoji::{LATEST_UNICODE_VERSION, UnicodeVersion};
 
 /// The default strength of a text.
@@ -35,6 +36,13 @@ pub fn default_visibility() -> CursorVisibility
     ensures { result ≡ Visible }
 {
     CursorVisibility::default()
+}
+
+/// A cursor has no shape of its own by default.
+pub fn default_shape() -> CursorShape
+    ensures { result ≡ shape.Default }
+{
+    CursorShape::default()
 }
 
 /// The number before any change.

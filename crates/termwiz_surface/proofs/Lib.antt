@@ -23,3 +23,4 @@ mod JoinedRows
 mod RowTails
 mod Lines
 mod Filling
+mod Sides

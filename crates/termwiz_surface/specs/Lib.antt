@@ -18,3 +18,5 @@ pub mod Schedule
 pub mod ScreenValue
 pub mod Padding
 pub mod Stream
+pub mod Sides
+pub mod Regions

@@ -24,3 +24,4 @@ mod RowTails
 mod Lines
 mod Filling
 pub mod Logs
+mod Sides

@@ -19,3 +19,5 @@ pub mod ScreenValue
 pub mod Padding
 pub mod Stream
 pub mod Log
+pub mod Sides
+pub mod Regions

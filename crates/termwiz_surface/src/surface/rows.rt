@@ -1,8 +1,9 @@
 //! The rows of a surface: lines whose numbers nothing reads.
-ghost use Rattle.std.specs.Prelude.{◌≡◌, ◌+◌, ℕ, true, false, length, ◌-◌, ◌<◌, ◌≤◌, slice_set, replicate, take, map, string_bytes, ◌++◌, IfOk, OnOk, OnErr};
+ghost use Rattle.std.specs.Prelude.{◌≡◌, ◌+◌, ℕ, true, false, [], ◌∷◌, length, drop, ◌-◌, ◌<◌, ◌≤◌, slice_set, replicate, take, map, string_bytes, ◌++◌, IfOk, OnOk, OnErr};
 ghost use Rattle.std.specs.VecDeque.{deque_len};
 ghost use Rattle.termwiz_cell.specs.CellValue.{blank};
 ghost use Rattle.std.specs.List.{list_all};
+ghost use Rattle.termwiz_line.specs.LineFlags.{no_flags};
 ghost use Rattle.termwiz_text.specs.Plain.{is_plain};
 ghost use Rattle.termwiz_cell.specs.Attributes.{needs_box};
 ghost use Rattle.termwiz_storage.specs.Stored.{fill, set_run, IsPruned};
@@ -12,6 +13,7 @@ ghost use Rattle.termwiz_surface.specs.ScreenValue.{cells_of, numberless};
 ghost use Rattle.termwiz_surface.specs.Screen.{row_at};
 ghost use Rattle.termwiz_surface.specs.Print.{scrolled};
 ghost use Rattle.termwiz_surface.specs.Rows.{painted_in, AreFilled, IsPartly, ArePartly};
+ghost use Rattle.termwiz_surface.specs.Sides.{row_flags, AreVectors, KeepsSide, KeepSides};
 
 use std::alloc::{AllocError, Global};
 use std::collections::VecDeque;
@@ -23,6 +25,7 @@ fn fill_line(line: &mut Line, from: usize, to: usize, cell: &Cell) -> Result<(),
     requires { 0 < length line.old.cells }
     ensures ok { OnOk result (IsPruned (fill (to - from) from cell.now line.old.cells) line.new.cells) }
     ensures err { from ≤ to → OnErr result (IsPartly to cell.now line.old.cells line.new.cells) }
+    ensures side { KeepsSide line.old line.new }
 {
     line.fill_range(from..to, cell, SEQ_ZERO)?;
     Ok(())
@@ -70,7 +73,9 @@ pub(super) fn blank_rows(
     width: usize,
     height: usize,
 ) -> Result<VecDeque<Line>, AllocError>
-    ensures { IfOk result (λ rows. cells_of rows.items ≡ replicate height (replicate width blank)) }
+    ensures cells { IfOk result (λ rows. cells_of rows.items ≡ replicate height (replicate width blank)) }
+    ensures flags { IfOk result (λ rows. row_flags rows.items ≡ replicate height no_flags) }
+    ensures vectors { IfOk result (λ rows. AreVectors rows.items) }
 {
     let mut rows = VecDeque::with_capacity(alloc, height)?;
     for _row in 0..height {
@@ -90,6 +95,7 @@ pub(super) fn paint_row(
     requires { y < deque_len rows.old }
     ensures ok { OnOk result (cells_of rows.new.items ≡ slice_set (cells_of rows.old.items) y (painted_in width x cell (row_at (cells_of rows.old.items) y))) }
     ensures err { OnErr result (cells_of rows.new.items ≡ cells_of rows.old.items) }
+    ensures sides { KeepSides rows.old.items rows.new.items }
 {
     // A wide cell in the last column is cut.
     rows[y].set_cell_within(x, cell, width, SEQ_ZERO)?;
@@ -109,6 +115,7 @@ pub(super) fn paint_run(
     requires unboxed { needs_box pen.now ≡ false }
     ensures ok { OnOk result (cells_of rows.new.items ≡ slice_set (cells_of rows.old.items) y (set_run x run.now pen.now (row_at (cells_of rows.old.items) y))) }
     ensures err { OnErr result (cells_of rows.new.items ≡ cells_of rows.old.items) }
+    ensures sides { KeepSides rows.old.items rows.new.items }
 {
     rows[y].set_run(x, run, pen, SEQ_ZERO)?;
     Ok(())
@@ -119,6 +126,9 @@ pub(super) fn scroll_rows(rows: &mut VecDeque<Line>, width: usize) -> Result<(),
     requires { 0 < deque_len rows.old }
     ensures ok { OnOk result (cells_of rows.new.items ≡ scrolled width (cells_of rows.old.items)) }
     ensures err { OnErr result (cells_of rows.new.items ≡ cells_of rows.old.items) }
+    ensures flags { OnOk result (row_flags rows.new.items ≡ drop 1 (row_flags rows.old.items) ++ no_flags ∷ []) }
+    ensures err_flags { OnErr result (row_flags rows.new.items ≡ row_flags rows.old.items) }
+    ensures vectors { AreVectors rows.old.items → AreVectors rows.new.items }
 {
     rows[0].blank_out(width, SEQ_ZERO)?;
     if let Some(row) = rows.pop_front() {
@@ -139,6 +149,7 @@ pub(super) fn fill_row(
     requires some { 0 < length (row_at (cells_of rows.old.items) y) }
     ensures ok { OnOk result (AreFilled width x y (y + 1) cell.now (cells_of rows.old.items) (cells_of rows.new.items)) }
     ensures err { x ≤ width → OnErr result (ArePartly width cell.now (cells_of rows.old.items) (cells_of rows.new.items)) }
+    ensures sides { KeepSides rows.old.items rows.new.items }
 {
     fill_line(&mut rows[y], x, width, cell)?;
     Ok(())
@@ -156,6 +167,7 @@ pub(super) fn fill_rows(
     requires some { (j : ℕ) → j < deque_len rows.old → 0 < length (row_at (cells_of rows.old.items) j) }
     ensures ok { OnOk result (AreFilled width x y (length (cells_of rows.old.items)) cell.now (cells_of rows.old.items) (cells_of rows.new.items)) }
     ensures err { x ≤ width → OnErr result (ArePartly width cell.now (cells_of rows.old.items) (cells_of rows.new.items)) }
+    ensures sides { KeepSides rows.old.items rows.new.items }
 {
     fill_row(rows, width, x, y, cell)?;
     for j in y + 1..rows.len() {

@@ -5,6 +5,7 @@ use Rattle.termwiz_surface.specs.Screen.{row_at}
 use Rattle.termwiz_surface.specs.ScreenValue.{cells_of}
 use Rattle.termwiz_surface.proofs.Lines.{length-cells_of, cells-read, cells-set}
 use Rattle.termwiz_surface.proofs.Filling.{filled-set, partly-set}
+use Rattle.termwiz_surface.proofs.Sides.{sides-set}
 use Rattle.termwiz_surface.proofs.surface.rows.fill_row.Goals as goal
 
 pub returns-in_err-fill_line-clause-err : goal.returns-in_err-fill_line-clause-err
@@ -24,3 +25,9 @@ returns-clause-ok c =
     let at : row_at (cells_of rows) c.args.y ≡ c.index_mut.result.now.cells = cells-read rows c.args.y c.index_mut.result.now inside c.index_mut.ensures.value in
     rw (cells-set rows c.args.y c.fill_line.new.line)
     (filled-set c.args.width c.args.x c.args.y c.args.cell.now (cells_of rows) c.fill_line.new.line.cells (omega (arith, length-cells_of rows)) (rw at c.in_ok-fill_line.ensures.ok))
+
+pub returns-clause-sides : goal.returns-clause-sides
+returns-clause-sides c = sides-set c.args.rows.now.items c.args.y c.index_mut.result.now c.fill_line.new.line (omega (arith, c.requires.inside, c.args.rows.now.ok.0)) c.index_mut.ensures.value c.in_ok-fill_line.ensures.side
+
+pub returns-in_err-fill_line-clause-sides : goal.returns-in_err-fill_line-clause-sides
+returns-in_err-fill_line-clause-sides c = sides-set c.args.rows.now.items c.args.y c.index_mut.result.now c.fill_line.new.line (omega (arith, c.requires.inside, c.args.rows.now.ok.0)) c.index_mut.ensures.value c.in_err-fill_line.ensures.side

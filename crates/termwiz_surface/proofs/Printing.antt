@@ -16,11 +16,12 @@ use Rattle.termwiz_storage.specs.Stored.{set_cell, set_run}
 use Rattle.termwiz_storage.proofs.SetCell.{length-set_cell}
 use Rattle.termwiz_surface.specs.declared.surface.print.Piece.TheVariants.{Cell}
 use Rattle.termwiz_surface.specs.Graphemes.{single}
+use Rattle.termwiz_surface.specs.Kept.{Kept}
 use Rattle.termwiz_surface.specs.Screen.{Screen, row_at}
-use Rattle.termwiz_surface.specs.Print.{piece_of, print_piece, print_one, put, put_lengths, printed_cell, piece_lengths, one_lengths, lengths_after, wraps, wrapped, wrapped_lengths, columns_left}
+use Rattle.termwiz_surface.specs.Print.{piece_of, print_piece, print_one, put, put_kept, printed_cell, piece_kept, one_kept, kept_after, wraps, wrapped, wrapped_kept, columns_left}
 use Rattle.termwiz_surface.specs.Printing.{AreNarrow, Prints, PrintsSome}
 use Rattle.termwiz_surface.specs.Rows.{painted_in}
-use Rattle.termwiz_surface.specs.SurfaceValue.{SurfaceValue, IsMeasured, IsSound, Draws, screen_of, lengths_of}
+use Rattle.termwiz_surface.specs.SurfaceValue.{SurfaceValue, IsMeasured, IsSound, Draws, screen_of, kept_of}
 use Rattle.termwiz_surface.proofs.Graphemes.{single_same}
 use Rattle.termwiz_surface.proofs.Stored.{IsLawful}
 use Rattle.termwiz_surface.proofs.Drawn.{IsSound-put, rows-put, lengths-put}
@@ -72,7 +73,7 @@ module _ {W : Type 0} where
   pub record IsPrinted (f : List ℕ → ℕ) (s : SurfaceValue W) (gs : List (List ℕ)) (t : SurfaceValue W) : Type 0 where
     pub sound : IsSound f t
     pub screen : screen_of t ≡ fold (print_one f) (screen_of s) gs
-    pub lengths : lengths_of t ≡ lengths_after f (screen_of s) (lengths_of s) gs
+    pub kept : kept_of t ≡ kept_after f (screen_of s) (kept_of s) gs
 
 module _ {W : Type 0} (f : List ℕ → ℕ) (lawful : IsLawful f) where
   module _ (s : SurfaceValue W) (sound : IsSound f s) where
@@ -105,11 +106,11 @@ module _ {W : Type 0} (f : List ℕ → ℕ) (lawful : IsLawful f) where
           let shown : screen_of (one_more s b) ≡ put (screen_of s) (plain_cell b s.pen) = rw (rows-put f s (plain_cell b s.pen) sound inside) refl in
           shown ∙ sym printed
 
-      lengths_more : lengths_of (one_more s b) ≡ one_lengths f (screen_of s) (b ∷ []) (lengths_of s)
-      lengths_more =
-          let placed : one_lengths f (screen_of s) (b ∷ []) (lengths_of s) ≡ put_lengths (screen_of s) (printed_cell f s.pen (b ∷ [])) (lengths_of s) = rw (piece-plain f s.pen b plain, stays) refl in
-          lengths-put f s (plain_cell b s.pen) sound inside
-          ∙ sym (placed ∙ ap (λ (c : CellValue). put_lengths (screen_of s) c (lengths_of s)) (measured-plain f b s.pen plain narrow))
+      kept_more : kept_of (one_more s b) ≡ one_kept f (screen_of s) (b ∷ []) (kept_of s)
+      kept_more =
+          let placed : one_kept f (screen_of s) (b ∷ []) (kept_of s) ≡ put_kept (screen_of s) (printed_cell f s.pen (b ∷ [])) (kept_of s) = rw (piece-plain f s.pen b plain, stays) refl in
+          (λ i. record (kept_of s) { lengths = lengths-put f s (plain_cell b s.pen) sound inside i })
+          ∙ sym (placed ∙ ap (λ (c : CellValue). put_kept (screen_of s) c (kept_of s)) (measured-plain f b s.pen plain narrow))
 
       painted-fits : painted_in s.width s.x (plain_cell b s.pen) (row_at s.lines s.y) ≡ set_cell s.x (plain_cell b s.pen) (row_at s.lines s.y)
       painted-fits =
@@ -126,7 +127,7 @@ module _ {W : Type 0} (f : List ℕ → ℕ) (lawful : IsLawful f) where
           λ i. record s { lines = lines i; x = column i }
 
   pub IsPrinted-run : (bs : List ℕ) (s : SurfaceValue W) → IsSound f s → s.x + length bs ≤ s.width → list_all is_plain bs ≡ true → AreNarrow f bs → IsPrinted f s (pieces bs) (with_run s bs)
-  IsPrinted-run [] s sound fits plain narrow = subst (IsPrinted f s []) (sym (with_none s sound)) (record { sound = sound; screen = refl; lengths = refl })
+  IsPrinted-run [] s sound fits plain narrow = subst (IsPrinted f s []) (sym (with_none s sound)) (record { sound = sound; screen = refl; kept = refl })
   IsPrinted-run (b ∷ bs) s sound fits plain narrow =
       let is : (is_plain b ≡ true) × (list_all is_plain bs ≡ true) = and_parts (is_plain b) (list_all is_plain bs) plain in
       let inside : s.x < s.width = omega arith in
@@ -136,7 +137,7 @@ module _ {W : Type 0} (f : List ℕ → ℕ) (lawful : IsLawful f) where
       subst (IsPrinted f s (pieces (b ∷ bs))) (with_more s sound b inside is.0 one bs) (record {
         sound = more.sound;
         screen = more.screen ∙ ap (λ (z : Screen). fold (print_one f) z (pieces bs)) (screen_more s sound b inside is.0 one);
-        lengths = more.lengths ∙ ap₂ (λ (z : Screen) (ns : List ℕ). lengths_after f z ns (pieces bs)) (screen_more s sound b inside is.0 one) (lengths_more s sound b inside is.0 one);
+        kept = more.kept ∙ ap₂ (λ (z : Screen) (k : Kept). kept_after f z k (pieces bs)) (screen_more s sound b inside is.0 one) (kept_more s sound b inside is.0 one);
       })
 
 -- what a wrap keeps, and the room that it leaves
@@ -150,7 +151,7 @@ room-wrapped s n l h = elim (cases_Bool (wraps s)) [
 ]
 
 -- a wrap may come before its grapheme
-module _ (f : List ℕ → ℕ) (s : Screen) (ns : List ℕ) (g : List ℕ) (gs : List (List ℕ)) (is_text : piece_of f s.pen g ≡ Cell (printed_cell f s.pen g)) (settled : wraps (wrapped s) ≡ false) where
+module _ (f : List ℕ → ℕ) (s : Screen) (k : Kept) (g : List ℕ) (gs : List (List ℕ)) (is_text : piece_of f s.pen g ≡ Cell (printed_cell f s.pen g)) (settled : wraps (wrapped s) ≡ false) where
   wrapped-twice : wrapped (wrapped s) ≡ wrapped s
   wrapped-twice = rw settled refl
 
@@ -160,22 +161,22 @@ module _ (f : List ℕ → ℕ) (s : Screen) (ns : List ℕ) (g : List ℕ) (gs 
   print-wrapped : print_one f (wrapped s) g ≡ print_one f s g
   print-wrapped = ap (print_piece (wrapped s)) piece-wrapped ∙ ap (λ (z : Screen). put z (printed_cell f s.pen g)) wrapped-twice ∙ sym (ap (print_piece s) is_text)
 
-  lengths-wrapped : one_lengths f (wrapped s) g (wrapped_lengths s ns) ≡ one_lengths f s g ns
-  lengths-wrapped =
-      let once : wrapped_lengths (wrapped s) (wrapped_lengths s ns) ≡ wrapped_lengths s ns = rw settled refl in
-      ap (λ p. piece_lengths (wrapped s) p (wrapped_lengths s ns)) piece-wrapped
-      ∙ ap₂ (λ (z : Screen) (ms : List ℕ). put_lengths z (printed_cell f s.pen g) ms) wrapped-twice once
-      ∙ sym (ap (λ p. piece_lengths s p ns) is_text)
+  kept-wrapped : one_kept f (wrapped s) g (wrapped_kept s k) ≡ one_kept f s g k
+  kept-wrapped =
+      let once : wrapped_kept (wrapped s) (wrapped_kept s k) ≡ wrapped_kept s k = rw settled refl in
+      ap (λ p. piece_kept (wrapped s) p (wrapped_kept s k)) piece-wrapped
+      ∙ ap₂ (λ (z : Screen) (m : Kept). put_kept z (printed_cell f s.pen g) m) wrapped-twice once
+      ∙ sym (ap (λ p. piece_kept s p k) is_text)
 
   pub screen-from_wrap : fold (print_one f) (wrapped s) (g ∷ gs) ≡ fold (print_one f) s (g ∷ gs)
   screen-from_wrap = ap (λ (z : Screen). fold (print_one f) z gs) print-wrapped
 
-  pub lengths-from_wrap : lengths_after f (wrapped s) (wrapped_lengths s ns) (g ∷ gs) ≡ lengths_after f s ns (g ∷ gs)
-  lengths-from_wrap = ap₂ (λ (z : Screen) (ms : List ℕ). lengths_after f z ms gs) print-wrapped lengths-wrapped
+  pub kept-from_wrap : kept_after f (wrapped s) (wrapped_kept s k) (g ∷ gs) ≡ kept_after f s k (g ∷ gs)
+  kept-from_wrap = ap₂ (λ (z : Screen) (m : Kept). kept_after f z m gs) print-wrapped kept-wrapped
 
 -- a run that is printed after the wrap is printed
 pub prints-after_wrap : {W : Type 0} (f : List ℕ → ℕ) (old mid new : SurfaceValue W) (bs : List ℕ) → 0 < length bs → list_all is_plain bs ≡ true
-    → Draws old (wrapped (screen_of old)) (wrapped_lengths (screen_of old) (lengths_of old)) mid → mid.x < mid.width → Prints f mid (pieces bs) new → Prints f old (pieces bs) new
+    → Draws old (wrapped (screen_of old)) (wrapped_kept (screen_of old) (kept_of old)) mid → mid.x < mid.width → Prints f mid (pieces bs) new → Prints f old (pieces bs) new
 prints-after_wrap f old mid new [] some plain d inside p = absurd (omega arith)
 prints-after_wrap f old mid new (b ∷ bs) some plain d inside p =
     let is : is_plain b ≡ true = (and_parts (is_plain b) (list_all is_plain bs) plain).0 in
@@ -185,8 +186,8 @@ prints-after_wrap f old mid new (b ∷ bs) some plain d inside p =
       width = p.width ∙ d.width;
       height = p.height ∙ d.height;
       log = p.log ∙ d.log;
-      screen_is = p.screen_is ∙ ap (λ (z : Screen). fold (print_one f) z (pieces (b ∷ bs))) d.screen_is ∙ screen-from_wrap f (screen_of old) (lengths_of old) (b ∷ []) (pieces bs) (piece-plain f old.pen b is) settled;
-      lengths_are = p.lengths_are ∙ ap₂ (λ (z : Screen) (ns : List ℕ). lengths_after f z ns (pieces (b ∷ bs))) d.screen_is d.lengths_are ∙ lengths-from_wrap f (screen_of old) (lengths_of old) (b ∷ []) (pieces bs) (piece-plain f old.pen b is) settled;
+      screen_is = p.screen_is ∙ ap (λ (z : Screen). fold (print_one f) z (pieces (b ∷ bs))) d.screen_is ∙ screen-from_wrap f (screen_of old) (kept_of old) (b ∷ []) (pieces bs) (piece-plain f old.pen b is) settled;
+      kept_is = p.kept_is ∙ ap₂ (λ (z : Screen) (k : Kept). kept_after f z k (pieces (b ∷ bs))) d.screen_is d.kept_is ∙ kept-from_wrap f (screen_of old) (kept_of old) (b ∷ []) (pieces bs) (piece-plain f old.pen b is) settled;
     }
 
 -- a run of ASCII may be cut anywhere
@@ -210,9 +211,9 @@ narrow-shorter f n run rest short more e s l h = λ k d m.
 pub one_byte : (bs : List ℕ) (k : ℕ) → k < length bs → slice_range bs k (k + 1) ≡ get_or bs k 0 ∷ []
 one_byte bs k l = let one : k + 1 - k ≡ 1 = omega arith in rw (one, drop_more bs k 0 l) refl
 
-lengths_after-append : (f : List ℕ → ℕ) (s : Screen) (ns : List ℕ) (gs hs : List (List ℕ)) → lengths_after f s ns (gs ++ hs) ≡ lengths_after f (fold (print_one f) s gs) (lengths_after f s ns gs) hs
-lengths_after-append f s ns [] hs = refl
-lengths_after-append f s ns (g ∷ gs) hs = lengths_after-append f (print_one f s g) (one_lengths f s g ns) gs hs
+kept_after-append : (f : List ℕ → ℕ) (s : Screen) (k : Kept) (gs hs : List (List ℕ)) → kept_after f s k (gs ++ hs) ≡ kept_after f (fold (print_one f) s gs) (kept_after f s k gs) hs
+kept_after-append f s k [] hs = refl
+kept_after-append f s k (g ∷ gs) hs = kept_after-append f (print_one f s g) (one_kept f s g k) gs hs
 
 module _ {W : Type 0} (f : List ℕ → ℕ) (old new : SurfaceValue W) (text rest : List ℕ) (p : PrintsSome f old text rest new) where
   -- printing what is left leads where printing the whole led
@@ -221,7 +222,7 @@ module _ {W : Type 0} (f : List ℕ → ℕ) (old new : SurfaceValue W) (text re
       ap (λ (z : Screen). fold (print_one f) z (graphemes true rest)) p.prints.screen_is
       ∙ sym (ap (fold (print_one f) (screen_of old)) p.graphemes_are ∙ fold-append (print_one f) (screen_of old) p.printed (graphemes true rest))
 
-  pub lengths-left : lengths_after f (screen_of new) (lengths_of new) (graphemes true rest) ≡ lengths_after f (screen_of old) (lengths_of old) (graphemes true text)
-  lengths-left =
-      ap₂ (λ (z : Screen) (ns : List ℕ). lengths_after f z ns (graphemes true rest)) p.prints.screen_is p.prints.lengths_are
-      ∙ sym (ap (lengths_after f (screen_of old) (lengths_of old)) p.graphemes_are ∙ lengths_after-append f (screen_of old) (lengths_of old) p.printed (graphemes true rest))
+  pub kept-left : kept_after f (screen_of new) (kept_of new) (graphemes true rest) ≡ kept_after f (screen_of old) (kept_of old) (graphemes true text)
+  kept-left =
+      ap₂ (λ (z : Screen) (k : Kept). kept_after f z k (graphemes true rest)) p.prints.screen_is p.prints.kept_is
+      ∙ sym (ap (kept_after f (screen_of old) (kept_of old)) p.graphemes_are ∙ kept_after-append f (screen_of old) (kept_of old) p.printed (graphemes true rest))

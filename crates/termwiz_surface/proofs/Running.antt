@@ -1,19 +1,21 @@
 -- What a surface does is what the schedule allows, and a run goes on by one event.
 use Rattle.std.proofs.Common.{◌≡◌, ℕ, zero, suc, ◌+◌, ◌-◌, List, [], ◌∷◌, ◌++◌, length, map, refl, ap, ◌∙◌, arith, replicate}
-use Rattle.std.specs.Prelude.{Ok, Err, Vec, vec_len}
+use Rattle.std.specs.Prelude.{Ok, Err, None, Vec, vec_len}
 use Rattle.std.specs.declared.alloc.Global.{Global}
 use Rattle.termwiz_cell.specs.Attributes.{default_attributes}
 use Rattle.termwiz_cell.specs.CellValue.{blank}
 use Rattle.termwiz_cell.specs.ChangeValue.{change_value}
 use Rattle.termwiz_cell.specs.declared.change.Change.{Change}
 use Rattle.termwiz_cell.specs.declared.change.CursorVisibility.TheVariants.{Visible}
+use Rattle.termwiz_cell.specs.declared.color.ColorAttribute.TheVariants.{Default}
+use Rattle.termwiz_line.specs.LineFlags.{no_flags}
 use Rattle.termwiz_line.specs.Row.{row_of}
 use Rattle.termwiz_surface.specs.SurfaceValue.{SurfaceValue}
 use Rattle.termwiz_surface.specs.Adding.{Adds}
 use Rattle.termwiz_surface.specs.Log.{next_number}
 use Rattle.termwiz_surface.specs.Schedule.{State, Allows, Runs, Ended, Next, state_of, first_state}
 use Rattle.termwiz_surface.specs.declared.surface.SurfaceError.{SurfaceError}
-use Rattle.termwiz_surface.specs.declared.surface.SurfaceError.TheVariants.{Numbers, Memory}
+use Rattle.termwiz_surface.specs.declared.surface.SurfaceError.TheVariants.{ScrollRegion, Numbers, Memory}
 use Rattle.termwiz_surface.specs.declared.view.Event.{Event}
 use Rattle.termwiz_surface.specs.declared.view.Event.TheVariants.{Changes}
 use Rattle.termwiz_surface.specs.declared.view.Outcome.{Outcome}
@@ -33,10 +35,10 @@ Runs-push event outcome c (Next old mid new e o es os k r) h = Next old mid c e 
 
 module _ {W : Type 0} where
   -- a new surface is in the first state
-  pub state_of-blank : (widths : W) (w h : ℕ) → state_of {W = W} (record { widths = widths; width = w; height = h; lines = replicate h (replicate w blank); x = 0; y = 0; visibility = Visible; pen = default_attributes; log = record { first = 0; changes = [] } }) ≡ first_state w h
+  pub state_of-blank : (widths : W) (w h : ℕ) → state_of {W = W} (record { widths = widths; width = w; height = h; lines = replicate h (replicate w blank); flags = replicate h no_flags; x = 0; y = 0; visibility = Visible; pen = default_attributes; title = []; shape = None; color = Default; log = record { first = 0; changes = [] } }) ≡ first_state w h
   state_of-blank widths w h i = record {
     screen = record { width = w; height = h; rows = (map-replicate (row_of w) h (replicate w blank) ∙ ap (replicate h) (row_blank w)) i; x = 0; y = 0; visibility = Visible; pen = default_attributes };
-    lengths = (map-replicate length h (replicate w blank) ∙ ap (replicate h) (length-replicate w blank)) i;
+    kept = record { lengths = (map-replicate length h (replicate w blank) ∙ ap (replicate h) (length-replicate w blank)) i; flags = replicate h no_flags; title = []; shape = None; color = Default };
     log = record { first = 0; changes = [] };
   }
 
@@ -45,31 +47,35 @@ module _ {W : Type 0} where
       → Adds measure old (map change_value changes.items) (next_number old.log - 1 + vec_len changes) (Ok n) new → Allows measure (state_of old) (Changes changes) (Answered n) (state_of new)
   Allows-answered measure old new changes n h =
       let count : length (map change_value changes.items) ≡ length changes.items = length-map changes.items change_value in
-      (omega (arith, h.0), h.1 ∙ ap (λ k. next_number old.log - 1 + k) changes.ok.0, record { screen = h.2.screen_is; lengths = h.2.lengths_are; log = h.2.log })
+      (h.0, omega (arith, h.1.0), h.1.1.0 ∙ ap (λ k. next_number old.log - 1 + k) changes.ok.0, record { screen = h.1.1.1.screen_is; kept = h.1.1.1.kept_is; log = h.1.1.1.log })
 
   -- a refused list is refused as the schedule says
   pub Allows-refused : (measure : List ℕ → ℕ) (old new : SurfaceValue W) (changes : Vec Change Global) (answer : ℕ) (e : SurfaceError)
       → Adds measure old (map change_value changes.items) answer (Err e) new → Allows measure (state_of old) (Changes changes) (Refused e) (state_of new)
+  Allows-refused measure old new changes answer ScrollRegion h = (h.0, ap state_of h.1)
   Allows-refused measure old new changes answer Numbers h =
       let count : length (map change_value changes.items) ≡ length changes.items = length-map changes.items change_value in
-      (omega (arith, h.0), ap state_of h.1)
+      (h.0, omega (arith, h.1.0), ap state_of h.1.1)
   Allows-refused measure old new changes answer Memory h =
       let count : length (map change_value changes.items) ≡ length changes.items = length-map changes.items change_value in
-      let form = sound_has_size measure new h.3 in (
-        omega (arith, h.0),
-        omega (arith, h.1),
+      let frame = h.1.1.1.0 in
+      let sound = h.1.1.1.1 in
+      let form = sound_has_size measure new sound in (
+        h.0,
+        omega (arith, h.1.0),
+        omega (arith, h.1.1.0),
         record {
           size = record {
-            width = form.width ∙ h.2.width;
-            height = form.height ∙ h.2.height;
-            full = form.full ∙ h.2.height;
-            row_length = λ j l. form.row_length j (omega (arith, h.2.height)) ∙ h.2.width;
+            width = form.width ∙ frame.width;
+            height = form.height ∙ frame.height;
+            full = form.full ∙ frame.height;
+            row_length = λ j l. form.row_length j (omega (arith, frame.height)) ∙ frame.width;
           };
-          form = sound_is_printable measure new h.3;
+          form = sound_is_printable measure new sound;
           lines = new.lines;
-          stored_so = h.3.stored_so;
+          stored_so = sound.stored_so;
           rows = refl;
           lengths = refl;
-          log = h.2.log;
+          log = frame.log;
         },
       )

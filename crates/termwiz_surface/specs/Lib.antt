@@ -19,5 +19,6 @@ pub mod ScreenValue
 pub mod Padding
 pub mod Stream
 pub mod Log
+pub mod Kept
 pub mod Sides
 pub mod Regions

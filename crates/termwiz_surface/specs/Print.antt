@@ -1,4 +1,4 @@
--- Printing a text, grapheme by grapheme: what it makes of a screen, and beside it of the lengths of the stored rows.
+-- Printing a text, grapheme by grapheme: what it makes of a screen, and of what is kept beside it.
 use Rattle.std.specs.Prelude.{ℕ, ◌+◌, ◌-◌, min, max, Bool, true, ◌==◌, nat_lt, List, [], ◌∷◌, ◌++◌, fold, replicate, drop, get_or, set, if◌then◌else◌}
 use Rattle.std.specs.Str.{bytes_eq}
 use Rattle.unicode_segmentation.specs.Grapheme.{graphemes}
@@ -6,7 +6,9 @@ use Rattle.termwiz_cell.specs.Attributes.{Attributes}
 use Rattle.termwiz_cell.specs.CellValue.{CellValue, blank, columns, measured}
 use Rattle.termwiz_surface.specs.Graphemes.{single}
 use Rattle.termwiz_surface.specs.Screen.{Screen, row_at}
+use Rattle.termwiz_line.specs.LineFlags.{no_flags}
 use Rattle.termwiz_line.specs.Row.{paint}
+use Rattle.termwiz_surface.specs.Kept.{Kept}
 use Rattle.termwiz_surface.specs.declared.surface.print.Piece.{Piece}
 use Rattle.termwiz_surface.specs.declared.surface.print.Piece.TheVariants.{CarriageReturn, LineFeed, CarriageReturnLineFeed, Cell}
 
@@ -61,29 +63,29 @@ print_one measure s g = print_piece s (piece_of measure s.pen g)
 abbrev pub print : (List ℕ → ℕ) → Screen → List ℕ → Screen
 print measure s text = fold (print_one measure) s (graphemes true text)
 
--- the lengths of the stored rows beside it
-abbrev pub down_lengths : Screen → List ℕ → List ℕ
-down_lengths s ns = if has_below s then ns else drop 1 ns ++ s.width ∷ []
+-- what is kept beside it
+abbrev pub down_kept : Screen → Kept → Kept
+down_kept s k = record k { lengths = if has_below s then k.lengths else drop 1 k.lengths ++ s.width ∷ []; flags = if has_below s then k.flags else drop 1 k.flags ++ no_flags ∷ [] }
 
-abbrev pub put_lengths : Screen → CellValue → List ℕ → List ℕ
-put_lengths s c ns = set ns s.y (max (get_or ns s.y 0) (min (s.x + columns c) s.width))
+abbrev pub put_kept : Screen → CellValue → Kept → Kept
+put_kept s c k = record k { lengths = set k.lengths s.y (max (get_or k.lengths s.y 0) (min (s.x + columns c) s.width)) }
 
-abbrev pub wrapped_lengths : Screen → List ℕ → List ℕ
-wrapped_lengths s ns = if wraps s then down_lengths s ns else ns
+abbrev pub wrapped_kept : Screen → Kept → Kept
+wrapped_kept s k = if wraps s then down_kept s k else k
 
-abbrev pub piece_lengths : Screen → Piece → List ℕ → List ℕ
-piece_lengths s CarriageReturn ns = ns
-piece_lengths s LineFeed ns = down_lengths s ns
-piece_lengths s CarriageReturnLineFeed ns = down_lengths s ns
-piece_lengths s (Cell c) ns = put_lengths (wrapped s) c (wrapped_lengths s ns)
+abbrev pub piece_kept : Screen → Piece → Kept → Kept
+piece_kept s CarriageReturn k = k
+piece_kept s LineFeed k = down_kept s k
+piece_kept s CarriageReturnLineFeed k = down_kept s k
+piece_kept s (Cell c) k = put_kept (wrapped s) c (wrapped_kept s k)
 
-abbrev pub one_lengths : (List ℕ → ℕ) → Screen → List ℕ → List ℕ → List ℕ
-one_lengths measure s g ns = piece_lengths s (piece_of measure s.pen g) ns
+abbrev pub one_kept : (List ℕ → ℕ) → Screen → List ℕ → Kept → Kept
+one_kept measure s g k = piece_kept s (piece_of measure s.pen g) k
 
--- the lengths after graphemes
-abbrev pub lengths_after : (List ℕ → ℕ) → Screen → List ℕ → List (List ℕ) → List ℕ
-lengths_after measure s ns [] = ns
-lengths_after measure s ns (g ∷ gs) = lengths_after measure (print_one measure s g) (one_lengths measure s g ns) gs
+-- what is kept after graphemes
+abbrev pub kept_after : (List ℕ → ℕ) → Screen → Kept → List (List ℕ) → Kept
+kept_after measure s k [] = k
+kept_after measure s k (g ∷ gs) = kept_after measure (print_one measure s g) (one_kept measure s g k) gs
 
-abbrev pub print_lengths : (List ℕ → ℕ) → Screen → List ℕ → List ℕ → List ℕ
-print_lengths measure s text ns = lengths_after measure s ns (graphemes true text)
+abbrev pub print_kept : (List ℕ → ℕ) → Screen → List ℕ → Kept → Kept
+print_kept measure s text k = kept_after measure s k (graphemes true text)

@@ -4,10 +4,10 @@ use Rattle.std.specs.List.{All, list_all}
 use Rattle.std.specs.Str.{IsUtf8}
 use Rattle.unicode_segmentation.specs.Grapheme.{graphemes}
 use Rattle.termwiz_text.specs.Plain.{is_plain}
-use Rattle.termwiz_surface.specs.Print.{print_one, lengths_after}
+use Rattle.termwiz_surface.specs.Print.{print_one, kept_after}
 use Rattle.termwiz_surface.specs.declared.surface.print.Piece.{Piece}
 use Rattle.termwiz_surface.specs.declared.surface.print.Piece.TheVariants.{CarriageReturn, LineFeed, CarriageReturnLineFeed, Cell}
-use Rattle.termwiz_surface.specs.SurfaceValue.{SurfaceValue, IsMeasured, screen_of, lengths_of, Draws}
+use Rattle.termwiz_surface.specs.SurfaceValue.{SurfaceValue, IsMeasured, screen_of, kept_of, Draws}
 
 -- each of these characters of ASCII has one column at most
 abbrev pub AreNarrow : (List ℕ → ℕ) → List ℕ → Type 0
@@ -31,7 +31,7 @@ IsMeasuredPiece measure (Cell c) = IsMeasured measure c
 module _ {W : Type 0} where
   -- the graphemes are printed
   abbrev pub Prints : (List ℕ → ℕ) → SurfaceValue W → List (List ℕ) → SurfaceValue W → Type 0
-  Prints measure old gs new = Draws old (fold (print_one measure) (screen_of old) gs) (lengths_after measure (screen_of old) (lengths_of old) gs) new
+  Prints measure old gs new = Draws old (fold (print_one measure) (screen_of old) gs) (kept_after measure (screen_of old) (kept_of old) gs) new
 
   -- the graphemes that the text begins with are printed, and the rest is left
   pub record PrintsSome (measure : List ℕ → ℕ) (old : SurfaceValue W) (text rest : List ℕ) (new : SurfaceValue W) : Type 0 where

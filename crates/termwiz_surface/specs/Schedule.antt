@@ -1,44 +1,47 @@
 -- Which outcomes a list of events may have: a state, what each event may answer and leave, and whole runs.
-use Rattle.std.specs.Prelude.{◌≡◌, ℕ, ◌+◌, ◌-◌, ◌^◌, ◌<◌, ◌≤◌, List, [], ◌∷◌, length, map, replicate, string_bytes}
+use Rattle.std.specs.Prelude.{◌≡◌, ℕ, ◌+◌, ◌-◌, ◌^◌, ◌<◌, ◌≤◌, List, [], ◌∷◌, length, map, replicate, string_bytes, None}
 use Rattle.termwiz_cell.specs.Attributes.{default_attributes}
 use Rattle.termwiz_cell.specs.CellValue.{CellValue, blank}
 use Rattle.termwiz_cell.specs.ChangeValue.{ChangeValue, change_value}
 use Rattle.termwiz_cell.specs.declared.change.CursorVisibility.TheVariants.{Visible}
 use Rattle.termwiz_line.specs.Row.{row_of}
 use Rattle.termwiz_surface.specs.Screen.{Screen, row_at}
-use Rattle.termwiz_surface.specs.Step.{replay, replay_lengths}
+use Rattle.termwiz_surface.specs.Step.{replay, replay_kept, regions_fit}
 use Rattle.termwiz_surface.specs.Log.{LogValue, next_number, appended, restarted}
 use Rattle.termwiz_surface.specs.Stream.{IsStream}
 use Rattle.termwiz_surface.specs.Printable.{HasSize, IsPrintable}
 use Rattle.termwiz_surface.specs.ShownChars.{shown_chars}
-use Rattle.termwiz_surface.specs.SurfaceValue.{SurfaceValue, IsStored, screen_of, lengths_of}
-use Rattle.termwiz_surface.specs.declared.surface.SurfaceError.TheVariants.{Numbers, Memory}
+use Rattle.termwiz_surface.specs.SurfaceValue.{SurfaceValue, IsStored, screen_of, kept_of}
+use Rattle.termwiz_surface.specs.Kept.{Kept}
+use Rattle.termwiz_line.specs.LineFlags.{no_flags}
+use Rattle.termwiz_cell.specs.declared.color.ColorAttribute.TheVariants.{Default}
+use Rattle.termwiz_surface.specs.declared.surface.SurfaceError.TheVariants.{ScrollRegion, Numbers, Memory}
 use Rattle.termwiz_surface.specs.declared.view.Event.{Event}
 use Rattle.termwiz_surface.specs.declared.view.Event.TheVariants.{Changes, Show, Ask}
 use Rattle.termwiz_surface.specs.declared.view.Outcome.{Outcome}
 use Rattle.termwiz_surface.specs.declared.view.Outcome.TheVariants.{Answered, Refused, Shown, Asked}
 
--- a screen, how many cells are stored in each of its rows, and the log of the changes that were made
+-- a screen, what is kept beside it, and the log of the changes that were made
 pub record State : Type 0 where
   pub screen : Screen
-  pub lengths : List ℕ
+  pub kept : Kept
   pub log : LogValue
 
 abbrev pub state_of : {W : Type 0} → SurfaceValue W → State
-state_of s = record { screen = screen_of s; lengths = lengths_of s; log = s.log }
+state_of s = record { screen = screen_of s; kept = kept_of s; log = s.log }
 
 -- a blank screen of this size, before any change
 abbrev pub first_state : ℕ → ℕ → State
 first_state w h = record {
   screen = record { width = w; height = h; rows = replicate h (replicate w blank); x = 0; y = 0; visibility = Visible; pen = default_attributes };
-  lengths = replicate h w;
+  kept = record { lengths = replicate h w; flags = replicate h no_flags; title = []; shape = None; color = Default };
   log = record { first = 0; changes = [] };
 }
 
 -- the changes are done, in order
 pub record Does (measure : List ℕ → ℕ) (changes : List ChangeValue) (old new : State) : Type 0 where
   pub screen : new.screen ≡ replay measure old.screen changes
-  pub lengths : new.lengths ≡ replay_lengths measure old.screen old.lengths changes
+  pub kept : new.kept ≡ replay_kept measure old.screen old.kept changes
   pub log : new.log ≡ appended old.log changes
 
 -- what a list leaves that ran out of memory: any screen of that size and form over some stored rows, and an empty log under a new number
@@ -48,18 +51,20 @@ pub record IsBroken (measure : List ℕ → ℕ) (old new : State) : Type 0 wher
   pub lines : List (List CellValue)
   pub stored_so : (j : ℕ) → j < new.screen.height → IsStored measure new.screen.width (row_at lines j)
   pub rows : new.screen.rows ≡ map (row_of new.screen.width) lines
-  pub lengths : new.lengths ≡ map length lines
+  pub lengths : new.kept.lengths ≡ map length lines
   pub log : new.log ≡ restarted old.log
 
 -- the event may have this outcome, and go over from old to new
 abbrev pub Allows : (List ℕ → ℕ) → State → Event → Outcome → State → Type 0
 Allows measure old (Changes changes) (Answered n) new =
-    (next_number old.log + length changes.items < 2 ^ 64) × (n ≡ next_number old.log - 1 + length changes.items) × Does measure (map change_value changes.items) old new
-Allows measure old (Changes changes) (Refused Numbers) new = (2 ^ 64 ≤ next_number old.log + length changes.items) × (new ≡ old)
+    (regions_fit old.screen.height (map change_value changes.items) ≡ true) × (next_number old.log + length changes.items < 2 ^ 64) × (n ≡ next_number old.log - 1 + length changes.items) × Does measure (map change_value changes.items) old new
+Allows measure old (Changes changes) (Refused ScrollRegion) new = (regions_fit old.screen.height (map change_value changes.items) ≡ false) × (new ≡ old)
+Allows measure old (Changes changes) (Refused Numbers) new =
+    (regions_fit old.screen.height (map change_value changes.items) ≡ true) × (2 ^ 64 ≤ next_number old.log + length changes.items) × (new ≡ old)
 Allows measure old (Changes changes) (Refused Memory) new =
-    (next_number old.log + length changes.items < 2 ^ 64) × (0 < length changes.items) × IsBroken measure old new
+    (regions_fit old.screen.height (map change_value changes.items) ≡ true) × (next_number old.log + length changes.items < 2 ^ 64) × (0 < length changes.items) × IsBroken measure old new
 Allows measure old Show (Shown text cursor) new =
-    (string_bytes text ≡ shown_chars old.screen.rows old.lengths) × (cursor ≡ (old.screen.x, old.screen.y)) × (new ≡ old)
+    (string_bytes text ≡ shown_chars old.screen.rows old.kept.lengths) × (cursor ≡ (old.screen.x, old.screen.y)) × (new ≡ old)
 Allows measure old Show (Refused Memory) new = new ≡ old
 Allows measure old (Ask n) (Asked k changes) new =
     (k ≡ next_number old.log) × IsStream measure old.screen old.log n (map change_value changes.items) × (new ≡ old)

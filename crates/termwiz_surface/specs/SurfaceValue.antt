@@ -1,11 +1,15 @@
 -- What contracts see of a surface, and the form that it keeps.
-use Rattle.std.specs.Prelude.{◌≡◌, ℕ, suc, ◌<◌, ◌≤◌, ◌^◌, true, nat_lt, List, [], ◌∷◌, map, length}
+use Rattle.std.specs.Prelude.{◌≡◌, ℕ, suc, ◌<◌, ◌≤◌, ◌^◌, true, nat_lt, Option, List, [], ◌∷◌, map, length}
 use Rattle.unicode_segmentation.specs.Grapheme.{graphemes}
 use Rattle.termwiz_cell.specs.Attributes.{Attributes}
 use Rattle.termwiz_cell.specs.CellValue.{CellValue, half, is_wide, clean}
 use Rattle.termwiz_cell.specs.declared.change.CursorVisibility.{CursorVisibility}
 use Rattle.termwiz_storage.specs.Stored.{stored}
 use Rattle.termwiz_line.specs.Row.{row_of}
+use Rattle.termwiz_cell.specs.declared.color.ColorAttribute.{ColorAttribute}
+use Rattle.termwiz_cell.specs.declared.change.CursorShape.{CursorShape}
+use Rattle.termwiz_line.specs.LineFlags.{LineFlags}
+use Rattle.termwiz_surface.specs.Kept.{Kept}
 use Rattle.termwiz_surface.specs.Log.{LogValue, next_number}
 use Rattle.termwiz_surface.specs.Screen.{Screen, row_at}
 
@@ -13,12 +17,17 @@ pub record SurfaceValue (W : Type 0) : Type 0 where
   pub widths : W
   pub width : ℕ
   pub height : ℕ
-  -- the stored cells of each row
+  -- the stored cells of each row, and its flags
   pub lines : List (List CellValue)
+  pub flags : List LineFlags
   pub x : ℕ
   pub y : ℕ
   pub visibility : CursorVisibility
   pub pen : Attributes
+  pub title : List ℕ
+  -- the cursor's shape, where one was set, and its colour
+  pub shape : Option CursorShape
+  pub color : ColorAttribute
   pub log : LogValue
 
 module _ {W : Type 0} where
@@ -28,6 +37,9 @@ module _ {W : Type 0} where
   -- how many cells are stored in each row
   abbrev pub lengths_of : SurfaceValue W → List ℕ
   lengths_of s = map length s.lines
+
+  abbrev pub kept_of : SurfaceValue W → Kept
+  kept_of s = record { lengths = lengths_of s; flags = s.flags; title = s.title; shape = s.shape; color = s.color }
 
 -- the cell's text is one clean grapheme, and its width is measured
 pub record IsMeasured (measure : List ℕ → ℕ) (c : CellValue) : Type 0 where
@@ -57,18 +69,18 @@ pub record IsSound {W : Type 0} (measure : List ℕ → ℕ) (s : SurfaceValue W
   pub number_fits : next_number s.log < 2 ^ 64
 
 module _ {W : Type 0} where
-  -- the same but for the rows, the cursor, its visibility and the pen
+  -- the same size and log
   pub record SameFrame (old new : SurfaceValue W) : Type 0 where
     pub widths : new.widths ≡ old.widths
     pub width : new.width ≡ old.width
     pub height : new.height ≡ old.height
     pub log : new.log ≡ old.log
 
-  -- the surface has this screen and these lengths now, and its old log
-  pub record Draws (old : SurfaceValue W) (screen : Screen) (lengths : List ℕ) (new : SurfaceValue W) : Type 0 where
+  -- the surface has this screen now, keeps this beside it, and has its old log
+  pub record Draws (old : SurfaceValue W) (screen : Screen) (kept : Kept) (new : SurfaceValue W) : Type 0 where
     pub widths : new.widths ≡ old.widths
     pub width : new.width ≡ old.width
     pub height : new.height ≡ old.height
     pub log : new.log ≡ old.log
     pub screen_is : screen_of new ≡ screen
-    pub lengths_are : lengths_of new ≡ lengths
+    pub kept_is : kept_of new ≡ kept

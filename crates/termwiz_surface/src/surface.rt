@@ -1,14 +1,18 @@
 //! Surfaces.
-ghost use Rattle.std.specs.Prelude.{◌≡◌, true, ◌+◌, ◌-◌, ◌*◌, ◌<◌, ◌≤◌, ◌^◌, List, [], ◌∷◌, length, map, vec_len, replicate, string_bytes, false, not, ◌==◌, IsOk, IsOkAnd, IfOk, IfErr, OnOk, OnErr};
+ghost use Rattle.std.specs.Prelude.{◌≡◌, true, ◌+◌, ◌-◌, ◌*◌, ◌<◌, ◌≤◌, ◌^◌, List, [], ◌∷◌, length, map, vec_len, replicate, string_bytes, slice_set, get_or, None, false, not, ◌==◌, IsOk, IsOkAnd, IfOk, OnOk, OnErr};
 ghost use Rattle.termwiz_cell.specs.Attributes.{default_attributes, with_background};
 ghost use Rattle.termwiz_cell.specs.CellValue.{blank};
 ghost use Rattle.termwiz_cell.specs.Width.{unversioned};
 ghost use Rattle.termwiz_cell.specs.declared.change.CursorVisibility.TheVariants.{Visible};
-ghost use Rattle.termwiz_surface.specs.Print.{down, put, wrapped, print_one, one_lengths, print, columns_left, down_lengths, put_lengths, wrapped_lengths, print_lengths};
+ghost use Rattle.termwiz_surface.specs.Print.{down, put, wrapped, print_one, one_kept, print, columns_left, down_kept, put_kept, wrapped_kept, print_kept};
 ghost use Rattle.termwiz_surface.specs.Printing.{AreNarrow, IsNarrowRun, Prints, PrintsSome};
 ghost use Rattle.termwiz_surface.specs.Clear.{clear_eol, clear_eos, clear_screen, eol_lengths, eos_lengths, screen_lengths};
 ghost use Rattle.termwiz_surface.specs.Place.{placed};
-ghost use Rattle.termwiz_surface.specs.Step.{step, step_lengths, replay, replay_lengths};
+ghost use Rattle.termwiz_surface.specs.Step.{step, step_kept, replay, replay_kept, region_fits, regions_fit};
+ghost use Rattle.termwiz_surface.specs.Regions.{region_up, region_down};
+ghost use Rattle.termwiz_surface.specs.Kept.{with_line_attribute};
+ghost use Rattle.termwiz_line.specs.LineFlags.{no_flags};
+ghost use Rattle.termwiz_cell.specs.declared.color.ColorAttribute.TheVariants.{Default};
 ghost use Rattle.termwiz_cell.specs.AttributeChangeValue.{attribute_change_value, with_attribute};
 ghost use Rattle.termwiz_cell.specs.ChangeValue.{change_value};
 ghost use Rattle.std.specs.List.{All, list_all};
@@ -18,9 +22,8 @@ ghost use Rattle.unicode_segmentation.specs.Grapheme.{graphemes};
 ghost use Rattle.termwiz_surface.specs.ShownChars.{shown_chars};
 ghost use Rattle.termwiz_surface.specs.ScreenValue.{screen_value};
 ghost use Rattle.termwiz_surface.specs.SurfaceValue.{IsMeasured, IsSound};
-ghost use Rattle.termwiz_surface.specs.Adding.{Adds, Makes, with_log};
+ghost use Rattle.termwiz_surface.specs.Adding.{Adds, Makes, Refuses, with_log};
 ghost use Rattle.termwiz_surface.specs.Log.{due, flushed, is_known, next_number, worth};
-ghost use Rattle.termwiz_surface.specs.declared.surface.SurfaceError.TheVariants.{Numbers};
 ghost use Rattle.std.specs.Cow.{IsOwnedSlice};
 ghost use Rattle.termwiz_surface.specs.Stream.{Lends, stream_of};
 ghost use Rattle.termwiz_surface.specs.Printable.{HasSize};
@@ -31,6 +34,7 @@ mod log;
 mod pen;
 mod place;
 mod print;
+mod region;
 mod repaint;
 mod rows;
 mod screen;
@@ -40,9 +44,11 @@ use pen::{background_only, blank_with};
 use log::{Log, worth};
 use place::{column_at, row_at};
 use print::{Piece, begins_plain, printed_piece, split_narrow_run};
+use region::regions_fit;
 use repaint::{all_rows, framed};
 use rows::{
-    blank_rows, chars_of, fill_row, fill_rows, paint_row, paint_run, resized_lines, scroll_rows,
+    blank_rows, chars_of, fill_row, fill_rows, paint_row, paint_run, resized_lines,
+    scroll_region_down, scroll_region_up, scroll_rows, set_line_attribute,
 };
 pub use screen::Screen;
 use std::alloc::{AllocError, Global};
@@ -51,16 +57,21 @@ use std::collections::VecDeque;
 use std::marker::Model;
 use std::slice;
 use termwiz_cell::cell::{AttributeChange, Cell, CellAttributes};
-use termwiz_cell::change::{Change, CursorVisibility, Position, SequenceNo};
+use termwiz_cell::change::{
+    Change, CursorShape, CursorVisibility, LineAttribute, Position, SequenceNo,
+};
 use termwiz_cell::color::ColorAttribute;
 use termwiz_cell::emoji::Widths;
 use termwiz_line::line::line::Line;
 use termwiz_text::split_first_grapheme;
 use thiserror::Error;
 
-/// Why a list of changes is refused. The errors have numbers, and 1 is kept for the refusal of a scroll region.
+/// Why a list of changes is refused. The errors have numbers, and are told in this order.
 #[derive(Debug, Drop, Clone, Copy, PartialEq, Eq, Error)]
 pub enum SurfaceError {
+    /// Error 1: the region of a scroll goes past the last row. Nothing has changed.
+    #[error("a scroll region goes past the last row")]
+    ScrollRegion,
     /// Error 2: the number of changes would pass the greatest `usize`. Nothing has changed.
     #[error("the numbers of changes are used up")]
     Numbers,
@@ -100,23 +111,28 @@ pub struct Surface<W: Widths> {
     y: usize,
     visibility: CursorVisibility,
     pen: CellAttributes,
+    title: String,
+    shape: Option<CursorShape>,
+    color: ColorAttribute,
     log: Log,
 }
 
 impl<W: Widths> Model for Surface<W> {
     ghost use Rattle.termwiz_cell.specs.Width.{unversioned};
+    ghost use Rattle.std.specs.Prelude.{string_bytes};
     ghost use Rattle.termwiz_surface.specs.ScreenValue.{cells_of};
+    ghost use Rattle.termwiz_surface.specs.Sides.{row_flags};
     ghost use Rattle.termwiz_surface.specs.SurfaceValue.{SurfaceValue, IsSound};
 
     ghost Value = { SurfaceValue W };
 
-    ghost view = { λ s. record { widths = s.widths; width = s.width; height = s.height; lines = cells_of s.rows.items; x = s.x; y = s.y; visibility = s.visibility; pen = s.pen; log = s.log } };
+    ghost view = { λ s. record { widths = s.widths; width = s.width; height = s.height; lines = cells_of s.rows.items; flags = row_flags s.rows.items; x = s.x; y = s.y; visibility = s.visibility; pen = s.pen; title = string_bytes s.title; shape = s.shape; color = s.color; log = s.log } };
 
-    ghost invariant = { λ s. IsSound (unversioned (W.width_of s.widths)) (record { widths = s.widths; width = s.width; height = s.height; lines = cells_of s.rows.items; x = s.x; y = s.y; visibility = s.visibility; pen = s.pen; log = s.log }) };
+    ghost invariant = { λ s. IsSound (unversioned (W.width_of s.widths)) (record { widths = s.widths; width = s.width; height = s.height; lines = cells_of s.rows.items; flags = row_flags s.rows.items; x = s.x; y = s.y; visibility = s.visibility; pen = s.pen; title = string_bytes s.title; shape = s.shape; color = s.color; log = s.log }) };
 }
 
 impl<W: Widths> Surface<W> {
-    ghost use Rattle.termwiz_surface.specs.SurfaceValue.{SurfaceValue, IsSound, screen_of, lengths_of, SameFrame, Draws};
+    ghost use Rattle.termwiz_surface.specs.SurfaceValue.{SurfaceValue, IsSound, screen_of, lengths_of, kept_of, SameFrame, Draws};
 
     /// A surface of default blanks, with the cursor home and shown, default attributes as pen and the number 0.
     pub fn new(
@@ -129,7 +145,7 @@ impl<W: Widths> Surface<W> {
         requires some_row { 0 < height }
         requires fits { width < 2 ^ 32 }
         requires fits_height { height < 2 ^ 32 }
-        ensures { IfOk result (λ s. s ≡ record { widths = widths; width = width; height = height; lines = replicate height (replicate width blank); x = 0; y = 0; visibility = Visible; pen = default_attributes; log = record { first = 0; changes = [] } }) }
+        ensures { IfOk result (λ s. s ≡ record { widths = widths; width = width; height = height; lines = replicate height (replicate width blank); flags = replicate height no_flags; x = 0; y = 0; visibility = Visible; pen = default_attributes; title = []; shape = None; color = Default; log = record { first = 0; changes = [] } }) }
     {
         let rows = blank_rows(alloc, width, height)?;
         Ok(Surface {
@@ -142,6 +158,9 @@ impl<W: Widths> Surface<W> {
             y: 0,
             visibility: CursorVisibility::Visible,
             pen: CellAttributes::blank(),
+            title: String::new(alloc),
+            shape: None,
+            color: ColorAttribute::Default,
             log: Log::new(alloc),
         })
     }
@@ -171,6 +190,20 @@ impl<W: Widths> Surface<W> {
         ensures { result ≡ self.now.visibility }
     {
         self.visibility
+    }
+
+    /// The title, which is empty at first.
+    pub fn title(&self) -> &str
+        ensures { result.now ≡ self.now.title }
+    {
+        self.title.as_str()
+    }
+
+    /// The cursor's shape, where one was set.
+    pub fn cursor_shape(&self) -> Option<CursorShape>
+        ensures { result ≡ self.now.shape }
+    {
+        self.shape
     }
 
     /// The number of the coming change: how many changes were made.
@@ -206,7 +239,7 @@ impl<W: Widths> Surface<W> {
     }
 
     fn line_feed(&mut self) -> Result<(), AllocError>
-        ensures ok { OnOk result (Draws self.old (down (screen_of self.old)) (down_lengths (screen_of self.old) (lengths_of self.old)) self.new) }
+        ensures ok { OnOk result (Draws self.old (down (screen_of self.old)) (down_kept (screen_of self.old) (kept_of self.old)) self.new) }
         ensures err { OnErr result (self.new ≡ self.old) }
     {
         if self.y + 1 < self.height {
@@ -221,7 +254,7 @@ impl<W: Widths> Surface<W> {
     fn put(&mut self, cell: Cell) -> Result<(), AllocError>
         requires inside { self.old.x < self.old.width }
         requires measured { IsMeasured (unversioned (W.width_of self.old.widths)) cell }
-        ensures ok { OnOk result (let s = screen_of self.old in Draws self.old (put s cell) (put_lengths s cell (lengths_of self.old)) self.new) }
+        ensures ok { OnOk result (let s = screen_of self.old in Draws self.old (put s cell) (put_kept s cell (kept_of self.old)) self.new) }
         ensures err { OnErr result (self.new ≡ self.old) }
     {
         let end = self.x + cell.width();
@@ -232,7 +265,7 @@ impl<W: Widths> Surface<W> {
 
     // Goes to the next row, where a wrap is pending.
     fn wrap(&mut self) -> Result<(), AllocError>
-        ensures ok { OnOk result (Draws self.old (wrapped (screen_of self.old)) (wrapped_lengths (screen_of self.old) (lengths_of self.old)) self.new) }
+        ensures ok { OnOk result (Draws self.old (wrapped (screen_of self.old)) (wrapped_kept (screen_of self.old) (kept_of self.old)) self.new) }
         ensures inside { OnOk result (self.new.x < self.new.width) }
         ensures err { OnErr result (self.new ≡ self.old) }
     {
@@ -245,7 +278,7 @@ impl<W: Widths> Surface<W> {
 
     fn print_one(&mut self, grapheme: &str) -> Result<(), AllocError>
         requires { graphemes true grapheme.now ≡ grapheme.now ∷ [] }
-        ensures ok { OnOk result (let f = unversioned (W.width_of self.old.widths) in let s = screen_of self.old in Draws self.old (print_one f s grapheme.now) (one_lengths f s grapheme.now (lengths_of self.old)) self.new) }
+        ensures ok { OnOk result (let f = unversioned (W.width_of self.old.widths) in let s = screen_of self.old in Draws self.old (print_one f s grapheme.now) (one_kept f s grapheme.now (kept_of self.old)) self.new) }
         ensures err { OnErr result (SameFrame self.old self.new) }
     {
         match printed_piece(self.alloc, &self.widths, grapheme, &self.pen)? {
@@ -327,7 +360,7 @@ impl<W: Widths> Surface<W> {
     }
 
     fn print_text(&mut self, text: &str) -> Result<(), AllocError>
-        ensures ok { OnOk result (let f = unversioned (W.width_of self.old.widths) in let s = screen_of self.old in Draws self.old (print f s text.now) (print_lengths f s text.now (lengths_of self.old)) self.new) }
+        ensures ok { OnOk result (let f = unversioned (W.width_of self.old.widths) in let s = screen_of self.old in Draws self.old (print f s text.now) (print_kept f s text.now (kept_of self.old)) self.new) }
         ensures err { OnErr result (SameFrame self.old self.new) }
     {
         let mut rest = text;
@@ -340,7 +373,7 @@ impl<W: Widths> Surface<W> {
     // Clears from the cursor to the end of its row, with a pen of this background from then on. The clears stand apart, so that the way of a text is short.
     #[inline(never)]
     fn clear_to_end_of_line(&mut self, color: &ColorAttribute) -> Result<(), AllocError>
-        ensures ok { OnOk result (let s = screen_of self.old in Draws self.old (clear_eol s (with_background color.now)) (eol_lengths s (with_background color.now) (lengths_of self.old)) self.new) }
+        ensures ok { OnOk result (let s = screen_of self.old in Draws self.old (clear_eol s (with_background color.now)) (record (kept_of self.old) { lengths = eol_lengths s (with_background color.now) (lengths_of self.old) }) self.new) }
         ensures err { OnErr result (SameFrame self.old self.new) }
     {
         let pen = background_only(self.alloc, *color)?;
@@ -353,7 +386,7 @@ impl<W: Widths> Surface<W> {
     // Clears from the cursor to the end of the screen.
     #[inline(never)]
     fn clear_to_end_of_screen(&mut self, color: &ColorAttribute) -> Result<(), AllocError>
-        ensures ok { OnOk result (let s = screen_of self.old in Draws self.old (clear_eos s (with_background color.now)) (eos_lengths s (with_background color.now) (lengths_of self.old)) self.new) }
+        ensures ok { OnOk result (let s = screen_of self.old in Draws self.old (clear_eos s (with_background color.now)) (record (kept_of self.old) { lengths = eos_lengths s (with_background color.now) (lengths_of self.old) }) self.new) }
         ensures err { OnErr result (SameFrame self.old self.new) }
     {
         let pen = background_only(self.alloc, *color)?;
@@ -366,7 +399,7 @@ impl<W: Widths> Surface<W> {
     // Clears all rows, and takes the cursor home.
     #[inline(never)]
     fn clear_screen(&mut self, color: &ColorAttribute) -> Result<(), AllocError>
-        ensures ok { OnOk result (let s = screen_of self.old in Draws self.old (clear_screen s (with_background color.now)) (screen_lengths s (with_background color.now) (lengths_of self.old)) self.new) }
+        ensures ok { OnOk result (let s = screen_of self.old in Draws self.old (clear_screen s (with_background color.now)) (record (kept_of self.old) { lengths = screen_lengths s (with_background color.now) (lengths_of self.old) }) self.new) }
         ensures err { OnErr result (SameFrame self.old self.new) }
     {
         let pen = background_only(self.alloc, *color)?;
@@ -380,7 +413,7 @@ impl<W: Widths> Surface<W> {
 
     #[inline(never)]
     fn change_pen(&mut self, change: &AttributeChange) -> Result<(), AllocError>
-        ensures ok { OnOk result (Draws self.old (record (screen_of self.old) { pen = with_attribute self.old.pen (attribute_change_value change.now) }) (lengths_of self.old) self.new) }
+        ensures ok { OnOk result (Draws self.old (record (screen_of self.old) { pen = with_attribute self.old.pen (attribute_change_value change.now) }) (kept_of self.old) self.new) }
         ensures err { OnErr result (self.new ≡ self.old) }
     {
         self.pen.apply_change(self.alloc, change)?;
@@ -388,14 +421,51 @@ impl<W: Widths> Surface<W> {
     }
 
     fn place_cursor(&mut self, x: Position, y: Position)
-        ensures { Draws self.old (placed (screen_of self.old) x y) (lengths_of self.old) self.new }
+        ensures { Draws self.old (placed (screen_of self.old) x y) (kept_of self.old) self.new }
     {
         self.x = column_at(x, self.x, self.width);
         self.y = row_at(y, self.y, self.height);
     }
 
+    // Scrolls rows up inside a region. The cursor stays.
+    fn scroll_region_up(&mut self, first: usize, size: usize, count: usize) -> Result<(), AllocError>
+        requires { first + size ≤ self.old.height }
+        ensures ok { OnOk result (let s = screen_of self.old in let k = kept_of self.old in Draws self.old (record s { rows = region_up (replicate s.width blank) s.rows first size count }) (record k { lengths = region_up s.width k.lengths first size count; flags = region_up no_flags k.flags first size count }) self.new) }
+        ensures err { OnErr result (SameFrame self.old self.new) }
+    {
+        scroll_region_up(&mut self.rows, self.width, first, size, count)?;
+        Ok(())
+    }
+
+    // Scrolls rows down inside a region. The cursor stays.
+    fn scroll_region_down(&mut self, first: usize, size: usize, count: usize) -> Result<(), AllocError>
+        requires { first + size ≤ self.old.height }
+        ensures ok { OnOk result (let s = screen_of self.old in let k = kept_of self.old in Draws self.old (record s { rows = region_down (replicate s.width blank) s.rows first size count }) (record k { lengths = region_down s.width k.lengths first size count; flags = region_down no_flags k.flags first size count }) self.new) }
+        ensures err { OnErr result (SameFrame self.old self.new) }
+    {
+        scroll_region_down(&mut self.rows, self.width, first, size, count)?;
+        Ok(())
+    }
+
+    // Says how the cursor's row is shown.
+    fn set_line_attribute(&mut self, attribute: LineAttribute)
+        ensures { let k = kept_of self.old in Draws self.old (screen_of self.old) (record k { flags = slice_set k.flags self.old.y (with_line_attribute attribute (get_or k.flags self.old.y no_flags)) }) self.new }
+    {
+        set_line_attribute(&mut self.rows, self.y, attribute);
+    }
+
+    #[inline(never)]
+    fn set_title(&mut self, title: &str) -> Result<(), AllocError>
+        ensures ok { OnOk result (Draws self.old (screen_of self.old) (record (kept_of self.old) { title = title.now }) self.new) }
+        ensures err { OnErr result (self.new ≡ self.old) }
+    {
+        self.title = String::from_str(self.alloc, title)?;
+        Ok(())
+    }
+
     fn apply(&mut self, change: &Change) -> Result<(), AllocError>
-        ensures ok { OnOk result (let f = unversioned (W.width_of self.old.widths) in let s = screen_of self.old in Draws self.old (step f s (change_value change.now)) (step_lengths f s (lengths_of self.old) (change_value change.now)) self.new) }
+        requires { region_fits self.old.height (change_value change.now) ≡ true }
+        ensures ok { OnOk result (let f = unversioned (W.width_of self.old.widths) in let s = screen_of self.old in Draws self.old (step f s (change_value change.now)) (step_kept f s (kept_of self.old) (change_value change.now)) self.new) }
         ensures err { OnErr result (SameFrame self.old self.new) }
     {
         match change {
@@ -406,13 +476,28 @@ impl<W: Widths> Surface<W> {
             Change::ClearToEndOfLine(color) => self.clear_to_end_of_line(color)?,
             Change::ClearToEndOfScreen(color) => self.clear_to_end_of_screen(color)?,
             Change::CursorPosition { x, y } => self.place_cursor(*x, *y),
+            Change::CursorColor(color) => self.color = *color,
+            Change::CursorShape(shape) => self.shape = Some(*shape),
             Change::CursorVisibility(visibility) => self.visibility = *visibility,
+            Change::ScrollRegionUp {
+                first_row,
+                region_size,
+                scroll_count,
+            } => self.scroll_region_up(*first_row, *region_size, *scroll_count)?,
+            Change::ScrollRegionDown {
+                first_row,
+                region_size,
+                scroll_count,
+            } => self.scroll_region_down(*first_row, *region_size, *scroll_count)?,
+            Change::Title(title) => self.set_title(title.as_str())?,
+            Change::LineAttribute(attribute) => self.set_line_attribute(*attribute),
         }
         Ok(())
     }
 
     fn apply_all(&mut self, changes: &[Change]) -> Result<(), AllocError>
-        ensures ok { OnOk result (let f = unversioned (W.width_of self.old.widths) in let s = screen_of self.old in Draws self.old (replay f s (map change_value changes.now)) (replay_lengths f s (lengths_of self.old) (map change_value changes.now)) self.new) }
+        requires { regions_fit self.old.height (map change_value changes.now) ≡ true }
+        ensures ok { OnOk result (let f = unversioned (W.width_of self.old.widths) in let s = screen_of self.old in Draws self.old (replay f s (map change_value changes.now)) (replay_kept f s (kept_of self.old) (map change_value changes.now)) self.new) }
         ensures err { OnErr result (SameFrame self.old self.new) }
         ensures empty { OnErr result (0 < length changes.now) }
     {
@@ -424,9 +509,11 @@ impl<W: Widths> Surface<W> {
 
     // Tells why a list of changes is refused before any is made.
     fn refuse(&self, changes: &[Change]) -> Result<(), SurfaceError>
-        ensures ok { OnOk result (next_number self.now.log + length changes.now < 2 ^ 64) }
-        ensures numbers { IfErr result (λ error. (error ≡ Numbers) × (2 ^ 64 ≤ next_number self.now.log + length changes.now)) }
+        ensures { Refuses self.now (map change_value changes.now) result }
     {
+        if !regions_fit(changes, self.height) {
+            return Err(SurfaceError::ScrollRegion);
+        }
         if !self.log.has_numbers(changes.len()) {
             return Err(SurfaceError::Numbers);
         }
@@ -435,7 +522,8 @@ impl<W: Widths> Surface<W> {
 
     // Makes a change and logs it.
     fn make_one(&mut self, change: Change) -> Result<(), AllocError>
-        requires { next_number self.old.log + 1 < 2 ^ 64 }
+        requires fits { region_fits self.old.height (change_value change) ≡ true }
+        requires numbers { next_number self.old.log + 1 < 2 ^ 64 }
         ensures ok { OnOk result (Makes (unversioned (W.width_of self.old.widths)) self.old (change_value change ∷ []) self.new) }
         ensures err { OnErr result (SameFrame self.old self.new) }
     {
@@ -447,7 +535,8 @@ impl<W: Widths> Surface<W> {
 
     // Makes the changes and logs them.
     fn make_all(&mut self, changes: Vec<Change>) -> Result<(), AllocError>
-        requires { next_number self.old.log + vec_len changes < 2 ^ 64 }
+        requires fits { regions_fit self.old.height (map change_value changes.items) ≡ true }
+        requires numbers { next_number self.old.log + vec_len changes < 2 ^ 64 }
         ensures ok { OnOk result (Makes (unversioned (W.width_of self.old.widths)) self.old (map change_value changes.items) self.new) }
         ensures err { OnErr result (SameFrame self.old self.new) }
         ensures some { OnErr result (0 < vec_len changes) }
@@ -459,7 +548,7 @@ impl<W: Widths> Surface<W> {
     }
 
     /// Makes one change. The answer is the number before it.
-    /// `Numbers`: nothing has changed. `Memory`: the size and the form of the rows stay, the cursor is inside, and the log is empty under a number that is greater by one, or 0 where it was 0.
+    /// `ScrollRegion`, `Numbers`: nothing has changed. `Memory`: the size and the form of the rows stay, the cursor is inside, and the log is empty under a number that is greater by one, or 0 where it was 0.
     pub fn add_change(&mut self, change: Change) -> Result<SequenceNo, SurfaceError>
         ensures { Adds (unversioned (W.width_of self.old.widths)) self.old (change_value change ∷ []) (next_number self.old.log) result self.new }
     {
@@ -473,7 +562,7 @@ impl<W: Widths> Surface<W> {
     }
 
     /// Makes the changes in order. The answer is the number before them less one, or 0 where it is 0, and how many they are.
-    /// `Numbers`: nothing has changed. `Memory`: some were made and the last perhaps in part; the size and the form of the rows stay, the cursor is inside, and the log is empty under a number that is greater by one, or 0 where it was 0.
+    /// `ScrollRegion`, `Numbers`: nothing has changed. `Memory`: some were made and the last perhaps in part; the size and the form of the rows stay, the cursor is inside, and the log is empty under a number that is greater by one, or 0 where it was 0.
     pub fn add_changes(&mut self, changes: Vec<Change>) -> Result<SequenceNo, SurfaceError>
         ensures adds { Adds (unversioned (W.width_of self.old.widths)) self.old (map change_value changes.items) (next_number self.old.log - 1 + vec_len changes) result self.new }
         ensures empty { vec_len changes ≡ 0 → IsOk result }

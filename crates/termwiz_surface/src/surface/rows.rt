@@ -1,5 +1,5 @@
 //! The rows of a surface: lines whose numbers nothing reads.
-ghost use Rattle.std.specs.Prelude.{◌≡◌, ◌+◌, ℕ, true, false, [], ◌∷◌, length, drop, ◌-◌, ◌<◌, ◌≤◌, slice_set, replicate, take, map, string_bytes, ◌++◌, IfOk, OnOk, OnErr};
+ghost use Rattle.std.specs.Prelude.{◌≡◌, ◌+◌, ℕ, true, false, [], ◌∷◌, length, drop, ◌-◌, ◌<◌, ◌≤◌, slice_set, get_or, replicate, take, map, string_bytes, ◌++◌, IfOk, OnOk, OnErr};
 ghost use Rattle.std.specs.VecDeque.{deque_len};
 ghost use Rattle.termwiz_cell.specs.CellValue.{blank};
 ghost use Rattle.std.specs.List.{list_all};
@@ -9,16 +9,18 @@ ghost use Rattle.termwiz_cell.specs.Attributes.{needs_box};
 ghost use Rattle.termwiz_storage.specs.Stored.{fill, set_run, IsPruned};
 ghost use Rattle.termwiz_storage.specs.Halves.{resized};
 ghost use Rattle.termwiz_surface.specs.Chars.{row_chars, screen_chars};
+ghost use Rattle.termwiz_surface.specs.Kept.{with_line_attribute};
 ghost use Rattle.termwiz_surface.specs.ScreenValue.{cells_of, numberless};
 ghost use Rattle.termwiz_surface.specs.Screen.{row_at};
 ghost use Rattle.termwiz_surface.specs.Print.{scrolled};
 ghost use Rattle.termwiz_surface.specs.Rows.{painted_in, AreFilled, IsPartly, ArePartly};
+ghost use Rattle.termwiz_surface.specs.Regions.{region_up, region_down};
 ghost use Rattle.termwiz_surface.specs.Sides.{row_flags, AreVectors, KeepsSide, KeepSides};
 
 use std::alloc::{AllocError, Global};
 use std::collections::VecDeque;
 use termwiz_cell::cell::{Cell, CellAttributes};
-use termwiz_cell::change::SEQ_ZERO;
+use termwiz_cell::change::{LineAttribute, SEQ_ZERO};
 use termwiz_line::line::line::Line;
 
 fn fill_line(line: &mut Line, from: usize, to: usize, cell: &Cell) -> Result<(), AllocError>
@@ -173,5 +175,57 @@ pub(super) fn fill_rows(
     for j in y + 1..rows.len() {
         fill_line(&mut rows[j], 0, width, cell)?;
     }
+    Ok(())
+}
+
+/// Says how a row is shown.
+pub(super) fn set_line_attribute(rows: &mut VecDeque<Line>, y: usize, attribute: LineAttribute)
+    requires { y < deque_len rows.old }
+    ensures cells { cells_of rows.new.items ≡ cells_of rows.old.items }
+    ensures flags { row_flags rows.new.items ≡ slice_set (row_flags rows.old.items) y (with_line_attribute attribute (get_or (row_flags rows.old.items) y no_flags)) }
+    ensures vectors { AreVectors rows.old.items → AreVectors rows.new.items }
+{
+    show_line(&mut rows[y], attribute);
+}
+
+fn show_line(line: &mut Line, attribute: LineAttribute)
+    ensures cells { line.new.cells ≡ line.old.cells }
+    ensures flags { line.new.flags ≡ with_line_attribute attribute line.old.flags }
+    ensures vector { line.new.is_vector ≡ line.old.is_vector }
+{
+    match attribute {
+        LineAttribute::DoubleHeightTopHalfLine => line.set_double_height_top(SEQ_ZERO),
+        LineAttribute::DoubleHeightBottomHalfLine => line.set_double_height_bottom(SEQ_ZERO),
+        LineAttribute::DoubleWidthLine => line.set_double_width(SEQ_ZERO),
+        LineAttribute::SingleWidthLine => line.set_single_width(SEQ_ZERO),
+    }
+}
+// STUB
+pub(super) fn scroll_region_up(
+    rows: &mut VecDeque<Line>,
+    width: usize,
+    first: usize,
+    size: usize,
+    count: usize,
+) -> Result<(), AllocError>
+    requires { first + size ≤ deque_len rows.old }
+    ensures ok { OnOk result (cells_of rows.new.items ≡ region_up (replicate width blank) (cells_of rows.old.items) first size count) }
+    ensures flags { OnOk result (row_flags rows.new.items ≡ region_up no_flags (row_flags rows.old.items) first size count) }
+    ensures vectors { AreVectors rows.old.items → AreVectors rows.new.items }
+{
+    Ok(())
+}
+pub(super) fn scroll_region_down(
+    rows: &mut VecDeque<Line>,
+    width: usize,
+    first: usize,
+    size: usize,
+    count: usize,
+) -> Result<(), AllocError>
+    requires { first + size ≤ deque_len rows.old }
+    ensures ok { OnOk result (cells_of rows.new.items ≡ region_down (replicate width blank) (cells_of rows.old.items) first size count) }
+    ensures flags { OnOk result (row_flags rows.new.items ≡ region_down no_flags (row_flags rows.old.items) first size count) }
+    ensures vectors { AreVectors rows.old.items → AreVectors rows.new.items }
+{
     Ok(())
 }

@@ -1,8 +1,8 @@
 use Rattle.std.proofs.Common.{◌≡◌, drop, map}
 use Rattle.termwiz_cell.specs.ChangeValue.{change_value}
 use Rattle.termwiz_cell.specs.Width.{unversioned}
-use Rattle.termwiz_surface.specs.Step.{replay, replay_lengths}
-use Rattle.termwiz_surface.specs.SurfaceValue.{SameFrame, screen_of, lengths_of}
+use Rattle.termwiz_surface.specs.Step.{replay, replay_kept}
+use Rattle.termwiz_surface.specs.SurfaceValue.{SameFrame, screen_of, kept_of}
 use Rattle.termwiz_surface.proofs.surface.Surface.apply_all.Given as goal
 
 -- what is left to do leads to the whole
@@ -12,5 +12,5 @@ invariant-loop-change g l =
     record {
       frame : SameFrame l.fn.self l.self;
       left : replay f (screen_of l.self) (map change_value (drop l.change-index l.changes)) ≡ replay f (screen_of l.fn.self) (map change_value l.changes);
-      lengths : replay_lengths f (screen_of l.self) (lengths_of l.self) (map change_value (drop l.change-index l.changes)) ≡ replay_lengths f (screen_of l.fn.self) (lengths_of l.fn.self) (map change_value l.changes);
+      kept : replay_kept f (screen_of l.self) (kept_of l.self) (map change_value (drop l.change-index l.changes)) ≡ replay_kept f (screen_of l.fn.self) (kept_of l.fn.self) (map change_value l.changes);
     }

@@ -1,5 +1,5 @@
 use Rattle.std.proofs.Common.{refl}
-use Rattle.std.specs.Prelude.{None}
+use Rattle.std.specs.Prelude.{None, string_bytes}
 use Rattle.termwiz_cell.specs.Attributes.{with_background}
 use Rattle.termwiz_cell.specs.Width.{unversioned}
 use Rattle.termwiz_surface.specs.ScreenValue.{cells_of}
@@ -24,5 +24,11 @@ returns-clause-ok g c =
       height = refl;
       log = refl;
       screen_is = rw (rows-eol f _ (record { space = g.met.W.Widths.space_has_one c.self.inside.widths None }) c.self.invariant (with_background c.args.color.now) (cells_of c.fill_row.new.rows.items) done) refl;
-      lengths_are = lengths-eol f _ (record { space = g.met.W.Widths.space_has_one c.self.inside.widths None }) c.self.invariant (with_background c.args.color.now) (cells_of c.fill_row.new.rows.items) done;
+      kept_is = λ i. record {
+        lengths = lengths-eol f _ (record { space = g.met.W.Widths.space_has_one c.self.inside.widths None }) c.self.invariant (with_background c.args.color.now) (cells_of c.fill_row.new.rows.items) done i;
+        flags = c.in_ok-fill_row.ensures.sides.flags i;
+        title = string_bytes c.self.inside.title;
+        shape = c.self.inside.shape;
+        color = c.self.inside.color;
+      };
     })

@@ -2,7 +2,7 @@ use Rattle.std.proofs.Common.{◌≡◌, ◌+◌, false, refl}
 use Rattle.std.specs.Prelude.{nat_lt}
 use Rattle.std.proofs.lemmas.Bool.{le-ltb}
 use Rattle.termwiz_cell.specs.Width.{unversioned}
-use Rattle.std.specs.Prelude.{None}
+use Rattle.std.specs.Prelude.{None, string_bytes}
 use Rattle.termwiz_surface.specs.ScreenValue.{cells_of}
 use Rattle.termwiz_surface.proofs.Drawn.{IsSound-scrolled, rows-scrolled, lengths-scrolled}
 use Rattle.termwiz_surface.proofs.surface.Surface.line_feed.Goals as goal
@@ -20,5 +20,11 @@ returns-clause-ok g c =
       height = refl;
       log = refl;
       screen_is = rw (rows-scrolled c.self.inside.width (cells_of c.self.inside.rows.items)) refl;
-      lengths_are = lengths-scrolled c.self.inside.width (cells_of c.self.inside.rows.items);
+      kept_is = λ i. record {
+        lengths = lengths-scrolled c.self.inside.width (cells_of c.self.inside.rows.items) i;
+        flags = c.in_ok-scroll_rows.ensures.flags i;
+        title = string_bytes c.self.inside.title;
+        shape = c.self.inside.shape;
+        color = c.self.inside.color;
+      };
     })

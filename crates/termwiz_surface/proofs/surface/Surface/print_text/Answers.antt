@@ -3,10 +3,10 @@ use Rattle.std.specs.Prelude.{◌==◌}
 use Rattle.std.proofs.lemmas.Bool.{eqb-true}
 use Rattle.unicode_segmentation.specs.Grapheme.{graphemes}
 use Rattle.termwiz_cell.specs.Width.{unversioned}
-use Rattle.termwiz_surface.specs.Print.{print_one, lengths_after}
+use Rattle.termwiz_surface.specs.Print.{print_one, kept_after}
 use Rattle.termwiz_surface.specs.Printing.{PrintsSome}
-use Rattle.termwiz_surface.specs.SurfaceValue.{screen_of, lengths_of}
-use Rattle.termwiz_surface.proofs.Printing.{screen-left, lengths-left, graphemes-nothing}
+use Rattle.termwiz_surface.specs.SurfaceValue.{screen_of, kept_of}
+use Rattle.termwiz_surface.proofs.Printing.{screen-left, kept-left, graphemes-nothing}
 use Rattle.termwiz_surface.proofs.surface.Surface.print_text.Goals as goal
 
 pub pieces-preserved : goal.pieces-preserved
@@ -22,7 +22,7 @@ pieces-preserved g c =
         log = some.prints.log ∙ before.frame.log;
       };
       screen = screen-left _ c.pieces.self c.print_first.new.self c.pieces.rest.now c.in_ok-rest.rest.now some ∙ before.screen;
-      lengths = lengths-left _ c.pieces.self c.print_first.new.self c.pieces.rest.now c.in_ok-rest.rest.now some ∙ before.lengths;
+      kept = kept-left _ c.pieces.self c.print_first.new.self c.pieces.rest.now c.in_ok-rest.rest.now some ∙ before.kept;
     }
 
 none_left : (t : List ℕ) → true ≡ (length t == 0) → t ≡ []
@@ -41,5 +41,5 @@ returns-clause-ok g c =
       height = before.frame.height;
       log = before.frame.log;
       screen_is = sym (ap (fold (print_one f) (screen_of c.pieces.self)) nothing) ∙ before.screen;
-      lengths_are = sym (ap (lengths_after f (screen_of c.pieces.self) (lengths_of c.pieces.self)) nothing) ∙ before.lengths;
+      kept_is = sym (ap (kept_after f (screen_of c.pieces.self) (kept_of c.pieces.self)) nothing) ∙ before.kept;
     }

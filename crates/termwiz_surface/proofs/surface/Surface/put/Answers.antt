@@ -1,5 +1,5 @@
 use Rattle.std.proofs.Common.{◌≡◌, ◌+◌, ◌<◌, ℕ, List, min, ap, refl, sym, subst, ◌∙◌}
-use Rattle.std.specs.Prelude.{None}
+use Rattle.std.specs.Prelude.{None, string_bytes}
 use Rattle.termwiz_cell.specs.CellValue.{columns}
 use Rattle.termwiz_cell.specs.Width.{unversioned}
 use Rattle.termwiz_surface.specs.SurfaceValue.{SurfaceValue, IsMeasured}
@@ -33,5 +33,11 @@ returns-clause-ok g c =
       height = refl;
       log = refl;
       screen_is = rw (rows-put (width g c) _ c.args.cell c.self.invariant (inside g c)) refl;
-      lengths_are = lengths-put (width g c) _ c.args.cell c.self.invariant (inside g c);
+      kept_is = λ i. record {
+        lengths = lengths-put (width g c) _ c.args.cell c.self.invariant (inside g c) i;
+        flags = c.in_ok-paint_row.ensures.sides.flags i;
+        title = string_bytes c.self.inside.title;
+        shape = c.self.inside.shape;
+        color = c.self.inside.color;
+      };
     })

@@ -22,5 +22,5 @@ returns-clause-ok g c =
       height = refl;
       log = refl;
       screen_is = (IsPrinted-run (unversioned (g.W.Widths.width_of c.self.inside.widths)) (record { space = g.met.W.Widths.space_has_one c.self.inside.widths None }) c.args.run.now _ c.self.invariant fits c.requires.plain narrow).screen;
-      lengths_are = (IsPrinted-run (unversioned (g.W.Widths.width_of c.self.inside.widths)) (record { space = g.met.W.Widths.space_has_one c.self.inside.widths None }) c.args.run.now _ c.self.invariant fits c.requires.plain narrow).lengths;
+      kept_is = (IsPrinted-run (unversioned (g.W.Widths.width_of c.self.inside.widths)) (record { space = g.met.W.Widths.space_has_one c.self.inside.widths None }) c.args.run.now _ c.self.invariant fits c.requires.plain narrow).kept;
     })

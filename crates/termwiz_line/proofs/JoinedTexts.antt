@@ -21,13 +21,7 @@ add_text_push (d ∷ (c ∷ es)) e text = ap (λ l. d ∷ l) (add_text_push (c �
 -- behind an entry that is no text, a text begins
 join_apart : (e : ChangeValue) (text : List ℕ) → is_text e ≡ false → join e text ≡ e ∷ change.Text text ∷ []
 join_apart (change.Text t) text h = absurd (true≢false h)
-join_apart (change.Attribute a) text h = refl
-join_apart (change.AllAttributes a) text h = refl
-join_apart (change.ClearScreen a) text h = refl
-join_apart (change.ClearToEndOfLine a) text h = refl
-join_apart (change.ClearToEndOfScreen a) text h = refl
-join_apart (change.CursorPosition x y) text h = refl
-join_apart (change.CursorVisibility v) text h = refl
+join_apart _ text h = refl
 
 pub add_text_apart : (es : List ChangeValue) (text : List ℕ) → last_is is_text es ≡ false → add_text es text ≡ es ++ change.Text text ∷ []
 add_text_apart [] text h = refl
@@ -49,13 +43,7 @@ ends_more e (d ∷ ds) h = h
 pub ends_with_added : (es : List ChangeValue) (text : List ℕ) → last_is is_text (add_text es text) ≡ true
 ends_with_added [] text = refl
 ends_with_added (change.Text t ∷ []) text = elim (joins t text) as (λ b. last_is is_text (cond b (change.Text (t ++ text) ∷ []) (change.Text t ∷ change.Text text ∷ [])) ≡ true) [ true ↦ refl | false ↦ refl ]
-ends_with_added (change.Attribute a ∷ []) text = refl
-ends_with_added (change.AllAttributes a ∷ []) text = refl
-ends_with_added (change.ClearScreen a ∷ []) text = refl
-ends_with_added (change.ClearToEndOfLine a ∷ []) text = refl
-ends_with_added (change.ClearToEndOfScreen a ∷ []) text = refl
-ends_with_added (change.CursorPosition x y ∷ []) text = refl
-ends_with_added (change.CursorVisibility v ∷ []) text = refl
+ends_with_added (_ ∷ []) text = refl
 ends_with_added (e ∷ (f ∷ [])) text = ends_more e (add_text (f ∷ []) text) (ends_with_added (f ∷ []) text)
 ends_with_added (e ∷ (f ∷ (g ∷ es))) text = ends_with_added (f ∷ (g ∷ es)) text
 

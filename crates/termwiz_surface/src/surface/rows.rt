@@ -14,7 +14,6 @@ ghost use Rattle.termwiz_surface.specs.ScreenValue.{cells_of, numberless};
 ghost use Rattle.termwiz_surface.specs.Screen.{row_at};
 ghost use Rattle.termwiz_surface.specs.Print.{scrolled};
 ghost use Rattle.termwiz_surface.specs.Rows.{painted_in, AreFilled, IsPartly, ArePartly};
-ghost use Rattle.termwiz_surface.specs.Regions.{region_up, region_down};
 ghost use Rattle.termwiz_surface.specs.Sides.{row_flags, AreVectors, KeepsSide, KeepSides};
 
 use std::alloc::{AllocError, Global};
@@ -199,33 +198,4 @@ fn show_line(line: &mut Line, attribute: LineAttribute)
         LineAttribute::DoubleWidthLine => line.set_double_width(SEQ_ZERO),
         LineAttribute::SingleWidthLine => line.set_single_width(SEQ_ZERO),
     }
-}
-// STUB
-pub(super) fn scroll_region_up(
-    rows: &mut VecDeque<Line>,
-    width: usize,
-    first: usize,
-    size: usize,
-    count: usize,
-) -> Result<(), AllocError>
-    requires { first + size ≤ deque_len rows.old }
-    ensures ok { OnOk result (cells_of rows.new.items ≡ region_up (replicate width blank) (cells_of rows.old.items) first size count) }
-    ensures flags { OnOk result (row_flags rows.new.items ≡ region_up no_flags (row_flags rows.old.items) first size count) }
-    ensures vectors { AreVectors rows.old.items → AreVectors rows.new.items }
-{
-    Ok(())
-}
-pub(super) fn scroll_region_down(
-    rows: &mut VecDeque<Line>,
-    width: usize,
-    first: usize,
-    size: usize,
-    count: usize,
-) -> Result<(), AllocError>
-    requires { first + size ≤ deque_len rows.old }
-    ensures ok { OnOk result (cells_of rows.new.items ≡ region_down (replicate width blank) (cells_of rows.old.items) first size count) }
-    ensures flags { OnOk result (row_flags rows.new.items ≡ region_down no_flags (row_flags rows.old.items) first size count) }
-    ensures vectors { AreVectors rows.old.items → AreVectors rows.new.items }
-{
-    Ok(())
 }

@@ -24,3 +24,5 @@ mod RowTails
 mod Lines
 mod Filling
 mod Sides
+mod Regions
+mod ScrolledRows

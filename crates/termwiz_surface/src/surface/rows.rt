@@ -12,7 +12,8 @@ ghost use Rattle.termwiz_surface.specs.Chars.{row_chars, screen_chars};
 ghost use Rattle.termwiz_surface.specs.ScreenValue.{cells_of, numberless};
 ghost use Rattle.termwiz_surface.specs.Screen.{row_at};
 ghost use Rattle.termwiz_surface.specs.Print.{scrolled};
-ghost use Rattle.termwiz_surface.specs.Rows.{painted_in, AreFilled, IsPartly, ArePartly};
+ghost use Rattle.termwiz_surface.specs.Rows.{painted_in, AreFilled, IsPartly, ArePartly, ArePartlyBlank};
+ghost use Rattle.termwiz_surface.specs.Regions.{region_turned, region_up, region_down};
 ghost use Rattle.termwiz_surface.specs.Sides.{row_flags, AreVectors, KeepsSide, KeepSides};
 
 use std::alloc::{AllocError, Global};
@@ -134,6 +135,79 @@ pub(super) fn scroll_rows(rows: &mut VecDeque<Line>, width: usize) -> Result<(),
     if let Some(row) = rows.pop_front() {
         rows.push_back_reserved(row);
     }
+    Ok(())
+}
+
+// Makes some rows in turn rows of default blanks.
+fn blank_some(
+    rows: &mut VecDeque<Line>,
+    width: usize,
+    first: usize,
+    count: usize,
+) -> Result<(), AllocError>
+    requires { first + count ≤ deque_len rows.old }
+    ensures ok { OnOk result (rows.new.items ≡ take first rows.old.items ++ (replicate count (numberless (replicate width blank)) ++ drop (first + count) rows.old.items)) }
+    ensures err { OnErr result (ArePartlyBlank width (cells_of rows.old.items) (cells_of rows.new.items)) }
+    ensures len { deque_len rows.new ≡ deque_len rows.old }
+    ensures vectors { AreVectors rows.old.items → AreVectors rows.new.items }
+{
+    for i in first..first + count {
+        rows[i].blank_out(width, SEQ_ZERO)?;
+    }
+    Ok(())
+}
+
+// Moves the first rows of a region behind its others.
+fn turn_region(rows: &mut VecDeque<Line>, first: usize, size: usize, count: usize)
+    requires inside { first + size ≤ deque_len rows.old }
+    requires within { count ≤ size }
+    ensures { rows.new.items ≡ region_turned rows.old.items first size count }
+{
+    if size == rows.len() {
+        rows.rotate_left(count);
+    } else {
+        rows.make_contiguous()[first..first + size].rotate_left(count);
+    }
+}
+
+/// Scrolls a region of rows up: its first `count` rows go, and as many rows of default blanks come below the others. On an error each row is as it was, or one of default blanks.
+pub(super) fn scroll_region_up(
+    rows: &mut VecDeque<Line>,
+    width: usize,
+    first: usize,
+    size: usize,
+    count: usize,
+) -> Result<(), AllocError>
+    requires { first + size ≤ deque_len rows.old }
+    ensures ok { OnOk result (cells_of rows.new.items ≡ region_up (replicate width blank) (cells_of rows.old.items) first size count) }
+    ensures flags { OnOk result (row_flags rows.new.items ≡ region_up no_flags (row_flags rows.old.items) first size count) }
+    ensures err { OnErr result (ArePartlyBlank width (cells_of rows.old.items) (cells_of rows.new.items)) }
+    ensures vectors { AreVectors rows.old.items → AreVectors rows.new.items }
+{
+    let gone = count.min(size);
+    blank_some(rows, width, first, gone)?;
+    turn_region(rows, first, size, gone);
+    Ok(())
+}
+
+/// Scrolls a region of rows down: its last `count` rows go, and as many rows of default blanks come above the others. On an error each row is as it was, or one of default blanks.
+pub(super) fn scroll_region_down(
+    rows: &mut VecDeque<Line>,
+    width: usize,
+    first: usize,
+    size: usize,
+    count: usize,
+) -> Result<(), AllocError>
+    requires { first + size ≤ deque_len rows.old }
+    ensures ok { OnOk result (cells_of rows.new.items ≡ region_down (replicate width blank) (cells_of rows.old.items) first size count) }
+    ensures flags { OnOk result (row_flags rows.new.items ≡ region_down no_flags (row_flags rows.old.items) first size count) }
+    ensures err { OnErr result (ArePartlyBlank width (cells_of rows.old.items) (cells_of rows.new.items)) }
+    ensures vectors { AreVectors rows.old.items → AreVectors rows.new.items }
+{
+    let gone = count.min(size);
+    let kept = size - gone;
+    blank_some(rows, width, first + kept, gone)?;
+    turn_region(rows, first, size, kept);
     Ok(())
 }
 

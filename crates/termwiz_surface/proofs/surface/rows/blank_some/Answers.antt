@@ -1,0 +1,27 @@
+use Rattle.std.proofs.Common.{◌+◌, ◌-◌, ◌<◌, length, replicate, slice_set, refl, arith}
+use Rattle.termwiz_cell.specs.CellValue.{blank}
+use Rattle.termwiz_line.proofs.Fills.{on_err}
+use Rattle.termwiz_surface.specs.Rows.{ArePartlyBlank}
+use Rattle.termwiz_surface.specs.ScreenValue.{cells_of, numberless}
+use Rattle.termwiz_surface.proofs.Lines.{length-cells_of, cells-set_same}
+use Rattle.termwiz_surface.proofs.Regions.{blank_step}
+use Rattle.termwiz_surface.proofs.ScrolledRows.{cells-blanked, partly_blank, vectors-set}
+use Rattle.termwiz_surface.proofs.surface.rows.blank_some.Goals as goal
+
+pub loop-i-preserved : goal.loop-i-preserved
+loop-i-preserved c = rw c.in_ok-blank_out.ensures.ok (record {
+  items = blank_step (numberless (replicate c.args.width blank)) c.args.rows.now.items c.loop-i.rows.items c.args.first c.loop-i.i (c.loop-i.i - c.args.first) (c.loop-i.i + 1 - c.args.first) (omega arith) (omega arith) (omega (arith, c.requires, c.args.rows.now.ok.0)) c.loop-i.invariant.items;
+  len = c.loop-i.invariant.len;
+  vectors = λ v. vectors-set c.loop-i.rows.items c.loop-i.i (numberless (replicate c.args.width blank)) refl (c.loop-i.invariant.vectors v);
+})
+
+pub returns-in_err-blank_out-clause-err : goal.returns-in_err-blank_out-clause-err
+returns-in_err-blank_out-clause-err c =
+    let rows = c.loop-i.rows.items in
+    let inside : c.loop-i.i < length rows = omega (arith, c.requires, c.args.rows.now.ok.0, c.loop-i.rows.ok.0, c.loop-i.invariant.len) in
+    let before : ArePartlyBlank c.args.width (cells_of c.args.rows.now.items) (cells_of rows) =
+    partly_blank c.args.width (cells_of c.args.rows.now.items) (cells_of rows) c.args.first (c.loop-i.i - c.args.first) c.loop-i.i (omega arith) (omega (arith, c.requires, c.args.rows.now.ok.0, length-cells_of c.args.rows.now.items))
+    (cells-blanked c.args.width c.args.rows.now.items rows c.args.first (c.loop-i.i - c.args.first) c.loop-i.i c.loop-i.invariant.items) in
+    let done : ArePartlyBlank c.args.width (cells_of c.args.rows.now.items) (cells_of (slice_set rows c.loop-i.i c.blank_out.new.self)) =
+    rw (cells-set_same rows c.loop-i.i c.index_mut.result.now c.blank_out.new.self inside c.index_mut.ensures.value c.in_err-blank_out.ensures.err.cells) before in
+    on_err _ done

@@ -26,3 +26,4 @@ mod Filling
 mod Sides
 mod Regions
 mod ScrolledRows
+mod ResizedRows

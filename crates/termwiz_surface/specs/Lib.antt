@@ -20,3 +20,4 @@ pub mod Padding
 pub mod Stream
 pub mod Sides
 pub mod Regions
+pub mod Resized

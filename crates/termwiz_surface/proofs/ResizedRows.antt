@@ -49,7 +49,7 @@ module _ (f : List ℕ → ℕ) (v w : ℕ) (cs : List CellValue) (lawful : IsLa
   settled : IsRow (length cs) cs
   settled = record { width = refl; settled = λ k l t. let p : length cs ≤ v = s.within in s.halves k (omega arith) t }
 
-  pub resized-row : resized w cs ≡ row_of w cs
+  resized-row : resized w cs ≡ row_of w cs
   resized-row = resized_is_row w cs settled
 
   pub length-resized : length (resized w cs) ≡ w

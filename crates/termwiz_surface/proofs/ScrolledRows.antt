@@ -1,5 +1,5 @@
 -- Rows of which a region is scrolled.
-use Rattle.std.proofs.Common.{◌≡◌, ℕ, ◌+◌, ◌-◌, ◌<◌, ◌≤◌, inl, inr, true, List, [], ◌++◌, length, take, drop, set, map, replicate, refl, sym, ◌∙◌, ap, subst, arith}
+use Rattle.std.proofs.Common.{◌≡◌, ℕ, ◌+◌, ◌-◌, ◌<◌, ◌≤◌, inl, inr, true, List, [], ◌++◌, length, take, drop, get_or, set, map, replicate, refl, sym, ◌∙◌, ap, subst, arith}
 use Rattle.std.specs.List.{All}
 use Rattle.std.proofs.lemmas.Bool.{cases_lt}
 use Rattle.std.proofs.lemmas.List.{get_or_append_left, get_or-append_right, get_or-take, get_or-drop, get_or-replicate, length-append, length-take, length-drop, length-replicate, map-append, drop-map, take-map}
@@ -10,7 +10,7 @@ use Rattle.termwiz_line.specs.LineValue.{LineValue}
 use Rattle.termwiz_line.specs.Row.{row_of}
 use Rattle.termwiz_line.proofs.StoredRows.{row_blank}
 use Rattle.termwiz_surface.specs.Regions.{region_up, region_down}
-use Rattle.termwiz_surface.specs.Rows.{ArePartlyBlank}
+use Rattle.termwiz_surface.specs.Rows.{ArePartlyReset}
 use Rattle.termwiz_surface.specs.Screen.{row_at}
 use Rattle.termwiz_surface.specs.ScreenValue.{cells_of, numberless}
 use Rattle.termwiz_surface.specs.Sides.{row_flags, AreVectors}
@@ -18,34 +18,33 @@ use Rattle.termwiz_surface.specs.SurfaceValue.{IsStored}
 use Rattle.termwiz_surface.proofs.Regions.{map-replicate, map-region_up, map-region_down, All-region_up, All-region_down, length-region_up, length-region_down}
 use Rattle.termwiz_surface.proofs.Stored.{IsLawful, IsStored-blank}
 
--- some rows in turn are default ones
-module _ (w : ℕ) (xs ys : List (List CellValue)) (a n i : ℕ) (e : a + n ≡ i) (l : i ≤ length xs) (is : ys ≡ take a xs ++ (replicate n (replicate w blank) ++ drop i xs)) where
+-- some elements in turn are default ones
+module _ {X : Type 0} (d : X) (xs ys : List X) (a n i : ℕ) (e : a + n ≡ i) (l : i ≤ length xs) (is : ys ≡ take a xs ++ (replicate n d ++ drop i xs)) where
   length-front : length (take a xs) ≡ a
   length-front = length-take a xs ∙ omega arith
 
-  length-some : length (replicate n (replicate w blank)) ≡ n
-  length-some = length-replicate n (replicate w blank)
+  length-some : length (replicate n d) ≡ n
+  length-some = length-replicate n d
 
-  pub partly_blank : ArePartlyBlank w xs ys
-  partly_blank = record {
-    same_count = ap length is ∙ length-append (take a xs) _ ∙ omega (arith, length-append (replicate n (replicate w blank)) (drop i xs), length-front, length-some, length-drop i xs);
-    each = λ j jl. elim (cases_lt j a) [
-      | inl m ↦ inl (ap (λ rows. row_at rows j) is ∙ get_or_append_left (take a xs) _ [] j (omega (arith, length-front)) ∙ get_or-take a xs j [] m)
+  pub partly_reset : ArePartlyReset d xs ys
+  partly_reset = record {
+    same_count = ap length is ∙ length-append (take a xs) _ ∙ omega (arith, length-append (replicate n d) (drop i xs), length-front, length-some, length-drop i xs);
+    each = λ j z jl. elim (cases_lt j a) [
+      | inl m ↦ inl (ap (λ (zs : List X). get_or zs j z) is ∙ get_or_append_left (take a xs) _ z j (omega (arith, length-front)) ∙ get_or-take a xs j z m)
       | inr g ↦
-          let behind : row_at ys j ≡ row_at (replicate n (replicate w blank) ++ drop i xs) (j - a) = ap (λ rows. row_at rows j) is ∙ get_or-append_right (take a xs) _ a j [] length-front g in
+          let behind : get_or ys j z ≡ get_or (replicate n d ++ drop i xs) (j - a) z = ap (λ (zs : List X). get_or zs j z) is ∙ get_or-append_right (take a xs) _ a j z length-front g in
           elim (cases_lt j i) [
-            | inl m ↦ inr (behind ∙ get_or_append_left (replicate n (replicate w blank)) (drop i xs) [] (j - a) (omega (arith, length-some)) ∙ get_or-replicate n (j - a) (replicate w blank) [] (omega arith))
+            | inl m ↦ inr (behind ∙ get_or_append_left (replicate n d) (drop i xs) z (j - a) (omega (arith, length-some)) ∙ get_or-replicate n (j - a) d z (omega arith))
             | inr m ↦
                 let at : i + ((j - a) - n) ≡ j = omega arith in
-                inl (behind ∙ get_or-append_right (replicate n (replicate w blank)) (drop i xs) n (j - a) [] length-some (omega arith) ∙ get_or-drop i xs ((j - a) - n) [] ∙ ap (row_at xs) at)
+                inl (behind ∙ get_or-append_right (replicate n d) (drop i xs) n (j - a) z length-some (omega arith) ∙ get_or-drop i xs ((j - a) - n) z ∙ ap (λ k. get_or xs k z) at)
           ]
     ];
   }
 
--- the same of lines, of which the next one keeps its cells
-pub cells-blanked : (w : ℕ) (xs ys : List LineValue) (a n i : ℕ) → ys ≡ take a xs ++ (replicate n (numberless (replicate w blank)) ++ drop i xs)
-    → cells_of ys ≡ take a (cells_of xs) ++ (replicate n (replicate w blank) ++ drop i (cells_of xs))
-cells-blanked w xs ys a n i is = ap cells_of is ∙ simp (map-append, map-replicate, drop-map, take-map)
+-- what a map makes of them
+pub map-reset : {X Y : Type 0} (f : X → Y) (d : X) (xs ys : List X) (a n i : ℕ) → ys ≡ take a xs ++ (replicate n d ++ drop i xs) → map f ys ≡ take a (map f xs) ++ (replicate n (f d) ++ drop i (map f xs))
+map-reset f d xs ys a n i is = ap (map f) is ∙ simp (map-append, map-replicate, drop-map, take-map)
 
 pub vectors-set : (ls : List LineValue) (i : ℕ) (m : LineValue) → m.is_vector ≡ true → AreVectors ls → AreVectors (set ls i m)
 vectors-set ls i m e v = record { each = All-set (λ (x : LineValue). x.is_vector ≡ true) ls i m e v.each }
@@ -85,8 +84,8 @@ module _ (f : List ℕ → ℕ) (w h : ℕ) (rows : List (List CellValue)) (lawf
       let long = length-region_down (replicate w blank) rows a n k (omega arith) in
       All-get_or (IsStored f w) _ j [] (omega (arith, long)) (All-region_down (IsStored f w) (replicate w blank) rows a n k (IsStored-blank f w lawful some) all_stored)
 
-  pub stored-partly_blank : (new : List (List CellValue)) → ArePartlyBlank w rows new → (j : ℕ) → j < h → IsStored f w (row_at new j)
-  stored-partly_blank new p j l = elim (p.each j (omega arith)) [
+  pub stored-partly_reset : (new : List (List CellValue)) → ArePartlyReset (replicate w blank) rows new → (j : ℕ) → j < h → IsStored f w (row_at new j)
+  stored-partly_reset new p j l = elim (p.each j [] (omega arith)) [
     | inl e ↦ subst (IsStored f w) (sym e) (stored_so j l)
     | inr e ↦ subst (IsStored f w) (sym e) (IsStored-blank f w lawful some)
   ]

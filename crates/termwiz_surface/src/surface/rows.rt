@@ -12,7 +12,7 @@ ghost use Rattle.termwiz_surface.specs.Chars.{row_chars, screen_chars};
 ghost use Rattle.termwiz_surface.specs.ScreenValue.{cells_of, numberless};
 ghost use Rattle.termwiz_surface.specs.Screen.{row_at};
 ghost use Rattle.termwiz_surface.specs.Print.{scrolled};
-ghost use Rattle.termwiz_surface.specs.Rows.{painted_in, AreFilled, IsPartly, ArePartly, ArePartlyBlank};
+ghost use Rattle.termwiz_surface.specs.Rows.{painted_in, AreFilled, IsPartly, ArePartly, ArePartlyReset};
 ghost use Rattle.termwiz_surface.specs.Regions.{region_turned, region_up, region_down};
 ghost use Rattle.termwiz_surface.specs.Resized.{resized_stored, resized_flags};
 ghost use Rattle.termwiz_surface.specs.Sides.{row_flags, AreVectors, KeepsSide, KeepSides};
@@ -153,7 +153,7 @@ pub(super) fn scroll_rows(rows: &mut VecDeque<Line>, width: usize) -> Result<(),
     Ok(())
 }
 
-// Makes some rows in turn rows of default blanks.
+// Makes this many rows, from `first` on, rows of default blanks. On an error each row is as it was, or one of default blanks.
 fn blank_some(
     rows: &mut VecDeque<Line>,
     width: usize,
@@ -162,7 +162,8 @@ fn blank_some(
 ) -> Result<(), AllocError>
     requires { first + count ≤ deque_len rows.old }
     ensures ok { OnOk result (rows.new.items ≡ take first rows.old.items ++ (replicate count (numberless (replicate width blank)) ++ drop (first + count) rows.old.items)) }
-    ensures err { OnErr result (ArePartlyBlank width (cells_of rows.old.items) (cells_of rows.new.items)) }
+    ensures err { OnErr result (ArePartlyReset (replicate width blank) (cells_of rows.old.items) (cells_of rows.new.items)) }
+    ensures err_flags { OnErr result (ArePartlyReset no_flags (row_flags rows.old.items) (row_flags rows.new.items)) }
     ensures len { deque_len rows.new ≡ deque_len rows.old }
     ensures vectors { AreVectors rows.old.items → AreVectors rows.new.items }
 {
@@ -178,6 +179,7 @@ fn turn_region(rows: &mut VecDeque<Line>, first: usize, size: usize, count: usiz
     requires within { count ≤ size }
     ensures { rows.new.items ≡ region_turned rows.old.items first size count }
 {
+    // All rows are turned by moving the fewer of them.
     if size == rows.len() {
         rows.rotate_left(count);
     } else {
@@ -196,7 +198,8 @@ pub(super) fn scroll_region_up(
     requires { first + size ≤ deque_len rows.old }
     ensures ok { OnOk result (cells_of rows.new.items ≡ region_up (replicate width blank) (cells_of rows.old.items) first size count) }
     ensures flags { OnOk result (row_flags rows.new.items ≡ region_up no_flags (row_flags rows.old.items) first size count) }
-    ensures err { OnErr result (ArePartlyBlank width (cells_of rows.old.items) (cells_of rows.new.items)) }
+    ensures err { OnErr result (ArePartlyReset (replicate width blank) (cells_of rows.old.items) (cells_of rows.new.items)) }
+    ensures err_flags { OnErr result (ArePartlyReset no_flags (row_flags rows.old.items) (row_flags rows.new.items)) }
     ensures vectors { AreVectors rows.old.items → AreVectors rows.new.items }
 {
     let gone = count.min(size);
@@ -216,7 +219,8 @@ pub(super) fn scroll_region_down(
     requires { first + size ≤ deque_len rows.old }
     ensures ok { OnOk result (cells_of rows.new.items ≡ region_down (replicate width blank) (cells_of rows.old.items) first size count) }
     ensures flags { OnOk result (row_flags rows.new.items ≡ region_down no_flags (row_flags rows.old.items) first size count) }
-    ensures err { OnErr result (ArePartlyBlank width (cells_of rows.old.items) (cells_of rows.new.items)) }
+    ensures err { OnErr result (ArePartlyReset (replicate width blank) (cells_of rows.old.items) (cells_of rows.new.items)) }
+    ensures err_flags { OnErr result (ArePartlyReset no_flags (row_flags rows.old.items) (row_flags rows.new.items)) }
     ensures vectors { AreVectors rows.old.items → AreVectors rows.new.items }
 {
     let gone = count.min(size);

@@ -17,5 +17,6 @@ returns c =
       ok = cells-down c.args.width old new c.args.first c.args.size c.args.count now;
       flags = flags-down c.args.width old new c.args.first c.args.size c.args.count now;
       err = tt;
+      err_flags = tt;
       vectors = vectors-down c.args.width old new c.args.first c.args.size c.args.count now;
     }

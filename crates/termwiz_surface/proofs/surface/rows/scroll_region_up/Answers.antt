@@ -17,5 +17,6 @@ returns c =
       ok = cells-up c.args.width old new c.args.first c.args.size c.args.count now;
       flags = flags-up c.args.width old new c.args.first c.args.size c.args.count now;
       err = tt;
+      err_flags = tt;
       vectors = vectors-up c.args.width old new c.args.first c.args.size c.args.count now;
     }

@@ -25,3 +25,6 @@ mod Lines
 mod Filling
 pub mod Logs
 mod Sides
+mod Regions
+mod ScrolledRows
+mod ResizedRows

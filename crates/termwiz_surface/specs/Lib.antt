@@ -22,3 +22,4 @@ pub mod Log
 pub mod Kept
 pub mod Sides
 pub mod Regions
+pub mod Resized

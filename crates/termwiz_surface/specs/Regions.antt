@@ -1,16 +1,24 @@
 -- Scrolling a region of a list: its rows, their lengths or their flags.
 use Rattle.std.specs.Prelude.{ℕ, ◌+◌, ◌-◌, min, List, ◌++◌, take, drop, replicate}
 
--- a list xs, of which n elements from a on are scrolled by k; d takes the places that fall free
-module _ {X : Type 0} (d : X) (xs : List X) (a n k : ℕ) where
-  -- the elements from a on
+module _ {X : Type 0} (xs : List X) (a n : ℕ) where
+  -- n elements from a on
   abbrev pub region : List X
   region = take n (drop a xs)
 
-  -- the first elements of the region go, and default ones come behind the others
-  abbrev pub region_up : List X
-  region_up = take a xs ++ ((drop (min k n) region ++ replicate (min k n) d) ++ drop (a + n) xs)
+  -- xs with others in the place of those
+  abbrev pub with_region : List X → List X
+  with_region ys = take a xs ++ (ys ++ drop (a + n) xs)
 
-  -- the last elements of the region go, and default ones come before the others
+  -- the first k elements of the region come behind its others
+  abbrev pub region_turned : ℕ → List X
+  region_turned k = with_region (drop k region ++ take k region)
+
+module _ {X : Type 0} (d : X) (xs : List X) (a n k : ℕ) where
+  -- the region without its first k elements, and as many default ones behind the others
+  abbrev pub region_up : List X
+  region_up = with_region xs a n (drop (min k n) (region xs a n) ++ replicate (min k n) d)
+
+  -- the region without its last k elements, and as many default ones before the others
   abbrev pub region_down : List X
-  region_down = take a xs ++ ((replicate (min k n) d ++ take (n - min k n) region) ++ drop (a + n) xs)
+  region_down = with_region xs a n (replicate (min k n) d ++ take (n - min k n) (region xs a n))

@@ -1,6 +1,6 @@
 //! The rows of a surface: lines whose numbers nothing reads.
 ghost use Rattle.std.specs.Prelude.{◌≡◌, ◌+◌, ℕ, true, false, [], ◌∷◌, length, drop, ◌-◌, ◌<◌, ◌≤◌, slice_set, get_or, replicate, take, map, string_bytes, ◌++◌, IfOk, OnOk, OnErr};
-ghost use Rattle.std.specs.VecDeque.{deque_len};
+ghost use Rattle.std.specs.VecDeque.{deque_len, deque_capacity};
 ghost use Rattle.termwiz_cell.specs.CellValue.{blank};
 ghost use Rattle.std.specs.List.{list_all};
 ghost use Rattle.termwiz_line.specs.LineFlags.{no_flags};
@@ -13,7 +13,9 @@ ghost use Rattle.termwiz_surface.specs.Kept.{with_line_attribute};
 ghost use Rattle.termwiz_surface.specs.ScreenValue.{cells_of, numberless};
 ghost use Rattle.termwiz_surface.specs.Screen.{row_at};
 ghost use Rattle.termwiz_surface.specs.Print.{scrolled};
-ghost use Rattle.termwiz_surface.specs.Rows.{painted_in, AreFilled, IsPartly, ArePartly};
+ghost use Rattle.termwiz_surface.specs.Rows.{painted_in, AreFilled, IsPartly, ArePartly, ArePartlyReset};
+ghost use Rattle.termwiz_surface.specs.Regions.{region_turned, region_up, region_down};
+ghost use Rattle.termwiz_surface.specs.Resized.{resized_stored, resized_flags};
 ghost use Rattle.termwiz_surface.specs.Sides.{row_flags, AreVectors, KeepsSide, KeepSides};
 
 use std::alloc::{AllocError, Global};
@@ -68,6 +70,22 @@ pub(super) fn chars_of(alloc: Global, rows: &VecDeque<Line>) -> Result<String, A
     Ok(text)
 }
 
+// Adds rows of default blanks behind the others.
+fn add_blank_rows(
+    alloc: Global,
+    rows: &mut VecDeque<Line>,
+    width: usize,
+    count: usize,
+) -> Result<(), AllocError>
+    requires { deque_len rows.old + count ≤ deque_capacity rows.old }
+    ensures { OnOk result (rows.new.items ≡ rows.old.items ++ replicate count (numberless (replicate width blank))) }
+{
+    for _row in 0..count {
+        rows.push_back_reserved(Line::with_width(alloc, width, SEQ_ZERO)?);
+    }
+    Ok(())
+}
+
 /// Rows of default blanks.
 pub(super) fn blank_rows(
     alloc: Global,
@@ -79,9 +97,7 @@ pub(super) fn blank_rows(
     ensures vectors { IfOk result (λ rows. AreVectors rows.items) }
 {
     let mut rows = VecDeque::with_capacity(alloc, height)?;
-    for _row in 0..height {
-        rows.push_back_reserved(Line::with_width(alloc, width, SEQ_ZERO)?);
-    }
+    add_blank_rows(alloc, &mut rows, width, height)?;
     Ok(rows)
 }
 
@@ -135,6 +151,131 @@ pub(super) fn scroll_rows(rows: &mut VecDeque<Line>, width: usize) -> Result<(),
     if let Some(row) = rows.pop_front() {
         rows.push_back_reserved(row);
     }
+    Ok(())
+}
+
+// Makes this many rows, from `first` on, rows of default blanks. On an error each row is as it was, or one of default blanks.
+fn blank_some(
+    rows: &mut VecDeque<Line>,
+    width: usize,
+    first: usize,
+    count: usize,
+) -> Result<(), AllocError>
+    requires { first + count ≤ deque_len rows.old }
+    ensures ok { OnOk result (rows.new.items ≡ take first rows.old.items ++ (replicate count (numberless (replicate width blank)) ++ drop (first + count) rows.old.items)) }
+    ensures err { OnErr result (ArePartlyReset (replicate width blank) (cells_of rows.old.items) (cells_of rows.new.items)) }
+    ensures err_flags { OnErr result (ArePartlyReset no_flags (row_flags rows.old.items) (row_flags rows.new.items)) }
+    ensures len { deque_len rows.new ≡ deque_len rows.old }
+    ensures vectors { AreVectors rows.old.items → AreVectors rows.new.items }
+{
+    for i in first..first + count {
+        rows[i].blank_out(width, SEQ_ZERO)?;
+    }
+    Ok(())
+}
+
+// Moves the first rows of a region behind its others.
+fn turn_region(rows: &mut VecDeque<Line>, first: usize, size: usize, count: usize)
+    requires inside { first + size ≤ deque_len rows.old }
+    requires within { count ≤ size }
+    ensures { rows.new.items ≡ region_turned rows.old.items first size count }
+{
+    // All rows are turned by moving the fewer of them.
+    if size == rows.len() {
+        rows.rotate_left(count);
+    } else {
+        rows.make_contiguous()[first..first + size].rotate_left(count);
+    }
+}
+
+/// Scrolls a region of rows up: its first `count` rows go, and as many rows of default blanks come below the others. On an error each row is as it was, or one of default blanks.
+pub(super) fn scroll_region_up(
+    rows: &mut VecDeque<Line>,
+    width: usize,
+    first: usize,
+    size: usize,
+    count: usize,
+) -> Result<(), AllocError>
+    requires { first + size ≤ deque_len rows.old }
+    ensures ok { OnOk result (cells_of rows.new.items ≡ region_up (replicate width blank) (cells_of rows.old.items) first size count) }
+    ensures flags { OnOk result (row_flags rows.new.items ≡ region_up no_flags (row_flags rows.old.items) first size count) }
+    ensures err { OnErr result (ArePartlyReset (replicate width blank) (cells_of rows.old.items) (cells_of rows.new.items)) }
+    ensures err_flags { OnErr result (ArePartlyReset no_flags (row_flags rows.old.items) (row_flags rows.new.items)) }
+    ensures vectors { AreVectors rows.old.items → AreVectors rows.new.items }
+{
+    let gone = count.min(size);
+    blank_some(rows, width, first, gone)?;
+    turn_region(rows, first, size, gone);
+    Ok(())
+}
+
+/// Scrolls a region of rows down: its last `count` rows go, and as many rows of default blanks come above the others. On an error each row is as it was, or one of default blanks.
+pub(super) fn scroll_region_down(
+    rows: &mut VecDeque<Line>,
+    width: usize,
+    first: usize,
+    size: usize,
+    count: usize,
+) -> Result<(), AllocError>
+    requires { first + size ≤ deque_len rows.old }
+    ensures ok { OnOk result (cells_of rows.new.items ≡ region_down (replicate width blank) (cells_of rows.old.items) first size count) }
+    ensures flags { OnOk result (row_flags rows.new.items ≡ region_down no_flags (row_flags rows.old.items) first size count) }
+    ensures err { OnErr result (ArePartlyReset (replicate width blank) (cells_of rows.old.items) (cells_of rows.new.items)) }
+    ensures err_flags { OnErr result (ArePartlyReset no_flags (row_flags rows.old.items) (row_flags rows.new.items)) }
+    ensures vectors { AreVectors rows.old.items → AreVectors rows.new.items }
+{
+    let gone = count.min(size);
+    let kept = size - gone;
+    blank_some(rows, width, first + kept, gone)?;
+    turn_region(rows, first, size, kept);
+    Ok(())
+}
+
+// A copy of a row with its flags, cut or filled.
+fn resized_row(row: &Line, width: usize) -> Result<Line, AllocError>
+    ensures cells { IfOk result (λ line. line.cells ≡ resized width row.now.cells) }
+    ensures side { IfOk result (λ line. KeepsSide row.now line) }
+{
+    let mut line = row.clone()?;
+    line.resize(width, SEQ_ZERO)?;
+    Ok(line)
+}
+
+// Copies of the first rows with their flags, cut or filled, with room for more up to the height.
+fn kept_rows(
+    alloc: Global,
+    rows: &VecDeque<Line>,
+    width: usize,
+    height: usize,
+) -> Result<VecDeque<Line>, AllocError>
+    ensures cells { IfOk result (λ kept. cells_of kept.items ≡ map (resized width) (take height (cells_of rows.now.items))) }
+    ensures flags { IfOk result (λ kept. row_flags kept.items ≡ take height (row_flags rows.now.items)) }
+    ensures vectors { IfOk result (λ kept. AreVectors rows.now.items → AreVectors kept.items) }
+    ensures room { IfOk result (λ kept. height ≤ deque_capacity kept) }
+{
+    let mut kept = VecDeque::with_capacity(alloc, height)?;
+    for i in 0..height.min(rows.len()) {
+        kept.push_back_reserved(resized_row(&rows[i], width)?);
+    }
+    Ok(kept)
+}
+
+/// Cuts or fills each row to the width, and their number to the height by rows of default blanks. On an error the rows are as before.
+pub(super) fn resize_rows(
+    alloc: Global,
+    rows: &mut VecDeque<Line>,
+    width: usize,
+    height: usize,
+) -> Result<(), AllocError>
+    ensures ok { OnOk result (cells_of rows.new.items ≡ resized_stored width height (cells_of rows.old.items)) }
+    ensures flags { OnOk result (row_flags rows.new.items ≡ resized_flags height (row_flags rows.old.items)) }
+    ensures err { OnErr result (rows.new.items ≡ rows.old.items) }
+    ensures vectors { AreVectors rows.old.items → AreVectors rows.new.items }
+{
+    let mut fresh = kept_rows(alloc, rows, width, height)?;
+    let missing = height - fresh.len();
+    add_blank_rows(alloc, &mut fresh, width, missing)?;
+    *rows = fresh;
     Ok(())
 }
 

@@ -10,12 +10,16 @@ use Rattle.termwiz_surface.specs.Graphemes.{is_single, replacement, single}
 use Rattle.termwiz_surface.proofs.Graphemes.{graphemes-single}
 use Rattle.termwiz_cell.specs.CellValue.{CellValue, blank, columns, is_control, clean, measured}
 use Rattle.termwiz_cell.specs.Attributes.{Attributes}
+use Rattle.termwiz_line.specs.LineFlags.{LineFlags}
 use Rattle.termwiz_line.specs.Row.{row_of, paint}
-use Rattle.termwiz_surface.specs.Rows.{painted_in}
+use Rattle.termwiz_surface.specs.Regions.{region_up, region_down}
+use Rattle.termwiz_surface.specs.Rows.{painted_in, ArePartlyReset}
 use Rattle.termwiz_surface.specs.Screen.{row_at}
 use Rattle.termwiz_surface.specs.Print.{scrolled}
 use Rattle.termwiz_surface.specs.SurfaceValue.{SurfaceValue, IsMeasured, IsStored, IsSound}
 use Rattle.termwiz_line.proofs.StoredRows.{row_blank}
+use Rattle.termwiz_surface.proofs.Regions.{length-region_up, length-region_down}
+use Rattle.termwiz_surface.proofs.ScrolledRows.{stored-up, stored-down, stored-partly_reset}
 use Rattle.termwiz_surface.proofs.Stored.{IsLawful, halved, length-painted_in, graphemes-space, IsStored-blank, IsStored-painted_in, row-painted_in}
 
 graphemes-replacement : graphemes true replacement ≡ replacement ∷ []
@@ -35,6 +39,20 @@ IsMeasured-measured f g pen u = elim (clean_cases (single g)) [
   | inl e ↦ record { alone = rw e (single_alone g u); is_clean = ap clean e; wide_is = refl }
   | inr e ↦ record { alone = rw e graphemes-space; is_clean = rw e refl; wide_is = refl }
 ]
+
+-- the form says nothing of the flags of rows
+pub any_flags : {W : Type 0} (f : List ℕ → ℕ) (s : SurfaceValue W) (flags : List LineFlags) → IsSound f s → IsSound f (record s { flags = flags })
+any_flags f s flags z = record {
+  some_column = z.some_column;
+  some_row = z.some_row;
+  fits = z.fits;
+  fits_height = z.fits_height;
+  full = z.full;
+  column = z.column;
+  row = z.row;
+  stored_so = z.stored_so;
+  number_fits = z.number_fits;
+}
 
 -- scrolling
 pub rows-scrolled : (w : ℕ) (lines : List (List CellValue)) → map (row_of w) (scrolled w lines) ≡ scrolled w (map (row_of w) lines)
@@ -75,6 +93,34 @@ module _ {W : Type 0} (f : List ℕ → ℕ) (s : SurfaceValue W) (lawful : IsLa
     stored_so = scrolled_stored;
     number_fits = sound.number_fits;
   }
+
+-- a region scrolls, or some rows of it are blank
+module _ {W : Type 0} (f : List ℕ → ℕ) (s : SurfaceValue W) (lawful : IsLawful f) (sound : IsSound f s) where
+  with_lines : (new : List (List CellValue)) → length new ≡ length s.lines → ((j : ℕ) → j < s.height → IsStored f s.width (row_at new j)) → IsSound f (record s { lines = new })
+  with_lines new e stored_so = record {
+    some_column = sound.some_column;
+    some_row = sound.some_row;
+    fits = sound.fits;
+    fits_height = sound.fits_height;
+    full = e ∙ sound.full;
+    column = sound.column;
+    row = sound.row;
+    stored_so = stored_so;
+    number_fits = sound.number_fits;
+  }
+
+  pub IsSound-partly_reset : (new : List (List CellValue)) → ArePartlyReset (replicate s.width blank) s.lines new → IsSound f (record s { lines = new })
+  IsSound-partly_reset new p = with_lines new p.same_count (stored-partly_reset f s.width s.height s.lines lawful sound.some_column sound.full sound.stored_so new p)
+
+  pub IsSound-up : (a n k : ℕ) → a + n ≤ s.height → IsSound f (record s { lines = region_up (replicate s.width blank) s.lines a n k })
+  IsSound-up a n k inside =
+      let long : a + n ≤ length s.lines = omega (arith, sound.full) in
+      with_lines _ (length-region_up (replicate s.width blank) s.lines a n k long) (stored-up f s.width s.height s.lines lawful sound.some_column sound.full sound.stored_so a n k inside)
+
+  pub IsSound-down : (a n k : ℕ) → a + n ≤ s.height → IsSound f (record s { lines = region_down (replicate s.width blank) s.lines a n k })
+  IsSound-down a n k inside =
+      let long : a + n ≤ length s.lines = omega (arith, sound.full) in
+      with_lines _ (length-region_down (replicate s.width blank) s.lines a n k long) (stored-down f s.width s.height s.lines lawful sound.some_column sound.full sound.stored_so a n k inside)
 
 -- putting a cell
 module _ {W : Type 0} (f : List ℕ → ℕ) (s : SurfaceValue W) (c : CellValue) (sound : IsSound f s) (inside : s.x < s.width) where

@@ -23,7 +23,7 @@ mod JoinedRows
 mod RowTails
 mod Lines
 mod Filling
-pub mod Logs
+mod Logs
 mod Sides
 mod Regions
 mod ScrolledRows

@@ -47,7 +47,7 @@ module _ {W : Type 0} where
       → Adds measure old (map change_value changes.items) (next_number old.log - 1 + vec_len changes) (Ok n) new → Allows measure (state_of old) (Changes changes) (Answered n) (state_of new)
   Allows-answered measure old new changes n h =
       let count : length (map change_value changes.items) ≡ length changes.items = length-map changes.items change_value in
-      (h.0, omega (arith, h.1.0), h.1.1.0 ∙ ap (λ k. next_number old.log - 1 + k) changes.ok.0, record { screen = h.1.1.1.screen_is; kept = h.1.1.1.kept_is; log = h.1.1.1.log })
+      (h.0, omega (arith, h.1), h.2 ∙ ap (λ k. next_number old.log - 1 + k) changes.ok.0, record { screen = h.3.screen_is; kept = h.3.kept_is; log = h.3.log })
 
   -- a refused list is refused as the schedule says
   pub Allows-refused : (measure : List ℕ → ℕ) (old new : SurfaceValue W) (changes : Vec Change Global) (answer : ℕ) (e : SurfaceError)
@@ -55,15 +55,15 @@ module _ {W : Type 0} where
   Allows-refused measure old new changes answer ScrollRegion h = (h.0, ap state_of h.1)
   Allows-refused measure old new changes answer Numbers h =
       let count : length (map change_value changes.items) ≡ length changes.items = length-map changes.items change_value in
-      (h.0, omega (arith, h.1.0), ap state_of h.1.1)
+      (h.0, omega (arith, h.1), ap state_of h.2)
   Allows-refused measure old new changes answer Memory h =
       let count : length (map change_value changes.items) ≡ length changes.items = length-map changes.items change_value in
-      let frame = h.1.1.1.0 in
-      let sound = h.1.1.1.1 in
+      let frame = h.3 in
+      let sound = h.4 in
       let form = sound_has_size measure new sound in (
         h.0,
-        omega (arith, h.1.0),
-        omega (arith, h.1.1.0),
+        omega (arith, h.1),
+        omega (arith, h.2),
         record {
           size = record {
             width = form.width ∙ frame.width;

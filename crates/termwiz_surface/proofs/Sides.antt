@@ -2,7 +2,7 @@
 use Rattle.std.proofs.Common.{◌≡◌, ℕ, ◌<◌, true, List, length, get_or, set, sym, ◌∙◌, ap, subst}
 use Rattle.std.proofs.lemmas.List.{get_or-map, set-get_or, map-set}
 use Rattle.std.proofs.lemmas.List.Elements.{All-get_or, All-set}
-use Rattle.termwiz_line.specs.LineFlags.{no_flags}
+use Rattle.termwiz_line.specs.LineFlags.{LineFlags, no_flags}
 use Rattle.termwiz_line.specs.LineValue.{LineValue, IsEdited, IsUnchanged}
 use Rattle.termwiz_cell.specs.CellValue.{CellValue}
 use Rattle.termwiz_surface.specs.Sides.{row_flags, KeepsSide, KeepSides}
@@ -30,3 +30,9 @@ sides-set ls i l m h e k = record {
         (k.vector (subst (λ (x : LineValue). x.is_vector ≡ true) (sym e) (All-get_or (λ (x : LineValue). x.is_vector ≡ true) ls i l h v.each))) v.each;
   };
 }
+
+-- one row gets other flags
+pub flags-set : (ls : List LineValue) (i : ℕ) (l m : LineValue) (f : LineFlags → LineFlags) → i < length ls → l ≡ get_or ls i l → m.flags ≡ f l.flags → row_flags (set ls i m) ≡ set (row_flags ls) i (f (get_or (row_flags ls) i no_flags))
+flags-set ls i l m f h e k =
+    map-set (λ (v : LineValue). v.flags) ls i m
+    ∙ ap (set (row_flags ls) i) (k ∙ ap f (sym (get_or-map (λ (v : LineValue). v.flags) ls i l no_flags h ∙ ap (λ (v : LineValue). v.flags) (sym e))))

@@ -1,5 +1,5 @@
 -- Which outcomes a list of events may have: a state, what each event may answer and leave, and whole runs.
-use Rattle.std.specs.Prelude.{◌≡◌, ℕ, ◌+◌, ◌-◌, ◌^◌, ◌<◌, ◌≤◌, List, [], ◌∷◌, length, map, replicate, string_bytes, None}
+use Rattle.std.specs.Prelude.{◌≡◌, true, false, ℕ, ◌+◌, ◌-◌, ◌^◌, ◌<◌, ◌≤◌, List, [], ◌∷◌, length, map, replicate, string_bytes, None}
 use Rattle.termwiz_cell.specs.Attributes.{default_attributes}
 use Rattle.termwiz_cell.specs.CellValue.{CellValue, blank}
 use Rattle.termwiz_cell.specs.ChangeValue.{ChangeValue, change_value}

@@ -40,8 +40,8 @@ mod rows;
 mod screen;
 mod shown;
 
-use pen::{background_only, blank_with};
 use log::{Log, worth};
+use pen::{background_only, blank_with};
 use place::{column_at, row_at};
 use print::{Piece, begins_plain, printed_piece, split_narrow_run};
 use region::regions_fit;
@@ -121,14 +121,14 @@ impl<W: Widths> Model for Surface<W> {
     ghost use Rattle.termwiz_cell.specs.Width.{unversioned};
     ghost use Rattle.std.specs.Prelude.{string_bytes};
     ghost use Rattle.termwiz_surface.specs.ScreenValue.{cells_of};
-    ghost use Rattle.termwiz_surface.specs.Sides.{row_flags};
+    ghost use Rattle.termwiz_surface.specs.Sides.{row_flags, AreVectors};
     ghost use Rattle.termwiz_surface.specs.SurfaceValue.{SurfaceValue, IsSound};
 
     ghost Value = { SurfaceValue W };
 
     ghost view = { λ s. record { widths = s.widths; width = s.width; height = s.height; lines = cells_of s.rows.items; flags = row_flags s.rows.items; x = s.x; y = s.y; visibility = s.visibility; pen = s.pen; title = string_bytes s.title; shape = s.shape; color = s.color; log = s.log } };
 
-    ghost invariant = { λ s. IsSound (unversioned (W.width_of s.widths)) (record { widths = s.widths; width = s.width; height = s.height; lines = cells_of s.rows.items; flags = row_flags s.rows.items; x = s.x; y = s.y; visibility = s.visibility; pen = s.pen; title = string_bytes s.title; shape = s.shape; color = s.color; log = s.log }) };
+    ghost invariant = { λ s. IsSound (unversioned (W.width_of s.widths)) (record { widths = s.widths; width = s.width; height = s.height; lines = cells_of s.rows.items; flags = row_flags s.rows.items; x = s.x; y = s.y; visibility = s.visibility; pen = s.pen; title = string_bytes s.title; shape = s.shape; color = s.color; log = s.log }) × AreVectors s.rows.items };
 }
 
 impl<W: Widths> Surface<W> {
@@ -428,7 +428,12 @@ impl<W: Widths> Surface<W> {
     }
 
     // Scrolls rows up inside a region. The cursor stays.
-    fn scroll_region_up(&mut self, first: usize, size: usize, count: usize) -> Result<(), AllocError>
+    fn scroll_region_up(
+        &mut self,
+        first: usize,
+        size: usize,
+        count: usize,
+    ) -> Result<(), AllocError>
         requires { first + size ≤ self.old.height }
         ensures ok { OnOk result (let s = screen_of self.old in let k = kept_of self.old in Draws self.old (record s { rows = region_up (replicate s.width blank) s.rows first size count }) (record k { lengths = region_up s.width k.lengths first size count; flags = region_up no_flags k.flags first size count }) self.new) }
         ensures err { OnErr result (SameFrame self.old self.new) }
@@ -438,7 +443,12 @@ impl<W: Widths> Surface<W> {
     }
 
     // Scrolls rows down inside a region. The cursor stays.
-    fn scroll_region_down(&mut self, first: usize, size: usize, count: usize) -> Result<(), AllocError>
+    fn scroll_region_down(
+        &mut self,
+        first: usize,
+        size: usize,
+        count: usize,
+    ) -> Result<(), AllocError>
         requires { first + size ≤ self.old.height }
         ensures ok { OnOk result (let s = screen_of self.old in let k = kept_of self.old in Draws self.old (record s { rows = region_down (replicate s.width blank) s.rows first size count }) (record k { lengths = region_down s.width k.lengths first size count; flags = region_down no_flags k.flags first size count }) self.new) }
         ensures err { OnErr result (SameFrame self.old self.new) }

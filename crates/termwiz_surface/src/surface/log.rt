@@ -118,7 +118,11 @@ impl Log {
     {
         let number = self.next_number();
         self.changes.clear();
-        self.first = if number == SEQ_ZERO { SEQ_ZERO } else { number + 1 };
+        self.first = if number == SEQ_ZERO {
+            SEQ_ZERO
+        } else {
+            number + 1
+        };
     }
 }
 

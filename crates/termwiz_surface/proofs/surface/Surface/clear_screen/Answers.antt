@@ -7,12 +7,18 @@ use Rattle.termwiz_surface.proofs.Changed.{IsSound-partly, IsSound-screen, rows-
 use Rattle.termwiz_surface.proofs.surface.Surface.clear_screen.Goals as goal
 
 pub invariant_of-self : goal.invariant_of-self
-invariant_of-self g c =
-    IsSound-partly (unversioned (g.W.Widths.width_of c.self.inside.widths)) _ (record { space = g.met.W.Widths.space_has_one c.self.inside.widths None }) c.self.invariant (with_background c.args.color.now) _ (rw (c.in_ok-cleared.ensures, c.in_ok-pen.ensures) at (c.in_err-fill_rows.ensures.err (omega arith)))
+invariant_of-self g c = (
+  rw c.in_err-fill_rows.ensures.sides.flags
+      (IsSound-partly (unversioned (g.W.Widths.width_of c.self.inside.widths)) _ (record { space = g.met.W.Widths.space_has_one c.self.inside.widths None }) c.self.invariant.0 (with_background c.args.color.now) _ (rw (c.in_ok-cleared.ensures, c.in_ok-pen.ensures) at (c.in_err-fill_rows.ensures.err (omega arith)))),
+  c.in_err-fill_rows.ensures.sides.vectors c.self.invariant.1,
+)
 
 pub invariant_of-self-2 : goal.invariant_of-self-2
-invariant_of-self-2 g c =
-    rw c.in_ok-pen.ensures (IsSound-screen (unversioned (g.W.Widths.width_of c.self.inside.widths)) _ (record { space = g.met.W.Widths.space_has_one c.self.inside.widths None }) c.self.invariant (with_background c.args.color.now) _ (rw (c.in_ok-cleared.ensures, c.in_ok-pen.ensures) at c.in_ok-fill_rows.ensures.ok))
+invariant_of-self-2 g c = (
+  rw (c.in_ok-pen.ensures, c.in_ok-fill_rows.ensures.sides.flags)
+      (IsSound-screen (unversioned (g.W.Widths.width_of c.self.inside.widths)) _ (record { space = g.met.W.Widths.space_has_one c.self.inside.widths None }) c.self.invariant.0 (with_background c.args.color.now) _ (rw (c.in_ok-cleared.ensures, c.in_ok-pen.ensures) at c.in_ok-fill_rows.ensures.ok)),
+  c.in_ok-fill_rows.ensures.sides.vectors c.self.invariant.1,
+)
 
 pub returns-clause-ok : goal.returns-clause-ok
 returns-clause-ok g c =
@@ -23,9 +29,9 @@ returns-clause-ok g c =
       width = refl;
       height = refl;
       log = refl;
-      screen_is = rw (rows-screen f _ (record { space = g.met.W.Widths.space_has_one c.self.inside.widths None }) c.self.invariant (with_background c.args.color.now) (cells_of c.fill_rows.new.rows.items) done) refl;
+      screen_is = rw (rows-screen f _ (record { space = g.met.W.Widths.space_has_one c.self.inside.widths None }) c.self.invariant.0 (with_background c.args.color.now) (cells_of c.fill_rows.new.rows.items) done) refl;
       kept_is = λ i. record {
-        lengths = lengths-screen f _ (record { space = g.met.W.Widths.space_has_one c.self.inside.widths None }) c.self.invariant (with_background c.args.color.now) (cells_of c.fill_rows.new.rows.items) done i;
+        lengths = lengths-screen f _ (record { space = g.met.W.Widths.space_has_one c.self.inside.widths None }) c.self.invariant.0 (with_background c.args.color.now) (cells_of c.fill_rows.new.rows.items) done i;
         flags = c.in_ok-fill_rows.ensures.sides.flags i;
         title = string_bytes c.self.inside.title;
         shape = c.self.inside.shape;

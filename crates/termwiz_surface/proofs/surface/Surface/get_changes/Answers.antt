@@ -15,7 +15,7 @@ module _ (g : given.Over) (c : goal.In_ok-repaint-in-None g) where
   pub unknown : is_known (worth c.args.self.now.width c.args.self.now.height) c.args.self.now.log c.args.seq ≡ false
   unknown =
       subst (λ (v : SurfaceValue _). is_known (worth v.width v.height) v.log c.args.seq ≡ false) c.self.view_is
-      (sym (known-least c.self.inside.log c.args.seq (worth c.self.inside.width c.self.inside.height) c.self.invariant.number_fits)
+      (sym (known-least c.self.inside.log c.args.seq (worth c.self.inside.width c.self.inside.height) c.self.invariant.0.number_fits)
       ∙ sym (ap (λ most. is_known most c.self.inside.log c.args.seq) c.worth.ensures) ∙ c.in-None.ensures.none refl)
 
 pub returns-in_ok-repaint-in-None-clause-due : goal.returns-in_ok-repaint-in-None-clause-due
@@ -24,7 +24,7 @@ returns-in_ok-repaint-in-None-clause-due g c = λ known. absurd (true≢false (s
 pub returns-in_ok-repaint-in-None-clause-repaint : goal.returns-in_ok-repaint-in-None-clause-repaint
 returns-in_ok-repaint-in-None-clause-repaint g c =
     let width = unversioned (g.W.Widths.width_of c.args.self.now.widths) in
-    let sound = subst (λ (v : SurfaceValue _). IsSound (unversioned (g.W.Widths.width_of v.widths)) v) c.self.view_is c.self.invariant in
+    let sound = subst (λ (v : SurfaceValue _). IsSound (unversioned (g.W.Widths.width_of v.widths)) v) c.self.view_is c.self.invariant.0 in
     λ known s size. ap (replay width s) c.in_ok-repaint-in-None.ensures ∙ sound_repaint width c.args.self.now sound (g.met.W.Widths.space_has_one c.args.self.now.widths None) s size
 
 pub returns-in_ok-repaint-in-None-clause-short : goal.returns-in_ok-repaint-in-None-clause-short

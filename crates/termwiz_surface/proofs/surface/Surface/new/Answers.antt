@@ -9,14 +9,17 @@ use Rattle.termwiz_surface.proofs.Stored.{IsStored-blank}
 use Rattle.termwiz_surface.proofs.surface.Surface.new.Goals as goal
 
 pub invariant_of-result : goal.invariant_of-result
-invariant_of-result g c = rw c.in_ok-rows.ensures (record {
-  some_column = c.requires.some_column;
-  some_row = c.requires.some_row;
-  fits = c.requires.fits;
-  fits_height = c.requires.fits_height;
-  full = length-replicate _ _;
-  column = omega arith;
-  row = c.requires.some_row;
-  number_fits = omega (arith, ap next_number c.new.ensures);
-  stored_so = λ j l. subst (IsStored (unversioned (g.W.Widths.width_of c.args.widths)) c.args.width) (sym (get_or-replicate c.args.height j (replicate c.args.width blank) [] l)) (IsStored-blank (unversioned (g.W.Widths.width_of c.args.widths)) c.args.width (record { space = g.met.W.Widths.space_has_one c.args.widths None }) c.requires.some_column);
-})
+invariant_of-result g c = (
+  rw c.in_ok-rows.ensures.cells (record {
+    some_column = c.requires.some_column;
+    some_row = c.requires.some_row;
+    fits = c.requires.fits;
+    fits_height = c.requires.fits_height;
+    full = length-replicate _ _;
+    column = omega arith;
+    row = c.requires.some_row;
+    number_fits = omega (arith, ap next_number c.new-2.ensures);
+    stored_so = λ j l. subst (IsStored (unversioned (g.W.Widths.width_of c.args.widths)) c.args.width) (sym (get_or-replicate c.args.height j (replicate c.args.width blank) [] l)) (IsStored-blank (unversioned (g.W.Widths.width_of c.args.widths)) c.args.width (record { space = g.met.W.Widths.space_has_one c.args.widths None }) c.requires.some_column);
+  }),
+  c.in_ok-rows.ensures.vectors,
+)

@@ -21,9 +21,11 @@ module _ (g : given.Over) (c : goal.After-self-1 g) where
   x_is = c.min-self-inside.ensures ∙ ap (λ n. min (c.self.inside.x + n) c.self.inside.width) c.width.ensures.value
 
 pub invariant_of-self-2 : goal.invariant_of-self-2
-invariant_of-self-2 g c =
-    rw (c.in_ok-paint_row.ensures.ok, x_is g c)
-    (IsSound-put (width g c) _ c.args.cell c.self.invariant (inside g c) (record { space = g.met.W.Widths.space_has_one c.self.inside.widths None }) (measured_so g c))
+invariant_of-self-2 g c = (
+  rw (c.in_ok-paint_row.ensures.ok, c.in_ok-paint_row.ensures.sides.flags, x_is g c)
+      (IsSound-put (width g c) _ c.args.cell c.self.invariant.0 (inside g c) (record { space = g.met.W.Widths.space_has_one c.self.inside.widths None }) (measured_so g c)),
+  c.in_ok-paint_row.ensures.sides.vectors c.self.invariant.1,
+)
 
 pub returns-clause-ok : goal.returns-clause-ok
 returns-clause-ok g c =
@@ -32,9 +34,9 @@ returns-clause-ok g c =
       width = refl;
       height = refl;
       log = refl;
-      screen_is = rw (rows-put (width g c) _ c.args.cell c.self.invariant (inside g c)) refl;
+      screen_is = rw (rows-put (width g c) _ c.args.cell c.self.invariant.0 (inside g c)) refl;
       kept_is = λ i. record {
-        lengths = lengths-put (width g c) _ c.args.cell c.self.invariant (inside g c) i;
+        lengths = lengths-put (width g c) _ c.args.cell c.self.invariant.0 (inside g c) i;
         flags = c.in_ok-paint_row.ensures.sides.flags i;
         title = string_bytes c.self.inside.title;
         shape = c.self.inside.shape;

@@ -8,5 +8,5 @@ pub returns : goal.returns
 returns g c =
     rw (← c.self.view_is)
     (IfOk-weaker c.chars_of.result _ _
-    (λ text e. e ∙ chars_shown c.self.inside.width (cells_of c.self.inside.rows.items) (λ j l. (c.self.invariant.stored_so j (omega (arith, c.self.invariant.full))).within))
+    (λ text e. e ∙ chars_shown c.self.inside.width (cells_of c.self.inside.rows.items) (λ j l. (c.self.invariant.0.stored_so j (omega (arith, c.self.invariant.0.full))).within))
     c.chars_of.ensures)

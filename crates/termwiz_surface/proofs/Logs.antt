@@ -1,8 +1,9 @@
 -- What a log has from a number on.
-use Rattle.std.proofs.Common.{◌≡◌, ℕ, ◌-◌, ◌≤◌, ◌<◌, ◌^◌, min, true, inl, inr, List, length, take, drop, map, refl, sym, ◌∙◌, ap, arith, length-drop}
-use Rattle.std.proofs.lemmas.Bool.{cases_lt, ne_eqb, le-leb}
+use Rattle.std.proofs.Common.{◌≡◌, ℕ, ◌+◌, ◌-◌, ◌≤◌, ◌<◌, ◌^◌, min, true, inl, inr, List, length, take, drop, map, refl, sym, ◌∙◌, ap, arith, length-drop}
+use Rattle.std.specs.Prelude.{◌==◌}
+use Rattle.std.proofs.lemmas.Bool.{cases_Bool, cases_lt, ne_eqb, le-leb}
 use Rattle.std.proofs.lemmas.List.{take_all, drop-map}
-use Rattle.termwiz_surface.specs.Log.{LogValue, due, reaches, is_known, next_number}
+use Rattle.termwiz_surface.specs.Log.{LogValue, due, reaches, is_known, next_number, restarted}
 
 module _ (l : LogValue) (n : ℕ) (from : l.first ≤ n) (upto : n ≤ next_number l) where
   pub reaches_it : reaches l n ≡ true
@@ -25,3 +26,7 @@ known-least l n most fits = elim (cases_lt most (2 ^ 64)) [
       let few : length (due l n) ≤ min most (2 ^ 64 - 1) = omega (arith, length-drop (n - l.first) l.changes) in
       rw (le-leb (length (due l n)) (min most (2 ^ 64 - 1)) few, le-leb (length (due l n)) most (omega arith)) refl
 ]
+
+-- there is a number for an emptied log
+pub restarted_fits : (l : LogValue) → next_number l + 1 < 2 ^ 64 → next_number (restarted l) < 2 ^ 64
+restarted_fits l fits = elim (cases_Bool (next_number l == 0)) [ inl e ↦ rw e (omega arith) | inr e ↦ rw e (omega arith) ]

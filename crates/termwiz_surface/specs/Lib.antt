@@ -20,6 +20,7 @@ pub mod Padding
 pub mod Stream
 pub mod Log
 pub mod Kept
+pub mod Resizing
 pub mod Sides
 pub mod Regions
 pub mod Resized

@@ -30,12 +30,14 @@ ghost use Rattle.termwiz_surface.specs.Printable.{HasSize};
 ghost use Rattle.termwiz_surface.specs.Repaint.{repaint};
 ghost use Rattle.termwiz_surface.specs.Screen.{Screen as SeenScreen};
 
+mod lines;
 mod log;
 mod pen;
 mod place;
 mod print;
 mod region;
 mod repaint;
+mod resizing;
 mod rows;
 mod screen;
 mod shown;
@@ -129,6 +131,33 @@ impl<W: Widths> Model for Surface<W> {
     ghost view = { λ s. record { widths = s.widths; width = s.width; height = s.height; lines = cells_of s.rows.items; flags = row_flags s.rows.items; x = s.x; y = s.y; visibility = s.visibility; pen = s.pen; title = string_bytes s.title; shape = s.shape; color = s.color; log = s.log } };
 
     ghost invariant = { λ s. IsSound (unversioned (W.width_of s.widths)) (record { widths = s.widths; width = s.width; height = s.height; lines = cells_of s.rows.items; flags = row_flags s.rows.items; x = s.x; y = s.y; visibility = s.visibility; pen = s.pen; title = string_bytes s.title; shape = s.shape; color = s.color; log = s.log }) × AreVectors s.rows.items };
+}
+
+/// A copy has the same screen, rows, kept fields, log and number.
+impl<W: Widths> Clone for Surface<W> {
+    ghost is_clone = { λ a b. b ≡ a };
+
+    fn clone(&self) -> Result<Surface<W>, AllocError> {
+        let rows = self.rows.clone()?;
+        let pen = self.pen.clone()?;
+        let title = self.title.clone()?;
+        let log = self.log.clone()?;
+        Ok(Surface {
+            widths: self.widths,
+            alloc: self.alloc,
+            width: self.width,
+            height: self.height,
+            rows,
+            x: self.x,
+            y: self.y,
+            visibility: self.visibility,
+            pen,
+            title,
+            shape: self.shape,
+            color: self.color,
+            log,
+        })
+    }
 }
 
 impl<W: Widths> Surface<W> {

@@ -25,6 +25,18 @@ impl Model for Log {
     ghost view = { λ l. record { first = l.first; changes = map change_value l.changes.items } };
 }
 
+impl Clone for Log {
+    ghost is_clone = { λ a b. b ≡ a };
+
+    fn clone(&self) -> Result<Log, AllocError> {
+        let changes = self.changes.clone()?;
+        Ok(Log {
+            first: self.first,
+            changes,
+        })
+    }
+}
+
 impl Log {
     /// An empty log under the number 0.
     pub(super) fn new(alloc: Global) -> Log

@@ -1,4 +1,5 @@
 -- Which outcomes a list of events may have: a state, what each event may answer and leave, and whole runs.
+use Rattle.std.specs.Bool.{⊤}
 use Rattle.std.specs.Prelude.{◌≡◌, true, false, ℕ, ◌+◌, ◌-◌, ◌^◌, ◌<◌, ◌≤◌, List, [], ◌∷◌, length, map, replicate, string_bytes, None}
 use Rattle.termwiz_cell.specs.Attributes.{default_attributes}
 use Rattle.termwiz_cell.specs.CellValue.{CellValue, blank}
@@ -7,7 +8,8 @@ use Rattle.termwiz_cell.specs.declared.change.CursorVisibility.TheVariants.{Visi
 use Rattle.termwiz_line.specs.Row.{row_of}
 use Rattle.termwiz_surface.specs.Screen.{Screen, row_at}
 use Rattle.termwiz_surface.specs.Step.{replay, replay_kept, regions_fit}
-use Rattle.termwiz_surface.specs.Log.{LogValue, next_number, appended, restarted}
+use Rattle.termwiz_surface.specs.Log.{LogValue, next_number, appended, flushed, restarted}
+use Rattle.termwiz_surface.specs.Resizing.{resized_screen, resized_kept}
 use Rattle.termwiz_surface.specs.Stream.{IsStream}
 use Rattle.termwiz_surface.specs.Printable.{HasSize, IsPrintable}
 use Rattle.termwiz_surface.specs.ShownChars.{shown_chars}
@@ -17,9 +19,9 @@ use Rattle.termwiz_line.specs.LineFlags.{no_flags}
 use Rattle.termwiz_cell.specs.declared.color.ColorAttribute.TheVariants.{Default}
 use Rattle.termwiz_surface.specs.declared.surface.SurfaceError.TheVariants.{ScrollRegion, Numbers, Memory}
 use Rattle.termwiz_surface.specs.declared.view.Event.{Event}
-use Rattle.termwiz_surface.specs.declared.view.Event.TheVariants.{Changes, Show, Ask}
+use Rattle.termwiz_surface.specs.declared.view.Event.TheVariants.{Changes, Flush, Resize, Show, Ask}
 use Rattle.termwiz_surface.specs.declared.view.Outcome.{Outcome}
-use Rattle.termwiz_surface.specs.declared.view.Outcome.TheVariants.{Answered, Refused, Shown, Asked}
+use Rattle.termwiz_surface.specs.declared.view.Outcome.TheVariants.{Answered, Done, Refused, Shown, Asked}
 
 -- a screen, what is kept beside it, and the log of the changes that were made
 pub record State : Type 0 where
@@ -37,6 +39,17 @@ first_state w h = record {
   kept = record { lengths = replicate h w; flags = replicate h no_flags; title = []; shape = None; color = Default };
   log = record { first = 0; changes = [] };
 }
+
+-- the sizes that an event names are those that a surface may have
+abbrev pub IsInRange : Event → Type 0
+IsInRange (Resize w h) = (0 < w) × (0 < h) × (w < 2 ^ 32) × (h < 2 ^ 32)
+IsInRange _ = ⊤
+
+-- the screen takes another size
+pub record TakesSize (w h : ℕ) (old new : State) : Type 0 where
+  pub screen : new.screen ≡ resized_screen old.screen w h
+  pub kept : new.kept ≡ resized_kept old.kept w h
+  pub log : new.log ≡ restarted old.log
 
 -- the changes are done, in order
 pub record Does (measure : List ℕ → ℕ) (changes : List ChangeValue) (old new : State) : Type 0 where
@@ -63,6 +76,10 @@ Allows measure old (Changes changes) (Refused Numbers) new =
     (regions_fit old.screen.height (map change_value changes.items) ≡ true) × (2 ^ 64 ≤ next_number old.log + length changes.items) × (new ≡ old)
 Allows measure old (Changes changes) (Refused Memory) new =
     (regions_fit old.screen.height (map change_value changes.items) ≡ true) × (next_number old.log + length changes.items < 2 ^ 64) × (0 < length changes.items) × IsBroken measure old new
+Allows measure old (Flush n) Done new = new ≡ record old { log = flushed old.log n }
+Allows measure old (Resize w h) Done new = (next_number old.log + 1 < 2 ^ 64) × TakesSize w h old new
+Allows measure old (Resize w h) (Refused Numbers) new = (2 ^ 64 ≤ next_number old.log + 1) × (new ≡ old)
+Allows measure old (Resize w h) (Refused Memory) new = (next_number old.log + 1 < 2 ^ 64) × (new ≡ old)
 Allows measure old Show (Shown text cursor) new =
     (string_bytes text ≡ shown_chars old.screen.rows old.kept.lengths) × (cursor ≡ (old.screen.x, old.screen.y)) × (new ≡ old)
 Allows measure old Show (Refused Memory) new = new ≡ old

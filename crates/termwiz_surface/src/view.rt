@@ -2,8 +2,9 @@
 ghost use Rattle.std.specs.Prelude.{◌≡◌, ◌^◌, ◌<◌, IfOk, map};
 ghost use Rattle.std.specs.Cow.{cow_slice_items};
 ghost use Rattle.termwiz_cell.specs.ChangeValue.{change_value};
+ghost use Rattle.std.specs.List.{All};
 ghost use Rattle.termwiz_cell.specs.Width.{unversioned};
-ghost use Rattle.termwiz_surface.specs.Schedule.{Allows, IsSchedule, state_of};
+ghost use Rattle.termwiz_surface.specs.Schedule.{Allows, IsInRange, IsSchedule, state_of};
 
 use crate::surface::{Surface, SurfaceError};
 use std::alloc::{AllocError, Global};
@@ -16,6 +17,10 @@ use termwiz_cell::emoji::Widths;
 pub enum Event {
     /// The changes are added, as one list.
     Changes(Vec<Change>),
+    /// The changes before this number are forgotten, as by `flush_changes_older_than`.
+    Flush(SequenceNo),
+    /// The surface takes this width and height.
+    Resize(usize, usize),
     /// The texts and the cursor are shown.
     Show,
     /// The changes from this number on are asked for.
@@ -27,11 +32,13 @@ pub enum Event {
 pub enum Outcome {
     /// What `add_changes` answered.
     Answered(SequenceNo),
+    /// The log was flushed, or the surface resized.
+    Done,
     /// The event was refused.
     Refused(SurfaceError),
     /// The texts of the stored rows, each with a line feed, and the cursor's column and row.
     Shown(String, (usize, usize)),
-    /// The surface's number, and changes that bring any screen of that size to the surface's.
+    /// The surface's number, and what a viewer that was last given the asked number has to apply.
     Asked(SequenceNo, Vec<Change>),
 }
 
@@ -48,6 +55,7 @@ pub fn run<W: Widths>(
     requires some_row { 0 < height }
     requires fits { width < 2 ^ 32 }
     requires fits_height { height < 2 ^ 32 }
+    requires sizes { All IsInRange events.items }
     ensures { IfOk result (λ outcomes. IsSchedule (unversioned (W.width_of widths)) width height events.items outcomes.items) }
 {
     let mut surface = Surface::new(alloc, width, height, widths)?;
@@ -60,12 +68,21 @@ pub fn run<W: Widths>(
 
 // Does one event.
 fn serve<W: Widths>(alloc: Global, surface: &mut Surface<W>, event: Event) -> Outcome
+    requires { IsInRange event }
     ensures step { Allows (unversioned (W.width_of surface.old.widths)) (state_of surface.old) event result (state_of surface.new) }
     ensures widths { surface.new.widths ≡ surface.old.widths }
 {
     match event {
         Event::Changes(changes) => match surface.add_changes(changes) {
             Ok(number) => Outcome::Answered(number),
+            Err(error) => Outcome::Refused(error),
+        },
+        Event::Flush(seq) => {
+            surface.flush_changes_older_than(seq);
+            Outcome::Done
+        }
+        Event::Resize(width, height) => match surface.resize(width, height) {
+            Ok(()) => Outcome::Done,
             Err(error) => Outcome::Refused(error),
         },
         Event::Show => match surface.screen_chars_to_string() {

@@ -16,9 +16,10 @@ returns c =
     let h = length (cells_of c.args.rows.now.items) in
     let long : h ≡ deque_len c.args.rows.now = length-cells_of c.args.rows.now.items ∙ sym c.args.rows.now.ok.0 in
     let rows = map (row_of w) (cells_of c.args.rows.now.items) in
+    let first = first_entries c.args.title.now in
     IfOk-weaker c.into_penned.result
     (λ drawn. penned_value drawn ≡ c.write_rows.new.writer.printed)
-    (λ drawn. penned_value drawn ≡ behind first_entries (all_rows w h rows))
-    (λ drawn e. e ∙ c.in_ok-write_rows.ensures.printed ∙ ap (λ j. behind first_entries (rows_upto w rows j)) (c.len.ensures ∙ sym long)
-    ∙ ap (behind first_entries) (sym (not_clearable w h rows c.bottom_attrs-attrs.result.now c.bottom_attrs-attrs.ensures (sym c.is_clearable.ensures ∙ c.if-is_clearable.false))))
+    (λ drawn. penned_value drawn ≡ behind first (all_rows w h rows))
+    (λ drawn e. e ∙ (c.in_ok-write_rows.ensures.upto c.args.title.now begun).printed ∙ ap (λ j. behind first (rows_upto w rows j)) (c.len.ensures ∙ sym long)
+    ∙ ap (behind first) (sym (not_clearable w h rows c.bottom_attrs-attrs.result.now c.bottom_attrs-attrs.ensures (sym c.is_clearable.ensures ∙ c.if-is_clearable.false))))
     c.into_penned.ensures

@@ -69,7 +69,9 @@ clearable a = is_plain a && not (attributes_eq a default_attributes)
 
 -- behind the first entries
 pub cleared_behind : (a : Attributes) (title : List ℕ) (d : Penned) → ends_with a d.entries ≡ true → cleared_below a (behind (first_entries title) d) ≡ behind (first_entries title) (cleared_below a d)
-cleared_behind a title d h = ap (λ es. record { entries = es ++ change.ClearToEndOfScreen a.background ∷ []; pen = a }) (front_behind_first a title d.entries h)
+cleared_behind a title d h =
+    let cleared = change.ClearToEndOfScreen a.background ∷ [] in
+    ap (λ es. record { entries = es; pen = a }) (ap (λ es. es ++ cleared) (front_behind_first a title d.entries h) ∙ append_assoc (first_entries title) (front_of d.entries) cleared)
 
 module _ (w h : ℕ) (rows : List (List CellValue)) (a : Attributes) (is_bottom : a ≡ bottom_attrs w h rows) where
   pub not_clearable : clearable a ≡ false → all_rows w h rows ≡ rows_upto w rows h

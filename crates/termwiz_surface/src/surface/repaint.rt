@@ -60,11 +60,7 @@ fn bottom_attrs<'a>(rows: &'a VecDeque<Line>, width: usize, padding: &'a Cell) -
 }
 
 // A clear of the screen with the cursor hidden, and the title.
-fn started<'a>(
-    alloc: Global,
-    padding: &'a Cell,
-    title: &str,
-) -> Result<RowWriter<'a>, AllocError>
+fn started<'a>(alloc: Global, padding: &'a Cell, title: &str) -> Result<RowWriter<'a>, AllocError>
     requires { padding.now ≡ blank }
     ensures printed { IfOk result (λ writer. writer.printed ≡ record { entries = spec.first_entries title.now; pen = default_attributes }) }
     ensures between { IfOk result (λ writer. writer.spaces ≡ 0) }

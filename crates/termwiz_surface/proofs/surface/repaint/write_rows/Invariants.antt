@@ -7,5 +7,5 @@ use Rattle.termwiz_surface.proofs.surface.repaint.write_rows.Given as goal
 abbrev pub invariant-loop-i : goal.invariant-loop-i
 invariant-loop-i l = record {
   before : IsBeforeRow l.i l.writer;
-  upto : (title : List ℕ) → IsDrawnUpto title l.width (map (row_of l.width) (cells_of l.rows.items)) l.from l.fn.writer.old → IsDrawnUpto title l.width (map (row_of l.width) (cells_of l.rows.items)) l.i l.writer;
+  upto : (title : List ℕ) → IsDrawnUpto title l.width (map (row_of l.width) (cells_of l.rows.items)) l.from l.fn.writer → IsDrawnUpto title l.width (map (row_of l.width) (cells_of l.rows.items)) l.i l.writer;
 }

@@ -1,7 +1,7 @@
 use Rattle.std.proofs.Common.{◌+◌, ◌<◌, map, length, arith, subst, sym, ap, ◌∙◌}
 use Rattle.termwiz_line.specs.Row.{row_of}
 use Rattle.termwiz_surface.specs.ScreenValue.{cells_of}
-use Rattle.termwiz_surface.specs.Drawing.{IsBeforeRow, IsDrawnUpto}
+use Rattle.termwiz_surface.specs.Drawing.{IsDrawnUpto}
 use Rattle.termwiz_surface.specs.Padding.{IsPaddable}
 use Rattle.termwiz_surface.proofs.Lines.{length-cells_of, cells-read, row-read}
 use Rattle.termwiz_surface.proofs.JoinedRows.{no_text, row_drawn}

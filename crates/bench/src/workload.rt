@@ -3,7 +3,7 @@ ghost use Rattle.std.specs.Prelude.{◌<◌, ◌^◌};
 
 use std::alloc::{AllocError, Global};
 use termwiz_cell::cell::CellAttributes;
-use termwiz_cell::change::Change;
+use termwiz_cell::change::{Change, SequenceNo};
 use termwiz_cell::color::ColorAttribute;
 use termwiz_cell::emoji::UnicodeWidths;
 use termwiz_surface::surface::{Surface, SurfaceError};
@@ -19,6 +19,10 @@ pub enum Workload {
     Kana,
     /// A short line at the bottom row.
     Scroll,
+    /// The same, where the log is flushed every 64 changes.
+    Log,
+    /// Ten changes that are due on 80x24.
+    Delta,
     /// A repaint of a coloured 80x24.
     Repaint,
     /// A repaint of a coloured 200x60.
@@ -42,6 +46,8 @@ impl Workload {
             "colours" => Some(Workload::Colours),
             "kana" => Some(Workload::Kana),
             "scroll" => Some(Workload::Scroll),
+            "log" => Some(Workload::Log),
+            "delta" => Some(Workload::Delta),
             "repaint" => Some(Workload::Repaint),
             "large-repaint" => Some(Workload::LargeRepaint),
             "one-pen" => Some(Workload::OnePen),
@@ -57,6 +63,8 @@ impl Workload {
 const PLAIN: &str =
     "The quick brown fox jumps over the lazy dog; 0123456789 and then some more text.\r\n";
 
+const SHORT: &str = "x\r\n";
+
 const EIGHT: &str = "colours ";
 
 const KANA: &str = "かきくけこさしすせそたちつてとなにぬねのはひふへほまみむめもやゆよらりるれろわを\r\n";
@@ -67,7 +75,9 @@ pub fn run(alloc: Global, workload: Workload, count: u32) -> Result<usize, Surfa
         Workload::Plain => printed(alloc, PLAIN, count),
         Workload::Colours => coloured(alloc, count),
         Workload::Kana => printed(alloc, KANA, count),
-        Workload::Scroll => printed(alloc, "x\r\n", count),
+        Workload::Scroll => printed(alloc, SHORT, count),
+        Workload::Log => flushed(alloc, count),
+        Workload::Delta => due(alloc, count),
         Workload::Repaint => repainted(alloc, 80, 24, count),
         Workload::LargeRepaint => repainted(alloc, 200, 60, count),
         Workload::OnePen => one_pen(alloc, count),
@@ -84,6 +94,25 @@ fn printed(alloc: Global, line: &str, count: u32) -> Result<usize, SurfaceError>
         surface.add_change(Change::text_from(alloc, line)?)?;
     }
     Ok(surface.current_seqno())
+}
+
+fn flushed(alloc: Global, count: u32) -> Result<usize, SurfaceError> {
+    let mut surface = Surface::new(alloc, 80, 24, UnicodeWidths)?;
+    for change in 0..count {
+        surface.add_change(Change::text_from(alloc, SHORT)?)?;
+        if change % 64 == 63 {
+            surface.flush_changes_older_than(surface.current_seqno());
+        }
+    }
+    Ok(surface.current_seqno())
+}
+
+fn due(alloc: Global, count: u32) -> Result<usize, SurfaceError> {
+    let mut surface = Surface::new(alloc, 80, 24, UnicodeWidths)?;
+    for _ in 0..11 {
+        surface.add_change(Change::text_from(alloc, SHORT)?)?;
+    }
+    asked(&surface, 1, count)
 }
 
 fn pen(alloc: Global, index: u8) -> Result<Change, AllocError> {
@@ -115,7 +144,7 @@ fn repainted(alloc: Global, width: usize, height: usize, count: u32) -> Result<u
         surface.add_change(pen(alloc, (cell % 10) as u8)?)?;
         surface.add_change(Change::text_from(alloc, EIGHT)?)?;
     }
-    repaints(&surface, count)
+    asked(&surface, 0, count)
 }
 
 fn one_pen(alloc: Global, count: u32) -> Result<usize, SurfaceError> {
@@ -123,14 +152,18 @@ fn one_pen(alloc: Global, count: u32) -> Result<usize, SurfaceError> {
     for _ in 0..200 * 60 / 8 {
         surface.add_change(Change::text_from(alloc, EIGHT)?)?;
     }
-    repaints(&surface, count)
+    asked(&surface, 0, count)
 }
 
-// How many entries so many repaints have.
-fn repaints(surface: &Surface<UnicodeWidths>, count: u32) -> Result<usize, SurfaceError> {
+// How many entries so many answers to a number have.
+fn asked(
+    surface: &Surface<UnicodeWidths>,
+    seq: SequenceNo,
+    count: u32,
+) -> Result<usize, SurfaceError> {
     let mut entries = 0usize;
     for _ in 0..count {
-        let (_, changes) = surface.get_changes(0)?;
+        let (_, changes) = surface.get_changes(seq)?;
         entries = entries.wrapping_add(changes.as_slice().len());
     }
     Ok(entries)

@@ -7,11 +7,17 @@ pub mod changes;
 #[cfg(test)]
 mod graphemes;
 #[cfg(test)]
+mod kept;
+#[cfg(test)]
 mod lines;
+#[cfg(test)]
+mod logs;
 #[cfg(test)]
 mod positions;
 #[cfg(test)]
 mod printing;
+#[cfg(test)]
+mod regions;
 #[cfg(test)]
 mod repaints;
 #[cfg(test)]

@@ -71,6 +71,18 @@ fn answers_and_empty_lists(rt: HostRuntime) -> Result<(), Fail> {
 }
 
 #[test]
+fn an_empty_list_takes_no_number(rt: HostRuntime) -> Result<(), Fail> {
+    let alloc = rt.alloc();
+    let mut surface = drawn(alloc, 2, 2, UnicodeWidths, &[])?;
+    assert_eq!(rt; add_list(alloc, &mut surface, &[])?, 0);
+    assert_eq!(rt; surface.current_seqno(), 0);
+    assert_numbers(&rt, alloc, &mut surface, &["a", "b", "c"])?;
+    assert_eq!(rt; add_list(alloc, &mut surface, &[])?, 2);
+    assert_eq!(rt; surface.current_seqno(), 3);
+    Ok(())
+}
+
+#[test]
 fn a_list_of_one_answers_one_more_than_its_change(rt: HostRuntime) -> Result<(), Fail> {
     let alloc = rt.alloc();
     let mut surface = drawn(alloc, 2, 1, OneColumn, &[])?;
@@ -170,6 +182,10 @@ fn screens_are_compared_by_what_they_show(rt: HostRuntime) -> Result<(), Fail> {
 fn refusals_say_why(rt: HostRuntime) -> Result<(), Fail> {
     let alloc = rt.alloc();
     for (error, text) in [
+        (
+            SurfaceError::ScrollRegion,
+            "a scroll region goes past the last row",
+        ),
         (SurfaceError::Numbers, "the numbers of changes are used up"),
         (SurfaceError::Memory, "out of memory"),
     ] {

@@ -1,39 +1,18 @@
 //! Which entries a repaint has.
-use crate::changes::{cleared, hidden, visible};
 use crate::steps::{PLAIN, RED, Step, Style};
-use crate::surfaces::{add_list, assert_repaint, assert_same_screen, draw, drawn};
-use std::alloc::AllocError;
-use std::process::Abort;
+use crate::surfaces::{
+    add_list, assert_repaint, assert_repaint_from, assert_same_screen, draw, drawn,
+};
 use std::test::Fail;
-use termwiz_cell::change::{Change, SequenceNo};
 use termwiz_cell::color::{AnsiColor, ColorAttribute};
-use termwiz_cell::emoji::{UnicodeWidths, Widths};
-use termwiz_surface::surface::Surface;
-
-// The changes after any number hide the cursor, clear the screen and show the cursor.
-fn assert_fresh<W: Widths>(
-    rt: &impl Abort,
-    surface: &Surface<W>,
-    seq: SequenceNo,
-) -> Result<(), AllocError> {
-    let (number, changes) = surface.get_changes(seq)?;
-    assert_eq!(rt; number, 0);
-    assert_cleared(rt, changes.as_slice());
-    Ok(())
-}
-
-fn assert_cleared(rt: &impl Abort, changes: &[Change]) {
-    assert_eq!(rt; changes.len(), 3);
-    assert!(rt; changes[0] == hidden());
-    assert!(rt; changes[1] == cleared());
-    assert!(rt; changes[2] == visible());
-}
+use termwiz_cell::emoji::UnicodeWidths;
 
 #[test]
-fn a_fresh_surface(rt: HostRuntime) -> Result<(), Fail> {
-    let surface = drawn(rt.alloc(), 4, 3, UnicodeWidths, &[])?;
+fn a_fresh_surface_is_repainted_from_any_number(rt: HostRuntime) -> Result<(), Fail> {
+    let alloc = rt.alloc();
+    let surface = drawn(alloc, 4, 3, UnicodeWidths, &[])?;
     for seq in [0, 1, 99] {
-        assert_fresh(&rt, &surface, seq)?;
+        assert_repaint_from(&rt, alloc, &surface, seq, 0, &[Step::Show])?;
     }
     Ok(())
 }

@@ -2,7 +2,7 @@
 use crate::changes::{at, default_pen, hidden, next_row, text, visible};
 use std::alloc::{AllocError, Global};
 use termwiz_cell::cell::{AttributeChange, CellAttributes, Intensity};
-use termwiz_cell::change::Change;
+use termwiz_cell::change::{Change, CursorShape, LineAttribute};
 use termwiz_cell::color::ColorAttribute;
 
 /// The default colour.
@@ -25,6 +25,14 @@ pub enum Step<'a> {
     Clear(ColorAttribute),
     ClearToEndOfLine(ColorAttribute),
     ClearToEndOfScreen(ColorAttribute),
+    /// Scrolls a region up: its first row, its size, and by how many rows.
+    ScrollUp(usize, usize, usize),
+    /// Scrolls a region down, by the same numbers.
+    ScrollDown(usize, usize, usize),
+    Title(&'a str),
+    Shape(CursorShape),
+    /// Sets how large the cursor's line is shown.
+    Line(LineAttribute),
     /// Sets one attribute of the pen.
     Set(Style),
     /// Sets the whole pen, with defaults for all attributes but one.
@@ -85,6 +93,21 @@ impl Step<'_> {
             Step::Clear(color) => Ok(Change::ClearScreen(*color)),
             Step::ClearToEndOfLine(color) => Ok(Change::ClearToEndOfLine(*color)),
             Step::ClearToEndOfScreen(color) => Ok(Change::ClearToEndOfScreen(*color)),
+            Step::ScrollUp(first_row, region_size, scroll_count) => Ok(Change::ScrollRegionUp {
+                first_row: *first_row,
+                region_size: *region_size,
+                scroll_count: *scroll_count,
+            }),
+            Step::ScrollDown(first_row, region_size, scroll_count) => {
+                Ok(Change::ScrollRegionDown {
+                    first_row: *first_row,
+                    region_size: *region_size,
+                    scroll_count: *scroll_count,
+                })
+            }
+            Step::Title(title) => Ok(Change::Title(String::from_str(alloc, title)?)),
+            Step::Shape(shape) => Ok(Change::CursorShape(*shape)),
+            Step::Line(attribute) => Ok(Change::LineAttribute(*attribute)),
             Step::Set(style) => Ok(Change::Attribute(style.change())),
             Step::Pen(style) => Ok(Change::AllAttributes(style.attributes(alloc)?)),
             Step::DefaultPen => Ok(default_pen()),

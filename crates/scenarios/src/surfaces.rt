@@ -4,6 +4,7 @@ ghost use Rattle.std.specs.Prelude.{◌<◌, ◌^◌};
 use crate::changes::{cleared, hidden};
 use crate::steps::{Step, changes};
 use std::alloc::{AllocError, Global};
+use std::borrow::CowSlice;
 use std::process::Abort;
 use termwiz_cell::change::{Change, SequenceNo};
 use termwiz_cell::emoji::Widths;
@@ -109,9 +110,37 @@ pub fn assert_repaint<W: Widths>(
     number: SequenceNo,
     rest: &[Step<'_>],
 ) -> Result<(), AllocError> {
-    let (answered, changes) = surface.get_changes(0)?;
+    assert_repaint_from(rt, alloc, surface, 0, number, rest)
+}
+
+/// The answer to this number is an owned repaint, with that number and these entries behind the two with which each begins.
+pub fn assert_repaint_from<W: Widths>(
+    rt: &impl Abort,
+    alloc: Global,
+    surface: &Surface<W>,
+    seq: SequenceNo,
+    number: SequenceNo,
+    rest: &[Step<'_>],
+) -> Result<(), AllocError> {
+    let (answered, changes) = surface.get_changes(seq)?;
     assert_eq!(rt; answered, number);
+    assert!(rt; matches!(&changes, CowSlice::Owned(_)));
     assert_entries(rt, alloc, changes.as_slice(), rest)
+}
+
+/// The answer to this number lends the changes that these steps are, with that number.
+pub fn assert_lent<W: Widths>(
+    rt: &impl Abort,
+    alloc: Global,
+    surface: &Surface<W>,
+    seq: SequenceNo,
+    number: SequenceNo,
+    steps: &[Step<'_>],
+) -> Result<(), AllocError> {
+    let (answered, changes) = surface.get_changes(seq)?;
+    assert_eq!(rt; answered, number);
+    assert!(rt; matches!(&changes, CowSlice::Borrowed(_)));
+    assert_changes(rt, alloc, changes.as_slice(), steps)
 }
 
 fn assert_entries(

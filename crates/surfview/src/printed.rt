@@ -16,6 +16,7 @@ impl Display for Printed<'_> {
     fn fmt<W: fmt::Write>(&self, f: &mut Formatter<W>) -> fmt::Result {
         match self.0 {
             Outcome::Answered(_) => Ok(()),
+            Outcome::Refused(SurfaceError::ScrollRegion) => writeln!(f, "refused: scroll region"),
             Outcome::Refused(SurfaceError::Numbers) => writeln!(f, "refused: numbers"),
             Outcome::Refused(SurfaceError::Memory) => writeln!(f, "refused: memory"),
             Outcome::Shown(rows, (x, y)) => {
@@ -52,7 +53,21 @@ impl Display for PrintedChange<'_> {
             }
             Change::CursorVisibility(CursorVisibility::Hidden) => write!(f, "hidden"),
             Change::CursorVisibility(CursorVisibility::Visible) => write!(f, "visible"),
-            Change::Attribute(_) => write!(f, "other"),
+            Change::ScrollRegionUp {
+                first_row,
+                region_size,
+                scroll_count,
+            } => write!(f, "up {first_row} {region_size} {scroll_count}"),
+            Change::ScrollRegionDown {
+                first_row,
+                region_size,
+                scroll_count,
+            } => write!(f, "down {first_row} {region_size} {scroll_count}"),
+            Change::Attribute(_)
+            | Change::CursorColor(_)
+            | Change::CursorShape(_)
+            | Change::Title(_)
+            | Change::LineAttribute(_) => write!(f, "other"),
         }
     }
 }

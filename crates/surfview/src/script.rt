@@ -73,8 +73,10 @@ fn event(alloc: Global, line: &str) -> Result<Event, LineError> {
         ["clear", color @ ..] => changes(alloc, Change::ClearScreen(background(color)?)),
         ["eol", color @ ..] => changes(alloc, Change::ClearToEndOfLine(background(color)?)),
         ["eos", color @ ..] => changes(alloc, Change::ClearToEndOfScreen(background(color)?)),
+        ["up", first, size, count] => changes(alloc, scroll_up(first, size, count)?),
+        ["down", first, size, count] => changes(alloc, scroll_down(first, size, count)?),
         ["show"] => Ok(Event::Show),
-        ["ask", seq] => Ok(Event::Ask(number(seq).ok_or(LineError::BadCommand)? as usize)),
+        ["ask", seq] => Ok(Event::Ask(given(seq)?)),
         _ => Err(LineError::BadCommand),
     }
 }
@@ -88,12 +90,34 @@ fn changes(alloc: Global, change: Change) -> Result<Event, LineError> {
 
 /// The move to a column and a row.
 fn cursor_position(x: &str, y: &str) -> Result<Change, LineError> {
-    let x = number(x).ok_or(LineError::BadCommand)?;
-    let y = number(y).ok_or(LineError::BadCommand)?;
     Ok(Change::CursorPosition {
-        x: Position::Absolute(x as usize),
-        y: Position::Absolute(y as usize),
+        x: Position::Absolute(given(x)?),
+        y: Position::Absolute(given(y)?),
     })
+}
+
+/// The scroll up of a region, of which the words give the first row, the size and by how many rows.
+fn scroll_up(first: &str, size: &str, count: &str) -> Result<Change, LineError> {
+    Ok(Change::ScrollRegionUp {
+        first_row: given(first)?,
+        region_size: given(size)?,
+        scroll_count: given(count)?,
+    })
+}
+
+/// The scroll down of a region, of which the words give the first row, the size and by how many rows.
+fn scroll_down(first: &str, size: &str, count: &str) -> Result<Change, LineError> {
+    Ok(Change::ScrollRegionDown {
+        first_row: given(first)?,
+        region_size: given(size)?,
+        scroll_count: given(count)?,
+    })
+}
+
+/// The number that a word of a command gives.
+fn given(word: &str) -> Result<usize, LineError> {
+    let number = number(word).ok_or(LineError::BadCommand)?;
+    Ok(number as usize)
 }
 
 /// The pen that the words, of which there is at least one, make of the default one in turn.

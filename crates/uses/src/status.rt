@@ -2,6 +2,7 @@
 ghost use Rattle.std.specs.Prelude.{◌≡◌, ◌+◌, IfOk, OnOk, map};
 ghost use Rattle.termwiz_cell.specs.ChangeValue.{change_value};
 ghost use Rattle.termwiz_cell.specs.Width.{unversioned};
+ghost use Rattle.termwiz_surface.specs.Log.{appended, next_number};
 ghost use Rattle.termwiz_surface.specs.Step.{replay};
 ghost use Rattle.termwiz_surface.specs.SurfaceValue.{screen_of};
 ghost use Rattle.uses.specs.Status.{status_line};
@@ -23,7 +24,8 @@ pub fn draw_status<W: Widths>(
     text: &str,
 ) -> Result<(), SurfaceError>
     ensures ok { OnOk result (screen_of surface.new ≡ replay (unversioned (W.width_of surface.old.widths)) (screen_of surface.old) (status_line background pen text.now)) }
-    ensures numbers { OnOk result (surface.new.number ≡ surface.old.number + 4) }
+    ensures log { OnOk result (surface.new.log ≡ appended surface.old.log (status_line background pen text.now)) }
+    ensures numbers { OnOk result (next_number surface.new.log ≡ next_number surface.old.log + 4) }
     ensures width { surface.new.width ≡ surface.old.width }
     ensures height { surface.new.height ≡ surface.old.height }
 {

@@ -2,7 +2,7 @@
 use super::Printed;
 use std::test::Fail;
 use termwiz_cell::cell::{AttributeChange, Intensity};
-use termwiz_cell::change::{Change, CursorVisibility, Position};
+use termwiz_cell::change::{Change, CursorShape, CursorVisibility, LineAttribute, Position};
 use termwiz_cell::color::{ColorAttribute, RgbColor};
 use termwiz_surface::surface::SurfaceError;
 use termwiz_surface::view::Outcome;
@@ -12,6 +12,10 @@ fn prints_each_outcome(rt: HostRuntime) -> Result<(), Fail> {
     let rows = String::from_str(rt.alloc(), "ab\n \\ \n")?;
     for (outcome, want) in [
         (Outcome::Answered(3), ""),
+        (
+            Outcome::Refused(SurfaceError::ScrollRegion),
+            "refused: scroll region\n",
+        ),
         (
             Outcome::Refused(SurfaceError::Numbers),
             "refused: numbers\n",
@@ -42,11 +46,16 @@ fn prints_changes_that_no_script_makes(rt: HostRuntime) -> Result<(), Fail> {
         Change::CursorVisibility(CursorVisibility::Visible),
         Change::ClearToEndOfLine(red),
         Change::Attribute(AttributeChange::Intensity(Intensity::Bold)),
+        Change::CursorColor(red),
+        Change::CursorShape(CursorShape::SteadyBar),
+        Change::Title(String::from_str(rt.alloc(), "clear")?),
+        Change::LineAttribute(LineAttribute::DoubleWidthLine),
     ]?;
     let text = format!(in rt.alloc(); "{}", Printed(&Outcome::Asked(0, changes)))?;
     assert_eq!(rt;
         text.as_str(),
-        "number 0\nmove -3 +0\nmove $4 +12\nhidden\nvisible\neol #ff000a\nother\n"
+        "number 0\nmove -3 +0\nmove $4 +12\nhidden\nvisible\neol #ff000a\nother\nother\nother\n\
+         other\nother\n"
     );
     Ok(())
 }

@@ -49,6 +49,8 @@ fn makes_the_change_of_each_line(rt: HostRuntime) -> Result<(), Fail> {
         ("eol 0000000009", "eol 9"),
         ("eos", "eos default"),
         ("eos #00fF0a", "eos #00ff0a"),
+        ("up 2 3 1", "up 2 3 1"),
+        ("down 0000000000 4294967295 01", "down 0 4294967295 1"),
     ] {
         let want = format!(in rt.alloc(); "number 7\n{want}\n")?;
         let printed = printed(rt.alloc(), line)?;

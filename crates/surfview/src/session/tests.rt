@@ -120,6 +120,22 @@ fn prints_what_each_script_gives(rt: HostRuntime) -> Result<(), Fail> {
             "pen bold fg=#0015FF\ntext ab\nask 0\n",
             "number 2\nhidden\nclear default\npen bold fg=#0015ff\ntext ab\nmove =2 =0\nvisible\n",
         ),
+        // What is due from a number on is told as it was made.
+        (
+            ["4", "3"],
+            "text a\npen bold\ntext b\nup 0 3 1\nask 1\n",
+            "number 4\npen bold\ntext b\nup 0 3 1\n",
+        ),
+        // Nothing is due from the coming number on.
+        (["4", "3"], "text a\nask 1\n", "number 1\n"),
+        // Rows scroll inside their regions, and the cursor stays.
+        (
+            ["3", "3"],
+            "text aaabbbccc\nup 0 3 1\nshow\ndown 1 2 1\nshow\n",
+            "|bbb|\n|ccc|\n|   |\ncursor 3 2\n|bbb|\n|   |\n|ccc|\ncursor 3 2\n",
+        ),
+        // A region that goes past the last row.
+        (["4", "3"], "up 2 2 1\n", "refused: scroll region\n"),
         // A fresh surface, asked for any number.
         (
             ["4", "3"],
@@ -154,6 +170,8 @@ fn prints_nothing_for_scripts_that_ask_nothing(rt: HostRuntime) -> Result<(), Fa
         "clear 255",
         "eol 0000000255",
         "eos #00ff00",
+        "up 0 1 4294967295",
+        "down 1 0 0",
     ] {
         let ended = run_session(rt.alloc(), &["2", "1"], script.as_bytes())?;
         assert_eq!(rt; ended.out.as_str(), "", "{script}");
@@ -223,7 +241,15 @@ fn names_the_first_bad_line_and_prints_nothing(rt: HostRuntime) -> Result<(), Fa
         "ask ",
         "ask 4294967296",
         "ask 1 2",
-        "up 2 2 1",
+        "up",
+        "up 2 1",
+        "up 2 1 1 1",
+        "up 2 1 ",
+        "up  2 1 1",
+        "up 2 1 -1",
+        "up 4294967296 1 1",
+        "down 2 1",
+        "down 2 1 x",
     ] {
         let script = format!(in rt.alloc(); "show\n{line}\nfly\n")?;
         let ended = run_session(rt.alloc(), &["4", "3"], script.as_bytes())?;

@@ -1,0 +1,70 @@
+//! What is kept beside a screen: a title, the cursor's shape, and how large lines are shown.
+use crate::steps::Step;
+use crate::surfaces::{add, assert_lent, assert_shows, draw, drawn};
+use std::alloc::Global;
+use std::process::Abort;
+use std::test::Fail;
+use termwiz_cell::change::{CursorShape, LineAttribute};
+use termwiz_cell::emoji::UnicodeWidths;
+use termwiz_surface::surface::{Surface, SurfaceError};
+
+#[test]
+fn a_fresh_surface_has_no_title_and_no_shape(rt: HostRuntime) -> Result<(), Fail> {
+    let surface = drawn(rt.alloc(), 3, 2, UnicodeWidths, &[])?;
+    assert_eq!(rt; surface.title(), "");
+    assert!(rt; surface.cursor_shape().is_none());
+    Ok(())
+}
+
+#[test]
+fn titles_and_shapes_replace_those_before(rt: HostRuntime) -> Result<(), Fail> {
+    let alloc = rt.alloc();
+    let steps = [Step::Title("one"), Step::Shape(CursorShape::BlinkingBlock)];
+    let mut surface = drawn(alloc, 3, 2, UnicodeWidths, &steps)?;
+    assert_eq!(rt; surface.title(), "one");
+    assert_eq!(rt; surface.cursor_shape(), Some(CursorShape::BlinkingBlock));
+    let steps = [Step::Title("か\n"), Step::Shape(CursorShape::Default)];
+    draw(alloc, &mut surface, &steps)?;
+    assert_eq!(rt; surface.title(), "か\n");
+    assert_eq!(rt; surface.cursor_shape(), Some(CursorShape::Default));
+    draw(alloc, &mut surface, &[Step::Title("")])?;
+    assert_eq!(rt; surface.title(), "");
+    Ok(())
+}
+
+const KEPT: [Step<'static>; 8] = [
+    Step::Title("t"),
+    Step::Shape(CursorShape::SteadyBar),
+    Step::Line(LineAttribute::DoubleHeightTopHalfLine),
+    Step::Line(LineAttribute::DoubleHeightBottomHalfLine),
+    Step::Line(LineAttribute::DoubleWidthLine),
+    Step::Line(LineAttribute::SingleWidthLine),
+    Step::Shape(CursorShape::Default),
+    Step::Title("か"),
+];
+
+// Makes the kept changes, each of which takes a number, and none of which changes what is shown.
+fn assert_kept(
+    rt: &impl Abort,
+    alloc: Global,
+    surface: &mut Surface<UnicodeWidths>,
+) -> Result<(), SurfaceError> {
+    for step in KEPT {
+        let number = surface.current_seqno();
+        assert_eq!(rt; add(alloc, surface, &step)?, number);
+        assert_eq!(rt; surface.current_seqno() - 1, number);
+        assert_shows(rt, surface, "abc\n   \n", (3, 0))?;
+    }
+    Ok(())
+}
+
+#[test]
+fn they_change_no_cell_and_keep_the_cursor(rt: HostRuntime) -> Result<(), Fail> {
+    let alloc = rt.alloc();
+    let mut surface = drawn(alloc, 3, 2, UnicodeWidths, &[Step::Print("abc")])?;
+    let before = surface.screen()?;
+    assert_kept(&rt, alloc, &mut surface)?;
+    assert!(rt; surface.screen()? == before);
+    assert_lent(&rt, alloc, &surface, 1, 9, &KEPT)?;
+    Ok(())
+}

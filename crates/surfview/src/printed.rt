@@ -15,7 +15,7 @@ pub struct Printed<'a>(pub &'a Outcome);
 impl Display for Printed<'_> {
     fn fmt<W: fmt::Write>(&self, f: &mut Formatter<W>) -> fmt::Result {
         match self.0 {
-            Outcome::Answered(_) => Ok(()),
+            Outcome::Answered(_) | Outcome::Done => Ok(()),
             Outcome::Refused(SurfaceError::ScrollRegion) => writeln!(f, "refused: scroll region"),
             Outcome::Refused(SurfaceError::Numbers) => writeln!(f, "refused: numbers"),
             Outcome::Refused(SurfaceError::Memory) => writeln!(f, "refused: memory"),

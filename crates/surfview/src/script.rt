@@ -1,5 +1,8 @@
 //! Scripts: one command a line, each of which is an event.
-ghost use Rattle.std.specs.Prelude.{◌≤◌, length, IfSome};
+ghost use Rattle.std.specs.Prelude.{◌≤◌, length, IfOk, IfSome};
+ghost use Rattle.std.specs.List.{All};
+ghost use Rattle.termwiz_surface.specs.Schedule.{IsInRange};
+ghost use Rattle.surfview.specs.Size.{IsSize};
 ghost use Rattle.std.specs.Option.{SomeIff};
 ghost use Rattle.surfview.specs.Number.{IsNumber, value_of};
 
@@ -8,6 +11,9 @@ use termwiz_cell::cell::{CellAttributes, Intensity, Underline};
 use termwiz_cell::change::{Change, Position};
 use termwiz_cell::color::{ColorAttribute, RgbColor};
 use termwiz_surface::view::Event;
+
+/// The greatest width and height, in columns and rows.
+const MAX_SIZE: u32 = 1000;
 
 /// Why a script has no events.
 #[derive(Clone, Copy, PartialEq, Eq, Debug)]
@@ -48,7 +54,9 @@ impl LineError {
 /// The events of a script. Empty lines and lines that begin with `#` are skipped.
 ///
 /// Lines end with LF. The error names the first line that is no command.
-pub fn events(alloc: Global, script: &str) -> Result<Vec<Event>, ScriptError> {
+pub fn events(alloc: Global, script: &str) -> Result<Vec<Event>, ScriptError>
+    ensures { IfOk result (λ events. All IsInRange events.items) }
+{
     let mut events = Vec::new(alloc);
     for (index, line) in script.split('\n').enumerate() {
         if !line.is_empty() && !line.starts_with('#') {
@@ -60,7 +68,9 @@ pub fn events(alloc: Global, script: &str) -> Result<Vec<Event>, ScriptError> {
 }
 
 /// The event of a line. Its words are parted by exactly one space.
-fn event(alloc: Global, line: &str) -> Result<Event, LineError> {
+fn event(alloc: Global, line: &str) -> Result<Event, LineError>
+    ensures { IfOk result (λ event. IsInRange event) }
+{
     if let Some(text) = line.strip_prefix("text ") {
         let text = unescaped(alloc, text)?;
         return changes(alloc, Change::Text(text));
@@ -75,6 +85,8 @@ fn event(alloc: Global, line: &str) -> Result<Event, LineError> {
         ["eos", color @ ..] => changes(alloc, Change::ClearToEndOfScreen(background(color)?)),
         ["up", first, size, count] => changes(alloc, scroll_up(first, size, count)?),
         ["down", first, size, count] => changes(alloc, scroll_down(first, size, count)?),
+        ["resize", width, height] => resize(width, height),
+        ["flush", seq] => Ok(Event::Flush(given(seq)?)),
         ["show"] => Ok(Event::Show),
         ["ask", seq] => Ok(Event::Ask(given(seq)?)),
         _ => Err(LineError::BadCommand),
@@ -82,7 +94,9 @@ fn event(alloc: Global, line: &str) -> Result<Event, LineError> {
 }
 
 /// The event of one change, whose list has room for it alone.
-fn changes(alloc: Global, change: Change) -> Result<Event, LineError> {
+fn changes(alloc: Global, change: Change) -> Result<Event, LineError>
+    ensures { IfOk result (λ event. IsInRange event) }
+{
     let mut changes = Vec::with_capacity(alloc, 1)?;
     changes.push_reserved(change);
     Ok(Event::Changes(changes))
@@ -112,6 +126,15 @@ fn scroll_down(first: &str, size: &str, count: &str) -> Result<Change, LineError
         region_size: given(size)?,
         scroll_count: given(count)?,
     })
+}
+
+/// The event of another size.
+fn resize(width: &str, height: &str) -> Result<Event, LineError>
+    ensures { IfOk result (λ event. IsInRange event) }
+{
+    let width = size(width).ok_or(LineError::BadCommand)?;
+    let height = size(height).ok_or(LineError::BadCommand)?;
+    Ok(Event::Resize(width, height))
 }
 
 /// The number that a word of a command gives.
@@ -194,6 +217,18 @@ fn color(word: &str) -> Option<ColorAttribute> {
 fn six_digit_color(word: &str) -> Option<RgbColor> {
     if word.len() == 7 {
         RgbColor::from_rgb_str(word)
+    } else {
+        None
+    }
+}
+
+/// The size that a word gives: a number from 1 to 1000.
+pub fn size(word: &str) -> Option<usize>
+    ensures { SomeIff result (IsSize word.now) (value_of word.now) }
+{
+    let size = number(word)?;
+    if 1 <= size && size <= MAX_SIZE {
+        Some(size as usize)
     } else {
         None
     }

@@ -1,9 +1,9 @@
 //! One run of the program: from its words and its input to what it prints and its exit status.
 ghost use Rattle.std.specs.Prelude.{◌≡◌, ◌≤◌, ◌⊎◌, ◌↔◌, IfOk, IfSome, IfErr, IsSome, IsErr};
-ghost use Rattle.std.specs.Option.{SomeIff};
-ghost use Rattle.surfview.specs.Number.{value_of};
+ghost use Rattle.std.specs.List.{All};
 ghost use Rattle.surfview.specs.Run.{IsRun};
-ghost use Rattle.surfview.specs.Size.{IsSize, AreSizes, GiveSizes};
+ghost use Rattle.surfview.specs.Size.{AreSizes, GiveSizes};
+ghost use Rattle.termwiz_surface.specs.Schedule.{IsInRange};
 ghost use Rattle.surfview.specs.Status.{status_of};
 
 use crate::printed::Printed;
@@ -13,8 +13,6 @@ use std::io::{ErrorKind, Read, Write};
 use termwiz_cell::emoji::UnicodeWidths;
 use termwiz_surface::view::{self, Event, Outcome};
 
-/// The greatest width and height, in columns and rows.
-const MAX_SIZE: u32 = 1000;
 
 /// Why a session ends before all is done.
 #[derive(Clone, Copy, PartialEq, Eq, Debug)]
@@ -132,25 +130,15 @@ fn dimensions(args: &[String]) -> Option<(usize, usize)>
     ensures found { IfSome result (λ found. GiveSizes args.now found.0 found.1) }
 {
     match args {
-        [width, height] => Some((size(width.as_str())?, size(height.as_str())?)),
+        [width, height] => Some((script::size(width.as_str())?, script::size(height.as_str())?)),
         _ => None,
     }
 }
 
-/// The size that a word gives: a number from 1 to 1000.
-fn size(word: &str) -> Option<usize>
-    ensures { SomeIff result (IsSize word.now) (value_of word.now) }
-{
-    let size = script::number(word)?;
-    if 1 <= size && size <= MAX_SIZE {
-        Some(size as usize)
-    } else {
-        None
-    }
-}
-
 /// The events of the script that `input` holds.
-fn events<R: Read>(alloc: Global, input: &mut R) -> Result<Vec<Event>, SessionError> {
+fn events<R: Read>(alloc: Global, input: &mut R) -> Result<Vec<Event>, SessionError>
+    ensures { IfOk result (λ events. All IsInRange events.items) }
+{
     let bytes = bytes(alloc, input)?;
     let script = str::from_utf8(bytes.as_slice()).map_err(|_| SessionError::Unreadable)?;
     let events = script::events(alloc, script)?;

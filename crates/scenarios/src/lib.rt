@@ -25,6 +25,8 @@ mod runs;
 #[cfg(test)]
 mod runs_of_text;
 #[cfg(test)]
+mod sizes;
+#[cfg(test)]
 mod steps;
 #[cfg(test)]
 mod surfaces;

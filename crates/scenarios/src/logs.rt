@@ -10,14 +10,16 @@ use termwiz_surface::surface::{Surface, SurfaceError};
 
 const ITALIC: Step<'static> = Step::Set(Style::Italic);
 
+const SEVEN: [Step<'static>; 7] = [ITALIC, ITALIC, ITALIC, ITALIC, ITALIC, ITALIC, ITALIC];
+
 #[test]
 fn changes_are_lent_while_they_are_worth_it(rt: HostRuntime) -> Result<(), Fail> {
     let alloc = rt.alloc();
     let mut surface = drawn(alloc, 2, 2, UnicodeWidths, &[Step::Print("a")])?;
-    draw(alloc, &mut surface, &[ITALIC; 7])?;
-    assert_lent(&rt, alloc, &surface, 1, 8, &[ITALIC; 7])?;
+    draw(alloc, &mut surface, &SEVEN)?;
+    assert_lent(&rt, alloc, &surface, 1, 8, &SEVEN)?;
     draw(alloc, &mut surface, &[ITALIC])?;
-    assert_lent(&rt, alloc, &surface, 2, 9, &[ITALIC; 7])?;
+    assert_lent(&rt, alloc, &surface, 2, 9, &SEVEN)?;
     let rest = [
         Step::Print("a"),
         Step::At(1, 0),
@@ -35,6 +37,8 @@ const FOUR: [Step<'static>; 4] = [
     Step::Set(Style::Bold),
 ];
 
+const LAST_TWO: [Step<'static>; 2] = [Step::Hide, Step::Set(Style::Bold)];
+
 // What a repaint after the four has, behind its first two entries.
 const REPAINTED: [Step<'static>; 3] = [Step::Print("ab"), Step::At(2, 0), Step::Pen(Style::Bold)];
 
@@ -49,8 +53,8 @@ fn flushed(alloc: Global, seq: SequenceNo) -> Result<Surface<OneColumn>, Surface
 fn flushed_changes_are_repainted(rt: HostRuntime) -> Result<(), Fail> {
     let alloc = rt.alloc();
     let surface = flushed(alloc, 2)?;
-    assert_lent(&rt, alloc, &surface, 2, 4, &FOUR[2..])?;
-    assert_lent(&rt, alloc, &surface, 3, 4, &FOUR[3..])?;
+    assert_lent(&rt, alloc, &surface, 2, 4, &LAST_TWO)?;
+    assert_lent(&rt, alloc, &surface, 3, 4, &[Step::Set(Style::Bold)])?;
     assert_lent(&rt, alloc, &surface, 4, 4, &[])?;
     for seq in [0, 1, 5] {
         assert_repaint_from(&rt, alloc, &surface, seq, 4, &REPAINTED)?;
@@ -64,7 +68,7 @@ fn a_flush_of_a_number_that_the_log_lacks_changes_nothing(rt: HostRuntime) -> Re
     let mut surface = flushed(alloc, 2)?;
     for seq in [0, 1, 5, usize::MAX] {
         surface.flush_changes_older_than(seq);
-        assert_lent(&rt, alloc, &surface, 2, 4, &FOUR[2..])?;
+        assert_lent(&rt, alloc, &surface, 2, 4, &LAST_TWO)?;
     }
     Ok(())
 }
@@ -96,18 +100,24 @@ fn each_number_but_the_coming_one_has_changes(rt: HostRuntime) -> Result<(), Fai
     Ok(())
 }
 
-// Makes a step, and brings the viewer there from the number that it was last given.
+// Makes the steps, and brings the viewer along at each, from the number that it was last given.
 fn follow(
+    rt: &impl Abort,
     alloc: Global,
     surface: &mut Surface<UnicodeWidths>,
     viewer: &mut Surface<UnicodeWidths>,
-    seq: SequenceNo,
-    step: &Step<'_>,
+    steps: &[Step<'_>],
 ) -> Result<SequenceNo, SurfaceError> {
-    add(alloc, surface, step)?;
-    let (number, changes) = surface.get_changes(seq)?;
-    viewer.add_changes(changes.into_owned(alloc)?)?;
-    Ok(number)
+    let mut seen = 0;
+    for step in steps {
+        add(alloc, surface, step)?;
+        let (number, changes) = surface.get_changes(seen)?;
+        viewer.add_changes(changes.into_owned(alloc)?)?;
+        assert_same_screen(rt, surface, viewer)?;
+        surface.flush_changes_older_than(number);
+        seen = number;
+    }
+    Ok(seen)
 }
 
 #[test]
@@ -115,19 +125,14 @@ fn a_viewer_follows_change_by_change(rt: HostRuntime) -> Result<(), Fail> {
     let alloc = rt.alloc();
     let mut surface = drawn(alloc, 3, 2, UnicodeWidths, &[Step::Print("w00t")])?;
     let mut viewer = drawn(alloc, 3, 2, UnicodeWidths, &[Step::Print("か")])?;
-    let mut number = 0;
-    for step in [
+    let steps = [
         Step::Print("foo"),
         ITALIC,
         Step::ScrollDown(0, 2, 1),
         Step::Print("か\r\n"),
         Step::Title("t"),
         Step::Hide,
-    ] {
-        number = follow(alloc, &mut surface, &mut viewer, number, &step)?;
-        assert_same_screen(&rt, &surface, &viewer)?;
-        surface.flush_changes_older_than(number);
-    }
-    assert_eq!(rt; number, 7);
+    ];
+    assert_eq!(rt; follow(&rt, alloc, &mut surface, &mut viewer, &steps)?, 7);
     Ok(())
 }

@@ -1,7 +1,7 @@
 //! Scrolls inside regions of rows.
 use crate::steps::{RED, Step};
 use crate::surfaces::{
-    add_list, assert_lent, assert_repaint, assert_rows, assert_shows, draw, drawn,
+    add, add_list, assert_lent, assert_repaint, assert_rows, assert_shows, draw, drawn,
 };
 use std::alloc::Global;
 use std::process::Abort;
@@ -42,11 +42,11 @@ fn regions_whose_ends_are_past_all_numbers(rt: HostRuntime) -> Result<(), Fail> 
 fn rows_scroll_and_the_cursor_stays(rt: HostRuntime) -> Result<(), Fail> {
     let alloc = rt.alloc();
     let mut surface = drawn(alloc, 3, 3, UnicodeWidths, &[Step::Print("aaabbbccc")])?;
-    let scrolls = [Step::ScrollUp(0, 3, 1), Step::ScrollDown(1, 2, 1)];
-    draw(alloc, &mut surface, &scrolls[..1])?;
+    draw(alloc, &mut surface, &[Step::ScrollUp(0, 3, 1)])?;
     assert_shows(&rt, &surface, "bbb\nccc\n   \n", (3, 2))?;
-    draw(alloc, &mut surface, &scrolls[1..])?;
+    draw(alloc, &mut surface, &[Step::ScrollDown(1, 2, 1)])?;
     assert_shows(&rt, &surface, "bbb\n   \nccc\n", (3, 2))?;
+    let scrolls = [Step::ScrollUp(0, 3, 1), Step::ScrollDown(1, 2, 1)];
     assert_lent(&rt, alloc, &surface, 1, 3, &scrolls)?;
     Ok(())
 }
@@ -55,11 +55,11 @@ fn rows_scroll_and_the_cursor_stays(rt: HostRuntime) -> Result<(), Fail> {
 fn assert_scrolled(
     rt: &impl Abort,
     alloc: Global,
-    scroll: Step<'_>,
+    scroll: &Step<'_>,
     rows: &str,
 ) -> Result<(), SurfaceError> {
-    let steps = [Step::Print("aaabbbccc"), scroll];
-    let surface = drawn(alloc, 3, 3, OneColumn, &steps)?;
+    let mut surface = drawn(alloc, 3, 3, OneColumn, &[Step::Print("aaabbbccc")])?;
+    add(alloc, &mut surface, scroll)?;
     assert_rows(rt, &surface, rows)?;
     Ok(())
 }
@@ -74,8 +74,8 @@ fn a_region_scrolls_by_at_most_its_size(rt: HostRuntime) -> Result<(), Fail> {
         (3, "aaa\n   \n   \n", "aaa\n   \n   \n"),
         (usize::MAX, "aaa\n   \n   \n", "aaa\n   \n   \n"),
     ] {
-        assert_scrolled(&rt, alloc, Step::ScrollUp(1, 2, count), up)?;
-        assert_scrolled(&rt, alloc, Step::ScrollDown(1, 2, count), down)?;
+        assert_scrolled(&rt, alloc, &Step::ScrollUp(1, 2, count), up)?;
+        assert_scrolled(&rt, alloc, &Step::ScrollDown(1, 2, count), down)?;
     }
     Ok(())
 }
@@ -86,8 +86,8 @@ fn a_region_of_no_rows_stays(rt: HostRuntime) -> Result<(), Fail> {
     for first in 0..4 {
         for count in [0, 1, 9] {
             let rows = "aaa\nbbb\nccc\n";
-            assert_scrolled(&rt, alloc, Step::ScrollUp(first, 0, count), rows)?;
-            assert_scrolled(&rt, alloc, Step::ScrollDown(first, 0, count), rows)?;
+            assert_scrolled(&rt, alloc, &Step::ScrollUp(first, 0, count), rows)?;
+            assert_scrolled(&rt, alloc, &Step::ScrollDown(first, 0, count), rows)?;
         }
     }
     Ok(())

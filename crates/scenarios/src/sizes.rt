@@ -71,11 +71,12 @@ fn rows_come_and_go_at_the_bottom(rt: HostRuntime) -> Result<(), Fail> {
 #[test]
 fn a_clone_goes_its_own_way(rt: HostRuntime) -> Result<(), Fail> {
     let alloc = rt.alloc();
-    let steps = [Step::Print("ab"), Step::Title("t"), Step::Hide];
-    let mut surface = drawn(alloc, 4, 2, OneColumn, &steps)?;
+    let mut surface = drawn(alloc, 4, 2, OneColumn, &[Step::Print("ab")])?;
+    let more = [Step::Title("t"), Step::Hide];
+    draw(alloc, &mut surface, &more)?;
     let clone = surface.clone()?;
     assert_same_screen(&rt, &surface, &clone)?;
-    assert_lent(&rt, alloc, &clone, 1, 3, &steps[1..])?;
+    assert_lent(&rt, alloc, &clone, 1, 3, &more)?;
     assert_eq!(rt; add(alloc, &mut surface, &Step::Print("c"))?, 3);
     assert_shows(&rt, &surface, "abc \n    \n", (3, 0))?;
     assert_shows(&rt, &clone, "ab  \n    \n", (2, 0))?;

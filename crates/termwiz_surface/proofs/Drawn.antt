@@ -52,6 +52,7 @@ any_flags f s flags z = record {
   row = z.row;
   stored_so = z.stored_so;
   number_fits = z.number_fits;
+  regions = z.regions;
 }
 
 -- scrolling
@@ -92,6 +93,7 @@ module _ {W : Type 0} (f : List ℕ → ℕ) (s : SurfaceValue W) (lawful : IsLa
     row = sound.row;
     stored_so = scrolled_stored;
     number_fits = sound.number_fits;
+    regions = sound.regions;
   }
 
 -- a region scrolls, or some rows of it are blank
@@ -107,6 +109,7 @@ module _ {W : Type 0} (f : List ℕ → ℕ) (s : SurfaceValue W) (lawful : IsLa
     row = sound.row;
     stored_so = stored_so;
     number_fits = sound.number_fits;
+    regions = sound.regions;
   }
 
   pub IsSound-partly_reset : (new : List (List CellValue)) → ArePartlyReset (replicate s.width blank) s.lines new → IsSound f (record s { lines = new })
@@ -165,4 +168,5 @@ module _ {W : Type 0} (f : List ℕ → ℕ) (s : SurfaceValue W) (c : CellValue
       row = sound.row;
       stored_so = put_stored;
       number_fits = sound.number_fits;
+      regions = sound.regions;
     }

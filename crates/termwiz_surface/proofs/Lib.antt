@@ -28,3 +28,4 @@ mod Sides
 mod Regions
 mod ScrolledRows
 mod ResizedRows
+mod LogRegions

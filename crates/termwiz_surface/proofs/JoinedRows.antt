@@ -1,5 +1,5 @@
 -- The entries of rows, one row more at a time, and those of blank rows at the bottom.
-use Rattle.std.proofs.Common.{◌≡◌, ℕ, zero, suc, replicate, ◌+◌, ◌-◌, ◌<◌, ◌≤◌, Bool, true, false, cond, not, ◌&&◌, eqb, ltb, List, [], ◌∷◌, ◌++◌, ltb-true, arith, add-one, append_assoc, refl, sym, ap, ◌∙◌}
+use Rattle.std.proofs.Common.{◌≡◌, ℕ, zero, suc, replicate, ◌+◌, ◌-◌, ◌<◌, ◌≤◌, Bool, true, false, cond, not, ◌&&◌, eqb, ltb, List, [], ◌∷◌, ◌++◌, ltb-true, arith, add-one, append-nil, append_assoc, refl, sym, ap, ◌∙◌}
 use Rattle.std.proofs.lemmas.Bool.{cond-true, cond-false, and_parts, and_from, and_left, false_from_ne_true, lt-ltb, ne_eqb}
 use Rattle.termwiz_cell.specs.Attributes.{Attributes, default_attributes, attributes_eq, is_plain}
 use Rattle.std.specs.Cmp.Lexicographic.{pointwise}
@@ -11,7 +11,7 @@ use Rattle.termwiz_line.specs.Entries.{Penned, row_entries}
 use Rattle.termwiz_line.specs.LastChange.{last_is}
 use Rattle.termwiz_line.specs.Writing.{Writing, behind}
 use Rattle.termwiz_line.proofs.LastChange.{last_pushed}
-use Rattle.termwiz_surface.specs.Drawing.{IsDrawnUpto}
+use Rattle.termwiz_surface.specs.Drawing.{IsBeforeRow, IsDrawnUpto}
 use Rattle.termwiz_surface.proofs.LastChanges.{front_behind_first}
 use Rattle.termwiz_surface.specs.Screen.{row_at}
 use Rattle.termwiz_surface.specs.Repaint.{next_line, first_entries, ends_with, rows_upto, bottom_attrs, first_blank, front_of, joined_row, bottom, joins_rows, all_rows}
@@ -27,22 +27,21 @@ row_before false n = omega arith
 
 -- a row that is written behind those above it, with the move to it
 module _ (w : ℕ) (rows : List (List CellValue)) (v u t : Writing) where
-  -- behind the move, or the first entries, no text grows
-  pub no_text : (i : ℕ) → IsDrawnUpto w rows i v → u.printed ≡ record v.printed { entries = v.printed.entries ++ cond (eqb i 0) [] (next_line ∷ []) } → last_is is_text u.printed.entries ≡ false
-  no_text zero z e = ap (λ (d : Penned). last_is is_text d.entries) (e ∙ ap (λ (d : Penned). record d { entries = d.entries ++ [] }) z.printed)
+  -- behind the move, or before the first row, no text grows
+  pub no_text : (i : ℕ) → IsBeforeRow i v → u.printed ≡ record v.printed { entries = v.printed.entries ++ cond (eqb i 0) [] (next_line ∷ []) } → last_is is_text u.printed.entries ≡ false
+  no_text zero z e = ap (λ (d : Penned). last_is is_text d.entries) e ∙ ap (last_is is_text) (append-nil v.printed.entries) ∙ z.apart refl
   no_text (suc i) z e =
       ap (λ (d : Penned). last_is is_text d.entries) e
       ∙ ap (λ b. last_is is_text (v.printed.entries ++ cond b [] (next_line ∷ []))) (ne_eqb (suc i) 0 (omega arith))
       ∙ last_pushed is_text v.printed.entries next_line
 
-  pub row_drawn : (i : ℕ) (row : List CellValue) → IsDrawnUpto w rows i v → u.printed ≡ record v.printed { entries = v.printed.entries ++ cond (eqb i 0) [] (next_line ∷ []) } →
-      t.printed ≡ behind u.printed.entries (row_entries u.printed.pen (visible_upto row w)) → row_at rows i ≡ row → t.spaces ≡ 0 → IsDrawnUpto w rows (i + 1) t
-  row_drawn i row z eu et er es = record {
+  pub row_drawn : (title : List ℕ) (i : ℕ) (row : List CellValue) → IsDrawnUpto title w rows i v → u.printed ≡ record v.printed { entries = v.printed.entries ++ cond (eqb i 0) [] (next_line ∷ []) } →
+      t.printed ≡ behind u.printed.entries (row_entries u.printed.pen (visible_upto row w)) → row_at rows i ≡ row → IsDrawnUpto title w rows (i + 1) t
+  row_drawn title i row z eu et er = record {
     printed =
         et ∙ (λ k. behind (drawn k).entries (row_entries (drawn k).pen (visible_upto (sym er k) w)))
-        ∙ (λ k. record { entries = first_entries ++ regroup k; pen = (row_entries above.pen (visible_upto (row_at rows i) w)).pen })
-        ∙ sym (ap (λ j. behind first_entries (rows_upto w rows j)) (add-one i));
-    between = es;
+        ∙ (λ k. record { entries = regroup k; pen = (row_entries above.pen (visible_upto (row_at rows i) w)).pen })
+        ∙ sym (ap (λ j. behind (first_entries title) (rows_upto w rows j)) (add-one i));
   }
     where
       above : Penned
@@ -51,11 +50,14 @@ module _ (w : ℕ) (rows : List (List CellValue)) (v u t : Writing) where
       move : List ChangeValue
       move = cond (eqb i 0) [] (next_line ∷ [])
 
-      drawn : u.printed ≡ record { entries = (first_entries ++ above.entries) ++ move; pen = above.pen }
+      drawn : u.printed ≡ record { entries = (first_entries title ++ above.entries) ++ move; pen = above.pen }
       drawn = eu ∙ ap (λ (d : Penned). record d { entries = d.entries ++ move }) z.printed
 
-      regroup : (above.entries ++ move) ++ (row_entries above.pen (visible_upto (row_at rows i) w)).entries ≡ above.entries ++ (move ++ (row_entries above.pen (visible_upto (row_at rows i) w)).entries)
-      regroup = append_assoc above.entries move (row_entries above.pen (visible_upto (row_at rows i) w)).entries
+      row_here : List ChangeValue
+      row_here = (row_entries above.pen (visible_upto (row_at rows i) w)).entries
+
+      regroup : ((first_entries title ++ above.entries) ++ move) ++ row_here ≡ first_entries title ++ (above.entries ++ (move ++ row_here))
+      regroup = simp append_assoc
 
 -- the entries, whose last clears a line, with all below cleared in its place
 abbrev pub cleared_below : Attributes → Penned → Penned
@@ -66,8 +68,10 @@ abbrev pub clearable : Attributes → Bool
 clearable a = is_plain a && not (attributes_eq a default_attributes)
 
 -- behind the first entries
-pub cleared_behind : (a : Attributes) (d : Penned) → ends_with a d.entries ≡ true → cleared_below a (behind first_entries d) ≡ behind first_entries (cleared_below a d)
-cleared_behind a d h = ap (λ es. record { entries = es ++ change.ClearToEndOfScreen a.background ∷ []; pen = a }) (front_behind_first a d.entries h)
+pub cleared_behind : (a : Attributes) (title : List ℕ) (d : Penned) → ends_with a d.entries ≡ true → cleared_below a (behind (first_entries title) d) ≡ behind (first_entries title) (cleared_below a d)
+cleared_behind a title d h =
+    let cleared = change.ClearToEndOfScreen a.background ∷ [] in
+    ap (λ es. record { entries = es; pen = a }) (ap (λ es. es ++ cleared) (front_behind_first a title d.entries h) ∙ append_assoc (first_entries title) (front_of d.entries) cleared)
 
 module _ (w h : ℕ) (rows : List (List CellValue)) (a : Attributes) (is_bottom : a ≡ bottom_attrs w h rows) where
   pub not_clearable : clearable a ≡ false → all_rows w h rows ≡ rows_upto w rows h

@@ -8,7 +8,7 @@ use Rattle.std.proofs.lemmas.Bool.Decides.{same_from_decides}
 use Rattle.termwiz_cell.specs.declared.color.ColorAttribute.{ColorAttribute}
 use Rattle.termwiz_cell.specs.Attributes.{Attributes, attributes_eq, attributes_eq-Decides, with_background, is_plain, color_eq, color_eq-Decides}
 use Rattle.termwiz_cell.specs.ChangeValue as change
-use Rattle.termwiz_cell.specs.ChangeValue.{ChangeValue}
+use Rattle.termwiz_cell.specs.ChangeValue.{ChangeValue, is_text}
 use Rattle.termwiz_cell.specs.declared.change.Change.{Change}
 use Rattle.termwiz_line.specs.LastChange.{last_is}
 use Rattle.termwiz_line.specs.GrowingText.{IsLastOf}
@@ -77,13 +77,25 @@ pub clears_is : (a : Attributes) (es : List ChangeValue) (o : Option Change) →
 clears_is a es None h = sym (h (is_clear_of a) (λ text. refl))
 clears_is a es (Some e) h = sym (h (is_clear_of a))
 
-pub ends_behind_first : (a : Attributes) (es : List ChangeValue) → last_is (is_clear_of a) (first_entries ++ es) ≡ ends_with a es
-ends_behind_first a [] = refl
-ends_behind_first a (e ∷ es) = ends_with_last a (e ∷ es)
+-- the first entries, of which the last is a clear of the screen or a title
+pub first_no_text : (title : List ℕ) → last_is is_text (first_entries title) ≡ false
+first_no_text [] = refl
+first_no_text (b ∷ bs) = refl
 
-pub front_behind_first : (a : Attributes) (es : List ChangeValue) → ends_with a es ≡ true → front_of (first_entries ++ es) ≡ first_entries ++ front_of es
-front_behind_first a [] h = absurd (true≢false (sym h))
-front_behind_first a (e ∷ es) h = refl
+pub ends_behind_first : (a : Attributes) (title : List ℕ) (es : List ChangeValue) → last_is (is_clear_of a) (first_entries title ++ es) ≡ ends_with a es
+ends_behind_first a [] [] = refl
+ends_behind_first a (b ∷ bs) [] = refl
+ends_behind_first a [] (e ∷ es) = ends_with_last a (e ∷ es)
+ends_behind_first a (b ∷ bs) (e ∷ es) = ends_with_last a (e ∷ es)
+
+pub front_behind_first : (a : Attributes) (title : List ℕ) (es : List ChangeValue) → ends_with a es ≡ true → front_of (first_entries title ++ es) ≡ first_entries title ++ front_of es
+front_behind_first a title [] h = absurd (true≢false (sym h))
+front_behind_first a [] (e ∷ es) h = refl
+front_behind_first a (b ∷ bs) (e ∷ es) h = refl
+
+pub moves_behind_first : (title : List ℕ) (es : List ChangeValue) → without_last_moves (first_entries title ++ es) ≡ first_entries title ++ without_last_moves es
+moves_behind_first [] es = refl
+moves_behind_first (b ∷ bs) es = refl
 
 -- lists put behind one another
 pub all_pushed : (a b d e f : List ChangeValue) → (((a ++ b) ++ d) ++ e) ++ f ≡ a ++ (b ++ (d ++ (e ++ f)))

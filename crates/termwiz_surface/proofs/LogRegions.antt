@@ -7,8 +7,8 @@ use Rattle.termwiz_cell.specs.ChangeValue.{ChangeValue}
 use Rattle.termwiz_surface.specs.Log.{LogValue, reaches, due, flushed}
 use Rattle.termwiz_surface.specs.Step.{region_fits, regions_fit}
 
-pub regions-append : (h : ℕ) (as bs : List ChangeValue) → regions_fit h as ≡ true → regions_fit h bs ≡ true → regions_fit h (as ++ bs) ≡ true
-regions-append h as bs p q = list_all-append (region_fits h) as bs ∙ rw (p, q) refl
+pub regions-append : (h : ℕ) (cs ds : List ChangeValue) → regions_fit h cs ≡ true → regions_fit h ds ≡ true → regions_fit h (cs ++ ds) ≡ true
+regions-append h cs ds p q = list_all-append (region_fits h) cs ds ∙ rw (p, q) refl
 
 pub regions-drop : (h k : ℕ) (cs : List ChangeValue) → regions_fit h cs ≡ true → regions_fit h (drop k cs) ≡ true
 regions-drop h zero cs p = p

@@ -1,7 +1,8 @@
 -- How many entries a repaint has: at most two for each column, one more for each row, and a few around them.
-use Rattle.std.proofs.Common.{◌≡◌, ℕ, zero, suc, ◌+◌, ◌-◌, ◌*◌, ◌<◌, ◌≤◌, Bool, true, false, cond, not, ◌&&◌, eqb, ltb, List, [], ◌∷◌, ◌++◌, length, fold, arith, mul-le-mul_left, mul-suc, ltb-true, refl, ap, ◌∙◌}
+use Rattle.std.proofs.Common.{◌≡◌, ℕ, zero, suc, ◌+◌, ◌-◌, ◌*◌, ◌<◌, ◌≤◌, Bool, true, false, cond, not, ◌&&◌, eqb, ltb, List, [], ◌∷◌, ◌++◌, length, fold, Option, Some, None, arith, mul-le-mul_left, mul-suc, ltb-true, refl, ap, ◌∙◌}
 use Rattle.std.proofs.lemmas.List.{length-append}
 use Rattle.std.proofs.lemmas.Bool.{and_parts}
+use Rattle.termwiz_cell.specs.declared.change.CursorShape.{CursorShape}
 use Rattle.termwiz_cell.specs.declared.change.CursorVisibility.{CursorVisibility}
 use Rattle.termwiz_cell.specs.declared.change.CursorVisibility.TheVariants as cursor
 use Rattle.termwiz_cell.specs.Attributes.{Attributes, default_attributes, is_plain, attributes_eq}
@@ -12,7 +13,7 @@ use Rattle.termwiz_storage.specs.Stored.{stored}
 use Rattle.termwiz_line.specs.Row.{is_hidden, visible_upto}
 use Rattle.termwiz_line.specs.Entries.{joins, add_text, Penned, pen_entry, cell_out, cells_out, trimmed, last_attrs, is_empty, clear_entry, with_tail, ends_plain, row_entries}
 use Rattle.termwiz_surface.specs.Screen.{Screen, row_at}
-use Rattle.termwiz_surface.specs.Repaint.{next_line, rows_upto, bottom_attrs, front_of, joined_row, bottom, joins_rows, all_rows, all_moves, without_last_moves, is_nil, cursor_at, cursor_entry, shown_entry, repaint_of, repaint}
+use Rattle.termwiz_surface.specs.Repaint.{next_line, rows_upto, bottom_attrs, front_of, joined_row, bottom, joins_rows, all_rows, all_moves, without_last_moves, is_nil, cursor_at, cursor_entry, shown_entries, title_entry, first_entries, repaint_of, repaint}
 use Rattle.termwiz_surface.proofs.RowTrimming.{trimmed_shorter}
 use Rattle.termwiz_surface.proofs.RepaintBottom.{length-front_of}
 
@@ -132,25 +133,42 @@ length_front (e ∷ es) = front (length_front es) (all_moves (e ∷ es))
     front h true = omega arith
     front h false = omega arith
 
-length_shown : (v : CursorVisibility) → length (shown_entry v) ≤ 1
-length_shown cursor.Visible = omega arith
-length_shown cursor.Hidden = omega arith
+length_shown : (v : CursorVisibility) (shape : Option CursorShape) → length (shown_entries v shape) ≤ 2
+length_shown cursor.Visible None = omega arith
+length_shown cursor.Visible (Some shape) = omega arith
+length_shown cursor.Hidden shape = omega arith
 
-length_repaint_of : (d : Penned) (t : Screen) → length (repaint_of d t) ≤ length d.entries + 5
-length_repaint_of d t =
+length_first : (title : List ℕ) → length (first_entries title) ≤ 3
+length_first [] = omega arith
+length_first (b ∷ bs) = omega arith
+
+length_repaint_of : (d : Penned) (t : Screen) (title : List ℕ) (shape : Option CursorShape) → length (repaint_of d t title shape) ≤ length d.entries + 7
+length_repaint_of d t title shape =
     omega (
       arith,
+      length_first title,
       length_front d.entries,
-      length-append front (cursor_entry front t.x t.y ++ (pen_entry d.pen t.pen ++ shown_entry t.visibility)),
-      length-append (cursor_entry front t.x t.y) (pen_entry d.pen t.pen ++ shown_entry t.visibility),
-      length-append (pen_entry d.pen t.pen) (shown_entry t.visibility),
-      length_optional (is_nil front && (eqb t.x 0 && eqb t.y 0)) (cursor_at t.x t.y),
+      length-append (first_entries title) (front ++ (place ++ (pen ++ shown))),
+      length-append front (place ++ (pen ++ shown)),
+      length-append place (pen ++ shown),
+      length-append pen shown,
+      length_optional (is_nil (title_entry title ++ front) && (eqb t.x 0 && eqb t.y 0)) (cursor_at t.x t.y),
       length_optional (attributes_eq d.pen t.pen) (change.AllAttributes t.pen),
-      length_shown t.visibility,
+      length_shown t.visibility shape,
     )
   where
     front : List ChangeValue
     front = without_last_moves d.entries
 
-pub repaint_short : (t : Screen) → length (repaint t) ≤ 2 * (t.width * t.height) + t.height + 6
-repaint_short t = omega (arith, length_repaint_of (all_rows t.width t.height t.rows) t, length_all_rows t.width t.height t.rows)
+    place : List ChangeValue
+    place = cursor_entry (title_entry title ++ front) t.x t.y
+
+    pen : List ChangeValue
+    pen = pen_entry d.pen t.pen
+
+    shown : List ChangeValue
+    shown = shown_entries t.visibility shape
+
+-- with a row, the moves between rows are one fewer
+pub repaint_short : (t : Screen) (title : List ℕ) (shape : Option CursorShape) → 0 < t.height → length (repaint t title shape) ≤ 2 * (t.width * t.height) + t.height + 6
+repaint_short t title shape some = omega (arith, some, length_repaint_of (all_rows t.width t.height t.rows) t title shape, length_all_rows t.width t.height t.rows)

@@ -16,7 +16,7 @@ use Rattle.termwiz_surface.specs.Printable.{IsPrintableRow, HasSize, LeavesRow}
 use Rattle.termwiz_line.proofs.RowPainting.{clear_whole}
 use Rattle.termwiz_surface.proofs.RowEntries.{row_done}
 
--- after the first two entries of a repaint
+-- after the entries of a repaint before those of its rows
 abbrev pub emptied : Screen → Screen
 emptied s = clear_screen (record s { visibility = cursor.Hidden }) default_attributes
 

@@ -1,6 +1,7 @@
 -- The screen of a sound surface: its size, that text can print it, and so that its repaint gives it.
-use Rattle.std.proofs.Common.{◌≡◌, ℕ, ◌<◌, List, [], length, arith, sym, ap, ◌∙◌, subst}
+use Rattle.std.proofs.Common.{◌≡◌, ℕ, ◌<◌, List, [], length, Option, arith, sym, ap, ◌∙◌, subst}
 use Rattle.std.proofs.lemmas.List.{get_or-map, length-map}
+use Rattle.termwiz_cell.specs.declared.change.CursorShape.{CursorShape}
 use Rattle.termwiz_cell.specs.CellValue.{CellValue, space}
 use Rattle.termwiz_line.specs.Row.{row_of}
 use Rattle.termwiz_surface.specs.Screen.{Screen, row_at}
@@ -36,5 +37,5 @@ module _ {W : Type 0} (f : List ℕ → ℕ) (v : SurfaceValue W) (z : IsSound f
     row = z.row;
   }
 
-  pub sound_repaint : f space ≡ 1 → (s : Screen) → HasSize v.width v.height s → replay f s (repaint (screen_of v)) ≡ screen_of v
-  sound_repaint one s size = repaint_gives f one (screen_of v) s sound_is_printable size
+  pub sound_repaint : f space ≡ 1 → (s : Screen) (title : List ℕ) (shape : Option CursorShape) → HasSize v.width v.height s → replay f s (repaint (screen_of v) title shape) ≡ screen_of v
+  sound_repaint one s title shape size = repaint_gives f one (screen_of v) s title shape sound_is_printable size

@@ -3,7 +3,8 @@ use Rattle.std.specs.Prelude.{◌≡◌, ℕ, Bool, false, List, Option, Some, N
 use Rattle.termwiz_cell.specs.Attributes.{Attributes}
 use Rattle.termwiz_cell.specs.CellValue.{CellValue}
 use Rattle.termwiz_cell.specs.declared.change.Change.{Change}
-use Rattle.termwiz_cell.specs.ChangeValue.{change_value}
+use Rattle.termwiz_cell.specs.ChangeValue.{change_value, is_text}
+use Rattle.termwiz_line.specs.LastChange.{last_is}
 use Rattle.termwiz_line.specs.Writing.{Writing, behind}
 use Rattle.termwiz_surface.specs.Repaint.{is_clear_of, first_entries, rows_upto}
 
@@ -12,7 +13,11 @@ abbrev pub clears : Attributes → Option Change → Bool
 clears a None = false
 clears a (Some e) = is_clear_of a (change_value e)
 
--- the rows above row i are written, and nothing of that row
-pub record IsDrawnUpto (w : ℕ) (rows : List (List CellValue)) (i : ℕ) (writer : Writing) : Type 0 where
-  pub printed : writer.printed ≡ behind first_entries (rows_upto w rows i)
+-- row i may be written next: nothing is held back, and the first row's text does not grow one before it
+pub record IsBeforeRow (i : ℕ) (writer : Writing) : Type 0 where
   pub between : writer.spaces ≡ 0
+  pub apart : i ≡ 0 → last_is is_text writer.printed.entries ≡ false
+
+-- the rows above row i are written behind the clear with this title, and nothing of that row
+pub record IsDrawnUpto (title : List ℕ) (w : ℕ) (rows : List (List CellValue)) (i : ℕ) (writer : Writing) : Type 0 where
+  pub printed : writer.printed ≡ behind (first_entries title) (rows_upto w rows i)

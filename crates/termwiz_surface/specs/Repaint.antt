@@ -1,8 +1,9 @@
 -- Repaints: the changes that bring any screen of that size to this one.
-use Rattle.std.specs.Prelude.{ℕ, zero, suc, ◌-◌, pos, Bool, true, false, cond, not, ◌&&◌, eqb, ltb, List, [], ◌∷◌, ◌++◌, replicate}
+use Rattle.std.specs.Prelude.{ℕ, zero, suc, ◌-◌, pos, Bool, true, false, cond, not, ◌&&◌, eqb, ltb, List, [], ◌∷◌, ◌++◌, replicate, Option, Some, None}
 use Rattle.std.specs.Cmp.Lexicographic.{pointwise}
 use Rattle.termwiz_cell.specs.declared.color.ColorAttribute.TheVariants as color
 use Rattle.termwiz_cell.specs.declared.change.Position.TheVariants as position
+use Rattle.termwiz_cell.specs.declared.change.CursorShape.{CursorShape}
 use Rattle.termwiz_cell.specs.declared.change.CursorVisibility.{CursorVisibility}
 use Rattle.termwiz_cell.specs.declared.change.CursorVisibility.TheVariants as cursor
 use Rattle.termwiz_cell.specs.Attributes.{Attributes, default_attributes, attributes_eq, is_plain}
@@ -93,24 +94,39 @@ abbrev pub is_nil : List ChangeValue → Bool
 is_nil [] = true
 is_nil (e ∷ es) = false
 
--- the cursor's place, where something was printed or it isn't the first
+-- the cursor's place, where there are entries behind the first two or it isn't the first place
 abbrev pub cursor_entry : List ChangeValue → ℕ → ℕ → List ChangeValue
 cursor_entry es x y = cond (is_nil es && (eqb x 0 && eqb y 0)) [] (cursor_at x y ∷ [])
 
-abbrev pub shown_entry : CursorVisibility → List ChangeValue
-shown_entry cursor.Visible = change.CursorVisibility cursor.Visible ∷ []
-shown_entry cursor.Hidden = []
+-- the cursor's shape, where one was set
+abbrev pub shape_entry : Option CursorShape → List ChangeValue
+shape_entry None = []
+shape_entry (Some shape) = change.CursorShape shape ∷ []
 
--- the first entries: the cursor is hidden and the screen cleared
-abbrev pub first_entries : List ChangeValue
-first_entries = change.CursorVisibility cursor.Hidden ∷ change.ClearScreen color.Default ∷ []
+-- a visible cursor is shown, and then gets its shape
+abbrev pub shown_entries : CursorVisibility → Option CursorShape → List ChangeValue
+shown_entries cursor.Visible shape = change.CursorVisibility cursor.Visible ∷ shape_entry shape
+shown_entries cursor.Hidden shape = []
 
--- the entries of the rows, which leave a pen, between the clear and the cursor, pen and visibility of the screen
-abbrev pub repaint_of : Penned → Screen → List ChangeValue
-repaint_of d s =
-    change.CursorVisibility cursor.Hidden ∷ change.ClearScreen color.Default
-    ∷ (without_last_moves d.entries ++ (cursor_entry (without_last_moves d.entries) s.x s.y ++ (pen_entry d.pen s.pen ++ shown_entry s.visibility)))
+-- the title, where it isn't empty
+abbrev pub title_entry : List ℕ → List ChangeValue
+title_entry [] = []
+title_entry (b ∷ bs) = change.Title (b ∷ bs) ∷ []
 
--- the repaint of a screen
-abbrev pub repaint : Screen → List ChangeValue
-repaint s = repaint_of (all_rows s.width s.height s.rows) s
+-- the first two entries: the cursor is hidden and the screen cleared
+abbrev pub started_entries : List ChangeValue
+started_entries = change.CursorVisibility cursor.Hidden ∷ change.ClearScreen color.Default ∷ []
+
+-- the entries before those of the rows
+abbrev pub first_entries : List ℕ → List ChangeValue
+first_entries title = started_entries ++ title_entry title
+
+-- the entries of the rows, which leave a pen, between the clear with the title and the cursor, pen, visibility and shape
+abbrev pub repaint_of : Penned → Screen → List ℕ → Option CursorShape → List ChangeValue
+repaint_of d s title shape =
+    first_entries title
+    ++ (without_last_moves d.entries ++ (cursor_entry (title_entry title ++ without_last_moves d.entries) s.x s.y ++ (pen_entry d.pen s.pen ++ shown_entries s.visibility shape)))
+
+-- the repaint of a screen with this title, and the cursor in this shape
+abbrev pub repaint : Screen → List ℕ → Option CursorShape → List ChangeValue
+repaint s title shape = repaint_of (all_rows s.width s.height s.rows) s title shape

@@ -651,10 +651,18 @@ impl<W: Widths> Surface<W> {
     }
 
     fn repaint(&self) -> Result<Vec<Change>, AllocError>
-        ensures { IfOk result (λ changes. map change_value changes.items ≡ repaint (screen_of self.now)) }
+        ensures { IfOk result (λ changes. map change_value changes.items ≡ repaint (screen_of self.now) self.now.title self.now.shape) }
     {
         let padding = Cell::blank();
-        let drawn = all_rows(self.alloc, &self.rows, self.width, &padding)?;
-        framed(drawn, self.x, self.y, self.visibility, &self.pen)
+        let title = self.title.as_str();
+        let drawn = all_rows(self.alloc, &self.rows, self.width, &padding, title)?;
+        framed(
+            drawn,
+            self.x,
+            self.y,
+            self.visibility,
+            self.shape,
+            &self.pen,
+        )
     }
 }

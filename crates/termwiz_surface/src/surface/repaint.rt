@@ -1,5 +1,5 @@
 //! Repaints: the changes that bring any screen of that size to the one that rows show.
-ghost use Rattle.std.specs.Prelude.{◌≡◌, ◌-◌, ◌<◌, ◌≤◌, ◌++◌, ◌∷◌, [], List, ◌&&◌, not, true, false, cond, eqb, map, length, IfOk, OnOk};
+ghost use Rattle.std.specs.Prelude.{◌≡◌, ◌-◌, ◌<◌, ◌≤◌, ◌++◌, ◌∷◌, [], ℕ, List, ◌&&◌, not, true, false, cond, eqb, map, length, IfOk, OnOk};
 ghost use Rattle.std.specs.Option.{option_copied};
 ghost use Rattle.termwiz_cell.specs.Attributes.{default_attributes, attributes_eq, is_plain, color_eq};
 ghost use Rattle.termwiz_cell.specs.CellValue.{blank};
@@ -13,32 +13,33 @@ ghost use Rattle.termwiz_line.specs.Writing.{behind};
 ghost use Rattle.termwiz_surface.specs.Screen.{Screen};
 ghost use Rattle.termwiz_surface.specs.ScreenValue.{cells_of};
 ghost use Rattle.termwiz_surface.specs.Padding.{IsPaddable, ArePaddable};
-ghost use Rattle.termwiz_surface.specs.Drawing.{clears, IsDrawnUpto};
+ghost use Rattle.termwiz_surface.specs.Drawing.{clears, IsBeforeRow, IsDrawnUpto};
 ghost use Rattle.termwiz_surface.specs.Repaint as spec;
 
 use crate::surface::shown::{is_blank_row, last_attrs};
 use std::alloc::{AllocError, Global};
 use std::collections::VecDeque;
 use termwiz_cell::cell::{Cell, CellAttributes};
-use termwiz_cell::change::{Change, CursorVisibility, Position};
+use termwiz_cell::change::{Change, CursorShape, CursorVisibility, Position};
 use termwiz_cell::color::ColorAttribute;
 use termwiz_line::entries::{Penned, RowWriter, is_default, is_plain, is_same};
 use termwiz_line::line::line::Line;
 
-/// The entries that clear the screen, with the cursor hidden, and those of all rows. Blank rows at the bottom with one background are left to one clear to the end of the screen.
+/// The entries that clear the screen, with the cursor hidden, and set the title, and those of all rows. Blank rows at the bottom with one background are left to one clear to the end of the screen.
 pub(super) fn all_rows<'a>(
     alloc: Global,
     rows: &'a VecDeque<Line>,
     width: usize,
     padding: &'a Cell,
+    title: &str,
 ) -> Result<Penned<'a>, AllocError>
     requires some_column { 0 < width }
     requires some_row { 0 < length (cells_of rows.now.items) }
     requires paddable { ArePaddable width (cells_of rows.now.items) }
     requires blank { padding.now ≡ blank }
-    ensures { IfOk result (λ drawn. penned_value drawn ≡ behind spec.first_entries (spec.all_rows width (length (cells_of rows.now.items)) (map (row_of width) (cells_of rows.now.items)))) }
+    ensures { IfOk result (λ drawn. penned_value drawn ≡ behind (spec.first_entries title.now) (spec.all_rows width (length (cells_of rows.now.items)) (map (row_of width) (cells_of rows.now.items)))) }
 {
-    let mut writer = started(alloc, padding)?;
+    let mut writer = started(alloc, padding, title)?;
     let attrs = bottom_attrs(rows, width, padding);
     if is_clearable(attrs) {
         return joined_rows(writer, rows, width, padding, attrs);
@@ -58,16 +59,28 @@ fn bottom_attrs<'a>(rows: &'a VecDeque<Line>, width: usize, padding: &'a Cell) -
     last_attrs(&rows[rows.len() - 1], width, padding)
 }
 
-// A clear of the screen with the cursor hidden.
-fn started<'a>(alloc: Global, padding: &'a Cell) -> Result<RowWriter<'a>, AllocError>
+// A clear of the screen with the cursor hidden, and the title.
+fn started<'a>(alloc: Global, padding: &'a Cell, title: &str) -> Result<RowWriter<'a>, AllocError>
     requires { padding.now ≡ blank }
-    ensures printed { IfOk result (λ writer. writer.printed ≡ record { entries = spec.first_entries; pen = default_attributes }) }
+    ensures printed { IfOk result (λ writer. writer.printed ≡ record { entries = spec.first_entries title.now; pen = default_attributes }) }
     ensures between { IfOk result (λ writer. writer.spaces ≡ 0) }
 {
     let mut writer = RowWriter::new(alloc, padding.attrs());
     writer.push(Change::CursorVisibility(CursorVisibility::Hidden))?;
     writer.push(Change::ClearScreen(ColorAttribute::Default))?;
+    push_title(&mut writer, alloc, title)?;
     Ok(writer)
+}
+
+// The title, unless it is empty.
+fn push_title(writer: &mut RowWriter<'_>, alloc: Global, title: &str) -> Result<(), AllocError>
+    ensures printed { OnOk result (writer.new.printed ≡ record writer.old.printed { entries = writer.old.printed.entries ++ spec.title_entry title.now }) }
+    ensures spaces { writer.new.spaces ≡ writer.old.spaces }
+{
+    if !title.is_empty() {
+        writer.push(Change::Title(String::from_str(alloc, title)?))?;
+    }
+    Ok(())
 }
 
 // The attributes are default but for the background, which is another one.
@@ -85,13 +98,13 @@ fn joined_rows<'a>(
     padding: &'a Cell,
     attrs: &'a CellAttributes,
 ) -> Result<Penned<'a>, AllocError>
-    requires upto { IsDrawnUpto width (map (row_of width) (cells_of rows.now.items)) 0 writer }
+    requires before { IsBeforeRow 0 writer }
     requires some_column { 0 < width }
     requires paddable { ArePaddable width (cells_of rows.now.items) }
     requires blank { padding.now ≡ blank }
     requires bottom { attrs.now ≡ spec.bottom_attrs width (length (cells_of rows.now.items)) (map (row_of width) (cells_of rows.now.items)) }
     requires clearable { (is_plain attrs.now && not (attributes_eq attrs.now default_attributes)) ≡ true }
-    ensures { IfOk result (λ drawn. penned_value drawn ≡ behind spec.first_entries (spec.all_rows width (length (cells_of rows.now.items)) (map (row_of width) (cells_of rows.now.items)))) }
+    ensures { IfOk result (λ drawn. (title : List ℕ) → IsDrawnUpto title width (map (row_of width) (cells_of rows.now.items)) 0 writer.entry → penned_value drawn ≡ behind (spec.first_entries title) (spec.all_rows width (length (cells_of rows.now.items)) (map (row_of width) (cells_of rows.now.items)))) }
 {
     let above = rows_above(rows, width, attrs);
     write_rows(&mut writer, rows, width, padding, 0, above)?;
@@ -182,12 +195,13 @@ fn write_rows<'a>(
     from: usize,
     to: usize,
 ) -> Result<(), AllocError>
-    requires upto { IsDrawnUpto width (map (row_of width) (cells_of rows.now.items)) from writer.old }
+    requires before { IsBeforeRow from writer.old }
     requires order { from ≤ to }
     requires within { to ≤ length (cells_of rows.now.items) }
     requires paddable { ArePaddable width (cells_of rows.now.items) }
     requires blank { padding.now ≡ blank }
-    ensures { OnOk result (IsDrawnUpto width (map (row_of width) (cells_of rows.now.items)) to writer.new) }
+    ensures before { OnOk result (IsBeforeRow to writer.new) }
+    ensures upto { OnOk result ((title : List ℕ) → IsDrawnUpto title width (map (row_of width) (cells_of rows.now.items)) from writer.old → IsDrawnUpto title width (map (row_of width) (cells_of rows.now.items)) to writer.new) }
 {
     for i in from..to {
         push_next_line(writer, i)?;
@@ -239,15 +253,16 @@ fn push_next_line(writer: &mut RowWriter<'_>, i: usize) -> Result<(), AllocError
     Ok(())
 }
 
-/// The entries that clear the screen and draw the rows, and then the cursor, the pen and the visibility.
+/// The entries that clear the screen, set the title and draw the rows, and then the cursor, the pen, the visibility and the shape of a visible cursor.
 pub(super) fn framed(
     drawn: Penned<'_>,
     x: usize,
     y: usize,
     visibility: CursorVisibility,
+    shape: Option<CursorShape>,
     pen: &CellAttributes,
 ) -> Result<Vec<Change>, AllocError>
-    ensures { IfOk result (λ entries. (d : line.Penned) (s : Screen) → penned_value drawn.entry ≡ behind spec.first_entries d → s.x ≡ x → s.y ≡ y → s.visibility ≡ visibility → s.pen ≡ pen.now → map change_value entries.items ≡ spec.repaint_of d s) }
+    ensures { IfOk result (λ entries. (title : List ℕ) (d : line.Penned) (s : Screen) → penned_value drawn.entry ≡ behind (spec.first_entries title) d → s.x ≡ x → s.y ≡ y → s.visibility ≡ visibility → s.pen ≡ pen.now → map change_value entries.items ≡ spec.repaint_of d s title shape) }
 {
     let Penned {
         mut entries,
@@ -257,13 +272,13 @@ pub(super) fn framed(
     let nothing = is_started_alone(entries.as_slice());
     push_cursor(&mut entries, nothing, x, y)?;
     push_pen(&mut entries, last, pen)?;
-    push_visible(&mut entries, visibility)?;
+    push_visible(&mut entries, visibility, shape)?;
     Ok(entries)
 }
 
 // Whether there are no entries but the first two.
 fn is_started_alone(entries: &[Change]) -> bool
-    ensures { (es : List ChangeValue) → map change_value entries.now ≡ spec.first_entries ++ es → result ≡ spec.is_nil es }
+    ensures { (es : List ChangeValue) → map change_value entries.now ≡ spec.started_entries ++ es → result ≡ spec.is_nil es }
 {
     entries.len() == 2
 }
@@ -282,7 +297,7 @@ fn push_pen(
     Ok(())
 }
 
-// The cursor's place, unless nothing was drawn and it is the first.
+// The cursor's place, unless there is nothing behind the first two entries and it is the first.
 fn push_cursor(
     entries: &mut Vec<Change>,
     nothing: bool,
@@ -330,11 +345,27 @@ fn is_move(entry: &Change) -> bool
     matches!(entry, Change::CursorPosition { .. })
 }
 
-fn push_visible(entries: &mut Vec<Change>, visibility: CursorVisibility) -> Result<(), AllocError>
-    ensures { OnOk result (map change_value entries.new.items ≡ map change_value entries.old.items ++ spec.shown_entry visibility) }
+// A visible cursor, and then its shape.
+fn push_visible(
+    entries: &mut Vec<Change>,
+    visibility: CursorVisibility,
+    shape: Option<CursorShape>,
+) -> Result<(), AllocError>
+    ensures { OnOk result (map change_value entries.new.items ≡ map change_value entries.old.items ++ spec.shown_entries visibility shape) }
 {
     if visibility == CursorVisibility::Visible {
         entries.push(Change::CursorVisibility(CursorVisibility::Visible))?;
+        push_shape(entries, shape)?;
+    }
+    Ok(())
+}
+
+// The cursor's shape, where one was set.
+fn push_shape(entries: &mut Vec<Change>, shape: Option<CursorShape>) -> Result<(), AllocError>
+    ensures { OnOk result (map change_value entries.new.items ≡ map change_value entries.old.items ++ spec.shape_entry shape) }
+{
+    if let Some(shape) = shape {
+        entries.push(Change::CursorShape(shape))?;
     }
     Ok(())
 }

@@ -1,4 +1,4 @@
-use Rattle.std.proofs.Common.{◌≡◌, ◌*◌, ◌+◌, ◌≤◌, false, length, refl, sym, ap, ◌∙◌, subst}
+use Rattle.std.proofs.Common.{◌≡◌, ◌*◌, ◌+◌, ◌<◌, ◌≤◌, false, length, refl, sym, ap, ◌∙◌, subst}
 use Rattle.std.proofs.lemmas.Bool.{true≢false}
 use Rattle.std.specs.Prelude.{None}
 use Rattle.termwiz_cell.specs.Width.{unversioned}
@@ -25,9 +25,12 @@ pub returns-in_ok-repaint-in-None-clause-repaint : goal.returns-in_ok-repaint-in
 returns-in_ok-repaint-in-None-clause-repaint g c =
     let width = unversioned (g.W.Widths.width_of c.args.self.now.widths) in
     let sound = subst (λ (v : SurfaceValue _). IsSound (unversioned (g.W.Widths.width_of v.widths)) v) c.self.view_is c.self.invariant.0 in
-    λ known s size. ap (replay width s) c.in_ok-repaint-in-None.ensures ∙ sound_repaint width c.args.self.now sound (g.met.W.Widths.space_has_one c.args.self.now.widths None) s size
+    let v = c.args.self.now in
+    λ known s size. ap (replay width s) c.in_ok-repaint-in-None.ensures ∙ sound_repaint width v sound (g.met.W.Widths.space_has_one v.widths None) s v.title v.shape size
 
 pub returns-in_ok-repaint-in-None-clause-short : goal.returns-in_ok-repaint-in-None-clause-short
 returns-in_ok-repaint-in-None-clause-short g c =
-    let s = screen_of c.args.self.now in
-    λ known. subst (λ changes. length changes ≤ 2 * (s.width * s.height) + s.height + 6) (sym c.in_ok-repaint-in-None.ensures) (repaint_short s)
+    let v = c.args.self.now in
+    let s = screen_of v in
+    let some_row : 0 < s.height = subst (λ (v : SurfaceValue _). 0 < v.height) c.self.view_is c.self.invariant.0.some_row in
+    λ known. subst (λ changes. length changes ≤ 2 * (s.width * s.height) + s.height + 6) (sym c.in_ok-repaint-in-None.ensures) (repaint_short s v.title v.shape some_row)

@@ -1,4 +1,4 @@
-use Rattle.std.proofs.Common.{[], ap, arith, replicate, subst, sym}
+use Rattle.std.proofs.Common.{[], ap, refl, arith, replicate, subst, sym}
 use Rattle.std.proofs.lemmas.List.{length-replicate, get_or-replicate}
 use Rattle.termwiz_cell.specs.Width.{unversioned}
 use Rattle.std.specs.Prelude.{None}

@@ -1,4 +1,4 @@
-use Rattle.std.proofs.Common.{◌≡◌, map, sym, ap, ◌∙◌}
+use Rattle.std.proofs.Common.{◌≡◌, map, length, sym, ap, ◌∙◌}
 use Rattle.std.proofs.lemmas.Result.{IfOk-weaker}
 use Rattle.termwiz_cell.specs.ChangeValue.{change_value}
 use Rattle.termwiz_line.specs.PennedValue.{penned_value}
@@ -12,11 +12,16 @@ use Rattle.termwiz_surface.proofs.surface.Surface.repaint.Goals as goal
 pub returns : goal.returns
 returns g c =
     let shown = c.self.inside in
-    let s = screen_of c.args.self.now in
-    let drawn : penned_value c.in_ok-drawn.drawn ≡ behind first_entries (all_rows s.width s.height s.rows) =
+    let v = c.args.self.now in
+    let s = screen_of v in
+    let titled : c.as_str-title.result.now ≡ v.title = c.as_str-title.ensures.value ∙ ap (λ (v : SurfaceValue _). v.title) c.self.view_is in
+    let drawn : penned_value c.in_ok-drawn.drawn ≡ behind (first_entries v.title) (all_rows s.width s.height s.rows) =
     c.in_ok-drawn.ensures
-    ∙ ap (λ n. behind first_entries (all_rows shown.width n (map (row_of shown.width) (cells_of shown.rows.items)))) c.self.invariant.0.full
-    ∙ ap (λ (v : SurfaceValue _). behind first_entries (all_rows v.width v.height (map (row_of v.width) v.lines))) c.self.view_is in
-    IfOk-weaker c.framed.result _ (λ changes. map change_value changes.items ≡ repaint s)
-    (λ changes framed. framed (all_rows s.width s.height s.rows) s drawn (λ k. (sym c.self.view_is k).x) (λ k. (sym c.self.view_is k).y) (λ k. (sym c.self.view_is k).visibility) (λ k. (sym c.self.view_is k).pen))
+    ∙ ap (λ t. behind (first_entries t) (all_rows shown.width (length (cells_of shown.rows.items)) (map (row_of shown.width) (cells_of shown.rows.items)))) titled
+    ∙ ap (λ n. behind (first_entries v.title) (all_rows shown.width n (map (row_of shown.width) (cells_of shown.rows.items)))) c.self.invariant.0.full
+    ∙ ap (λ (v' : SurfaceValue _). behind (first_entries v.title) (all_rows v'.width v'.height (map (row_of v'.width) v'.lines))) c.self.view_is in
+    IfOk-weaker c.framed.result _ (λ changes. map change_value changes.items ≡ repaint s v.title v.shape)
+    (λ changes framed.
+    framed v.title (all_rows s.width s.height s.rows) s drawn (λ k. (sym c.self.view_is k).x) (λ k. (sym c.self.view_is k).y) (λ k. (sym c.self.view_is k).visibility) (λ k. (sym c.self.view_is k).pen)
+    ∙ ap (λ (v' : SurfaceValue _). repaint s v.title v'.shape) c.self.view_is)
     c.framed.ensures

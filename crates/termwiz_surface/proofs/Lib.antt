@@ -29,3 +29,4 @@ mod Regions
 mod ScrolledRows
 mod ResizedRows
 mod LogRegions
+mod RepaintRegions

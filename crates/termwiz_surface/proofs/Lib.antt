@@ -30,3 +30,6 @@ mod ScrolledRows
 mod ResizedRows
 mod LogRegions
 mod RepaintRegions
+mod ResizedSize
+mod Following
+mod Viewing

@@ -43,3 +43,7 @@ flushed_number l n =
       | true ↦ λ e. let k = reached l n e in omega (arith, k.0, k.1, length-drop (n - l.first) l.changes)
       | false ↦ λ e. refl
     ] refl
+
+-- an emptied log's number is at most one greater
+pub restarted_number : (l : LogValue) → next_number (restarted l) ≤ next_number l + 1
+restarted_number l = elim (cases_Bool (next_number l == 0)) [ inl e ↦ rw e (omega arith) | inr e ↦ rw e (omega arith) ]

@@ -1,6 +1,13 @@
 -- Viewers: a surface that follows another one, by what its viewer was last given.
-use Rattle.std.specs.Prelude.{◌≡◌, ℕ, ◌+◌, ◌*◌, ◌≤◌, ◌^◌, Bool, true, false, ◌&&◌, ◌==◌, ◌⊎◌, List, length, Result, Ok, Err, if◌then◌else◌}
-use Rattle.termwiz_cell.specs.ChangeValue.{ChangeValue}
+use Rattle.std.specs.Prelude.{◌≡◌, ℕ, ◌+◌, ◌*◌, ◌≤◌, ◌^◌, Bool, true, false, ◌&&◌, ◌==◌, ◌⊎◌, List, [], length, map, replicate, None, Result, Ok, Err, Vec, if◌then◌else◌}
+use Rattle.std.specs.declared.alloc.Global.{Global}
+use Rattle.termwiz_cell.specs.Attributes.{default_attributes}
+use Rattle.termwiz_cell.specs.CellValue.{blank}
+use Rattle.termwiz_cell.specs.ChangeValue.{ChangeValue, change_value}
+use Rattle.termwiz_cell.specs.declared.change.Change.{Change}
+use Rattle.termwiz_cell.specs.declared.change.CursorVisibility.TheVariants.{Visible}
+use Rattle.termwiz_cell.specs.declared.color.ColorAttribute.TheVariants.{Default}
+use Rattle.termwiz_line.specs.LineFlags.{no_flags}
 use Rattle.termwiz_surface.specs.Adding.{Adds, Makes}
 use Rattle.termwiz_surface.specs.Log.{LogValue, next_number, due, is_known, worth}
 use Rattle.termwiz_surface.specs.Resizing.{HasResized}
@@ -26,6 +33,13 @@ module _ {W : Type 0} where
   pub record Follows (measure_of : W → List ℕ → ℕ) (v : ViewerValue W) (s : SurfaceValue W) : Type 0 where
     pub one_measure : measure_of v.surface.widths ≡ measure_of s.widths
     pub leads : Leads (measure_of s.widths) (screen_of v.surface) v.last (screen_of s) s.log
+
+  -- a viewer with a blank surface of that size and width value, and no number
+  abbrev pub blank_viewer : SurfaceValue W → ViewerValue W
+  blank_viewer s = record {
+    surface = record { widths = s.widths; width = s.width; height = s.height; lines = replicate s.height (replicate s.width blank); flags = replicate s.height no_flags; x = 0; y = 0; visibility = Visible; pen = default_attributes; title = []; shape = None; color = Default; log = record { first = 0; changes = [] } };
+    last = 0;
+  }
 
   -- the viewer has the surface's size
   abbrev pub has_size_of : ViewerValue W → SurfaceValue W → Bool
@@ -59,16 +73,16 @@ module _ {W : Type 0} where
     pub short : is_known (worth s.width s.height) s.log n ≡ false → length changes ≤ 2 * (s.width * s.height) + s.height + 6
 
   -- the viewer asks in the surface's size
-  abbrev pub Fetches : (List ℕ → ℕ) → SurfaceValue W → ViewerValue W → Result (ℕ × List ChangeValue) SurfaceError → ViewerValue W → Type 0
-  Fetches measure s old (Ok answer) new = (answer.0 ≡ next_number s.log) × IsFitted old s new × IsAnswer measure s new.last answer.1
+  abbrev pub Fetches : (List ℕ → ℕ) → SurfaceValue W → ViewerValue W → Result (ℕ × Vec Change Global) SurfaceError → ViewerValue W → Type 0
+  Fetches measure s old (Ok answer) new = (answer.0 ≡ next_number s.log) × IsFitted old s new × IsAnswer measure s new.last (map change_value answer.1.items)
   Fetches measure s old (Err Numbers) new = Fits old s (Err Numbers) new
   -- no memory for the other size, or for the answer
   Fetches measure s old (Err Memory) new = Fits old s (Err Memory) new ⊎ IsFitted old s new
   Fetches measure s old (Err ScrollRegion) new = ⊥
 
   -- changes are made, and the number is taken; where they are refused, none is
-  abbrev pub Accepts : (List ℕ → ℕ) → ViewerValue W → ℕ → List ChangeValue → Result (Unit {0}) SurfaceError → ViewerValue W → Type 0
-  Accepts measure old n changes (Ok u) new = (new.last ≡ n) × Makes measure old.surface changes new.surface
+  abbrev pub Accepts : (List ℕ → ℕ) → ViewerValue W → ℕ → List ChangeValue → Result ℕ SurfaceError → ViewerValue W → Type 0
+  Accepts measure old n changes (Ok k) new = (k ≡ n) × (new.last ≡ n) × Makes measure old.surface changes new.surface
   Accepts measure old n changes (Err e) new = (new.last ≡ 0) × Adds measure old.surface changes 0 (Err e) new.surface
 
   -- the viewer has no number, and its own has grown by two at most

@@ -206,6 +206,13 @@ impl<W: Widths> Surface<W> {
         (self.width, self.height)
     }
 
+    /// The width value, by which texts are measured.
+    pub(crate) fn widths(&self) -> W
+        ensures { result ≡ self.now.widths }
+    {
+        self.widths
+    }
+
     /// The cursor's column and row, from 0. The column is the width where a wrap is pending.
     pub fn cursor_position(&self) -> (usize, usize)
         ensures column { result.0 ≡ self.now.x }

@@ -5,11 +5,14 @@ ghost use Rattle.termwiz_cell.specs.ChangeValue.{change_value};
 ghost use Rattle.termwiz_cell.specs.Width.{unversioned};
 ghost use Rattle.termwiz_surface.specs.Schedule.{Allows, IsSchedule, state_of};
 
+mod viewer;
+
 use crate::surface::{Surface, SurfaceError};
 use std::alloc::{AllocError, Global};
 use std::borrow::CowSlice;
 use termwiz_cell::change::{Change, SequenceNo};
 use termwiz_cell::emoji::Widths;
+pub use viewer::Viewer;
 
 /// What happens to a surface.
 #[derive(Drop)]

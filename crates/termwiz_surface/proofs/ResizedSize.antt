@@ -1,11 +1,10 @@
 -- A screen in another size has it.
-use Rattle.std.proofs.Common.{◌≡◌, ℕ, ◌+◌, ◌-◌, ◌<◌, ◌≤◌, min, inl, inr, List, [], ◌++◌, length, map, take, replicate, refl, sym, ap, subst, ◌∙◌, arith, length-append}
+use Rattle.std.proofs.Common.{◌≡◌, ℕ, ◌-◌, ◌<◌, min, inl, inr, List, [], ◌++◌, length, map, take, replicate, refl, ap, ◌∙◌, arith, length-append}
 use Rattle.std.proofs.lemmas.Bool.{cases_lt}
 use Rattle.std.proofs.lemmas.List.{length-map, length-replicate, length-take, get_or-map, get_or-replicate, get_or_append_left, get_or-append_right}
 use Rattle.termwiz_cell.specs.CellValue.{CellValue, blank}
 use Rattle.termwiz_line.specs.Row.{row_of}
 use Rattle.termwiz_surface.specs.Printable.{HasSize}
-use Rattle.termwiz_surface.specs.Resized.{resized_rows}
 use Rattle.termwiz_surface.specs.Resizing.{resized_screen}
 use Rattle.termwiz_surface.specs.Screen.{Screen, row_at}
 use Rattle.termwiz_line.proofs.RowOf.{length-row_of}

@@ -1,10 +1,10 @@
 -- What asking and applying make of a viewer is what following may make of it.
-use Rattle.std.proofs.Common.{◌≡◌, ◌≢◌, ◌⊎◌, ℕ, ◌+◌, ◌≤◌, ◌^◌, inl, inr, true, false, List, length, map, refl, sym, ap, subst, ◌∙◌, arith}
-use Rattle.std.specs.Prelude.{Result, Ok, Err, OnOk, if◌then◌else◌}
+use Rattle.std.proofs.Common.{◌≡◌, ℕ, ◌+◌, ◌≤◌, ◌^◌, inl, inr, List, length, refl, sym, ap, ◌∙◌, arith}
+use Rattle.std.specs.Prelude.{Result, Ok, Err, OnOk}
 use Rattle.std.proofs.lemmas.Bool.{true≢false}
 use Rattle.termwiz_cell.specs.ChangeValue.{ChangeValue}
-use Rattle.termwiz_surface.specs.Following.{ViewerValue, Follows, has_size_of, asks_with, forgetful, IsFitted, Fits, IsAnswer, Fetches, Accepts, IsLost, HasNoRoom, FollowsTo}
-use Rattle.termwiz_surface.specs.Log.{next_number, due, is_known, worth}
+use Rattle.termwiz_surface.specs.Following.{ViewerValue, Follows, forgetful, IsFitted, IsAnswer, Fetches, Accepts, IsLost, HasNoRoom, FollowsTo}
+use Rattle.termwiz_surface.specs.Log.{next_number}
 use Rattle.termwiz_surface.specs.Adding.{Makes}
 use Rattle.termwiz_surface.specs.Printable.{HasSize}
 use Rattle.termwiz_surface.specs.Step.{replay, regions_fit}

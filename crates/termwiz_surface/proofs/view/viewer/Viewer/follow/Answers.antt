@@ -1,8 +1,7 @@
-use Rattle.std.proofs.Common.{ℕ, List, map}
+use Rattle.std.proofs.Common.{map}
 use Rattle.termwiz_cell.specs.ChangeValue.{change_value}
 use Rattle.termwiz_cell.specs.Width.{unversioned}
-use Rattle.termwiz_surface.proofs.Viewing.{FollowsTo-accepted, FollowsTo-missed, Follows-accepted, Follows-missed, accepted_shows}
-use Rattle.termwiz_surface.proofs.view.viewer.Viewer.follow.Given as given
+use Rattle.termwiz_surface.proofs.Viewing.{FollowsTo-accepted, Follows-accepted, accepted_shows}
 use Rattle.termwiz_surface.proofs.view.viewer.Viewer.follow.Goals as goal
 
 pub returns-in-Ok-clause-steps : goal.returns-in-Ok-clause-steps

@@ -83,6 +83,7 @@ module _ {W : Type 0} (f : List ℕ → ℕ) (s : SurfaceValue W) (lawful : IsLa
     row = ly;
     stored_so = λ j l. let q : length s.lines ≡ s.height = sound.full in each j (omega arith);
     number_fits = sound.number_fits;
+    regions = sound.regions;
   }
 
   pub IsSound-partly : (new : List (List CellValue)) → ArePartly s.width (blank_of a) s.lines new → IsSound f (record s { lines = new })

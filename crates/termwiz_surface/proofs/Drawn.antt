@@ -1,5 +1,5 @@
 -- What scrolling and putting a cell make of a surface.
-use Rattle.std.proofs.Common.{◌≡◌, ℕ, suc, ◌+◌, ◌-◌, ◌<◌, ◌≤◌, ◌⊎◌, inl, inr, true, min, max, List, [], ◌∷◌, ◌++◌, length, get_or, map, drop, set, replicate, refl, sym, ◌∙◌, ap, ap₂, subst, arith, length-append, length-drop}
+use Rattle.std.proofs.Common.{◌≡◌, ℕ, suc, ◌+◌, ◌-◌, ◌<◌, ◌≤◌, ◌^◌, ◌⊎◌, inl, inr, true, min, max, List, [], ◌∷◌, ◌++◌, length, get_or, map, drop, set, replicate, refl, sym, ◌∙◌, ap, ap₂, subst, arith, length-append, length-drop}
 use Rattle.std.specs.Prelude.{slice_set}
 use Rattle.std.specs.Str.{IsUtf8, bytes_eq}
 use Rattle.std.proofs.lemmas.List.{map-append, get_or-map, map-set, length-set, get_or-set_same, get_or-set_other, get_or_append_left, get_or-append_right, length-replicate, drop-map, get_or-drop}
@@ -14,7 +14,9 @@ use Rattle.termwiz_line.specs.LineFlags.{LineFlags}
 use Rattle.termwiz_line.specs.Row.{row_of, paint}
 use Rattle.termwiz_surface.specs.Regions.{region_up, region_down}
 use Rattle.termwiz_surface.specs.Rows.{painted_in, ArePartlyReset}
+use Rattle.termwiz_surface.specs.Log.{LogValue, next_number}
 use Rattle.termwiz_surface.specs.Screen.{row_at}
+use Rattle.termwiz_surface.specs.Step.{regions_fit}
 use Rattle.termwiz_surface.specs.Print.{scrolled}
 use Rattle.termwiz_surface.specs.SurfaceValue.{SurfaceValue, IsMeasured, IsStored, IsSound}
 use Rattle.termwiz_line.proofs.StoredRows.{row_blank}
@@ -52,6 +54,22 @@ any_flags f s flags z = record {
   row = z.row;
   stored_so = z.stored_so;
   number_fits = z.number_fits;
+  regions = z.regions;
+}
+
+-- another log
+pub any_log : {W : Type 0} (f : List ℕ → ℕ) (s : SurfaceValue W) (log : LogValue) → IsSound f s → next_number log < 2 ^ 64 → regions_fit s.height log.changes ≡ true → IsSound f (record s { log = log })
+any_log f s log z fits regions = record {
+  some_column = z.some_column;
+  some_row = z.some_row;
+  fits = z.fits;
+  fits_height = z.fits_height;
+  full = z.full;
+  column = z.column;
+  row = z.row;
+  stored_so = z.stored_so;
+  number_fits = fits;
+  regions = regions;
 }
 
 -- scrolling
@@ -92,6 +110,7 @@ module _ {W : Type 0} (f : List ℕ → ℕ) (s : SurfaceValue W) (lawful : IsLa
     row = sound.row;
     stored_so = scrolled_stored;
     number_fits = sound.number_fits;
+    regions = sound.regions;
   }
 
 -- a region scrolls, or some rows of it are blank
@@ -107,6 +126,7 @@ module _ {W : Type 0} (f : List ℕ → ℕ) (s : SurfaceValue W) (lawful : IsLa
     row = sound.row;
     stored_so = stored_so;
     number_fits = sound.number_fits;
+    regions = sound.regions;
   }
 
   pub IsSound-partly_reset : (new : List (List CellValue)) → ArePartlyReset (replicate s.width blank) s.lines new → IsSound f (record s { lines = new })
@@ -165,4 +185,5 @@ module _ {W : Type 0} (f : List ℕ → ℕ) (s : SurfaceValue W) (c : CellValue
       row = sound.row;
       stored_so = put_stored;
       number_fits = sound.number_fits;
+      regions = sound.regions;
     }

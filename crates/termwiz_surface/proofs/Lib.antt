@@ -28,3 +28,8 @@ mod Sides
 mod Regions
 mod ScrolledRows
 mod ResizedRows
+mod LogRegions
+mod RepaintRegions
+mod ResizedSize
+mod Following
+mod Viewing

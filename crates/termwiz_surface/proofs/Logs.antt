@@ -1,9 +1,10 @@
 -- What a log has from a number on.
-use Rattle.std.proofs.Common.{◌≡◌, ℕ, ◌+◌, ◌-◌, ◌≤◌, ◌<◌, ◌^◌, min, true, inl, inr, List, length, take, drop, map, refl, sym, ◌∙◌, ap, arith, length-drop}
-use Rattle.std.specs.Prelude.{◌==◌}
+use Rattle.std.proofs.Common.{◌≡◌, ℕ, ◌+◌, ◌-◌, ◌≤◌, ◌<◌, ◌^◌, min, true, false, inl, inr, List, length, take, drop, map, refl, sym, ◌∙◌, ap, arith, length-drop}
+use Rattle.std.specs.Prelude.{◌==◌, if◌then◌else◌}
 use Rattle.std.proofs.lemmas.Bool.{cases_Bool, cases_lt, ne_eqb, le-leb}
+use Rattle.std.proofs.lemmas.Bool.Decides.{nat_tests}
 use Rattle.std.proofs.lemmas.List.{take_all, drop-map}
-use Rattle.termwiz_surface.specs.Log.{LogValue, due, reaches, is_known, next_number, restarted}
+use Rattle.termwiz_surface.specs.Log.{LogValue, due, reaches, is_known, next_number, flushed, restarted}
 
 module _ (l : LogValue) (n : ℕ) (from : l.first ≤ n) (upto : n ≤ next_number l) where
   pub reaches_it : reaches l n ≡ true
@@ -30,3 +31,19 @@ known-least l n most fits = elim (cases_lt most (2 ^ 64)) [
 -- there is a number for an emptied log
 pub restarted_fits : (l : LogValue) → next_number l + 1 < 2 ^ 64 → next_number (restarted l) < 2 ^ 64
 restarted_fits l fits = elim (cases_Bool (next_number l == 0)) [ inl e ↦ rw e (omega arith) | inr e ↦ rw e (omega arith) ]
+
+-- where the log reaches a number, it is from the first number up to the coming one
+pub reached : (l : LogValue) (n : ℕ) → reaches l n ≡ true → (l.first ≤ n) × (n ≤ next_number l)
+reached l n h = (grind (arith, nat_tests), grind (arith, nat_tests))
+
+-- a flush leaves the number
+pub flushed_number : (l : LogValue) (n : ℕ) → next_number (flushed l n) ≡ next_number l
+flushed_number l n =
+    elim (reaches l n) as (λ b. reaches l n ≡ b → (if b then n else l.first) + length (if b then due l n else l.changes) ≡ l.first + length l.changes) [
+      | true ↦ λ e. let k = reached l n e in omega (arith, k.0, k.1, length-drop (n - l.first) l.changes)
+      | false ↦ λ e. refl
+    ] refl
+
+-- an emptied log's number is at most one greater
+pub restarted_number : (l : LogValue) → next_number (restarted l) ≤ next_number l + 1
+restarted_number l = elim (cases_Bool (next_number l == 0)) [ inl e ↦ rw e (omega arith) | inr e ↦ rw e (omega arith) ]

@@ -24,3 +24,4 @@ pub mod Resizing
 pub mod Sides
 pub mod Regions
 pub mod Resized
+pub mod Following

@@ -12,6 +12,7 @@ use Rattle.termwiz_line.specs.LineFlags.{LineFlags}
 use Rattle.termwiz_surface.specs.Kept.{Kept}
 use Rattle.termwiz_surface.specs.Log.{LogValue, next_number}
 use Rattle.termwiz_surface.specs.Screen.{Screen, row_at}
+use Rattle.termwiz_surface.specs.Step.{regions_fit}
 
 pub record SurfaceValue (W : Type 0) : Type 0 where
   pub widths : W
@@ -67,6 +68,8 @@ pub record IsSound {W : Type 0} (measure : List ℕ → ℕ) (s : SurfaceValue W
   pub row : s.y < s.height
   pub stored_so : (j : ℕ) → j < s.height → IsStored measure s.width (row_at s.lines j)
   pub number_fits : next_number s.log < 2 ^ 64
+  -- each scroll in the log has a region that lies on the surface
+  pub regions : regions_fit s.height s.log.changes ≡ true
 
 module _ {W : Type 0} where
   -- the same size and log

@@ -206,6 +206,13 @@ impl<W: Widths> Surface<W> {
         (self.width, self.height)
     }
 
+    /// The width value, by which texts are measured.
+    pub(crate) fn widths(&self) -> W
+        ensures { result ≡ self.now.widths }
+    {
+        self.widths
+    }
+
     /// The cursor's column and row, from 0. The column is the width where a wrap is pending.
     pub fn cursor_position(&self) -> (usize, usize)
         ensures column { result.0 ≡ self.now.x }
@@ -641,6 +648,8 @@ impl<W: Widths> Surface<W> {
         // Replayed on any screen of that size, whatever it shows, a repaint gives this one: rows, cursor, visibility and pen.
         ensures repaint { is_known (worth self.now.width self.now.height) self.now.log seq ≡ false → IfOk result (λ answer. (s : SeenScreen) → HasSize self.now.width self.now.height s → replay (unversioned (W.width_of self.now.widths)) s (stream_of answer.1) ≡ screen_of self.now) }
         ensures short { is_known (worth self.now.width self.now.height) self.now.log seq ≡ false → IfOk result (λ answer. length (stream_of answer.1) ≤ 2 * (self.now.width * self.now.height) + self.now.height + 6) }
+        // No scroll in the answer has a region that goes past the last row.
+        ensures regions { IfOk result (λ answer. regions_fit self.now.height (stream_of answer.1) ≡ true) }
         ensures owned { is_known (worth self.now.width self.now.height) self.now.log seq ≡ false → IfOk result (λ answer. IsOwnedSlice answer.1) }
     {
         let number = self.log.next_number();

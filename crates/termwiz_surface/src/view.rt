@@ -6,11 +6,14 @@ ghost use Rattle.std.specs.List.{All};
 ghost use Rattle.termwiz_cell.specs.Width.{unversioned};
 ghost use Rattle.termwiz_surface.specs.Schedule.{Allows, IsInRange, IsSchedule, state_of};
 
+mod viewer;
+
 use crate::surface::{Surface, SurfaceError};
 use std::alloc::{AllocError, Global};
 use std::borrow::CowSlice;
 use termwiz_cell::change::{Change, SequenceNo};
 use termwiz_cell::emoji::Widths;
+pub use viewer::Viewer;
 
 /// What happens to a surface.
 #[derive(Drop)]

@@ -21,6 +21,7 @@ invariant_of-self-2 g c =
         column = omega (arith, c.requires.some_column);
         row = omega (arith, c.requires.some_row);
         stored_so = stored-resized (unversioned (g.W.Widths.width_of s.widths)) s.width c.args.width c.args.height s.height (cells_of s.rows.items) (record { space = g.met.W.Widths.space_has_one s.widths None }) c.requires.some_column form.full form.stored_so;
+        regions = refl;
         number_fits = restarted_fits s.log (subst (λ (v : SurfaceValue _). next_number v.log + 1 < 2 ^ 64) (sym c.self.view_is) c.requires.number);
       }),
       c.in_ok-resize_rows.ensures.vectors c.self.invariant.1,

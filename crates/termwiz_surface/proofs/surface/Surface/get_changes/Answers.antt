@@ -1,12 +1,15 @@
-use Rattle.std.proofs.Common.{◌≡◌, ◌*◌, ◌+◌, ◌<◌, ◌≤◌, false, length, refl, sym, ap, ◌∙◌, subst}
+use Rattle.std.proofs.Common.{◌≡◌, ◌*◌, ◌+◌, ◌-◌, true, map, ◌<◌, ◌≤◌, false, length, refl, sym, ap, ◌∙◌, subst}
 use Rattle.std.proofs.lemmas.Bool.{true≢false}
 use Rattle.std.specs.Prelude.{None}
+use Rattle.termwiz_cell.specs.ChangeValue.{change_value}
 use Rattle.termwiz_cell.specs.Width.{unversioned}
 use Rattle.termwiz_surface.specs.Log.{is_known, worth}
-use Rattle.termwiz_surface.specs.Step.{replay}
+use Rattle.termwiz_surface.specs.Step.{replay, regions_fit}
 use Rattle.termwiz_surface.specs.SurfaceValue.{SurfaceValue, IsSound, screen_of}
+use Rattle.termwiz_surface.proofs.LogRegions.{regions-drop}
 use Rattle.termwiz_surface.proofs.Logs.{known-least}
 use Rattle.termwiz_surface.proofs.RepaintLength.{repaint_short}
+use Rattle.termwiz_surface.proofs.RepaintRegions.{repaint_fits}
 use Rattle.termwiz_surface.proofs.SoundRepaint.{sound_repaint}
 use Rattle.termwiz_surface.proofs.surface.Surface.get_changes.Given as given
 use Rattle.termwiz_surface.proofs.surface.Surface.get_changes.Goals as goal
@@ -34,3 +37,14 @@ returns-in_ok-repaint-in-None-clause-short g c =
     let s = screen_of v in
     let some_row : 0 < s.height = subst (λ (v : SurfaceValue _). 0 < v.height) c.self.view_is c.self.invariant.0.some_row in
     λ known. subst (λ changes. length changes ≤ 2 * (s.width * s.height) + s.height + 6) (sym c.in_ok-repaint-in-None.ensures) (repaint_short s v.title v.shape some_row)
+
+pub returns-in_ok-repaint-in-None-clause-regions : goal.returns-in_ok-repaint-in-None-clause-regions
+returns-in_ok-repaint-in-None-clause-regions g c =
+    let v = c.args.self.now in
+    ap (regions_fit v.height) c.in_ok-repaint-in-None.ensures ∙ repaint_fits v.height (screen_of v) v.title v.shape
+
+pub returns-in-Some-clause-regions : goal.returns-in-Some-clause-regions
+returns-in-Some-clause-regions g c =
+    let s = c.self.inside in
+    subst (λ (v : SurfaceValue _). regions_fit v.height (map change_value c.in-Some.due.now) ≡ true) c.self.view_is
+    (ap (regions_fit s.height) c.in-Some.ensures.some.1 ∙ regions-drop s.height (c.args.seq - s.log.first) s.log.changes c.self.invariant.0.regions)

@@ -1,0 +1,164 @@
+-- A viewer that follows goes on to follow, whatever the surface does.
+use Rattle.std.proofs.Common.{◌≡◌, ℕ, ◌+◌, ◌-◌, ◌≤◌, inl, inr, true, false, List, length, drop, refl, sym, ap, subst, ◌∙◌, arith, length-append, length-drop}
+use Rattle.std.specs.Prelude.{◌==◌, if◌then◌else◌}
+use Rattle.std.proofs.lemmas.Bool.{cases_Bool, and_parts, eqb-true}
+use Rattle.std.proofs.lemmas.Bool.Decides.{nat_tests}
+use Rattle.std.proofs.lemmas.Grind.{fold-append}
+use Rattle.std.proofs.lemmas.List.{drop-append-le, drop-drop}
+use Rattle.std.proofs.Math.Seq.{drop-length}
+use Rattle.termwiz_cell.specs.ChangeValue.{ChangeValue}
+use Rattle.termwiz_surface.specs.Adding.{Makes, with_log}
+use Rattle.termwiz_surface.specs.Following.{ViewerValue, Leads, Follows, has_size_of, asks_with, IsFitted}
+use Rattle.termwiz_surface.specs.Log.{LogValue, next_number, due, reaches, is_known, worth, appended, flushed, restarted}
+use Rattle.termwiz_surface.specs.Printable.{HasSize}
+use Rattle.termwiz_surface.specs.Resizing.{HasResized}
+use Rattle.termwiz_surface.specs.Screen.{Screen}
+use Rattle.termwiz_surface.specs.Step.{step, replay}
+use Rattle.termwiz_surface.specs.Stream.{IsStream}
+use Rattle.termwiz_surface.specs.SurfaceValue.{SurfaceValue, screen_of}
+use Rattle.termwiz_surface.proofs.Logs.{reached, restarted_number}
+use Rattle.termwiz_surface.proofs.ResizedSize.{resized_size}
+
+known_tells : (most : ℕ) (log : LogValue) (n : ℕ) → is_known most log n ≡ true → (n ≡ 0 → ⊥) × (log.first ≤ n)
+known_tells most log n h = (grind (arith, nat_tests), grind (arith, nat_tests))
+
+-- screens, numbers and logs
+module _ (f : List ℕ → ℕ) where
+  -- a viewer with no number is led nowhere
+  pub Leads-none : (v s : Screen) (n : ℕ) (log : LogValue) → n ≡ 0 → Leads f v n s log
+  Leads-none v s n log e = record { not_ahead = omega (arith, e); leads = λ ne le. absurd (ne e) }
+
+  -- more changes are due, and lead on
+  pub Leads-appended : (v s t : Screen) (n : ℕ) (log : LogValue) (cs : List ChangeValue) → t.width ≡ s.width → t.height ≡ s.height → t ≡ replay f s cs → Leads f v n s log → Leads f v n t (appended log cs)
+  Leads-appended v s t n log cs w h e l = record {
+    not_ahead = omega (arith, l.not_ahead, length-append log.changes cs);
+    leads = λ ne le.
+        let ahead : n ≤ log.first + length log.changes = l.not_ahead in
+        let k = l.leads ne le in (
+          k.0 ∙ sym w,
+          k.1 ∙ sym h,
+          ap (replay f v) (drop-append-le (n - log.first) log.changes cs (omega arith)) ∙ fold-append (step f) v (due log n) cs ∙ ap (λ (u : Screen). replay f u cs) k.2 ∙ sym e,
+        );
+  }
+
+  -- the log is lost, and none of its numbers above 0 is known
+  pub Leads-restarted : (v s t : Screen) (n : ℕ) (log : LogValue) → Leads f v n s log → Leads f v n t (restarted log)
+  Leads-restarted v s t n log l =
+      let ahead : n ≤ log.first + length log.changes = l.not_ahead in
+      record {
+        not_ahead = grind (arith, nat_tests);
+        leads = λ ne le. absurd (grind (arith, nat_tests));
+      }
+
+  pub Leads-flushed : (v s : Screen) (n k : ℕ) (log : LogValue) → Leads f v n s log → Leads f v n s (flushed log k)
+  Leads-flushed v s n k log l =
+      elim (reaches log k) as (λ b. reaches log k ≡ b → Leads f v n s (record { first = if b then k else log.first; changes = if b then due log k else log.changes })) [
+        | true ↦ λ e.
+            let ahead : n ≤ log.first + length log.changes = l.not_ahead in
+            let in_log = reached log k e in
+            record {
+              not_ahead = omega (arith, in_log.0, in_log.1, length-drop (k - log.first) log.changes);
+              leads = λ ne le.
+                  let sum : k - log.first + (n - k) ≡ n - log.first = omega (arith, in_log.0) in
+                  let led = l.leads ne (omega (arith, in_log.0)) in (
+                    led.0,
+                    led.1,
+                    ap (replay f v) (drop-drop (n - k) (k - log.first) log.changes ∙ ap (λ j. drop j log.changes) sum) ∙ led.2,
+                  );
+            }
+        | false ↦ λ e. l
+      ] refl
+
+  -- a screen with the surface's number is led by nothing
+  pub Leads-same : (v s : Screen) (n : ℕ) (log : LogValue) → v ≡ s → n ≡ next_number log → Leads f v n s log
+  Leads-same v s n log e k =
+      let all : n - log.first ≡ length log.changes = omega (arith, k) in
+      record {
+        not_ahead = omega (arith, k);
+        leads = λ ne le. (
+          ap (λ (t : Screen). t.width) e,
+          ap (λ (t : Screen). t.height) e,
+          ap (λ j. replay f v (drop j log.changes)) all ∙ ap (replay f v) (drop-length log.changes) ∙ e,
+        );
+      }
+
+module _ {W : Type 0} (f : W → List ℕ → ℕ) where
+  pub Follows-makes : (v : ViewerValue W) (s t : SurfaceValue W) (cs : List ChangeValue) → Follows f v s → Makes (f s.widths) s cs t → Follows f v t
+  Follows-makes v s t cs h m = record {
+    one_measure = h.one_measure ∙ sym (ap f m.widths);
+    leads = rw (ap f m.widths, m.log) (Leads-appended (f s.widths) (screen_of v.surface) (screen_of s) (screen_of t) v.last s.log cs m.width m.height m.screen_is h.leads);
+  }
+
+  -- any surface with that width value and an emptied log
+  pub Follows-restarted : (v : ViewerValue W) (s t : SurfaceValue W) → Follows f v s → t.widths ≡ s.widths → t.log ≡ restarted s.log → Follows f v t
+  Follows-restarted v s t h w l = record {
+    one_measure = h.one_measure ∙ sym (ap f w);
+    leads = rw (ap f w, l) (Leads-restarted (f s.widths) (screen_of v.surface) (screen_of s) (screen_of t) v.last s.log h.leads);
+  }
+
+  pub Follows-resized : (v : ViewerValue W) (s t : SurfaceValue W) (width height : ℕ) → Follows f v s → HasResized s width height t → Follows f v t
+  Follows-resized v s t width height h r = Follows-restarted v s t h r.widths r.log
+
+  pub Follows-flushed : (v : ViewerValue W) (s : SurfaceValue W) (n : ℕ) → Follows f v s → Follows f v (with_log s (flushed s.log n))
+  Follows-flushed v s n h = record { one_measure = h.one_measure; leads = Leads-flushed (f s.widths) (screen_of v.surface) (screen_of s) v.last n s.log h.leads }
+
+  -- a viewer with the surface's screen and number follows
+  pub Follows-same : (v : ViewerValue W) (s : SurfaceValue W) → f v.surface.widths ≡ f s.widths → screen_of v.surface ≡ screen_of s → v.last ≡ next_number s.log → Follows f v s
+  Follows-same v s w e n = record { one_measure = w; leads = Leads-same (f s.widths) (screen_of v.surface) (screen_of s) v.last s.log e n }
+
+  -- so does one with no number
+  pub Follows-none : (v : ViewerValue W) (s : SurfaceValue W) → f v.surface.widths ≡ f s.widths → v.last ≡ 0 → Follows f v s
+  Follows-none v s w e = record { one_measure = w; leads = Leads-none (f s.widths) (screen_of v.surface) (screen_of s) v.last s.log e }
+
+  -- a viewer that takes the surface's size goes on to follow
+  pub Follows-fitted : (old : ViewerValue W) (s : SurfaceValue W) (new : ViewerValue W) → Follows f old s → IsFitted old s new → Follows f new s
+  Follows-fitted old s new h k = elim (cases_Bool (has_size_of old s)) [
+    | inl e ↦ subst (λ (v : ViewerValue W). Follows f v s) (sym (k.same e)) h
+    | inr e ↦ let r = k.other e in Follows-none new s (ap f r.1.widths ∙ h.one_measure) r.0
+  ]
+
+  -- and an answer leads it to the surface's screen
+  pub caught_up : (v : ViewerValue W) (s : SurfaceValue W) (cs : List ChangeValue) → Follows f v s → HasSize s.width s.height (screen_of v.surface) → IsStream (f s.widths) (screen_of s) s.log v.last cs
+      → replay (f s.widths) (screen_of v.surface) cs ≡ screen_of s
+  caught_up v s cs h size a =
+      elim (is_known (worth s.width s.height) s.log v.last) as (λ b. is_known (worth s.width s.height) s.log v.last ≡ b → replay (f s.widths) (screen_of v.surface) cs ≡ screen_of s) [
+        | true ↦ λ e. let k = known_tells (worth s.width s.height) s.log v.last e in ap (replay (f s.widths) (screen_of v.surface)) (a.known e) ∙ (h.leads.leads k.0 k.1).2
+        | false ↦ λ e. a.repaint e (screen_of v.surface) size
+      ] refl
+
+module _ {W : Type 0} where
+  -- a viewer that takes the surface's size has it
+  pub fitted_size : (old : ViewerValue W) (s : SurfaceValue W) (new : ViewerValue W) → HasSize old.surface.width old.surface.height (screen_of old.surface) → IsFitted old s new → HasSize s.width s.height (screen_of new.surface)
+  fitted_size old s new size k = elim (cases_Bool (has_size_of old s)) [
+    | inl e ↦
+        let parts = and_parts (old.surface.width == s.width) (old.surface.height == s.height) e in
+        rw (k.same e, ← eqb-true old.surface.width s.width parts.0, ← eqb-true old.surface.height s.height parts.1) size
+    | inr e ↦ rw ((k.other e).1.screen_is) (resized_size (screen_of old.surface) s.width s.height)
+  ]
+
+  pub fitted_widths : (old : ViewerValue W) (s : SurfaceValue W) (new : ViewerValue W) → IsFitted old s new → new.surface.widths ≡ old.surface.widths
+  fitted_widths old s new k = elim (cases_Bool (has_size_of old s)) [
+    | inl e ↦ ap (λ (v : ViewerValue W). v.surface.widths) (k.same e)
+    | inr e ↦ (k.other e).1.widths
+  ]
+
+  pub fitted_height : (old : ViewerValue W) (s : SurfaceValue W) (new : ViewerValue W) → IsFitted old s new → new.surface.height ≡ s.height
+  fitted_height old s new k = elim (cases_Bool (has_size_of old s)) [
+    | inl e ↦
+        let parts = and_parts (old.surface.width == s.width) (old.surface.height == s.height) e in
+        ap (λ (v : ViewerValue W). v.surface.height) (k.same e) ∙ eqb-true old.surface.height s.height parts.1
+    | inr e ↦ (k.other e).1.height
+  ]
+
+  -- its own number grows by one at most
+  pub fitted_number : (old : ViewerValue W) (s : SurfaceValue W) (new : ViewerValue W) → IsFitted old s new → next_number new.surface.log ≤ next_number old.surface.log + 1
+  fitted_number old s new k = elim (cases_Bool (has_size_of old s)) [
+    | inl e ↦ omega (arith, ap (λ (v : ViewerValue W). next_number v.surface.log) (k.same e))
+    | inr e ↦ rw ((k.other e).1.log) (restarted_number old.surface.log)
+  ]
+
+  pub fitted_last : (old : ViewerValue W) (s : SurfaceValue W) (new : ViewerValue W) → IsFitted old s new → asks_with old s ≡ new.last
+  fitted_last old s new k = elim (cases_Bool (has_size_of old s)) [
+    | inl e ↦ rw e (ap (λ (v : ViewerValue W). v.last) (sym (k.same e)))
+    | inr e ↦ rw e (sym (k.other e).0)
+  ]

@@ -1,0 +1,13 @@
+use Rattle.std.proofs.Common.{arith}
+use Rattle.termwiz_surface.proofs.Drawn.{any_log}
+use Rattle.termwiz_surface.proofs.Logs.{flushed_number}
+use Rattle.termwiz_surface.proofs.LogRegions.{regions-flushed}
+use Rattle.termwiz_surface.proofs.surface.Surface.flush_changes_older_than.Goals as goal
+
+pub invariant_of-self : goal.invariant_of-self
+invariant_of-self g c =
+    let log = c.self.inside.log in
+    let form = c.self.invariant.0 in (
+      rw c.flush.ensures (any_log _ _ _ form (omega (arith, flushed_number log c.args.seq, form.number_fits)) (regions-flushed c.self.inside.height c.args.seq log form.regions)),
+      c.self.invariant.1,
+    )

@@ -5,6 +5,8 @@
 mod carried;
 pub mod changes;
 #[cfg(test)]
+mod followed;
+#[cfg(test)]
 mod graphemes;
 #[cfg(test)]
 mod kept;

@@ -25,3 +25,4 @@ pub mod Sides
 pub mod Regions
 pub mod Resized
 pub mod Following
+pub mod FollowingLaws

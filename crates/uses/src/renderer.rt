@@ -1,0 +1,29 @@
+//! A renderer: what it does in each turn of its loop.
+ghost use Rattle.std.specs.Prelude.{◌≡◌, OnOk};
+ghost use Rattle.termwiz_cell.specs.Width.{unversioned};
+ghost use Rattle.termwiz_surface.specs.Following.{Follows};
+ghost use Rattle.termwiz_surface.specs.SurfaceValue.{screen_of};
+
+use termwiz_cell::emoji::Widths;
+use termwiz_surface::laws::following_laws;
+use termwiz_surface::surface::{Surface, SurfaceError};
+use termwiz_surface::view::Viewer;
+
+/// Shows on its one viewer what the surface shows, and lets the surface forget the changes that the viewer has.
+/// After an error the viewer may show anything, and the next turn shows the whole screen.
+pub fn refresh<W: Widths>(
+    surface: &mut Surface<W>,
+    viewer: &mut Viewer<W>,
+) -> Result<(), SurfaceError>
+    requires { Follows (λ widths. unversioned (W.width_of widths)) viewer.old surface.old }
+    ensures shown { OnOk result (screen_of viewer.new.surface ≡ screen_of surface.new) }
+    ensures unchanged { screen_of surface.new ≡ screen_of surface.old }
+    // The next turn can rely on it again, after an error too.
+    ensures follows { Follows (λ widths. unversioned (W.width_of widths)) viewer.new surface.new }
+{
+    // A flush keeps what leads the viewer.
+    following_laws();
+    viewer.follow(surface)?;
+    surface.flush_changes_older_than(viewer.last());
+    Ok(())
+}

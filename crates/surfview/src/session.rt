@@ -13,7 +13,6 @@ use std::io::{ErrorKind, Read, Write};
 use termwiz_cell::emoji::UnicodeWidths;
 use termwiz_surface::view::{self, Event, Outcome};
 
-
 /// Why a session ends before all is done.
 #[derive(Clone, Copy, PartialEq, Eq, Debug)]
 pub enum SessionError {
@@ -130,7 +129,10 @@ fn dimensions(args: &[String]) -> Option<(usize, usize)>
     ensures found { IfSome result (λ found. GiveSizes args.now found.0 found.1) }
 {
     match args {
-        [width, height] => Some((script::size(width.as_str())?, script::size(height.as_str())?)),
+        [width, height] => Some((
+            script::size(width.as_str())?,
+            script::size(height.as_str())?,
+        )),
         _ => None,
     }
 }

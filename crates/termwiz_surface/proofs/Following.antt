@@ -1,21 +1,23 @@
 -- A viewer that follows goes on to follow, whatever the surface does.
 use Rattle.std.proofs.Common.{◌≡◌, ℕ, ◌+◌, ◌-◌, ◌≤◌, inl, inr, true, false, List, length, drop, refl, sym, ap, subst, ◌∙◌, arith, length-append, length-drop}
-use Rattle.std.specs.Prelude.{◌==◌, if◌then◌else◌}
+use Rattle.std.specs.Prelude.{Result, Ok, Err, ◌==◌, if◌then◌else◌}
 use Rattle.std.proofs.lemmas.Bool.{cases_Bool, and_parts, eqb-true}
 use Rattle.std.proofs.lemmas.Bool.Decides.{nat_tests}
 use Rattle.std.proofs.lemmas.Grind.{fold-append}
 use Rattle.std.proofs.lemmas.List.{drop-append-le, drop-drop}
 use Rattle.std.proofs.Math.Seq.{drop-length}
 use Rattle.termwiz_cell.specs.ChangeValue.{ChangeValue}
-use Rattle.termwiz_surface.specs.Adding.{Makes, with_log}
+use Rattle.termwiz_surface.specs.Adding.{Adds, Makes, with_log}
 use Rattle.termwiz_surface.specs.Following.{ViewerValue, Leads, Follows, has_size_of, asks_with, IsFitted}
 use Rattle.termwiz_surface.specs.Log.{LogValue, next_number, due, reaches, is_known, worth, appended, flushed, restarted}
 use Rattle.termwiz_surface.specs.Printable.{HasSize}
-use Rattle.termwiz_surface.specs.Resizing.{HasResized}
+use Rattle.termwiz_surface.specs.Resizing.{HasResized, Resizes}
 use Rattle.termwiz_surface.specs.Screen.{Screen}
 use Rattle.termwiz_surface.specs.Step.{step, replay}
 use Rattle.termwiz_surface.specs.Stream.{IsStream}
 use Rattle.termwiz_surface.specs.SurfaceValue.{SurfaceValue, screen_of}
+use Rattle.termwiz_surface.specs.declared.surface.SurfaceError.{SurfaceError}
+use Rattle.termwiz_surface.specs.declared.surface.SurfaceError.TheVariants.{ScrollRegion, Numbers, Memory}
 use Rattle.termwiz_surface.proofs.Logs.{reached, restarted_number}
 use Rattle.termwiz_surface.proofs.ResizedSize.{resized_size}
 
@@ -101,6 +103,20 @@ module _ {W : Type 0} (f : W → List ℕ → ℕ) where
 
   pub Follows-flushed : (v : ViewerValue W) (s : SurfaceValue W) (n : ℕ) → Follows f v s → Follows f v (with_log s (flushed s.log n))
   Follows-flushed v s n h = record { one_measure = h.one_measure; leads = Leads-flushed (f s.widths) (screen_of v.surface) (screen_of s) v.last n s.log h.leads }
+
+  -- after a list of changes, whatever was answered
+  pub Follows-adds : (v : ViewerValue W) (s t : SurfaceValue W) (cs : List ChangeValue) (told : ℕ) (result : Result ℕ SurfaceError) → Follows f v s → Adds (f s.widths) s cs told result t → Follows f v t
+  Follows-adds v s t cs told (Ok n) h a = Follows-makes v s t cs h a.3
+  Follows-adds v s t cs told (Err ScrollRegion) h a = subst (Follows f v) (sym a.1) h
+  Follows-adds v s t cs told (Err Numbers) h a = subst (Follows f v) (sym a.2) h
+  Follows-adds v s t cs told (Err Memory) h a = Follows-restarted v s t h a.3.widths a.3.log
+
+  -- after a resize, whatever was answered
+  pub Follows-resizes : (v : ViewerValue W) (s t : SurfaceValue W) (width height : ℕ) (result : Result (Unit {0}) SurfaceError) → Follows f v s → Resizes s width height result t → Follows f v t
+  Follows-resizes v s t width height (Ok u) h r = Follows-resized v s t width height h r.1
+  Follows-resizes v s t width height (Err ScrollRegion) h r = absurd r
+  Follows-resizes v s t width height (Err Numbers) h r = subst (Follows f v) (sym r.1) h
+  Follows-resizes v s t width height (Err Memory) h r = subst (Follows f v) (sym r.1) h
 
   -- a viewer with the surface's screen and number follows
   pub Follows-same : (v : ViewerValue W) (s : SurfaceValue W) → f v.surface.widths ≡ f s.widths → screen_of v.surface ≡ screen_of s → v.last ≡ next_number s.log → Follows f v s

@@ -70,7 +70,7 @@ module _ {W : Type 0} where
   FollowsTo-lost f s old new Numbers h = h.0
   FollowsTo-lost f s old new Memory h = h
 
-  Follows-lost : (f : W → List ℕ → ℕ) (s : SurfaceValue W) (old new : ViewerValue W) → Follows f old s → IsLost old new → Follows f new s
+  pub Follows-lost : (f : W → List ℕ → ℕ) (s : SurfaceValue W) (old new : ViewerValue W) → Follows f old s → IsLost old new → Follows f new s
   Follows-lost f s old new h l = Follows-none f new s (ap f l.widths ∙ h.one_measure) l.last
 
   pub Follows-missed : (f : W → List ℕ → ℕ) (s : SurfaceValue W) (old new : ViewerValue W) (e : SurfaceError) → FollowsTo f s old (Err e) new → Follows f old s → Follows f new s

@@ -33,8 +33,8 @@ fn a_viewer_makes_what_changed(rt: HostRuntime) -> Result<(), Fail> {
     assert_follows(&rt, &mut viewer, &surface)?;
     assert_shows(&rt, viewer.surface(), "ab\nc \n", (1, 1))?;
     // Its own log has the one change that was due.
-    let one = [Step::Print("c")];
-    assert_lent(&rt, alloc, viewer.surface(), own, own + 1, &one)?;
+    let now = viewer.surface().current_seqno();
+    assert_lent(&rt, alloc, viewer.surface(), own, now, &[Step::Print("c")])?;
     Ok(())
 }
 

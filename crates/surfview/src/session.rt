@@ -7,12 +7,11 @@ ghost use Rattle.termwiz_surface.specs.Schedule.{IsInRange};
 ghost use Rattle.surfview.specs.Status.{status_of};
 
 use crate::printed::Printed;
-use crate::script::{self, ScriptError};
+use crate::script::{self, ScriptError, size};
 use std::alloc::{AllocError, Global};
 use std::io::{ErrorKind, Read, Write};
 use termwiz_cell::emoji::UnicodeWidths;
 use termwiz_surface::view::{self, Event, Outcome};
-
 
 /// Why a session ends before all is done.
 #[derive(Clone, Copy, PartialEq, Eq, Debug)]
@@ -130,7 +129,7 @@ fn dimensions(args: &[String]) -> Option<(usize, usize)>
     ensures found { IfSome result (λ found. GiveSizes args.now found.0 found.1) }
 {
     match args {
-        [width, height] => Some((script::size(width.as_str())?, script::size(height.as_str())?)),
+        [width, height] => Some((size(width.as_str())?, size(height.as_str())?)),
         _ => None,
     }
 }

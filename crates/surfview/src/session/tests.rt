@@ -136,6 +136,12 @@ fn prints_what_each_script_gives(rt: HostRuntime) -> Result<(), Fail> {
         ),
         // A region that goes past the last row.
         (["4", "3"], "up 2 2 1\n", "refused: scroll region\n"),
+        // Another size, of which no viewer knows.
+        (
+            ["4", "1"],
+            "text a\nflush 1\nresize 2 1\nshow\nask 1\n",
+            "|a |\ncursor 1 0\nnumber 2\nhidden\nclear default\ntext a\nmove =1 =0\nvisible\n",
+        ),
         // A fresh surface, asked for any number.
         (
             ["4", "3"],
@@ -172,6 +178,8 @@ fn prints_nothing_for_scripts_that_ask_nothing(rt: HostRuntime) -> Result<(), Fa
         "eos #00ff00",
         "up 0 1 4294967295",
         "down 1 0 0",
+        "flush 4294967295",
+        "resize 1000 0001",
     ] {
         let ended = run_session(rt.alloc(), &["2", "1"], script.as_bytes())?;
         assert_eq!(rt; ended.out.as_str(), "", "{script}");
@@ -250,6 +258,11 @@ fn names_the_first_bad_line_and_prints_nothing(rt: HostRuntime) -> Result<(), Fa
         "up 4294967296 1 1",
         "down 2 1",
         "down 2 1 x",
+        "flush",
+        "flush -1",
+        "resize 1",
+        "resize 0 1",
+        "resize 1 1001",
     ] {
         let script = format!(in rt.alloc(); "show\n{line}\nfly\n")?;
         let ended = run_session(rt.alloc(), &["4", "3"], script.as_bytes())?;

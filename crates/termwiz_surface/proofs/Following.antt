@@ -21,7 +21,7 @@ use Rattle.termwiz_surface.specs.declared.surface.SurfaceError.TheVariants.{Scro
 use Rattle.termwiz_surface.proofs.Logs.{reached, restarted_number}
 use Rattle.termwiz_surface.proofs.ResizedSize.{resized_size}
 
-known_tells : (most : ℕ) (log : LogValue) (n : ℕ) → is_known most log n ≡ true → (n ≡ 0 → ⊥) × (log.first ≤ n)
+pub known_tells : (most : ℕ) (log : LogValue) (n : ℕ) → is_known most log n ≡ true → (n ≡ 0 → ⊥) × (log.first ≤ n)
 known_tells most log n h = (grind (arith, nat_tests), grind (arith, nat_tests))
 
 -- screens, numbers and logs

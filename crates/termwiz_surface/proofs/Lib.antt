@@ -33,3 +33,4 @@ mod RepaintRegions
 mod ResizedSize
 mod Following
 mod Viewing
+mod FollowedRuns

@@ -12,8 +12,9 @@ use Rattle.termwiz_line.specs.LineFlags.{no_flags}
 use Rattle.termwiz_line.specs.Row.{row_of}
 use Rattle.termwiz_surface.specs.SurfaceValue.{SurfaceValue}
 use Rattle.termwiz_surface.specs.Adding.{Adds}
+use Rattle.termwiz_surface.specs.Following.{ViewerValue, blank_viewer}
 use Rattle.termwiz_surface.specs.Log.{next_number}
-use Rattle.termwiz_surface.specs.Schedule.{State, Allows, Runs, Ended, Next, state_of, first_state}
+use Rattle.termwiz_surface.specs.Schedule.{State, Allows, Runs, Ended, Next, state_of, first_state, blank_screen}
 use Rattle.termwiz_surface.specs.declared.surface.SurfaceError.{SurfaceError}
 use Rattle.termwiz_surface.specs.declared.surface.SurfaceError.TheVariants.{ScrollRegion, Numbers, Memory}
 use Rattle.termwiz_surface.specs.declared.view.Event.{Event}
@@ -33,30 +34,39 @@ pub Runs-push : {measure : List ℕ → ℕ} {a b : State} {events : List Event}
 Runs-push event outcome c (Ended s) h = Next s c c event outcome [] [] h (Ended c)
 Runs-push event outcome c (Next old mid new e o es os k r) h = Next old mid c e o (es ++ event ∷ []) (os ++ outcome ∷ []) k (Runs-push event outcome c r h)
 
+screen_of-blank : (w h : ℕ) → record (blank_screen w h) { rows = map (row_of w) (replicate h (replicate w blank)) } ≡ blank_screen w h
+screen_of-blank w h i = record (blank_screen w h) { rows = (map-replicate (row_of w) h (replicate w blank) ∙ ap (replicate h) (row_blank w)) i }
+
 module _ {W : Type 0} where
-  -- a new surface is in the first state
-  pub state_of-blank : (widths : W) (w h : ℕ) → state_of {W = W} (record { widths = widths; width = w; height = h; lines = replicate h (replicate w blank); flags = replicate h no_flags; x = 0; y = 0; visibility = Visible; pen = default_attributes; title = []; shape = None; color = Default; log = record { first = 0; changes = [] } }) ≡ first_state w h
+  abbrev pub blank_surface : W → ℕ → ℕ → SurfaceValue W
+  blank_surface widths w h = record { widths = widths; width = w; height = h; lines = replicate h (replicate w blank); flags = replicate h no_flags; x = 0; y = 0; visibility = Visible; pen = default_attributes; title = []; shape = None; color = Default; log = record { first = 0; changes = [] } }
+
+  -- a new surface and its viewer are in the first state
+  pub state_of-blank : (widths : W) (w h : ℕ) → let s = blank_surface widths w h in state_of s (blank_viewer s) ≡ first_state w h
   state_of-blank widths w h i = record {
-    screen = record { width = w; height = h; rows = (map-replicate (row_of w) h (replicate w blank) ∙ ap (replicate h) (row_blank w)) i; x = 0; y = 0; visibility = Visible; pen = default_attributes };
+    screen = screen_of-blank w h i;
     kept = record { lengths = (map-replicate length h (replicate w blank) ∙ ap (replicate h) (length-replicate w blank)) i; flags = replicate h no_flags; title = []; shape = None; color = Default };
     log = record { first = 0; changes = [] };
+    given = 0;
+    shown = screen_of-blank w h i;
+    own = 0;
   }
 
   -- a list is answered as the schedule says
-  pub Allows-answered : (measure : List ℕ → ℕ) (old new : SurfaceValue W) (changes : Vec Change Global) (n : ℕ)
-      → Adds measure old (map change_value changes.items) (next_number old.log - 1 + vec_len changes) (Ok n) new → Allows measure (state_of old) (Changes changes) (Answered n) (state_of new)
-  Allows-answered measure old new changes n h =
+  pub Allows-answered : (measure : List ℕ → ℕ) (old new : SurfaceValue W) (v : ViewerValue W) (changes : Vec Change Global) (n : ℕ)
+      → Adds measure old (map change_value changes.items) (next_number old.log - 1 + vec_len changes) (Ok n) new → Allows measure (state_of old v) (Changes changes) (Answered n) (state_of new v)
+  Allows-answered measure old new v changes n h =
       let count : length (map change_value changes.items) ≡ length changes.items = length-map changes.items change_value in
-      (h.0, omega (arith, h.1), h.2 ∙ ap (λ k. next_number old.log - 1 + k) changes.ok.0, record { screen = h.3.screen_is; kept = h.3.kept_is; log = h.3.log })
+      (h.0, omega (arith, h.1), h.2 ∙ ap (λ k. next_number old.log - 1 + k) changes.ok.0, record { screen = h.3.screen_is; kept = h.3.kept_is; log = h.3.log; viewer = record { given = refl; shown = refl; own = refl } })
 
   -- a refused list is refused as the schedule says
-  pub Allows-refused : (measure : List ℕ → ℕ) (old new : SurfaceValue W) (changes : Vec Change Global) (answer : ℕ) (e : SurfaceError)
-      → Adds measure old (map change_value changes.items) answer (Err e) new → Allows measure (state_of old) (Changes changes) (Refused e) (state_of new)
-  Allows-refused measure old new changes answer ScrollRegion h = (h.0, ap state_of h.1)
-  Allows-refused measure old new changes answer Numbers h =
+  pub Allows-refused : (measure : List ℕ → ℕ) (old new : SurfaceValue W) (v : ViewerValue W) (changes : Vec Change Global) (answer : ℕ) (e : SurfaceError)
+      → Adds measure old (map change_value changes.items) answer (Err e) new → Allows measure (state_of old v) (Changes changes) (Refused e) (state_of new v)
+  Allows-refused measure old new v changes answer ScrollRegion h = (h.0, ap (λ t. state_of t v) h.1)
+  Allows-refused measure old new v changes answer Numbers h =
       let count : length (map change_value changes.items) ≡ length changes.items = length-map changes.items change_value in
-      (h.0, omega (arith, h.1), ap state_of h.2)
-  Allows-refused measure old new changes answer Memory h =
+      (h.0, omega (arith, h.1), ap (λ t. state_of t v) h.2)
+  Allows-refused measure old new v changes answer Memory h =
       let count : length (map change_value changes.items) ≡ length changes.items = length-map changes.items change_value in
       let frame = h.3 in
       let sound = h.4 in
@@ -77,5 +87,6 @@ module _ {W : Type 0} where
           rows = refl;
           lengths = refl;
           log = frame.log;
+          viewer = record { given = refl; shown = refl; own = refl };
         },
       )

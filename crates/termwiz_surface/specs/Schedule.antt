@@ -1,6 +1,6 @@
 -- Which outcomes a list of events may have: a state, what each event may answer and leave, and whole runs.
 use Rattle.std.specs.Bool.{⊤}
-use Rattle.std.specs.Prelude.{◌≡◌, true, false, ℕ, ◌+◌, ◌-◌, ◌^◌, ◌<◌, ◌≤◌, List, [], ◌∷◌, length, map, replicate, string_bytes, None}
+use Rattle.std.specs.Prelude.{◌≡◌, ◌⊎◌, true, false, if◌then◌else◌, ℕ, ◌+◌, ◌-◌, ◌*◌, ◌^◌, ◌<◌, ◌≤◌, List, [], ◌∷◌, length, map, replicate, string_bytes, None}
 use Rattle.termwiz_cell.specs.Attributes.{default_attributes}
 use Rattle.termwiz_cell.specs.CellValue.{CellValue, blank}
 use Rattle.termwiz_cell.specs.ChangeValue.{ChangeValue, change_value}
@@ -8,37 +8,61 @@ use Rattle.termwiz_cell.specs.declared.change.CursorVisibility.TheVariants.{Visi
 use Rattle.termwiz_line.specs.Row.{row_of}
 use Rattle.termwiz_surface.specs.Screen.{Screen, row_at}
 use Rattle.termwiz_surface.specs.Step.{replay, replay_kept, regions_fit}
-use Rattle.termwiz_surface.specs.Log.{LogValue, next_number, appended, flushed, restarted}
+use Rattle.termwiz_surface.specs.Log.{LogValue, next_number, due, is_known, worth, appended, flushed, restarted}
 use Rattle.termwiz_surface.specs.Resizing.{resized_screen, resized_kept}
 use Rattle.termwiz_surface.specs.Stream.{IsStream}
 use Rattle.termwiz_surface.specs.Printable.{HasSize, IsPrintable}
 use Rattle.termwiz_surface.specs.ShownChars.{shown_chars}
+use Rattle.termwiz_surface.specs.Following.{ViewerValue}
+use Rattle.termwiz_surface.specs.ScreenValue.{screen_value}
 use Rattle.termwiz_surface.specs.SurfaceValue.{SurfaceValue, IsStored, screen_of, kept_of}
 use Rattle.termwiz_surface.specs.Kept.{Kept}
 use Rattle.termwiz_line.specs.LineFlags.{no_flags}
 use Rattle.termwiz_cell.specs.declared.color.ColorAttribute.TheVariants.{Default}
 use Rattle.termwiz_surface.specs.declared.surface.SurfaceError.TheVariants.{ScrollRegion, Numbers, Memory}
 use Rattle.termwiz_surface.specs.declared.view.Event.{Event}
-use Rattle.termwiz_surface.specs.declared.view.Event.TheVariants.{Changes, Flush, Resize, Show, Ask}
+use Rattle.termwiz_surface.specs.declared.view.Event.TheVariants.{Changes, Flush, Resize, Follow, Show, Ask}
 use Rattle.termwiz_surface.specs.declared.view.Outcome.{Outcome}
-use Rattle.termwiz_surface.specs.declared.view.Outcome.TheVariants.{Answered, Done, Refused, Shown, Asked}
+use Rattle.termwiz_surface.specs.declared.view.Outcome.TheVariants.{Answered, Done, Refused, Followed, Shown, Asked}
 
--- a screen, what is kept beside it, and the log of the changes that were made
+-- a screen, what is kept beside it, and the log of the changes that were made; and what the viewer has, which Follow alone touches
 pub record State : Type 0 where
   pub screen : Screen
   pub kept : Kept
   pub log : LogValue
+  -- the number that the viewer was last given, its screen, and its own number
+  pub given : ℕ
+  pub shown : Screen
+  pub own : ℕ
 
-abbrev pub state_of : {W : Type 0} → SurfaceValue W → State
-state_of s = record { screen = screen_of s; kept = kept_of s; log = s.log }
+abbrev pub state_of : {W : Type 0} → SurfaceValue W → ViewerValue W → State
+state_of s v = record { screen = screen_of s; kept = kept_of s; log = s.log; given = v.last; shown = screen_of v.surface; own = next_number v.surface.log }
 
--- a blank screen of this size, before any change
+abbrev pub blank_screen : ℕ → ℕ → Screen
+blank_screen w h = record { width = w; height = h; rows = replicate h (replicate w blank); x = 0; y = 0; visibility = Visible; pen = default_attributes }
+
+-- blank screens of this size, before any change
 abbrev pub first_state : ℕ → ℕ → State
 first_state w h = record {
-  screen = record { width = w; height = h; rows = replicate h (replicate w blank); x = 0; y = 0; visibility = Visible; pen = default_attributes };
+  screen = blank_screen w h;
   kept = record { lengths = replicate h w; flags = replicate h no_flags; title = []; shape = None; color = Default };
   log = record { first = 0; changes = [] };
+  given = 0;
+  shown = blank_screen w h;
+  own = 0;
 }
+
+-- the viewer has what it had
+pub record SameViewer (old new : State) : Type 0 where
+  pub given : new.given ≡ old.given
+  pub shown : new.shown ≡ old.shown
+  pub own : new.own ≡ old.own
+
+-- the surface has what it had
+pub record SameSurface (old new : State) : Type 0 where
+  pub screen : new.screen ≡ old.screen
+  pub kept : new.kept ≡ old.kept
+  pub log : new.log ≡ old.log
 
 -- the sizes that an event names are those that a surface may have
 abbrev pub IsInRange : Event → Type 0
@@ -50,12 +74,14 @@ pub record TakesSize (w h : ℕ) (old new : State) : Type 0 where
   pub screen : new.screen ≡ resized_screen old.screen w h
   pub kept : new.kept ≡ resized_kept old.kept w h
   pub log : new.log ≡ restarted old.log
+  pub viewer : SameViewer old new
 
 -- the changes are done, in order
 pub record Does (measure : List ℕ → ℕ) (changes : List ChangeValue) (old new : State) : Type 0 where
   pub screen : new.screen ≡ replay measure old.screen changes
   pub kept : new.kept ≡ replay_kept measure old.screen old.kept changes
   pub log : new.log ≡ appended old.log changes
+  pub viewer : SameViewer old new
 
 -- what a list leaves that ran out of memory: any screen of that size and form over some stored rows, and an empty log under a new number
 pub record IsBroken (measure : List ℕ → ℕ) (old new : State) : Type 0 where
@@ -66,6 +92,30 @@ pub record IsBroken (measure : List ℕ → ℕ) (old new : State) : Type 0 wher
   pub rows : new.screen.rows ≡ map (row_of new.screen.width) lines
   pub lengths : new.kept.lengths ≡ map length lines
   pub log : new.log ≡ restarted old.log
+  pub viewer : SameViewer old new
+
+-- the viewer made these changes, and shows this screen now
+pub record CatchesUp (measure : List ℕ → ℕ) (changes : List ChangeValue) (t : Screen) (old new : State) : Type 0 where
+  pub shows : t ≡ old.screen
+  -- what was due led there from what the viewer showed
+  pub known : is_known (worth old.screen.width old.screen.height) old.log old.given ≡ true → (changes ≡ due old.log old.given) × (replay measure old.shown changes ≡ t)
+  -- a repaint leads there from any screen
+  pub repaint : is_known (worth old.screen.width old.screen.height) old.log old.given ≡ false → (s : Screen) → HasSize old.screen.width old.screen.height s → replay measure s changes ≡ t
+  pub given : new.given ≡ next_number old.log
+  pub shown : new.shown ≡ t
+  -- another size takes a number too
+  pub own : (new.own ≡ old.own + length changes) ⊎ (new.own ≡ old.own + 1 + length changes)
+  pub surface : SameSurface old new
+
+-- the viewer may show anything, and starts anew
+pub record Loses (old new : State) : Type 0 where
+  pub given : new.given ≡ 0
+  pub own : new.own ≤ old.own + 2
+  pub surface : SameSurface old new
+
+-- how many changes a viewer may have to make at most
+abbrev pub most_due : State → ℕ
+most_due s = if is_known (worth s.screen.width s.screen.height) s.log s.given then length (due s.log s.given) else 2 * (s.screen.width * s.screen.height) + s.screen.height + 6
 
 -- the event may have this outcome, and go over from old to new
 abbrev pub Allows : (List ℕ → ℕ) → State → Event → Outcome → State → Type 0
@@ -86,6 +136,9 @@ Allows measure old Show (Refused Memory) new = new ≡ old
 Allows measure old (Ask n) (Asked k changes) new =
     (k ≡ next_number old.log) × IsStream measure old.screen old.log n (map change_value changes.items) × (new ≡ old)
 Allows measure old (Ask n) (Refused Memory) new = new ≡ old
+Allows measure old Follow (Followed n changes screen) new = (n ≡ next_number old.log) × CatchesUp measure (map change_value changes.items) (screen_value screen) old new
+Allows measure old Follow (Refused Numbers) new = Loses old new × (2 ^ 64 ≤ old.own + 1 + most_due old)
+Allows measure old Follow (Refused Memory) new = Loses old new
 -- no other outcome comes
 Allows measure old _ _ new = ⊥
 
@@ -95,6 +148,6 @@ pub data Runs (measure : List ℕ → ℕ) : State → List Event → List Outco
   Next : (old mid new : State) (event : Event) (outcome : Outcome) (events : List Event) (outcomes : List Outcome)
       → Allows measure old event outcome mid → Runs measure mid events outcomes new → Runs measure old (event ∷ events) (outcome ∷ outcomes) new
 
--- the outcomes are those of some run from a blank screen
+-- the outcomes are those of some run from blank screens
 abbrev pub IsSchedule : (List ℕ → ℕ) → ℕ → ℕ → List Event → List Outcome → Type 0
 IsSchedule measure w h events outcomes = (end : State) × Runs measure (first_state w h) events outcomes end

@@ -1,14 +1,15 @@
 //! Runs of events on a surface.
-ghost use Rattle.std.specs.Prelude.{◌≡◌, ◌^◌, ◌<◌, IfOk, map};
+ghost use Rattle.std.specs.Prelude.{◌≡◌, ◌^◌, ◌<◌, IfOk, OnOk, map};
 ghost use Rattle.std.specs.Cow.{cow_slice_items};
 ghost use Rattle.termwiz_cell.specs.ChangeValue.{change_value};
 ghost use Rattle.std.specs.List.{All};
 ghost use Rattle.termwiz_cell.specs.Width.{unversioned};
+ghost use Rattle.termwiz_surface.specs.Following.{Follows, ViewerValue};
 ghost use Rattle.termwiz_surface.specs.Schedule.{Allows, IsInRange, IsSchedule, state_of};
 
 mod viewer;
 
-use crate::surface::{Surface, SurfaceError};
+use crate::surface::{Screen, Surface, SurfaceError};
 use std::alloc::{AllocError, Global};
 use std::borrow::CowSlice;
 use termwiz_cell::change::{Change, SequenceNo};
@@ -24,6 +25,8 @@ pub enum Event {
     Flush(SequenceNo),
     /// The surface takes this width and height.
     Resize(usize, usize),
+    /// The viewer follows the surface.
+    Follow,
     /// The texts and the cursor are shown.
     Show,
     /// The changes from this number on are asked for.
@@ -39,14 +42,17 @@ pub enum Outcome {
     Done,
     /// The event was refused.
     Refused(SurfaceError),
+    /// The surface's number, the changes that the viewer made, and what it shows then.
+    Followed(SequenceNo, Vec<Change>, Screen),
     /// The texts of the stored rows, each with a line feed, and the cursor's column and row.
     Shown(String, (usize, usize)),
     /// The surface's number, and what a viewer that was last given the asked number has to apply.
     Asked(SequenceNo, Vec<Change>),
 }
 
-/// Runs the events on one blank surface, and gives one outcome for each. A refused event is an
-/// outcome, and the run goes on. It fails where the surface or the list of outcomes can't be made.
+/// Runs the events on one blank surface and its viewer, and gives one outcome for each. A refused
+/// event is an outcome, and the run goes on. It fails where the surface, the viewer, the list of
+/// outcomes, or what is told of a viewer that followed can't be made.
 pub fn run<W: Widths>(
     alloc: Global,
     widths: W,
@@ -62,43 +68,80 @@ pub fn run<W: Widths>(
     ensures { IfOk result (λ outcomes. IsSchedule (unversioned (W.width_of widths)) width height events.items outcomes.items) }
 {
     let mut surface = Surface::new(alloc, width, height, widths)?;
+    let mut viewer = Viewer::new(alloc, &surface)?;
     let mut outcomes = Vec::new(alloc);
     for event in events {
-        outcomes.push(serve(alloc, &mut surface, event))?;
+        outcomes.push(serve(alloc, &mut surface, &mut viewer, event)?)?;
     }
     Ok(outcomes)
 }
 
 // Does one event.
-fn serve<W: Widths>(alloc: Global, surface: &mut Surface<W>, event: Event) -> Outcome
-    requires { IsInRange event }
-    ensures step { Allows (unversioned (W.width_of surface.old.widths)) (state_of surface.old) event result (state_of surface.new) }
-    ensures widths { surface.new.widths ≡ surface.old.widths }
+fn serve<W: Widths>(
+    alloc: Global,
+    surface: &mut Surface<W>,
+    viewer: &mut Viewer<W>,
+    event: Event,
+) -> Result<Outcome, AllocError>
+    requires range { IsInRange event }
+    requires follows { Follows (λ widths. unversioned (W.width_of widths)) viewer.old surface.old }
+    ensures step { IfOk result (λ outcome. Allows (unversioned (W.width_of surface.old.widths)) (state_of surface.old viewer.old) event outcome (state_of surface.new viewer.new)) }
+    ensures widths { OnOk result (surface.new.widths ≡ surface.old.widths) }
+    ensures follows { OnOk result (Follows (λ widths. unversioned (W.width_of widths)) viewer.new surface.new) }
 {
     match event {
         Event::Changes(changes) => match surface.add_changes(changes) {
-            Ok(number) => Outcome::Answered(number),
-            Err(error) => Outcome::Refused(error),
+            Ok(number) => Ok(Outcome::Answered(number)),
+            Err(error) => Ok(Outcome::Refused(error)),
         },
         Event::Flush(seq) => {
             surface.flush_changes_older_than(seq);
-            Outcome::Done
+            Ok(Outcome::Done)
         }
         Event::Resize(width, height) => match surface.resize(width, height) {
-            Ok(()) => Outcome::Done,
-            Err(error) => Outcome::Refused(error),
+            Ok(()) => Ok(Outcome::Done),
+            Err(error) => Ok(Outcome::Refused(error)),
         },
+        Event::Follow => follow(alloc, surface, viewer),
         Event::Show => match surface.screen_chars_to_string() {
-            Ok(text) => Outcome::Shown(text, surface.cursor_position()),
-            Err(_) => Outcome::Refused(SurfaceError::Memory),
+            Ok(text) => Ok(Outcome::Shown(text, surface.cursor_position())),
+            Err(_) => Ok(Outcome::Refused(SurfaceError::Memory)),
         },
-        Event::Ask(seq) => ask(alloc, surface, seq),
+        Event::Ask(seq) => Ok(ask(alloc, surface, seq)),
+    }
+}
+
+// The viewer follows, and what it made and shows is told.
+fn follow<W: Widths>(
+    alloc: Global,
+    surface: &Surface<W>,
+    viewer: &mut Viewer<W>,
+) -> Result<Outcome, AllocError>
+    requires { Follows (λ widths. unversioned (W.width_of widths)) viewer.old surface.now }
+    ensures step { IfOk result (λ outcome. Allows (unversioned (W.width_of surface.now.widths)) (state_of surface.now viewer.old) Event.Follow outcome (state_of surface.now viewer.new)) }
+    ensures follows { OnOk result (Follows (λ widths. unversioned (W.width_of widths)) viewer.new surface.now) }
+{
+    match viewer.fetch(surface) {
+        Ok((number, changes)) => {
+            let told = copied(alloc, CowSlice::Borrowed(changes.as_slice()))?;
+            match viewer.accept(number, changes) {
+                Ok(number) => {
+                    let screen = viewer.surface().screen()?;
+                    Ok(Outcome::Followed(number, told, screen))
+                }
+                Err(error) => Ok(Outcome::Refused(error)),
+            }
+        }
+        Err(error) => {
+            viewer.forget();
+            Ok(Outcome::Refused(error))
+        }
     }
 }
 
 // The changes from a number on, as a list of their own.
 fn ask<W: Widths>(alloc: Global, surface: &Surface<W>, seq: SequenceNo) -> Outcome
-    ensures { Allows (unversioned (W.width_of surface.now.widths)) (state_of surface.now) (Event.Ask seq) result (state_of surface.now) }
+    ensures { (viewer : ViewerValue W) → Allows (unversioned (W.width_of surface.now.widths)) (state_of surface.now viewer) (Event.Ask seq) result (state_of surface.now viewer) }
 {
     match surface.get_changes(seq) {
         Ok((number, changes)) => match copied(alloc, changes) {

@@ -1,5 +1,6 @@
 use Rattle.std.proofs.Common.{◌≡◌}
 use Rattle.termwiz_cell.specs.Width.{unversioned}
+use Rattle.termwiz_surface.specs.Following.{Follows}
 use Rattle.termwiz_surface.specs.Schedule.{Runs, first_state, state_of}
 use Rattle.termwiz_surface.proofs.view.run.Given as goal
 
@@ -7,5 +8,6 @@ use Rattle.termwiz_surface.proofs.view.run.Given as goal
 abbrev pub invariant-loop-event : goal.invariant-loop-event
 invariant-loop-event g l = record {
   widths : l.surface.widths ≡ l.fn.widths;
-  run : Runs (unversioned (g.W.Widths.width_of l.fn.widths)) (first_state l.width l.height) l.yielded l.outcomes.items (state_of l.surface);
+  follows : Follows (λ widths. unversioned (g.W.Widths.width_of widths)) l.viewer l.surface;
+  run : Runs (unversioned (g.W.Widths.width_of l.fn.widths)) (first_state l.width l.height) l.yielded l.outcomes.items (state_of l.surface l.viewer);
 }

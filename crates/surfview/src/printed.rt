@@ -5,6 +5,7 @@ use std::fmt::{Display, Formatter};
 use termwiz_cell::cell::{CellAttributes, Intensity, Underline};
 use termwiz_cell::change::{Change, CursorVisibility, Position};
 use termwiz_cell::color::ColorAttribute;
+use termwiz_line::line::line::Line;
 use termwiz_surface::surface::SurfaceError;
 use termwiz_surface::view::Outcome;
 
@@ -25,6 +26,14 @@ impl Display for Printed<'_> {
                 }
                 writeln!(f, "cursor {x} {y}")
             }
+            Outcome::Followed(seq, _, screen) => {
+                writeln!(f, "viewer {seq}")?;
+                for row in &screen.rows {
+                    writeln!(f, "|{}|", PrintedRow(row))?;
+                }
+                let (x, y) = screen.cursor;
+                writeln!(f, "cursor {x} {y}")
+            }
             Outcome::Asked(seq, changes) => {
                 writeln!(f, "number {seq}")?;
                 for change in changes {
@@ -33,6 +42,19 @@ impl Display for Printed<'_> {
                 Ok(())
             }
         }
+    }
+}
+
+/// The texts of a row's visible cells.
+#[derive(Drop)]
+struct PrintedRow<'a>(&'a Line);
+
+impl Display for PrintedRow<'_> {
+    fn fmt<W: fmt::Write>(&self, f: &mut Formatter<W>) -> fmt::Result {
+        for cell in self.0.visible_cells() {
+            write!(f, "{}", cell.str())?;
+        }
+        Ok(())
     }
 }
 

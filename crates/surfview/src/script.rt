@@ -87,6 +87,7 @@ fn event(alloc: Global, line: &str) -> Result<Event, LineError>
         ["down", first, size, count] => changes(alloc, scroll_down(first, size, count)?),
         ["resize", width, height] => resize(width, height),
         ["flush", seq] => Ok(Event::Flush(given(seq)?)),
+        ["view"] => Ok(Event::Follow),
         ["show"] => Ok(Event::Show),
         ["ask", seq] => Ok(Event::Ask(given(seq)?)),
         _ => Err(LineError::BadCommand),

@@ -95,19 +95,23 @@ fn takes_the_default_colour_for_the_fallback_of_a_true_one(rt: HostRuntime) -> R
 
 #[test]
 fn makes_one_event_of_each_line(rt: HostRuntime) -> Result<(), Fail> {
-    let script = "# head\nat 1 2\n\ntext a\nresize 3 4\nflush 5\nshow\nask 12\n";
+    let script = "# head\nat 1 2\n\ntext a\nresize 3 4\nflush 5\nview\nshow\nask 12\n";
     let mut names = String::new(rt.alloc());
     for event in events(rt.alloc(), script)? {
         let name = match event {
             Event::Changes(_) => "changes ",
             Event::Resize(3, 4) => "resize ",
             Event::Flush(5) => "flush ",
+            Event::Follow => "view ",
             Event::Show => "show ",
             Event::Ask(12) => "ask ",
             Event::Resize(_, _) | Event::Flush(_) | Event::Ask(_) => "another number ",
         };
         names.push_str(name)?;
     }
-    assert_eq!(rt; names.as_str(), "changes changes resize flush show ask ");
+    assert_eq!(rt;
+        names.as_str(),
+        "changes changes resize flush view show ask "
+    );
     Ok(())
 }

@@ -142,6 +142,12 @@ fn prints_what_each_script_gives(rt: HostRuntime) -> Result<(), Fail> {
             "text a\nflush 1\nresize 2 1\nshow\nask 1\n",
             "|a |\ncursor 1 0\nnumber 2\nhidden\nclear default\ntext a\nmove =1 =0\nvisible\n",
         ),
+        // The viewer shows what the surface shows, by a repaint and by what is due.
+        (
+            ["3", "2"],
+            "clear 9\ntext a\\r\\nb\nview\ntext c\nview\n",
+            "viewer 2\n|a  |\n|b  |\ncursor 1 1\nviewer 3\n|a  |\n|bc |\ncursor 2 1\n",
+        ),
         // A fresh surface, asked for any number.
         (
             ["4", "3"],

@@ -1,6 +1,6 @@
 //! What is kept beside a screen: a title, the cursor's shape, and how large lines are shown.
 use crate::steps::Step;
-use crate::surfaces::{add, assert_lent, assert_shows, draw, drawn};
+use crate::surfaces::{add, assert_lent, assert_repaint, assert_shows, draw, drawn};
 use std::alloc::Global;
 use std::process::Abort;
 use std::test::Fail;
@@ -66,5 +66,25 @@ fn they_change_no_cell_and_keep_the_cursor(rt: HostRuntime) -> Result<(), Fail> 
     assert_kept(&rt, alloc, &mut surface, &KEPT)?;
     assert!(rt; surface.screen()? == before);
     assert_lent(&rt, alloc, &surface, 1, 9, &KEPT)?;
+    Ok(())
+}
+
+#[test]
+fn a_repaint_has_the_title(rt: HostRuntime) -> Result<(), Fail> {
+    let alloc = rt.alloc();
+    let surface = drawn(alloc, 2, 1, UnicodeWidths, &[Step::Title("t")])?;
+    let rest = [Step::Title("t"), Step::At(0, 0), Step::Show];
+    assert_repaint(&rt, alloc, &surface, 1, &rest)?;
+    Ok(())
+}
+
+#[test]
+fn a_shown_cursor_is_repainted_with_its_shape(rt: HostRuntime) -> Result<(), Fail> {
+    let alloc = rt.alloc();
+    let shape = Step::Shape(CursorShape::SteadyBar);
+    let mut surface = drawn(alloc, 2, 1, UnicodeWidths, &[shape])?;
+    assert_repaint(&rt, alloc, &surface, 1, &[Step::Show, shape])?;
+    draw(alloc, &mut surface, &[Step::Hide])?;
+    assert_repaint(&rt, alloc, &surface, 2, &[])?;
     Ok(())
 }

@@ -1,6 +1,8 @@
 //! Runs of events.
 use crate::changes::text;
+use std::process::Abort;
 use std::test::Fail;
+use termwiz_cell::change::SequenceNo;
 use termwiz_cell::emoji::UnicodeWidths;
 use termwiz_surface::view::{Event, Outcome, run};
 
@@ -37,5 +39,45 @@ fn no_event_has_no_outcome(rt: HostRuntime) -> Result<(), Fail> {
     let alloc = rt.alloc();
     let outcomes = run(alloc, UnicodeWidths, 1, 1, Vec::new(alloc))?;
     assert!(rt; outcomes.is_empty());
+    Ok(())
+}
+
+// A viewer followed: its number, how many changes it made, and where its cursor is then.
+fn assert_followed(
+    rt: &impl Abort,
+    outcome: &Outcome,
+    number: SequenceNo,
+    count: usize,
+    cursor: (usize, usize),
+) {
+    match outcome {
+        Outcome::Followed(told, changes, screen) => {
+            assert_eq!(rt; *told, number);
+            assert_eq!(rt; changes.len(), count);
+            assert_eq!(rt; screen.cursor, cursor);
+        }
+        _ => assert!(rt; false),
+    }
+}
+
+#[test]
+fn a_viewer_follows_by_a_repaint_and_by_what_is_due(rt: HostRuntime) -> Result<(), Fail> {
+    let alloc = rt.alloc();
+    let events = vec![in alloc;
+        Event::Changes(vec![in alloc; text(alloc, "ab")?]?),
+        Event::Follow,
+        Event::Changes(vec![in alloc; text(alloc, "c")?]?),
+        Event::Flush(1),
+        Event::Follow,
+        Event::Resize(2, 1),
+        Event::Follow,
+    ]?;
+    let outcomes = run(alloc, UnicodeWidths, 2, 2, events)?;
+    assert_eq!(rt; outcomes.len(), 7);
+    assert_followed(&rt, &outcomes[1], 1, 5, (2, 0));
+    assert!(rt; matches!(&outcomes[3], Outcome::Done));
+    assert_followed(&rt, &outcomes[4], 2, 1, (1, 1));
+    assert!(rt; matches!(&outcomes[5], Outcome::Done));
+    assert_followed(&rt, &outcomes[6], 3, 5, (1, 0));
     Ok(())
 }

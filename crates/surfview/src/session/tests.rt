@@ -136,18 +136,6 @@ fn prints_what_each_script_gives(rt: HostRuntime) -> Result<(), Fail> {
         ),
         // A region that goes past the last row.
         (["4", "3"], "up 2 2 1\n", "refused: scroll region\n"),
-        // Another size, of which no viewer knows.
-        (
-            ["4", "1"],
-            "text a\nflush 1\nresize 2 1\nshow\nask 1\n",
-            "|a |\ncursor 1 0\nnumber 2\nhidden\nclear default\ntext a\nmove =1 =0\nvisible\n",
-        ),
-        // The viewer shows what the surface shows, by a repaint and by what is due.
-        (
-            ["3", "2"],
-            "clear 9\ntext a\\r\\nb\nview\ntext c\nview\n",
-            "viewer 2\n|a  |\n|b  |\ncursor 1 1\nviewer 3\n|a  |\n|bc |\ncursor 2 1\n",
-        ),
         // A fresh surface, asked for any number.
         (
             ["4", "3"],
@@ -160,6 +148,29 @@ fn prints_what_each_script_gives(rt: HostRuntime) -> Result<(), Fail> {
         assert_eq!(rt; ended.err.as_str(), "", "{script}");
         assert_eq!(rt; ended.status, 0, "{script}");
     }
+    Ok(())
+}
+
+#[test]
+fn prints_what_another_size_leaves(rt: HostRuntime) -> Result<(), Fail> {
+    let script = "text a\nflush 1\nresize 2 1\nshow\nask 1\n";
+    let ended = run_session(rt.alloc(), &["4", "1"], script.as_bytes())?;
+    let want = "|a |\ncursor 1 0\nnumber 2\nhidden\nclear default\ntext a\nmove =1 =0\nvisible\n";
+    assert_eq!(rt; ended.out.as_str(), want);
+    assert_eq!(rt; ended.err.as_str(), "");
+    assert_eq!(rt; ended.status, 0);
+    Ok(())
+}
+
+// By a repaint at first, and then by what is due.
+#[test]
+fn prints_what_the_viewer_shows(rt: HostRuntime) -> Result<(), Fail> {
+    let script = "clear 9\ntext a\\r\\nb\nview\ntext c\nview\n";
+    let ended = run_session(rt.alloc(), &["3", "2"], script.as_bytes())?;
+    let want = "viewer 2\n|a  |\n|b  |\ncursor 1 1\nviewer 3\n|a  |\n|bc |\ncursor 2 1\n";
+    assert_eq!(rt; ended.out.as_str(), want);
+    assert_eq!(rt; ended.err.as_str(), "");
+    assert_eq!(rt; ended.status, 0);
     Ok(())
 }
 

@@ -2,7 +2,6 @@
 #![tactic(auto)]
 
 pub mod comparison;
-pub mod follower;
 pub mod last_row;
 pub mod lines;
 pub mod one_by_one;

@@ -81,10 +81,10 @@ fn a_repaint_has_the_title(rt: HostRuntime) -> Result<(), Fail> {
 #[test]
 fn a_shown_cursor_is_repainted_with_its_shape(rt: HostRuntime) -> Result<(), Fail> {
     let alloc = rt.alloc();
-    let shape = Step::Shape(CursorShape::SteadyBar);
-    let mut surface = drawn(alloc, 2, 1, UnicodeWidths, &[shape])?;
-    assert_repaint(&rt, alloc, &surface, 1, &[Step::Show, shape])?;
+    let steps = [Step::Show, Step::Shape(CursorShape::SteadyBar)];
+    let mut surface = drawn(alloc, 2, 1, UnicodeWidths, &steps)?;
+    assert_repaint(&rt, alloc, &surface, 2, &steps)?;
     draw(alloc, &mut surface, &[Step::Hide])?;
-    assert_repaint(&rt, alloc, &surface, 2, &[])?;
+    assert_repaint(&rt, alloc, &surface, 3, &[])?;
     Ok(())
 }

@@ -1,19 +1,16 @@
 -- A viewer that follows does what the schedule says.
-use Rattle.std.proofs.Common.{◌≡◌, ◌⊎◌, inl, inr, ℕ, ◌+◌, ◌*◌, ◌≤◌, ◌^◌, true, false, List, length, refl, sym, ap, ◌∙◌, subst, arith, length-append}
-use Rattle.std.specs.Prelude.{Vec, Ok, Err, map, ◌==◌, if◌then◌else◌}
+use Rattle.std.proofs.Common.{◌≡◌, inl, inr, ℕ, ◌+◌, ◌≤◌, ◌^◌, true, false, List, length, refl, sym, ap, ◌∙◌, subst, arith, length-append}
+use Rattle.std.specs.Prelude.{Vec, Ok, Err, map, ◌==◌}
 use Rattle.std.specs.declared.alloc.Global.{Global}
 use Rattle.std.proofs.lemmas.Bool.{true≢false, cases_Bool, eq-eqb, eqb-true}
-use Rattle.std.proofs.lemmas.Bool.Decides.{nat_tests}
 use Rattle.termwiz_cell.specs.ChangeValue.{ChangeValue, change_value}
 use Rattle.termwiz_cell.specs.declared.change.Change.{Change}
-use Rattle.termwiz_surface.specs.Adding.{Makes}
 use Rattle.termwiz_surface.specs.Following.{ViewerValue, Follows, FollowsTo, Accepts, IsFitted, IsAnswer, IsLost, HasNoRoom, has_size_of, asks_with}
-use Rattle.termwiz_surface.specs.Log.{LogValue, next_number, due, is_known, worth, restarted}
+use Rattle.termwiz_surface.specs.Log.{next_number, due, is_known, worth, restarted}
 use Rattle.termwiz_surface.specs.Printable.{HasSize}
-use Rattle.termwiz_surface.specs.Schedule.{State, Allows, CatchesUp, Loses, most_due, state_of}
+use Rattle.termwiz_surface.specs.Schedule.{Allows, CatchesUp, Loses, most_due, state_of}
 use Rattle.termwiz_surface.specs.Screen.{Screen}
 use Rattle.termwiz_surface.specs.ScreenValue.{screen_value}
-use Rattle.termwiz_surface.specs.Step.{replay}
 use Rattle.termwiz_surface.specs.SurfaceValue.{SurfaceValue, screen_of}
 use Rattle.termwiz_surface.specs.declared.surface.SurfaceError.{SurfaceError}
 use Rattle.termwiz_surface.specs.declared.surface.SurfaceError.TheVariants.{ScrollRegion, Numbers, Memory}
@@ -21,7 +18,7 @@ use Rattle.termwiz_surface.specs.declared.surface.screen.Screen as code
 use Rattle.termwiz_surface.specs.declared.view.Event.TheVariants.{Follow}
 use Rattle.termwiz_surface.specs.declared.view.Outcome.TheVariants.{Followed, Refused}
 use Rattle.termwiz_surface.proofs.Following.{known_tells, caught_up, fitted_last}
-use Rattle.termwiz_surface.proofs.Viewing.{accepted_shows, FollowsTo-accepted}
+use Rattle.termwiz_surface.proofs.Viewing.{accepted_shows}
 
 module _ {W : Type 0} (f : W → List ℕ → ℕ) (s : SurfaceValue W) (old : ViewerValue W) (follows : Follows f old s) where
   -- a viewer in another size was given no number that is known

@@ -95,13 +95,13 @@ impl From<AllocError> for SurfaceError {
 
 /// What a terminal's screen holds, with no terminal behind it: rows of cells, a cursor, whether it is shown, and the pen, which is the attributes of coming text.
 ///
-/// Changes go in, one by `add_change` or several as one list by `add_changes`: texts, pens, clears and moves. The surface makes them in order, and the number of each is how many came before it.
+/// Changes go in, one by `add_change` or several as one list by `add_changes`: texts, pens, clears, moves and scrolls. The surface makes them in order, and logs them: the number of each is the one before it plus one. Beside its screen it keeps a title, the cursor's shape and colour, and how large each line is shown.
 ///
-/// A stream of changes comes out: `get_changes` answers with changes that bring any screen of this size to this one, whatever that screen shows. `screen` copies what the surface shows.
+/// A stream of changes comes out: `get_changes` lends a viewer the changes since the number that it was last given, and answers with a repaint, which brings any screen of this size to this one, where the log no longer has them. `flush_changes_older_than` forgets the changes that all viewers have: without it the log grows with each change. `screen` copies what the surface shows.
 ///
 /// A viewer is whoever applies that stream: one that writes to a terminal, one at the other end of a connection, or a second surface. It has to measure texts as this surface does, by the width value that it was made with.
 ///
-/// A program may draw the parts of a picture on surfaces of their own, each of which knows nothing of the others, and show a surface that is made of them. Drawing one surface on another and sending only what has changed are not built yet: today a surface gives its whole screen to screens of its size.
+/// A program may draw the parts of a picture on surfaces of their own, each of which knows nothing of the others, and show a surface that is made of them. Drawing one surface on another is not built yet.
 #[derive(Drop)]
 pub struct Surface<W: Widths> {
     widths: W,

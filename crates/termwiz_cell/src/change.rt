@@ -67,7 +67,7 @@ pub enum LineAttribute {
     SingleWidthLine,
 }
 
-/// The number of a change: how many came before it.
+/// The number of a change: each has the next one after the change before it. A surface takes one too for another size, and for a list that found no memory.
 pub type SequenceNo = usize;
 
 /// The number before any change.

@@ -95,7 +95,7 @@ impl From<AllocError> for SurfaceError {
 
 /// What a terminal's screen holds, with no terminal behind it: rows of cells, a cursor, whether it is shown, and the pen, which is the attributes of coming text.
 ///
-/// Changes go in, one by `add_change` or several as one list by `add_changes`: texts, pens, clears, moves and scrolls. The surface makes them in order, and logs them: the number of each is the one before it plus one. Beside its screen it keeps a title, the cursor's shape and colour, and how large each line is shown.
+/// Changes go in, one by `add_change` or several as one list by `add_changes`: texts, pens, clears, moves and scrolls. The surface makes them in order, and logs them by their numbers. Beside its screen it keeps a title, the cursor's shape and colour, and how large each line is shown.
 ///
 /// A stream of changes comes out: `get_changes` lends a viewer the changes since the number that it was last given, and answers with a repaint, which brings any screen of this size to this one, where the log no longer has them. `flush_changes_older_than` forgets the changes that all viewers have: without it the log grows with each change. `screen` copies what the surface shows.
 ///
@@ -242,7 +242,7 @@ impl<W: Widths> Surface<W> {
         self.shape
     }
 
-    /// The number of the coming change: how many changes were made.
+    /// The number of the coming change, which is what a viewer that has all changes was last given.
     pub fn current_seqno(&self) -> SequenceNo
         ensures value { result ≡ next_number self.now.log }
         ensures fits { result < 2 ^ 64 }
@@ -629,7 +629,7 @@ impl<W: Widths> Surface<W> {
         seq != self.log.next_number()
     }
 
-    /// Forgets the changes before this number, where it is from the first number of the log on up to the coming change's. All viewers with greater numbers are answered as before.
+    /// Forgets the changes before this number, where it is from the first number of the log on up to the coming change's. Viewers with this number and greater ones are answered as before.
     pub fn flush_changes_older_than(&mut self, seq: SequenceNo)
         ensures { self.new ≡ with_log self.old (flushed self.old.log seq) }
     {

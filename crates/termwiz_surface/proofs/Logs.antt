@@ -3,7 +3,7 @@ use Rattle.std.proofs.Common.{◌≡◌, ℕ, ◌+◌, ◌-◌, ◌≤◌, ◌<�
 use Rattle.std.specs.Prelude.{◌==◌, if◌then◌else◌}
 use Rattle.std.proofs.lemmas.Bool.{cases_Bool, cases_lt, ne_eqb, le-leb}
 use Rattle.std.proofs.lemmas.Bool.Decides.{nat_tests}
-use Rattle.std.proofs.lemmas.List.{take_all, drop-map}
+use Rattle.std.proofs.lemmas.List.{take_all, drop-map, drop-drop}
 use Rattle.termwiz_surface.specs.Log.{LogValue, due, reaches, is_known, next_number, flushed, restarted}
 
 module _ (l : LogValue) (n : ℕ) (from : l.first ≤ n) (upto : n ≤ next_number l) where
@@ -47,3 +47,16 @@ flushed_number l n =
 -- an emptied log's number is at most one greater
 pub restarted_number : (l : LogValue) → next_number (restarted l) ≤ next_number l + 1
 restarted_number l = elim (cases_Bool (next_number l == 0)) [ inl e ↦ rw e (omega arith) | inr e ↦ rw e (omega arith) ]
+
+-- what is due from a number on that is not flushed, and whether it is known
+pub flushed_alike : (l : LogValue) (n k most : ℕ) → n ≤ k → (is_known most (flushed l n) k ≡ is_known most l k) × (due (flushed l n) k ≡ due l k)
+flushed_alike l n k most from = elim (cases_Bool (reaches l n)) [
+  | inr e ↦ rw e (refl, refl)
+  | inl e ↦
+      let in_log = reached l n e in
+      let sum : n - l.first + (k - n) ≡ k - l.first = omega (arith, in_log.0, from) in
+      let rest : drop (k - n) (due l n) ≡ due l k = drop-drop (k - n) (n - l.first) l.changes ∙ ap (λ j. drop j l.changes) sum in
+      let end : n + length (due l n) ≡ next_number l = omega (arith, in_log.0, in_log.1, length-drop (n - l.first) l.changes) in
+      let first : l.first ≤ k = omega (arith, in_log.0, from) in
+      rw (e, rest, end, le-leb n k from, le-leb l.first k first) (refl, refl)
+]

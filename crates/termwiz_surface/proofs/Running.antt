@@ -1,5 +1,5 @@
 -- What a surface does is what the schedule allows, and a run goes on by one event.
-use Rattle.std.proofs.Common.{◌≡◌, ℕ, zero, suc, ◌+◌, ◌-◌, List, [], ◌∷◌, ◌++◌, length, map, refl, ap, ◌∙◌, arith, replicate}
+use Rattle.std.proofs.Common.{◌≡◌, ℕ, ◌+◌, ◌-◌, List, [], ◌∷◌, ◌++◌, length, map, refl, ap, ◌∙◌, arith, replicate}
 use Rattle.std.specs.Prelude.{Ok, Err, None, Vec, vec_len}
 use Rattle.std.specs.declared.alloc.Global.{Global}
 use Rattle.termwiz_cell.specs.Attributes.{default_attributes}
@@ -22,12 +22,9 @@ use Rattle.termwiz_surface.specs.declared.view.Event.TheVariants.{Changes}
 use Rattle.termwiz_surface.specs.declared.view.Outcome.{Outcome}
 use Rattle.termwiz_surface.specs.declared.view.Outcome.TheVariants.{Answered, Refused}
 use Rattle.termwiz_line.proofs.StoredRows.{row_blank}
+use Rattle.termwiz_surface.proofs.Regions.{map-replicate}
 use Rattle.termwiz_surface.proofs.SoundRepaint.{sound_has_size, sound_is_printable}
 use Rattle.std.proofs.lemmas.List.{length-map, length-replicate}
-
-map-replicate : {X Y : Type 0} (f : X → Y) (n : ℕ) (x : X) → map f (replicate n x) ≡ replicate n (f x)
-map-replicate f zero x = refl
-map-replicate f (suc n) x = ap (λ t. f x ∷ t) (map-replicate f n x)
 
 pub Runs-push : {measure : List ℕ → ℕ} {a b : State} {events : List Event} {outcomes : List Outcome} (event : Event) (outcome : Outcome) (c : State)
     → Runs measure a events outcomes b → Allows measure b event outcome c → Runs measure a (events ++ event ∷ []) (outcomes ++ outcome ∷ []) c

@@ -1,5 +1,5 @@
 //! Surfaces.
-ghost use Rattle.std.specs.Prelude.{◌≡◌, true, ◌+◌, ◌-◌, ◌*◌, ◌<◌, ◌≤◌, ◌^◌, List, [], ◌∷◌, length, map, vec_len, replicate, string_bytes, slice_set, get_or, None, false, not, ◌==◌, IsOk, IsOkAnd, IfOk, OnOk, OnErr};
+ghost use Rattle.std.specs.Prelude.{◌≡◌, ℕ, true, ◌+◌, ◌-◌, ◌*◌, ◌<◌, ◌≤◌, ◌^◌, List, [], ◌∷◌, length, map, vec_len, replicate, string_bytes, slice_set, get_or, None, false, not, ◌==◌, IsOk, IsOkAnd, IfOk, OnOk, OnErr};
 ghost use Rattle.termwiz_cell.specs.Attributes.{default_attributes, with_background};
 ghost use Rattle.termwiz_cell.specs.CellValue.{blank};
 ghost use Rattle.termwiz_cell.specs.Width.{unversioned};
@@ -631,7 +631,9 @@ impl<W: Widths> Surface<W> {
 
     /// Forgets the changes before this number, where it is from the first number of the log on up to the coming change's. Viewers with this number and greater ones are answered as before.
     pub fn flush_changes_older_than(&mut self, seq: SequenceNo)
-        ensures { self.new ≡ with_log self.old (flushed self.old.log seq) }
+        ensures flushes { self.new ≡ with_log self.old (flushed self.old.log seq) }
+        // The answer for this number, and for each greater one, is as it was.
+        ensures answers { (n most : ℕ) → seq ≤ n → (is_known most self.new.log n ≡ is_known most self.old.log n) × (due self.new.log n ≡ due self.old.log n) }
     {
         self.log.flush(seq);
     }

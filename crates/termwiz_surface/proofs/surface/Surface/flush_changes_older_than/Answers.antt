@@ -1,6 +1,6 @@
 use Rattle.std.proofs.Common.{arith}
 use Rattle.termwiz_surface.proofs.Drawn.{any_log}
-use Rattle.termwiz_surface.proofs.Logs.{flushed_number}
+use Rattle.termwiz_surface.proofs.Logs.{flushed_number, flushed_alike}
 use Rattle.termwiz_surface.proofs.LogRegions.{regions-flushed}
 use Rattle.termwiz_surface.proofs.surface.Surface.flush_changes_older_than.Goals as goal
 
@@ -11,3 +11,7 @@ invariant_of-self g c =
       rw c.flush.ensures (any_log _ _ _ form (omega (arith, flushed_number log c.args.seq, form.number_fits)) (regions-flushed c.self.inside.height c.args.seq log form.regions)),
       c.self.invariant.1,
     )
+
+pub returns-clause-answers : goal.returns-clause-answers
+returns-clause-answers g c =
+    λ n most from. rw (← c.self.view_is, c.flush.ensures) (flushed_alike c.self.inside.log c.args.seq n most from)

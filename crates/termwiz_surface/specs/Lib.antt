@@ -26,3 +26,10 @@ pub mod Regions
 pub mod Resized
 pub mod Following
 pub mod FollowingLaws
+pub mod Prints
+pub mod Diff
+pub mod DiffRegions
+pub mod DiffLists
+pub mod DiffLaws
+pub mod Fewest
+pub mod Copies

@@ -1,5 +1,7 @@
 //! Laws of the definitions that contracts cite, each on a function that does nothing.
 ghost use Rattle.termwiz_surface.specs.FollowingLaws.{ChangesLeadOn, FlushesKeepLeading, LeadsWhereItIs, RestartsKeepLeading};
+ghost use Rattle.termwiz_surface.specs.DiffLaws.{CutIsInside, DiffGivesBand, DiffGivesRegion, DiffGivesRows, DrawingRestores, LinesArePrintable, NeedGivesRegion, NeedGivesRows, NeedIs, PrintsAreDiff, RegionIsDiff};
+ghost use Rattle.termwiz_surface.specs.Fewest.{FewestNarrowPrints, FewestPrints};
 ghost use Rattle.termwiz_surface.specs.RepaintLaws.{LineEntriesGiveRow, RepaintGivesScreen, RepaintIsShort};
 
 /// What a repaint and the entries of a line do when they are replayed.
@@ -15,4 +17,29 @@ pub fn following_laws()
     ensures changes { ChangesLeadOn }
     ensures flushes { FlushesKeepLeading }
     ensures restarts { RestartsKeepLeading }
+{}
+
+/// What a diff has to print: in words, and what it gives where it is painted.
+pub fn need_laws()
+    ensures worded { NeedIs }
+    ensures inside { CutIsInside }
+    ensures region { NeedGivesRegion }
+    ensures rows { NeedGivesRows }
+{}
+
+/// What the changes of a diff do when they are replayed, whoever made them.
+pub fn diff_laws()
+    ensures prints { PrintsAreDiff }
+    ensures region_is { RegionIsDiff }
+    ensures rows { DiffGivesRows }
+    ensures region { DiffGivesRegion }
+    ensures band { DiffGivesBand }
+    ensures lines { LinesArePrintable }
+    ensures restores { DrawingRestores }
+{}
+
+/// How few paints lead from one screen to another of its size: no fewer than a third of what a diff prints, and no fewer than all of it where nothing is wide.
+pub fn fewest_prints()
+    ensures thirds { FewestPrints }
+    ensures narrow { FewestNarrowPrints }
 {}

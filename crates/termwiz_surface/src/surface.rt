@@ -30,6 +30,7 @@ ghost use Rattle.termwiz_surface.specs.Printable.{HasSize};
 ghost use Rattle.termwiz_surface.specs.Repaint.{repaint};
 ghost use Rattle.termwiz_surface.specs.Screen.{Screen as SeenScreen};
 
+mod diff;
 mod lines;
 mod log;
 mod pen;

@@ -1,0 +1,20 @@
+-- What the list of changes of a diff may be, and what drawing it by a list leaves.
+use Rattle.std.specs.Prelude.{◌≡◌, ℕ, ◌*◌, ◌≤◌, true, ◌⊎◌, List, [], length}
+use Rattle.termwiz_cell.specs.ChangeValue.{ChangeValue, is_text}
+use Rattle.termwiz_line.specs.LastChange.{last_is}
+use Rattle.termwiz_surface.specs.Screen.{Screen}
+use Rattle.termwiz_surface.specs.Step.{replay}
+use Rattle.termwiz_surface.specs.Prints.{Print, printed, print_all}
+use Rattle.termwiz_surface.specs.Diff.{all_drawing}
+
+-- the changes paint these cells, in this order, and move no row: what they don't cover stays
+pub record PrintsJust (measure : List ℕ → ℕ) (s : Screen) (ps : List Print) (l : List ChangeValue) : Type 0 where
+  pub prints : printed measure s l ≡ ps
+  pub rows : (replay measure s l).rows ≡ print_all s.rows ps
+
+-- moves, pens and texts, at most three for each cell that they print, with a text at the end; where the width functions are the same they print just these cells
+pub record IsDiff (measure : List ℕ → ℕ) (s : Screen) (Same : Type 0) (ps : List Print) (l : List ChangeValue) : Type 0 where
+  pub drawing : all_drawing l ≡ true
+  pub ends : (l ≡ []) ⊎ (last_is is_text l ≡ true)
+  pub few : length l ≤ 3 * length (printed measure s l)
+  pub exact : Same → PrintsJust measure s ps l

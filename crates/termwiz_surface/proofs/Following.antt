@@ -1,7 +1,8 @@
 -- A viewer that follows goes on to follow, whatever the surface does.
 use Rattle.std.proofs.Common.{◌≡◌, ℕ, ◌+◌, ◌-◌, ◌≤◌, inl, inr, true, false, List, length, drop, refl, sym, ap, subst, ◌∙◌, arith, length-append, length-drop}
-use Rattle.std.specs.Prelude.{Result, Ok, Err, ◌==◌, if◌then◌else◌}
-use Rattle.std.proofs.lemmas.Bool.{cases_Bool, and_parts, eqb-true}
+use Rattle.std.specs.Prelude.{Result, Ok, Err, OnOk, ◌==◌, if◌then◌else◌}
+use Rattle.std.specs.Result.{is_err}
+use Rattle.std.proofs.lemmas.Bool.{cases_Bool, and_parts, eqb-true, true≢false}
 use Rattle.std.proofs.lemmas.Bool.Decides.{nat_tests}
 use Rattle.std.proofs.lemmas.Grind.{fold-append}
 use Rattle.std.proofs.lemmas.List.{drop-append-le, drop-drop}
@@ -90,6 +91,11 @@ module _ {W : Type 0} (f : W → List ℕ → ℕ) where
     one_measure = h.one_measure ∙ sym (ap f m.widths);
     leads = rw (ap f m.widths, m.log) (Leads-appended (f s.widths) (screen_of v.surface) (screen_of s) (screen_of t) v.last s.log cs m.width m.height m.screen_is h.leads);
   }
+
+  -- a call that makes changes succeeded
+  pub Follows-made : {E : Type 0} (v : ViewerValue W) (s t : SurfaceValue W) (cs : List ChangeValue) (result : Result (Unit {0}) E) → is_err result ≡ false → OnOk result (Makes (f s.widths) s cs t) → Follows f v s → Follows f v t
+  Follows-made v s t cs (Ok u) e m h = Follows-makes v s t cs h m
+  Follows-made v s t cs (Err x) e m h = absurd (true≢false e)
 
   -- any surface with that width value and an emptied log
   pub Follows-restarted : (v : ViewerValue W) (s t : SurfaceValue W) → Follows f v s → t.widths ≡ s.widths → t.log ≡ restarted s.log → Follows f v t

@@ -23,6 +23,7 @@ ghost use Rattle.termwiz_surface.specs.ShownChars.{shown_chars};
 ghost use Rattle.termwiz_surface.specs.ScreenValue.{screen_value};
 ghost use Rattle.termwiz_surface.specs.SurfaceValue.{IsMeasured, IsSound};
 ghost use Rattle.termwiz_surface.specs.Adding.{Adds, Makes, Refuses, with_log};
+ghost use Rattle.termwiz_surface.specs.Following.{Follows, ViewerValue};
 ghost use Rattle.termwiz_surface.specs.Log.{due, flushed, is_known, next_number, worth};
 ghost use Rattle.std.specs.Cow.{IsOwnedSlice};
 ghost use Rattle.termwiz_surface.specs.Stream.{Lends, stream_of};
@@ -599,7 +600,9 @@ impl<W: Widths> Surface<W> {
     /// Makes one change. The answer is the number before it.
     /// `ScrollRegion`, `Numbers`: nothing has changed. `Memory`: the size and the form of the rows stay, the cursor is inside, and the log is empty under a number that is greater by one, or 0 where it was 0.
     pub fn add_change(&mut self, change: Change) -> Result<SequenceNo, SurfaceError>
-        ensures { Adds (unversioned (W.width_of self.old.widths)) self.old (change_value change ∷ []) (next_number self.old.log) result self.new }
+        ensures adds { Adds (unversioned (W.width_of self.old.widths)) self.old (change_value change ∷ []) (next_number self.old.log) result self.new }
+        // Each viewer that follows the surface goes on to, also after an error.
+        ensures followed { (v : ViewerValue W) → Follows (λ widths. unversioned (W.width_of widths)) v self.old → Follows (λ widths. unversioned (W.width_of widths)) v self.new }
     {
         self.refuse(slice::from_ref(&change))?;
         let told = self.log.next_number();
@@ -615,6 +618,8 @@ impl<W: Widths> Surface<W> {
     pub fn add_changes(&mut self, changes: Vec<Change>) -> Result<SequenceNo, SurfaceError>
         ensures adds { Adds (unversioned (W.width_of self.old.widths)) self.old (map change_value changes.items) (next_number self.old.log - 1 + vec_len changes) result self.new }
         ensures empty { vec_len changes ≡ 0 → IsOk result }
+        // Each viewer that follows the surface goes on to, also after an error.
+        ensures followed { (v : ViewerValue W) → Follows (λ widths. unversioned (W.width_of widths)) v self.old → Follows (λ widths. unversioned (W.width_of widths)) v self.new }
     {
         self.refuse(changes.as_slice())?;
         let told = self.log.next_number().saturating_sub(1) + changes.len();
@@ -637,6 +642,8 @@ impl<W: Widths> Surface<W> {
         ensures flushes { self.new ≡ with_log self.old (flushed self.old.log seq) }
         // The answer for this number, and for each greater one, is as it was.
         ensures answers { (n most : ℕ) → seq ≤ n → (is_known most self.new.log n ≡ is_known most self.old.log n) × (due self.new.log n ≡ due self.old.log n) }
+        // Each viewer that follows the surface goes on to.
+        ensures followed { (v : ViewerValue W) → Follows (λ widths. unversioned (W.width_of widths)) v self.old → Follows (λ widths. unversioned (W.width_of widths)) v self.new }
     {
         self.log.flush(seq);
     }

@@ -1,5 +1,7 @@
 //! Surfaces that take another size.
 ghost use Rattle.std.specs.Prelude.{◌≡◌, ◌+◌, ◌<◌, ◌^◌, OnOk, OnErr};
+ghost use Rattle.termwiz_cell.specs.Width.{unversioned};
+ghost use Rattle.termwiz_surface.specs.Following.{Follows, ViewerValue};
 ghost use Rattle.termwiz_surface.specs.Log.{next_number};
 ghost use Rattle.termwiz_surface.specs.Resizing.{HasResized, Resizes};
 
@@ -17,7 +19,9 @@ impl<W: Widths> Surface<W> {
         requires some_row { 0 < height }
         requires fits { width < 2 ^ 32 }
         requires fits_height { height < 2 ^ 32 }
-        ensures { Resizes self.old width height result self.new }
+        ensures resizes { Resizes self.old width height result self.new }
+        // Each viewer that follows the surface goes on to, also after an error.
+        ensures followed { (v : ViewerValue W) → Follows (λ widths. unversioned (W.width_of widths)) v self.old → Follows (λ widths. unversioned (W.width_of widths)) v self.new }
     {
         if !self.log.has_numbers(1) {
             return Err(SurfaceError::Numbers);

@@ -9,4 +9,4 @@ pub returns-in_ok-resize-clause-sized : goal.returns-in_ok-resize-clause-sized
 returns-in_ok-resize-clause-sized g c =
     let asked = c.dimensions-width in
     rw (← asked.ensures.width, ← asked.ensures.height)
-    (subst (λ (t : Screen). HasSize asked.result.0 asked.result.1 t) (sym c.in_ok-resize.ensures.1.screen_is) (resized_size (screen_of c.self.inside.surface) asked.result.0 asked.result.1))
+    (subst (λ (t : Screen). HasSize asked.result.0 asked.result.1 t) (sym c.in_ok-resize.ensures.resizes.1.screen_is) (resized_size (screen_of c.self.inside.surface) asked.result.0 asked.result.1))

@@ -5,6 +5,12 @@
 mod carried;
 pub mod changes;
 #[cfg(test)]
+mod copies;
+#[cfg(test)]
+mod diff_tables;
+#[cfg(test)]
+mod diffs;
+#[cfg(test)]
 mod followed;
 #[cfg(test)]
 mod graphemes;

@@ -1,0 +1,177 @@
+//! Diffs of many pairs of surfaces, made and compared, and their prints counted.
+ghost use Rattle.std.specs.Prelude.{◌<◌, ◌^◌};
+
+use crate::steps::{RED, Step, Style};
+use crate::surfaces::drawn;
+use std::alloc::{AllocError, Global};
+use std::process::Abort;
+use std::test::Fail;
+use termwiz_cell::change::Change;
+use termwiz_cell::emoji::UnicodeWidths;
+use termwiz_line::line::line::Line;
+use termwiz_surface::surface::{Surface, SurfaceError};
+use unicode_segmentation::UnicodeSegmentation;
+
+// Wide graphemes at shifted columns, cut at the end of a row, or between others.
+const TEXTS: [&str; 9] = [
+    "",
+    "a",
+    "か",
+    "aか",
+    "かb",
+    " か ",
+    "かか",
+    "abcde",
+    "e\u{301}か x",
+];
+
+// A surface of one row with this text in this pen.
+fn row(
+    alloc: Global,
+    width: usize,
+    pen: &Step<'_>,
+    text: &str,
+) -> Result<Surface<UnicodeWidths>, SurfaceError>
+    requires some { 0 < width }
+    requires fits { width < 2 ^ 32 }
+{
+    drawn(alloc, width, 1, UnicodeWidths, &[*pen, Step::Print(text)])
+}
+
+// How many graphemes the changes print.
+fn printed(changes: &[Change]) -> usize {
+    let mut count: usize = 0;
+    for change in changes {
+        if let Change::Text(text) = change {
+            count = count.saturating_add(text.as_str().graphemes(true).count());
+        }
+    }
+    count
+}
+
+// How many cells the other line shows in so many columns from one on that the own one doesn't show, from its column x on.
+fn needed(own: &Line, x: usize, other: &Line, other_x: usize, columns: usize) -> usize {
+    let mut count: usize = 0;
+    for cell in other.visible_cells() {
+        let column = cell.cell_index();
+        if other_x <= column && column - other_x < columns {
+            let is_shown = match own.get_cell(x.saturating_add(column - other_x)) {
+                Some(shown) => shown.same_contents(&cell),
+                None => false,
+            };
+            if !is_shown {
+                count = count.saturating_add(1);
+            }
+        }
+    }
+    count
+}
+
+// The first row of what a surface shows.
+fn first_row(surface: &Surface<UnicodeWidths>) -> Result<Line, AllocError> {
+    let mut screen = surface.screen()?;
+    screen.rows.pop().ok_or(AllocError)
+}
+
+// The diff of a pair prints just what is needed, by at most three changes each, and makes the rows equal.
+fn assert_diff(
+    rt: &impl Abort,
+    from: &Surface<UnicodeWidths>,
+    to: &Surface<UnicodeWidths>,
+) -> Result<(), SurfaceError> {
+    let mut made = from.clone()?;
+    let (width, _) = from.dimensions();
+    let changes = from.diff_screens(to)?;
+    let need = needed(&first_row(from)?, 0, &first_row(to)?, 0, width);
+    assert_eq!(rt; printed(changes.as_slice()), need);
+    assert!(rt; changes.len() <= need.saturating_mul(3));
+    made.add_changes(changes)?;
+    assert!(rt; first_row(&made)? == first_row(to)?);
+    Ok(())
+}
+
+// Both ways, for each pair of texts in these pens.
+fn assert_pairs(
+    rt: &impl Abort,
+    alloc: Global,
+    width: usize,
+    one: &Step<'_>,
+    other: &Step<'_>,
+) -> Result<(), SurfaceError>
+    requires some { 0 < width }
+    requires fits { width < 2 ^ 32 }
+{
+    for from in TEXTS {
+        let from = row(alloc, width, one, from)?;
+        for to in TEXTS {
+            let to = row(alloc, width, other, to)?;
+            assert_diff(rt, &from, &to)?;
+            assert_diff(rt, &to, &from)?;
+        }
+    }
+    Ok(())
+}
+
+#[test]
+fn pairs_in_one_pen(rt: HostRuntime) -> Result<(), Fail> {
+    for width in 1..6 {
+        assert_pairs(&rt, rt.alloc(), width, &Step::DefaultPen, &Step::DefaultPen)?;
+    }
+    Ok(())
+}
+
+#[test]
+fn pairs_in_two_pens(rt: HostRuntime) -> Result<(), Fail> {
+    let red = Step::Pen(Style::Background(RED));
+    for width in 1..6 {
+        assert_pairs(&rt, rt.alloc(), width, &Step::Pen(Style::Bold), &red)?;
+    }
+    Ok(())
+}
+
+// Two columns from one on, and those of the other row from another on: the prints are just what is needed, whatever crosses the edges.
+fn assert_region(
+    rt: &impl Abort,
+    own: &Surface<UnicodeWidths>,
+    x: usize,
+    other: &Surface<UnicodeWidths>,
+    other_x: usize,
+) -> Result<(), SurfaceError> {
+    let (width, _) = own.dimensions();
+    let columns = 2
+        .min(width.saturating_sub(x))
+        .min(width.saturating_sub(other_x));
+    let need = needed(&first_row(own)?, x, &first_row(other)?, other_x, columns);
+    let changes = own.diff_region(x, 0, 2, 1, other, other_x, 0)?;
+    assert_eq!(rt; printed(changes.as_slice()), need);
+    assert!(rt; changes.len() <= need.saturating_mul(3));
+    Ok(())
+}
+
+// From each column on of each of the two.
+fn assert_regions(
+    rt: &impl Abort,
+    own: &Surface<UnicodeWidths>,
+    other: &Surface<UnicodeWidths>,
+) -> Result<(), SurfaceError> {
+    let (width, _) = own.dimensions();
+    for x in 0..width {
+        for other_x in 0..width {
+            assert_region(rt, own, x, other, other_x)?;
+        }
+    }
+    Ok(())
+}
+
+#[test]
+fn regions_whose_edges_cut_wide_graphemes(rt: HostRuntime) -> Result<(), Fail> {
+    let alloc = rt.alloc();
+    for from in TEXTS {
+        for to in TEXTS {
+            let own = row(alloc, 5, &Step::DefaultPen, from)?;
+            let other = row(alloc, 5, &Step::DefaultPen, to)?;
+            assert_regions(&rt, &own, &other)?;
+        }
+    }
+    Ok(())
+}

@@ -5,6 +5,8 @@
 mod carried;
 pub mod changes;
 #[cfg(test)]
+mod diffs;
+#[cfg(test)]
 mod followed;
 #[cfg(test)]
 mod graphemes;

@@ -33,3 +33,4 @@ pub mod DiffLists
 pub mod DiffLaws
 pub mod Fewest
 pub mod Copies
+pub mod Ends

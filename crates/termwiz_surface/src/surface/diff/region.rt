@@ -1,0 +1,71 @@
+//! Regions: a rectangle of own columns and rows, and as large a one of another's.
+ghost use Rattle.std.specs.Prelude.{◌≡◌, ◌||◌, eqb};
+ghost use Rattle.termwiz_surface.specs.Diff as spec;
+
+use std::marker::Model;
+
+/// A rectangle of own columns and rows, and as large a one of another's.
+#[derive(Clone, Copy)]
+pub(super) struct Region {
+    pub(super) x: usize,
+    pub(super) y: usize,
+    pub(super) width: usize,
+    pub(super) height: usize,
+    pub(super) other_x: usize,
+    pub(super) other_y: usize,
+}
+
+impl Model for Region {
+    ghost use Rattle.termwiz_surface.specs.Diff as spec;
+
+    ghost Value = { spec.Region };
+
+    ghost view = { λ r. record { x = r.x; y = r.y; width = r.width; height = r.height; other_x = r.other_x; other_y = r.other_y } };
+
+    ghost inverse = { λ r. record { x = r.x; y = r.y; width = r.width; height = r.height; other_x = r.other_x; other_y = r.other_y } };
+}
+
+impl Region {
+    /// This many whole rows, from a row on, and another's from its first one on.
+    pub(super) fn band(width: usize, y: usize, height: usize) -> Region
+        ensures { result ≡ spec.band width y 0 height }
+    {
+        Region {
+            x: 0,
+            y,
+            width,
+            height,
+            other_x: 0,
+            other_y: 0,
+        }
+    }
+
+    /// The part that fits in an own width and height, and in another's.
+    pub(super) fn cut(self, own: (usize, usize), other: (usize, usize)) -> Region
+        ensures { result ≡ spec.cut self own.0 own.1 other.0 other.1 }
+    {
+        Region {
+            x: self.x,
+            y: self.y,
+            width: fitting(self.width, own.0, self.x, other.0, self.other_x),
+            height: fitting(self.height, own.1, self.y, other.1, self.other_y),
+            other_x: self.other_x,
+            other_y: self.other_y,
+        }
+    }
+
+    /// Whether it has no column or no row.
+    pub(super) fn is_empty(self) -> bool
+        ensures { result ≡ (eqb self.width 0 || eqb self.height 0) }
+    {
+        self.width == 0 || self.height == 0
+    }
+}
+
+fn fitting(count: usize, own: usize, from: usize, other: usize, other_from: usize) -> usize
+    ensures { result ≡ spec.fitting count own from other other_from }
+{
+    let own_left = own.saturating_sub(from);
+    let other_left = other.saturating_sub(other_from);
+    count.min(own_left.min(other_left))
+}

@@ -3,7 +3,7 @@ ghost use Rattle.std.specs.Prelude.{◌<◌, ◌^◌};
 
 use std::alloc::{AllocError, Global};
 use termwiz_cell::cell::CellAttributes;
-use termwiz_cell::change::{Change, SequenceNo};
+use termwiz_cell::change::{Change, Position, SequenceNo};
 use termwiz_cell::color::ColorAttribute;
 use termwiz_cell::emoji::UnicodeWidths;
 use termwiz_surface::surface::{Surface, SurfaceError};
@@ -29,6 +29,12 @@ pub enum Workload {
     LargeRepaint,
     /// A repaint of a 200x60 full of text in one pen.
     OnePen,
+    /// A diff of two 80x24 full of text that show the same.
+    DiffNone,
+    /// A diff of two that differ in each twentieth cell.
+    DiffSome,
+    /// A diff of two that differ in all cells.
+    DiffAll,
     /// Making an 80x24.
     New,
     /// A setter of an attribute.
@@ -51,6 +57,9 @@ impl Workload {
             "repaint" => Some(Workload::Repaint),
             "large-repaint" => Some(Workload::LargeRepaint),
             "one-pen" => Some(Workload::OnePen),
+            "diff-0" => Some(Workload::DiffNone),
+            "diff-5" => Some(Workload::DiffSome),
+            "diff-100" => Some(Workload::DiffAll),
             "new" => Some(Workload::New),
             "setter" => Some(Workload::Setter),
             "clone" => Some(Workload::Clone),
@@ -67,6 +76,8 @@ const SHORT: &str = "x\r\n";
 
 const EIGHT: &str = "colours ";
 
+const OTHER_EIGHT: &str = "COLOURED";
+
 const KANA: &str = "かきくけこさしすせそたちつてとなにぬねのはひふへほまみむめもやゆよらりるれろわを\r\n";
 
 /// Runs the workload, and gives a sum that depends on what was done.
@@ -81,6 +92,9 @@ pub fn run(alloc: Global, workload: Workload, count: u32) -> Result<usize, Surfa
         Workload::Repaint => repainted(alloc, 80, 24, count),
         Workload::LargeRepaint => repainted(alloc, 200, 60, count),
         Workload::OnePen => one_pen(alloc, count),
+        Workload::DiffNone => diffed(&full(alloc, EIGHT)?, &full(alloc, EIGHT)?, count),
+        Workload::DiffSome => diffed(&full(alloc, EIGHT)?, &speckled(alloc)?, count),
+        Workload::DiffAll => diffed(&full(alloc, EIGHT)?, &full(alloc, OTHER_EIGHT)?, count),
         Workload::New => made(alloc, count),
         Workload::Setter => Ok(set(count)),
         Workload::Clone => Ok(cloned(count)?),
@@ -165,6 +179,43 @@ fn asked(
     for _ in 0..count {
         let (_, changes) = surface.get_changes(seq)?;
         entries = entries.wrapping_add(changes.as_slice().len());
+    }
+    Ok(entries)
+}
+
+// An 80x24 full of a text of eight characters.
+fn full(alloc: Global, eight: &str) -> Result<Surface<UnicodeWidths>, SurfaceError> {
+    let mut surface = Surface::new(alloc, 80, 24, UnicodeWidths)?;
+    for _ in 0..80 * 24 / 8 {
+        surface.add_change(Change::text_from(alloc, eight)?)?;
+    }
+    Ok(surface)
+}
+
+// The same, with another character in each twentieth cell.
+fn speckled(alloc: Global) -> Result<Surface<UnicodeWidths>, SurfaceError> {
+    let mut surface = full(alloc, EIGHT)?;
+    for y in 0..24 {
+        for x in 0..4 {
+            surface.add_change(Change::CursorPosition {
+                x: Position::Absolute(20 * x),
+                y: Position::Absolute(y),
+            })?;
+            surface.add_change(Change::text_from(alloc, "#")?)?;
+        }
+    }
+    Ok(surface)
+}
+
+// How many entries so many diffs have.
+fn diffed(
+    from: &Surface<UnicodeWidths>,
+    to: &Surface<UnicodeWidths>,
+    count: u32,
+) -> Result<usize, SurfaceError> {
+    let mut entries = 0usize;
+    for _ in 0..count {
+        entries = entries.wrapping_add(from.diff_screens(to)?.len());
     }
     Ok(entries)
 }

@@ -5,8 +5,6 @@
 mod carried;
 pub mod changes;
 #[cfg(test)]
-mod copies;
-#[cfg(test)]
 mod diff_tables;
 #[cfg(test)]
 mod diffs;

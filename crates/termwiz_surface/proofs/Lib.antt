@@ -34,3 +34,6 @@ mod ResizedSize
 mod Following
 mod Viewing
 mod FollowedRuns
+mod DiffRows
+mod DiffScreens
+mod NeedWords

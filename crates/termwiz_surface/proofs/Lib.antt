@@ -37,3 +37,6 @@ mod FollowedRuns
 mod DiffRows
 mod DiffScreens
 mod NeedWords
+mod DiffStreams
+mod DiffLists
+mod Restoring

@@ -40,3 +40,4 @@ mod NeedWords
 mod DiffStreams
 mod DiffLists
 mod Restoring
+mod FewestPrints

@@ -34,3 +34,10 @@ mod ResizedSize
 mod Following
 mod Viewing
 mod FollowedRuns
+mod DiffRows
+mod DiffScreens
+mod NeedWords
+mod DiffStreams
+mod DiffLists
+mod Restoring
+mod FewestPrints

@@ -31,6 +31,7 @@ ghost use Rattle.termwiz_surface.specs.Printable.{HasSize, IsPrintable};
 ghost use Rattle.termwiz_surface.specs.Repaint.{repaint};
 ghost use Rattle.termwiz_surface.specs.Screen.{Screen as SeenScreen};
 
+mod copies;
 mod diff;
 mod lines;
 mod log;
@@ -103,7 +104,7 @@ impl From<AllocError> for SurfaceError {
 ///
 /// A viewer is whoever applies that stream: one that writes to a terminal, one at the other end of a connection, or a second surface. It has to measure texts as this surface does, by the width value that it was made with.
 ///
-/// A program may draw the parts of a picture on surfaces of their own, each of which knows nothing of the others, and show a surface that is made of them. Drawing one surface on another is not built yet.
+/// A program may draw the parts of a picture on surfaces of their own, each of which knows nothing of the others, and show a surface that is made of them: `draw_from_screen` draws one surface on another, and `copy_region` copies a region within one.
 #[derive(Drop)]
 pub struct Surface<W: Widths> {
     widths: W,

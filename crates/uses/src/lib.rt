@@ -10,3 +10,4 @@ pub mod status;
 #[cfg(test)]
 mod tests;
 pub mod viewer;
+pub mod window;

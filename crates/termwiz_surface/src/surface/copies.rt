@@ -5,6 +5,7 @@ ghost use Rattle.termwiz_cell.specs.Width.{unversioned};
 ghost use Rattle.termwiz_surface.specs.Copies.{IsCopied, IsDrawn, copied_region, drawn_region};
 ghost use Rattle.termwiz_surface.specs.Diff.{restoring};
 ghost use Rattle.termwiz_surface.specs.DiffRegions.{CrossNone, HaveRegion};
+ghost use Rattle.termwiz_surface.specs.Following.{Follows, ViewerValue};
 ghost use Rattle.termwiz_surface.specs.SurfaceValue.{screen_of};
 ghost use Rattle.termwiz_surface.specs.declared.surface.SurfaceError.TheVariants.{ScrollRegion};
 
@@ -32,6 +33,8 @@ impl<W: Widths> Surface<W> {
         // For two surfaces of one width function: the other's rows, where no wide grapheme crosses an edge.
         ensures region { OnOk result (let a = screen_of self.old in let b = screen_of other.now in let r = drawn_region a b x y in unversioned (W.width_of self.old.widths) ≡ unversioned (W.width_of other.now.widths) → CrossNone a.width b.width a.rows b.rows r → HaveRegion a.width (screen_of self.new).rows a.rows b.rows r) }
         ensures no_scroll { result ≡ Err ScrollRegion → ⊥ }
+        // Each viewer that follows the surface goes on to, also after an error, and whatever width value the drawn one has.
+        ensures followed { (v : ViewerValue W) → Follows (λ widths. unversioned (W.width_of widths)) v self.old → Follows (λ widths. unversioned (W.width_of widths)) v self.new }
     {
         let (width, height) = other.dimensions();
         let changes = self.diff_region(x, y, width, height, other, 0, 0)?;
@@ -57,6 +60,8 @@ impl<W: Widths> Surface<W> {
         // What the region showed before, overlapping or not, where no wide grapheme crosses an edge.
         ensures region { OnOk result (let a = screen_of self.old in let r = copied_region a src_x src_y width height dest_x dest_y in CrossNone a.width a.width a.rows a.rows r → HaveRegion a.width (screen_of self.new).rows a.rows a.rows r) }
         ensures no_scroll { result ≡ Err ScrollRegion → ⊥ }
+        // Each viewer that follows the surface goes on to, also after an error.
+        ensures followed { (v : ViewerValue W) → Follows (λ widths. unversioned (W.width_of widths)) v self.old → Follows (λ widths. unversioned (W.width_of widths)) v self.new }
     {
         let changes = self.diff_region(dest_x, dest_y, width, height, self, src_x, src_y)?;
         self.add_changes(changes)

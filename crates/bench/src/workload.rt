@@ -3,10 +3,11 @@ ghost use Rattle.std.specs.Prelude.{◌<◌, ◌^◌};
 
 use std::alloc::{AllocError, Global};
 use termwiz_cell::cell::CellAttributes;
-use termwiz_cell::change::{Change, Position, SequenceNo};
+use termwiz_cell::change::{Change, CursorVisibility, Position, SequenceNo};
 use termwiz_cell::color::ColorAttribute;
 use termwiz_cell::emoji::UnicodeWidths;
 use termwiz_surface::surface::{Surface, SurfaceError};
+use termwiz_surface::view::Viewer;
 
 /// A workload by its name.
 #[derive(Clone, Copy, Debug)]
@@ -35,6 +36,12 @@ pub enum Workload {
     DiffSome,
     /// A diff of two that differ in all cells.
     DiffAll,
+    /// A viewer of an 80x24 that follows by a delta of one line, whose printing counts too.
+    FollowDelta,
+    /// A viewer of a coloured 80x24 that follows by a repaint.
+    FollowRepaint,
+    /// A 200x60 that is made an 80x24 and a 200x60 again.
+    Resize,
     /// Making an 80x24.
     New,
     /// A setter of an attribute.
@@ -60,6 +67,9 @@ impl Workload {
             "diff-0" => Some(Workload::DiffNone),
             "diff-5" => Some(Workload::DiffSome),
             "diff-100" => Some(Workload::DiffAll),
+            "follow-delta" => Some(Workload::FollowDelta),
+            "follow-repaint" => Some(Workload::FollowRepaint),
+            "resize" => Some(Workload::Resize),
             "new" => Some(Workload::New),
             "setter" => Some(Workload::Setter),
             "clone" => Some(Workload::Clone),
@@ -95,6 +105,9 @@ pub fn run(alloc: Global, workload: Workload, count: u32) -> Result<usize, Surfa
         Workload::DiffNone => diffed(&full(alloc, EIGHT)?, &full(alloc, EIGHT)?, count),
         Workload::DiffSome => diffed(&full(alloc, EIGHT)?, &speckled(alloc)?, count),
         Workload::DiffAll => diffed(&full(alloc, EIGHT)?, &full(alloc, OTHER_EIGHT)?, count),
+        Workload::FollowDelta => followed_by_deltas(alloc, count),
+        Workload::FollowRepaint => followed_by_repaints(alloc, count),
+        Workload::Resize => resized(alloc, count),
         Workload::New => made(alloc, count),
         Workload::Setter => Ok(set(count)),
         Workload::Clone => Ok(cloned(count)?),
@@ -147,7 +160,12 @@ fn coloured(alloc: Global, count: u32) -> Result<usize, SurfaceError> {
     Ok(surface.current_seqno())
 }
 
-fn repainted(alloc: Global, width: usize, height: usize, count: u32) -> Result<usize, SurfaceError>
+// A surface with a colour for every 8 columns.
+fn filled(
+    alloc: Global,
+    width: usize,
+    height: usize,
+) -> Result<Surface<UnicodeWidths>, SurfaceError>
     requires some_column { 0 < width }
     requires some_row { 0 < height }
     requires fits { width < 2 ^ 32 }
@@ -158,7 +176,51 @@ fn repainted(alloc: Global, width: usize, height: usize, count: u32) -> Result<u
         surface.add_change(pen(alloc, (cell % 10) as u8)?)?;
         surface.add_change(Change::text_from(alloc, EIGHT)?)?;
     }
+    Ok(surface)
+}
+
+fn repainted(alloc: Global, width: usize, height: usize, count: u32) -> Result<usize, SurfaceError>
+    requires some_column { 0 < width }
+    requires some_row { 0 < height }
+    requires fits { width < 2 ^ 32 }
+    requires fits_height { height < 2 ^ 32 }
+{
+    let surface = filled(alloc, width, height)?;
     asked(&surface, 0, count)
+}
+
+fn followed_by_deltas(alloc: Global, count: u32) -> Result<usize, SurfaceError> {
+    let mut surface = Surface::new(alloc, 80, 24, UnicodeWidths)?;
+    let mut viewer = Viewer::new(alloc, &surface)?;
+    for round in 0..count {
+        surface.add_change(Change::text_from(alloc, SHORT)?)?;
+        viewer.follow(&surface)?;
+        if round % 64 == 63 {
+            surface.flush_changes_older_than(viewer.last());
+        }
+    }
+    Ok(viewer.last())
+}
+
+// What each round changes is flushed before the viewer follows, so that its number isn't known.
+fn followed_by_repaints(alloc: Global, count: u32) -> Result<usize, SurfaceError> {
+    let mut surface = filled(alloc, 80, 24)?;
+    let mut viewer = Viewer::new(alloc, &surface)?;
+    for _ in 0..count {
+        surface.add_change(Change::CursorVisibility(CursorVisibility::Visible))?;
+        surface.flush_changes_older_than(surface.current_seqno());
+        viewer.follow(&surface)?;
+    }
+    Ok(viewer.last())
+}
+
+fn resized(alloc: Global, count: u32) -> Result<usize, SurfaceError> {
+    let mut surface = filled(alloc, 200, 60)?;
+    for _ in 0..count {
+        surface.resize(80, 24)?;
+        surface.resize(200, 60)?;
+    }
+    Ok(surface.current_seqno())
 }
 
 fn one_pen(alloc: Global, count: u32) -> Result<usize, SurfaceError> {

@@ -85,6 +85,14 @@ module _ (f : List ℕ → ℕ) where
         );
       }
 
+  -- an answer leads to the surface's screen
+  pub Leads-stream : (v s : Screen) (n : ℕ) (log : LogValue) (cs : List ChangeValue) → HasSize s.width s.height v → Leads f v n s log → IsStream f s log n cs → replay f v cs ≡ s
+  Leads-stream v s n log cs size l a =
+      elim (is_known (worth s.width s.height) log n) as (λ b. is_known (worth s.width s.height) log n ≡ b → replay f v cs ≡ s) [
+        | true ↦ λ e. let k = known_tells (worth s.width s.height) log n e in ap (replay f v) (a.known e) ∙ (l.leads k.0 k.1).2
+        | false ↦ λ e. a.repaint e v size
+      ] refl
+
 module _ {W : Type 0} (f : W → List ℕ → ℕ) where
   pub Follows-makes : (v : ViewerValue W) (s t : SurfaceValue W) (cs : List ChangeValue) → Follows f v s → Makes (f s.widths) s cs t → Follows f v t
   Follows-makes v s t cs h m = record {
@@ -142,11 +150,7 @@ module _ {W : Type 0} (f : W → List ℕ → ℕ) where
   -- and an answer leads it to the surface's screen
   pub caught_up : (v : ViewerValue W) (s : SurfaceValue W) (cs : List ChangeValue) → Follows f v s → HasSize s.width s.height (screen_of v.surface) → IsStream (f s.widths) (screen_of s) s.log v.last cs
       → replay (f s.widths) (screen_of v.surface) cs ≡ screen_of s
-  caught_up v s cs h size a =
-      elim (is_known (worth s.width s.height) s.log v.last) as (λ b. is_known (worth s.width s.height) s.log v.last ≡ b → replay (f s.widths) (screen_of v.surface) cs ≡ screen_of s) [
-        | true ↦ λ e. let k = known_tells (worth s.width s.height) s.log v.last e in ap (replay (f s.widths) (screen_of v.surface)) (a.known e) ∙ (h.leads.leads k.0 k.1).2
-        | false ↦ λ e. a.repaint e (screen_of v.surface) size
-      ] refl
+  caught_up v s cs h size a = Leads-stream (f s.widths) (screen_of v.surface) (screen_of s) v.last s.log cs size h.leads a
 
 module _ {W : Type 0} where
   -- a viewer that takes the surface's size has it

@@ -1,5 +1,5 @@
 //! Laws of the definitions that contracts cite, each on a function that does nothing.
-ghost use Rattle.termwiz_surface.specs.FollowingLaws.{ChangesLeadOn, FlushesKeepLeading, LeadsWhereItIs, RestartsKeepLeading};
+ghost use Rattle.termwiz_surface.specs.FollowingLaws.{ChangesLeadOn, FlushesKeepLeading, LeadsWhereItIs, RestartsKeepLeading, StreamsLeadOn};
 ghost use Rattle.termwiz_surface.specs.DiffLaws.{CutIsInside, DiffGivesBand, DiffGivesRegion, DiffGivesRows, DrawingRestores, LinesArePrintable, NeedGivesRegion, NeedGivesRows, NeedIs, PrintsAreDiff, RegionIsDiff};
 ghost use Rattle.termwiz_surface.specs.Fewest.{FewestNarrowPrints, FewestPrints};
 ghost use Rattle.termwiz_surface.specs.RepaintLaws.{LineEntriesGiveRow, RepaintGivesScreen, RepaintIsShort};
@@ -11,10 +11,11 @@ pub fn repaint_laws()
     ensures line { LineEntriesGiveRow }
 {}
 
-/// A viewer that follows a surface still does after whatever happens to the surface: changes, flushes, want of memory and another size. `Follows` is made of what these laws speak of.
+/// A viewer that follows a surface still does after whatever happens to the surface: changes, flushes, want of memory and another size; and what it is answered leads it to the surface's screen. `Follows` is made of what these laws speak of.
 pub fn following_laws()
     ensures same { LeadsWhereItIs }
     ensures changes { ChangesLeadOn }
+    ensures streams { StreamsLeadOn }
     ensures flushes { FlushesKeepLeading }
     ensures restarts { RestartsKeepLeading }
 {}

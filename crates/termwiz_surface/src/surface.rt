@@ -26,7 +26,7 @@ ghost use Rattle.termwiz_surface.specs.Adding.{Adds, Makes, Refuses, with_log};
 ghost use Rattle.termwiz_surface.specs.Following.{Follows, ViewerValue};
 ghost use Rattle.termwiz_surface.specs.Log.{due, flushed, is_known, next_number, worth};
 ghost use Rattle.std.specs.Cow.{IsOwnedSlice};
-ghost use Rattle.termwiz_surface.specs.Stream.{Lends, stream_of};
+ghost use Rattle.termwiz_surface.specs.Stream.{IsStream, Lends, stream_of};
 ghost use Rattle.termwiz_surface.specs.Printable.{HasSize, IsPrintable};
 ghost use Rattle.termwiz_surface.specs.Repaint.{repaint};
 ghost use Rattle.termwiz_surface.specs.Screen.{Screen as SeenScreen};
@@ -664,6 +664,8 @@ impl<W: Widths> Surface<W> {
         // No scroll in the answer has a region that goes past the last row.
         ensures regions { IfOk result (λ answer. regions_fit self.now.height (stream_of answer.1) ≡ true) }
         ensures owned { is_known (worth self.now.width self.now.height) self.now.log seq ≡ false → IfOk result (λ answer. IsOwnedSlice answer.1) }
+        // Both kinds of answer in one: what leads on a viewer that is led, by `following_laws`.
+        ensures stream { IfOk result (λ answer. IsStream (unversioned (W.width_of self.now.widths)) (screen_of self.now) self.now.log seq (stream_of answer.1)) }
     {
         let number = self.log.next_number();
         match self.log.due(seq, worth(self.width, self.height)) {

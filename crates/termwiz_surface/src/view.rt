@@ -152,7 +152,8 @@ fn ask<W: Widths>(alloc: Global, surface: &Surface<W>, seq: SequenceNo) -> Outco
     }
 }
 
-fn copied(alloc: Global, changes: CowSlice<'_, Change>) -> Result<Vec<Change>, AllocError>
+/// The changes of an answer as a list of their own, for whoever applies them. What is lent is cloned, and what is owned isn't.
+pub fn copied(alloc: Global, changes: CowSlice<'_, Change>) -> Result<Vec<Change>, AllocError>
     ensures { IfOk result (λ copies. map change_value copies.items ≡ map change_value (cow_slice_items changes.entry)) }
 {
     changes.into_owned(alloc)

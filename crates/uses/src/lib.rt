@@ -2,6 +2,7 @@
 #![tactic(auto)]
 
 pub mod comparison;
+pub mod follower;
 pub mod last_row;
 pub mod lines;
 pub mod one_by_one;

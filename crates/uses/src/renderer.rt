@@ -2,6 +2,7 @@
 ghost use Rattle.std.specs.Prelude.{◌≡◌, OnOk};
 ghost use Rattle.termwiz_cell.specs.Width.{unversioned};
 ghost use Rattle.termwiz_surface.specs.Following.{Follows};
+ghost use Rattle.termwiz_surface.specs.Log.{flushed};
 ghost use Rattle.termwiz_surface.specs.SurfaceValue.{screen_of};
 
 use termwiz_cell::emoji::Widths;
@@ -17,6 +18,7 @@ pub fn refresh<W: Widths>(
 ) -> Result<(), SurfaceError>
     requires { Follows (λ widths. unversioned (W.width_of widths)) viewer.old surface.old }
     ensures shown { OnOk result (screen_of viewer.new.surface ≡ screen_of surface.new) }
+    ensures forgets { OnOk result (surface.new.log ≡ flushed surface.old.log viewer.new.last) }
     ensures unchanged { screen_of surface.new ≡ screen_of surface.old }
     // The next turn can rely on it again, after an error too.
     ensures follows { Follows (λ widths. unversioned (W.width_of widths)) viewer.new surface.new }

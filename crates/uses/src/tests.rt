@@ -1,5 +1,6 @@
 //! Each caller once, on its way to success.
 use crate::comparison::show_the_same;
+use crate::follower::{Follower, make_and_show};
 use crate::last_row::clear_last_row;
 use crate::one_by_one::make_one_by_one;
 use crate::status::draw_status;
@@ -20,6 +21,25 @@ fn a_viewer_catches_up(rt: HostRuntime) -> Result<(), Fail> {
     assert!(rt; !show_the_same(viewer.shown(), &surface)?);
     viewer.catch_up(&surface)?;
     assert!(rt; show_the_same(viewer.shown(), &surface)?);
+    Ok(())
+}
+
+#[test]
+fn a_follower_makes_what_changed(rt: HostRuntime) -> Result<(), Fail> {
+    let alloc = rt.alloc();
+    let mut surface = Surface::new(alloc, 4, 2, UnicodeWidths)?;
+    let mut follower = Follower::new(alloc, &surface, UnicodeWidths)?;
+    make_and_show(
+        &mut surface,
+        &mut follower,
+        Change::text_from(alloc, "w00t\r\n")?,
+    )?;
+    let first = follower.shown().current_seqno();
+    make_and_show(&mut surface, &mut follower, Change::text_from(alloc, "か")?)?;
+    assert_eq!(rt; follower.shown().cursor_position(), (2, 1));
+    // Of the second it was given that change alone.
+    let second = follower.shown().current_seqno();
+    assert_eq!(rt; second.wrapping_sub(first), 1);
     Ok(())
 }
 

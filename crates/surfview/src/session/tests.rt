@@ -162,12 +162,14 @@ fn prints_what_another_size_leaves(rt: HostRuntime) -> Result<(), Fail> {
     Ok(())
 }
 
-// By a repaint at first, and then by what is due.
+// By a repaint at first, which anyone is answered who asks for it, and then by what is due.
 #[test]
 fn prints_what_the_viewer_shows(rt: HostRuntime) -> Result<(), Fail> {
-    let script = "clear 9\ntext a\\r\\nb\nview\ntext c\nview\n";
+    let script = "clear 9\ntext a\\r\\nb\nask 0\nview\ntext c\nview\n";
     let ended = run_session(rt.alloc(), &["3", "2"], script.as_bytes())?;
-    let want = "viewer 2\n|a  |\n|b  |\ncursor 1 1\nviewer 3\n|a  |\n|bc |\ncursor 2 1\n";
+    let want =
+        "number 2\nhidden\nclear default\npen bg=9\ntext a\neol 9\nmove =0 +1\ntext b\neol 9\nmove =1 =1\nvisible\n\
+        viewer 2\n|a  |\n|b  |\ncursor 1 1\nviewer 3\n|a  |\n|bc |\ncursor 2 1\n";
     assert_eq!(rt; ended.out.as_str(), want);
     assert_eq!(rt; ended.err.as_str(), "");
     assert_eq!(rt; ended.status, 0);

@@ -31,6 +31,12 @@ returns-in_ok-repaint-in-None-clause-repaint g c =
     let v = c.args.self.now in
     λ known s size. ap (replay width s) c.in_ok-repaint-in-None.ensures ∙ sound_repaint width v sound (g.met.W.Widths.space_has_one v.widths None) s v.title v.shape size
 
+pub returns-in_ok-repaint-in-None-clause-stream : goal.returns-in_ok-repaint-in-None-clause-stream
+returns-in_ok-repaint-in-None-clause-stream g c = record {
+  known = λ known. absurd (true≢false (sym known ∙ unknown g c));
+  repaint = returns-in_ok-repaint-in-None-clause-repaint g c;
+}
+
 pub returns-in_ok-repaint-in-None-clause-short : goal.returns-in_ok-repaint-in-None-clause-short
 returns-in_ok-repaint-in-None-clause-short g c =
     let v = c.args.self.now in

@@ -1,0 +1,100 @@
+//! A follower of one's own, which is sent what changed since it asked last.
+ghost use Rattle.std.specs.Prelude.{◌≡◌, IfOk, OnErr, OnOk};
+ghost use Rattle.termwiz_cell.specs.Width.{unversioned};
+ghost use Rattle.termwiz_surface.specs.Following.{Follows};
+ghost use Rattle.termwiz_surface.specs.SurfaceValue.{screen_of};
+
+use std::alloc::{AllocError, Global};
+use std::marker::Model;
+use termwiz_cell::change::{Change, SEQ_ZERO, SequenceNo};
+use termwiz_cell::emoji::Widths;
+use termwiz_surface::laws::following_laws;
+use termwiz_surface::surface::{Surface, SurfaceError};
+use termwiz_surface::view::copied;
+
+/// What a surface showed when the follower last caught up with it, and the number that it was given then.
+#[derive(Drop)]
+pub struct Follower<W: Widths> {
+    alloc: Global,
+    shown: Surface<W>,
+    last: SequenceNo,
+}
+
+impl<W: Widths> Model for Follower<W> {
+    ghost use Rattle.termwiz_surface.specs.Following.{ViewerValue};
+
+    ghost Value = { ViewerValue W };
+
+    ghost view = { λ f. record { surface = f.shown; last = f.last } };
+}
+
+impl<W: Widths> Follower<W> {
+    /// A blank follower of a surface's size, which was given no number and measures texts by `widths`: give it what the surface measures by.
+    pub fn new(alloc: Global, surface: &Surface<W>, widths: W) -> Result<Follower<W>, AllocError>
+        requires { widths ≡ surface.now.widths }
+        ensures width { IfOk result (λ follower. follower.surface.width ≡ surface.now.width) }
+        ensures height { IfOk result (λ follower. follower.surface.height ≡ surface.now.height) }
+        ensures follows { IfOk result (λ follower. Follows (λ widths. unversioned (W.width_of widths)) follower surface.now) }
+    {
+        let (width, height) = surface.dimensions();
+        let shown = Surface::new(alloc, width, height, widths)?;
+        Ok(Follower {
+            alloc,
+            shown,
+            last: SEQ_ZERO,
+        })
+    }
+
+    /// What the follower shows.
+    pub fn shown(&self) -> &Surface<W>
+        ensures { result.now ≡ self.now.surface }
+    {
+        &self.shown
+    }
+
+    /// Catches up with a surface of the follower's size: asks for the changes since the number that it was last given, makes them, and takes the new number.
+    /// After an error it may show anything, and has no number: so the next answer brings the whole screen.
+    pub fn catch_up(&mut self, surface: &Surface<W>) -> Result<(), SurfaceError>
+        requires same_width { self.old.surface.width ≡ surface.now.width }
+        requires same_height { self.old.surface.height ≡ surface.now.height }
+        requires follows { Follows (λ widths. unversioned (W.width_of widths)) self.old surface.now }
+        ensures shown { OnOk result (screen_of self.new.surface ≡ screen_of surface.now) }
+        // It can catch up again, after an error too.
+        ensures follows { Follows (λ widths. unversioned (W.width_of widths)) self.new surface.now }
+        ensures failed { OnErr result (self.new.last ≡ 0) }
+        ensures width { self.new.surface.width ≡ self.old.surface.width }
+        ensures height { self.new.surface.height ≡ self.old.surface.height }
+    {
+        // An answer leads a screen of the surface's size to the surface's, from where the follower is.
+        following_laws();
+        let _size = self.shown.dimensions();
+        let asked = self.last;
+        self.last = SEQ_ZERO;
+        let (number, changes) = surface.get_changes(asked)?;
+        self.shown.add_changes(copied(self.alloc, changes)?)?;
+        self.last = number;
+        Ok(())
+    }
+}
+
+/// Makes a change on a surface, and shows it on the follower.
+/// After an error the follower may lack it, and can catch up later.
+pub fn make_and_show<W: Widths>(
+    surface: &mut Surface<W>,
+    follower: &mut Follower<W>,
+    change: Change,
+) -> Result<(), SurfaceError>
+    requires same_width { follower.old.surface.width ≡ surface.old.width }
+    requires same_height { follower.old.surface.height ≡ surface.old.height }
+    requires follows { Follows (λ widths. unversioned (W.width_of widths)) follower.old surface.old }
+    ensures shown { OnOk result (screen_of follower.new.surface ≡ screen_of surface.new) }
+    ensures follows { Follows (λ widths. unversioned (W.width_of widths)) follower.new surface.new }
+    ensures width { follower.new.surface.width ≡ surface.new.width }
+    ensures height { follower.new.surface.height ≡ surface.new.height }
+{
+    // Changes of a surface, and want of memory, keep its followers following.
+    following_laws();
+    surface.add_change(change)?;
+    follower.catch_up(surface)?;
+    Ok(())
+}

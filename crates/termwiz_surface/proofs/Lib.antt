@@ -41,3 +41,4 @@ mod DiffStreams
 mod DiffLists
 mod Restoring
 mod FewestPrints
+mod DiffSurfaces

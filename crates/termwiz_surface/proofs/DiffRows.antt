@@ -7,9 +7,9 @@ use Rattle.termwiz_line.specs.Row.{IsRow, is_hidden, paint}
 use Rattle.termwiz_cell.specs.CellValue.{CellValue, blank, half, is_wide, cell_eq, cell_eq-Decides}
 use Rattle.termwiz_storage.specs.Stored.{stored}
 use Rattle.termwiz_surface.specs.Diff.{shows, row_need}
-use Rattle.termwiz_line.specs.Shows.{Shows}
 use Rattle.termwiz_surface.specs.DiffRegions.{IsIn, NoneCrosses, BothEnd, CrossesNone, HasRegion}
 use Rattle.termwiz_line.proofs.RowPainting.{length-paint, paint_here, paint_second, paint_other}
+use Rattle.termwiz_line.proofs.RowShows.{hidden_at, wide_shows}
 use Rattle.termwiz_line.proofs.RowVisible.{paint_all, hidden_narrow}
 
 -- what the walk over a region needs of its edges
@@ -26,9 +26,6 @@ record RegionUpto (v : ℕ) (a : List CellValue) (p : ℕ) (b : List CellValue) 
   pub width : length s ≡ v
   pub inside : (i : ℕ) → i < span b q k → stored s (p + i) ≡ stored b (q + i)
   pub outside : (j : ℕ) → (j < p) ⊎ (p + span b q k ≤ j) → stored s j ≡ stored a j
-
-hidden_at : (r : List CellValue) (j k : ℕ) → suc j ≡ k → is_hidden r k ≡ is_wide (stored r j)
-hidden_at r j k e = ap (is_hidden r) (sym e)
 
 span_hidden : (b : List CellValue) (q k : ℕ) → is_hidden b (q + k) ≡ true → span b q k ≡ suc k
 span_hidden b q k h = rw h
@@ -223,14 +220,6 @@ region_gives v w a p b q n ra rb la lb cr = from (region_upto v w a p b q n ra r
                   hidden_at t (j - 1) j (omega arith) ∙ ap (λ y. is_wide (stored t y)) (sym x) ∙ ap is_wide (i.inside (n - 1) (in_span (n - 1) (omega arith)))
                   ∙ sym (hidden_at b (q + (n - 1)) (q + n) (omega arith)) ∙ f.1 ∙ sym f.0 ∙ ap (is_hidden a) (sym e))
             ]
-
--- a wide cell is visible
-wide_shows : (w : ℕ) (r : List CellValue) (k : ℕ) → IsRow w r → k < w → is_wide (stored r k) ≡ true → Shows w r k (stored r k)
-wide_shows w r k z l h = record {
-  inside = l;
-  visible = elim (cases_Bool (is_hidden r k)) [ inr f ↦ f | inl t ↦ absurd (false≢true (sym (hidden_narrow w r k z l t) ∙ h)) ];
-  same = refl;
-}
 
 -- no wide cell crosses the first edge, nor the last one
 start_free : (v : ℕ) (a : List CellValue) (p n : ℕ) (Cut : Type 0) → IsRow v a → 0 < n → p + n ≤ v → NoneCrosses v a p n Cut → is_hidden a p ≡ false

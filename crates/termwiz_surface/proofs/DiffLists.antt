@@ -14,14 +14,14 @@ use Rattle.termwiz_surface.specs.Screen.{Screen}
 use Rattle.termwiz_surface.specs.Step.{replay}
 use Rattle.termwiz_surface.specs.Prints.{Print, piece_prints, printed}
 use Rattle.termwiz_surface.specs.Diff.{End, Drawn, nothing_drawn, move_to, pen_to, print_out, prints_out, cursor_at, is_drawing, all_drawing}
-use Rattle.termwiz_surface.specs.DiffLaws.{CanPrint}
+use Rattle.termwiz_surface.specs.DiffLaws.{CanPrint, PrintsAreDiff, RegionIsDiff, DiffGivesRows, DiffGivesRegion, DiffGivesBand}
 use Rattle.termwiz_surface.specs.DiffLists.{IsDiff}
 use Rattle.termwiz_surface.specs.Screen.{row_at}
 use Rattle.termwiz_surface.specs.Printable.{IsPrintableRow}
-use Rattle.termwiz_surface.specs.Diff.{Region, need, whole, band, diff}
-use Rattle.termwiz_surface.specs.DiffRegions.{AreRows, IsInside, CrossNone, HaveRegion}
+use Rattle.termwiz_surface.specs.Diff.{Region, need, band, diff}
+use Rattle.termwiz_surface.specs.DiffRegions.{IsInside, HaveRegion}
 use Rattle.termwiz_line.proofs.JoinedTexts.{ends_with_added}
-use Rattle.termwiz_surface.proofs.DiffScreens.{have_region, band_rows, band_outside, whole_gives, need_nothing, need_printable}
+use Rattle.termwiz_surface.proofs.DiffScreens.{band_inside, have_region, band_rows, band_outside, whole_gives, need_nothing, need_printable}
 use Rattle.termwiz_surface.proofs.EntryTexts.{no_break}
 use Rattle.termwiz_surface.proofs.DiffStreams.{printed_before, printed_text, entries_replay, entries_print, length_out}
 
@@ -68,7 +68,7 @@ ends_out [] = inl refl
 ends_out (p ∷ ps) = let d : Drawn = nothing_drawn in inr (last_out ps (print_out d p) (ends_with_added ((d.entries ++ move_to d.end p) ++ pen_to d.end p) p.cell.text))
 
 -- clean single graphemes are printed one by one, whatever width they are measured to have
-abbrev pub AreSingle : List Print → Type 0
+abbrev AreSingle : List Print → Type 0
 AreSingle [] = Unit {0}
 AreSingle (p ∷ ps) = (graphemes true p.cell.text ≡ p.cell.text ∷ []) × (clean p.cell.text ≡ p.cell.text) × AreSingle ps
 
@@ -82,16 +82,16 @@ module _ (f : List ℕ → ℕ) (s : Screen) where
       )
       ∙ length-append (printed f s d.entries) _ ∙ omega arith
 
-  pub count_out : (ps : List Print) (d : Drawn) → AreSingle ps → length (printed f s (fold print_out d ps).entries) ≡ length (printed f s d.entries) + length ps
+  count_out : (ps : List Print) (d : Drawn) → AreSingle ps → length (printed f s (fold print_out d ps).entries) ≡ length (printed f s d.entries) + length ps
   count_out [] d q = omega arith
   count_out (p ∷ ps) d q = omega (arith, count_out ps (print_out d p) q.2, count_one d p q.0 q.1)
 
-pub printable_single : (f : List ℕ → ℕ) (w h : ℕ) (ps : List Print) → CanPrint f w h ps → AreSingle ps
+printable_single : (f : List ℕ → ℕ) (w h : ℕ) (ps : List Print) → CanPrint f w h ps → AreSingle ps
 printable_single f w h [] q = tt
 printable_single f w h (p ∷ ps) q = (q.2.alone, q.2.is_clean, printable_single f w h ps q.3)
 
 -- by any width function f, where the cells are measured by g
-pub prints_diff : (f g : List ℕ → ℕ) (s : Screen) (ps : List Print) → CanPrint g s.width s.height ps → IsDiff f s (f ≡ g) ps (prints_out ps)
+pub prints_diff : PrintsAreDiff
 prints_diff f g s ps q = record {
   drawing = drawing_out ps (nothing_drawn) refl;
   ends = ends_out ps;
@@ -101,28 +101,33 @@ prints_diff f g s ps q = record {
       record { prints = entries_print f s ps p; rows = ap (λ (t : Screen). t.rows) (entries_replay f s ps p).screen_is };
 }
 
-pub region_diff : (f g : List ℕ → ℕ) (a b : Screen) (r : Region) → IsInside r a.width a.height b.width b.height → ((j : ℕ) → j < b.height → IsPrintableRow g b.width (row_at b.rows j)) →
-    IsDiff f a (f ≡ g) (need a.rows b.rows r) (diff a.rows b.rows r)
-region_diff f g a b r z q = prints_diff f g a (need a.rows b.rows r) (need_printable g a.width a.height b.width b.height a.rows b.rows r z q r.height (le_refl r.height))
+-- of rows that can be printed
+pub rows_diff : (f g : List ℕ → ℕ) (a : Screen) (w h : ℕ) (b : List (List CellValue)) (r : Region) → IsInside r a.width a.height w h → ((j : ℕ) → j < h → IsPrintableRow g w (row_at b j)) →
+    IsDiff f a (f ≡ g) (need a.rows b r) (diff a.rows b r)
+rows_diff f g a w h b r z q = prints_diff f g a (need a.rows b r) (need_printable g a.width a.height w h a.rows b r z q r.height (le_refl r.height))
+
+pub region_diff : RegionIsDiff
+region_diff f g a b r z q = rows_diff f g a b.width b.height b.rows r z q
+
+-- whole rows of them
+pub band_diff : (f g : List ℕ → ℕ) (a : Screen) (b : List (List CellValue)) (y z n : ℕ) → ((k : ℕ) → k < n → y + k < a.height) → ((k : ℕ) → k < n → z + k < length b) →
+    ((j : ℕ) → j < length b → IsPrintableRow g a.width (row_at b j)) → IsDiff f a (f ≡ g) (need a.rows b (band a.width y z n)) (diff a.rows b (band a.width y z n))
+band_diff f g a b y z n own other q = rows_diff f g a a.width (length b) b (band a.width y z n) (band_inside a.width a.height (length b) y z n own other) q
 
 -- no print, no change
 nothing : (f : List ℕ → ℕ) (s : Screen) (l : List ChangeValue) → length l ≤ 3 * length (printed f s l) → printed f s l ≡ [] → l ≡ []
 nothing f s [] h e = refl
 nothing f s (x ∷ l) h e = absurd (omega (arith, ap length e))
 
-pub gives_rows : (f : List ℕ → ℕ) (a b : Screen) (l : List ChangeValue) → AreRows a.width a.height a.rows → AreRows a.width a.height b.rows →
-    IsDiff f a (f ≡ f) (need a.rows b.rows (whole a.width a.height)) l → ((replay f a l).rows ≡ b.rows) × (a.rows ≡ b.rows → l ≡ [])
+pub gives_rows : DiffGivesRows
 gives_rows f a b l ra rb d =
     ((d.exact refl).rows ∙ whole_gives a.width a.height a.rows b.rows ra rb, λ e. nothing f a l d.few ((d.exact refl).prints ∙ need_nothing a.width a.height a.rows b.rows e))
 
-pub gives_region : (f : List ℕ → ℕ) (a b : Screen) (r : Region) (l : List ChangeValue) → AreRows a.width a.height a.rows → AreRows b.width b.height b.rows → IsInside r a.width a.height b.width b.height →
-    CrossNone a.width b.width a.rows b.rows r → IsDiff f a (f ≡ f) (need a.rows b.rows r) l → HaveRegion a.width (replay f a l).rows a.rows b.rows r
+pub gives_region : DiffGivesRegion
 gives_region f a b r l ra rb z c d =
     subst (λ t. HaveRegion a.width t a.rows b.rows r) (sym (d.exact refl).rows) (have_region a.rows b.rows r a.width a.height b.width b.height ra rb z c)
 
-pub gives_band : (f : List ℕ → ℕ) (a : Screen) (g : ℕ) (b : List (List CellValue)) (y z n : ℕ) (l : List ChangeValue) → AreRows a.width a.height a.rows → AreRows a.width g b →
-    IsInside (band a.width y z n) a.width a.height a.width g → IsDiff f a (f ≡ f) (need a.rows b (band a.width y z n)) l →
-    ((i : ℕ) → i < n → row_at (replay f a l).rows (y + i) ≡ row_at b (z + i)) × ((j : ℕ) → (j < y) ⊎ (y + n ≤ j) → row_at (replay f a l).rows j ≡ row_at a.rows j)
+pub gives_band : DiffGivesBand
 gives_band f a g b y z n l ra rb i d =
     let e = (d.exact refl).rows in (
       (λ k m. ap (λ t. row_at t (y + k)) e ∙ band_rows a.width a.height g a.rows b y z n ra rb i k m),

@@ -7,40 +7,37 @@ use Rattle.termwiz_line.specs.Row.{IsRow, is_hidden, paint}
 use Rattle.termwiz_cell.specs.CellValue.{CellValue, blank, half, is_wide, cell_eq, cell_eq-Decides}
 use Rattle.termwiz_storage.specs.Stored.{stored}
 use Rattle.termwiz_surface.specs.Diff.{shows, row_need}
-use Rattle.termwiz_line.specs.Shows.{Shows}
 use Rattle.termwiz_surface.specs.DiffRegions.{IsIn, NoneCrosses, BothEnd, CrossesNone, HasRegion}
 use Rattle.termwiz_line.proofs.RowPainting.{length-paint, paint_here, paint_second, paint_other}
+use Rattle.termwiz_line.proofs.RowShows.{hidden_at, wide_shows}
 use Rattle.termwiz_line.proofs.RowVisible.{paint_all, hidden_narrow}
 
 -- what the walk over a region needs of its edges
-pub record EdgesFree (v w : ℕ) (a : List CellValue) (p : ℕ) (b : List CellValue) (q n : ℕ) : Type 0 where
+record EdgesFree (v w : ℕ) (a : List CellValue) (p : ℕ) (b : List CellValue) (q n : ℕ) : Type 0 where
   pub own_start : is_hidden a p ≡ false
   pub other_start : is_hidden b q ≡ false
   pub ends : ((is_hidden a (p + n) ≡ false) × (is_hidden b (q + n) ≡ false)) ⊎ ((p + n ≡ v) × (q + n ≡ w))
 
 -- how far the region's walk has settled
-abbrev pub span : List CellValue → ℕ → ℕ → ℕ
+abbrev span : List CellValue → ℕ → ℕ → ℕ
 span b q k = cond (is_hidden b (q + k)) (suc k) k
 
-pub record RegionUpto (v : ℕ) (a : List CellValue) (p : ℕ) (b : List CellValue) (q k : ℕ) (s : List CellValue) : Type 0 where
+record RegionUpto (v : ℕ) (a : List CellValue) (p : ℕ) (b : List CellValue) (q k : ℕ) (s : List CellValue) : Type 0 where
   pub width : length s ≡ v
   pub inside : (i : ℕ) → i < span b q k → stored s (p + i) ≡ stored b (q + i)
   pub outside : (j : ℕ) → (j < p) ⊎ (p + span b q k ≤ j) → stored s j ≡ stored a j
 
-pub hidden_at : (r : List CellValue) (j k : ℕ) → suc j ≡ k → is_hidden r k ≡ is_wide (stored r j)
-hidden_at r j k e = ap (is_hidden r) (sym e)
-
-pub span_hidden : (b : List CellValue) (q k : ℕ) → is_hidden b (q + k) ≡ true → span b q k ≡ suc k
+span_hidden : (b : List CellValue) (q k : ℕ) → is_hidden b (q + k) ≡ true → span b q k ≡ suc k
 span_hidden b q k h = rw h
 
-pub span_visible : (b : List CellValue) (q k : ℕ) → is_hidden b (q + k) ≡ false → span b q k ≡ k
+span_visible : (b : List CellValue) (q k : ℕ) → is_hidden b (q + k) ≡ false → span b q k ≡ k
 span_visible b q k h = rw h
 
 -- the next span, by the cell that stands here
-pub span_wide : (b : List CellValue) (q k : ℕ) → is_wide (stored b (q + k)) ≡ true → span b q (suc k) ≡ suc (suc k)
+span_wide : (b : List CellValue) (q k : ℕ) → is_wide (stored b (q + k)) ≡ true → span b q (suc k) ≡ suc (suc k)
 span_wide b q k h = span_hidden b q (suc k) (hidden_at b (q + k) (q + suc k) (omega arith) ∙ h)
 
-pub span_narrow : (b : List CellValue) (q k : ℕ) → is_wide (stored b (q + k)) ≡ false → span b q (suc k) ≡ suc k
+span_narrow : (b : List CellValue) (q k : ℕ) → is_wide (stored b (q + k)) ≡ false → span b q (suc k) ≡ suc k
 span_narrow b q k h = span_visible b q (suc k) (hidden_at b (q + k) (q + suc k) (omega arith) ∙ h)
 
 -- what a shows at k is its cell there
@@ -52,7 +49,7 @@ get_past : (r : List CellValue) (u j : ℕ) → length r ≡ u → u ≤ j → s
 get_past r u j x y = get_or_past r j blank (omega arith)
 
 -- what stands after a wide cell of the region is fixed by it, in a and in b
-pub region_next : (v w : ℕ) (a : List CellValue) (p : ℕ) (b : List CellValue) (q n k : ℕ) → IsRow v a → IsRow w b → p + n ≤ v → q + n ≤ w → EdgesFree v w a p b q n → k < n →
+region_next : (v w : ℕ) (a : List CellValue) (p : ℕ) (b : List CellValue) (q n k : ℕ) → IsRow v a → IsRow w b → p + n ≤ v → q + n ≤ w → EdgesFree v w a p b q n → k < n →
     stored a (p + k) ≡ stored b (q + k) → is_wide (stored b (q + k)) ≡ true → stored a (p + suc k) ≡ stored b (q + suc k)
 region_next v w a p b q n k ra rb la lb cr l e h = elim (cases_lt (suc k) n) [
   | inl m ↦ inner m
@@ -73,7 +70,7 @@ region_next v w a p b q n k ra rb la lb cr l e h = elim (cases_lt (suc k) n) [
     last o (inl f) = absurd (false≢true (sym f.1 ∙ hidden_at b (q + k) (q + n) (omega (arith, o)) ∙ h))
     last o (inr f) = get_past a v (p + suc k) ra.width (omega (arith, o, f.0)) ∙ sym (get_past b w (q + suc k) rb.width (omega (arith, o, f.1)))
 
-pub region_hidden : (v w : ℕ) (a : List CellValue) (p : ℕ) (b : List CellValue) (q k : ℕ) (s : List CellValue) → IsRow w b → q + k < w → is_hidden b (q + k) ≡ true → RegionUpto v a p b q k s → RegionUpto v a p b q (suc k) s
+region_hidden : (v w : ℕ) (a : List CellValue) (p : ℕ) (b : List CellValue) (q k : ℕ) (s : List CellValue) → IsRow w b → q + k < w → is_hidden b (q + k) ≡ true → RegionUpto v a p b q k s → RegionUpto v a p b q (suc k) s
 region_hidden v w a p b q k s rb l h i =
     record { width = i.width; inside = λ j m. i.inside j (omega (arith, e, f)); outside = λ j m. i.outside j (side j m) }
   where
@@ -87,7 +84,7 @@ region_hidden v w a p b q k s rb l h i =
     side j (inl m) = inl m
     side j (inr m) = inr (omega (arith, e, f))
 
-pub region_shown : (v w : ℕ) (a : List CellValue) (p : ℕ) (b : List CellValue) (q n k : ℕ) (s : List CellValue) → IsRow v a → IsRow w b → p + n ≤ v → q + n ≤ w → EdgesFree v w a p b q n → k < n →
+region_shown : (v w : ℕ) (a : List CellValue) (p : ℕ) (b : List CellValue) (q n k : ℕ) (s : List CellValue) → IsRow v a → IsRow w b → p + n ≤ v → q + n ≤ w → EdgesFree v w a p b q n → k < n →
     is_hidden b (q + k) ≡ false → stored a (p + k) ≡ stored b (q + k) → RegionUpto v a p b q k s → RegionUpto v a p b q (suc k) s
 region_shown v w a p b q n k s ra rb la lb cr l h e i =
     record { width = i.width; inside = λ j m. left j m (cases_order j k); outside = λ j m. i.outside j (side j m (cases_Bool (is_wide (stored b (q + k))))) }
@@ -111,7 +108,7 @@ region_shown v w a p b q n k s ra rb la lb cr l h e i =
     left j m (inr (inl o)) = i.inside j (omega (arith, c))
     left j m (inr (inr o)) = second j m o (cases_Bool (is_wide (stored b (q + k))))
 
-pub region_painted : (v w : ℕ) (a : List CellValue) (p : ℕ) (b : List CellValue) (q n k : ℕ) (s : List CellValue) → IsRow v a → IsRow w b → p + n ≤ v → q + n ≤ w → EdgesFree v w a p b q n → k < n →
+region_painted : (v w : ℕ) (a : List CellValue) (p : ℕ) (b : List CellValue) (q n k : ℕ) (s : List CellValue) → IsRow v a → IsRow w b → p + n ≤ v → q + n ≤ w → EdgesFree v w a p b q n → k < n →
     is_hidden b (q + k) ≡ false → RegionUpto v a p b q k s → RegionUpto v a p b q (suc k) (paint s (p + k) (stored b (q + k)))
 region_painted v w a p b q n k s ra rb la lb cr l h i =
     record {
@@ -159,7 +156,7 @@ region_painted v w a p b q n k s ra rb la lb cr l h i =
     right j (inr m) (inr t) = paint_other s (p + k) (stored b (q + k)) j (omega (arith, span_narrow b q k t)) (λ x. t) (λ x. absurd (omega (arith, span_narrow b q k t)))
         ∙ i.outside j (inr (omega (arith, c, span_narrow b q k t)))
 
-pub region_upto : (v w : ℕ) (a : List CellValue) (p : ℕ) (b : List CellValue) (q n : ℕ) → IsRow v a → IsRow w b → p + n ≤ v → q + n ≤ w → EdgesFree v w a p b q n →
+region_upto : (v w : ℕ) (a : List CellValue) (p : ℕ) (b : List CellValue) (q n : ℕ) → IsRow v a → IsRow w b → p + n ≤ v → q + n ≤ w → EdgesFree v w a p b q n →
     (k : ℕ) → k ≤ n → RegionUpto v a p b q k (paint_all a (row_need a p b q k))
 region_upto v w a p b q n ra rb la lb cr zero l =
     let e : span b q 0 ≡ 0 = span_visible b q 0 (ap (is_hidden b) (add-zero q) ∙ cr.other_start) in
@@ -179,7 +176,7 @@ region_upto v w a p b q n ra rb la lb cr (suc k) l = step (region_upto v w a p b
       ]
     ]
 
-pub region_gives : (v w : ℕ) (a : List CellValue) (p : ℕ) (b : List CellValue) (q n : ℕ) → IsRow v a → IsRow w b → p + n ≤ v → q + n ≤ w → EdgesFree v w a p b q n → HasRegion v (paint_all a (row_need a p b q n)) a p b q n
+region_gives : (v w : ℕ) (a : List CellValue) (p : ℕ) (b : List CellValue) (q n : ℕ) → IsRow v a → IsRow w b → p + n ≤ v → q + n ≤ w → EdgesFree v w a p b q n → HasRegion v (paint_all a (row_need a p b q n)) a p b q n
 region_gives v w a p b q n ra rb la lb cr = from (region_upto v w a p b q n ra rb la lb cr n (le_refl n))
   where
     from : RegionUpto v a p b q n (paint_all a (row_need a p b q n)) → HasRegion v (paint_all a (row_need a p b q n)) a p b q n
@@ -224,14 +221,6 @@ region_gives v w a p b q n ra rb la lb cr = from (region_upto v w a p b q n ra r
                   ∙ sym (hidden_at b (q + (n - 1)) (q + n) (omega arith)) ∙ f.1 ∙ sym f.0 ∙ ap (is_hidden a) (sym e))
             ]
 
--- a wide cell is visible
-wide_shows : (w : ℕ) (r : List CellValue) (k : ℕ) → IsRow w r → k < w → is_wide (stored r k) ≡ true → Shows w r k (stored r k)
-wide_shows w r k z l h = record {
-  inside = l;
-  visible = elim (cases_Bool (is_hidden r k)) [ inr f ↦ f | inl t ↦ absurd (false≢true (sym (hidden_narrow w r k z l t) ∙ h)) ];
-  same = refl;
-}
-
 -- no wide cell crosses the first edge, nor the last one
 start_free : (v : ℕ) (a : List CellValue) (p n : ℕ) (Cut : Type 0) → IsRow v a → 0 < n → p + n ≤ v → NoneCrosses v a p n Cut → is_hidden a p ≡ false
 start_free v a zero n Cut z s l c = refl
@@ -254,7 +243,7 @@ end_free v a p n Cut z s l c not_cut = elim (cases_Bool (is_wide (stored a (p + 
     go (inl e) = let i : IsIn p n (suc (p + (n - 1))) = e.0 (record { from = omega arith; before = omega arith }) in omega (arith, i.before)
     go (inr e) = not_cut e.1
 
-pub edges_free : (v w : ℕ) (a : List CellValue) (p : ℕ) (b : List CellValue) (q n : ℕ) → IsRow v a → IsRow w b → 0 < n → p + n ≤ v → q + n ≤ w → CrossesNone v w a p b q n → EdgesFree v w a p b q n
+edges_free : (v w : ℕ) (a : List CellValue) (p : ℕ) (b : List CellValue) (q n : ℕ) → IsRow v a → IsRow w b → 0 < n → p + n ≤ v → q + n ≤ w → CrossesNone v w a p b q n → EdgesFree v w a p b q n
 edges_free v w a p b q n ra rb s la lb c = record {
   own_start = start_free v a p n (BothEnd v w p q n) ra s la c.own;
   other_start = start_free w b q n (BothEnd v w p q n) rb s lb c.other;

@@ -9,19 +9,19 @@ use Rattle.termwiz_line.specs.Row.{is_hidden, paint}
 use Rattle.termwiz_surface.specs.Screen.{row_at}
 use Rattle.termwiz_surface.specs.Prints.{Print, print_on, print_all}
 use Rattle.termwiz_surface.specs.Printable.{IsPrintableRow}
-use Rattle.termwiz_surface.specs.Diff.{shows, row_need, Region, fitting, cut, in_row, need_upto, need, whole, band}
-use Rattle.termwiz_surface.specs.DiffLaws.{CanPrint}
+use Rattle.termwiz_surface.specs.Diff.{shows, row_need, Region, fitting, in_row, need_upto, need, whole, band}
+use Rattle.termwiz_surface.specs.DiffLaws.{CanPrint, CutIsInside}
 use Rattle.termwiz_surface.specs.DiffRegions.{IsIn, BothEnd, CrossesNone, HasRegion, AreRows, IsInside, CrossNone, HaveRegion}
 use Rattle.termwiz_line.proofs.RowPainting.{length-paint}
 use Rattle.termwiz_line.proofs.RowVisible.{paint_all}
 use Rattle.termwiz_surface.proofs.DiffRows.{row_region}
 
-pub length_paints : (s : List CellValue) (ps : List (ℕ × CellValue)) → length (paint_all s ps) ≡ length s
+length_paints : (s : List CellValue) (ps : List (ℕ × CellValue)) → length (paint_all s ps) ≡ length s
 length_paints s [] = refl
 length_paints s (p ∷ ps) = length_paints (paint s p.0 p.1) ps ∙ length-paint s p.0 p.1
 
 -- prints in one row
-pub row_prints : (i : ℕ) (ps : List (ℕ × CellValue)) (s : List (List CellValue)) → i < length s → print_all s (map (in_row i) ps) ≡ set s i (paint_all (row_at s i) ps)
+row_prints : (i : ℕ) (ps : List (ℕ × CellValue)) (s : List (List CellValue)) → i < length s → print_all s (map (in_row i) ps) ≡ set s i (paint_all (row_at s i) ps)
 row_prints i [] s l = sym (set-get_or s i [])
 row_prints i (p ∷ ps) s l =
     let again : i < length (set s i (paint (row_at s i) p.0 p.1)) = omega (arith, length-set s i (paint (row_at s i) p.0 p.1)) in
@@ -31,16 +31,16 @@ row_prints i (p ∷ ps) s l =
 
 module _ (a b : List (List CellValue)) (r : Region) where
   -- the cells that row i of the region needs
-  abbrev pub row_i : ℕ → List (ℕ × CellValue)
+  abbrev row_i : ℕ → List (ℕ × CellValue)
   row_i i = row_need (row_at a (r.y + i)) r.x (row_at b (r.other_y + i)) r.other_x r.width
 
   -- the region's rows above its row i are painted, and all others are a's
-  pub record PaintedUpto (i : ℕ) (t : List (List CellValue)) : Type 0 where
+  record PaintedUpto (i : ℕ) (t : List (List CellValue)) : Type 0 where
     pub full : length t ≡ length a
     pub done : (k : ℕ) → k < i → row_at t (r.y + k) ≡ paint_all (row_at a (r.y + k)) (row_i k)
     pub rest : (j : ℕ) → (j < r.y) ⊎ (r.y + i ≤ j) → row_at t j ≡ row_at a j
 
-  pub painted_upto : ((k : ℕ) → k < r.height → r.y + k < length a) → (i : ℕ) → i ≤ r.height → PaintedUpto i (print_all a (need_upto a b r i))
+  painted_upto : ((k : ℕ) → k < r.height → r.y + k < length a) → (i : ℕ) → i ≤ r.height → PaintedUpto i (print_all a (need_upto a b r i))
   painted_upto inside zero l = record { full = refl; done = λ k m. absurd (omega arith); rest = λ j m. refl }
   painted_upto inside (suc i) l =
       subst (PaintedUpto (suc i)) (sym together) (next (painted_upto inside i (omega arith)))
@@ -94,7 +94,7 @@ uncut w r k l = elim (cases_lt (suc k) w) [
   | inr m ↦ inr (omega arith, record { own = omega arith; other = omega arith })
 ]
 
-pub whole_crosses : (w : ℕ) (a b : List CellValue) → CrossesNone w w a 0 b 0 w
+whole_crosses : (w : ℕ) (a b : List CellValue) → CrossesNone w w a 0 b 0 w
 whole_crosses w a b = record { own = record { none = λ k y s h. uncut w a k s.inside }; other = record { none = λ k y s h. uncut w b k s.inside } }
 
 -- rows of the region that are as wide as both screens become the other's
@@ -102,7 +102,7 @@ module _ (w h g : ℕ) (a b : List (List CellValue)) (y z n : ℕ) (ra : AreRows
   own_inside : (k : ℕ) → k < n → y + k < length a
   own_inside k l = omega (arith, ra.full, inside.own_rows k l)
 
-  pub band_full : length (print_all a (need a b (band w y z n))) ≡ h
+  band_full : length (print_all a (need a b (band w y z n))) ≡ h
   band_full = (painted_upto a b (band w y z n) own_inside n (le_refl n)).full ∙ ra.full
 
   pub band_outside : (j : ℕ) → (j < y) ⊎ (y + n ≤ j) → row_at (print_all a (need a b (band w y z n))) j ≡ row_at a j
@@ -119,10 +119,13 @@ module _ (w h g : ℕ) (a b : List (List CellValue)) (y z n : ℕ) (ra : AreRows
           ext_get_or blank t (row_at b (z + i)) (e ∙ sym (rb.each (z + i) (inside.other_rows i l)).width)
           (λ k v. ap (stored t) (sym (zero-add k)) ∙ ((q.inside i l).inside k (omega (arith, e))).0 ∙ ap (stored (row_at b (z + i))) (zero-add k))
 
+pub band_inside : (w h g y z n : ℕ) → ((k : ℕ) → k < n → y + k < h) → ((k : ℕ) → k < n → z + k < g) → IsInside (band w y z n) w h w g
+band_inside w h g y z n own other = record { own_columns = λ k l. omega arith; own_rows = own; other_columns = λ k l. omega arith; other_rows = other }
+
 -- two screens of one size
 pub whole_gives : (w h : ℕ) (a b : List (List CellValue)) → AreRows w h a → AreRows w h b → print_all a (need a b (whole w h)) ≡ b
 whole_gives w h a b ra rb =
-    let inside : IsInside (whole w h) w h w h = record { own_columns = λ k l. omega arith; own_rows = λ k l. omega arith; other_columns = λ k l. omega arith; other_rows = λ k l. omega arith } in
+    let inside : IsInside (whole w h) w h w h = band_inside w h h 0 0 h (λ k l. omega arith) (λ k l. omega arith) in
     let full = band_full w h h a b 0 0 h ra rb inside in
     ext_get_or [] (print_all a (need a b (whole w h))) b (full ∙ sym rb.full)
     (λ k l. ap (row_at (print_all a (need a b (whole w h)))) (sym (zero-add k)) ∙ band_rows w h h a b 0 0 h ra rb inside k (omega (arith, full)) ∙ ap (row_at b) (zero-add k))
@@ -177,7 +180,7 @@ need_printable f v h w g a b r z q (suc i) l =
 fits : (n v p w q k : ℕ) → k < fitting n v p w q → (p + k < v) × (q + k < w)
 fits n v p w q k l = (omega arith, omega arith)
 
-pub cut_inside : (r : Region) (v h w g : ℕ) → IsInside (cut r v h w g) v h w g
+pub cut_inside : CutIsInside
 cut_inside r v h w g = record {
   own_columns = λ k l. (fits r.width v r.x w r.other_x k l).0;
   own_rows = λ k l. (fits r.height h r.y g r.other_y k l).0;

@@ -22,7 +22,7 @@ use Rattle.termwiz_surface.proofs.EntryTexts.{replay_text, replay_pen, print_cel
 use Rattle.termwiz_surface.proofs.RepaintLength.{length_optional, length-add_text}
 
 module _ (f : List ℕ → ℕ) where
-  pub printed-append : (s : Screen) (es fs : List ChangeValue) → printed f s (es ++ fs) ≡ printed f s es ++ printed f (replay f s es) fs
+  printed-append : (s : Screen) (es fs : List ChangeValue) → printed f s (es ++ fs) ≡ printed f s es ++ printed f (replay f s es) fs
   printed-append s [] fs = refl
   printed-append s (e ∷ es) fs = ap (λ l. step_prints f s e ++ l) (printed-append (step f s e) es fs) ∙ sym (append_assoc (step_prints f s e) (printed f (step f s e) es) _)
 
@@ -68,14 +68,14 @@ module _ (f : List ℕ → ℕ) where
       ∙ append-nil (printed f s d.entries)
 
 -- what is known of the screen after the last print
-pub data Knows (w h : ℕ) : Option End → Screen → Type 0 where
+data Knows (w h : ℕ) : Option End → Screen → Type 0 where
   Anywhere : (s : Screen) → s.width ≡ w → s.height ≡ h → Knows w h None s
   After : (q : End) (s : Screen) → s.width ≡ w → s.height ≡ h → s.x ≡ min q.x w → s.y ≡ q.y → s.pen ≡ q.pen → Knows w h (Some q) s
 
-abbrev pub at_print : Screen → Print → Screen
+abbrev at_print : Screen → Print → Screen
 at_print s p = record s { x = p.column; y = p.row; pen = p.cell.attrs }
 
-abbrev pub after_print : Screen → Print → Screen
+abbrev after_print : Screen → Print → Screen
 after_print s p = record s { rows = print_on s.rows p; x = min (p.column + columns p.cell) s.width; y = p.row; pen = p.cell.attrs }
 
 module _ (f : List ℕ → ℕ) (w h : ℕ) where
@@ -115,13 +115,13 @@ module _ (f : List ℕ → ℕ) (w h : ℕ) where
       ∙ ap (λ t. replay f t (pen_to d.end p)) (fold-append (step f) s d.entries (move_to d.end p))
       ∙ replay_to d.end (replay f s d.entries) p k lr lc
 
-  pub replay_out : (s : Screen) (d : Drawn) (p : Print) → Knows w h d.end (replay f s d.entries) → p.row < h → p.column < w → IsMeasured f p.cell → replay f s (print_out d p).entries ≡ after_print (replay f s d.entries) p
+  replay_out : (s : Screen) (d : Drawn) (p : Print) → Knows w h d.end (replay f s d.entries) → p.row < h → p.column < w → IsMeasured f p.cell → replay f s (print_out d p).entries ≡ after_print (replay f s d.entries) p
   replay_out s d p k lr lc m =
       replay_text f ((d.entries ++ move_to d.end p) ++ pen_to d.end p) s p.cell.text m.alone
       ∙ ap (λ t. print_one f t p.cell.text) (before s d p k lr lc)
       ∙ print_cell f (at_print (replay f s d.entries) p) p.cell (omega (arith, (size_of k).0)) m
 
-  pub printed_out : (s : Screen) (d : Drawn) (p : Print) → Knows w h d.end (replay f s d.entries) → p.row < h → p.column < w → IsMeasured f p.cell → printed f s (print_out d p).entries ≡ printed f s d.entries ++ p ∷ []
+  printed_out : (s : Screen) (d : Drawn) (p : Print) → Knows w h d.end (replay f s d.entries) → p.row < h → p.column < w → IsMeasured f p.cell → printed f s (print_out d p).entries ≡ printed f s d.entries ++ p ∷ []
   printed_out s d p k lr lc m =
       printed_text f ((d.entries ++ move_to d.end p) ++ pen_to d.end p) s p.cell.text m.alone
       ∙ ap₂ (λ a b. a ++ b) (printed_before f s d p) here
@@ -135,7 +135,7 @@ module _ (f : List ℕ → ℕ) (w h : ℕ) where
       here : piece_prints (replay f s ((d.entries ++ move_to d.end p) ++ pen_to d.end p)) (piece_of f (replay f s ((d.entries ++ move_to d.end p) ++ pen_to d.end p)).pen p.cell.text) ≡ p ∷ []
       here = ap (λ t. piece_prints t (piece_of f t.pen p.cell.text)) (before s d p k lr lc) ∙ one (replay f s d.entries) (omega (arith, (size_of k).0))
 
-  pub knows_out : (s : Screen) (d : Drawn) (p : Print) → Knows w h d.end (replay f s d.entries) → p.row < h → p.column < w → IsMeasured f p.cell → Knows w h (Some (end_of p)) (replay f s (print_out d p).entries)
+  knows_out : (s : Screen) (d : Drawn) (p : Print) → Knows w h d.end (replay f s d.entries) → p.row < h → p.column < w → IsMeasured f p.cell → Knows w h (Some (end_of p)) (replay f s (print_out d p).entries)
   knows_out s d p k lr lc m =
       let z = size_of k in
       subst (Knows w h (Some (end_of p))) (sym (replay_out s d p k lr lc m))
@@ -149,7 +149,7 @@ pub record Printed (s t : Screen) (ps : List Print) : Type 0 where
   pub screen_is : t ≡ record s { rows = print_all s.rows ps; x = x; y = y; pen = pen }
 
 module _ (f : List ℕ → ℕ) (w h : ℕ) (s : Screen) where
-  pub replay_all : (ps : List Print) (d : Drawn) → Knows w h d.end (replay f s d.entries) → CanPrint f w h ps → Printed (replay f s d.entries) (replay f s (fold print_out d ps).entries) ps
+  replay_all : (ps : List Print) (d : Drawn) → Knows w h d.end (replay f s d.entries) → CanPrint f w h ps → Printed (replay f s d.entries) (replay f s (fold print_out d ps).entries) ps
   replay_all [] d k q = record { x = (replay f s d.entries).x; y = (replay f s d.entries).y; pen = (replay f s d.entries).pen; screen_is = refl }
   replay_all (p ∷ ps) d k q = more (replay_all ps (print_out d p) (knows_out f w h s d p k q.0 q.1 q.2) q.3)
     where
@@ -159,7 +159,7 @@ module _ (f : List ℕ → ℕ) (w h : ℕ) (s : Screen) where
       more : Printed (replay f s (print_out d p).entries) (replay f s (fold print_out (print_out d p) ps).entries) ps → Printed (replay f s d.entries) (replay f s (fold print_out (print_out d p) ps).entries) (p ∷ ps)
       more r = record { x = r.x; y = r.y; pen = r.pen; screen_is = r.screen_is ∙ ap (λ (t : Screen). record t { rows = print_all t.rows ps; x = r.x; y = r.y; pen = r.pen }) e }
 
-  pub printed_all : (ps : List Print) (d : Drawn) → Knows w h d.end (replay f s d.entries) → CanPrint f w h ps → printed f s (fold print_out d ps).entries ≡ printed f s d.entries ++ ps
+  printed_all : (ps : List Print) (d : Drawn) → Knows w h d.end (replay f s d.entries) → CanPrint f w h ps → printed f s (fold print_out d ps).entries ≡ printed f s d.entries ++ ps
   printed_all [] d k q = sym (append-nil _)
   printed_all (p ∷ ps) d k q =
       printed_all ps (print_out d p) (knows_out f w h s d p k q.0 q.1 q.2) q.3

@@ -42,3 +42,4 @@ mod DiffLists
 mod Restoring
 mod FewestPrints
 mod Copying
+mod DiffSurfaces

@@ -34,5 +34,12 @@ mod ResizedSize
 mod Following
 mod Viewing
 mod FollowedRuns
+mod DiffRows
+mod DiffScreens
+mod NeedWords
+mod DiffStreams
+mod DiffLists
 mod Restoring
+mod FewestPrints
+mod DiffSurfaces
 mod Copying

@@ -10,6 +10,7 @@ use std::alloc::{AllocError, Global};
 use termwiz_cell::cell::{CellAttributes, Intensity, Underline};
 use termwiz_cell::change::{Change, Position};
 use termwiz_cell::color::{ColorAttribute, RgbColor};
+use termwiz_cell::emoji::UnicodeWidths;
 use termwiz_surface::view::Event;
 
 /// The greatest width and height, in columns and rows.
@@ -54,7 +55,7 @@ impl LineError {
 /// The events of a script. Empty lines and lines that begin with `#` are skipped.
 ///
 /// Lines end with LF. The error names the first line that is no command.
-pub fn events(alloc: Global, script: &str) -> Result<Vec<Event>, ScriptError>
+pub fn events(alloc: Global, script: &str) -> Result<Vec<Event<UnicodeWidths>>, ScriptError>
     ensures { IfOk result (λ events. All IsInRange events.items) }
 {
     let mut events = Vec::new(alloc);
@@ -68,7 +69,7 @@ pub fn events(alloc: Global, script: &str) -> Result<Vec<Event>, ScriptError>
 }
 
 /// The event of a line. Its words are parted by exactly one space.
-fn event(alloc: Global, line: &str) -> Result<Event, LineError>
+fn event(alloc: Global, line: &str) -> Result<Event<UnicodeWidths>, LineError>
     ensures { IfOk result (λ event. IsInRange event) }
 {
     if let Some(text) = line.strip_prefix("text ") {
@@ -95,7 +96,7 @@ fn event(alloc: Global, line: &str) -> Result<Event, LineError>
 }
 
 /// The event of one change, whose list has room for it alone.
-fn changes(alloc: Global, change: Change) -> Result<Event, LineError>
+fn changes(alloc: Global, change: Change) -> Result<Event<UnicodeWidths>, LineError>
     ensures { IfOk result (λ event. IsInRange event) }
 {
     let mut changes = Vec::with_capacity(alloc, 1)?;
@@ -130,7 +131,7 @@ fn scroll_down(first: &str, size: &str, count: &str) -> Result<Change, LineError
 }
 
 /// The event of another size.
-fn resize(width: &str, height: &str) -> Result<Event, LineError>
+fn resize(width: &str, height: &str) -> Result<Event<UnicodeWidths>, LineError>
     ensures { IfOk result (λ event. IsInRange event) }
 {
     let width = size(width).ok_or(LineError::BadCommand)?;

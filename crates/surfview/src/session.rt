@@ -135,7 +135,7 @@ fn dimensions(args: &[String]) -> Option<(usize, usize)>
 }
 
 /// The events of the script that `input` holds.
-fn events<R: Read>(alloc: Global, input: &mut R) -> Result<Vec<Event>, SessionError>
+fn events<R: Read>(alloc: Global, input: &mut R) -> Result<Vec<Event<UnicodeWidths>>, SessionError>
     ensures { IfOk result (λ events. All IsInRange events.items) }
 {
     let bytes = bytes(alloc, input)?;

@@ -44,7 +44,7 @@ module _ {W : Type 0} (f : W → List ℕ → ℕ) (s : SurfaceValue W) (old : V
   lost : (new : ViewerValue W) → IsLost old new → Loses (state_of s old) (state_of s new)
   lost new l = record { given = l.last; own = l.number; surface = record { screen = refl; kept = refl; log = refl } }
 
-  pub Allows-lost : (new : ViewerValue W) (e : SurfaceError) → FollowsTo f s old (Err e) new → Allows (f s.widths) (state_of s old) Follow (Refused e) (state_of s new)
+  pub Allows-lost : (new : ViewerValue W) (e : SurfaceError) → FollowsTo f s old (Err e) new → Allows f (f s.widths) (state_of s old) Follow (Refused e) (state_of s new)
   Allows-lost new ScrollRegion h = h
   Allows-lost new Numbers h = (lost new h.0, room h.1)
   Allows-lost new Memory h = lost new h
@@ -93,5 +93,5 @@ module _ {W : Type 0} (f : W → List ℕ → ℕ) (s : SurfaceValue W) (old : V
     }
 
     pub Allows-followed : (told : Vec Change Global) (screen : code.Screen) → map change_value told.items ≡ cs → screen_value screen ≡ screen_of new.surface
-        → Allows (f s.widths) (state_of s old) Follow (Followed k told screen) (state_of s new)
+        → Allows f (f s.widths) (state_of s old) Follow (Followed k told screen) (state_of s new)
     Allows-followed told screen e is = (accepted.0 ∙ number, rw e (catches (screen_value screen) is))

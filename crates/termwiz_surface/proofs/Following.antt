@@ -1,6 +1,6 @@
 -- A viewer that follows goes on to follow, whatever the surface does.
 use Rattle.std.proofs.Common.{◌≡◌, ℕ, ◌+◌, ◌-◌, ◌≤◌, inl, inr, true, false, List, length, drop, refl, sym, ap, subst, ◌∙◌, arith, length-append, length-drop}
-use Rattle.std.specs.Prelude.{Result, Ok, Err, OnOk, ◌==◌, if◌then◌else◌}
+use Rattle.std.specs.Prelude.{Result, Ok, Err, OnOk, ◌==◌, ◌⊎◌, if◌then◌else◌}
 use Rattle.std.specs.Result.{is_err}
 use Rattle.std.proofs.lemmas.Bool.{cases_Bool, and_parts, eqb-true, true≢false}
 use Rattle.std.proofs.lemmas.Bool.Decides.{nat_tests}
@@ -9,9 +9,11 @@ use Rattle.std.proofs.lemmas.List.{drop-append-le, drop-drop}
 use Rattle.std.proofs.Math.Seq.{drop-length}
 use Rattle.termwiz_cell.specs.ChangeValue.{ChangeValue}
 use Rattle.termwiz_surface.specs.Adding.{Adds, Makes, with_log}
+use Rattle.termwiz_surface.specs.Copies.{AddsDiff, AddsNothing}
 use Rattle.termwiz_surface.specs.Following.{ViewerValue, Leads, Follows, has_size_of, asks_with, IsFitted}
 use Rattle.termwiz_surface.specs.Log.{LogValue, next_number, due, reaches, is_known, worth, appended, flushed, restarted}
 use Rattle.termwiz_surface.specs.Printable.{HasSize}
+use Rattle.termwiz_surface.specs.Prints.{Print}
 use Rattle.termwiz_surface.specs.Resizing.{HasResized, Resizes}
 use Rattle.termwiz_surface.specs.Screen.{Screen}
 use Rattle.termwiz_surface.specs.Step.{step, replay}
@@ -124,6 +126,11 @@ module _ {W : Type 0} (f : W → List ℕ → ℕ) where
   Follows-adds v s t cs told (Err ScrollRegion) h a = subst (Follows f v) (sym a.1) h
   Follows-adds v s t cs told (Err Numbers) h a = subst (Follows f v) (sym a.2) h
   Follows-adds v s t cs told (Err Memory) h a = Follows-restarted v s t h a.3.widths a.3.log
+
+  -- after a drawing or a copy
+  pub Follows-diff : {Same : Type 0} {ps : List Print} {finish : List ChangeValue → List ChangeValue} (v : ViewerValue W) (s t : SurfaceValue W) (result : Result ℕ SurfaceError) → Follows f v s → AddsDiff (f s.widths) Same ps finish s result t ⊎ AddsNothing s result t → Follows f v t
+  Follows-diff {finish = finish} v s t result h (inl d) = Follows-adds v s t (finish d.changes) _ result h d.done
+  Follows-diff v s t result h (inr d) = subst (Follows f v) (sym d.same) h
 
   -- after a resize, whatever was answered
   pub Follows-resizes : (v : ViewerValue W) (s t : SurfaceValue W) (width height : ℕ) (result : Result (Unit {0}) SurfaceError) → Follows f v s → Resizes s width height result t → Follows f v t

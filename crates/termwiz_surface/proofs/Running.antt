@@ -1,10 +1,10 @@
 -- What a surface does is what the schedule allows, and a run goes on by one event.
-use Rattle.std.proofs.Common.{◌≡◌, ℕ, ◌+◌, ◌-◌, List, [], ◌∷◌, ◌++◌, length, map, refl, ap, ◌∙◌, arith, replicate}
-use Rattle.std.specs.Prelude.{Ok, Err, None, Vec, vec_len}
+use Rattle.std.proofs.Common.{◌≡◌, ℕ, ◌+◌, ◌-◌, List, [], ◌∷◌, ◌++◌, length, map, refl, ap, ◌∙◌, arith, replicate, inl, inr}
+use Rattle.std.specs.Prelude.{Result, Ok, Err, None, Vec, vec_len, ◌⊎◌}
 use Rattle.std.specs.declared.alloc.Global.{Global}
 use Rattle.termwiz_cell.specs.Attributes.{default_attributes}
 use Rattle.termwiz_cell.specs.CellValue.{blank}
-use Rattle.termwiz_cell.specs.ChangeValue.{change_value}
+use Rattle.termwiz_cell.specs.ChangeValue.{ChangeValue, change_value}
 use Rattle.termwiz_cell.specs.declared.change.Change.{Change}
 use Rattle.termwiz_cell.specs.declared.change.CursorVisibility.TheVariants.{Visible}
 use Rattle.termwiz_cell.specs.declared.color.ColorAttribute.TheVariants.{Default}
@@ -12,22 +12,25 @@ use Rattle.termwiz_line.specs.LineFlags.{no_flags}
 use Rattle.termwiz_line.specs.Row.{row_of}
 use Rattle.termwiz_surface.specs.SurfaceValue.{SurfaceValue}
 use Rattle.termwiz_surface.specs.Adding.{Adds}
+use Rattle.termwiz_surface.specs.Copies.{AddsDiff, AddsNothing, IsDrawn, IsCopied}
+use Rattle.termwiz_surface.specs.Diff.{restoring}
+use Rattle.termwiz_surface.specs.Prints.{Print}
 use Rattle.termwiz_surface.specs.Following.{ViewerValue, blank_viewer}
 use Rattle.termwiz_surface.specs.Log.{next_number}
-use Rattle.termwiz_surface.specs.Schedule.{State, Allows, Runs, Ended, Next, state_of, first_state, blank_screen}
+use Rattle.termwiz_surface.specs.Schedule.{State, AllowsList, AllowsDiff, AllowsNothing, Allows, Runs, Ended, Next, outcome_of, state_of, first_state, blank_screen}
 use Rattle.termwiz_surface.specs.declared.surface.SurfaceError.{SurfaceError}
 use Rattle.termwiz_surface.specs.declared.surface.SurfaceError.TheVariants.{ScrollRegion, Numbers, Memory}
 use Rattle.termwiz_surface.specs.declared.view.Event.{Event}
-use Rattle.termwiz_surface.specs.declared.view.Event.TheVariants.{Changes}
+use Rattle.termwiz_surface.specs.declared.view.Event.TheVariants.{Changes, Draw, Copy}
 use Rattle.termwiz_surface.specs.declared.view.Outcome.{Outcome}
-use Rattle.termwiz_surface.specs.declared.view.Outcome.TheVariants.{Answered, Refused}
 use Rattle.termwiz_line.proofs.StoredRows.{row_blank}
+use Rattle.termwiz_surface.proofs.Copying.{Adds-values}
 use Rattle.termwiz_surface.proofs.Regions.{map-replicate}
 use Rattle.termwiz_surface.proofs.SoundRepaint.{sound_has_size, sound_is_printable}
-use Rattle.std.proofs.lemmas.List.{length-map, length-replicate}
+use Rattle.std.proofs.lemmas.List.{length-replicate}
 
-pub Runs-push : {measure : List ℕ → ℕ} {a b : State} {events : List Event} {outcomes : List Outcome} (event : Event) (outcome : Outcome) (c : State)
-    → Runs measure a events outcomes b → Allows measure b event outcome c → Runs measure a (events ++ event ∷ []) (outcomes ++ outcome ∷ []) c
+pub Runs-push : {W : Type 0} {measure_of : W → List ℕ → ℕ} {measure : List ℕ → ℕ} {a b : State} {events : List (Event W)} {outcomes : List Outcome} (event : Event W) (outcome : Outcome) (c : State)
+    → Runs measure_of measure a events outcomes b → Allows measure_of measure b event outcome c → Runs measure_of measure a (events ++ event ∷ []) (outcomes ++ outcome ∷ []) c
 Runs-push event outcome c (Ended s) h = Next s c c event outcome [] [] h (Ended c)
 Runs-push event outcome c (Next old mid new e o es os k r) h = Next old mid c e o (es ++ event ∷ []) (os ++ outcome ∷ []) k (Runs-push event outcome c r h)
 
@@ -50,27 +53,18 @@ module _ {W : Type 0} where
   }
 
   -- a list is answered as the schedule says
-  pub Allows-answered : (measure : List ℕ → ℕ) (old new : SurfaceValue W) (v : ViewerValue W) (changes : Vec Change Global) (n : ℕ)
-      → Adds measure old (map change_value changes.items) (next_number old.log - 1 + vec_len changes) (Ok n) new → Allows measure (state_of old v) (Changes changes) (Answered n) (state_of new v)
-  Allows-answered measure old new v changes n h =
-      let count : length (map change_value changes.items) ≡ length changes.items = length-map changes.items change_value in
-      (h.0, omega (arith, h.1), h.2 ∙ ap (λ k. next_number old.log - 1 + k) changes.ok.0, record { screen = h.3.screen_is; kept = h.3.kept_is; log = h.3.log; viewer = record { given = refl; shown = refl; own = refl } })
-
-  -- a refused list is refused as the schedule says
-  pub Allows-refused : (measure : List ℕ → ℕ) (old new : SurfaceValue W) (v : ViewerValue W) (changes : Vec Change Global) (answer : ℕ) (e : SurfaceError)
-      → Adds measure old (map change_value changes.items) answer (Err e) new → Allows measure (state_of old v) (Changes changes) (Refused e) (state_of new v)
-  Allows-refused measure old new v changes answer ScrollRegion h = (h.0, ap (λ t. state_of t v) h.1)
-  Allows-refused measure old new v changes answer Numbers h =
-      let count : length (map change_value changes.items) ≡ length changes.items = length-map changes.items change_value in
-      (h.0, omega (arith, h.1), ap (λ t. state_of t v) h.2)
-  Allows-refused measure old new v changes answer Memory h =
-      let count : length (map change_value changes.items) ≡ length changes.items = length-map changes.items change_value in
+  pub Allows-list : (measure : List ℕ → ℕ) (old new : SurfaceValue W) (v : ViewerValue W) (changes : List ChangeValue) (result : Result ℕ SurfaceError)
+      → Adds measure old changes (next_number old.log - 1 + length changes) result new → AllowsList measure (state_of old v) changes (outcome_of result) (state_of new v)
+  Allows-list measure old new v changes (Ok n) h = (h.0, h.1, h.2, record { screen = h.3.screen_is; kept = h.3.kept_is; log = h.3.log; viewer = record { given = refl; shown = refl; own = refl } })
+  Allows-list measure old new v changes (Err ScrollRegion) h = (h.0, ap (λ t. state_of t v) h.1)
+  Allows-list measure old new v changes (Err Numbers) h = (h.0, h.1, ap (λ t. state_of t v) h.2)
+  Allows-list measure old new v changes (Err Memory) h =
       let frame = h.3 in
       let sound = h.4 in
       let form = sound_has_size measure new sound in (
         h.0,
-        omega (arith, h.1),
-        omega (arith, h.2),
+        h.1,
+        h.2,
         record {
           size = record {
             width = form.width ∙ frame.width;
@@ -87,3 +81,19 @@ module _ {W : Type 0} where
           viewer = record { given = refl; shown = refl; own = refl };
         },
       )
+
+  module _ (measure_of : W → List ℕ → ℕ) (old new : SurfaceValue W) (v : ViewerValue W) (result : Result ℕ SurfaceError) where
+    pub Allows-changes : (changes : Vec Change Global) → Adds (measure_of old.widths) old (map change_value changes.items) (next_number old.log - 1 + vec_len changes) result new
+        → Allows measure_of (measure_of old.widths) (state_of old v) (Changes changes) (outcome_of result) (state_of new v)
+    Allows-changes changes h = Allows-list (measure_of old.widths) old new v (map change_value changes.items) result (Adds-values (measure_of old.widths) old new changes (map change_value changes.items) result refl h)
+
+    Allows-diff : (Same : Type 0) (ps : List Print) (finish : List ChangeValue → List ChangeValue) → AddsDiff (measure_of old.widths) Same ps finish old result new ⊎ AddsNothing old result new
+        → let f = measure_of old.widths in AllowsDiff f Same ps finish (state_of old v) (outcome_of result) (state_of new v) ⊎ AllowsNothing (state_of old v) (outcome_of result) (state_of new v)
+    Allows-diff Same ps finish (inl d) = inl (record { changes = d.changes; is_diff = d.is_diff; done = Allows-list (measure_of old.widths) old new v (finish d.changes) result d.done })
+    Allows-diff Same ps finish (inr d) = inr (record { refused = ap outcome_of d.refused; same = ap (λ t. state_of t v) d.same })
+
+    pub Allows-drawn : (other : SurfaceValue W) (x y : ℕ) → IsDrawn measure_of old other x y result new → Allows measure_of (measure_of old.widths) (state_of old v) (Draw other x y) (outcome_of result) (state_of new v)
+    Allows-drawn other x y = Allows-diff _ _ (restoring old.x old.y old.pen)
+
+    pub Allows-copied : (from_x from_y w h x y : ℕ) → IsCopied measure_of old from_x from_y w h x y result new → Allows measure_of (measure_of old.widths) (state_of old v) (Copy from_x from_y w h x y) (outcome_of result) (state_of new v)
+    Allows-copied from_x from_y w h x y = Allows-diff _ _ (λ l. l)

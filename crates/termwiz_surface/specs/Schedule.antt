@@ -1,6 +1,6 @@
 -- Which outcomes a list of events may have: a state, what each event may answer and leave, and whole runs.
 use Rattle.std.specs.Bool.{⊤}
-use Rattle.std.specs.Prelude.{◌≡◌, ◌⊎◌, true, false, if◌then◌else◌, ℕ, ◌+◌, ◌-◌, ◌*◌, ◌^◌, ◌<◌, ◌≤◌, List, [], ◌∷◌, length, map, replicate, string_bytes, None}
+use Rattle.std.specs.Prelude.{◌≡◌, ◌⊎◌, true, false, if◌then◌else◌, ℕ, ◌+◌, ◌-◌, ◌*◌, ◌^◌, ◌<◌, ◌≤◌, List, [], ◌∷◌, length, map, replicate, string_bytes, None, Result, Ok, Err}
 use Rattle.termwiz_cell.specs.Attributes.{default_attributes}
 use Rattle.termwiz_cell.specs.CellValue.{CellValue, blank}
 use Rattle.termwiz_cell.specs.ChangeValue.{ChangeValue, change_value}
@@ -16,12 +16,17 @@ use Rattle.termwiz_surface.specs.ShownChars.{shown_chars}
 use Rattle.termwiz_surface.specs.Following.{ViewerValue}
 use Rattle.termwiz_surface.specs.ScreenValue.{screen_value}
 use Rattle.termwiz_surface.specs.SurfaceValue.{SurfaceValue, IsStored, screen_of, kept_of}
+use Rattle.termwiz_surface.specs.Prints.{Print}
+use Rattle.termwiz_surface.specs.Diff.{need, restoring}
+use Rattle.termwiz_surface.specs.DiffLists.{IsDiff}
+use Rattle.termwiz_surface.specs.Copies.{drawn_region, copied_region}
 use Rattle.termwiz_surface.specs.Kept.{Kept}
 use Rattle.termwiz_line.specs.LineFlags.{no_flags}
 use Rattle.termwiz_cell.specs.declared.color.ColorAttribute.TheVariants.{Default}
+use Rattle.termwiz_surface.specs.declared.surface.SurfaceError.{SurfaceError}
 use Rattle.termwiz_surface.specs.declared.surface.SurfaceError.TheVariants.{ScrollRegion, Numbers, Memory}
 use Rattle.termwiz_surface.specs.declared.view.Event.{Event}
-use Rattle.termwiz_surface.specs.declared.view.Event.TheVariants.{Changes, Flush, Resize, Follow, Show, Ask}
+use Rattle.termwiz_surface.specs.declared.view.Event.TheVariants.{Changes, Draw, Copy, Flush, Resize, Follow, Show, Ask}
 use Rattle.termwiz_surface.specs.declared.view.Outcome.{Outcome}
 use Rattle.termwiz_surface.specs.declared.view.Outcome.TheVariants.{Answered, Done, Refused, Followed, Shown, Asked}
 
@@ -65,7 +70,7 @@ pub record SameSurface (old new : State) : Type 0 where
   pub log : new.log ≡ old.log
 
 -- the sizes that an event names are those that a surface may have
-abbrev pub IsInRange : Event → Type 0
+abbrev pub IsInRange : {W : Type 0} → Event W → Type 0
 IsInRange (Resize w h) = (0 < w) × (0 < h) × (w < 2 ^ 32) × (h < 2 ^ 32)
 IsInRange _ = ⊤
 
@@ -117,37 +122,61 @@ pub record Loses (old new : State) : Type 0 where
 abbrev pub most_due : State → ℕ
 most_due s = if is_known (worth s.screen.width s.screen.height) s.log s.given then length (due s.log s.given) else 2 * (s.screen.width * s.screen.height) + s.screen.height + 6
 
--- the event may have this outcome, and go over from old to new
-abbrev pub Allows : (List ℕ → ℕ) → State → Event → Outcome → State → Type 0
-Allows measure old (Changes changes) (Answered n) new =
-    (regions_fit old.screen.height (map change_value changes.items) ≡ true) × (next_number old.log + length changes.items < 2 ^ 64) × (n ≡ next_number old.log - 1 + length changes.items) × Does measure (map change_value changes.items) old new
-Allows measure old (Changes changes) (Refused ScrollRegion) new = (regions_fit old.screen.height (map change_value changes.items) ≡ false) × (new ≡ old)
-Allows measure old (Changes changes) (Refused Numbers) new =
-    (regions_fit old.screen.height (map change_value changes.items) ≡ true) × (2 ^ 64 ≤ next_number old.log + length changes.items) × (new ≡ old)
-Allows measure old (Changes changes) (Refused Memory) new =
-    (regions_fit old.screen.height (map change_value changes.items) ≡ true) × (next_number old.log + length changes.items < 2 ^ 64) × (0 < length changes.items) × IsBroken measure old new
-Allows measure old (Flush n) Done new = new ≡ record old { log = flushed old.log n }
-Allows measure old (Resize w h) Done new = (next_number old.log + 1 < 2 ^ 64) × TakesSize w h old new
-Allows measure old (Resize w h) (Refused Numbers) new = (2 ^ 64 ≤ next_number old.log + 1) × (new ≡ old)
-Allows measure old (Resize w h) (Refused Memory) new = (next_number old.log + 1 < 2 ^ 64) × (new ≡ old)
-Allows measure old Show (Shown text cursor) new =
+-- what adding a list of changes answered, as an outcome
+abbrev pub outcome_of : Result ℕ SurfaceError → Outcome
+outcome_of (Ok n) = Answered n
+outcome_of (Err e) = Refused e
+
+-- a list of changes may have this outcome, and go over from old to new
+abbrev pub AllowsList : (List ℕ → ℕ) → State → List ChangeValue → Outcome → State → Type 0
+AllowsList measure old changes (Answered n) new =
+    (regions_fit old.screen.height changes ≡ true) × (next_number old.log + length changes < 2 ^ 64) × (n ≡ next_number old.log - 1 + length changes) × Does measure changes old new
+AllowsList measure old changes (Refused ScrollRegion) new = (regions_fit old.screen.height changes ≡ false) × (new ≡ old)
+AllowsList measure old changes (Refused Numbers) new = (regions_fit old.screen.height changes ≡ true) × (2 ^ 64 ≤ next_number old.log + length changes) × (new ≡ old)
+AllowsList measure old changes (Refused Memory) new = (regions_fit old.screen.height changes ≡ true) × (next_number old.log + length changes < 2 ^ 64) × (0 < length changes) × IsBroken measure old new
+AllowsList measure old changes _ new = ⊥
+
+-- a diff that prints these cells is done as a list, once it is finished
+pub record AllowsDiff (measure : List ℕ → ℕ) (Same : Type 0) (ps : List Print) (finish : List ChangeValue → List ChangeValue) (old : State) (outcome : Outcome) (new : State) : Type 0 where
+  pub changes : List ChangeValue
+  pub is_diff : IsDiff measure old.screen Same ps changes
+  pub done : AllowsList measure old (finish changes) outcome new
+
+-- no memory for the list: nothing has changed
+pub record AllowsNothing (old : State) (outcome : Outcome) (new : State) : Type 0 where
+  pub refused : outcome ≡ Refused Memory
+  pub same : new ≡ old
+
+-- the event may have this outcome, and go over from old to new; width values measure by measure_of, and the surface by measure
+abbrev pub Allows : {W : Type 0} → (W → List ℕ → ℕ) → (List ℕ → ℕ) → State → Event W → Outcome → State → Type 0
+Allows measure_of measure old (Changes changes) outcome new = AllowsList measure old (map change_value changes.items) outcome new
+Allows measure_of measure old (Draw other x y) outcome new =
+    AllowsDiff measure (measure ≡ measure_of other.widths) (need old.screen.rows (screen_of other).rows (drawn_region old.screen (screen_of other) x y)) (restoring old.screen.x old.screen.y old.screen.pen) old outcome new
+    ⊎ AllowsNothing old outcome new
+Allows measure_of measure old (Copy from_x from_y w h x y) outcome new =
+    AllowsDiff measure (measure ≡ measure) (need old.screen.rows old.screen.rows (copied_region old.screen from_x from_y w h x y)) (λ l. l) old outcome new ⊎ AllowsNothing old outcome new
+Allows measure_of measure old (Flush n) Done new = new ≡ record old { log = flushed old.log n }
+Allows measure_of measure old (Resize w h) Done new = (next_number old.log + 1 < 2 ^ 64) × TakesSize w h old new
+Allows measure_of measure old (Resize w h) (Refused Numbers) new = (2 ^ 64 ≤ next_number old.log + 1) × (new ≡ old)
+Allows measure_of measure old (Resize w h) (Refused Memory) new = (next_number old.log + 1 < 2 ^ 64) × (new ≡ old)
+Allows measure_of measure old Show (Shown text cursor) new =
     (string_bytes text ≡ shown_chars old.screen.rows old.kept.lengths) × (cursor ≡ (old.screen.x, old.screen.y)) × (new ≡ old)
-Allows measure old Show (Refused Memory) new = new ≡ old
-Allows measure old (Ask n) (Asked k changes) new =
+Allows measure_of measure old Show (Refused Memory) new = new ≡ old
+Allows measure_of measure old (Ask n) (Asked k changes) new =
     (k ≡ next_number old.log) × IsStream measure old.screen old.log n (map change_value changes.items) × (new ≡ old)
-Allows measure old (Ask n) (Refused Memory) new = new ≡ old
-Allows measure old Follow (Followed n changes screen) new = (n ≡ next_number old.log) × CatchesUp measure (map change_value changes.items) (screen_value screen) old new
-Allows measure old Follow (Refused Numbers) new = Loses old new × (2 ^ 64 ≤ old.own + 1 + most_due old)
-Allows measure old Follow (Refused Memory) new = Loses old new
+Allows measure_of measure old (Ask n) (Refused Memory) new = new ≡ old
+Allows measure_of measure old Follow (Followed n changes screen) new = (n ≡ next_number old.log) × CatchesUp measure (map change_value changes.items) (screen_value screen) old new
+Allows measure_of measure old Follow (Refused Numbers) new = Loses old new × (2 ^ 64 ≤ old.own + 1 + most_due old)
+Allows measure_of measure old Follow (Refused Memory) new = Loses old new
 -- no other outcome comes
-Allows measure old _ _ new = ⊥
+Allows measure_of measure old _ _ new = ⊥
 
 -- the events may have these outcomes, and go over from old to new
-pub data Runs (measure : List ℕ → ℕ) : State → List Event → List Outcome → State → Type 0 where
-  Ended : (s : State) → Runs measure s [] [] s
-  Next : (old mid new : State) (event : Event) (outcome : Outcome) (events : List Event) (outcomes : List Outcome)
-      → Allows measure old event outcome mid → Runs measure mid events outcomes new → Runs measure old (event ∷ events) (outcome ∷ outcomes) new
+pub data Runs {W : Type 0} (measure_of : W → List ℕ → ℕ) (measure : List ℕ → ℕ) : State → List (Event W) → List Outcome → State → Type 0 where
+  Ended : (s : State) → Runs measure_of measure s [] [] s
+  Next : (old mid new : State) (event : Event W) (outcome : Outcome) (events : List (Event W)) (outcomes : List Outcome)
+      → Allows measure_of measure old event outcome mid → Runs measure_of measure mid events outcomes new → Runs measure_of measure old (event ∷ events) (outcome ∷ outcomes) new
 
 -- the outcomes are those of some run from blank screens
-abbrev pub IsSchedule : (List ℕ → ℕ) → ℕ → ℕ → List Event → List Outcome → Type 0
-IsSchedule measure w h events outcomes = (end : State) × Runs measure (first_state w h) events outcomes end
+abbrev pub IsSchedule : {W : Type 0} → (W → List ℕ → ℕ) → (List ℕ → ℕ) → ℕ → ℕ → List (Event W) → List Outcome → Type 0
+IsSchedule measure_of measure w h events outcomes = (end : State) × Runs measure_of measure (first_state w h) events outcomes end

@@ -5,7 +5,7 @@ ghost use Rattle.termwiz_cell.specs.ChangeValue.{change_value};
 ghost use Rattle.std.specs.List.{All};
 ghost use Rattle.termwiz_cell.specs.Width.{unversioned};
 ghost use Rattle.termwiz_surface.specs.Following.{Follows, ViewerValue};
-ghost use Rattle.termwiz_surface.specs.Schedule.{Allows, IsInRange, IsSchedule, state_of};
+ghost use Rattle.termwiz_surface.specs.Schedule.{Allows, IsInRange, IsSchedule, outcome_of, state_of};
 
 mod viewer;
 
@@ -18,9 +18,13 @@ pub use viewer::Viewer;
 
 /// What happens to a surface.
 #[derive(Drop)]
-pub enum Event {
+pub enum Event<W: Widths> {
     /// The changes are added, as one list.
     Changes(Vec<Change>),
+    /// This surface is drawn from this column and row on, as by `draw_from_screen`.
+    Draw(Surface<W>, usize, usize),
+    /// A region is copied, as by `copy_region`: its column, row, width and height, and the column and the row that it comes to.
+    Copy(usize, usize, usize, usize, usize, usize),
     /// The changes before this number are forgotten, as by `flush_changes_older_than`.
     Flush(SequenceNo),
     /// The surface takes this width and height.
@@ -36,7 +40,7 @@ pub enum Event {
 /// What came of it.
 #[derive(Drop)]
 pub enum Outcome {
-    /// What `add_changes` answered.
+    /// What adding the list of changes answered, for a drawing and a copy too.
     Answered(SequenceNo),
     /// The log was flushed, or the surface resized.
     Done,
@@ -58,14 +62,14 @@ pub fn run<W: Widths>(
     widths: W,
     width: usize,
     height: usize,
-    events: Vec<Event>,
+    events: Vec<Event<W>>,
 ) -> Result<Vec<Outcome>, AllocError>
     requires some_column { 0 < width }
     requires some_row { 0 < height }
     requires fits { width < 2 ^ 32 }
     requires fits_height { height < 2 ^ 32 }
     requires sizes { All IsInRange events.items }
-    ensures { IfOk result (λ outcomes. IsSchedule (unversioned (W.width_of widths)) width height events.items outcomes.items) }
+    ensures { IfOk result (λ outcomes. IsSchedule (λ widths. unversioned (W.width_of widths)) (unversioned (W.width_of widths)) width height events.items outcomes.items) }
 {
     let mut surface = Surface::new(alloc, width, height, widths)?;
     let mut viewer = Viewer::new(alloc, &surface)?;
@@ -81,19 +85,21 @@ fn serve<W: Widths>(
     alloc: Global,
     surface: &mut Surface<W>,
     viewer: &mut Viewer<W>,
-    event: Event,
+    event: Event<W>,
 ) -> Result<Outcome, AllocError>
     requires range { IsInRange event }
     requires follows { Follows (λ widths. unversioned (W.width_of widths)) viewer.old surface.old }
-    ensures step { IfOk result (λ outcome. Allows (unversioned (W.width_of surface.old.widths)) (state_of surface.old viewer.old) event outcome (state_of surface.new viewer.new)) }
+    ensures step { IfOk result (λ outcome. Allows (λ widths. unversioned (W.width_of widths)) (unversioned (W.width_of surface.old.widths)) (state_of surface.old viewer.old) event outcome (state_of surface.new viewer.new)) }
     ensures widths { OnOk result (surface.new.widths ≡ surface.old.widths) }
     ensures follows { OnOk result (Follows (λ widths. unversioned (W.width_of widths)) viewer.new surface.new) }
 {
     match event {
-        Event::Changes(changes) => match surface.add_changes(changes) {
-            Ok(number) => Ok(Outcome::Answered(number)),
-            Err(error) => Ok(Outcome::Refused(error)),
-        },
+        Event::Changes(changes) => Ok(answered(surface.add_changes(changes))),
+        Event::Draw(other, x, y) => Ok(answered(surface.draw_from_screen(&other, x, y))),
+        Event::Copy(src_x, src_y, width, height, dest_x, dest_y) => {
+            let answer = surface.copy_region(src_x, src_y, width, height, dest_x, dest_y);
+            Ok(answered(answer))
+        }
         Event::Flush(seq) => {
             surface.flush_changes_older_than(seq);
             Ok(Outcome::Done)
@@ -111,6 +117,16 @@ fn serve<W: Widths>(
     }
 }
 
+// What adding a list of changes answered, as an outcome.
+fn answered(answer: Result<SequenceNo, SurfaceError>) -> Outcome
+    ensures { result ≡ outcome_of answer }
+{
+    match answer {
+        Ok(number) => Outcome::Answered(number),
+        Err(error) => Outcome::Refused(error),
+    }
+}
+
 // The viewer follows, and what it made and shows is told.
 fn follow<W: Widths>(
     alloc: Global,
@@ -118,7 +134,7 @@ fn follow<W: Widths>(
     viewer: &mut Viewer<W>,
 ) -> Result<Outcome, AllocError>
     requires { Follows (λ widths. unversioned (W.width_of widths)) viewer.old surface.now }
-    ensures step { IfOk result (λ outcome. Allows (unversioned (W.width_of surface.now.widths)) (state_of surface.now viewer.old) Event.Follow outcome (state_of surface.now viewer.new)) }
+    ensures step { IfOk result (λ outcome. Allows (λ widths. unversioned (W.width_of widths)) (unversioned (W.width_of surface.now.widths)) (state_of surface.now viewer.old) Event.Follow outcome (state_of surface.now viewer.new)) }
     ensures follows { OnOk result (Follows (λ widths. unversioned (W.width_of widths)) viewer.new surface.now) }
 {
     match viewer.fetch(surface) {
@@ -141,7 +157,7 @@ fn follow<W: Widths>(
 
 // The changes from a number on, as a list of their own.
 fn ask<W: Widths>(alloc: Global, surface: &Surface<W>, seq: SequenceNo) -> Outcome
-    ensures { (viewer : ViewerValue W) → Allows (unversioned (W.width_of surface.now.widths)) (state_of surface.now viewer) (Event.Ask seq) result (state_of surface.now viewer) }
+    ensures { (viewer : ViewerValue W) → Allows (λ widths. unversioned (W.width_of widths)) (unversioned (W.width_of surface.now.widths)) (state_of surface.now viewer) (Event.Ask seq) result (state_of surface.now viewer) }
 {
     match surface.get_changes(seq) {
         Ok((number, changes)) => match copied(alloc, changes) {

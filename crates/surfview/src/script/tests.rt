@@ -106,6 +106,7 @@ fn makes_one_event_of_each_line(rt: HostRuntime) -> Result<(), Fail> {
             Event::Show => "show ",
             Event::Ask(12) => "ask ",
             Event::Resize(_, _) | Event::Flush(_) | Event::Ask(_) => "another number ",
+            Event::Draw(..) | Event::Copy(..) => "another event ",
         };
         names.push_str(name)?;
     }

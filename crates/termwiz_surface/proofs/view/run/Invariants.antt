@@ -9,5 +9,5 @@ abbrev pub invariant-loop-event : goal.invariant-loop-event
 invariant-loop-event g l = record {
   widths : l.surface.widths ≡ l.fn.widths;
   follows : Follows (λ widths. unversioned (g.W.Widths.width_of widths)) l.viewer l.surface;
-  run : Runs (unversioned (g.W.Widths.width_of l.fn.widths)) (first_state l.width l.height) l.yielded l.outcomes.items (state_of l.surface l.viewer);
+  run : Runs (λ widths. unversioned (g.W.Widths.width_of widths)) (unversioned (g.W.Widths.width_of l.fn.widths)) (first_state l.width l.height) l.yielded l.outcomes.items (state_of l.surface l.viewer);
 }

@@ -5,6 +5,8 @@
 mod carried;
 pub mod changes;
 #[cfg(test)]
+mod copies;
+#[cfg(test)]
 mod diff_tables;
 #[cfg(test)]
 mod diffs;

@@ -1,5 +1,7 @@
 //! Runs of events.
 use crate::changes::text;
+use crate::steps::Step;
+use crate::surfaces::drawn;
 use std::process::Abort;
 use std::test::Fail;
 use termwiz_cell::change::SequenceNo;
@@ -79,5 +81,31 @@ fn a_viewer_follows_by_a_repaint_and_by_what_is_due(rt: HostRuntime) -> Result<(
     assert_followed(&rt, &outcomes[4], 2, 1, (1, 1));
     assert!(rt; matches!(&outcomes[5], Outcome::Done));
     assert_followed(&rt, &outcomes[6], 3, 5, (1, 0));
+    Ok(())
+}
+
+#[test]
+fn draws_and_copies_are_followed(rt: HostRuntime) -> Result<(), Fail> {
+    let alloc = rt.alloc();
+    let widget = drawn(alloc, 2, 1, UnicodeWidths, &[Step::Print("xy")])?;
+    let events = vec![in alloc;
+        Event::Changes(vec![in alloc; text(alloc, "A")?]?),
+        Event::Follow,
+        Event::Draw(widget, 2, 0),
+        Event::Follow,
+        Event::Copy(2, 0, 2, 1, 0, 1),
+        Event::Follow,
+        Event::Show,
+    ]?;
+    let outcomes = run(alloc, UnicodeWidths, 4, 2, events)?;
+    assert_eq!(rt; outcomes.len(), 7);
+    assert!(rt; matches!(&outcomes[2], Outcome::Answered(5)));
+    assert_followed(&rt, &outcomes[3], 6, 5, (1, 0));
+    assert!(rt; matches!(&outcomes[4], Outcome::Answered(8)));
+    assert_followed(&rt, &outcomes[5], 9, 3, (2, 1));
+    match &outcomes[6] {
+        Outcome::Shown(shown, _) => assert_eq!(rt; shown.as_str(), "A xy\nxy  \n"),
+        _ => assert!(rt; false),
+    }
     Ok(())
 }

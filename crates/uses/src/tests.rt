@@ -29,13 +29,11 @@ fn a_follower_makes_what_changed(rt: HostRuntime) -> Result<(), Fail> {
     let alloc = rt.alloc();
     let mut surface = Surface::new(alloc, 4, 2, UnicodeWidths)?;
     let mut follower = Follower::new(alloc, &surface, UnicodeWidths)?;
-    make_and_show(
-        &mut surface,
-        &mut follower,
-        Change::text_from(alloc, "w00t\r\n")?,
-    )?;
+    let line = Change::text_from(alloc, "w00t\r\n")?;
+    make_and_show(&mut surface, &mut follower, line)?;
     let first = follower.shown().current_seqno();
-    make_and_show(&mut surface, &mut follower, Change::text_from(alloc, "か")?)?;
+    let kana = Change::text_from(alloc, "か")?;
+    make_and_show(&mut surface, &mut follower, kana)?;
     assert_eq!(rt; follower.shown().cursor_position(), (2, 1));
     // Of the second it was given that change alone.
     let second = follower.shown().current_seqno();

@@ -9,6 +9,7 @@ ghost use Rattle.termwiz_surface.specs.DiffLists.{IsDiff};
 ghost use Rattle.termwiz_surface.specs.DiffRegions.{CrossNone, HaveRegion};
 ghost use Rattle.termwiz_surface.specs.Printable.{ArePrintable};
 ghost use Rattle.termwiz_surface.specs.Prints.{printed};
+ghost use Rattle.termwiz_surface.specs.RegionValue.{region_value};
 ghost use Rattle.termwiz_surface.specs.Screen.{row_at};
 ghost use Rattle.termwiz_surface.specs.Step.{replay};
 ghost use Rattle.termwiz_surface.specs.SurfaceValue.{screen_of};
@@ -76,8 +77,7 @@ impl<W: Widths> Surface<W> {
     {
         let padding = Cell::blank();
         let mut writer = DiffWriter::new(self.alloc);
-        let region = Region::band(self.width, 0, self.height.min(other_lines.len()));
-        print_lines(&mut writer, &self.rows, &other_lines, &padding, region)?;
+        print_lines(&mut writer, &self.rows, &other_lines, &padding, self.width)?;
         writer.into_vec()
     }
 
@@ -107,7 +107,7 @@ impl<W: Widths> Surface<W> {
 
     // The changes that print what a region of another surface shows and this one doesn't.
     fn diff_of(&self, other: &Surface<W>, region: Region) -> Result<Vec<Change>, AllocError>
-        ensures { IfOk result (λ l. let a = screen_of self.now in let b = screen_of other.now in map change_value l.items ≡ diff a.rows b.rows (cut region a.width a.height b.width b.height)) }
+        ensures { IfOk result (λ l. let a = screen_of self.now in let b = screen_of other.now in map change_value l.items ≡ diff a.rows b.rows (cut (region_value region) a.width a.height b.width b.height)) }
     {
         let padding = Cell::blank();
         let mut writer = DiffWriter::new(self.alloc);

@@ -9,7 +9,7 @@ use Rattle.termwiz_line.specs.Shows.{Shows, Covers, Stays, Remains, IsPainted, I
 use Rattle.termwiz_line.proofs.RowPainting.{length-paint, paint_here, paint_second, paint_other, paint_before, paint_broken, length-clear, clear_from, clear_left, clear_broken}
 use Rattle.termwiz_line.proofs.RowVisible.{hidden_narrow}
 
-hidden_at : (r : List CellValue) (j k : ℕ) → suc j ≡ k → is_hidden r k ≡ is_wide (stored r j)
+pub hidden_at : (r : List CellValue) (j k : ℕ) → suc j ≡ k → is_hidden r k ≡ is_wide (stored r j)
 hidden_at r j k e = ap (is_hidden r) (sym e)
 
 pub paint_settled : (w : ℕ) (r : List CellValue) (c : ℕ) (x : CellValue) → IsRow w r → c < w → (k : ℕ) → suc k < w → is_wide (stored (paint r c x) k) ≡ true →
@@ -43,11 +43,15 @@ paint_settled w r c x rr l k m h =
 pub paint_row : (w : ℕ) (r : List CellValue) (c : ℕ) (x : CellValue) → IsRow w r → c < w → IsRow w (paint r c x)
 paint_row w r c x rr l = record { width = length-paint r c x ∙ rr.width; settled = paint_settled w r c x rr l }
 
-module _ (w : ℕ) (r : List CellValue) (c : ℕ) (x : CellValue) (rr : IsRow w r) (lc : c < w) where
-  -- a wide cell is visible
-  wide_visible : (k : ℕ) → k < w → is_wide (stored r k) ≡ true → is_hidden r k ≡ false
-  wide_visible k l h = elim (cases_Bool (is_hidden r k)) [ inr f ↦ f | inl t ↦ absurd (false≢true (sym (hidden_narrow w r k rr l t) ∙ h)) ]
+-- a wide cell is visible
+pub wide_shows : (w : ℕ) (r : List CellValue) (k : ℕ) → IsRow w r → k < w → is_wide (stored r k) ≡ true → Shows w r k (stored r k)
+wide_shows w r k rr l h = record {
+  inside = l;
+  visible = elim (cases_Bool (is_hidden r k)) [ inr f ↦ f | inl t ↦ absurd (false≢true (sym (hidden_narrow w r k rr l t) ∙ h)) ];
+  same = refl;
+}
 
+module _ (w : ℕ) (r : List CellValue) (c : ℕ) (x : CellValue) (rr : IsRow w r) (lc : c < w) where
   -- is a column hidden after the paint: the one after a wide x, and those that were, unless their cell was broken
   hidden_same : (k : ℕ) → k ≢ c → k ≢ suc c → (k ≡ suc (suc c) → is_wide x ≡ false) → is_hidden (paint r c x) k ≡ is_hidden r k
   hidden_same zero n m o = refl
@@ -85,7 +89,7 @@ module _ (w : ℕ) (r : List CellValue) (c : ℕ) (x : CellValue) (rr : IsRow w 
       remains d l h p f j q m e = inr (inr (record {
         place = d;
         old = stored r d;
-        shown = record { inside = l; visible = wide_visible d l h; same = refl };
+        shown = wide_shows w r d rr l h;
         wide = h;
         here = covers k p s.inside;
         free = f;

@@ -36,3 +36,11 @@ mod Viewing
 mod FollowedRuns
 mod WalkedRows
 mod NeededRows
+mod DiffRows
+mod DiffScreens
+mod NeedWords
+mod DiffStreams
+mod DiffLists
+mod Restoring
+mod FewestPrints
+mod DiffSurfaces

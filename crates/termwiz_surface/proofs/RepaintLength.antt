@@ -18,11 +18,11 @@ use Rattle.termwiz_surface.proofs.RowTrimming.{trimmed_shorter}
 use Rattle.termwiz_surface.proofs.RepaintBottom.{length-front_of}
 
 -- an entry that may be left out
-length_optional : {A : Type 0} (b : Bool) (x : A) → length (cond b [] (x ∷ [])) ≤ 1
+pub length_optional : {A : Type 0} (b : Bool) (x : A) → length (cond b [] (x ∷ [])) ≤ 1
 length_optional true x = omega arith
 length_optional false x = omega arith
 
-length-add_text : (es : List ChangeValue) (t : List ℕ) → length (add_text es t) ≤ suc (length es)
+pub length-add_text : (es : List ChangeValue) (t : List ℕ) → length (add_text es t) ≤ suc (length es)
 length-add_text [] t = omega arith
 length-add_text (change.Text u ∷ []) t = joined (joins u t)
   where

@@ -26,7 +26,7 @@ ghost use Rattle.termwiz_surface.specs.Adding.{Adds, Makes, Refuses, with_log};
 ghost use Rattle.termwiz_surface.specs.Log.{due, flushed, is_known, next_number, worth};
 ghost use Rattle.std.specs.Cow.{IsOwnedSlice};
 ghost use Rattle.termwiz_surface.specs.Stream.{Lends, stream_of};
-ghost use Rattle.termwiz_surface.specs.Printable.{HasSize};
+ghost use Rattle.termwiz_surface.specs.Printable.{HasSize, IsPrintable};
 ghost use Rattle.termwiz_surface.specs.Repaint.{repaint};
 ghost use Rattle.termwiz_surface.specs.Screen.{Screen as SeenScreen};
 
@@ -203,6 +203,8 @@ impl<W: Widths> Surface<W> {
         ensures sound { IsSound (unversioned (W.width_of self.now.widths)) self.now }
         // Its screen has its size, so repaints can be replayed on it.
         ensures sized { HasSize self.now.width self.now.height (screen_of self.now) }
+        // Each row of the screen has a half behind each wide cell, and each visible cell is one grapheme with the width that is measured for it.
+        ensures printable { IsPrintable (unversioned (W.width_of self.now.widths)) (screen_of self.now) }
     {
         (self.width, self.height)
     }

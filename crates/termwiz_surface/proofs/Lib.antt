@@ -36,6 +36,7 @@ mod Viewing
 mod FollowedRuns
 mod WalkedRows
 mod NeededRows
+mod DiffCalls
 mod DiffRows
 mod DiffScreens
 mod NeedWords

@@ -34,6 +34,9 @@ mod ResizedSize
 mod Following
 mod Viewing
 mod FollowedRuns
+mod WalkedRows
+mod NeededRows
+mod DiffCalls
 mod DiffRows
 mod DiffScreens
 mod NeedWords

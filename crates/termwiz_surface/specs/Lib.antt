@@ -34,3 +34,5 @@ pub mod DiffLaws
 pub mod Fewest
 pub mod Copies
 pub mod Ends
+pub mod Walked
+pub mod RegionValue

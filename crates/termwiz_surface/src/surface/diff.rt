@@ -6,26 +6,26 @@ ghost use Rattle.termwiz_cell.specs.Width.{unversioned};
 ghost use Rattle.termwiz_line.specs.Row.{row_of};
 ghost use Rattle.termwiz_surface.specs.Diff.{band, cut, diff, need, whole};
 ghost use Rattle.termwiz_surface.specs.DiffLists.{IsDiff};
-ghost use Rattle.termwiz_surface.specs.DiffRegions.{CrossNone, HaveRegion};
+ghost use Rattle.termwiz_surface.specs.DiffRegions.{AreRows, CrossNone, HaveRegion};
 ghost use Rattle.termwiz_surface.specs.Printable.{ArePrintable};
 ghost use Rattle.termwiz_surface.specs.Prints.{printed};
+ghost use Rattle.termwiz_surface.specs.RegionValue.{region_value};
 ghost use Rattle.termwiz_surface.specs.Screen.{row_at};
 ghost use Rattle.termwiz_surface.specs.Step.{replay};
 ghost use Rattle.termwiz_surface.specs.SurfaceValue.{screen_of};
 
+mod lists;
 mod region;
 mod rows;
 mod writer;
 
 use super::Surface;
+use lists::{diff_line, diff_lines, diff_rows};
 use region::Region;
-use rows::{print_lines, print_row, print_rows};
 use std::alloc::AllocError;
-use termwiz_cell::cell::Cell;
 use termwiz_cell::change::Change;
 use termwiz_cell::emoji::Widths;
 use termwiz_line::line::line::Line;
-use writer::DiffWriter;
 
 impl<W: Widths> Surface<W> {
     /// The changes that make this surface show what another one of its size shows: made by `add_changes`, they give it the other's rows. They print exactly the cells that it doesn't show yet, and there are none where the rows are equal. Where the sizes differ, what fits in both is compared.
@@ -74,11 +74,7 @@ impl<W: Widths> Surface<W> {
     pub fn diff_lines(&self, other_lines: Vec<&Line>) -> Result<Vec<Change>, AllocError>
         ensures { All (λ line. ArePrintable (unversioned (W.width_of self.now.widths)) line.now.cells) other_lines.entry.items → IfOk result (λ l. let f = unversioned (W.width_of self.now.widths) in let a = screen_of self.now in IsDiff f a (f ≡ f) (need a.rows (map (λ line. row_of a.width line.now.cells) other_lines.entry.items) (band a.width 0 0 (min a.height (length other_lines.entry.items)))) (map change_value l.items)) }
     {
-        let padding = Cell::blank();
-        let mut writer = DiffWriter::new(self.alloc);
-        let region = Region::band(self.width, 0, self.height.min(other_lines.len()));
-        print_lines(&mut writer, &self.rows, &other_lines, &padding, region)?;
-        writer.into_vec()
+        diff_lines(self.alloc, &self.rows, self.width, other_lines)
     }
 
     /// The changes that print what a line shows and a row, by its number from 0, doesn't; nothing where there is no such row. The line is cut or filled with default blanks to the surface's width.
@@ -89,32 +85,23 @@ impl<W: Widths> Surface<W> {
     ) -> Result<Vec<Change>, AllocError>
         ensures { ArePrintable (unversioned (W.width_of self.now.widths)) other_line.now.cells → IfOk result (λ l. let f = unversioned (W.width_of self.now.widths) in let a = screen_of self.now in IsDiff f a (f ≡ f) (need a.rows (row_of a.width other_line.now.cells ∷ []) (band a.width row_num 0 (min 1 (a.height - row_num)))) (map change_value l.items)) }
     {
-        let padding = Cell::blank();
-        let mut writer = DiffWriter::new(self.alloc);
-        if row_num < self.height {
-            let region = Region::band(self.width, row_num, 1);
-            print_row(
-                &mut writer,
-                &self.rows[row_num],
-                other_line,
-                &padding,
-                region,
-                row_num,
-            )?;
-        }
-        writer.into_vec()
+        diff_line(self.alloc, &self.rows, self.width, row_num, other_line)
     }
 
     // The changes that print what a region of another surface shows and this one doesn't.
     fn diff_of(&self, other: &Surface<W>, region: Region) -> Result<Vec<Change>, AllocError>
-        ensures { IfOk result (λ l. let a = screen_of self.now in let b = screen_of other.now in map change_value l.items ≡ diff a.rows b.rows (cut region a.width a.height b.width b.height)) }
+        ensures diff { IfOk result (λ l. let f = unversioned (W.width_of self.now.widths) in let a = screen_of self.now in let b = screen_of other.now in IsDiff f a (f ≡ unversioned (W.width_of other.now.widths)) (need a.rows b.rows (cut (region_value region) a.width a.height b.width b.height)) (map change_value l.items)) }
+        ensures list { IfOk result (λ l. let a = screen_of self.now in let b = screen_of other.now in map change_value l.items ≡ diff a.rows b.rows (cut (region_value region) a.width a.height b.width b.height)) }
+        ensures own { AreRows self.now.width self.now.height (screen_of self.now).rows }
+        ensures other { AreRows other.now.width other.now.height (screen_of other.now).rows }
     {
-        let padding = Cell::blank();
-        let mut writer = DiffWriter::new(self.alloc);
-        let region = region.cut((self.width, self.height), (other.width, other.height));
-        if !region.is_empty() {
-            print_rows(&mut writer, &self.rows, &other.rows, &padding, region)?;
-        }
-        writer.into_vec()
+        diff_rows(
+            self.alloc,
+            &self.rows,
+            self.width,
+            &other.rows,
+            other.width,
+            region,
+        )
     }
 }

@@ -1,8 +1,7 @@
 //! Regions: a rectangle of own columns and rows, and as large a one of another's.
 ghost use Rattle.std.specs.Prelude.{◌≡◌, ◌||◌, eqb};
 ghost use Rattle.termwiz_surface.specs.Diff as spec;
-
-use std::marker::Model;
+ghost use Rattle.termwiz_surface.specs.RegionValue.{region_value};
 
 /// A rectangle of own columns and rows, and as large a one of another's.
 #[derive(Clone, Copy)]
@@ -15,20 +14,10 @@ pub(super) struct Region {
     pub(super) other_y: usize,
 }
 
-impl Model for Region {
-    ghost use Rattle.termwiz_surface.specs.Diff as spec;
-
-    ghost Value = { spec.Region };
-
-    ghost view = { λ r. record { x = r.x; y = r.y; width = r.width; height = r.height; other_x = r.other_x; other_y = r.other_y } };
-
-    ghost inverse = { λ r. record { x = r.x; y = r.y; width = r.width; height = r.height; other_x = r.other_x; other_y = r.other_y } };
-}
-
 impl Region {
     /// This many whole rows, from a row on, and another's from its first one on.
     pub(super) fn band(width: usize, y: usize, height: usize) -> Region
-        ensures { result ≡ spec.band width y 0 height }
+        ensures { region_value result ≡ spec.band width y 0 height }
     {
         Region {
             x: 0,
@@ -42,7 +31,7 @@ impl Region {
 
     /// The part that fits in an own width and height, and in another's.
     pub(super) fn cut(self, own: (usize, usize), other: (usize, usize)) -> Region
-        ensures { result ≡ spec.cut self own.0 own.1 other.0 other.1 }
+        ensures { region_value result ≡ spec.cut (region_value self) own.0 own.1 other.0 other.1 }
     {
         Region {
             x: self.x,

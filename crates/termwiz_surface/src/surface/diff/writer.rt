@@ -1,5 +1,5 @@
 //! A writer of the changes that print cells at their places.
-ghost use Rattle.std.specs.Prelude.{◌≡◌, ◌<◌, ◌^◌, ◌++◌, None, map, IfOk, OnOk};
+ghost use Rattle.std.specs.Prelude.{◌≡◌, ◌<◌, ◌^◌, ◌++◌, ◌∷◌, [], map, IfOk, OnOk};
 ghost use Rattle.termwiz_cell.specs.ChangeValue.{change_value};
 ghost use Rattle.termwiz_storage.specs.CellRef.{ref_cell};
 ghost use Rattle.termwiz_storage.specs.CellsLeft.{IsOfCell};
@@ -59,7 +59,7 @@ impl<'a> DiffWriter<'a> {
     ) -> Result<(), AllocError>
         requires fits { column < 2 ^ 32 }
         requires cell { IsOfCell cell }
-        ensures { OnOk result (self.new ≡ spec.print_out self.old (record { row = row; column = column; cell = ref_cell cell })) }
+        ensures { OnOk result (self.new ≡ spec.print_out self.old (record { row = row; column = column; cell = ref_cell cell.entry })) }
     {
         let pen = cell.attrs();
         push_place(&mut self.entries, self.end, row, column, pen)?;
@@ -71,7 +71,7 @@ impl<'a> DiffWriter<'a> {
 
     /// The changes in a list.
     pub(super) fn into_vec(self) -> Result<Vec<Change>, AllocError>
-        ensures { IfOk result (λ changes. map change_value changes.items ≡ self.entries) }
+        ensures { IfOk result (λ changes. map change_value changes.items ≡ self.entry.entries) }
     {
         self.entries.into_vec()
     }
@@ -86,7 +86,7 @@ fn push_place(
     column: usize,
     pen: &CellAttributes,
 ) -> Result<(), AllocError>
-    ensures { OnOk result ((p : Print) → p.row ≡ row → p.column ≡ column → p.cell.attrs ≡ pen.now → entries.new ≡ (entries.old ++ spec.move_to (end_value end) p) ++ spec.pen_to (end_value end) p) }
+    ensures { OnOk result ((p : Print) → p.row ≡ row → p.column ≡ column → p.cell.attrs ≡ pen.now → entries.new ≡ (entries.old ++ spec.move_to (end_value end.entry) p) ++ spec.pen_to (end_value end.entry) p) }
 {
     match end {
         Some(end) => {

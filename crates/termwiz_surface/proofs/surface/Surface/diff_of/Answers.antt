@@ -9,7 +9,7 @@ use Rattle.termwiz_surface.specs.DiffLists.{IsDiff}
 use Rattle.termwiz_surface.specs.RegionValue.{region_value}
 use Rattle.termwiz_surface.specs.ScreenValue.{cells_of}
 use Rattle.termwiz_surface.specs.SurfaceValue.{SurfaceValue, IsSound, screen_of}
-use Rattle.termwiz_surface.proofs.DiffSurfaces.{sound_rows, sound_cut}
+use Rattle.termwiz_surface.proofs.DiffSurfaces.{sound_rows, sound_diff}
 use Rattle.termwiz_surface.proofs.Lines.{length-cells_of}
 use Rattle.termwiz_surface.proofs.surface.Surface.diff_of.Goals as goal
 
@@ -42,5 +42,5 @@ returns-clause-diff g c =
     let sound = subst (λ (s : SurfaceValue _). IsSound (unversioned (g.W.Widths.width_of s.widths)) s) c.other.view_is c.other.invariant.0 in
     let r = region_value c.args.region in
     IfOk-weaker c.diff_rows.result _ _
-    (λ l e. subst (λ es. IsDiff f (screen_of a) (f ≡ h) (need (screen_of a).rows (screen_of b).rows (cut r a.width a.height b.width b.height)) es) (sym e) (sound_cut h b sound f (screen_of a) r))
+    (λ l e. subst (λ es. IsDiff f (screen_of a) (f ≡ h) (need (screen_of a).rows (screen_of b).rows (cut r a.width a.height b.width b.height)) es) (sym e) (sound_diff h b sound f (screen_of a) r))
     (returns-clause-list g c)

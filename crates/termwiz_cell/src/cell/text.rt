@@ -46,6 +46,17 @@ impl LongText {
     }
 }
 
+// Whether both texts are the same. Most narrow ones are one byte, which is compared without a loop.
+#[inline]
+fn is_same_text(a: &str, b: &str) -> bool
+    ensures { result ≡ bytes_eq a.now b.now }
+{
+    match (a.as_bytes(), b.as_bytes()) {
+        ([one], [other]) => one == other,
+        (one, other) => one == other,
+    }
+}
+
 impl CellText {
     /// A space of one column.
     pub(super) fn blank() -> CellText
@@ -132,7 +143,7 @@ impl CellText {
         ensures { result ≡ (bytes_eq (text_in self.now) (text_in other.now) && beq (wide_in self.now) (wide_in other.now)) }
     {
         match (self, other) {
-            (CellText::Narrow(a), CellText::Narrow(b)) => a.as_str() == b.as_str(),
+            (CellText::Narrow(a), CellText::Narrow(b)) => is_same_text(a.as_str(), b.as_str()),
             (CellText::Wide(a), CellText::Wide(b)) => a.as_str() == b.as_str(),
             (CellText::Long(a), CellText::Long(b)) => a.is_same(b),
             (CellText::Narrow(_), CellText::Wide(_)) => false,

@@ -1,15 +1,15 @@
 -- What the calls that make diffs answer, from the list that they write.
-use Rattle.std.proofs.Common.{◌≡◌, ℕ, zero, suc, ◌+◌, ◌-◌, ◌<◌, ◌||◌, inl, inr, true, false, eqb, min, List, [], ◌∷◌, ◌++◌, map, length, arith, refl, sym, ap, ap₂, ◌∙◌, subst}
+use Rattle.std.proofs.Common.{◌≡◌, ℕ, zero, suc, ◌+◌, ◌-◌, ◌||◌, inl, inr, true, eqb, min, List, [], ◌++◌, map, arith, refl, sym, ap, ap₂, ◌∙◌, subst}
 use Rattle.std.proofs.lemmas.Bool.{cases_eq, ne_eqb, false≢true}
 use Rattle.termwiz_cell.specs.CellValue.{CellValue}
 use Rattle.termwiz_cell.specs.ChangeValue.{ChangeValue}
 use Rattle.termwiz_surface.specs.Diff.{Region, cut, whole, in_row, row_need, need_upto, need, prints_out, diff}
 use Rattle.termwiz_surface.specs.DiffLists.{IsDiff}
 use Rattle.termwiz_surface.specs.DiffRegions.{AreRows, CrossNone, HaveRegion}
-use Rattle.termwiz_surface.specs.Prints.{Print, printed}
+use Rattle.termwiz_surface.specs.Prints.{Print}
 use Rattle.termwiz_surface.specs.Screen.{Screen, row_at}
 use Rattle.termwiz_surface.specs.Step.{replay}
-use Rattle.termwiz_surface.specs.SurfaceValue.{SurfaceValue, screen_of, IsSound}
+use Rattle.termwiz_surface.specs.SurfaceValue.{SurfaceValue, IsSound}
 use Rattle.termwiz_surface.specs.Walked.{AreHalved}
 use Rattle.termwiz_surface.proofs.DiffLists.{gives_rows, gives_region}
 use Rattle.termwiz_surface.proofs.DiffScreens.{cut_inside, need_nothing}

@@ -1,5 +1,5 @@
 -- What a row needs where both rows end in default blanks, and where both are equal; and what the rows of a region need.
-use Rattle.std.proofs.Common.{◌≡◌, ℕ, zero, suc, ◌+◌, ◌-◌, ◌<◌, ◌≤◌, ◌||◌, ◌&&◌, ◌⊎◌, inl, inr, Bool, true, false, not, cond, min, List, [], ◌∷◌, ◌++◌, length, map, fold, arith, refl, sym, ap, ap₂, ◌∙◌}
+use Rattle.std.proofs.Common.{◌≡◌, ℕ, zero, suc, ◌+◌, ◌-◌, ◌<◌, ◌≤◌, ◌||◌, ◌&&◌, ◌⊎◌, inl, inr, true, false, not, cond, min, List, [], ◌∷◌, ◌++◌, length, map, fold, arith, refl, sym, ap, ap₂, ◌∙◌}
 use Rattle.std.proofs.lemmas.List.{append_assoc, append-nil, get_or_past}
 use Rattle.std.proofs.lemmas.List.Sums.{fold-append}
 use Rattle.std.proofs.lemmas.Bool.{cases_Bool, cases_lt}
@@ -7,7 +7,7 @@ use Rattle.termwiz_cell.specs.CellValue.{CellValue, blank, is_wide, cell_eq, cel
 use Rattle.termwiz_storage.specs.Stored.{stored, hides}
 use Rattle.termwiz_line.specs.Row.{HasHalves, is_hidden, row_of, settled_at}
 use Rattle.termwiz_line.proofs.RowOf.{hidden_row, row_of_at}
-use Rattle.termwiz_line.proofs.StoredRows.{IsHalved, row_stored}
+use Rattle.termwiz_line.proofs.StoredRows.{row_stored}
 use Rattle.termwiz_surface.specs.Diff.{Region, shows, row_need, need_upto, in_row, Drawn, print_out}
 use Rattle.termwiz_surface.specs.Screen.{row_at}
 use Rattle.termwiz_surface.specs.Walked.{EndsBlank}

@@ -1,10 +1,10 @@
 -- A walk of the other row's visible cells, column by column: what it has still to meet, and what was needed so far.
-use Rattle.std.proofs.Common.{◌≡◌, ℕ, zero, suc, ◌+◌, ◌-◌, ◌<◌, ◌≤◌, ◌||◌, ◌&&◌, ◌⊎◌, inl, inr, Bool, true, false, not, cond, min, List, [], ◌∷◌, ◌++◌, length, drop, get_or, map, fold, arith, refl, sym, ap, ap₂, ◌∙◌, subst}
+use Rattle.std.proofs.Common.{◌≡◌, ℕ, zero, suc, ◌+◌, ◌-◌, ◌<◌, ◌≤◌, ◌||◌, ◌&&◌, inl, inr, Bool, true, false, not, cond, min, List, [], ◌∷◌, ◌++◌, length, drop, get_or, map, fold, arith, refl, sym, ap, ap₂, ◌∙◌, subst}
 use Rattle.std.proofs.Math.Seq.{drop-cons}
 use Rattle.std.proofs.lemmas.List.{drop_all, get_or_past, map-append, append-nil}
 use Rattle.std.proofs.lemmas.List.Sums.{fold-append}
-use Rattle.std.proofs.lemmas.Bool.{cases_Bool, cases_lt, and_from, and_left, not_from_false, false≢true}
-use Rattle.termwiz_cell.specs.CellValue.{CellValue, blank, columns, is_wide, cell_eq}
+use Rattle.std.proofs.lemmas.Bool.{cases_lt, and_from, and_left, not_from_false, false≢true}
+use Rattle.termwiz_cell.specs.CellValue.{CellValue, blank, columns, is_wide}
 use Rattle.termwiz_storage.specs.Stored.{stored, visible, visible_from, hides}
 use Rattle.termwiz_line.specs.Row.{is_hidden, row_of}
 use Rattle.termwiz_line.proofs.RowOf.{hidden_row, row_of_at, settled_visible}

@@ -1,7 +1,6 @@
-use Rattle.std.proofs.Common.{◌≡◌, map, sym, ap, ap₂, ◌∙◌, subst}
+use Rattle.std.proofs.Common.{◌≡◌, map, sym, ap₂, ◌∙◌, subst}
 use Rattle.std.proofs.lemmas.Result.{IfOk-weaker}
 use Rattle.std.specs.VecDeque.{deque_len}
-use Rattle.termwiz_cell.specs.ChangeValue.{change_value}
 use Rattle.termwiz_cell.specs.Width.{unversioned}
 use Rattle.termwiz_line.specs.Row.{row_of}
 use Rattle.termwiz_surface.specs.Diff.{cut, diff, need}

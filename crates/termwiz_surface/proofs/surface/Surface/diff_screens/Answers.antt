@@ -2,7 +2,7 @@ use Rattle.std.proofs.Common.{◌≡◌, map, ap, ◌∙◌, subst}
 use Rattle.std.proofs.lemmas.Result.{IfOk-weaker}
 use Rattle.termwiz_cell.specs.ChangeValue.{change_value}
 use Rattle.termwiz_cell.specs.Width.{unversioned}
-use Rattle.termwiz_surface.specs.Diff.{Region, cut, diff, need, whole}
+use Rattle.termwiz_surface.specs.Diff.{cut, diff, need, whole}
 use Rattle.termwiz_surface.specs.DiffLists.{IsDiff}
 use Rattle.termwiz_surface.specs.RegionValue.{region_value}
 use Rattle.termwiz_surface.specs.SurfaceValue.{SurfaceValue, screen_of}

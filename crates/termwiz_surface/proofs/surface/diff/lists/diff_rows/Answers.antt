@@ -1,4 +1,4 @@
-use Rattle.std.proofs.Common.{◌≡◌, ◌||◌, true, eqb, map, sym, ap, ap₂, ◌∙◌}
+use Rattle.std.proofs.Common.{◌≡◌, ◌||◌, eqb, map, sym, ap, ap₂, ◌∙◌}
 use Rattle.termwiz_cell.specs.ChangeValue.{change_value}
 use Rattle.termwiz_line.specs.Row.{row_of}
 use Rattle.std.specs.VecDeque.{deque_len}

@@ -1,4 +1,4 @@
-use Rattle.std.proofs.Common.{◌≡◌, ◌+◌, ◌-◌, ℕ, length, min, arith}
+use Rattle.std.proofs.Common.{◌≡◌, ◌+◌, ◌-◌, length, min, arith}
 use Rattle.termwiz_line.specs.Row.{row_of}
 use Rattle.termwiz_surface.proofs.NeededRows.{needed_whole}
 use Rattle.termwiz_surface.proofs.surface.diff.rows.print_cells.Goals as goal

@@ -1,10 +1,8 @@
-use Rattle.std.proofs.Common.{◌≡◌, ◌+◌, ◌<◌, ℕ, List, [], fold, map, length, min, arith, sym, ap, ◌∙◌, subst}
+use Rattle.std.proofs.Common.{◌≡◌, ◌+◌, ◌<◌, [], fold, map, length, min, arith, sym, ap, ◌∙◌, subst}
 use Rattle.std.proofs.lemmas.List.{get_or-map}
 use Rattle.std.specs.VecDeque.{deque_len}
-use Rattle.termwiz_cell.specs.CellValue.{CellValue}
 use Rattle.termwiz_line.specs.Row.{HasHalves, row_of}
 use Rattle.termwiz_surface.specs.Diff.{Region, band, in_row, print_out, row_need}
-use Rattle.termwiz_surface.specs.RegionValue.{region_value}
 use Rattle.termwiz_surface.specs.Screen.{row_at}
 use Rattle.termwiz_surface.specs.ScreenValue.{cells_of}
 use Rattle.termwiz_surface.proofs.Lines.{cells-read, row-read, length-cells_of}

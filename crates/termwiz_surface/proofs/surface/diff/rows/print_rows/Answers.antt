@@ -1,5 +1,4 @@
-use Rattle.std.proofs.Common.{◌≡◌, ◌+◌, ◌<◌, ℕ, List, fold, map, length, arith, sym, ap, ap₂, ◌∙◌, subst}
-use Rattle.termwiz_cell.specs.CellValue.{CellValue}
+use Rattle.std.proofs.Common.{◌+◌, ◌<◌, fold, map, length, arith, sym, ap₂, ◌∙◌, subst}
 use Rattle.termwiz_line.specs.Row.{HasHalves, row_of}
 use Rattle.termwiz_surface.specs.Diff.{in_row, print_out, row_need}
 use Rattle.termwiz_surface.specs.RegionValue.{region_value}

@@ -1,9 +1,9 @@
-use Rattle.std.proofs.Common.{subst, min, ◌≡◌, ◌+◌, ◌-◌, ◌≤◌, ◌<◌, ◌∷◌, [], ℕ, List, cond, fold, map, arith, sym, ap, ap₂, ◌∙◌}
+use Rattle.std.proofs.Common.{subst, min, ◌≡◌, ◌+◌, ◌-◌, ◌≤◌, ℕ, List, fold, map, arith, sym, ap, ◌∙◌}
 use Rattle.termwiz_cell.specs.CellValue.{CellValue, columns}
-use Rattle.termwiz_storage.specs.CellRef.{ref_cell, ref_width, indexed_cell}
+use Rattle.termwiz_storage.specs.CellRef.{ref_cell, indexed_cell}
 use Rattle.termwiz_storage.specs.CellsLeft.{cells_left}
 use Rattle.termwiz_storage.specs.Stored.{visible}
-use Rattle.termwiz_surface.specs.Diff.{Region, in_row, print_out, row_need, shows}
+use Rattle.termwiz_surface.specs.Diff.{in_row, print_out, row_need}
 use Rattle.termwiz_line.specs.Row.{row_of}
 use Rattle.termwiz_storage.proofs.Widths.{columns_bounds}
 use Rattle.termwiz_surface.proofs.WalkedRows.{IsAt, IsNext, at_next, at_end, printed_next, skipped_next}

@@ -1,6 +1,5 @@
-use Rattle.std.proofs.Common.{◌≡◌, ◌+◌, ◌-◌, ◌≤◌, ◌++◌, ℕ, List, fold, map, min}
+use Rattle.std.proofs.Common.{◌≡◌, ◌+◌, ◌-◌, ◌≤◌, ℕ, List, fold, map, min}
 use Rattle.termwiz_cell.specs.CellValue.{CellValue}
-use Rattle.termwiz_storage.specs.CellRef.{indexed_cell}
 use Rattle.termwiz_storage.specs.CellsLeft.{cells_left}
 use Rattle.termwiz_storage.specs.Stored.{visible}
 use Rattle.termwiz_line.specs.Row.{row_of}

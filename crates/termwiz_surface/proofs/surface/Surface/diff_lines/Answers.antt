@@ -1,6 +1,4 @@
-use Rattle.std.proofs.Common.{◌≡◌, [], map, min, length, arith, sym, ap, ◌∙◌, subst}
-use Rattle.std.proofs.lemmas.List.{length-map}
-use Rattle.std.proofs.lemmas.List.Elements.{All-get_or, All-map, All-weaker}
+use Rattle.std.proofs.Common.{◌≡◌, map, min, length, sym, ap, ◌∙◌, subst}
 use Rattle.std.proofs.lemmas.Result.{IfOk-weaker}
 use Rattle.std.specs.Prelude.{None}
 use Rattle.std.specs.VecDeque.{deque_len}
@@ -8,11 +6,9 @@ use Rattle.termwiz_cell.specs.Width.{unversioned}
 use Rattle.termwiz_line.specs.Row.{row_of}
 use Rattle.termwiz_surface.specs.Diff.{band, diff, need}
 use Rattle.termwiz_surface.specs.DiffLists.{IsDiff}
-use Rattle.termwiz_surface.specs.Printable.{ArePrintable, IsPrintableRow}
 use Rattle.termwiz_surface.specs.ScreenValue.{cells_of}
 use Rattle.termwiz_surface.specs.SurfaceValue.{SurfaceValue, screen_of}
-use Rattle.termwiz_surface.proofs.DiffLists.{band_diff}
-use Rattle.termwiz_surface.proofs.LineEntries.{line_printable}
+use Rattle.termwiz_surface.proofs.DiffSurfaces.{lines_diff}
 use Rattle.termwiz_surface.proofs.Lines.{length-cells_of}
 use Rattle.termwiz_surface.proofs.surface.Surface.diff_lines.Goals as goal
 
@@ -26,14 +22,10 @@ returns g c = λ printable.
     let n = min v.height (length lines) in
     let s = c.self.inside in
     let height : deque_len s.rows ≡ s.height = s.rows.ok.0 ∙ sym (length-cells_of s.rows.items) ∙ c.self.invariant.0.full in
-    let long : length b ≡ length lines = length-map lines (λ line. row_of v.width line.now.cells) in
-    let rows =
-    All-map (IsPrintableRow f v.width) (λ line. row_of v.width line.now.cells) lines
-    (All-weaker (λ line. ArePrintable f line.now.cells) (λ line. IsPrintableRow f v.width (row_of v.width line.now.cells)) (λ line p. line_printable f (g.met.W.Widths.space_has_one v.widths None) v.width line.now.cells p) lines printable) in
     IfOk-weaker c.diff_lines.result _ _
     (λ l e. subst (λ es. IsDiff f a (f ≡ f) (need a.rows b (band v.width 0 0 n)) es)
     (sym (e
     ∙ ap (λ h. diff (map (row_of s.width) (cells_of s.rows.items)) (map (λ line. row_of s.width line.now.cells) lines) (band s.width 0 0 (min h (length lines)))) height
     ∙ ap (λ (u : SurfaceValue _). diff (screen_of u).rows (map (λ line. row_of u.width line.now.cells) lines) (band u.width 0 0 (min u.height (length lines)))) c.self.view_is))
-    (band_diff f f a b 0 0 n (λ k i. omega (arith, i)) (λ k i. omega (arith, i, long)) (λ j i. All-get_or (IsPrintableRow f v.width) b j [] i rows)))
+    (lines_diff f (g.met.W.Widths.space_has_one v.widths None) a (λ line. line.now.cells) lines printable))
     c.diff_lines.ensures

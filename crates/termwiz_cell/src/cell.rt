@@ -224,7 +224,7 @@ impl Cell {
     fn is_same(&self, other: &Cell) -> bool
         ensures { result ≡ cell_eq self.now other.now }
     {
-        self.attrs == other.attrs && self.text.is_same(&other.text)
+        self.text.is_same(&other.text) && self.attrs == other.attrs
     }
 }
 

@@ -46,25 +46,6 @@ impl LongText {
     }
 }
 
-// Whether both texts are the same. It stands apart, so that the test of single bytes is short.
-#[inline(never)]
-fn is_same_text(a: &str, b: &str) -> bool
-    ensures { result ≡ bytes_eq a.now b.now }
-{
-    a == b
-}
-
-// Whether both texts are the same, where most are one byte.
-#[inline(always)]
-fn is_same_short(a: &str, b: &str) -> bool
-    ensures { result ≡ bytes_eq a.now b.now }
-{
-    match (a.as_bytes(), b.as_bytes()) {
-        ([one], [other]) => one == other,
-        _ => is_same_text(a, b),
-    }
-}
-
 impl CellText {
     /// A space of one column.
     pub(super) fn blank() -> CellText
@@ -141,24 +122,11 @@ impl CellText {
         }
     }
 
-    /// Whether both are the same text of the same width.
-    #[inline(always)]
-    pub(super) fn is_same(&self, other: &CellText) -> bool
-        requires self_stored { IsStored self.now }
-        requires other_stored { IsStored other.now }
-        ensures { result ≡ (bytes_eq (text_in self.now) (text_in other.now) && beq (wide_in self.now) (wide_in other.now)) }
-    {
-        match (self, other) {
-            (CellText::Narrow(a), CellText::Narrow(b)) => is_same_short(a.as_str(), b.as_str()),
-            _ => self.is_same_form(other),
-        }
-    }
-
-    // The same, for texts of any form. The length of a text tells its form, so texts of two forms
-    // differ.
-    #[inline(never)]
+    /// Whether both are the same text of the same width. The length of a text tells its form, so
+    /// texts of two forms differ.
+    #[inline]
     #[tactic(auto, using(crate::proofs::TextForms::short_differs_from_long, crate::proofs::TextForms::long_differs_from_short))]
-    fn is_same_form(&self, other: &CellText) -> bool
+    pub(super) fn is_same(&self, other: &CellText) -> bool
         requires self_stored { IsStored self.now }
         requires other_stored { IsStored other.now }
         ensures { result ≡ (bytes_eq (text_in self.now) (text_in other.now) && beq (wide_in self.now) (wide_in other.now)) }

@@ -204,7 +204,7 @@ fn is_shown(own: &[Cell], padding: &Cell, column: usize, cell: &CellRef<'_>) -> 
     requires { padding.now ≡ blank }
     ensures { result ≡ shows own.now column (ref_cell cell.now) }
 {
-    !is_half(own, column) && is_equal(cell_at(own, padding, column), cell)
+    is_equal(cell_at(own, padding, column), cell) && !is_half(own, column)
 }
 
 // Whether the column holds the second half of a wide cell.

@@ -9,8 +9,6 @@ use Rattle.termwiz_surface.specs.DiffRegions.{AreRows, CrossNone, HaveRegion}
 use Rattle.termwiz_surface.specs.Prints.{Print}
 use Rattle.termwiz_surface.specs.Screen.{Screen, row_at}
 use Rattle.termwiz_surface.specs.Step.{replay}
-use Rattle.termwiz_surface.specs.SurfaceValue.{SurfaceValue, IsSound}
-use Rattle.termwiz_surface.specs.Walked.{AreHalved}
 use Rattle.termwiz_surface.proofs.DiffLists.{gives_rows, gives_region}
 use Rattle.termwiz_surface.proofs.DiffScreens.{cut_inside, need_nothing}
 
@@ -53,7 +51,3 @@ module _ (f g : List ℕ → ℕ) (a b : Screen) (l : List ChangeValue) (own : A
       HaveRegion a.width (replay f a l).rows a.rows b.rows (cut r a.width a.height b.width b.height)
   cut_region r d e c =
       gives_region f a b (cut r a.width a.height b.width b.height) l own other (cut_inside r a.width a.height b.width b.height) c (by_one f g a (need a.rows b.rows (cut r a.width a.height b.width b.height)) l e d)
-
--- the stored rows of a sound surface
-pub sound_halves : {W : Type 0} (g : List ℕ → ℕ) (v : SurfaceValue W) → IsSound g v → AreHalved v.width v.lines
-sound_halves g v s = record { each = λ j l. record { halves = (s.stored_so j (omega (arith, s.full))).halves } }

@@ -124,7 +124,7 @@ impl CellText {
 
     /// Whether both are the same text of the same width. The length of a text tells its form, so
     /// texts of two forms differ.
-    #[inline]
+    #[inline(always)]
     #[tactic(auto, using(crate::proofs::TextForms::short_differs_from_long, crate::proofs::TextForms::long_differs_from_short))]
     pub(super) fn is_same(&self, other: &CellText) -> bool
         requires self_stored { IsStored self.now }
@@ -132,8 +132,8 @@ impl CellText {
         ensures { result ≡ (bytes_eq (text_in self.now) (text_in other.now) && beq (wide_in self.now) (wide_in other.now)) }
     {
         match (self, other) {
-            (CellText::Narrow(a), CellText::Narrow(b)) => a.as_str() == b.as_str(),
-            (CellText::Wide(a), CellText::Wide(b)) => a.as_str() == b.as_str(),
+            (CellText::Narrow(a), CellText::Narrow(b)) => is_same_short(a.as_str(), b.as_str()),
+            (CellText::Wide(a), CellText::Wide(b)) => is_same_str(a.as_str(), b.as_str()),
             (CellText::Long(a), CellText::Long(b)) => a.is_same(b),
             (CellText::Narrow(_), CellText::Wide(_)) => false,
             (CellText::Wide(_), CellText::Narrow(_)) => false,
@@ -156,6 +156,24 @@ impl CellText {
             CellText::Long(long) => long_text(*Box::allocator(long), &long.text, long.wide),
         }
     }
+}
+
+// Whether both are the same text. Most narrow texts have one byte, and are told apart without a call.
+#[inline(always)]
+fn is_same_short(a: &str, b: &str) -> bool
+    ensures { result ≡ bytes_eq a.now b.now }
+{
+    match (a.as_bytes(), b.as_bytes()) {
+        ([a], [b]) => *a == *b,
+        _ => is_same_str(a, b),
+    }
+}
+
+#[inline(never)]
+fn is_same_str(a: &str, b: &str) -> bool
+    ensures { result ≡ bytes_eq a.now b.now }
+{
+    a == b
 }
 
 /// A text of at most seven bytes. Most texts past ASCII have three, and the copy of a known length

@@ -1,5 +1,6 @@
 //! The cells that a diff prints, row by row.
-ghost use Rattle.std.specs.Prelude.{◌≡◌, ◌+◌, ◌-◌, ◌<◌, ◌≤◌, ◌^◌, ◌∷◌, [], ℕ, List, cond, fold, map, min, length, true, IfOk, OnOk};
+ghost use Rattle.std.specs.Prelude.{◌≡◌, ◌+◌, ◌-◌, ◌<◌, ◌≤◌, ◌^◌, ◌∷◌, [], ℕ, List, cond, fold, map, min, length, nat_lt, true, IfOk, OnOk};
+ghost use Rattle.std.specs.VecDeque.{deque_len};
 ghost use Rattle.termwiz_cell.specs.CellValue.{CellValue, blank, cell_eq};
 ghost use Rattle.termwiz_storage.specs.CellRef.{ref_cell};
 ghost use Rattle.termwiz_storage.specs.CellsLeft.{cells_left, IsOfCell};
@@ -10,8 +11,6 @@ ghost use Rattle.termwiz_surface.specs.RegionValue.{region_value};
 ghost use Rattle.termwiz_surface.specs.ScreenValue.{cells_of};
 ghost use Rattle.termwiz_surface.specs.Sides.{AreVectors};
 ghost use Rattle.termwiz_surface.specs.Walked.{AreHalved, EndsBlank};
-ghost use Rattle.std.specs.VecDeque.{deque_len};
-ghost use Rattle.std.specs.Prelude.{nat_lt};
 
 use super::region::Region;
 use super::writer::DiffWriter;
@@ -204,7 +203,7 @@ fn is_shown(own: &[Cell], padding: &Cell, column: usize, cell: &CellRef<'_>) -> 
     requires { padding.now ≡ blank }
     ensures { result ≡ shows own.now column (ref_cell cell.now) }
 {
-    !is_half(own, column) && is_equal(cell_at(own, padding, column), cell)
+    is_equal(cell_at(own, padding, column), cell) && !is_half(own, column)
 }
 
 // Whether the column holds the second half of a wide cell.

@@ -47,7 +47,10 @@ fn first_bytes(alloc: Global, line: &Line) -> Result<String, AllocError> {
 #[test]
 fn words_take_one_space_behind_them(rt: HostRuntime) -> Result<(), Fail> {
     let line = Line::from_plain(rt.alloc(), "foo  bar", &UnicodeWidths)?;
-    assert_eq!(rt; clusters_of(rt.alloc(), &line)?.as_str(), "0:4foo |4:1 |5:3bar|");
+    assert_eq!(rt;
+        clusters_of(rt.alloc(), &line)?.as_str(),
+        "0:4foo |4:1 |5:3bar|"
+    );
     Ok(())
 }
 
@@ -64,14 +67,27 @@ fn spaces_alone_are_a_cluster_and_no_cells_have_none(rt: HostRuntime) -> Result<
 fn each_byte_of_a_wide_cell_is_in_its_column(rt: HostRuntime) -> Result<(), Fail> {
     let line = line_of(rt.alloc(), &[("か", 2), ("a", 1)])?;
     assert_eq!(rt; clusters_of(rt.alloc(), &line)?.as_str(), "0:3かa|");
-    assert_eq!(rt; first_bytes(rt.alloc(), &line)?.as_str(), "0:2|0:2|0:2|2:1|");
+    assert_eq!(rt;
+        first_bytes(rt.alloc(), &line)?.as_str(),
+        "0:2|0:2|0:2|2:1|"
+    );
     Ok(())
 }
 
 #[test]
 fn a_long_text_behind_plain_ones_is_in_its_column(rt: HostRuntime) -> Result<(), Fail> {
     let line = line_of(rt.alloc(), &[("a", 1), ("b", 1), ("é", 1), ("c", 1)])?;
-    assert_eq!(rt; first_bytes(rt.alloc(), &line)?.as_str(), "0:1|1:1|2:1|2:1|3:1|");
+    assert_eq!(rt;
+        first_bytes(rt.alloc(), &line)?.as_str(),
+        "0:1|1:1|2:1|2:1|3:1|"
+    );
+    Ok(())
+}
+
+#[test]
+fn a_wide_cell_of_one_byte_takes_two_columns(rt: HostRuntime) -> Result<(), Fail> {
+    let line = line_of(rt.alloc(), &[("a", 2), ("b", 1)])?;
+    assert_eq!(rt; first_bytes(rt.alloc(), &line)?.as_str(), "0:2|2:1|");
     Ok(())
 }
 
@@ -108,7 +124,10 @@ fn the_mark_ends_no_cluster_and_is_left_out(rt: HostRuntime) -> Result<(), Fail>
 #[test]
 fn a_cluster_ends_where_the_presentation_changes(rt: HostRuntime) -> Result<(), Fail> {
     let line = line_of(rt.alloc(), &[("a", 1), ("☺\u{FE0F}", 2), ("b", 1)])?;
-    assert_eq!(rt; clusters_of(rt.alloc(), &line)?.as_str(), "0:1a|1:2☺\u{FE0F}|3:1b|");
+    assert_eq!(rt;
+        clusters_of(rt.alloc(), &line)?.as_str(),
+        "0:1a|1:2☺\u{FE0F}|3:1b|"
+    );
     Ok(())
 }
 
@@ -138,7 +157,10 @@ fn the_clusters_of_cells_and_a_copy_are_those_of_the_line(rt: HostRuntime) -> Re
     for cluster in clusters.iter() {
         let copy = cluster.clone()?;
         let bytes = cells_of_bytes(rt.alloc(), &copy)?;
-        assert_eq!(rt; bytes.as_str(), cells_of_bytes(rt.alloc(), cluster)?.as_str());
+        assert_eq!(rt;
+            bytes.as_str(),
+            cells_of_bytes(rt.alloc(), cluster)?.as_str()
+        );
     }
     Ok(())
 }

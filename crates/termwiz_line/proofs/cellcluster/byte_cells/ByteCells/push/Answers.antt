@@ -7,7 +7,7 @@ use Rattle.termwiz_line.proofs.cellcluster.byte_cells.ByteCells.push.Goals as go
 
 more : (c : goal.After-self-1) → plain_cells c.self.inside.plain.start c.in-Some.end ++ c.self.inside.others.items ≡ c.args.self.now ++ replicate c.args.count (c.args.index, c.args.width)
 more c =
-    let e = c.in-Some.ensures in
+    let e = c.in-Some.ensures.end in
     let none : vec_len c.self.inside.others ≡ 0 = (Decides-eqb (vec_len c.self.inside.others) 0).0 (sym c.if-is_empty.ensures) in
     rw (e.3, ← c.self.view_is) (plain_more c.self.inside.plain.start c.self.inside.plain.end c.args.count c.args.index c.args.width c.self.inside.others.items c.self.invariant (omega (arith, none, c.self.inside.others.ok.0)) e.0 e.1 e.2)
 

@@ -22,6 +22,17 @@ last_same (a ∷ []) [] x y e = cc
 last_same (a ∷ c ∷ xs) [] x y e = cc
 last_same (a ∷ xs) (b ∷ ys) x y e = last_same xs ys x y (cc)
 
+pub init_same : {A : Type 0} (xs ys : List A) (x y : A) → xs ++ x ∷ [] ≡ ys ++ y ∷ [] → xs ≡ ys
+init_same [] [] x y e = refl
+init_same [] (b ∷ []) x y e = cc
+init_same [] (b ∷ c ∷ ys) x y e = cc
+init_same (a ∷ []) [] x y e = cc
+init_same (a ∷ c ∷ xs) [] x y e = cc
+init_same {A} (a ∷ xs) (b ∷ ys) x y e =
+    let r : xs ≡ ys = init_same xs ys x y (cc) in
+    let h : a ≡ b = cc in
+    cc
+
 -- a list with an element has a last one
 pub split_last : {A : Type 0} (y : A) (ys : List A) → (init : List A) × (last : A) × (y ∷ ys ≡ init ++ last ∷ [])
 split_last y [] = ([], y, refl)

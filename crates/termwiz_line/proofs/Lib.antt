@@ -28,3 +28,9 @@ pub mod Columns
 pub mod Pruned
 pub mod StoredRows
 pub mod Overlays
+pub mod PlainCells
+pub mod Decided
+pub mod WordOrSpaces
+pub mod Nested
+pub mod Clustering
+pub mod ClustersAreOne

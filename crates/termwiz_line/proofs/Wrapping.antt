@@ -55,7 +55,7 @@ pub record IsWrapping (width seqno : ℕ) (first : ℕ × CellValue) (rest left 
 pub wrapping-start : (width seqno : ℕ) (first : ℕ × CellValue) (rest : List (ℕ × CellValue)) (used : ℕ) → used ≡ columns first.1 → IsWrapping width seqno first rest rest [] [] first used
 wrapping-start width seqno first rest used u = record { before = []; now = []; under_way = under_way-start (FitsOrAlone width) (closed width) first rest; lines_are = refl; line_is = refl; used_is = omega (arith, u) }
 
-columns_of-push : (p : List (ℕ × CellValue)) (c : ℕ × CellValue) → columns_of (p ++ c ∷ []) ≡ columns_of p + columns c.1
+pub columns_of-push : (p : List (ℕ × CellValue)) (c : ℕ × CellValue) → columns_of (p ++ c ∷ []) ≡ columns_of p + columns c.1
 columns_of-push p c = omega (arith, columns_of-append p (c ∷ []))
 
 with_halves-push : (p : List (ℕ × CellValue)) (c : ℕ × CellValue) → with_halves (p ++ c ∷ []) ≡ with_halves p ++ with_half c.1

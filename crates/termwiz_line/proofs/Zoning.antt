@@ -6,17 +6,9 @@ use Rattle.termwiz_storage.specs.Wrapped.{last_index}
 use Rattle.termwiz_line.specs.declared.line.line.zones.ZoneRange.{ZoneRange}
 use Rattle.termwiz_line.specs.Pieces.{AreEqualBy}
 use Rattle.termwiz_line.specs.Zones.{semantic, zone_of, semantic_of, first_index, AreZonesOf}
-use Rattle.termwiz_line.proofs.EqualBy.{AreEqualBy-closed, AreEqualBy-grows, AreEqualBy-ends}
+use Rattle.termwiz_line.proofs.EqualBy.{AreEqualBy-closed, AreEqualBy-takes, AreEqualBy-refuses}
 use Rattle.termwiz_line.proofs.Ends.{not_nil-append}
 use Rattle.termwiz_line.proofs.Cuts.{IsUnderWay, under_way-start, under_way-grows, under_way-ends, under_way-done}
-
-grows : (p : List (ℕ × CellValue)) (x : ℕ × CellValue) → p ≢ [] → semantic x ≡ semantic_of p → AreEqualBy semantic p → AreEqualBy semantic (p ++ x ∷ [])
-grows [] x s e h = absurd (s refl)
-grows (c ∷ cs) x s e h = AreEqualBy-grows semantic c x cs e h
-
-ends : (p : List (ℕ × CellValue)) (x : ℕ × CellValue) → p ≢ [] → (semantic x ≡ semantic_of p → ⊥) → AreEqualBy semantic (p ++ x ∷ []) → ⊥
-ends [] x s n h = s refl
-ends (c ∷ cs) x s n h = AreEqualBy-ends semantic c x cs n h
 
 pub last_index-push : (p : List (ℕ × CellValue)) (x : ℕ × CellValue) → last_index (p ++ x ∷ []) ≡ x.0
 last_index-push [] x = refl
@@ -44,7 +36,7 @@ zoning-grows first rest left zones zone x e z = record {
   before = z.before;
   now = z.now ++ x ∷ [];
   some = not_nil-append z.now x [];
-  under_way = under_way-grows (AreEqualBy semantic) first rest z.before z.now left x (grows z.now x z.some (e ∙ ap (λ (r : ZoneRange). r.semantic_type) z.zone_is) z.under_way.piece) z.under_way;
+  under_way = under_way-grows (AreEqualBy semantic) first rest z.before z.now left x (AreEqualBy-takes semantic semantic_of (λ c cs. refl) z.now x z.some (e ∙ ap (λ (r : ZoneRange). r.semantic_type) z.zone_is) z.under_way.piece) z.under_way;
   zones_are = z.zones_are;
   zone_is = rw z.zone_is (sym (zone_of-push z.now x z.some));
 }
@@ -54,7 +46,7 @@ zoning-ends first rest left zones zone x n z = record {
   before = z.before ++ z.now ∷ [];
   now = x ∷ [];
   some = λ e. cc;
-  under_way = under_way-ends (AreEqualBy semantic) (AreEqualBy-closed semantic) first rest z.before z.now left x (ends z.now x z.some (λ e. n (e ∙ sym (ap (λ (r : ZoneRange). r.semantic_type) z.zone_is)))) z.under_way;
+  under_way = under_way-ends (AreEqualBy semantic) (AreEqualBy-closed semantic) first rest z.before z.now left x (AreEqualBy-refuses semantic semantic_of (λ c cs. refl) z.now x z.some (λ e. n (e ∙ sym (ap (λ (r : ZoneRange). r.semantic_type) z.zone_is)))) z.under_way;
   zones_are = rw (z.zones_are, z.zone_is) (sym (map-append zone_of z.before (z.now ∷ [])));
   zone_is = refl;
 }

@@ -1,6 +1,9 @@
 -- What a line is cut into depends on its cells alone, whichever form stores them.
-use Rattle.std.specs.Prelude.{◌≡◌, ℕ, List}
-use Rattle.termwiz_cell.specs.CellValue.{CellValue}
+use Rattle.std.specs.Prelude.{◌≡◌, ℕ, ◌+◌, ◌<◌, List, ◌∷◌, ◌++◌, Option, get_or, length}
+use Rattle.termwiz_cell.specs.CellValue.{CellValue, columns}
+use Rattle.termwiz_cell.specs.declared.emoji.Presentation.{Presentation}
+use Rattle.termwiz_line.specs.Clusters.{AreClusters, ClusterValue, cells_of_bytes}
+use Rattle.termwiz_line.specs.Texts.{texts_of}
 use Rattle.termwiz_line.specs.declared.line.line.zones.ZoneRange.{ZoneRange}
 use Rattle.termwiz_line.specs.LineValue.{LineValue}
 use Rattle.termwiz_line.specs.Wraps.{IsWrapped}
@@ -13,3 +16,11 @@ ZonesAreOne = (cells : List (ℕ × CellValue)) (a b : List ZoneRange) → AreZo
 -- a line is wrapped in one way
 abbrev pub WrapsAreOne : Type 0
 WrapsAreOne = (width seqno : ℕ) (line : LineValue) (a b : List LineValue) → IsWrapped width seqno line a → IsWrapped width seqno line b → a ≡ b
+
+-- visible cells have one list of clusters
+abbrev pub ClustersAreOne : Type 0
+ClustersAreOne = (shown : List ℕ → Presentation × Option Presentation) (cells : List (ℕ × CellValue)) (a b : List ClusterValue) → AreClusters shown cells a → AreClusters shown cells b → a ≡ b
+
+-- each byte of a cell's text tells the column and the width of that cell
+abbrev pub BytesTellTheirCells : Type 0
+BytesTellTheirCells = (before : List (ℕ × CellValue)) (c : ℕ × CellValue) (after : List (ℕ × CellValue)) (k : ℕ) → k < length c.1.text → get_or (cells_of_bytes (before ++ c ∷ after)) (length (texts_of before) + k) (0, 0) ≡ (c.0, columns c.1)

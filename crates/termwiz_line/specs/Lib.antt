@@ -17,6 +17,9 @@ pub mod Row
 pub mod Shows
 pub mod Entries
 pub mod RowLaws
+pub mod Clusters
+pub mod ClusterShapes
+pub mod PlainCells
 pub mod CutLaws
 pub mod PennedValue
 pub mod LastChange

@@ -1,5 +1,5 @@
 //! What rows, edits and cuts are: laws of the definitions that the contracts cite, each on a function that does nothing.
-ghost use Rattle.termwiz_line.specs.CutLaws.{WrapsAreOne, ZonesAreOne};
+ghost use Rattle.termwiz_line.specs.CutLaws.{BytesTellTheirCells, ClustersAreOne, WrapsAreOne, ZonesAreOne};
 ghost use Rattle.termwiz_line.specs.EditLaws.{AllColumnsShow, StoredAgainShows};
 ghost use Rattle.termwiz_line.specs.RowLaws.{PaintPaints, ClearClears, ClearPast, VisibleFixesRow, CellsHaveRow, VisibleFixesRowOf, WalkGrows, ResizedIsRow, SetCellPaints, PruningKeepsRow};
 
@@ -32,4 +32,10 @@ pub fn edit_laws()
 pub fn cut_laws()
     ensures zones { ZonesAreOne }
     ensures wraps { WrapsAreOne }
+{}
+
+/// The clusters of a line follow from its cells, whichever form stores them, and each byte of a cell's text tells the column and the width of that cell.
+pub fn cluster_laws()
+    ensures one { ClustersAreOne }
+    ensures bytes { BytesTellTheirCells }
 {}

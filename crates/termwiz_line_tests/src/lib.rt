@@ -2,6 +2,8 @@
 #![tactic(auto)]
 
 #[cfg(test)]
+mod clusters;
+#[cfg(test)]
 mod cuts;
 #[cfg(test)]
 mod edit_table;

@@ -11,15 +11,18 @@ ghost use Rattle.termwiz_line.specs.LineFlags.{no_flags};
 ghost use Rattle.termwiz_line.specs.LineEdits.{IsMade};
 ghost use Rattle.termwiz_line.specs.LineValue.{IsEdited, IsUnchanged};
 ghost use Rattle.termwiz_cell.specs.ChangeValue.{change_value};
+ghost use Rattle.termwiz_line.specs.Clusters.{AreClusters};
 ghost use Rattle.termwiz_line.specs.Entries.{row_entries};
 ghost use Rattle.termwiz_line.specs.LineEq.{contents_eq, contents_eq-Decides, flags_eq, line_contents, line_eq};
 
+use crate::cellcluster::CellCluster;
 use crate::entries::row_entries;
 use crate::line::linebits::LineBits;
 use std::alloc::{AllocError, Global};
 use std::marker::Model;
 use termwiz_cell::cell::{Cell, CellAttributes};
 use termwiz_cell::change::{Change, SequenceNo};
+use termwiz_cell::emoji::Widths;
 use termwiz_storage::line::cellref::VisibleCellIter;
 use termwiz_storage::line::storage::CellStorage;
 
@@ -193,6 +196,13 @@ impl Line {
     {
         let row = row_entries(self.alloc, self.visible_cells(), start_attr)?;
         Ok(row.entries)
+    }
+
+    /// The clusters of the visible cells: the pieces that a shaper is given.
+    pub fn cluster<W: Widths>(&self, widths: &W) -> Result<Vec<CellCluster>, AllocError>
+        ensures { IfOk result (λ clusters. AreClusters (W.presentation_of widths.now) (visible self.now.cells) clusters.items) }
+    {
+        CellCluster::make_cluster(self.alloc, widths, self.visible_cells())
     }
 
     /// The cells of a vector: the half of a wide cell follows it. A line that is stored in another form has none to lend.

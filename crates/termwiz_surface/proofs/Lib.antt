@@ -34,3 +34,5 @@ mod ResizedSize
 mod Following
 mod Viewing
 mod FollowedRuns
+mod CursorPlaces
+mod CursorColumns

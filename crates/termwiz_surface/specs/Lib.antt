@@ -26,3 +26,5 @@ pub mod Regions
 pub mod Resized
 pub mod Following
 pub mod FollowingLaws
+pub mod Sequence
+pub mod SequenceLaws

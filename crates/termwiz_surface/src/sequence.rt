@@ -191,7 +191,7 @@ fn push(changes: &mut Vec<Change>, change: Change) -> Result<(), AllocError>
 }
 
 impl<W: Widths> ChangeSequence<W> {
-    ghost use Rattle.termwiz_surface.specs.Sequence.{SequenceValue, AddsAll, AddsOne, DistancesFit, MovesTo, RowFits, move_by, place_after};
+    ghost use Rattle.termwiz_surface.specs.Sequence.{SequenceValue, IsSequence, AddsAll, AddsOne, DistancesFit, MovesTo, RowFits, move_by, place_after};
 
     /// An empty sequence for a screen of this size.
     pub fn new(alloc: Global, rows: usize, cols: usize, widths: W) -> ChangeSequence<W>
@@ -223,9 +223,8 @@ impl<W: Widths> ChangeSequence<W> {
     /// The cursor's column and row. The column is the number of columns where a wrap is pending, and a row above the first is below 0.
     pub fn current_cursor_position(&self) -> (usize, isize)
         ensures cursor { result ≡ self.now.cursor }
-        ensures column { result.0 ≤ self.now.columns }
-        ensures least { self.now.least ≤ℤ result.1 }
-        ensures greatest { result.1 ≤ℤ self.now.greatest }
+        // Every sequence has its form: the cursor is in its columns, and its row between the least and the greatest.
+        ensures form { IsSequence self.now }
     {
         (self.x, self.y)
     }

@@ -5,6 +5,7 @@ pub mod comparison;
 pub mod last_row;
 pub mod lines;
 pub mod one_by_one;
+pub mod prompt;
 pub mod renderer;
 pub mod status;
 #[cfg(test)]

@@ -33,6 +33,8 @@ mod runs;
 #[cfg(test)]
 mod runs_of_text;
 #[cfg(test)]
+mod sequences;
+#[cfg(test)]
 mod sizes;
 #[cfg(test)]
 mod steps;

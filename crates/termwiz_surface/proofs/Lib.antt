@@ -46,3 +46,5 @@ mod Restoring
 mod FewestPrints
 mod Copying
 mod DiffSurfaces
+mod CursorPlaces
+mod CursorColumns

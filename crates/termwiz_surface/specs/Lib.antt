@@ -36,3 +36,5 @@ pub mod Copies
 pub mod Ends
 pub mod Walked
 pub mod RegionValue
+pub mod Sequence
+pub mod SequenceLaws

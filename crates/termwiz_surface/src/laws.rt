@@ -3,6 +3,7 @@ ghost use Rattle.termwiz_surface.specs.FollowingLaws.{ChangesLeadOn, FlushesKeep
 ghost use Rattle.termwiz_surface.specs.DiffLaws.{CutIsInside, DiffGivesBand, DiffGivesRegion, DiffGivesRows, DrawingRestores, LinesArePrintable, NeedGivesRegion, NeedGivesRows, NeedIs, PrintsAreDiff, RegionIsDiff};
 ghost use Rattle.termwiz_surface.specs.Fewest.{FewestNarrowPrints, FewestPrints};
 ghost use Rattle.termwiz_surface.specs.RepaintLaws.{LineEntriesGiveRow, RepaintGivesScreen, RepaintIsShort};
+ghost use Rattle.termwiz_surface.specs.SequenceLaws.{MovesLeadThere, TextsMoveAlike};
 
 /// What a repaint and the entries of a line do when they are replayed.
 pub fn repaint_laws()
@@ -43,4 +44,9 @@ pub fn diff_laws()
 pub fn fewest_prints()
     ensures thirds { FewestPrints }
     ensures narrow { FewestNarrowPrints }
+
+/// Where a text and a move leave the cursor of a sequence: a text in the column in which it leaves a surface's, and a move where it was to lead.
+pub fn sequence_laws()
+    ensures texts { TextsMoveAlike }
+    ensures moves { MovesLeadThere }
 {}

@@ -2,5 +2,6 @@
 #![tactic(auto)]
 
 pub mod laws;
+pub mod sequence;
 pub mod surface;
 pub mod view;

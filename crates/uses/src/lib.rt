@@ -6,6 +6,7 @@ pub mod follower;
 pub mod last_row;
 pub mod lines;
 pub mod one_by_one;
+pub mod prompt;
 pub mod renderer;
 pub mod status;
 #[cfg(test)]

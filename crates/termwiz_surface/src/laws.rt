@@ -44,6 +44,7 @@ pub fn diff_laws()
 pub fn fewest_prints()
     ensures thirds { FewestPrints }
     ensures narrow { FewestNarrowPrints }
+{}
 
 /// Where a text and a move leave the cursor of a sequence: a text in the column in which it leaves a surface's, and a move where it was to lead.
 pub fn sequence_laws()

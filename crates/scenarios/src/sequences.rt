@@ -100,7 +100,11 @@ fn a_list_is_added_in_order(rt: HostRuntime) -> Result<(), Fail> {
     let changes = vec![in alloc; first, hidden(), at(1, 3)]?;
     sequence.add_changes(changes)?;
     assert_reaches(&rt, &sequence, (1, 1), 1);
-    assert_holds(&rt, sequence, &[text(alloc, "\u{304b}b\r\n")?, hidden(), at(1, 3)]);
+    assert_holds(
+        &rt,
+        sequence,
+        &[text(alloc, "\u{304b}b\r\n")?, hidden(), at(1, 3)],
+    );
     Ok(())
 }
 

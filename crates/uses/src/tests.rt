@@ -3,6 +3,7 @@ use crate::comparison::show_the_same;
 use crate::follower::{Follower, make_and_show};
 use crate::last_row::clear_last_row;
 use crate::one_by_one::make_one_by_one;
+use crate::prompt::show_prompt;
 use crate::status::draw_status;
 use crate::viewer::Viewer;
 use std::test::Fail;
@@ -10,6 +11,7 @@ use termwiz_cell::cell::CellAttributes;
 use termwiz_cell::change::Change;
 use termwiz_cell::color::ColorAttribute;
 use termwiz_cell::emoji::UnicodeWidths;
+use termwiz_surface::sequence::ChangeSequence;
 use termwiz_surface::surface::Surface;
 
 #[test]
@@ -78,5 +80,15 @@ fn changes_are_made_one_by_one(rt: HostRuntime) -> Result<(), Fail> {
     make_one_by_one(&mut surface, changes)?;
     assert_eq!(rt; surface.cursor_position(), (3, 0));
     assert_eq!(rt; surface.current_seqno(), 2);
+    Ok(())
+}
+
+#[test]
+fn a_prompt_leaves_the_cursor_in_its_line(rt: HostRuntime) -> Result<(), Fail> {
+    let alloc = rt.alloc();
+    let mut sequence = ChangeSequence::new(alloc, 24, 8, UnicodeWidths);
+    show_prompt(alloc, &mut sequence, "> make", "check, clean, test", 2)?;
+    assert_eq!(rt; sequence.current_cursor_position(), (2, 0));
+    assert_eq!(rt; sequence.render_height(), 3);
     Ok(())
 }

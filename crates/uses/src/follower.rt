@@ -92,8 +92,6 @@ pub fn make_and_show<W: Widths>(
     ensures width { follower.new.surface.width ≡ surface.new.width }
     ensures height { follower.new.surface.height ≡ surface.new.height }
 {
-    // Changes of a surface, and want of memory, keep its followers following.
-    following_laws();
     surface.add_change(change)?;
     follower.catch_up(surface)?;
     Ok(())

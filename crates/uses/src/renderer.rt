@@ -6,7 +6,6 @@ ghost use Rattle.termwiz_surface.specs.Log.{flushed};
 ghost use Rattle.termwiz_surface.specs.SurfaceValue.{screen_of};
 
 use termwiz_cell::emoji::Widths;
-use termwiz_surface::laws::following_laws;
 use termwiz_surface::surface::{Surface, SurfaceError};
 use termwiz_surface::view::Viewer;
 
@@ -23,8 +22,6 @@ pub fn refresh<W: Widths>(
     // The next turn can rely on it again, after an error too.
     ensures follows { Follows (λ widths. unversioned (W.width_of widths)) viewer.new surface.new }
 {
-    // A flush keeps what leads the viewer.
-    following_laws();
     viewer.follow(surface)?;
     surface.flush_changes_older_than(viewer.last());
     Ok(())

@@ -1,5 +1,5 @@
 //! Cells stored as one text.
-ghost use Rattle.std.specs.Prelude.{◌≡◌, ◌+◌, ◌++◌, ◌∷◌, ◌^◌, ◌<◌, ◌≤◌, ◌↔◌, [], IfOk, IfSome, IsSome, IsTrue, OnErr, OnOk, length, string_bytes, string_capacity, string_len};
+ghost use Rattle.std.specs.Prelude.{◌≡◌, ◌+◌, ◌++◌, ◌∷◌, ◌^◌, ◌<◌, ◌≤◌, ◌↔◌, [], IfOk, IfSome, IsSome, IsTrue, OnErr, OnOk, length, true, string_bytes, string_capacity, string_len};
 ghost use Rattle.std.specs.Iterator.{item_count};
 ghost use Rattle.termwiz_cell.specs.CellValue.{blank, cell_of, clean, half};
 ghost use Rattle.termwiz_storage.specs.CellRef.{indexed_cell, ref_cell};
@@ -7,7 +7,8 @@ ghost use Rattle.termwiz_storage.specs.CellTexts.{texts_of};
 ghost use Rattle.termwiz_storage.specs.CellsLeft.{IsOfCell, YieldsCell};
 ghost use Rattle.termwiz_storage.specs.Clustered.{IsWhole, cell_len};
 ghost use Rattle.termwiz_storage.specs.Edits.{with_half};
-ghost use Rattle.termwiz_storage.specs.Stored.{visible};
+ghost use Rattle.std.specs.List.{list_any};
+ghost use Rattle.termwiz_storage.specs.Stored.{is_linked, visible, IsKept};
 ghost use Rattle.termwiz_storage.specs.Wrapped.{set_last_wrapped, with_wrapped};
 
 mod run_lists;
@@ -80,6 +81,40 @@ impl ClusteredLine {
         ensures whole { IsWhole self.now }
     {
         self.len
+    }
+
+    /// Whether no cell is stored.
+    pub fn is_empty(&self) -> bool
+        ensures { IsTrue result ↔ (self.now ≡ []) }
+    {
+        self.len == 0
+    }
+
+    /// How many cells are left without the default blanks that end the list.
+    pub(super) fn kept_len(&self) -> usize
+        ensures { IsKept self.now result }
+    {
+        let mut kept = 0;
+        for cell in self.iter() {
+            if !cell.is_blank() {
+                kept = cell.cell_index().saturating_add(cell.width());
+            }
+        }
+        kept.min(self.len)
+    }
+
+    /// Whether a stored cell has a link.
+    pub(super) fn has_hyperlink(&self) -> bool
+        ensures { result ≡ list_any is_linked self.now }
+    {
+        // No wide cell lacks its half, which the reader of the length knows.
+        let _len = self.len();
+        for cell in self.iter() {
+            if cell.attrs().hyperlink().is_some() {
+                return true;
+            }
+        }
+        false
     }
 
     // Gives back the memory that is kept for more cells.
@@ -206,8 +241,8 @@ impl ClusteredLine {
     }
 }
 
-// Whether each hidden cell is the half of the one that hides it, and no wide cell lacks its half.
-fn is_whole(cells: &[Cell]) -> bool
+/// Whether each hidden cell is the half of the one that hides it, and no wide cell lacks its half.
+pub(super) fn is_whole(cells: &[Cell]) -> bool
     ensures { IsTrue result ↔ IsWhole cells.now }
 {
     let mut hidden = false;

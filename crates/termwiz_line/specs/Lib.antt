@@ -22,3 +22,4 @@ pub mod PennedValue
 pub mod LastChange
 pub mod GrowingText
 pub mod Writing
+pub mod StorageLaws

@@ -8,6 +8,7 @@ ghost use Rattle.termwiz_cell.specs.Attributes.{needs_box};
 ghost use Rattle.termwiz_cell.specs.CellValue.{blank};
 ghost use Rattle.termwiz_storage.specs.CellLists.{cells_eq, cells_eq-Decides};
 ghost use Rattle.termwiz_storage.specs.CellRef.{indexed_cell};
+ghost use Rattle.termwiz_storage.specs.CellTexts.{texts_of};
 ghost use Rattle.termwiz_storage.specs.CellsLeft.{cells_left, IsOfCell};
 ghost use Rattle.termwiz_storage.specs.Clustered.{IsWhole};
 ghost use Rattle.termwiz_storage.specs.Stored.{visible, fill, set_cell, set_run, IsKept};
@@ -81,6 +82,16 @@ impl CellStorage {
         }
     }
 
+    /// The texts of the visible cells, one after another, where they stand in a text. A vector has none to lend.
+    pub fn text(&self) -> Option<&str>
+        ensures { option_map (λ text. text.now) result ≡ (if is_vector self.now then None else Some (texts_of (visible (cells_of self.now)))) }
+    {
+        match self {
+            CellStorage::V(_) => None,
+            CellStorage::Cluster(line) => Some(line.text()),
+        }
+    }
+
     /// The visible cells.
     pub fn iter(&self) -> VisibleCellIter<'_>
         ensures { cells_left result ≡ visible (cells_of self.now) }
@@ -92,11 +103,13 @@ impl CellStorage {
     }
 
     /// Sets a cell. The list is padded so far, a wide cell that is cut leaves a blank with its attributes, and the half of a wide cell follows it.
+    /// Behind the last cell of a text it is appended to the text. Anywhere else, as by each other edit but that of the mark of the last cell, a text becomes a vector.
     /// On an error, which a column past the greatest number gives too, the cells are as before.
     pub fn set_cell(&mut self, i: usize, cell: Cell) -> Result<(), AllocError>
         ensures ok { OnOk result (cells_of self.new ≡ set_cell i cell (cells_of self.old)) }
         ensures err { OnErr result (cells_of self.new ≡ cells_of self.old) }
         ensures vector { is_vector self.old ≡ true → is_vector self.new ≡ true }
+        ensures appended { is_vector self.old ≡ false → i ≡ length (cells_of self.old) → OnOk result (is_vector self.new ≡ false) }
     {
         if let CellStorage::Cluster(line) = self {
             if line.len() == i {

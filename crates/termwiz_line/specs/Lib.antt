@@ -25,3 +25,4 @@ pub mod PennedValue
 pub mod LastChange
 pub mod GrowingText
 pub mod Writing
+pub mod StorageLaws

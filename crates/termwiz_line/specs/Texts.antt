@@ -4,6 +4,7 @@ use Rattle.std.specs.List.{flat_map}
 use Rattle.unicode_segmentation.specs.Grapheme.{graphemes}
 use Rattle.termwiz_cell.specs.Attributes.{Attributes}
 use Rattle.termwiz_cell.specs.CellValue.{CellValue, columns, measured}
+pub use Rattle.termwiz_storage.specs.CellTexts.{texts_of}
 use Rattle.termwiz_storage.specs.Edits.{begins_within, with_halves}
 use Rattle.termwiz_storage.specs.Stored.{set_cell}
 use Rattle.termwiz_storage.specs.Wrapped.{set_last_wrapped}
@@ -26,10 +27,6 @@ stored_text measure a text = with_halves (placed 0 (cells_of_text measure a text
 -- the same where the text goes on in the next line; an empty text has no cell to mark
 abbrev pub wrapped_text : (List ℕ → ℕ) → Attributes → List ℕ → List CellValue
 wrapped_text measure a text = if length (stored_text measure a text) == 0 then [] else set_last_wrapped true (stored_text measure a text)
-
--- the texts of visible cells
-abbrev pub texts_of : List (ℕ × CellValue) → List ℕ
-texts_of cells = flat_map (λ p. p.1.text) cells
 
 -- the text of a visible cell that begins in the columns from a to b - 1
 abbrev pub text_within : ℕ → ℕ → ℕ × CellValue → List ℕ

@@ -1,6 +1,7 @@
 //! What rows, edits and cuts are: laws of the definitions that the contracts cite, each on a function that does nothing.
 ghost use Rattle.termwiz_line.specs.CutLaws.{BytesTellTheirCells, ClustersAreOne, WrapsAreOne, ZonesAreOne};
 ghost use Rattle.termwiz_line.specs.EditLaws.{AllColumnsShow, StoredAgainShows};
+ghost use Rattle.termwiz_line.specs.StorageLaws.{EqualInAnyForm, WholeIsVisible};
 ghost use Rattle.termwiz_line.specs.RowLaws.{PaintPaints, ClearClears, ClearPast, VisibleFixesRow, CellsHaveRow, VisibleFixesRowOf, WalkGrows, ResizedIsRow, SetCellPaints, PruningKeepsRow};
 
 /// Painting and clearing a row do to what it shows what the words say, and what it shows fixes it.
@@ -38,4 +39,10 @@ pub fn cut_laws()
 pub fn cluster_laws()
     ensures one { ClustersAreOne }
     ensures bytes { BytesTellTheirCells }
+{}
+
+/// Lines are equal by cells, number and flags, whichever form stores the cells. The lists that may stand in a text are those that are their visible cells with their halves.
+pub fn storage_laws()
+    ensures equal { EqualInAnyForm }
+    ensures whole { WholeIsVisible }
 {}

@@ -8,7 +8,7 @@ use Rattle.termwiz_storage.specs.Wrapped.{last_index, with_wrapped, wrapped_from
 
 -- ---- which stored cell is the last visible one
 
-hides-behind_narrow : (c : CellValue) (cs : List CellValue) (k : ℕ) → is_wide c ≡ false → hides (c ∷ cs) (suc k) ≡ hides cs k
+pub hides-behind_narrow : (c : CellValue) (cs : List CellValue) (k : ℕ) → is_wide c ≡ false → hides (c ∷ cs) (suc k) ≡ hides cs k
 hides-behind_narrow c cs zero w = rw w refl
 hides-behind_narrow c cs (suc k) w = ap (λ b. is_wide (stored cs k) && not b) (hides-behind_narrow c cs k w)
 
@@ -16,7 +16,7 @@ no_and : (b : Bool) → (b && false) ≡ false
 no_and true = refl
 no_and false = refl
 
-hides-behind_wide : (c d : CellValue) (cs : List CellValue) (k : ℕ) → is_wide c ≡ true → hides (c ∷ d ∷ cs) (suc (suc k)) ≡ hides cs k
+pub hides-behind_wide : (c d : CellValue) (cs : List CellValue) (k : ℕ) → is_wide c ≡ true → hides (c ∷ d ∷ cs) (suc (suc k)) ≡ hides cs k
 hides-behind_wide c d cs zero w = rw w (no_and (is_wide d))
 hides-behind_wide c d cs (suc k) w = ap (λ b. is_wide (stored cs k) && not b) (hides-behind_wide c d cs k w)
 

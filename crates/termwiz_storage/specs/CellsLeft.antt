@@ -4,10 +4,11 @@ use Rattle.termwiz_cell.specs.CellValue.{CellValue, clean, columns}
 use Rattle.termwiz_storage.specs.CellRef.{indexed_cell, ref_cell, ref_width}
 use Rattle.termwiz_storage.specs.declared.line.cellref.CellRef.{CellRef}
 use Rattle.termwiz_storage.specs.declared.line.cellref.VisibleCellIter.{VisibleCellIter}
-use Rattle.termwiz_storage.specs.declared.line.cellref.VisibleCellIter.TheVariants.{V}
+use Rattle.termwiz_storage.specs.declared.line.cellref.VisibleCellIter.TheVariants.{V, Cluster}
 
 abbrev pub cells_left : VisibleCellIter → List (ℕ × CellValue)
 cells_left (V s) = s
+cells_left (Cluster s) = s
 
 -- what a borrowed cell tells is true of a cell: its width is the cell's, and its text is one that cells have
 pub record IsOfCell (r : CellRef) : Type 0 where

@@ -9,3 +9,6 @@ pub mod CellRef
 pub mod CellsLeft
 pub mod Storage
 pub mod Lending
+pub mod CellTexts
+pub mod CellRuns
+pub mod Clustered

@@ -1,15 +1,17 @@
 -- The list of stored cells, whichever form holds it.
-use Rattle.std.specs.Prelude.{Bool, true, List}
+use Rattle.std.specs.Prelude.{Bool, true, false, List}
 use Rattle.termwiz_cell.specs.CellValue.{CellValue}
 use Rattle.termwiz_storage.specs.CellLists.{cells_eq}
 use Rattle.termwiz_storage.specs.declared.line.storage.CellStorage.{CellStorage}
-use Rattle.termwiz_storage.specs.declared.line.storage.CellStorage.TheVariants.{V}
+use Rattle.termwiz_storage.specs.declared.line.storage.CellStorage.TheVariants.{V, Cluster}
 
 abbrev pub cells_of : CellStorage → List CellValue
 cells_of (V s) = s
+cells_of (Cluster s) = s
 
 abbrev pub is_vector : CellStorage → Bool
 is_vector (V s) = true
+is_vector (Cluster s) = false
 
 -- `==` of storages looks at the cells alone
 abbrev pub same_cells : CellStorage → CellStorage → Bool

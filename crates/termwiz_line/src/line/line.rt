@@ -5,10 +5,10 @@ ghost use Rattle.termwiz_cell.specs.CellValue.{blank};
 ghost use Rattle.termwiz_storage.specs.Stored.{visible};
 ghost use Rattle.termwiz_storage.specs.Halves.{resized};
 ghost use Rattle.termwiz_storage.specs.CellLists.{cells_eq};
+ghost use Rattle.termwiz_storage.specs.Clustered.{IsWhole};
 ghost use Rattle.termwiz_storage.specs.CellsLeft.{cells_left};
 ghost use Rattle.termwiz_storage.specs.Storage.{cells_of, is_vector};
 ghost use Rattle.termwiz_line.specs.LineFlags.{no_flags};
-ghost use Rattle.termwiz_line.specs.LineEdits.{IsMade};
 ghost use Rattle.termwiz_line.specs.LineValue.{IsEdited, IsUnchanged};
 ghost use Rattle.termwiz_cell.specs.ChangeValue.{change_value};
 ghost use Rattle.termwiz_line.specs.Clusters.{AreClusters};
@@ -43,6 +43,8 @@ use zones::drop_zones;
 /// It stores cells from the first column on, and the half of a wide cell follows it. How many it stores is not how wide it is shown: who shows a line reads default blanks behind its last cell, and cuts what is too long.
 ///
 /// Each edit is given the number of the change that it belongs to, and the line keeps the greatest that it has taken. Where each change has a new number, whoever keeps something that was made from a line sees by it that the line has changed since. Two lines are equal where their cells, numbers and flags are, whichever form stores the cells.
+///
+/// A line stores its cells as a vector or as one text. A new one is a text, and stays one while each cell is set at its end; `compress_for_scrollback` makes one of a vector, and any other edit a vector of a text. No answer but that of `stored_cells` tells which it is.
 ///
 /// `visible_cells` walks what is seen of a line, and `changes` gives the changes that print it, for whoever has to write it somewhere else.
 #[derive(Drop, Debug)]
@@ -100,11 +102,11 @@ impl Line {
         Line::of(alloc, CellStorage::vector(cells), seqno)
     }
 
-    /// A line without cells.
+    /// A line without cells. It stores them as one text as long as each is set at its end.
     pub fn new(alloc: Global, seqno: SequenceNo) -> Line
-        ensures { IsMade [] seqno result }
+        ensures { result ≡ record { cells = []; seqno = seqno; flags = no_flags; is_vector = false } }
     {
-        Line::from_cells(Vec::new(alloc), seqno)
+        Line::of(alloc, CellStorage::clustered(alloc), seqno)
     }
 
     // A line without flags.
@@ -154,6 +156,20 @@ impl Line {
         let mut storage = CellStorage::V(self.storage.to_vec()?);
         storage.resize(width)?;
         Ok(Line::of(self.alloc, storage, seqno))
+    }
+
+    /// Stores the cells as one text, which takes far less memory: for what is kept of rows that have scrolled away. Cells, number and flags stay.
+    /// A vector stays one where a hidden cell isn't a blank with the attributes of the cell that hides it, or where the last visible cell is wide and lacks its half.
+    /// On an error nothing changed.
+    pub fn compress_for_scrollback(&mut self) -> Result<(), AllocError>
+        ensures cells { self.new.cells ≡ self.old.cells }
+        ensures number { self.new.seqno ≡ self.old.seqno }
+        ensures flags { self.new.flags ≡ self.old.flags }
+        ensures clustered { OnOk result (self.new.is_vector ≡ false ↔ IsWhole self.old.cells) }
+        ensures err { OnErr result (self.new ≡ self.old) }
+    {
+        self.storage.compress(self.alloc)?;
+        Ok(())
     }
 
     /// Whether both lines have the same cells, whatever their numbers and flags, and whichever form stores them.

@@ -3,9 +3,10 @@ ghost use Rattle.std.specs.Prelude.{◌≡◌, ◌≤◌, ◌↔◌, IsTrue, IfO
 ghost use Rattle.std.specs.Option.{unwrap_or};
 ghost use Rattle.std.specs.Iterator.{item_count};
 ghost use Rattle.termwiz_cell.specs.CellValue.{blank, cell_of, columns, space};
-ghost use Rattle.termwiz_storage.specs.CellRef.{contents, contents_of, ref_index, ref_cell, ref_width};
+ghost use Rattle.termwiz_storage.specs.CellRef.{contents, contents_of, indexed_cell, ref_index, ref_cell, ref_width};
 ghost use Rattle.termwiz_storage.specs.CellsLeft.{cells_left, IsOfCell, YieldsCell};
 
+use crate::line::clusterline::ClusterLineIter;
 use crate::line::vecstorage::VecStorageIter;
 use std::alloc::{AllocError, Global};
 use termwiz_cell::cell::{Cell, CellAttributes};
@@ -112,6 +113,15 @@ impl<'a> CellRef<'a> {
             && (self.width() == other.width() && *self.attrs() == *other.attrs())
     }
 
+    /// Whether both are the same cell, at the same column.
+    pub fn is_same(&self, other: &CellRef<'_>) -> bool
+        requires own { IsOfCell self.now }
+        requires other { IsOfCell other.now }
+        ensures { IsTrue result ↔ (indexed_cell self.now ≡ indexed_cell other.now) }
+    {
+        self.cell_index() == other.cell_index() && self.same_contents(other)
+    }
+
     /// Whether it shows what this cell shows.
     pub fn is_cell(&self, cell: &Cell) -> bool
         ensures { IsTrue result ↔ (contents self.now ≡ contents_of cell.now) }
@@ -149,6 +159,7 @@ fn copied(cell: &Cell) -> Result<Cell, AllocError>
 #[derive(Drop)]
 pub enum VisibleCellIter<'a> {
     V(VecStorageIter<'a>),
+    Cluster(ClusterLineIter<'a>),
 }
 
 impl<'a> Iterator for VisibleCellIter<'a> {
@@ -161,6 +172,7 @@ impl<'a> Iterator for VisibleCellIter<'a> {
     fn next(&mut self) -> Option<CellRef<'a>> {
         match self {
             VisibleCellIter::V(iter) => iter.next(),
+            VisibleCellIter::Cluster(iter) => iter.next(),
         }
     }
 }

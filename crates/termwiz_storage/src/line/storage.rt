@@ -1,5 +1,5 @@
 //! Where a line keeps its cells, and all that edits them.
-ghost use Rattle.std.specs.Prelude.{◌≡◌, ◌-◌, ◌<◌, ◌≤◌, [], ◌↔◌, false, true, length, option_map, replicate, take, IsTrue, IsOk, IfOk, OnOk, OnErr, Some, None, if◌then◌else◌};
+ghost use Rattle.std.specs.Prelude.{◌≡◌, ◌-◌, ◌<◌, ◌≤◌, ◌∷◌, [], ◌↔◌, drop, false, true, length, option_map, replicate, take, IsTrue, IsOk, IfOk, OnOk, OnErr, Some, None, if◌then◌else◌};
 ghost use Rattle.std.specs.Borrow.{sem};
 ghost use Rattle.std.specs.Cmp.{decided, on_equiv, on_per, partial_equiv_from_equiv};
 ghost use Rattle.std.specs.List.{list_all, list_any};
@@ -7,7 +7,10 @@ ghost use Rattle.termwiz_text.specs.Plain.{is_plain};
 ghost use Rattle.termwiz_cell.specs.Attributes.{needs_box};
 ghost use Rattle.termwiz_cell.specs.CellValue.{blank};
 ghost use Rattle.termwiz_storage.specs.CellLists.{cells_eq, cells_eq-Decides};
-ghost use Rattle.termwiz_storage.specs.CellsLeft.{cells_left};
+ghost use Rattle.termwiz_storage.specs.CellRef.{indexed_cell};
+ghost use Rattle.termwiz_storage.specs.CellTexts.{texts_of};
+ghost use Rattle.termwiz_storage.specs.CellsLeft.{cells_left, IsOfCell};
+ghost use Rattle.termwiz_storage.specs.Clustered.{IsWhole};
 ghost use Rattle.termwiz_storage.specs.Stored.{visible, fill, set_cell, set_run, IsKept};
 ghost use Rattle.termwiz_storage.specs.Halves.{resized};
 ghost use Rattle.termwiz_storage.specs.Storage.{cells_of, is_vector, same_cells};
@@ -17,9 +20,10 @@ ghost use Rattle.termwiz_storage.specs.Wrapped.{set_last_wrapped};
 
 mod edits;
 
-use crate::line::cellref::VisibleCellIter;
+use crate::line::cellref::{CellRef, VisibleCellIter};
+use crate::line::clusterline::{ClusteredLine, is_whole};
 use crate::line::vecstorage::VecStorage;
-use std::alloc::AllocError;
+use std::alloc::{AllocError, Global};
 use termwiz_cell::cell::{Cell, CellAttributes};
 
 /// The stored cells of a line. It is the only door to them: each edit of the list is one of its methods.
@@ -27,6 +31,8 @@ use termwiz_cell::cell::{Cell, CellAttributes};
 pub enum CellStorage {
     /// Each cell has a place of its own.
     V(VecStorage),
+    /// All cells stand in one text.
+    Cluster(ClusteredLine),
 }
 
 impl CellStorage {
@@ -38,12 +44,21 @@ impl CellStorage {
         CellStorage::V(VecStorage::new(cells))
     }
 
+    /// No cells, in a text.
+    pub fn clustered(alloc: Global) -> CellStorage
+        ensures cells { cells_of result ≡ [] }
+        ensures clustered { is_vector result ≡ false }
+    {
+        CellStorage::Cluster(ClusteredLine::new(alloc))
+    }
+
     /// How many cells are stored.
     pub fn len(&self) -> usize
         ensures { result ≡ length (cells_of self.now) }
     {
         match self {
             CellStorage::V(storage) => storage.len(),
+            CellStorage::Cluster(line) => line.len(),
         }
     }
 
@@ -53,6 +68,7 @@ impl CellStorage {
     {
         match self {
             CellStorage::V(storage) => storage.is_empty(),
+            CellStorage::Cluster(line) => line.is_empty(),
         }
     }
 
@@ -62,6 +78,17 @@ impl CellStorage {
     {
         match self {
             CellStorage::V(storage) => Some(storage.cells()),
+            CellStorage::Cluster(_) => None,
+        }
+    }
+
+    /// The texts of the visible cells, one after another, where they stand in a text. A vector has none to lend.
+    pub fn text(&self) -> Option<&str>
+        ensures { option_map (λ text. text.now) result ≡ (if is_vector self.now then None else Some (texts_of (visible (cells_of self.now)))) }
+    {
+        match self {
+            CellStorage::V(_) => None,
+            CellStorage::Cluster(line) => Some(line.text()),
         }
     }
 
@@ -71,19 +98,26 @@ impl CellStorage {
     {
         match self {
             CellStorage::V(storage) => VisibleCellIter::V(storage.iter()),
+            CellStorage::Cluster(line) => VisibleCellIter::Cluster(line.iter()),
         }
     }
 
     /// Sets a cell. The list is padded so far, a wide cell that is cut leaves a blank with its attributes, and the half of a wide cell follows it.
+    /// Behind the last cell of a text it is appended to the text. Anywhere else, as by each other edit but that of the mark of the last cell, a text becomes a vector.
     /// On an error, which a column past the greatest number gives too, the cells are as before.
     pub fn set_cell(&mut self, i: usize, cell: Cell) -> Result<(), AllocError>
         ensures ok { OnOk result (cells_of self.new ≡ set_cell i cell (cells_of self.old)) }
         ensures err { OnErr result (cells_of self.new ≡ cells_of self.old) }
         ensures vector { is_vector self.old ≡ true → is_vector self.new ≡ true }
+        ensures appended { is_vector self.old ≡ false → i ≡ length (cells_of self.old) → OnOk result (is_vector self.new ≡ false) }
     {
-        match self {
-            CellStorage::V(storage) => storage.set_cell(i, cell)?,
+        if let CellStorage::Cluster(line) = self {
+            if line.len() == i {
+                line.append(&cell)?;
+                return Ok(());
+            }
         }
+        self.coerce_vec()?.set_cell(i, cell)?;
         Ok(())
     }
 
@@ -95,9 +129,7 @@ impl CellStorage {
         ensures err { OnErr result (cells_of self.new ≡ cells_of self.old) }
         ensures vector { is_vector self.old ≡ true → is_vector self.new ≡ true }
     {
-        match self {
-            CellStorage::V(storage) => storage.set_cell_within(i, cell, len)?,
-        }
+        self.coerce_vec()?.set_cell_within(i, cell, len)?;
         Ok(())
     }
 
@@ -111,9 +143,7 @@ impl CellStorage {
         ensures err { OnErr result (cells_of self.new ≡ cells_of self.old) }
         ensures vector { is_vector self.old ≡ true → is_vector self.new ≡ true }
     {
-        match self {
-            CellStorage::V(storage) => storage.set_run(i, run, attrs)?,
-        }
+        self.coerce_vec()?.set_run(i, run, attrs)?;
         Ok(())
     }
 
@@ -123,9 +153,7 @@ impl CellStorage {
         ensures err { OnErr result (cells_of self.new ≡ cells_of self.old) }
         ensures vector { is_vector self.old ≡ true → is_vector self.new ≡ true }
     {
-        match self {
-            CellStorage::V(storage) => storage.set_blanks(from, to)?,
-        }
+        self.coerce_vec()?.set_blanks(from, to)?;
         Ok(())
     }
 
@@ -137,9 +165,7 @@ impl CellStorage {
         ensures vector { is_vector self.old ≡ true → is_vector self.new ≡ true }
         ensures made { OnOk result (is_vector self.new ≡ true) }
     {
-        match self {
-            CellStorage::V(storage) => storage.blank_out(len)?,
-        }
+        self.coerce_vec()?.blank_out(len)?;
         Ok(())
     }
 
@@ -151,9 +177,7 @@ impl CellStorage {
         ensures succeeds { is_vector self.old ≡ true → len ≤ length (cells_of self.old) → IsOk result }
         ensures vector { is_vector self.old ≡ true → is_vector self.new ≡ true }
     {
-        match self {
-            CellStorage::V(storage) => storage.resize(len)?,
-        }
+        self.coerce_vec()?.resize(len)?;
         Ok(())
     }
 
@@ -164,9 +188,7 @@ impl CellStorage {
         ensures succeeds { is_vector self.old ≡ true → IsOk result }
         ensures vector { is_vector self.old ≡ true → is_vector self.new ≡ true }
     {
-        match self {
-            CellStorage::V(storage) => storage.truncate(len),
-        }
+        self.coerce_vec()?.truncate(len);
         Ok(())
     }
 
@@ -180,6 +202,7 @@ impl CellStorage {
     {
         match self {
             CellStorage::V(storage) => storage.set_last_wrapped(wrapped)?,
+            CellStorage::Cluster(line) => line.set_last_cell_was_wrapped(wrapped)?,
         }
         Ok(())
     }
@@ -190,6 +213,7 @@ impl CellStorage {
     {
         match self {
             CellStorage::V(storage) => storage.kept_len(),
+            CellStorage::Cluster(line) => line.kept_len(),
         }
     }
 
@@ -199,6 +223,7 @@ impl CellStorage {
     {
         match self {
             CellStorage::V(storage) => storage.has_hyperlink(),
+            CellStorage::Cluster(line) => line.has_hyperlink(),
         }
     }
 
@@ -208,6 +233,7 @@ impl CellStorage {
     {
         match self {
             CellStorage::V(storage) => storage.clone(),
+            CellStorage::Cluster(line) => expanded(line),
         }
     }
 
@@ -217,20 +243,57 @@ impl CellStorage {
         ensures value { IfOk result (λ v. v.now ≡ cells_of self.old) }
         ensures succeeds { is_vector self.old ≡ true → IsOk result }
     {
+        if let CellStorage::Cluster(line) = self {
+            *self = CellStorage::V(expanded(line)?);
+        }
         match self {
             CellStorage::V(storage) => Ok(storage),
+            CellStorage::Cluster(_) => unreachable!(),
         }
+    }
+
+    /// Puts the cells in a text, which takes far less memory. A vector stays one where a hidden cell isn't a blank with the attributes of the cell that hides it, or where the last visible cell is wide and lacks its half.
+    /// The list of cells stays. On an error nothing changed.
+    pub fn compress(&mut self, alloc: Global) -> Result<(), AllocError>
+        ensures cells { cells_of self.new ≡ cells_of self.old }
+        ensures clustered { OnOk result (is_vector self.new ≡ false ↔ IsWhole (cells_of self.old)) }
+        ensures err { OnErr result (self.new ≡ self.old) }
+    {
+        match self {
+            CellStorage::V(storage) => {
+                if let Some(line) = ClusteredLine::from_cells(alloc, storage.cells())? {
+                    *self = CellStorage::Cluster(line);
+                }
+            }
+            CellStorage::Cluster(line) => {
+                // No wide cell of a text lacks its half, which its reader knows.
+                let _len = line.len();
+            }
+        }
+        Ok(())
     }
 }
 
+// The cells of a text, each with a place of its own.
+#[inline(never)]
+fn expanded(line: &ClusteredLine) -> Result<VecStorage, AllocError>
+    ensures { IfOk result (λ storage. storage ≡ line.now) }
+{
+    Ok(VecStorage::new(line.to_cells()?))
+}
+
 impl Clone for CellStorage {
-    ghost is_clone = { λ a b. cells_of b ≡ cells_of a };
+    ghost is_clone = { λ a b. b ≡ a };
 
     fn clone(&self) -> Result<CellStorage, AllocError> {
         match self {
             CellStorage::V(storage) => {
                 let storage = storage.clone()?;
                 Ok(CellStorage::V(storage))
+            }
+            CellStorage::Cluster(line) => {
+                let line = line.clone()?;
+                Ok(CellStorage::Cluster(line))
             }
         }
     }
@@ -245,12 +308,70 @@ impl PartialEq for CellStorage {
         ensures value { result ≡ same_cells self.now other.now }
         ensures same { IsTrue result ↔ (cells_of self.now ≡ cells_of other.now) }
     {
-        match (self, other) {
-            (CellStorage::V(a), CellStorage::V(b)) => *a == *b,
-        }
+        self.has_same_cells(other)
     }
 }
 
 impl Eq for CellStorage {
     ghost laws = { on_equiv cells_of (decided cells_eq cells_eq-Decides) };
+}
+
+impl CellStorage {
+    // Whether each hidden cell is the half of the one that hides it, and no wide cell lacks its half. The reader of a text's length knows it.
+    fn is_whole(&self) -> bool
+        ensures { IsTrue result ↔ IsWhole (cells_of self.now) }
+    {
+        match self {
+            CellStorage::V(storage) => is_whole(storage.cells()),
+            CellStorage::Cluster(line) => {
+                let _len = line.len();
+                true
+            }
+        }
+    }
+
+    fn has_same_cells(&self, other: &CellStorage) -> bool
+        ensures { IsTrue result ↔ (cells_of self.now ≡ cells_of other.now) }
+    {
+        match (self, other) {
+            (CellStorage::V(a), CellStorage::V(b)) => *a == *b,
+            (CellStorage::Cluster(line), _) => has_cells_of(line, other),
+            (_, CellStorage::Cluster(line)) => has_cells_of(line, self),
+        }
+    }
+}
+
+// Whether both are the same list.
+fn has_cells_of(line: &ClusteredLine, other: &CellStorage) -> bool
+    ensures { IsTrue result ↔ (line.now ≡ cells_of other.now) }
+{
+    if line.len() != other.len() || !other.is_whole() {
+        return false;
+    }
+    shows_same(VisibleCellIter::Cluster(line.iter()), other.iter())
+}
+
+// Whether both walks meet the same cells, at the same columns.
+fn shows_same(cells: VisibleCellIter<'_>, others: VisibleCellIter<'_>) -> bool
+    ensures { IsTrue result ↔ (cells_left cells.entry ≡ cells_left others.entry) }
+{
+    let mut others = others;
+    for cell in cells {
+        if !comes_next(&mut others, cell) {
+            return false;
+        }
+    }
+    others.next().is_none()
+}
+
+// Whether a walk goes on with this cell.
+fn comes_next(others: &mut VisibleCellIter<'_>, cell: CellRef<'_>) -> bool
+    requires { IsOfCell cell }
+    ensures same { IsTrue result ↔ (cells_left others.old ≡ indexed_cell cell.entry ∷ cells_left others.new) }
+    ensures rest { cells_left others.new ≡ drop 1 (cells_left others.old) }
+{
+    match others.next() {
+        Some(other) => other.is_same(&cell),
+        None => false,
+    }
 }

@@ -18,12 +18,14 @@ mod edits;
 mod wrapped;
 
 use crate::line::cellref::CellRef;
+pub(crate) use edits::hides_next;
 pub use edits::push_with_half;
 use std::alloc::{AllocError, Global};
 use std::marker::Model;
 use std::ops::{DerefSlice, DerefSliceMut};
 use std::{mem, slice};
 use termwiz_cell::cell::{Cell, CellAttributes};
+pub(crate) use wrapped::set_wrapped;
 
 /// The cells of a line, each with a place of its own.
 #[derive(Drop, Debug)]

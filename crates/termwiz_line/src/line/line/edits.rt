@@ -1,5 +1,5 @@
 //! Edits of a line's cells.
-ghost use Rattle.std.specs.Prelude.{◌≡◌, ◌≤◌, ◌-◌, ◌↔◌, ◌++◌, [], true, false, max, take, drop, replicate, IsTrue, IsOk, IfOk, OnOk, OnErr};
+ghost use Rattle.std.specs.Prelude.{◌≡◌, ◌≤◌, ◌-◌, ◌↔◌, ◌++◌, [], true, false, max, take, drop, replicate, IsTrue, IsOk, IfOk, OnOk, OnErr, length};
 ghost use Rattle.std.specs.Borrow.{sem};
 ghost use Rattle.std.specs.List.{list_all};
 ghost use Rattle.termwiz_text.specs.Plain.{is_plain};
@@ -41,10 +41,12 @@ impl Line {
     }
 
     /// Sets the cell at a column. The line is padded with default blanks so far, a wide cell that is cut leaves a blank with its attributes, and the half of a wide cell follows it.
+    /// At the end of a line that stores its cells as one text it is appended to the text.
     /// The line takes the number. On an error, which a column past the greatest number gives too, number, flags and cells are as before.
     pub fn set_cell(&mut self, i: usize, cell: Cell, seqno: SequenceNo) -> Result<(), AllocError>
         ensures ok { OnOk result (IsEdited self.old (set_cell i cell self.old.cells) seqno self.new) }
         ensures err { OnErr result (IsUnchanged self.old self.new) }
+        ensures appended { self.old.is_vector ≡ false → i ≡ length self.old.cells → OnOk result (self.new.is_vector ≡ false) }
     {
         drop_zones(&mut self.zones);
         self.storage.set_cell(i, cell)?;
@@ -65,6 +67,7 @@ impl Line {
         requires { width ≤ 2 }
         ensures ok { OnOk result (IsEdited self.old (set_cell i (cell_of text.now width attrs) self.old.cells) seqno self.new) }
         ensures err { OnErr result (IsUnchanged self.old self.new) }
+        ensures appended { self.old.is_vector ≡ false → i ≡ length self.old.cells → OnOk result (self.new.is_vector ≡ false) }
     {
         let cell = Cell::new_grapheme_with_width(self.alloc, text, width, attrs)?;
         self.set_cell(i, cell, seqno)?;

@@ -1,6 +1,6 @@
 //! Lines of texts, and the texts of a line.
-ghost use Rattle.std.specs.Prelude.{◌≡◌, ◌+◌, ◌↔◌, ◌++◌, false, true, IfOk, IfSome, IsTrue, OnErr, OnOk, option_map, string_bytes};
-ghost use Rattle.std.specs.Cow.{cow_str_bytes};
+ghost use Rattle.std.specs.Prelude.{◌≡◌, ◌+◌, ◌↔◌, ◌++◌, false, true, IfOk, IfSome, IsTrue, OnErr, OnOk, option_map, string_bytes, IsOkAnd};
+ghost use Rattle.std.specs.Cow.{cow_str_bytes, IsBorrowedStr};
 ghost use Rattle.std.specs.List.{All, list_any};
 ghost use Rattle.termwiz_cell.specs.Attributes.{default_attributes};
 ghost use Rattle.termwiz_cell.specs.CellValue.{columns, measured, space};
@@ -98,10 +98,14 @@ impl Line {
         Ok(())
     }
 
-    /// The texts of the visible cells, one after another.
+    /// The texts of the visible cells, one after another. A line that stores them as one text lends it, which takes no memory.
     pub fn as_str(&self) -> Result<CowStr<'_>, AllocError>
-        ensures { IfOk result (λ text. cow_str_bytes text ≡ texts_of (visible self.now.cells)) }
+        ensures text { IfOk result (λ text. cow_str_bytes text ≡ texts_of (visible self.now.cells)) }
+        ensures lent { self.now.is_vector ≡ false → IsOkAnd result IsBorrowedStr }
     {
+        if let Some(text) = self.storage.text() {
+            return Ok(CowStr::Borrowed(text));
+        }
         let text = joined_texts(self.alloc, self.visible_cells())?;
         Ok(CowStr::Owned(text))
     }

@@ -5,7 +5,7 @@ ghost use Rattle.termwiz_storage.specs.Stored.{visible};
 ghost use Rattle.termwiz_storage.specs.Edits.{columns_between, erased, erased_within, inserted, removed, with_halves};
 ghost use Rattle.termwiz_storage.specs.Storage.{cells_of, is_vector};
 
-use crate::line::storage::CellStorage;
+use crate::line::storage::{CellStorage, expanded};
 use crate::line::vecstorage::VecStorage;
 use std::alloc::{AllocError, Global};
 use termwiz_cell::cell::{Cell, CellAttributes};
@@ -48,9 +48,7 @@ impl CellStorage {
         ensures succeeds { is_vector self.old ≡ true → IsOk result }
         ensures vector { is_vector self.old ≡ true → is_vector self.new ≡ true }
     {
-        match self {
-            CellStorage::V(storage) => storage.remove_cell(x),
-        }
+        self.coerce_vec()?.remove_cell(x);
         Ok(())
     }
 
@@ -62,9 +60,7 @@ impl CellStorage {
         ensures succeeds { is_vector self.old ≡ true → IsOk result }
         ensures vector { is_vector self.old ≡ true → is_vector self.new ≡ true }
     {
-        match self {
-            CellStorage::V(storage) => storage.erase_cell(x),
-        }
+        self.coerce_vec()?.erase_cell(x);
         Ok(())
     }
 
@@ -81,9 +77,7 @@ impl CellStorage {
         ensures err { OnErr result (cells_of self.new ≡ cells_of self.old) }
         ensures vector { is_vector self.old ≡ true → is_vector self.new ≡ true }
     {
-        match self {
-            CellStorage::V(storage) => storage.erase_cell_with_margin(x, margin, attrs)?,
-        }
+        self.coerce_vec()?.erase_cell_with_margin(x, margin, attrs)?;
         Ok(())
     }
 
@@ -95,26 +89,20 @@ impl CellStorage {
         ensures err { OnErr result (cells_of self.new ≡ cells_of self.old) }
         ensures vector { is_vector self.old ≡ true → is_vector self.new ≡ true }
     {
-        match self {
-            CellStorage::V(storage) => storage.insert_cell(x, cell, margin)?,
-        }
+        self.coerce_vec()?.insert_cell(x, cell, margin)?;
         Ok(())
     }
 
-    /// Keeps the cells up to a column, and hands out the rest in the same form. On an error the cells are as before.
+    /// Keeps the cells up to a column, and hands out the rest in a vector. On an error the cells are as before.
     pub fn split_off(&mut self, at: usize) -> Result<CellStorage, AllocError>
         ensures kept { OnOk result (cells_of self.new ≡ take at (cells_of self.old)) }
         ensures rest { IfOk result (λ rest. cells_of rest ≡ drop at (cells_of self.old)) }
         ensures err { OnErr result (cells_of self.new ≡ cells_of self.old) }
         ensures vector { is_vector self.old ≡ true → is_vector self.new ≡ true }
-        ensures rest_vector { is_vector self.old ≡ true → IfOk result (λ rest. is_vector rest ≡ true) }
+        ensures rest_vector { IfOk result (λ rest. is_vector rest ≡ true) }
     {
-        match self {
-            CellStorage::V(storage) => {
-                let rest = storage.split_off(at)?;
-                Ok(CellStorage::V(rest))
-            }
-        }
+        let rest = self.coerce_vec()?.split_off(at)?;
+        Ok(CellStorage::V(rest))
     }
 
     /// Appends the visible cells of another list, the half of each wide one behind it. On an error the cells are as before.
@@ -123,8 +111,10 @@ impl CellStorage {
         ensures err { OnErr result (cells_of self.new ≡ cells_of self.old) }
         ensures vector { is_vector self.old ≡ true → is_vector self.new ≡ true }
     {
-        match (self, other) {
-            (CellStorage::V(storage), CellStorage::V(other)) => storage.append_visible(other)?,
+        let storage = self.coerce_vec()?;
+        match other {
+            CellStorage::V(other) => storage.append_visible(other)?,
+            CellStorage::Cluster(line) => storage.append_visible(&expanded(line)?)?,
         }
         Ok(())
     }
@@ -137,6 +127,10 @@ impl CellStorage {
         match self {
             CellStorage::V(storage) => {
                 let cells = storage.columns(from, to)?;
+                Ok(CellStorage::V(cells))
+            }
+            CellStorage::Cluster(line) => {
+                let cells = expanded(line)?.columns(from, to)?;
                 Ok(CellStorage::V(cells))
             }
         }

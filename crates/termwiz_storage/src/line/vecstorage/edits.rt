@@ -260,8 +260,8 @@ fn is_shown(i: usize, from: usize, hidden: bool) -> bool
     i >= from && !hidden
 }
 
-// Whether a cell hides the next one.
-fn hides_next(cell: &Cell, hidden: bool) -> bool
+/// Whether a cell hides the next one.
+pub(crate) fn hides_next(cell: &Cell, hidden: bool) -> bool
     ensures { result ≡ (is_wide cell.now && not hidden) }
 {
     cell.width() > 1 && !hidden

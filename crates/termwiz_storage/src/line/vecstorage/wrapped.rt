@@ -53,7 +53,8 @@ fn put_wrapped(cells: &mut Vec<Cell>, i: usize, wrapped: bool)
     set_wrapped(cells[i].attrs_mut(), wrapped);
 }
 
-fn set_wrapped(attrs: &mut CellAttributes, wrapped: bool)
+/// Marks attributes as wrapped, or not.
+pub(crate) fn set_wrapped(attrs: &mut CellAttributes, wrapped: bool)
     ensures { attrs.new ≡ record attrs.old { wrapped = wrapped } }
 {
     attrs.set_wrapped(wrapped);

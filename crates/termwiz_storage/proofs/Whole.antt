@@ -1,0 +1,83 @@
+-- Lists in which each wide cell is followed by its half: they are their visible cells with their halves.
+use Rattle.std.proofs.Common.{◌≡◌, ℕ, zero, suc, ◌+◌, ◌-◌, ◌<◌, List, [], ◌∷◌, ◌++◌, length, true, false, refl, ap, ap₂, sym, ◌∙◌, arith, subst, inl, inr}
+use Rattle.std.proofs.lemmas.Bool.{cases_Bool, cond-true, cond-false}
+use Rattle.termwiz_cell.specs.CellValue.{CellValue, half, is_wide, columns}
+use Rattle.termwiz_storage.specs.Clustered.{IsWhole}
+use Rattle.termwiz_storage.specs.Edits.{with_half, with_halves}
+use Rattle.termwiz_storage.specs.Stored.{hides, stored, visible_from, visible}
+use Rattle.termwiz_storage.proofs.Widths.{columns-narrow, columns-wide}
+use Rattle.termwiz_storage.proofs.Wrapped.{hides-behind_narrow, hides-behind_wide}
+
+with_half-wide : (c : CellValue) → is_wide c ≡ true → with_half c ≡ c ∷ half c ∷ []
+with_half-wide c w = cond-true (is_wide c) (c ∷ half c ∷ []) (c ∷ []) w
+
+with_half-narrow : (c : CellValue) → is_wide c ≡ false → with_half c ≡ c ∷ []
+with_half-narrow c w = cond-false (is_wide c) (c ∷ half c ∷ []) (c ∷ []) w
+
+behind_narrow : (c : CellValue) (cs : List CellValue) → is_wide c ≡ false → IsWhole (c ∷ cs) → IsWhole cs
+behind_narrow c cs w h = record {
+  halves = λ k l e. h.halves (suc k) (omega arith) (hides-behind_narrow c cs (suc k) w ∙ e);
+  complete = sym (hides-behind_narrow c cs (length cs) w) ∙ h.complete;
+}
+
+behind_wide : (c d : CellValue) (cs : List CellValue) → is_wide c ≡ true → IsWhole (c ∷ d ∷ cs) → IsWhole cs
+behind_wide c d cs w h = record {
+  halves = λ k l e. h.halves (suc (suc k)) (omega arith) (hides-behind_wide c d cs (suc k) w ∙ e);
+  complete = sym (hides-behind_wide c d cs (length cs) w) ∙ h.complete;
+}
+
+lacks_half : (c : CellValue) → is_wide c ≡ true → hides (c ∷ []) 1 ≡ true
+lacks_half c w = rw w refl
+
+whole_from : (i : ℕ) (cs : List CellValue) → IsWhole cs → with_halves (visible_from i 0 cs) ≡ cs
+whole_from i [] h = refl
+whole_from i (c ∷ []) h = elim (cases_Bool (is_wide c)) [
+  | inr w ↦ ap (λ (z : List CellValue). z ++ []) (with_half-narrow c w)
+  | inl w ↦ let e : true ≡ false = sym (lacks_half c w) ∙ h.complete in cc
+]
+whole_from i (c ∷ d ∷ cs) h = elim (cases_Bool (is_wide c)) [
+  | inr w ↦
+      let skip : columns c - 1 ≡ 0 = omega (arith, columns-narrow c w) in
+      ap₂ (λ (z : List CellValue) (n : ℕ). z ++ with_halves (visible_from (i + 1) n (d ∷ cs))) (with_half-narrow c w) skip
+      ∙ ap (λ (z : List CellValue). c ∷ z) (whole_from (i + 1) (d ∷ cs) (behind_narrow c (d ∷ cs) w h))
+  | inl w ↦
+      let skip : columns c - 1 ≡ 1 = omega (arith, columns-wide c w) in
+      let hidden : hides (c ∷ d ∷ cs) 1 ≡ true = lacks_half c w in
+      let own : d ≡ half c = h.halves 0 (omega arith) hidden in
+      ap₂ (λ (z : List CellValue) (n : ℕ). z ++ with_halves (visible_from (i + 1) n (d ∷ cs))) (with_half-wide c w) skip
+      ∙ ap₂ (λ (x : CellValue) (z : List CellValue). c ∷ x ∷ z) (sym own) (whole_from (i + 1 + 1) cs (behind_wide c d cs w h))
+]
+
+pub whole-is : (cs : List CellValue) → IsWhole cs → with_halves (visible cs) ≡ cs
+whole-is cs h = whole_from 0 cs h
+
+narrow_before : (c : CellValue) (cs : List CellValue) → is_wide c ≡ false → IsWhole cs → IsWhole (c ∷ cs)
+narrow_before c cs w h = record {
+  halves = λ k. elim k as (λ (k : ℕ). suc k < length (c ∷ cs) → hides (c ∷ cs) (suc k) ≡ true → stored (c ∷ cs) (suc k) ≡ half (stored (c ∷ cs) k)) [
+    | zero ↦ λ l e. let n : false ≡ true = sym (hides-behind_narrow c cs 0 w) ∙ e in cc
+    | suc k ↦ λ l e. h.halves k (omega arith) (sym (hides-behind_narrow c cs (suc k) w) ∙ e)
+  ];
+  complete = hides-behind_narrow c cs (length cs) w ∙ h.complete;
+}
+
+wide_before : (c : CellValue) (cs : List CellValue) → is_wide c ≡ true → IsWhole cs → IsWhole (c ∷ half c ∷ cs)
+wide_before c cs w h = record {
+  halves = λ k. elim k as (λ (k : ℕ). suc k < length (c ∷ half c ∷ cs) → hides (c ∷ half c ∷ cs) (suc k) ≡ true → stored (c ∷ half c ∷ cs) (suc k) ≡ half (stored (c ∷ half c ∷ cs) k)) [
+    | zero ↦ λ _ _. refl
+    | suc k ↦ elim k as (λ (k : ℕ). suc (suc k) < length (c ∷ half c ∷ cs) → hides (c ∷ half c ∷ cs) (suc (suc k)) ≡ true → stored (c ∷ half c ∷ cs) (suc (suc k)) ≡ half (stored (c ∷ half c ∷ cs) (suc k))) [
+      | zero ↦ λ l e. let n : false ≡ true = sym (hides-behind_wide c (half c) cs 0 w) ∙ e in cc
+      | suc k ↦ λ l e. h.halves k (omega arith) (sym (hides-behind_wide c (half c) cs (suc k) w) ∙ e)
+    ]
+  ];
+  complete = hides-behind_wide c (half c) cs (length cs) w ∙ h.complete;
+}
+
+whole-with_halves : (ps : List (ℕ × CellValue)) → IsWhole (with_halves ps)
+whole-with_halves [] = record { halves = λ k l e. absurd (omega arith); complete = refl }
+whole-with_halves (p ∷ ps) = elim (cases_Bool (is_wide p.1)) [
+  | inl w ↦ subst (λ (z : List CellValue). IsWhole (z ++ with_halves ps)) (sym (with_half-wide p.1 w)) (wide_before p.1 (with_halves ps) w (whole-with_halves ps))
+  | inr w ↦ subst (λ (z : List CellValue). IsWhole (z ++ with_halves ps)) (sym (with_half-narrow p.1 w)) (narrow_before p.1 (with_halves ps) w (whole-with_halves ps))
+]
+
+pub whole-from : (cs : List CellValue) → with_halves (visible cs) ≡ cs → IsWhole cs
+whole-from cs e = subst IsWhole e (whole-with_halves (visible cs))

@@ -1,0 +1,369 @@
+//! Cells stored as one text.
+ghost use Rattle.std.specs.Prelude.{◌≡◌, ◌+◌, ◌++◌, ◌∷◌, ◌^◌, ◌<◌, ◌≤◌, ◌↔◌, [], IfOk, IfSome, IsSome, IsTrue, OnErr, OnOk, length, true, string_bytes, string_capacity, string_len};
+ghost use Rattle.std.specs.Iterator.{item_count};
+ghost use Rattle.termwiz_cell.specs.CellValue.{blank, cell_of, clean, half};
+ghost use Rattle.termwiz_storage.specs.CellRef.{indexed_cell, ref_cell};
+ghost use Rattle.termwiz_storage.specs.CellTexts.{texts_of};
+ghost use Rattle.termwiz_storage.specs.CellsLeft.{IsOfCell, YieldsCell};
+ghost use Rattle.termwiz_storage.specs.Clustered.{IsWhole, cell_len};
+ghost use Rattle.termwiz_storage.specs.Edits.{with_half};
+ghost use Rattle.std.specs.List.{list_any};
+ghost use Rattle.termwiz_storage.specs.Stored.{is_linked, visible, IsKept};
+ghost use Rattle.termwiz_storage.specs.Wrapped.{set_last_wrapped, with_wrapped};
+
+mod run_lists;
+mod runs;
+
+use crate::line::cellref::CellRef;
+use crate::line::vecstorage::{VecStorageIter, hides_next, push_with_half, set_wrapped};
+use run_lists::{AttrsIter, ShapeIter, push_attrs, push_shape, wrap_last};
+use runs::{AttrsRun, Shape, ShapeRun};
+use std::alloc::{AllocError, Global};
+use std::marker::Model;
+use termwiz_cell::cell::{Cell, CellAttributes};
+
+/// The cells of a line as one text, with what tells each cell's part of it, and runs of equal attributes. It takes far less memory than a vector of cells.
+///
+/// It stands for a list of stored cells, in which the half of each wide cell follows it.
+#[derive(Drop, Debug)]
+pub struct ClusteredLine {
+    text: String,
+    shapes: Vec<ShapeRun>,
+    attrs: Vec<AttrsRun>,
+    len: usize,
+}
+
+impl Model for ClusteredLine {
+    ghost use Rattle.std.specs.Prelude.{List, string_bytes};
+    ghost use Rattle.termwiz_cell.specs.CellValue.{CellValue};
+    ghost use Rattle.termwiz_storage.specs.CellRuns.{attrs_of, shapes_of};
+    ghost use Rattle.termwiz_storage.specs.Clustered.{IsSound, cells_from};
+
+    ghost Value = { List CellValue };
+
+    ghost view = { λ s. cells_from (string_bytes s.text) (shapes_of s.shapes.items) (attrs_of s.attrs.items) };
+
+    ghost invariant = { λ s. IsSound (string_bytes s.text) (shapes_of s.shapes.items) (attrs_of s.attrs.items) s.len };
+}
+
+impl ClusteredLine {
+    /// No cells.
+    pub fn new(alloc: Global) -> ClusteredLine
+        ensures { result ≡ [] }
+    {
+        ClusteredLine {
+            text: String::new(alloc),
+            shapes: Vec::new(alloc),
+            attrs: Vec::new(alloc),
+            len: 0,
+        }
+    }
+
+    /// The line of these stored cells. There is none where a hidden cell isn't a blank with the attributes of the cell that hides it, or where the last visible cell is wide and lacks its half.
+    pub fn from_cells(alloc: Global, cells: &[Cell]) -> Result<Option<ClusteredLine>, AllocError>
+        ensures some { IfOk result (λ line. IsSome line ↔ IsWhole cells.now) }
+        ensures value { IfOk result (λ line. IfSome line (λ line. line ≡ cells.now)) }
+    {
+        if !is_whole(cells) {
+            return Ok(None);
+        }
+        let mut line = ClusteredLine::new(alloc);
+        for cell in VecStorageIter::new(cells) {
+            line.append_shown(cell)?;
+        }
+        line.shrink_to_fit();
+        Ok(Some(line))
+    }
+
+    /// How many cells are stored, halves of wide ones among them.
+    pub fn len(&self) -> usize
+        ensures len { result ≡ length self.now }
+        ensures whole { IsWhole self.now }
+    {
+        self.len
+    }
+
+    /// Whether no cell is stored.
+    pub fn is_empty(&self) -> bool
+        ensures { IsTrue result ↔ (self.now ≡ []) }
+    {
+        self.len == 0
+    }
+
+    /// How many cells are left without the default blanks that end the list.
+    pub(super) fn kept_len(&self) -> usize
+        ensures { IsKept self.now result }
+    {
+        let mut kept = 0;
+        for cell in self.iter() {
+            if !cell.is_blank() {
+                kept = cell.cell_index().saturating_add(cell.width());
+            }
+        }
+        kept.min(self.len)
+    }
+
+    /// Whether a stored cell has a link.
+    pub(super) fn has_hyperlink(&self) -> bool
+        ensures { result ≡ list_any is_linked self.now }
+    {
+        // No wide cell lacks its half, which the reader of the length knows.
+        let _len = self.len();
+        for cell in self.iter() {
+            if cell.attrs().hyperlink().is_some() {
+                return true;
+            }
+        }
+        false
+    }
+
+    // Gives back the memory that is kept for more cells.
+    fn shrink_to_fit(&mut self)
+        ensures { self.new ≡ self.old }
+    {
+        self.text.shrink_to_fit();
+        self.shapes.shrink_to_fit();
+        self.attrs.shrink_to_fit();
+    }
+
+    /// Appends the cell of a text of this width, and the half of a wide one. A width of 0 counts as 1. On an error nothing changed.
+    pub fn append_grapheme(
+        &mut self,
+        text: &str,
+        width: usize,
+        attrs: CellAttributes,
+    ) -> Result<(), AllocError>
+        requires { width ≤ 2 }
+        ensures ok { OnOk result (self.new ≡ self.old ++ with_half (cell_of text.now width attrs)) }
+        ensures err { OnErr result (self.new ≡ self.old) }
+    {
+        let cell = Cell::new_grapheme_with_width(*self.text.allocator(), text, width, attrs)?;
+        self.append(&cell)?;
+        Ok(())
+    }
+
+    /// Appends a cell, and the half of a wide one. On an error nothing changed.
+    pub fn append(&mut self, cell: &Cell) -> Result<(), AllocError>
+        ensures ok { OnOk result (self.new ≡ self.old ++ with_half cell.now) }
+        ensures err { OnErr result (self.new ≡ self.old) }
+    {
+        self.append_clean(cell.str(), cell.width() > 1, cell.attrs())?;
+        Ok(())
+    }
+
+    // Appends a cell that a walk gave, and the half of a wide one.
+    fn append_shown(&mut self, cell: CellRef<'_>) -> Result<(), AllocError>
+        requires { IsOfCell cell }
+        ensures ok { OnOk result (self.new ≡ self.old ++ with_half (ref_cell cell.entry)) }
+        ensures err { OnErr result (self.new ≡ self.old) }
+    {
+        self.append_clean(cell.str(), cell.width() > 1, cell.attrs())?;
+        Ok(())
+    }
+
+    // What can fail comes first, so that an error leaves the line as it was.
+    fn append_clean(
+        &mut self,
+        text: &str,
+        wide: bool,
+        attrs: &CellAttributes,
+    ) -> Result<(), AllocError>
+        requires { clean text.now ≡ text.now }
+        ensures ok { OnOk result (self.new ≡ self.old ++ with_half (record { text = text.now; wide = wide; attrs = attrs.now })) }
+        ensures err { OnErr result (self.new ≡ self.old) }
+    {
+        let width = if wide { 2 } else { 1 };
+        if width > usize::MAX - self.len || text.len() > u32::MAX as usize {
+            return Err(AllocError);
+        }
+        let len = self.len + width;
+        self.shapes.reserve(1)?;
+        self.text.reserve(text.len())?;
+        push_attrs(&mut self.attrs, attrs)?;
+        push_shape(&mut self.shapes, shape_of(text, wide));
+        push_text(&mut self.text, text);
+        self.len = len;
+        Ok(())
+    }
+
+    /// Marks the last visible cell, and its half, as wrapped, or not. An empty list first gets a default blank. On an error nothing changed.
+    pub fn set_last_cell_was_wrapped(&mut self, wrapped: bool) -> Result<(), AllocError>
+        ensures ok { OnOk result (self.new ≡ set_last_wrapped wrapped self.old) }
+        ensures err { OnErr result (self.new ≡ self.old) }
+    {
+        if self.len == 0 {
+            return self.append_marked(wrapped);
+        }
+        self.attrs.reserve(1)?;
+        wrap_last(&mut self.attrs, wrapped)?;
+        Ok(())
+    }
+
+    // Appends a blank that is marked as wrapped, or not.
+    fn append_marked(&mut self, wrapped: bool) -> Result<(), AllocError>
+        ensures ok { OnOk result (self.new ≡ self.old ++ with_wrapped wrapped blank ∷ []) }
+        ensures err { OnErr result (self.new ≡ self.old) }
+    {
+        let mut attrs = CellAttributes::blank();
+        set_wrapped(&mut attrs, wrapped);
+        self.append(&Cell::blank_with_attrs(attrs))
+    }
+
+    /// The texts of the visible cells, one after another.
+    pub fn text(&self) -> &str
+        ensures { result.now ≡ texts_of (visible self.now) }
+    {
+        self.text.as_str()
+    }
+
+    /// The visible cells.
+    pub fn iter(&self) -> ClusterLineIter<'_>
+        ensures { result ≡ visible self.now }
+    {
+        ClusterLineIter {
+            text: self.text.as_str(),
+            shapes: ShapeIter::new(&self.shapes),
+            attrs: AttrsIter::new(&self.attrs),
+            idx: 0,
+        }
+    }
+
+    /// The stored cells, each wide one with its half.
+    pub fn to_cells(&self) -> Result<Vec<Cell>, AllocError>
+        ensures { IfOk result (λ cells. cells.items ≡ self.now) }
+    {
+        let alloc = *self.text.allocator();
+        let mut cells = Vec::new(alloc);
+        for cell in self.iter() {
+            push_with_half(&mut cells, cell.to_cell(alloc)?)?;
+        }
+        Ok(cells)
+    }
+}
+
+/// Whether each hidden cell is the half of the one that hides it, and no wide cell lacks its half.
+pub(super) fn is_whole(cells: &[Cell]) -> bool
+    ensures { IsTrue result ↔ IsWhole cells.now }
+{
+    let mut hidden = false;
+    for i in 0..cells.len() {
+        if hidden && !is_half_of(&cells[i], &cells[i - 1]) {
+            return false;
+        }
+        hidden = hides_next(&cells[i], hidden);
+    }
+    !hidden
+}
+
+fn is_half_of(cell: &Cell, wide: &Cell) -> bool
+    ensures { IsTrue result ↔ (cell.now ≡ half wide.now) }
+{
+    cell.width() == 1 && matches!(cell.str().as_bytes(), b" ") && *cell.attrs() == *wide.attrs()
+}
+
+// Appends to a text, for which there is room.
+fn push_text(text: &mut String, more: &str)
+    requires { string_len text.old + length more.now ≤ string_capacity text.old }
+    ensures { string_bytes text.new ≡ string_bytes text.old ++ more.now }
+{
+    text.push_str(more).unwrap();
+}
+
+// How many bytes of a text its first cell takes.
+fn cell_len(shape: Shape, text: &str) -> usize
+    ensures { result ≡ cell_len shape text.now }
+{
+    if !shape.one_char {
+        return shape.bytes as usize;
+    }
+    match text.as_bytes().first().copied().unwrap_or(0) {
+        0..128 => 1,
+        128..224 => 2,
+        224..240 => 3,
+        _ => 4,
+    }
+}
+
+// The shape of a cell of this text.
+fn shape_of(text: &str, wide: bool) -> Shape
+    requires { length text.now < 2 ^ 32 }
+    ensures len { cell_len result text.now ≡ length text.now }
+    ensures wide { result.wide ≡ wide }
+{
+    let one_char = Shape {
+        bytes: 0,
+        one_char: true,
+        wide,
+    };
+    if cell_len(one_char, text) == text.len() {
+        one_char
+    } else {
+        Shape {
+            bytes: text.len() as u32,
+            one_char: false,
+            wide,
+        }
+    }
+}
+
+impl Clone for ClusteredLine {
+    ghost is_clone = { λ a b. b ≡ a };
+
+    fn clone(&self) -> Result<ClusteredLine, AllocError> {
+        let text = self.text.clone()?;
+        let shapes = self.shapes.clone()?;
+        let attrs = self.attrs.clone()?;
+        Ok(ClusteredLine {
+            text,
+            shapes,
+            attrs,
+            len: self.len,
+        })
+    }
+}
+
+/// The visible cells of a list that is stored as one text, in order.
+#[derive(Drop)]
+pub struct ClusterLineIter<'a> {
+    text: &'a str,
+    shapes: ShapeIter<'a>,
+    attrs: AttrsIter<'a>,
+    idx: usize,
+}
+
+impl<'a> Model for ClusterLineIter<'a> {
+    ghost use Rattle.std.specs.Prelude.{ℕ, List, length, ◌+◌, ◌^◌, ◌<◌};
+    ghost use Rattle.termwiz_cell.specs.CellValue.{CellValue};
+    ghost use Rattle.termwiz_storage.specs.Clustered.{IsStepping, shown_cells};
+
+    ghost Value = { List (ℕ × CellValue) };
+
+    ghost view = { λ s. shown_cells s.idx s.text.now s.shapes s.attrs };
+
+    ghost invariant = { λ s. IsStepping s.text.now s.shapes s.attrs s.idx };
+}
+
+impl<'a> Iterator for ClusterLineIter<'a> {
+    type Item = CellRef<'a>;
+
+    ghost next_gives = { YieldsCell (λ s. s) };
+
+    ghost remaining = { item_count (λ s. s) };
+
+    fn next(&mut self) -> Option<CellRef<'a>> {
+        let shape = self.shapes.next()?;
+        let attrs = self.attrs.next()?;
+        let bytes = cell_len(shape, self.text);
+        let (text, rest) = self.text.split_at(bytes);
+        let cell_index = self.idx;
+        let width = if shape.wide { 2 } else { 1 };
+        self.text = rest;
+        self.idx += width;
+        Some(CellRef::ClusterRef {
+            cell_index,
+            text,
+            width,
+            attrs,
+        })
+    }
+}

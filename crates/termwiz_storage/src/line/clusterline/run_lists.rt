@@ -1,0 +1,202 @@
+//! Lists of runs: a cell more, and a walk over the cells.
+ghost use Rattle.std.specs.Prelude.{◌≡◌, ◌<◌, ◌≤◌, ◌+◌, ◌++◌, ◌∷◌, [], IfOk, MatchOption, OnErr, OnOk, replicate, vec_capacity, vec_len};
+ghost use Rattle.termwiz_storage.specs.CellRuns.{attrs_of, map_last, marked, shapes_of};
+
+use crate::line::clusterline::runs::{AttrsRun, Shape, ShapeRun};
+use crate::line::vecstorage::set_wrapped;
+use std::alloc::AllocError;
+use std::marker::Model;
+use std::slice;
+use termwiz_cell::cell::CellAttributes;
+
+impl Clone for AttrsRun {
+    ghost use Rattle.termwiz_storage.specs.CellRuns.{same_run};
+
+    ghost is_clone = { same_run };
+
+    fn clone(&self) -> Result<AttrsRun, AllocError> {
+        let attrs = self.attrs.clone()?;
+        Ok(AttrsRun {
+            attrs,
+            cells: self.cells,
+        })
+    }
+}
+
+/// One more cell of this shape, for which there is room.
+pub(super) fn push_shape(runs: &mut Vec<ShapeRun>, shape: Shape)
+    requires { vec_len runs.old < vec_capacity runs.old }
+    ensures { shapes_of runs.new.items ≡ shapes_of runs.old.items ++ shape ∷ [] }
+{
+    let count = runs.len();
+    if count > 0 {
+        let last = runs[count - 1];
+        if last.bytes == shape.bytes
+            && last.one_char == shape.one_char
+            && last.wide == shape.wide
+            && last.cells < u16::MAX
+        {
+            runs[count - 1] = run_of(shape, last.cells + 1);
+            return;
+        }
+    }
+    runs.push(run_of(shape, 1)).unwrap();
+}
+
+fn run_of(shape: Shape, cells: u16) -> ShapeRun
+    ensures { result ≡ record { bytes = shape.bytes; one_char = shape.one_char; wide = shape.wide; cells = cells } }
+{
+    ShapeRun {
+        bytes: shape.bytes,
+        one_char: shape.one_char,
+        wide: shape.wide,
+        cells,
+    }
+}
+
+/// One more cell with these attributes. On an error nothing changed.
+pub(super) fn push_attrs(runs: &mut Vec<AttrsRun>, attrs: &CellAttributes) -> Result<(), AllocError>
+    ensures ok { OnOk result (attrs_of runs.new.items ≡ attrs_of runs.old.items ++ attrs.now ∷ []) }
+    ensures err { OnErr result (runs.new.items ≡ runs.old.items) }
+{
+    let count = runs.len();
+    if count > 0 && runs[count - 1].cells < u16::MAX && runs[count - 1].attrs == *attrs {
+        runs[count - 1].cells += 1;
+        return Ok(());
+    }
+    let attrs = attrs.clone()?;
+    runs.push(AttrsRun { attrs, cells: 1 })?;
+    Ok(())
+}
+
+// A run of so many cells, if any, for which there is room.
+fn push_run(runs: &mut Vec<AttrsRun>, attrs: CellAttributes, cells: u16)
+    requires { vec_len runs.old < vec_capacity runs.old }
+    ensures attrs { attrs_of runs.new.items ≡ attrs_of runs.old.items ++ replicate cells attrs }
+    ensures len { vec_len runs.new ≤ vec_len runs.old + 1 }
+    ensures capacity { vec_capacity runs.old ≤ vec_capacity runs.new }
+{
+    if cells > 0 {
+        runs.push(AttrsRun { attrs, cells }).unwrap();
+    }
+}
+
+/// Marks the last cell as wrapped, or not, in a run of its own, for which there is room. On an error nothing changed.
+pub(super) fn wrap_last(runs: &mut Vec<AttrsRun>, wrapped: bool) -> Result<(), AllocError>
+    requires { vec_len runs.old < vec_capacity runs.old }
+    ensures ok { OnOk result (attrs_of runs.new.items ≡ map_last (marked wrapped) (attrs_of runs.old.items)) }
+    ensures err { OnErr result (runs.new.items ≡ runs.old.items) }
+{
+    let count = runs.len();
+    if count == 0 {
+        return Ok(());
+    }
+    let attrs = marked_copy(&runs[count - 1].attrs, wrapped)?;
+    if let Some(last) = runs.pop() {
+        push_run(runs, last.attrs, last.cells - 1);
+        push_run(runs, attrs, 1);
+    }
+    Ok(())
+}
+
+// A copy that is marked as wrapped, or not.
+fn marked_copy(attrs: &CellAttributes, wrapped: bool) -> Result<CellAttributes, AllocError>
+    ensures { IfOk result (λ copy. copy ≡ marked wrapped attrs.now) }
+{
+    let mut copy = attrs.clone()?;
+    set_wrapped(&mut copy, wrapped);
+    Ok(copy)
+}
+
+/// The shapes of the cells that a walk over runs has left.
+#[derive(Drop)]
+pub(super) struct ShapeIter<'a> {
+    run: ShapeRun,
+    rest: slice::Iter<'a, ShapeRun>,
+}
+
+impl<'a> Model for ShapeIter<'a> {
+    ghost use Rattle.std.specs.Prelude.{List, ◌∷◌};
+    ghost use Rattle.std.specs.Slice.Iter.{iter_rest};
+    ghost use Rattle.termwiz_storage.specs.declared.line.clusterline.runs.Shape.{Shape};
+    ghost use Rattle.termwiz_storage.specs.CellRuns.{shapes_of};
+
+    ghost Value = { List Shape };
+
+    ghost view = { λ s. shapes_of (s.run ∷ iter_rest s.rest) };
+}
+
+impl<'a> ShapeIter<'a> {
+    pub(super) fn new(runs: &'a [ShapeRun]) -> ShapeIter<'a>
+        ensures { result ≡ shapes_of runs.now }
+    {
+        ShapeIter {
+            run: ShapeRun {
+                bytes: 0,
+                one_char: false,
+                wide: false,
+                cells: 0,
+            },
+            rest: runs.iter(),
+        }
+    }
+
+    pub(super) fn next(&mut self) -> Option<Shape>
+        ensures { MatchOption result ((self.old ≡ []) × (self.new ≡ [])) (λ s. self.old ≡ s ∷ self.new) }
+    {
+        while self.run.cells == 0 {
+            self.run = *self.rest.next()?;
+        }
+        self.run.cells -= 1;
+        Some(Shape {
+            bytes: self.run.bytes,
+            one_char: self.run.one_char,
+            wide: self.run.wide,
+        })
+    }
+}
+
+/// The attributes of the cells that a walk over runs has left.
+#[derive(Drop)]
+pub(super) struct AttrsIter<'a> {
+    attrs: Option<&'a CellAttributes>,
+    left: u16,
+    rest: slice::Iter<'a, AttrsRun>,
+}
+
+impl<'a> Model for AttrsIter<'a> {
+    ghost use Rattle.std.specs.Prelude.{List, ◌≡◌, ◌++◌, None};
+    ghost use Rattle.std.specs.Slice.Iter.{iter_rest};
+    ghost use Rattle.termwiz_cell.specs.Attributes.{Attributes};
+    ghost use Rattle.termwiz_storage.specs.CellRuns.{attrs_of, same_attrs};
+
+    ghost Value = { List Attributes };
+
+    ghost view = { λ s. same_attrs s.left s.attrs ++ attrs_of (iter_rest s.rest) };
+
+    ghost invariant = { λ s. s.attrs ≡ None → s.left ≡ 0 };
+}
+
+impl<'a> AttrsIter<'a> {
+    pub(super) fn new(runs: &'a [AttrsRun]) -> AttrsIter<'a>
+        ensures { result ≡ attrs_of runs.now }
+    {
+        AttrsIter {
+            attrs: None,
+            left: 0,
+            rest: runs.iter(),
+        }
+    }
+
+    pub(super) fn next(&mut self) -> Option<&'a CellAttributes>
+        ensures { MatchOption result ((self.old ≡ []) × (self.new ≡ [])) (λ a. self.old ≡ a.now ∷ self.new) }
+    {
+        while self.left == 0 {
+            let run = self.rest.next()?;
+            self.attrs = Some(&run.attrs);
+            self.left = run.cells;
+        }
+        self.left -= 1;
+        self.attrs
+    }
+}

@@ -13,7 +13,8 @@ use Rattle.termwiz_line.specs.LastChange.{last_is}
 use Rattle.termwiz_surface.specs.Screen.{Screen}
 use Rattle.termwiz_surface.specs.Step.{replay}
 use Rattle.termwiz_surface.specs.Prints.{Print, piece_prints, printed}
-use Rattle.termwiz_surface.specs.Diff.{End, Drawn, nothing_drawn, move_to, pen_to, print_out, prints_out, cursor_at, is_drawing, all_drawing}
+use Rattle.termwiz_surface.specs.Diff.{End, Drawn, nothing_drawn, move_to, pen_to, print_out, prints_out, is_drawing, all_drawing}
+use Rattle.termwiz_surface.specs.Place.{cursor_at}
 use Rattle.termwiz_surface.specs.DiffLaws.{CanPrint, PrintsAreDiff, RegionIsDiff, DiffGivesRows, DiffGivesRegion, DiffGivesBand}
 use Rattle.termwiz_surface.specs.DiffLists.{IsDiff}
 use Rattle.termwiz_surface.specs.Screen.{row_at}

@@ -1,5 +1,5 @@
 -- What the changes that are written for some cells do: they print these cells.
-use Rattle.std.proofs.Common.{◌≡◌, ℕ, ◌+◌, ◌-◌, ◌*◌, ◌<◌, ◌≤◌, ◌⊎◌, min, Bool, true, false, cond, ◌&&◌, eqb, nat_le, List, [], ◌∷◌, ◌++◌, length, fold, arith, inl, inr, append-nil, append_assoc, le-leb, eqb-true, ne_eqb, refl, sym, ap, ap₂, ◌∙◌, subst, if◌then◌else◌}
+use Rattle.std.proofs.Common.{◌≡◌, ℕ, ◌+◌, ◌*◌, ◌<◌, ◌≤◌, ◌⊎◌, min, Bool, true, false, cond, ◌&&◌, eqb, List, [], ◌∷◌, ◌++◌, length, fold, arith, inl, inr, append-nil, append_assoc, eqb-true, ne_eqb, refl, sym, ap, ap₂, ◌∙◌, subst}
 use Rattle.std.specs.Prelude.{Option, Some, None}
 use Rattle.std.proofs.lemmas.List.{length-append}
 use Rattle.std.proofs.lemmas.List.Sums.{fold-append}
@@ -16,8 +16,10 @@ use Rattle.termwiz_surface.specs.Print.{piece_of, print_one}
 use Rattle.termwiz_surface.specs.Step.{step, replay}
 use Rattle.termwiz_surface.specs.SurfaceValue.{IsMeasured}
 use Rattle.termwiz_surface.specs.Prints.{Print, print_on, print_all, piece_prints, text_prints, step_prints, printed}
-use Rattle.termwiz_surface.specs.Diff.{End, end_of, Drawn, nothing_drawn, move_to, pen_to, print_out, prints_out, cursor_at}
+use Rattle.termwiz_surface.specs.Diff.{End, end_of, Drawn, nothing_drawn, move_to, pen_to, print_out, prints_out}
+use Rattle.termwiz_surface.specs.Place.{cursor_at}
 use Rattle.termwiz_surface.specs.DiffLaws.{CanPrint}
+use Rattle.termwiz_surface.proofs.RepaintScreen.{replay_cursor}
 use Rattle.termwiz_surface.proofs.EntryTexts.{replay_text, replay_pen, print_cell, printed_is, no_break}
 use Rattle.termwiz_surface.proofs.RepaintLength.{length_optional, length-add_text}
 
@@ -83,16 +85,12 @@ module _ (f : List ℕ → ℕ) (w h : ℕ) where
   size_of (Anywhere _ ew eh) = (ew, eh)
   size_of (After _ _ ew eh ex ey ep) = (ew, eh)
 
-  replay_cursor : (s : Screen) (p : Print) → s.width ≡ w → s.height ≡ h → p.row < h → p.column < w → replay f s (cursor_at p.column p.row ∷ []) ≡ record s { x = p.column; y = p.row }
-  replay_cursor s p ew eh lr lc =
-      let inside : nat_le p.column s.width ≡ true = le-leb p.column s.width (omega (arith, ew)) in
-      let x : (if nat_le p.column s.width then p.column else s.width - 1) ≡ p.column = rw inside in
-      let y : min p.row (s.height - 1) ≡ p.row = omega (arith, eh) in
-      λ i. record s { x = x i; y = y i }
+  replay_place : (s : Screen) (p : Print) → s.width ≡ w → s.height ≡ h → p.row < h → p.column < w → replay f s (cursor_at p.column p.row ∷ []) ≡ record s { x = p.column; y = p.row }
+  replay_place s p ew eh lr lc = replay_cursor f s p.column p.row (omega (arith, ew)) (omega (arith, eh))
 
   -- the move and the pen take the cursor to the print's place
   replay_to : (d : Option End) (s : Screen) (p : Print) → Knows w h d s → p.row < h → p.column < w → replay f (replay f s (move_to d p)) (pen_to d p) ≡ at_print s p
-  replay_to None s p (Anywhere _ ew eh) lr lc = ap (λ (t : Screen). record t { pen = p.cell.attrs }) (replay_cursor s p ew eh lr lc)
+  replay_to None s p (Anywhere _ ew eh) lr lc = ap (λ (t : Screen). record t { pen = p.cell.attrs }) (replay_place s p ew eh lr lc)
   replay_to (Some q) s p (After _ _ ew eh ex ey ep) lr lc = replay_pen f (replay f s (move_to (Some q) p)) q.pen p.cell.attrs (pen_stays (cases_Bool _)) ∙ ap (λ (t : Screen). record t { pen = p.cell.attrs }) (moved (cases_Bool _))
     where
       moved : ((eqb q.x p.column && eqb q.y p.row) ≡ true) ⊎ ((eqb q.x p.column && eqb q.y p.row) ≡ false) → replay f s (move_to (Some q) p) ≡ record s { x = p.column; y = p.row }
@@ -102,7 +100,7 @@ module _ (f : List ℕ → ℕ) (w h : ℕ) where
           let px : s.x ≡ p.column = omega (arith, ex) in
           let py : s.y ≡ p.row = ey ∙ eqb-true _ _ e.1 in
           rw t (λ i. record s { x = px i; y = py i })
-      moved (inr t) = rw t (replay_cursor s p ew eh lr lc)
+      moved (inr t) = rw t (replay_place s p ew eh lr lc)
 
       pen_stays : ((eqb q.x p.column && eqb q.y p.row) ≡ true) ⊎ ((eqb q.x p.column && eqb q.y p.row) ≡ false) → (replay f s (move_to (Some q) p)).pen ≡ q.pen
       pen_stays (inl t) = rw t ep

@@ -1,10 +1,13 @@
 -- The rows of sound surfaces and of lines, and that what is written for them is a diff.
-use Rattle.std.proofs.Common.{◌≡◌, ℕ, zero, suc, ◌-◌, ◌<◌, min, List, [], ◌∷◌, map, length, get_or, arith, sym, subst}
+use Rattle.std.proofs.Common.{zero-add, ◌≡◌, ℕ, zero, suc, ◌-◌, ◌<◌, ◌≤◌, inr, min, List, [], ◌∷◌, map, length, get_or, arith, sym, subst}
 use Rattle.std.specs.List.{All}
 use Rattle.std.proofs.lemmas.List.{get_or-map, length-map}
 use Rattle.std.proofs.lemmas.List.Elements.{All-get_or}
 use Rattle.termwiz_cell.specs.CellValue.{CellValue, space}
-use Rattle.termwiz_line.specs.Row.{row_of}
+use Rattle.termwiz_cell.specs.ChangeValue.{ChangeValue}
+use Rattle.termwiz_line.specs.Row.{IsRow, row_of}
+use Rattle.termwiz_line.proofs.RowOf.{row_of_row}
+use Rattle.termwiz_surface.specs.Step.{replay}
 use Rattle.termwiz_surface.specs.Screen.{Screen, row_at}
 use Rattle.termwiz_surface.specs.SurfaceValue.{SurfaceValue, screen_of, IsSound}
 use Rattle.termwiz_surface.specs.Printable.{ArePrintable, IsPrintableRow}
@@ -13,8 +16,8 @@ use Rattle.termwiz_surface.specs.DiffLists.{IsDiff}
 use Rattle.termwiz_surface.specs.DiffRegions.{AreRows}
 use Rattle.termwiz_surface.proofs.SoundRepaint.{sound_is_printable}
 use Rattle.termwiz_surface.proofs.LineEntries.{line_printable}
-use Rattle.termwiz_surface.proofs.DiffScreens.{cut_inside}
-use Rattle.termwiz_surface.proofs.DiffLists.{region_diff, band_diff}
+use Rattle.termwiz_surface.proofs.DiffScreens.{cut_inside, band_inside}
+use Rattle.termwiz_surface.proofs.DiffLists.{region_diff, band_diff, gives_band}
 
 module _ {W : Type 0} (g : List ℕ → ℕ) (v : SurfaceValue W) (sound : IsSound g v) where
   pub sound_row : (j : ℕ) → j < v.height → IsPrintableRow g v.width (row_at (screen_of v).rows j)
@@ -49,3 +52,21 @@ module _ (f : List ℕ → ℕ) (one : f space ≡ 1) (a : Screen) where
       row : (j : ℕ) → j < 1 → IsPrintableRow f a.width (row_at (row_of a.width cells ∷ []) j)
       row zero l = line_printable f one a.width cells z
       row (suc j) l = absurd (omega arith)
+
+-- what a diff of lines leaves: each paired row is its line's, and the others stay
+module _ (f : List ℕ → ℕ) (a : Screen) (own : AreRows a.width a.height a.rows) {X : Type 0} (cells : X → List CellValue) where
+  line_rows : (xs : List X) → AreRows a.width (length xs) (map (λ x. row_of a.width (cells x)) xs)
+  line_rows xs = record { full = length-map xs (λ x. row_of a.width (cells x)); each = row xs }
+    where
+      row : (xs : List X) (j : ℕ) → j < length xs → IsRow a.width (row_at (map (λ x. row_of a.width (cells x)) xs) j)
+      row [] j l = absurd (omega arith)
+      row (x ∷ xs) j l = subst (IsRow a.width) (sym (get_or-map (λ x. row_of a.width (cells x)) (x ∷ xs) j x [] l)) (row_of_row a.width (cells (get_or (x ∷ xs) j x)))
+
+  pub lines_gives : (xs : List X) (l : List ChangeValue) → IsDiff f a (f ≡ f) (need a.rows (map (λ x. row_of a.width (cells x)) xs) (band a.width 0 0 (min a.height (length xs)))) l →
+      ((i : ℕ) → i < min a.height (length xs) → row_at (replay f a l).rows i ≡ row_at (map (λ x. row_of a.width (cells x)) xs) i)
+      × ((j : ℕ) → min a.height (length xs) ≤ j → row_at (replay f a l).rows j ≡ row_at a.rows j)
+  lines_gives xs l d =
+      let n = min a.height (length xs) in
+      let inside = band_inside a.width a.height (length xs) 0 0 n (λ k i. omega arith) (λ k i. omega arith) in
+      let given = gives_band f a (length xs) (map (λ x. row_of a.width (cells x)) xs) 0 0 n l own (line_rows xs) inside d in
+      ((λ i m. subst (λ k. row_at (replay f a l).rows k ≡ row_at (map (λ x. row_of a.width (cells x)) xs) k) (zero-add i) (given.0 i m)), λ j m. given.1 j (inr (omega (arith, m))))

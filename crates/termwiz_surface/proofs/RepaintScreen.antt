@@ -12,7 +12,8 @@ use Rattle.termwiz_line.specs.Entries.{Penned, pen_entry}
 use Rattle.termwiz_surface.specs.Screen.{Screen}
 use Rattle.termwiz_surface.specs.Place.{placed}
 use Rattle.termwiz_surface.specs.Step.{step, replay}
-use Rattle.termwiz_surface.specs.Repaint.{all_rows, all_moves, without_last_moves, is_nil, cursor_at, cursor_entry, shown_entries, title_entry, first_entries, repaint_of, repaint}
+use Rattle.termwiz_surface.specs.Repaint.{all_rows, all_moves, without_last_moves, is_nil, cursor_entry, shown_entries, title_entry, first_entries, repaint_of, repaint}
+use Rattle.termwiz_surface.specs.Place.{cursor_at}
 use Rattle.termwiz_surface.specs.Printable.{IsPrintable, HasSize}
 use Rattle.termwiz_surface.proofs.EntryTexts.{replay_pen}
 use Rattle.termwiz_surface.proofs.RepaintRows.{emptied, HasRows}
@@ -45,7 +46,7 @@ last_moves_move f (e ∷ es) s = dropped (last_moves_move f es (step f s e)) (al
 
 module _ (f : List ℕ → ℕ) where
   -- the cursor goes to a place inside, or one past the end of its row
-  replay_cursor : (s : Screen) (x y : ℕ) → x ≤ s.width → y < s.height → replay f s (cursor_at x y ∷ []) ≡ record s { x = x; y = y }
+  pub replay_cursor : (s : Screen) (x y : ℕ) → x ≤ s.width → y < s.height → replay f s (cursor_at x y ∷ []) ≡ record s { x = x; y = y }
   replay_cursor s x y lx ly =
       let b : leb x s.width ≡ true = le-leb x s.width lx in
       let row : min y (s.height - 1) ≡ y = omega arith in

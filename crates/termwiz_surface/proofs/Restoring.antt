@@ -9,7 +9,8 @@ use Rattle.termwiz_cell.specs.ChangeValue.{ChangeValue}
 use Rattle.termwiz_surface.specs.Screen.{Screen}
 use Rattle.termwiz_surface.specs.Print.{down, returned, wraps, wrapped, piece_of, print_piece, print_one}
 use Rattle.termwiz_surface.specs.Step.{step, replay, region_fits, regions_fit}
-use Rattle.termwiz_surface.specs.Diff.{cursor_at, is_drawing, all_drawing, restoring}
+use Rattle.termwiz_surface.specs.Diff.{is_drawing, all_drawing, restoring}
+use Rattle.termwiz_surface.specs.Place.{cursor_at}
 use Rattle.termwiz_surface.specs.DiffLaws.{DrawingRestores}
 use Rattle.termwiz_surface.specs.declared.surface.print.Piece.{Piece}
 use Rattle.termwiz_surface.specs.declared.surface.print.Piece.TheVariants.{CarriageReturn, LineFeed, CarriageReturnLineFeed, Cell}

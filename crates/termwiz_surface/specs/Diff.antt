@@ -4,10 +4,10 @@ use Rattle.termwiz_cell.specs.Attributes.{Attributes}
 use Rattle.termwiz_cell.specs.CellValue.{CellValue, columns, cell_eq}
 use Rattle.termwiz_cell.specs.ChangeValue as change
 use Rattle.termwiz_cell.specs.ChangeValue.{ChangeValue}
-use Rattle.termwiz_cell.specs.declared.change.Position.TheVariants as position
 use Rattle.termwiz_storage.specs.Stored.{stored}
 use Rattle.termwiz_line.specs.Row.{is_hidden}
 use Rattle.termwiz_line.specs.Entries.{add_text, pen_entry}
+use Rattle.termwiz_surface.specs.Place.{cursor_at}
 use Rattle.termwiz_surface.specs.Screen.{row_at}
 use Rattle.termwiz_surface.specs.Prints.{Print}
 
@@ -61,9 +61,6 @@ end_of p = record { x = p.column + columns p.cell; y = p.row; pen = p.cell.attrs
 pub record Drawn : Type 0 where
   pub entries : List ChangeValue
   pub end : Option End
-
-abbrev pub cursor_at : ℕ → ℕ → ChangeValue
-cursor_at x y = change.CursorPosition (position.Absolute x) (position.Absolute y)
 
 -- a move to the cell's place, unless the cursor is there
 abbrev pub move_to : Option End → Print → List ChangeValue

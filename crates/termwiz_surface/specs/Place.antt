@@ -1,6 +1,7 @@
 -- Where a position takes a cursor.
 use Rattle.std.specs.Prelude.{ℕ, suc, ◌+◌, ◌-◌, min, nat_le, ℤ, pos, negsuc, if◌then◌else◌}
 use Rattle.termwiz_surface.specs.Screen.{Screen}
+use Rattle.termwiz_cell.specs.ChangeValue.{ChangeValue, CursorPosition}
 use Rattle.termwiz_cell.specs.declared.change.Position.{Position}
 use Rattle.termwiz_cell.specs.declared.change.Position.TheVariants.{Relative, Absolute, EndRelative}
 
@@ -21,3 +22,7 @@ place_row (EndRelative d) c h = min (h - d) (h - 1)
 
 abbrev pub placed : Screen → Position → Position → Screen
 placed s x y = record s { x = place_column x s.x s.width; y = place_row y s.y s.height }
+
+-- the change that takes a cursor to column x and row y
+abbrev pub cursor_at : ℕ → ℕ → ChangeValue
+cursor_at x y = CursorPosition (Absolute x) (Absolute y)

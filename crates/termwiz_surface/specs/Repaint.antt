@@ -13,14 +13,12 @@ use Rattle.termwiz_cell.specs.ChangeValue.{ChangeValue}
 use Rattle.termwiz_storage.specs.Stored.{stored}
 use Rattle.termwiz_line.specs.Row.{visible_upto}
 use Rattle.termwiz_line.specs.Entries.{Penned, pen_entry, row_entries}
+use Rattle.termwiz_surface.specs.Place.{cursor_at}
 use Rattle.termwiz_surface.specs.Screen.{Screen, row_at}
 
 -- to the start of the next row
 abbrev pub next_line : ChangeValue
 next_line = change.CursorPosition (position.Absolute 0) (position.Relative (pos 1))
-
-abbrev pub cursor_at : ℕ → ℕ → ChangeValue
-cursor_at x y = change.CursorPosition (position.Absolute x) (position.Absolute y)
 
 -- the entries of the rows above row i, with a move down before each but the first, on a screen that was cleared
 abbrev pub rows_upto : ℕ → List (List CellValue) → ℕ → Penned

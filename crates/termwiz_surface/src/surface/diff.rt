@@ -72,7 +72,9 @@ impl<W: Widths> Surface<W> {
     ///
     /// Where each visible cell of the lines is one grapheme with the width that this surface measures, made by `add_changes` they give each of these rows what its line shows, and the others stay.
     pub fn diff_lines(&self, other_lines: Vec<&Line>) -> Result<Vec<Change>, AllocError>
-        ensures { All (λ line. ArePrintable (unversioned (W.width_of self.now.widths)) line.now.cells) other_lines.entry.items → IfOk result (λ l. let f = unversioned (W.width_of self.now.widths) in let a = screen_of self.now in IsDiff f a (f ≡ f) (need a.rows (map (λ line. row_of a.width line.now.cells) other_lines.entry.items) (band a.width 0 0 (min a.height (length other_lines.entry.items)))) (map change_value l.items)) }
+        ensures diff { All (λ line. ArePrintable (unversioned (W.width_of self.now.widths)) line.now.cells) other_lines.entry.items → IfOk result (λ l. let f = unversioned (W.width_of self.now.widths) in let a = screen_of self.now in IsDiff f a (f ≡ f) (need a.rows (map (λ line. row_of a.width line.now.cells) other_lines.entry.items) (band a.width 0 0 (min a.height (length other_lines.entry.items)))) (map change_value l.items)) }
+        // Each of these rows shows what its line does, and the others stay.
+        ensures rows { All (λ line. ArePrintable (unversioned (W.width_of self.now.widths)) line.now.cells) other_lines.entry.items → IfOk result (λ l. let f = unversioned (W.width_of self.now.widths) in let a = screen_of self.now in let lines = other_lines.entry.items in ((i : ℕ) → i < min a.height (length lines) → row_at (replay f a (map change_value l.items)).rows i ≡ row_at (map (λ line. row_of a.width line.now.cells) lines) i) × ((j : ℕ) → min a.height (length lines) ≤ j → row_at (replay f a (map change_value l.items)).rows j ≡ row_at a.rows j)) }
     {
         diff_lines(self.alloc, &self.rows, self.width, other_lines)
     }

@@ -14,6 +14,7 @@ ghost use Rattle.termwiz_surface.specs.Screen.{Screen};
 ghost use Rattle.termwiz_surface.specs.ScreenValue.{cells_of};
 ghost use Rattle.termwiz_surface.specs.Padding.{IsPaddable, ArePaddable};
 ghost use Rattle.termwiz_surface.specs.Drawing.{clears, IsBeforeRow, IsDrawnUpto};
+ghost use Rattle.termwiz_surface.specs.Place.{cursor_at};
 ghost use Rattle.termwiz_surface.specs.Repaint as spec;
 
 use crate::surface::shown::{is_blank_row, last_attrs};
@@ -304,7 +305,7 @@ fn push_cursor(
     x: usize,
     y: usize,
 ) -> Result<(), AllocError>
-    ensures { OnOk result (map change_value entries.new.items ≡ map change_value entries.old.items ++ cond (nothing && (eqb x 0 && eqb y 0)) [] (spec.cursor_at x y ∷ [])) }
+    ensures { OnOk result (map change_value entries.new.items ≡ map change_value entries.old.items ++ cond (nothing && (eqb x 0 && eqb y 0)) [] (cursor_at x y ∷ [])) }
 {
     if nothing && (x == 0 && y == 0) {
         return Ok(());

@@ -4,6 +4,7 @@ ghost use Rattle.termwiz_cell.specs.ChangeValue.{change_value};
 ghost use Rattle.termwiz_storage.specs.CellRef.{ref_cell};
 ghost use Rattle.termwiz_storage.specs.CellsLeft.{IsOfCell};
 ghost use Rattle.termwiz_surface.specs.Diff as spec;
+ghost use Rattle.termwiz_surface.specs.Place.{cursor_at};
 ghost use Rattle.termwiz_surface.specs.Prints.{Print};
 ghost use Rattle.termwiz_surface.specs.Ends.{end_value};
 
@@ -104,7 +105,7 @@ fn push_place(
 }
 
 fn push_move(entries: &mut EntryList, row: usize, column: usize) -> Result<(), AllocError>
-    ensures { OnOk result (entries.new ≡ entries.old ++ spec.cursor_at column row ∷ []) }
+    ensures { OnOk result (entries.new ≡ entries.old ++ cursor_at column row ∷ []) }
 {
     entries.push(Change::CursorPosition {
         x: Position::Absolute(column),

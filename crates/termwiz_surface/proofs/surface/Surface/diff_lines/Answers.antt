@@ -2,18 +2,19 @@ use Rattle.std.proofs.Common.{◌≡◌, map, min, length, sym, ap, ◌∙◌, s
 use Rattle.std.proofs.lemmas.Result.{IfOk-weaker}
 use Rattle.std.specs.Prelude.{None}
 use Rattle.std.specs.VecDeque.{deque_len}
+use Rattle.termwiz_cell.specs.ChangeValue.{change_value}
 use Rattle.termwiz_cell.specs.Width.{unversioned}
 use Rattle.termwiz_line.specs.Row.{row_of}
 use Rattle.termwiz_surface.specs.Diff.{band, diff, need}
 use Rattle.termwiz_surface.specs.DiffLists.{IsDiff}
 use Rattle.termwiz_surface.specs.ScreenValue.{cells_of}
-use Rattle.termwiz_surface.specs.SurfaceValue.{SurfaceValue, screen_of}
-use Rattle.termwiz_surface.proofs.DiffSurfaces.{lines_diff}
+use Rattle.termwiz_surface.specs.SurfaceValue.{SurfaceValue, IsSound, screen_of}
+use Rattle.termwiz_surface.proofs.DiffSurfaces.{sound_rows, lines_diff, lines_gives}
 use Rattle.termwiz_surface.proofs.Lines.{length-cells_of}
 use Rattle.termwiz_surface.proofs.surface.Surface.diff_lines.Goals as goal
 
-pub returns : goal.returns
-returns g c = λ printable.
+pub returns-clause-diff : goal.returns-clause-diff
+returns-clause-diff g c = λ printable.
     let v = c.args.self.now in
     let a = screen_of v in
     let f = unversioned (g.W.Widths.width_of v.widths) in
@@ -29,3 +30,10 @@ returns g c = λ printable.
     ∙ ap (λ (u : SurfaceValue _). diff (screen_of u).rows (map (λ line. row_of u.width line.now.cells) lines) (band u.width 0 0 (min u.height (length lines)))) c.self.view_is))
     (lines_diff f (g.met.W.Widths.space_has_one v.widths None) a (λ line. line.now.cells) lines printable))
     c.diff_lines.ensures
+
+pub returns-clause-rows : goal.returns-clause-rows
+returns-clause-rows g c = λ printable.
+    let v = c.args.self.now in
+    let f = unversioned (g.W.Widths.width_of v.widths) in
+    let own = sound_rows f v (subst (λ (s : SurfaceValue _). IsSound (unversioned (g.W.Widths.width_of s.widths)) s) c.self.view_is c.self.invariant.0) in
+    IfOk-weaker c.diff_lines.result _ _ (λ l d. lines_gives f (screen_of v) own (λ line. line.now.cells) c.args.other_lines.items (map change_value l.items) d) (returns-clause-diff g c printable)

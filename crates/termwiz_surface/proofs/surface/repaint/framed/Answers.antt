@@ -1,7 +1,8 @@
 use Rattle.std.proofs.Common.{◌≡◌, ◌&&◌, cond, eqb, map, ◌++◌, ◌∷◌, [], sym, ap, ◌∙◌}
 use Rattle.termwiz_cell.specs.ChangeValue.{change_value}
 use Rattle.termwiz_line.specs.Entries.{Penned, pen_entry}
-use Rattle.termwiz_surface.specs.Repaint.{cursor_at, cursor_entry, shown_entries, title_entry, first_entries, without_last_moves}
+use Rattle.termwiz_surface.specs.Repaint.{cursor_entry, shown_entries, title_entry, first_entries, without_last_moves}
+use Rattle.termwiz_surface.specs.Place.{cursor_at}
 use Rattle.termwiz_surface.proofs.LastChanges.{all_pushed, moves_behind_first}
 use Rattle.termwiz_surface.proofs.surface.repaint.framed.Goals as goal
 

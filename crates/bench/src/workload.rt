@@ -3,9 +3,10 @@ ghost use Rattle.std.specs.Prelude.{◌<◌, ◌^◌};
 
 use std::alloc::{AllocError, Global};
 use termwiz_cell::cell::CellAttributes;
-use termwiz_cell::change::{Change, CursorVisibility, Position, SequenceNo};
+use termwiz_cell::change::{Change, CursorVisibility, Position, SEQ_ZERO, SequenceNo};
 use termwiz_cell::color::ColorAttribute;
 use termwiz_cell::emoji::UnicodeWidths;
+use termwiz_line::line::line::Line;
 use termwiz_surface::surface::{Surface, SurfaceError};
 use termwiz_surface::view::Viewer;
 
@@ -44,6 +45,14 @@ pub enum Workload {
     Resize,
     /// Making an 80x24.
     New,
+    /// A clone of a line of 120 columns with a colour for every 8, each cell in a place of its own.
+    LineClone,
+    /// The same, stored as one text then.
+    Compress,
+    /// A walk over such a line that is stored as one text.
+    Walk,
+    /// A character that is set at the end of a line of up to 120 columns, stored as one text.
+    Append,
     /// A setter of an attribute.
     Setter,
     /// A clone of plain attributes.
@@ -71,6 +80,10 @@ impl Workload {
             "follow-repaint" => Some(Workload::FollowRepaint),
             "resize" => Some(Workload::Resize),
             "new" => Some(Workload::New),
+            "line-clone" => Some(Workload::LineClone),
+            "compress" => Some(Workload::Compress),
+            "walk" => Some(Workload::Walk),
+            "append" => Some(Workload::Append),
             "setter" => Some(Workload::Setter),
             "clone" => Some(Workload::Clone),
             "equality" => Some(Workload::Equality),
@@ -109,6 +122,10 @@ pub fn run(alloc: Global, workload: Workload, count: u32) -> Result<usize, Surfa
         Workload::FollowRepaint => followed_by_repaints(alloc, count),
         Workload::Resize => resized(alloc, count),
         Workload::New => made(alloc, count),
+        Workload::LineClone => Ok(cloned_lines(alloc, count)?),
+        Workload::Compress => Ok(compressed(alloc, count)?),
+        Workload::Walk => Ok(walked(alloc, count)?),
+        Workload::Append => Ok(appended(alloc, count)?),
         Workload::Setter => Ok(set(count)),
         Workload::Clone => Ok(cloned(count)?),
         Workload::Equality => Ok(compared(count)),
@@ -287,6 +304,63 @@ fn made(alloc: Global, count: u32) -> Result<usize, SurfaceError> {
     for _ in 0..count {
         let (width, _) = Surface::new(alloc, 80, 24, UnicodeWidths)?.dimensions();
         columns = columns.wrapping_add(width);
+    }
+    Ok(columns)
+}
+
+// A line of 120 columns with a colour for every 8.
+fn coloured_line(alloc: Global) -> Result<Line, AllocError> {
+    let mut line = Line::with_width(alloc, 120, SEQ_ZERO)?;
+    for column in 0..120 {
+        let mut attrs = CellAttributes::blank();
+        attrs.set_foreground(alloc, ColorAttribute::PaletteIndex((column / 8) as u8))?;
+        line.set_cell_grapheme(column, "x", 1, attrs, SEQ_ZERO)?;
+    }
+    Ok(line)
+}
+
+fn cloned_lines(alloc: Global, count: u32) -> Result<usize, AllocError> {
+    let line = coloured_line(alloc)?;
+    let mut columns = 0usize;
+    for _ in 0..count {
+        columns = columns.wrapping_add(line.clone()?.len());
+    }
+    Ok(columns)
+}
+
+fn compressed(alloc: Global, count: u32) -> Result<usize, AllocError> {
+    let line = coloured_line(alloc)?;
+    let mut columns = 0usize;
+    for _ in 0..count {
+        let mut copy = line.clone()?;
+        copy.compress_for_scrollback()?;
+        columns = columns.wrapping_add(copy.len());
+    }
+    Ok(columns)
+}
+
+fn walked(alloc: Global, count: u32) -> Result<usize, AllocError> {
+    let mut line = coloured_line(alloc)?;
+    line.compress_for_scrollback()?;
+    let mut columns = 0usize;
+    for _ in 0..count {
+        for cell in line.visible_cells() {
+            columns = columns.wrapping_add(cell.width());
+        }
+    }
+    Ok(columns)
+}
+
+fn appended(alloc: Global, count: u32) -> Result<usize, AllocError> {
+    let mut line = Line::new(alloc, SEQ_ZERO);
+    let mut columns = 0usize;
+    for _ in 0..count {
+        if line.len() >= 120 {
+            columns = columns.wrapping_add(line.len());
+            line = Line::new(alloc, SEQ_ZERO);
+        }
+        let end = line.len();
+        line.set_cell_grapheme(end, "x", 1, CellAttributes::blank(), SEQ_ZERO)?;
     }
     Ok(columns)
 }

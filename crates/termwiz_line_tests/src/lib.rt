@@ -12,6 +12,8 @@ mod flags;
 #[cfg(test)]
 mod lines;
 #[cfg(test)]
+mod storages;
+#[cfg(test)]
 mod texts;
 #[cfg(test)]
 mod visible_cells;

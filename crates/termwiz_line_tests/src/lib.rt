@@ -14,6 +14,8 @@ mod flags;
 #[cfg(test)]
 mod lines;
 #[cfg(test)]
+mod storages;
+#[cfg(test)]
 mod texts;
 #[cfg(test)]
 mod visible_cells;

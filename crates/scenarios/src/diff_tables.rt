@@ -2,7 +2,7 @@
 ghost use Rattle.std.specs.Prelude.{◌<◌, ◌^◌};
 
 use crate::steps::{RED, Step, Style};
-use crate::surfaces::drawn;
+use crate::surfaces::{draw, drawn};
 use std::alloc::{AllocError, Global};
 use std::process::Abort;
 use std::test::Fail;
@@ -25,17 +25,31 @@ const TEXTS: [&str; 9] = [
     "e\u{301}か x",
 ];
 
+#[derive(Clone, Copy)]
+enum Pen {
+    Plain,
+    Bold,
+    OnRed,
+}
+
 // A surface of one row with this text in this pen.
 fn row(
     alloc: Global,
     width: usize,
-    pen: &Step<'_>,
+    pen: Pen,
     text: &str,
 ) -> Result<Surface<UnicodeWidths>, SurfaceError>
     requires some { 0 < width }
     requires fits { width < 2 ^ 32 }
 {
-    drawn(alloc, width, 1, UnicodeWidths, &[*pen, Step::Print(text)])
+    let steps = match pen {
+        Pen::Plain => [Step::DefaultPen],
+        Pen::Bold => [Step::Pen(Style::Bold)],
+        Pen::OnRed => [Step::Pen(Style::Background(RED))],
+    };
+    let mut surface = drawn(alloc, width, 1, UnicodeWidths, &steps)?;
+    draw(alloc, &mut surface, &[Step::Print(text)])?;
+    Ok(surface)
 }
 
 // How many graphemes the changes print.
@@ -95,8 +109,8 @@ fn assert_pairs(
     rt: &impl Abort,
     alloc: Global,
     width: usize,
-    one: &Step<'_>,
-    other: &Step<'_>,
+    one: Pen,
+    other: Pen,
 ) -> Result<(), SurfaceError>
     requires some { 0 < width }
     requires fits { width < 2 ^ 32 }
@@ -115,16 +129,15 @@ fn assert_pairs(
 #[test]
 fn pairs_in_one_pen(rt: HostRuntime) -> Result<(), Fail> {
     for width in 1..6 {
-        assert_pairs(&rt, rt.alloc(), width, &Step::DefaultPen, &Step::DefaultPen)?;
+        assert_pairs(&rt, rt.alloc(), width, Pen::Plain, Pen::Plain)?;
     }
     Ok(())
 }
 
 #[test]
 fn pairs_in_two_pens(rt: HostRuntime) -> Result<(), Fail> {
-    let red = Step::Pen(Style::Background(RED));
     for width in 1..6 {
-        assert_pairs(&rt, rt.alloc(), width, &Step::Pen(Style::Bold), &red)?;
+        assert_pairs(&rt, rt.alloc(), width, Pen::Bold, Pen::OnRed)?;
     }
     Ok(())
 }
@@ -168,8 +181,8 @@ fn regions_whose_edges_cut_wide_graphemes(rt: HostRuntime) -> Result<(), Fail> {
     let alloc = rt.alloc();
     for from in TEXTS {
         for to in TEXTS {
-            let own = row(alloc, 5, &Step::DefaultPen, from)?;
-            let other = row(alloc, 5, &Step::DefaultPen, to)?;
+            let own = row(alloc, 5, Pen::Plain, from)?;
+            let other = row(alloc, 5, Pen::Plain, to)?;
             assert_regions(&rt, &own, &other)?;
         }
     }

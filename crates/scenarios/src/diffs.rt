@@ -1,4 +1,6 @@
 //! Which changes a diff has.
+ghost use Rattle.std.specs.Prelude.{◌<◌, ◌^◌};
+
 use crate::steps::{PLAIN, RED, Step, Style};
 use crate::surfaces::{assert_changes, assert_rows, assert_shows, draw, drawn};
 use std::alloc::{AllocError, Global};

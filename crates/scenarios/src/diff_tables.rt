@@ -1,7 +1,7 @@
 //! Diffs of many pairs of surfaces, made and compared, and their prints counted.
 ghost use Rattle.std.specs.Prelude.{◌<◌, ◌^◌};
 
-use crate::steps::{RED, Step, Style};
+use crate::steps::{PLAIN, RED, Step, Style};
 use crate::surfaces::{draw, drawn};
 use std::alloc::{AllocError, Global};
 use std::process::Abort;
@@ -138,6 +138,29 @@ fn pairs_in_one_pen(rt: HostRuntime) -> Result<(), Fail> {
 fn pairs_in_two_pens(rt: HostRuntime) -> Result<(), Fail> {
     for width in 1..6 {
         assert_pairs(&rt, rt.alloc(), width, Pen::Bold, Pen::OnRed)?;
+    }
+    Ok(())
+}
+
+// The same for rows that are cleared from a column on, of which fewer cells are stored.
+fn assert_short(rt: &impl Abort, alloc: Global, column: usize) -> Result<(), SurfaceError> {
+    let steps = [Step::At(column, 0), Step::ClearToEndOfLine(PLAIN)];
+    for from in TEXTS {
+        let from = row(alloc, 4, Pen::Plain, from)?;
+        for to in TEXTS {
+            let mut to = row(alloc, 4, Pen::OnRed, to)?;
+            draw(alloc, &mut to, &steps)?;
+            assert_diff(rt, &from, &to)?;
+            assert_diff(rt, &to, &from)?;
+        }
+    }
+    Ok(())
+}
+
+#[test]
+fn pairs_of_short_rows(rt: HostRuntime) -> Result<(), Fail> {
+    for column in 0..4 {
+        assert_short(&rt, rt.alloc(), column)?;
     }
     Ok(())
 }

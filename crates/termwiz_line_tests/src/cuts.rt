@@ -278,6 +278,15 @@ fn a_line_is_wrapped_where_the_next_cell_has_no_room(rt: HostRuntime) -> Result<
 }
 
 #[test]
+fn a_compressed_line_is_wrapped_alike(rt: HostRuntime) -> Result<(), Fail> {
+    let mut line = line_of(rt.alloc(), &[("a", 1), ("か", 2), ("b", 1)])?;
+    line.compress_for_scrollback()?;
+    assert!(rt; line.stored_cells().is_none());
+    assert_eq!(rt; wrapped(rt.alloc(), line, 2)?.as_str(), "a1>|か2>|b1|");
+    Ok(())
+}
+
+#[test]
 fn each_line_takes_a_cell_and_spaces_at_the_end_are_dropped(rt: HostRuntime) -> Result<(), Fail> {
     let spaces = line_of(rt.alloc(), &[(" ", 1), (" ", 1), (" ", 1)])?;
     assert_eq!(rt; wrapped(rt.alloc(), spaces, 1)?.as_str(), "   3|");

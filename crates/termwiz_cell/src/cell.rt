@@ -127,6 +127,7 @@ impl Cell {
         Cell::with_clean_text(alloc, cleaned(text), width > 1, attrs)
     }
 
+    #[inline(always)]
     fn with_clean_text(
         alloc: Global,
         text: &str,
@@ -206,7 +207,7 @@ impl PartialEq for Cell {
 
     ghost laws = { partial_equiv_from_equiv (decided cell_eq cell_eq-Decides) };
 
-    #[inline]
+    #[inline(always)]
     fn eq(&self, other: &Cell) -> bool
         ensures value { result ≡ cell_eq self.now other.now }
         ensures same { IsTrue result ↔ (self.now ≡ other.now) }
@@ -220,7 +221,7 @@ impl Eq for Cell {
 }
 
 impl Cell {
-    #[inline]
+    #[inline(always)]
     fn is_same(&self, other: &Cell) -> bool
         ensures { result ≡ cell_eq self.now other.now }
     {

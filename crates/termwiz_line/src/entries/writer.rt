@@ -158,8 +158,18 @@ impl<'a> RowWriter<'a> {
         self.end_row()
     }
 
-    // Visible cells come next.
+    // Visible cells come next. Each form of storage is walked apart, so that the walk needs no test for each cell.
     fn cells(&mut self, cells: VisibleCellIter<'a>) -> Result<(), AllocError>
+        ensures { OnOk result ((from : spec.Penned) (before : List (ℕ × CellValue)) → IsWritten from before self.old → IsWritten from (before ++ cells_left cells.entry) self.new) }
+    {
+        match cells {
+            VisibleCellIter::V(cells) => self.walk(VisibleCellIter::V(cells)),
+            VisibleCellIter::Cluster(cells) => self.walk(VisibleCellIter::Cluster(cells)),
+        }
+    }
+
+    #[inline(always)]
+    fn walk(&mut self, cells: VisibleCellIter<'a>) -> Result<(), AllocError>
         ensures { OnOk result ((from : spec.Penned) (before : List (ℕ × CellValue)) → IsWritten from before self.old → IsWritten from (before ++ cells_left cells.entry) self.new) }
     {
         for cell in cells {

@@ -169,6 +169,7 @@ impl<'a> Iterator for VisibleCellIter<'a> {
 
     ghost remaining = { item_count cells_left };
 
+    #[inline(always)]
     fn next(&mut self) -> Option<CellRef<'a>> {
         match self {
             VisibleCellIter::V(iter) => iter.next(),

@@ -129,6 +129,20 @@ impl CellStorage {
         ensures err { OnErr result (cells_of self.new ≡ cells_of self.old) }
         ensures vector { is_vector self.old ≡ true → is_vector self.new ≡ true }
     {
+        match self {
+            CellStorage::V(storage) => storage.set_cell_within(i, cell, len)?,
+            CellStorage::Cluster(_) => self.set_in_text_within(i, cell, len)?,
+        }
+        Ok(())
+    }
+
+    // The same where a text becomes a vector. It stands apart, so that the way of a vector is short.
+    #[inline(never)]
+    fn set_in_text_within(&mut self, i: usize, cell: Cell, len: usize) -> Result<(), AllocError>
+        ensures ok { OnOk result (cells_of self.new ≡ take len (set_cell i cell (cells_of self.old))) }
+        ensures err { OnErr result (cells_of self.new ≡ cells_of self.old) }
+        ensures vector { is_vector self.old ≡ true → is_vector self.new ≡ true }
+    {
         self.coerce_vec()?.set_cell_within(i, cell, len)?;
         Ok(())
     }
@@ -143,7 +157,10 @@ impl CellStorage {
         ensures err { OnErr result (cells_of self.new ≡ cells_of self.old) }
         ensures vector { is_vector self.old ≡ true → is_vector self.new ≡ true }
     {
-        self.coerce_vec()?.set_run(i, run, attrs)?;
+        match self {
+            CellStorage::V(storage) => storage.set_run(i, run, attrs)?,
+            CellStorage::Cluster(_) => self.coerce_vec()?.set_run(i, run, attrs)?,
+        }
         Ok(())
     }
 
@@ -165,7 +182,10 @@ impl CellStorage {
         ensures vector { is_vector self.old ≡ true → is_vector self.new ≡ true }
         ensures made { OnOk result (is_vector self.new ≡ true) }
     {
-        self.coerce_vec()?.blank_out(len)?;
+        match self {
+            CellStorage::V(storage) => storage.blank_out(len)?,
+            CellStorage::Cluster(_) => self.coerce_vec()?.blank_out(len)?,
+        }
         Ok(())
     }
 
@@ -238,6 +258,7 @@ impl CellStorage {
     }
 
     /// The storage as a vector, which it is from then on. Its cells can be written, and their number stays.
+    #[inline(never)]
     pub fn coerce_vec(&mut self) -> Result<&mut VecStorage, AllocError>
         ensures* writes_back { sem 𝓛 (LendsVector self.entry result) }
         ensures value { IfOk result (λ v. v.now ≡ cells_of self.old) }

@@ -530,8 +530,22 @@ impl PartialEq for VecStorage {
         ensures value { result ≡ cells_eq self.now other.now }
         ensures same { IsTrue result ↔ (self.now ≡ other.now) }
     {
-        self.cells.as_slice() == other.cells.as_slice()
+        self.cells.len() == other.cells.len()
+            && are_same(self.cells.as_slice(), other.cells.as_slice())
     }
+}
+
+// Whether both are the same cells. Cells are compared in the loop itself, without a call for each.
+fn are_same(cells: &[Cell], others: &[Cell]) -> bool
+    requires { length cells.now ≡ length others.now }
+    ensures { IsTrue result ↔ (cells.now ≡ others.now) }
+{
+    for i in 0..cells.len() {
+        if cells[i] != others[i] {
+            return false;
+        }
+    }
+    true
 }
 
 impl Eq for VecStorage {
@@ -579,6 +593,7 @@ impl<'a> Iterator for VecStorageIter<'a> {
 
     ghost remaining = { item_count (λ s. s) };
 
+    #[inline(always)]
     fn next(&mut self) -> Option<CellRef<'a>> {
         while self.skip_width > 0 {
             self.skip_width -= 1;

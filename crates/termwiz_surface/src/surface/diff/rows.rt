@@ -124,7 +124,35 @@ fn print_cells<'a>(
 }
 
 // The visible cells of a line at the region's columns. Tells the column behind the last one that was met.
+// Each form of storage is walked apart, so that the walk needs no test for each cell.
 fn print_visible<'a>(
+    writer: &mut DiffWriter<'a>,
+    own: &[Cell],
+    cells: VisibleCellIter<'a>,
+    padding: &Cell,
+    region: Region,
+    row: usize,
+) -> Result<usize, AllocError>
+    requires blank { padding.now ≡ blank }
+    requires own_fits { region.x + region.width < 2 ^ 32 }
+    requires other_fits { region.other_x + region.width < 2 ^ 32 }
+    ensures printed { IfOk result (λ next. (w : ℕ) (cs : List CellValue) → cells_left cells.entry ≡ visible cs → region.other_x + region.width ≤ w → writer.new ≡ fold print_out writer.old (map (in_row row) (row_need own.now region.x (row_of w cs) region.other_x (min region.width (next - region.other_x))))) }
+    ensures rest { IfOk result (λ next. (w : ℕ) (cs : List CellValue) → cells_left cells.entry ≡ visible cs → next < region.other_x + region.width → EndsBlank w (row_of w cs) next) }
+{
+    match cells {
+        VisibleCellIter::V(cells) => {
+            let cells = VisibleCellIter::V(cells);
+            print_walk(writer, own, cells, padding, region, row)
+        }
+        VisibleCellIter::Cluster(cells) => {
+            let cells = VisibleCellIter::Cluster(cells);
+            print_walk(writer, own, cells, padding, region, row)
+        }
+    }
+}
+
+#[inline(always)]
+fn print_walk<'a>(
     writer: &mut DiffWriter<'a>,
     own: &[Cell],
     cells: VisibleCellIter<'a>,
@@ -144,11 +172,12 @@ fn print_visible<'a>(
         if next >= end {
             return Ok(next);
         }
+        let width = cell.width();
         if next >= region.other_x {
             let column = region.x + (next - region.other_x);
             print_unless_shown(writer, own, padding, row, column, cell)?;
         }
-        next += cell.width();
+        next += width;
     }
     Ok(next)
 }

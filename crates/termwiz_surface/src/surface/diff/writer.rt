@@ -63,9 +63,9 @@ impl<'a> DiffWriter<'a> {
         ensures { OnOk result (self.new ≡ spec.print_out self.old (record { row = row; column = column; cell = ref_cell cell.entry })) }
     {
         let pen = cell.attrs();
+        let x = column + cell.width();
         push_place(&mut self.entries, self.end, row, column, pen)?;
         self.entries.push_text(cell.str())?;
-        let x = column + cell.width();
         self.end = Some(End { x, y: row, pen });
         Ok(())
     }

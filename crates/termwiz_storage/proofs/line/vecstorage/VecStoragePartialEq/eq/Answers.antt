@@ -1,9 +1,18 @@
-use Rattle.std.proofs.Common.{◌≡◌, ◌∙◌, ap₂}
-use Rattle.std.proofs.lemmas.Bool.Decides.{Decides-at}
+use Rattle.std.proofs.Common.{◌≡◌, ◌↔◌, ◌⊎◌, Bool, true, false, inl, inr, refl, sym, ap₂, ◌∙◌, subst}
+use Rattle.std.specs.Bool.{Decides, IsTrue}
+use Rattle.std.proofs.lemmas.Bool.{cases_Bool, true≢false}
 use Rattle.termwiz_storage.specs.CellLists.{cells_eq, cells_eq-Decides}
 use Rattle.termwiz_storage.proofs.line.vecstorage.VecStoragePartialEq.eq.Goals as goal
 
-pub returns-clause-same : goal.returns-clause-same
-returns-clause-same c =
-    let value : c.eq.result ≡ cells_eq c.args.self.now c.args.other.now = c.eq.ensures ∙ ap₂ cells_eq (c.as_slice.ensures.value ∙ c.self.view_is) (c.as_slice-2.ensures.value ∙ c.other.view_is) in
-    Decides-at c.eq.result _ value (cells_eq-Decides c.args.self.now c.args.other.now)
+-- two tests of one thing
+agree : (r t : Bool) {P : Type 0} → (IsTrue r ↔ P) → Decides t P → r ≡ t
+agree true t a d = sym (d.1 (a.0 refl))
+agree false t a d = elim (cases_Bool t) [
+  | inl e ↦ absurd (true≢false (sym (a.1 (d.0 e))))
+  | inr e ↦ sym e
+]
+
+pub returns-then-len-clause-value : goal.returns-then-len-clause-value
+returns-then-len-clause-value c =
+    agree c.are_same.result (cells_eq c.as_slice.result.now c.as_slice-then-len.result.now) c.are_same.ensures (cells_eq-Decides c.as_slice.result.now c.as_slice-then-len.result.now)
+    ∙ ap₂ cells_eq (c.as_slice.ensures.value ∙ c.self.view_is) (c.as_slice-then-len.ensures.value ∙ c.other.view_is)

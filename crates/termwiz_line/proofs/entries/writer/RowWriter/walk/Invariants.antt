@@ -4,7 +4,7 @@ use Rattle.termwiz_storage.specs.CellRef.{indexed_cell}
 use Rattle.termwiz_storage.specs.CellsLeft.{cells_left}
 use Rattle.termwiz_line.specs.Entries.{Penned}
 use Rattle.termwiz_line.specs.Writing.{IsWritten}
-use Rattle.termwiz_line.proofs.entries.writer.RowWriter.cells.Given as goal
+use Rattle.termwiz_line.proofs.entries.writer.RowWriter.walk.Given as goal
 
 -- the cells so far are written
 abbrev pub invariant-loop-cell : goal.invariant-loop-cell

@@ -4,7 +4,7 @@ use Rattle.termwiz_cell.specs.CellValue.{CellValue}
 use Rattle.termwiz_storage.specs.CellRef.{indexed_cell}
 use Rattle.termwiz_storage.specs.CellsLeft.{cells_left}
 use Rattle.termwiz_line.specs.Writing.{IsWritten}
-use Rattle.termwiz_line.proofs.entries.writer.RowWriter.cells.Goals as goal
+use Rattle.termwiz_line.proofs.entries.writer.RowWriter.walk.Goals as goal
 
 pub loop-cell-init : goal.loop-cell-init
 loop-cell-init c = record {

@@ -7,20 +7,20 @@ use Rattle.termwiz_surface.specs.Diff.{in_row, print_out, row_need}
 use Rattle.termwiz_line.specs.Row.{row_of}
 use Rattle.termwiz_storage.proofs.Widths.{columns_bounds}
 use Rattle.termwiz_surface.proofs.WalkedRows.{IsAt, IsNext, at_next, at_end, printed_next, skipped_next}
-use Rattle.termwiz_surface.proofs.surface.diff.rows.print_visible.Goals as goal
-use Rattle.termwiz_surface.proofs.surface.diff.rows.print_visible.Goals.{then-next-region+in_ok-print_unless_shown, else-next-region}
+use Rattle.termwiz_surface.proofs.surface.diff.rows.print_walk.Goals as goal
+use Rattle.termwiz_surface.proofs.surface.diff.rows.print_walk.Goals.{then-next-region+in_ok-print_unless_shown, else-next-region}
 
 pub loop-cell-preserved : goal.loop-cell-preserved
 loop-cell-preserved c = record {
   can = tt;
   finite = tt;
   at = λ cs e. subst (λ n. IsAt cs (c.loop-cell.next + n) (cells_left c.next.new.self)) (sym wide) (met cs e).at;
-  reached = omega (arith, c.width-next.ensures, c.if-next-end.false, columns_bounds (ref_cell c.in-Some.cell), wide);
+  reached = omega (arith, c.width-width.ensures, c.if-next-end.false, columns_bounds (ref_cell c.in-Some.cell), wide);
   printed = λ w cs e l. printed w cs e l ∙ ap (λ n. fold print_out c.args.writer.now (map (in_row c.args.row) (row_need c.args.own.now c.args.region.x (row_of w cs) c.args.region.other_x (min c.args.region.width (c.loop-cell.next + n - c.args.region.other_x))))) (sym wide);
 }
   where
-    wide : c.width-next.result ≡ columns (ref_cell c.in-Some.cell)
-    wide = c.width-next.ensures ∙ c.in-Some.ensures.steps.1.width
+    wide : c.width-width.result ≡ columns (ref_cell c.in-Some.cell)
+    wide = c.width-width.ensures ∙ c.in-Some.ensures.steps.1.width
 
     met : (cs : List CellValue) → cells_left c.into_iter-cell-iterator.result ≡ visible cs → IsNext cs c.loop-cell.next (indexed_cell c.in-Some.cell) (cells_left c.next.new.self)
     met cs e = at_next cs c.loop-cell.next (cells_left c.loop-cell.cell-iterator) (indexed_cell c.in-Some.cell) (cells_left c.next.new.self) (c.loop-cell.invariant.at cs e) c.in-Some.ensures.steps.0

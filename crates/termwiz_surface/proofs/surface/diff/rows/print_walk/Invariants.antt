@@ -5,7 +5,7 @@ use Rattle.termwiz_storage.specs.Stored.{visible}
 use Rattle.termwiz_line.specs.Row.{row_of}
 use Rattle.termwiz_surface.specs.Diff.{in_row, print_out, row_need}
 use Rattle.termwiz_surface.proofs.WalkedRows.{IsAt}
-use Rattle.termwiz_surface.proofs.surface.diff.rows.print_visible.Given as goal
+use Rattle.termwiz_surface.proofs.surface.diff.rows.print_walk.Given as goal
 
 -- what the columns so far need is printed, and the walk stands at the next
 abbrev pub invariant-loop-cell : goal.invariant-loop-cell

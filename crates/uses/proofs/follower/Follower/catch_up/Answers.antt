@@ -1,0 +1,34 @@
+use Rattle.std.proofs.Common.{◌≡◌, map, sym, ap, ◌∙◌, subst}
+use Rattle.termwiz_cell.specs.ChangeValue.{change_value}
+use Rattle.termwiz_cell.specs.Width.{unversioned}
+use Rattle.termwiz_surface.specs.Following.{ViewerValue}
+use Rattle.termwiz_surface.specs.Printable.{HasSize}
+use Rattle.termwiz_surface.specs.Step.{replay}
+use Rattle.termwiz_surface.specs.Stream.{IsStream, stream_of}
+use Rattle.termwiz_surface.specs.SurfaceValue.{SurfaceValue, screen_of}
+use Rattle.uses.proofs.follower.Follower.catch_up.Goals as goal
+
+pub returns-clause-shown : goal.returns-clause-shown
+returns-clause-shown g c =
+    let f = λ (widths : g.row.W.Denot). unversioned (g.W.Widths.width_of widths) in
+    let s = c.args.surface.now in
+    let v = c.args.self.now in
+    let shown : c.self.inside.shown ≡ v.surface = ap (λ (u : ViewerValue _). u.surface) c.self.view_is in
+    let size : HasSize s.width s.height (screen_of v.surface) =
+    subst (λ w. HasSize w s.height (screen_of v.surface)) c.requires.same_width
+    (subst (λ h. HasSize v.surface.width h (screen_of v.surface)) c.requires.same_height (subst (λ (u : SurfaceValue _). HasSize u.width u.height (screen_of u)) shown c.dimensions-size.ensures.sized)) in
+    let stream : IsStream (f s.widths) (screen_of s) s.log v.last (stream_of c.in_ok-number.changes) =
+    subst (λ n. IsStream (f s.widths) (screen_of s) s.log n (stream_of c.in_ok-number.changes)) (ap (λ (u : ViewerValue _). u.last) c.self.view_is) c.in_ok-number.ensures.stream in
+    c.in_ok-add_changes.ensures.adds.3.screen_is
+    ∙ (λ i. replay (f (shown i).widths) (screen_of (shown i)) (c.in_ok-copied.ensures i))
+    ∙ ap (λ m. replay m (screen_of v.surface) (stream_of c.in_ok-number.changes)) c.requires.follows.one_measure
+    ∙ c.following_laws.ensures.streams (f s.widths) (screen_of v.surface) (screen_of s) v.last s.log (stream_of c.in_ok-number.changes) size c.requires.follows.leads stream
+
+pub returns-clause-follows : goal.returns-clause-follows
+returns-clause-follows g c =
+    let f = λ (widths : g.row.W.Denot). unversioned (g.W.Widths.width_of widths) in
+    let s = c.args.surface.now in
+    record {
+      one_measure = ap f c.in_ok-add_changes.ensures.adds.3.widths ∙ ap (λ (u : ViewerValue _). f u.surface.widths) c.self.view_is ∙ c.requires.follows.one_measure;
+      leads = c.following_laws.ensures.same (f s.widths) (screen_of c.add_changes.new.self) (screen_of s) c.in_ok-number.number s.log (returns-clause-shown g c) c.in_ok-number.ensures.number;
+    }

@@ -1,4 +1,4 @@
-//! Lines that are edited alike, of which one is stored as one text again after each edit: all answers are the same.
+//! Lines that are edited alike, of which one is stored as one text again after each edit: their answers are the same.
 use std::alloc::{AllocError, Global};
 use std::process::Abort;
 use std::test::Fail;

@@ -2,8 +2,14 @@
 use std::alloc::{AllocError, Global};
 use std::process::Abort;
 use std::test::Fail;
-use termwiz_cell::cell::CellAttributes;
+use termwiz_cell::cell::{Cell, CellAttributes, SemanticType};
+use termwiz_cell::emoji::UnicodeWidths;
+use termwiz_line::line::bidi::Direction;
 use termwiz_line::line::line::Line;
+
+mod answers;
+
+use answers::assert_same_answers;
 
 #[derive(Clone, Copy)]
 enum Edit {
@@ -11,11 +17,34 @@ enum Edit {
     Narrow(usize, &'static str),
     // Sets a wide one in italics.
     Wide(usize, &'static str),
+    // Sets a narrow one that is a prompt.
+    Prompt(usize, &'static str),
+    // Inserts a narrow one within 6 columns.
+    Insert(usize, &'static str),
+    // Lays a text over the line, in italics.
+    Overlay(usize, &'static str),
+    // Appends the line of a text.
+    Append(&'static str),
+    // Sets `xy` from a column on.
+    Run(usize),
+    // Fills columns with `=`.
+    Fill(usize, usize),
     Erase(usize),
+    // Erases a cell within 4 columns.
+    EraseWithin(usize),
     Remove(usize),
     Resize(usize),
-    Mark(bool),
+    // Makes so many blanks of the line.
+    Clear(usize),
     Prune,
+    Flag(Flag),
+}
+
+#[derive(Clone, Copy)]
+enum Flag {
+    Wrapped(bool),
+    DoubleWidth,
+    RightToLeft,
 }
 
 fn italic() -> CellAttributes {
@@ -24,65 +53,56 @@ fn italic() -> CellAttributes {
     attrs
 }
 
-fn make_edit(line: &mut Line, edit: &Edit) -> Result<(), AllocError> {
-    match edit {
-        Edit::Narrow(x, text) => line.set_cell_grapheme(*x, text, 1, CellAttributes::blank(), 1),
-        Edit::Wide(x, text) => line.set_cell_grapheme(*x, text, 2, italic(), 1),
-        Edit::Erase(x) => line.erase_cell(*x, 1),
-        Edit::Remove(x) => line.remove_cell(*x, 1),
-        Edit::Resize(width) => line.resize(*width, 1),
-        Edit::Mark(wrapped) => line.set_last_cell_was_wrapped(*wrapped, 1),
-        Edit::Prune => line.prune_trailing_blanks(1),
-    }
+fn prompt() -> CellAttributes {
+    let mut attrs = CellAttributes::blank();
+    attrs.set_semantic_type(SemanticType::Prompt);
+    attrs
 }
 
-// Both walks meet the same cells.
-fn assert_same_walk(rt: &impl Abort, one: &Line, other: &Line) {
-    let mut others = other.visible_cells();
-    for cell in one.visible_cells() {
-        let same = others.next().is_some_and(|met| met.cell_index() == cell.cell_index()
-            && met.same_contents(&cell));
-        assert!(rt; same);
-    }
-    assert!(rt; others.next().is_none());
+fn narrow(alloc: Global, text: &str) -> Result<Cell, AllocError> {
+    Cell::new_grapheme_with_width(alloc, text, 1, CellAttributes::blank())
 }
 
-// Both have the same cell at a column, or none.
-fn is_same_at(one: &Line, other: &Line, column: usize) -> bool {
-    match (one.get_cell(column), other.get_cell(column)) {
-        (Some(cell), Some(met)) => met.same_contents(&cell),
-        (None, None) => true,
-        _ => false,
+fn set_flag(line: &mut Line, flag: Flag) -> Result<(), AllocError> {
+    match flag {
+        Flag::Wrapped(wrapped) => line.set_last_cell_was_wrapped(wrapped, 1)?,
+        Flag::DoubleWidth => line.set_double_width(2),
+        Flag::RightToLeft => line.set_direction(Direction::RightToLeft, true, 3),
     }
-}
-
-// Both give the same answers.
-fn assert_same_answers(rt: &impl Abort, one: &Line, other: &Line) -> Result<(), AllocError> {
-    assert!(rt; *one == *other);
-    assert_eq!(rt; one.len(), other.len());
-    assert_same_walk(rt, one, other);
-    for column in 0..8 {
-        assert!(rt; is_same_at(one, other, column));
-    }
-    assert!(rt; one.as_str()?.as_str() == other.as_str()?.as_str());
-    assert!(rt; one.columns_as_str(1..3)?.as_str() == other.columns_as_str(1..3)?.as_str());
-    assert_eq!(rt; one.is_whitespace(), other.is_whitespace());
-    assert_eq!(rt; one.has_hyperlink(), other.has_hyperlink());
-    assert_eq!(rt; one.last_cell_was_wrapped(), other.last_cell_was_wrapped());
-    let pen = CellAttributes::blank();
-    assert!(rt; *one.changes(&pen)?.as_slice() == *other.changes(&pen)?.as_slice());
     Ok(())
+}
+
+fn make_edit(alloc: Global, line: &mut Line, edit: Edit) -> Result<(), AllocError> {
+    match edit {
+        Edit::Narrow(x, text) => line.set_cell_grapheme(x, text, 1, CellAttributes::blank(), 1),
+        Edit::Wide(x, text) => line.set_cell_grapheme(x, text, 2, italic(), 1),
+        Edit::Prompt(x, text) => line.set_cell_grapheme(x, text, 1, prompt(), 1),
+        Edit::Insert(x, text) => line.insert_cell(x, narrow(alloc, text)?, 6, 1),
+        Edit::Overlay(x, text) => {
+            line.overlay_text_with_attribute(x, text, &italic(), 1, &UnicodeWidths)
+        }
+        Edit::Append(text) => line.append_line(Line::from_plain(alloc, text, &UnicodeWidths)?, 1),
+        Edit::Run(x) => line.set_run(x, "xy", &CellAttributes::blank(), 1),
+        Edit::Fill(from, to) => line.fill_range(from..to, &narrow(alloc, "=")?, 1),
+        Edit::Erase(x) => line.erase_cell(x, 1),
+        Edit::EraseWithin(x) => line.erase_cell_with_margin(x, 4, 1, italic()),
+        Edit::Remove(x) => line.remove_cell(x, 1),
+        Edit::Resize(width) => line.resize(width, 1),
+        Edit::Clear(width) => line.resize_and_clear(width, 1, italic()),
+        Edit::Prune => line.prune_trailing_blanks(1),
+        Edit::Flag(flag) => set_flag(line, flag),
+    }
 }
 
 // The edits, on a line and on one that is compressed after each of them.
 fn assert_alike(rt: &impl Abort, alloc: Global, edits: &[Edit]) -> Result<(), AllocError> {
     let mut line = Line::new(alloc, 0);
     let mut compressed = Line::new(alloc, 0);
-    for change in edits {
-        make_edit(&mut line, change)?;
-        make_edit(&mut compressed, change)?;
+    for edit in edits {
+        make_edit(alloc, &mut line, *edit)?;
+        make_edit(alloc, &mut compressed, *edit)?;
         compressed.compress_for_scrollback()?;
-        assert_same_answers(rt, &line, &compressed)?;
+        assert_same_answers(rt, &mut line, &mut compressed)?;
     }
     Ok(())
 }
@@ -94,7 +114,7 @@ fn appended_cells(rt: HostRuntime) -> Result<(), Fail> {
         Edit::Wide(1, "か"),
         Edit::Narrow(3, "e"),
         Edit::Narrow(4, "\u{301}"),
-        Edit::Mark(true),
+        Edit::Flag(Flag::Wrapped(true)),
         Edit::Narrow(7, "z"),
     ];
     assert_alike(&rt, rt.alloc(), &edits)?;
@@ -121,7 +141,7 @@ fn wide_cells_cut_at_the_end(rt: HostRuntime) -> Result<(), Fail> {
         Edit::Wide(0, "か"),
         Edit::Wide(2, "き"),
         Edit::Resize(3),
-        Edit::Mark(true),
+        Edit::Flag(Flag::Wrapped(true)),
         Edit::Resize(5),
         Edit::Narrow(2, " "),
         Edit::Prune,
@@ -139,6 +159,39 @@ fn graphemes_that_would_join(rt: HostRuntime) -> Result<(), Fail> {
         Edit::Narrow(4, "\u{7f}"),
         Edit::Remove(2),
         Edit::Erase(0),
+    ];
+    assert_alike(&rt, rt.alloc(), &edits)?;
+    Ok(())
+}
+
+#[test]
+fn texts_inserted_laid_over_and_appended(rt: HostRuntime) -> Result<(), Fail> {
+    let edits = [
+        Edit::Append("か b"),
+        Edit::Insert(1, "x"),
+        Edit::Overlay(4, "きy"),
+        Edit::Append("foo"),
+        Edit::Run(2),
+        Edit::Fill(5, 8),
+        Edit::EraseWithin(1),
+    ];
+    assert_alike(&rt, rt.alloc(), &edits)?;
+    Ok(())
+}
+
+#[test]
+fn prompts_and_flags(rt: HostRuntime) -> Result<(), Fail> {
+    let edits = [
+        Edit::Prompt(0, "$"),
+        Edit::Prompt(1, " "),
+        Edit::Narrow(2, "l"),
+        Edit::Flag(Flag::Wrapped(true)),
+        Edit::Flag(Flag::DoubleWidth),
+        Edit::Flag(Flag::RightToLeft),
+        Edit::Narrow(1, "x"),
+        Edit::Flag(Flag::Wrapped(false)),
+        Edit::Clear(3),
+        Edit::Prompt(4, "か"),
     ];
     assert_alike(&rt, rt.alloc(), &edits)?;
     Ok(())

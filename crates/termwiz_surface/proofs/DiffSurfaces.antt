@@ -1,5 +1,5 @@
 -- The rows of sound surfaces and of lines, and that what is written for them is a diff.
-use Rattle.std.proofs.Common.{zero-add, ◌≡◌, ℕ, zero, suc, ◌-◌, ◌<◌, ◌≤◌, inr, min, List, [], ◌∷◌, map, length, get_or, arith, sym, subst}
+use Rattle.std.proofs.Common.{zero-add, ◌≡◌, ℕ, zero, suc, ◌+◌, ◌-◌, ◌<◌, ◌≤◌, ◌⊎◌, inl, inr, min, List, [], ◌∷◌, map, length, get_or, arith, sym, subst}
 use Rattle.std.specs.List.{All}
 use Rattle.std.proofs.lemmas.List.{get_or-map, length-map}
 use Rattle.std.proofs.lemmas.List.Elements.{All-get_or}
@@ -70,3 +70,15 @@ module _ (f : List ℕ → ℕ) (a : Screen) (own : AreRows a.width a.height a.r
       let inside = band_inside a.width a.height (length xs) 0 0 n (λ k i. omega arith) (λ k i. omega arith) in
       let given = gives_band f a (length xs) (map (λ x. row_of a.width (cells x)) xs) 0 0 n l own (line_rows xs) inside d in
       ((λ i m. subst (λ k. row_at (replay f a l).rows k ≡ row_at (map (λ x. row_of a.width (cells x)) xs) k) (zero-add i) (given.0 i m)), λ j m. given.1 j (inr (omega (arith, m))))
+
+  pub line_gives : (x : X) (y : ℕ) (l : List ChangeValue) → IsDiff f a (f ≡ f) (need a.rows (row_of a.width (cells x) ∷ []) (band a.width y 0 (min 1 (a.height - y)))) l →
+      (y < a.height → row_at (replay f a l).rows y ≡ row_of a.width (cells x)) × ((j : ℕ) → (j < y) ⊎ (y < j) → row_at (replay f a l).rows j ≡ row_at a.rows j)
+  line_gives x y l d =
+      let n = min 1 (a.height - y) in
+      let b = row_of a.width (cells x) ∷ [] in
+      let given = gives_band f a 1 b y 0 n l own (line_rows (x ∷ [])) (band_inside a.width a.height 1 y 0 n (λ k i. omega arith) (λ k i. omega arith)) d in
+      ((λ m. subst (λ k. row_at (replay f a l).rows k ≡ row_of a.width (cells x)) (omega arith) (given.0 0 (omega (arith, m)))), λ j m. given.1 j (apart j m))
+    where
+      apart : (j : ℕ) → (j < y) ⊎ (y < j) → (j < y) ⊎ (y + min 1 (a.height - y) ≤ j)
+      apart j (inl m) = inl m
+      apart j (inr m) = inr (omega (arith, m))

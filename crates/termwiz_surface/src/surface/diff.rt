@@ -80,12 +80,16 @@ impl<W: Widths> Surface<W> {
     }
 
     /// The changes that print what a line shows and a row, by its number from 0, doesn't; nothing where there is no such row. The line is cut or filled with default blanks to the surface's width.
+    ///
+    /// Where each visible cell of the line is one grapheme with the width that this surface measures, made by `add_changes` they give the row what the line shows, and the others stay.
     pub fn diff_against_numbered_line(
         &self,
         row_num: usize,
         other_line: &Line,
     ) -> Result<Vec<Change>, AllocError>
-        ensures { ArePrintable (unversioned (W.width_of self.now.widths)) other_line.now.cells → IfOk result (λ l. let f = unversioned (W.width_of self.now.widths) in let a = screen_of self.now in IsDiff f a (f ≡ f) (need a.rows (row_of a.width other_line.now.cells ∷ []) (band a.width row_num 0 (min 1 (a.height - row_num)))) (map change_value l.items)) }
+        ensures diff { ArePrintable (unversioned (W.width_of self.now.widths)) other_line.now.cells → IfOk result (λ l. let f = unversioned (W.width_of self.now.widths) in let a = screen_of self.now in IsDiff f a (f ≡ f) (need a.rows (row_of a.width other_line.now.cells ∷ []) (band a.width row_num 0 (min 1 (a.height - row_num)))) (map change_value l.items)) }
+        // That row shows what the line does, and the others stay.
+        ensures row { ArePrintable (unversioned (W.width_of self.now.widths)) other_line.now.cells → IfOk result (λ l. let f = unversioned (W.width_of self.now.widths) in let a = screen_of self.now in let rows = (replay f a (map change_value l.items)).rows in (row_num < a.height → row_at rows row_num ≡ row_of a.width other_line.now.cells) × ((j : ℕ) → (j < row_num) ⊎ (row_num < j) → row_at rows j ≡ row_at a.rows j)) }
     {
         diff_line(self.alloc, &self.rows, self.width, row_num, other_line)
     }

@@ -2,18 +2,19 @@ use Rattle.std.proofs.Common.{◌≡◌, ◌-◌, [], ◌∷◌, map, min, sym, 
 use Rattle.std.proofs.lemmas.Result.{IfOk-weaker}
 use Rattle.std.specs.Prelude.{None}
 use Rattle.std.specs.VecDeque.{deque_len}
+use Rattle.termwiz_cell.specs.ChangeValue.{change_value}
 use Rattle.termwiz_cell.specs.Width.{unversioned}
 use Rattle.termwiz_line.specs.Row.{row_of}
 use Rattle.termwiz_surface.specs.Diff.{band, diff, need}
 use Rattle.termwiz_surface.specs.DiffLists.{IsDiff}
 use Rattle.termwiz_surface.specs.ScreenValue.{cells_of}
-use Rattle.termwiz_surface.specs.SurfaceValue.{SurfaceValue, screen_of}
-use Rattle.termwiz_surface.proofs.DiffSurfaces.{line_diff}
+use Rattle.termwiz_surface.specs.SurfaceValue.{SurfaceValue, IsSound, screen_of}
+use Rattle.termwiz_surface.proofs.DiffSurfaces.{sound_rows, line_diff, line_gives}
 use Rattle.termwiz_surface.proofs.Lines.{length-cells_of}
 use Rattle.termwiz_surface.proofs.surface.Surface.diff_against_numbered_line.Goals as goal
 
-pub returns : goal.returns
-returns g c = λ printable.
+pub returns-clause-diff : goal.returns-clause-diff
+returns-clause-diff g c = λ printable.
     let v = c.args.self.now in
     let a = screen_of v in
     let f = unversioned (g.W.Widths.width_of v.widths) in
@@ -30,3 +31,10 @@ returns g c = λ printable.
     ∙ ap (λ (u : SurfaceValue _). diff (screen_of u).rows (row_of u.width cells ∷ []) (band u.width row 0 (min 1 (u.height - row)))) c.self.view_is))
     (line_diff f (g.met.W.Widths.space_has_one v.widths None) a cells row printable))
     c.diff_line.ensures
+
+pub returns-clause-row : goal.returns-clause-row
+returns-clause-row g c = λ printable.
+    let v = c.args.self.now in
+    let f = unversioned (g.W.Widths.width_of v.widths) in
+    let own = sound_rows f v (subst (λ (s : SurfaceValue _). IsSound (unversioned (g.W.Widths.width_of s.widths)) s) c.self.view_is c.self.invariant.0) in
+    IfOk-weaker c.diff_line.result _ _ (λ l d. line_gives f (screen_of v) own (λ line. line.now.cells) c.args.other_line c.args.row_num (map change_value l.items) d) (returns-clause-diff g c printable)

@@ -4,6 +4,8 @@ use Rattle.std.proofs.lemmas.List.{append-nil}
 use Rattle.std.specs.List.{All}
 use Rattle.termwiz_cell.specs.CellValue.{CellValue}
 use Rattle.termwiz_line.specs.declared.line.line.zones.ZoneRange.{ZoneRange}
+use Rattle.termwiz_storage.specs.Stored.{visible}
+use Rattle.termwiz_line.specs.LineEq.{line_contents}
 use Rattle.termwiz_line.specs.LineValue.{LineValue}
 use Rattle.termwiz_line.specs.Pieces.{AreEqualBy}
 use Rattle.termwiz_line.specs.Trim.{IsTrimmed}
@@ -51,9 +53,10 @@ lines_of_same : (width seqno : ℕ) (cells : List (ℕ × CellValue)) (a b : Lis
 lines_of_same width seqno cells a b x y = x.lines_are ∙ ap (λ ps. map (line_of seqno) (marked ps)) (IsCut-same (FitsOrAlone width) cells x.pieces y.pieces x.cut y.cut) ∙ sym y.lines_are
 
 pub wraps_are_one : WrapsAreOne
-wraps_are_one width seqno line a b x y =
-    let same : x.kept ≡ y.kept = trimmed_same IsSpace _ x.kept y.kept x.trimmed y.trimmed in
+wraps_are_one width seqno one other a b e x y =
+    let cells : one.cells ≡ other.cells = ap (λ c. c.cells) e in
+    let same : x.kept ≡ y.kept = trimmed_same IsSpace _ x.kept y.kept x.trimmed (subst (λ (cs : List CellValue). IsTrimmed IsSpace (visible cs) y.kept) (sym cells) y.trimmed) in
     elim (empty_or_not x.kept) [
-      | inl e ↦ x.alone e ∙ sym (y.alone (sym same ∙ e))
-      | inr n ↦ lines_of_same width seqno x.kept a b (x.cut n) (subst (λ (k : List (ℕ × CellValue)). AreLinesOf width seqno k b) (sym same) (y.cut (λ e. n (same ∙ e))))
+      | inl n ↦ ap (map line_contents) (x.alone n) ∙ ap (λ c. c ∷ []) e ∙ ap (map line_contents) (sym (y.alone (sym same ∙ n)))
+      | inr n ↦ ap (map line_contents) (lines_of_same width seqno x.kept a b (x.cut n) (subst (λ (k : List (ℕ × CellValue)). AreLinesOf width seqno k b) (sym same) (y.cut (λ e. n (same ∙ e)))))
     ]

@@ -1,10 +1,11 @@
 -- What a line is cut into depends on its cells alone, whichever form stores them.
-use Rattle.std.specs.Prelude.{◌≡◌, ℕ, ◌+◌, ◌<◌, List, ◌∷◌, ◌++◌, Option, get_or, length}
+use Rattle.std.specs.Prelude.{◌≡◌, ℕ, ◌+◌, ◌<◌, List, ◌∷◌, ◌++◌, Option, get_or, length, map}
 use Rattle.termwiz_cell.specs.CellValue.{CellValue, columns}
 use Rattle.termwiz_cell.specs.declared.emoji.Presentation.{Presentation}
 use Rattle.termwiz_line.specs.Clusters.{AreClusters, ClusterValue, cells_of_bytes}
 use Rattle.termwiz_line.specs.Texts.{texts_of}
 use Rattle.termwiz_line.specs.declared.line.line.zones.ZoneRange.{ZoneRange}
+use Rattle.termwiz_line.specs.LineEq.{line_contents}
 use Rattle.termwiz_line.specs.LineValue.{LineValue}
 use Rattle.termwiz_line.specs.Wraps.{IsWrapped}
 use Rattle.termwiz_line.specs.Zones.{AreZones}
@@ -13,9 +14,9 @@ use Rattle.termwiz_line.specs.Zones.{AreZones}
 abbrev pub ZonesAreOne : Type 0
 ZonesAreOne = (cells : List (ℕ × CellValue)) (a b : List ZoneRange) → AreZones cells a → AreZones cells b → a ≡ b
 
--- a line is wrapped in one way
+-- lines of the same cells, number and flags are wrapped into lines of the same
 abbrev pub WrapsAreOne : Type 0
-WrapsAreOne = (width seqno : ℕ) (line : LineValue) (a b : List LineValue) → IsWrapped width seqno line a → IsWrapped width seqno line b → a ≡ b
+WrapsAreOne = (width seqno : ℕ) (one other : LineValue) (a b : List LineValue) → line_contents one ≡ line_contents other → IsWrapped width seqno one a → IsWrapped width seqno other b → map line_contents a ≡ map line_contents b
 
 -- visible cells have one list of clusters
 abbrev pub ClustersAreOne : Type 0

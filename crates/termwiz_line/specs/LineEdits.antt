@@ -4,11 +4,12 @@ use Rattle.termwiz_cell.specs.CellValue.{CellValue}
 use Rattle.termwiz_line.specs.LineFlags.{no_flags}
 use Rattle.termwiz_line.specs.LineValue.{LineValue, IsEdited}
 
--- a line with these cells and this number, and without flags
+-- a vector of these cells with this number, and without flags
 pub record IsMade (cells : List CellValue) (seqno : ℕ) (line : LineValue) : Type 0 where
   pub cells_are : line.cells ≡ cells
   pub number : line.seqno ≡ seqno
   pub flags : line.flags ≡ no_flags
+  pub vector : line.is_vector ≡ true
 
 -- the line has these cells now; its number and its flags stay, and a vector stays one
 pub record HasCells (old : LineValue) (cells : List CellValue) (new : LineValue) : Type 0 where

@@ -29,7 +29,7 @@ pub fn edit_laws()
     ensures all { AllColumnsShow }
 {}
 
-/// The zones of a line, and the lines into which it is wrapped, follow from its cells, whichever form stores them.
+/// The zones of a line follow from its cells, and the cells, numbers and flags of the lines into which it is wrapped from its own, whichever form stores the cells.
 pub fn cut_laws()
     ensures zones { ZonesAreOne }
     ensures wraps { WrapsAreOne }

@@ -262,10 +262,11 @@ impl<W: Widths> Surface<W> {
         chars_of(self.alloc, &self.rows)
     }
 
-    /// A copy of what the surface shows: each row is cut or filled to the width with default blanks, and has the number 0.
+    /// A copy of what the surface shows: each row is cut or filled to the width with default blanks, and has the number 0 and no flags.
     pub fn screen(&self) -> Result<Screen, AllocError>
         ensures shown { IfOk result (λ screen. screen_value screen ≡ screen_of self.now) }
         ensures numbers { IfOk result (λ screen. All (λ line. line.seqno ≡ 0) screen.rows.items) }
+        ensures flags { IfOk result (λ screen. All (λ line. line.flags ≡ no_flags) screen.rows.items) }
     {
         let rows = resized_lines(self.alloc, &self.rows, self.width)?;
         let pen = self.pen.clone()?;

@@ -6,7 +6,7 @@ ghost use Rattle.termwiz_cell.specs.Attributes.{default_attributes};
 ghost use Rattle.termwiz_cell.specs.CellValue.{columns, measured, space};
 ghost use Rattle.termwiz_cell.specs.Width.{at_version, unversioned};
 ghost use Rattle.termwiz_storage.specs.CellRef.{indexed_cell, ref_cell, ref_index};
-ghost use Rattle.termwiz_storage.specs.CellsLeft.{cells_left};
+ghost use Rattle.termwiz_storage.specs.CellsLeft.{IsOfCell, cells_left};
 ghost use Rattle.termwiz_storage.specs.Stored.{cell_at, is_linked, visible};
 ghost use Rattle.termwiz_line.specs.LineEdits.{IsMade};
 ghost use Rattle.termwiz_line.specs.LineFlags.{no_flags};
@@ -125,6 +125,7 @@ impl Line {
     pub fn get_cell(&self, cell_index: usize) -> Option<CellRef<'_>>
         ensures cell { option_map ref_cell result ≡ cell_at (visible self.now.cells) cell_index }
         ensures index { IfSome result (λ cell. ref_index cell ≡ cell_index) }
+        ensures told { IfSome result IsOfCell }
     {
         for cell in self.visible_cells() {
             if cell.cell_index() == cell_index {

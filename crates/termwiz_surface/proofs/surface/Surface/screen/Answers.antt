@@ -1,8 +1,10 @@
-use Rattle.std.proofs.Common.{◌≡◌, ap, map, refl, sym, subst, ◌∙◌}
+use Rattle.std.proofs.Common.{◌≡◌, List, ap, map, refl, sym, subst, ◌∙◌}
 use Rattle.std.specs.List.{All}
 use Rattle.std.proofs.lemmas.List.Elements.{All-map}
 use Rattle.termwiz_cell.specs.Width.{unversioned}
 use Rattle.termwiz_storage.specs.Halves.{resized}
+use Rattle.termwiz_cell.specs.CellValue.{CellValue}
+use Rattle.termwiz_line.specs.LineFlags.{no_flags}
 use Rattle.termwiz_line.specs.LineValue.{LineValue}
 use Rattle.termwiz_line.specs.Row.{row_of}
 use Rattle.termwiz_surface.specs.ScreenValue.{cells_of, numberless}
@@ -29,7 +31,12 @@ returns-clause-shown g c =
       pen = pen_is i;
     }) ∙ ap screen_of c.self.view_is
 
+module _ (g : given.Over) (c : goal.After-result-1 g) where
+  made_alike : (P : LineValue → Type 0) → ((cs : List CellValue) → P (numberless cs)) → All P c.in_ok-rows.rows.items
+  made_alike P h = subst (All P) (sym (made g c)) (All-map P (λ r. numberless (resized c.self.inside.width r)) (cells_of c.self.inside.rows.items) (λ k d l. h _))
+
 pub returns-clause-numbers : goal.returns-clause-numbers
-returns-clause-numbers g c =
-    subst (All (λ (l : LineValue). l.seqno ≡ 0)) (sym (made g c))
-    (All-map (λ (l : LineValue). l.seqno ≡ 0) (λ r. numberless (resized c.self.inside.width r)) (cells_of c.self.inside.rows.items) (λ k d l. refl))
+returns-clause-numbers g c = made_alike g c (λ l. l.seqno ≡ 0) (λ cs. refl)
+
+pub returns-clause-flags : goal.returns-clause-flags
+returns-clause-flags g c = made_alike g c (λ l. l.flags ≡ no_flags) (λ cs. refl)

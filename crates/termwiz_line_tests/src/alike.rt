@@ -1,4 +1,4 @@
-//! Lines that are edited alike, of which one is stored as one text again after each edit: their answers are the same.
+//! Lines that are edited alike, of which one is a vector, and the other is stored as one text again after each edit: their answers are the same.
 use std::alloc::{AllocError, Global};
 use std::process::Abort;
 use std::test::Fail;
@@ -37,6 +37,8 @@ enum Edit {
     // Makes so many blanks of the line.
     Clear(usize),
     Prune,
+    // Shows the cell at a column in reverse, and it alone: half a wide cell, or the half behind it.
+    Reverse(usize),
     Flag(Flag),
 }
 
@@ -72,6 +74,15 @@ fn set_flag(line: &mut Line, flag: Flag) -> Result<(), AllocError> {
     Ok(())
 }
 
+// Where the half of a wide cell is shown in reverse and the cell is not, it is an odd one.
+fn reverse(line: &mut Line, x: usize) -> Result<(), AllocError> {
+    let cells: &mut [Cell] = line.cells_mut()?;
+    if let Some(cell) = cells.get_mut(x) {
+        cell.attrs_mut().set_reverse(true);
+    }
+    Ok(())
+}
+
 fn make_edit(alloc: Global, line: &mut Line, edit: Edit) -> Result<(), AllocError> {
     match edit {
         Edit::Narrow(x, text) => line.set_cell_grapheme(x, text, 1, CellAttributes::blank(), 1),
@@ -90,18 +101,44 @@ fn make_edit(alloc: Global, line: &mut Line, edit: Edit) -> Result<(), AllocErro
         Edit::Resize(width) => line.resize(width, 1),
         Edit::Clear(width) => line.resize_and_clear(width, 1, italic()),
         Edit::Prune => line.prune_trailing_blanks(1),
+        Edit::Reverse(x) => reverse(line, x),
         Edit::Flag(flag) => set_flag(line, flag),
     }
 }
 
-// The edits, on a line and on one that is compressed after each of them.
+// Whether each wide cell has its half behind it, a blank with its attributes.
+fn has_all_halves(line: &Line, cells: &[Cell]) -> bool {
+    for cell in line.visible_cells() {
+        if cell.width() == 2 {
+            let half = cells.get(cell.cell_index().saturating_add(1));
+            if !half.is_some_and(|half| half.str() == " " && *half.attrs() == *cell.attrs()) {
+                return false;
+            }
+        }
+    }
+    true
+}
+
+// The line's cells stand in a vector, and those of the other one in a text where they can.
+fn assert_forms(rt: &impl Abort, line: &Line, compressed: &Line) {
+    match line.stored_cells() {
+        Some(cells) => assert_eq!(rt;
+            compressed.stored_cells().is_none(),
+            has_all_halves(line, cells)
+        ),
+        None => assert!(rt; false),
+    }
+}
+
+// The edits, on a vector and on a line that is compressed after each of them.
 fn assert_alike(rt: &impl Abort, alloc: Global, edits: &[Edit]) -> Result<(), AllocError> {
-    let mut line = Line::new(alloc, 0);
+    let mut line = Line::with_width(alloc, 0, 0)?;
     let mut compressed = Line::new(alloc, 0);
     for edit in edits {
         make_edit(alloc, &mut line, *edit)?;
         make_edit(alloc, &mut compressed, *edit)?;
         compressed.compress_for_scrollback()?;
+        assert_forms(rt, &line, &compressed);
         assert_same_answers(rt, &mut line, &mut compressed)?;
     }
     Ok(())
@@ -192,6 +229,20 @@ fn prompts_and_flags(rt: HostRuntime) -> Result<(), Fail> {
         Edit::Flag(Flag::Wrapped(false)),
         Edit::Clear(3),
         Edit::Prompt(4, "か"),
+    ];
+    assert_alike(&rt, rt.alloc(), &edits)?;
+    Ok(())
+}
+
+#[test]
+fn halves_that_are_odd(rt: HostRuntime) -> Result<(), Fail> {
+    let edits = [
+        Edit::Wide(0, "か"),
+        Edit::Reverse(1),
+        Edit::Wide(2, "き"),
+        Edit::Reverse(0),
+        Edit::Narrow(4, "a"),
+        Edit::Resize(3),
     ];
     assert_alike(&rt, rt.alloc(), &edits)?;
     Ok(())

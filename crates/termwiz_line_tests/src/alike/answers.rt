@@ -78,6 +78,7 @@ fn is_same_cluster(one: &CellCluster, other: &CellCluster) -> bool {
         && one.attrs == other.attrs
         && one.width == other.width
         && one.presentation == other.presentation
+        && one.direction == other.direction
         && one.first_cell_idx == other.first_cell_idx
 }
 

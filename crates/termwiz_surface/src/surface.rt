@@ -80,7 +80,8 @@ pub enum SurfaceError {
     /// Error 2: the number of changes would pass the greatest `usize`. Nothing has changed.
     #[error("the numbers of changes are used up")]
     Numbers,
-    /// Error 3: a growth was refused. The surface keeps its size and the form of its rows, and is under a new number, or 0 where that was 0.
+    /// Error 3: a growth was refused. After a list of changes, that of a draw or a copy too, the surface keeps its size and the form of its rows, and its log is empty under a new number, or 0 where that was 0.
+    /// Where there was no memory for the list of a draw or a copy, or for another size, nothing has changed.
     #[error("out of memory")]
     Memory,
 }

@@ -32,6 +32,7 @@ impl<W: Widths> Surface<W> {
     ///
     /// They are moves, pens and texts alone, at most three for each cell that they print, and leave the cursor behind the last cell with its pen.
     pub fn diff_screens(&self, other: &Surface<W>) -> Result<Vec<Change>, AllocError>
+        // The equation in `IsDiff` says where the exact prints are promised: where both have one width function, and for lines, by `f ≡ f`, always.
         ensures diff { IfOk result (λ l. let f = unversioned (W.width_of self.now.widths) in let a = screen_of self.now in let b = screen_of other.now in IsDiff f a (f ≡ unversioned (W.width_of other.now.widths)) (need a.rows b.rows (cut (whole a.width a.height) a.width a.height b.width b.height)) (map change_value l.items)) }
         // For two surfaces of one size and one width function: the other's rows, by exactly the cells that are not shown yet.
         ensures rows { self.now.width ≡ other.now.width → self.now.height ≡ other.now.height → unversioned (W.width_of self.now.widths) ≡ unversioned (W.width_of other.now.widths) → IfOk result (λ l. (replay (unversioned (W.width_of self.now.widths)) (screen_of self.now) (map change_value l.items)).rows ≡ (screen_of other.now).rows) }

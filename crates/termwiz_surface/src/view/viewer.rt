@@ -114,7 +114,7 @@ impl<W: Widths> Viewer<W> {
 
     /// Shows what the source shows now. The answer is the source's number.
     ///
-    /// `Numbers`: the numbers of the viewer's own surface are used up. `Memory`: a growth was refused. After both the viewer may show anything, in its size or the source's, and has no number: so the next time that it follows it gets the whole screen, and shows it. `ScrollRegion` never comes.
+    /// `Numbers`: the numbers of the viewer's own surface are used up. `Memory`: a growth was refused. After both the viewer may show anything, and has no number. Its width value stays, and the number of its own surface has grown by two at most. A viewer that followed the source follows it still: the next time that it succeeds it gets the whole screen, and shows it. `ScrollRegion` never comes.
     pub fn follow(&mut self, source: &Surface<W>) -> Result<SequenceNo, SurfaceError>
         ensures steps { FollowsTo (λ widths. unversioned (W.width_of widths)) source.now self.old result self.new }
         // A viewer that follows the source shows its screen after each success,

@@ -77,7 +77,7 @@ pub enum SurfaceError {
     /// Error 1: the region of a scroll goes past the last row. Nothing has changed.
     #[error("a scroll region goes past the last row")]
     ScrollRegion,
-    /// Error 2: the number of changes would pass the greatest `usize`. Nothing has changed.
+    /// Error 2: the number of changes would pass the greatest `usize`. Nothing has changed, but that a viewer which was to follow has no number then, and may have taken the surface's size.
     #[error("the numbers of changes are used up")]
     Numbers,
     /// Error 3: a growth was refused. After a list of changes, that of a draw or a copy too, the surface keeps its size and the form of its rows, and its log is empty under a new number, or 0 where that was 0.

@@ -257,7 +257,7 @@ impl CellStorage {
         }
     }
 
-    /// The storage as a vector, which it is from then on. Its cells can be written, and their number stays.
+    /// The storage as a vector, which it is from then on. Its cells can be written: the list is then what was written, and another vector where one was assigned.
     #[inline(never)]
     pub fn coerce_vec(&mut self) -> Result<&mut VecStorage, AllocError>
         ensures* writes_back { sem 𝓛 (LendsVector self.entry result) }

@@ -1,4 +1,4 @@
-//! Each caller once, on its way to success.
+//! Callers, on their way to success.
 use crate::comparison::show_the_same;
 use crate::follower::{Follower, make_and_show};
 use crate::last_row::clear_last_row;
@@ -8,15 +8,13 @@ use crate::prompt::show_prompt;
 use crate::renderer::refresh;
 use crate::status::draw_status;
 use crate::viewer::Viewer;
-use crate::window::show_widget;
-use std::alloc::Global;
 use std::test::Fail;
 use termwiz_cell::cell::CellAttributes;
 use termwiz_cell::change::Change;
 use termwiz_cell::color::ColorAttribute;
 use termwiz_cell::emoji::UnicodeWidths;
 use termwiz_surface::sequence::ChangeSequence;
-use termwiz_surface::surface::{Surface, SurfaceError};
+use termwiz_surface::surface::Surface;
 use termwiz_surface::view;
 
 #[test]
@@ -109,48 +107,15 @@ fn a_double_click_finds_a_word_of_a_heading(rt: HostRuntime) -> Result<(), Fail>
     Ok(())
 }
 
-// A window, a widget to be drawn into it, and a viewer that follows the window.
-#[derive(Drop)]
-struct Desk {
-    window: Surface<UnicodeWidths>,
-    widget: Surface<UnicodeWidths>,
-    viewer: view::Viewer<UnicodeWidths>,
-}
-
-fn make_desk(alloc: Global) -> Result<Desk, SurfaceError> {
-    let window = Surface::new(alloc, 5, 2, UnicodeWidths)?;
-    let widget = Surface::new(alloc, 2, 1, UnicodeWidths)?;
-    let viewer = view::Viewer::new(alloc, &window)?;
-    Ok(Desk {
-        window,
-        widget,
-        viewer,
-    })
-}
-
-#[test]
-fn a_widget_is_shown_in_its_window(rt: HostRuntime) -> Result<(), Fail> {
-    let alloc = rt.alloc();
-    let mut desk = make_desk(alloc)?;
-    desk.window.add_change(Change::text_from(alloc, "abc")?)?;
-    desk.widget.add_change(Change::text_from(alloc, "か")?)?;
-    show_widget(&mut desk.window, &desk.widget, 1, 1, &mut desk.viewer)?;
-    assert_eq!(rt;
-        desk.viewer.surface().screen_chars_to_string()?.as_str(),
-        "abc  \n か  \n"
-    );
-    Ok(())
-}
-
 #[test]
 fn a_renderer_forgets_what_it_has_shown(rt: HostRuntime) -> Result<(), Fail> {
     let alloc = rt.alloc();
-    let mut desk = make_desk(alloc)?;
-    desk.window.add_change(Change::text_from(alloc, "abc")?)?;
-    refresh(&mut desk.window, &mut desk.viewer)?;
-    assert_eq!(rt; desk.viewer.surface().cursor_position(), (3, 0));
-    let (number, changes) = desk.window.get_changes(desk.viewer.last())?;
-    assert_eq!(rt; number, 1);
-    assert!(rt; changes.as_slice().is_empty());
+    let mut surface = Surface::new(alloc, 5, 2, UnicodeWidths)?;
+    surface.add_change(Change::text_from(alloc, "abc")?)?;
+    let mut viewer = view::Viewer::new(alloc, &surface)?;
+    refresh(&mut surface, &mut viewer)?;
+    assert_eq!(rt; viewer.surface().cursor_position(), (3, 0));
+    assert!(rt; !surface.has_changes(viewer.last()));
+    assert!(rt; surface.has_changes(0));
     Ok(())
 }

@@ -11,10 +11,10 @@ use termwiz_surface::surface::{Screen, Surface, SurfaceError};
 #[test]
 fn a_drawn_surface_leaves_the_cursor_and_the_pen(rt: HostRuntime) -> Result<(), Fail> {
     let alloc = rt.alloc();
-    let mut surface = drawn(alloc, 4, 1, UnicodeWidths, &[Step::Print("A")])?;
+    let mut held = drawn(alloc, 4, 1, UnicodeWidths, &[Step::Print("A")])?;
     let widget = drawn(alloc, 2, 1, UnicodeWidths, &[Step::Print("xy")])?;
-    assert!(&rt; matches!(surface.draw_from_screen(&widget, 2, 0), Ok(5)));
-    assert_shows(&rt, &surface, "A xy\n", (1, 0))?;
+    assert!(&rt; matches!(held.surface.draw_from_screen(&widget.surface, 2, 0), Ok(5)));
+    assert_shows(&rt, &held.surface, "A xy\n", (1, 0))?;
     let steps = [
         Step::At(2, 0),
         Step::DefaultPen,
@@ -22,28 +22,28 @@ fn a_drawn_surface_leaves_the_cursor_and_the_pen(rt: HostRuntime) -> Result<(), 
         Step::At(1, 0),
         Step::DefaultPen,
     ];
-    assert_lent(&rt, alloc, &surface, 1, 6, &steps)?;
+    assert_lent(&rt, alloc, &held.surface, 1, 6, &steps)?;
     Ok(())
 }
 
 #[test]
 fn a_surface_is_drawn_over_wide_graphemes(rt: HostRuntime) -> Result<(), Fail> {
     let alloc = rt.alloc();
-    let mut surface = drawn(alloc, 4, 1, UnicodeWidths, &[Step::Print("か a")])?;
+    let mut held = drawn(alloc, 4, 1, UnicodeWidths, &[Step::Print("か a")])?;
     let widget = drawn(alloc, 4, 1, UnicodeWidths, &[Step::Print("abcd")])?;
-    assert!(&rt; matches!(surface.draw_from_screen(&widget, 0, 0), Ok(5)));
-    assert_shows(&rt, &surface, "abcd\n", (4, 0))?;
-    assert_eq!(&rt; surface.current_seqno(), 6);
+    assert!(&rt; matches!(held.surface.draw_from_screen(&widget.surface, 0, 0), Ok(5)));
+    assert_shows(&rt, &held.surface, "abcd\n", (4, 0))?;
+    assert_eq!(&rt; held.surface.current_seqno(), 6);
     Ok(())
 }
 
 #[test]
 fn a_wide_grapheme_under_the_edge_is_cut(rt: HostRuntime) -> Result<(), Fail> {
     let alloc = rt.alloc();
-    let mut surface = drawn(alloc, 4, 1, UnicodeWidths, &[Step::Print("aかb")])?;
+    let mut held = drawn(alloc, 4, 1, UnicodeWidths, &[Step::Print("aかb")])?;
     let widget = drawn(alloc, 2, 1, UnicodeWidths, &[Step::Print("xy")])?;
-    assert!(&rt; matches!(surface.draw_from_screen(&widget, 2, 0), Ok(5)));
-    assert_rows(&rt, &surface, "a xy\n")?;
+    assert!(&rt; matches!(held.surface.draw_from_screen(&widget.surface, 2, 0), Ok(5)));
+    assert_rows(&rt, &held.surface, "a xy\n")?;
     let steps = [
         Step::At(2, 0),
         Step::DefaultPen,
@@ -51,31 +51,31 @@ fn a_wide_grapheme_under_the_edge_is_cut(rt: HostRuntime) -> Result<(), Fail> {
         Step::At(4, 0),
         Step::DefaultPen,
     ];
-    assert_lent(&rt, alloc, &surface, 1, 6, &steps)?;
+    assert_lent(&rt, alloc, &held.surface, 1, 6, &steps)?;
     Ok(())
 }
 
 #[test]
 fn nothing_is_drawn_outside(rt: HostRuntime) -> Result<(), Fail> {
     let alloc = rt.alloc();
-    let mut surface = drawn(alloc, 4, 1, UnicodeWidths, &[])?;
+    let mut held = drawn(alloc, 4, 1, UnicodeWidths, &[])?;
     let widget = drawn(alloc, 2, 1, UnicodeWidths, &[Step::Print("xy")])?;
-    assert!(&rt; matches!(surface.draw_from_screen(&widget, 4, 0), Ok(0)));
-    surface.flush_changes_older_than(usize::MAX);
-    assert_repaint_from(&rt, alloc, &surface, usize::MAX, 0, &[Step::Show])?;
+    assert!(&rt; matches!(held.surface.draw_from_screen(&widget.surface, 4, 0), Ok(0)));
+    held.surface.flush_changes_older_than(usize::MAX);
+    assert_repaint_from(&rt, alloc, &held.surface, usize::MAX, 0, &[Step::Show])?;
     Ok(())
 }
 
 #[test]
 fn a_region_is_copied_over_itself(rt: HostRuntime) -> Result<(), Fail> {
     let alloc = rt.alloc();
-    let mut surface = drawn(alloc, 4, 3, UnicodeWidths, &WORDS)?;
-    assert!(&rt; matches!(surface.copy_region(0, 0, 2, 2, 2, 1), Ok(8)));
-    assert_shows(&rt, &surface, "foob\naafo\nazaa\n", (4, 2))?;
-    let mut surface = drawn(alloc, 4, 3, UnicodeWidths, &WORDS)?;
+    let mut held = drawn(alloc, 4, 3, UnicodeWidths, &WORDS)?;
+    assert!(&rt; matches!(held.surface.copy_region(0, 0, 2, 2, 2, 1), Ok(8)));
+    assert_shows(&rt, &held.surface, "foob\naafo\nazaa\n", (4, 2))?;
+    let mut held = drawn(alloc, 4, 3, UnicodeWidths, &WORDS)?;
     let most = usize::MAX;
-    assert!(&rt; matches!(surface.copy_region(0, 0, most, most, 1, 1), Ok(8)));
-    assert_shows(&rt, &surface, "foob\nafoo\naaar\n", (4, 2))?;
+    assert!(&rt; matches!(held.surface.copy_region(0, 0, most, most, 1, 1), Ok(8)));
+    assert_shows(&rt, &held.surface, "foob\nafoo\naaar\n", (4, 2))?;
     Ok(())
 }
 
@@ -130,7 +130,7 @@ fn copies_stand_where_they_came(rt: HostRuntime) -> Result<(), Fail> {
     let words = drawn(alloc, 4, 3, UnicodeWidths, &WORDS)?;
     for from in [(0, 0), (1, 0), (2, 1), (3, 2), (0, 1)] {
         for to in [(0, 0), (1, 1), (2, 0), (1, 0), (3, 2)] {
-            assert_copied(&rt, &words, from, to)?;
+            assert_copied(&rt, &words.surface, from, to)?;
         }
     }
     Ok(())

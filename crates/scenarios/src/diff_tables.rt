@@ -2,7 +2,7 @@
 ghost use Rattle.std.specs.Prelude.{◌<◌, ◌^◌};
 
 use crate::steps::{PLAIN, RED, Step, Style};
-use crate::surfaces::{draw, drawn};
+use crate::surfaces::{Held, draw, drawn};
 use std::alloc::{AllocError, Global};
 use std::process::Abort;
 use std::test::Fail;
@@ -38,7 +38,7 @@ fn row(
     width: usize,
     pen: Pen,
     text: &str,
-) -> Result<Surface<UnicodeWidths>, SurfaceError>
+) -> Result<Held<UnicodeWidths>, SurfaceError>
     requires some { 0 < width }
     requires fits { width < 2 ^ 32 }
 {
@@ -47,9 +47,9 @@ fn row(
         Pen::Bold => [Step::Pen(Style::Bold)],
         Pen::OnRed => [Step::Pen(Style::Background(RED))],
     };
-    let mut surface = drawn(alloc, width, 1, UnicodeWidths, &steps)?;
-    draw(alloc, &mut surface, &[Step::Print(text)])?;
-    Ok(surface)
+    let mut held = drawn(alloc, width, 1, UnicodeWidths, &steps)?;
+    draw(alloc, &mut held.surface, &[Step::Print(text)])?;
+    Ok(held)
 }
 
 // How many graphemes the changes print.
@@ -119,8 +119,8 @@ fn assert_pairs(
         let from = row(alloc, width, one, from)?;
         for to in TEXTS {
             let to = row(alloc, width, other, to)?;
-            assert_diff(rt, &from, &to)?;
-            assert_diff(rt, &to, &from)?;
+            assert_diff(rt, &from.surface, &to.surface)?;
+            assert_diff(rt, &to.surface, &from.surface)?;
         }
     }
     Ok(())
@@ -149,9 +149,9 @@ fn assert_short(rt: &impl Abort, alloc: Global, column: usize) -> Result<(), Sur
         let from = row(alloc, 4, Pen::Plain, from)?;
         for to in TEXTS {
             let mut to = row(alloc, 4, Pen::OnRed, to)?;
-            draw(alloc, &mut to, &steps)?;
-            assert_diff(rt, &from, &to)?;
-            assert_diff(rt, &to, &from)?;
+            draw(alloc, &mut to.surface, &steps)?;
+            assert_diff(rt, &from.surface, &to.surface)?;
+            assert_diff(rt, &to.surface, &from.surface)?;
         }
     }
     Ok(())
@@ -206,7 +206,7 @@ fn regions_whose_edges_cut_wide_graphemes(rt: HostRuntime) -> Result<(), Fail> {
         for to in TEXTS {
             let own = row(alloc, 5, Pen::Plain, from)?;
             let other = row(alloc, 5, Pen::Plain, to)?;
-            assert_regions(&rt, &own, &other)?;
+            assert_regions(&rt, &own.surface, &other.surface)?;
         }
     }
     Ok(())

@@ -209,25 +209,48 @@ fn a_wide_grapheme_over_the_edge_is_printed_whole(rt: HostRuntime) -> Result<(),
     Ok(())
 }
 
+// What prints `abc` and a wide grapheme below on a fresh surface.
+const TWO_LINES: [Step<'static>; 5] = [
+    Step::At(0, 0),
+    Step::DefaultPen,
+    Step::Print("abc"),
+    Step::At(0, 1),
+    Step::Print("か"),
+];
+
 #[test]
 fn lines_are_compared_with_the_rows_from_the_top(rt: HostRuntime) -> Result<(), Fail> {
     let alloc = rt.alloc();
     let mut fresh = drawn(alloc, 3, 2, UnicodeWidths, &[])?;
     let long = Line::from_plain(alloc, "abcd", &UnicodeWidths)?;
     let wide = Line::from_plain(alloc, "か", &UnicodeWidths)?;
+    let changes = fresh.surface.diff_lines(vec![in alloc; &long, &wide]?)?;
+    assert_changes(&rt, alloc, changes.as_slice(), &TWO_LINES)?;
+    assert!(&rt; fresh.surface.add_changes(changes).is_ok());
+    assert_rows(&rt, &fresh.surface, "abc\nか \n")?;
+    Ok(())
+}
+
+#[test]
+fn lines_past_the_last_row_are_left_out(rt: HostRuntime) -> Result<(), Fail> {
+    let alloc = rt.alloc();
+    let fresh = drawn(alloc, 3, 2, UnicodeWidths, &[])?;
+    let long = Line::from_plain(alloc, "abcd", &UnicodeWidths)?;
+    let wide = Line::from_plain(alloc, "か", &UnicodeWidths)?;
     let changes = fresh
         .surface
         .diff_lines(vec![in alloc; &long, &wide, &long]?)?;
-    let steps = [
-        Step::At(0, 0),
-        Step::DefaultPen,
-        Step::Print("abc"),
-        Step::At(0, 1),
-        Step::Print("か"),
-    ];
-    assert_changes(&rt, alloc, changes.as_slice(), &steps)?;
-    assert!(&rt; fresh.surface.add_changes(changes).is_ok());
-    assert_rows(&rt, &fresh.surface, "abc\nか \n")?;
+    assert_changes(&rt, alloc, changes.as_slice(), &TWO_LINES)?;
+    Ok(())
+}
+
+#[test]
+fn a_line_is_compared_with_no_row_past_the_last(rt: HostRuntime) -> Result<(), Fail> {
+    let alloc = rt.alloc();
+    let fresh = drawn(alloc, 3, 2, UnicodeWidths, &[])?;
+    let long = Line::from_plain(alloc, "abcd", &UnicodeWidths)?;
+    let changes = fresh.surface.diff_against_numbered_line(5, &long)?;
+    assert!(&rt; changes.is_empty());
     Ok(())
 }
 

@@ -84,9 +84,10 @@ fn a_repaint_has_the_title(rt: HostRuntime) -> Result<(), Fail> {
 #[test]
 fn a_cursor_is_repainted_with_its_shape_while_it_is_shown(rt: HostRuntime) -> Result<(), Fail> {
     let alloc = rt.alloc();
-    let shape = Step::Shape(CursorShape::SteadyBar);
-    let mut held = drawn(alloc, 2, 1, UnicodeWidths, &[shape])?;
-    assert_repaint(&rt, alloc, &held.surface, 1, &[Step::Show, shape])?;
+    let steps = [Step::Shape(CursorShape::SteadyBar)];
+    let mut held = drawn(alloc, 2, 1, UnicodeWidths, &steps)?;
+    let rest = [Step::Show, Step::Shape(CursorShape::SteadyBar)];
+    assert_repaint(&rt, alloc, &held.surface, 1, &rest)?;
     draw(alloc, &mut held.surface, &[Step::Hide])?;
     assert_repaint(&rt, alloc, &held.surface, 2, &[])?;
     Ok(())

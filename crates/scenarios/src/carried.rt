@@ -22,9 +22,9 @@ fn assert_carried<W: Widths>(
 ) -> Result<(), SurfaceError> {
     let (width, height) = surface.dimensions();
     let mut viewer = drawn(alloc, width, height, widths, &[])?;
-    fill(alloc, &mut viewer)?;
-    repaint(alloc, surface, &mut viewer)?;
-    assert_same_screen(rt, surface, &viewer)?;
+    fill(alloc, &mut viewer.surface)?;
+    repaint(alloc, surface, &mut viewer.surface)?;
+    assert_same_screen(rt, surface, &viewer.surface)?;
     Ok(())
 }
 
@@ -67,8 +67,8 @@ fn assert_drawn(
     requires fits { width < 2 ^ 32 }
     requires fits_height { height < 2 ^ 32 }
 {
-    let mut surface = drawn(alloc, width, height, OneColumn, steps)?;
-    assert_columns(rt, alloc, OneColumn, &mut surface)
+    let mut held = drawn(alloc, width, height, OneColumn, steps)?;
+    assert_columns(rt, alloc, OneColumn, &mut held.surface)
 }
 
 // The text on the default ground, on red, and bold on blue.
@@ -137,11 +137,11 @@ fn assert_cleared(
         Step::At(x, y),
         Step::ClearToEndOfLine(*color),
     ];
-    let mut surface = drawn(alloc, 4, 3, UnicodeWidths, &steps)?;
-    assert_columns(rt, alloc, UnicodeWidths, &mut surface)?;
+    let mut held = drawn(alloc, 4, 3, UnicodeWidths, &steps)?;
+    assert_columns(rt, alloc, UnicodeWidths, &mut held.surface)?;
     let steps = [Step::At(x, y), Step::ClearToEndOfScreen(*color)];
-    draw(alloc, &mut surface, &steps)?;
-    assert_columns(rt, alloc, UnicodeWidths, &mut surface)
+    draw(alloc, &mut held.surface, &steps)?;
+    assert_columns(rt, alloc, UnicodeWidths, &mut held.surface)
 }
 
 #[test]
@@ -224,12 +224,12 @@ fn assert_text(rt: &impl Abort, alloc: Global, width: usize, line: &str) -> Resu
     requires fits { width < 2 ^ 32 }
 {
     let print = [Step::Print(line)];
-    let mut surface = drawn(alloc, width, 2, UnicodeWidths, &print)?;
-    assert_carried(rt, alloc, UnicodeWidths, &surface)?;
-    draw(alloc, &mut surface, &print)?;
-    assert_carried(rt, alloc, UnicodeWidths, &surface)?;
+    let mut held = drawn(alloc, width, 2, UnicodeWidths, &print)?;
+    assert_carried(rt, alloc, UnicodeWidths, &held.surface)?;
+    draw(alloc, &mut held.surface, &print)?;
+    assert_carried(rt, alloc, UnicodeWidths, &held.surface)?;
     let wide = drawn(alloc, width, 2, AllWide, &print)?;
-    assert_carried(rt, alloc, AllWide, &wide)
+    assert_carried(rt, alloc, AllWide, &wide.surface)
 }
 
 #[test]
@@ -245,10 +245,10 @@ fn texts_past_ascii(rt: HostRuntime) -> Result<(), Fail> {
 #[test]
 fn a_long_run_scrolls(rt: HostRuntime) -> Result<(), Fail> {
     let alloc = rt.alloc();
-    let mut surface = drawn(alloc, 80, 24, UnicodeWidths, &[])?;
+    let mut held = drawn(alloc, 80, 24, UnicodeWidths, &[])?;
     for _ in 0..1000 {
-        draw(alloc, &mut surface, &[Step::Print("x\r\n")])?;
+        draw(alloc, &mut held.surface, &[Step::Print("x\r\n")])?;
     }
-    assert_carried(&rt, alloc, UnicodeWidths, &surface)?;
+    assert_carried(&rt, alloc, UnicodeWidths, &held.surface)?;
     Ok(())
 }

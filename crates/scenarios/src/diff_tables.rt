@@ -2,14 +2,14 @@
 ghost use Rattle.std.specs.Prelude.{◌<◌, ◌^◌};
 
 use crate::steps::{PLAIN, RED, Step, Style};
-use crate::surfaces::{draw, drawn};
-use std::alloc::{AllocError, Global};
+use crate::surfaces::{Held, draw, drawn};
+use std::alloc::Global;
 use std::process::Abort;
 use std::test::Fail;
 use termwiz_cell::change::Change;
 use termwiz_cell::emoji::UnicodeWidths;
 use termwiz_line::line::line::Line;
-use termwiz_surface::surface::{Surface, SurfaceError};
+use termwiz_surface::surface::{Screen, Surface, SurfaceError};
 use unicode_segmentation::UnicodeSegmentation;
 
 // Wide graphemes at shifted columns, cut at the end of a row, or between others.
@@ -25,6 +25,16 @@ const TEXTS: [&str; 9] = [
     "e\u{301}か x",
 ];
 
+// Two rows of four columns: wide graphemes at shifted columns, and short rows.
+const TWO_ROWS: [&str; 6] = [
+    "",
+    "か a\r\nbか",
+    "aか\r\nか b",
+    "かか\r\n か",
+    "\r\nかか",
+    " か \r\nab",
+];
+
 #[derive(Clone, Copy)]
 enum Pen {
     Plain,
@@ -38,7 +48,7 @@ fn row(
     width: usize,
     pen: Pen,
     text: &str,
-) -> Result<Surface<UnicodeWidths>, SurfaceError>
+) -> Result<Held<UnicodeWidths>, SurfaceError>
     requires some { 0 < width }
     requires fits { width < 2 ^ 32 }
 {
@@ -47,13 +57,13 @@ fn row(
         Pen::Bold => [Step::Pen(Style::Bold)],
         Pen::OnRed => [Step::Pen(Style::Background(RED))],
     };
-    let mut surface = drawn(alloc, width, 1, UnicodeWidths, &steps)?;
-    draw(alloc, &mut surface, &[Step::Print(text)])?;
-    Ok(surface)
+    let mut held = drawn(alloc, width, 1, UnicodeWidths, &steps)?;
+    draw(alloc, &mut held.surface, &[Step::Print(text)])?;
+    Ok(held)
 }
 
-// How many graphemes the changes print.
-fn printed(changes: &[Change]) -> usize {
+/// How many graphemes the changes print.
+pub fn printed(changes: &[Change]) -> usize {
     let mut count: usize = 0;
     for change in changes {
         if let Change::Text(text) = change {
@@ -64,7 +74,7 @@ fn printed(changes: &[Change]) -> usize {
 }
 
 // How many cells the other line shows in so many columns from one on that the own one doesn't show, from its column x on.
-fn needed(own: &Line, x: usize, other: &Line, other_x: usize, columns: usize) -> usize {
+fn needed_in_row(own: &Line, x: usize, other: &Line, other_x: usize, columns: usize) -> usize {
     let mut count: usize = 0;
     for cell in other.visible_cells() {
         let column = cell.cell_index();
@@ -81,10 +91,44 @@ fn needed(own: &Line, x: usize, other: &Line, other_x: usize, columns: usize) ->
     count
 }
 
-// The first row of what a surface shows.
-fn first_row(surface: &Surface<UnicodeWidths>) -> Result<Line, AllocError> {
-    let mut screen = surface.screen()?;
-    screen.rows.pop().ok_or(AllocError)
+/// What fits in both screens of regions of this size, from these corners on.
+pub fn fitting(
+    own: &Screen,
+    from: (usize, usize),
+    other: &Screen,
+    other_from: (usize, usize),
+    size: (usize, usize),
+) -> (usize, usize) {
+    let columns = size
+        .0
+        .min(own.width.saturating_sub(from.0))
+        .min(other.width.saturating_sub(other_from.0));
+    let rows = size
+        .1
+        .min(own.height.saturating_sub(from.1))
+        .min(other.height.saturating_sub(other_from.1));
+    (columns, rows)
+}
+
+/// How many cells the other screen's region shows that the own screen's doesn't: what fits of this size, from these corners on.
+pub fn needed(
+    own: &Screen,
+    from: (usize, usize),
+    other: &Screen,
+    other_from: (usize, usize),
+    size: (usize, usize),
+) -> usize {
+    let (columns, rows) = fitting(own, from, other, other_from, size);
+    let mut count: usize = 0;
+    for i in 0..rows {
+        let row = own.rows.get(from.1.saturating_add(i));
+        let other_row = other.rows.get(other_from.1.saturating_add(i));
+        if let (Some(row), Some(other_row)) = (row, other_row) {
+            let need = needed_in_row(row, from.0, other_row, other_from.0, columns);
+            count = count.saturating_add(need);
+        }
+    }
+    count
 }
 
 // The diff of a pair prints just what is needed, by at most three changes each, and makes the rows equal.
@@ -94,13 +138,14 @@ fn assert_diff(
     to: &Surface<UnicodeWidths>,
 ) -> Result<(), SurfaceError> {
     let mut made = from.clone()?;
-    let (width, _) = from.dimensions();
     let changes = from.diff_screens(to)?;
-    let need = needed(&first_row(from)?, 0, &first_row(to)?, 0, width);
+    let before = from.screen()?;
+    let wanted = to.screen()?;
+    let need = needed(&before, (0, 0), &wanted, (0, 0), from.dimensions());
     assert_eq!(rt; printed(changes.as_slice()), need);
     assert!(rt; changes.len() <= need.saturating_mul(3));
     made.add_changes(changes)?;
-    assert!(rt; first_row(&made)? == first_row(to)?);
+    assert!(rt; *made.screen()?.rows.as_slice() == *wanted.rows.as_slice());
     Ok(())
 }
 
@@ -119,8 +164,8 @@ fn assert_pairs(
         let from = row(alloc, width, one, from)?;
         for to in TEXTS {
             let to = row(alloc, width, other, to)?;
-            assert_diff(rt, &from, &to)?;
-            assert_diff(rt, &to, &from)?;
+            assert_diff(rt, &from.surface, &to.surface)?;
+            assert_diff(rt, &to.surface, &from.surface)?;
         }
     }
     Ok(())
@@ -149,9 +194,9 @@ fn assert_short(rt: &impl Abort, alloc: Global, column: usize) -> Result<(), Sur
         let from = row(alloc, 4, Pen::Plain, from)?;
         for to in TEXTS {
             let mut to = row(alloc, 4, Pen::OnRed, to)?;
-            draw(alloc, &mut to, &steps)?;
-            assert_diff(rt, &from, &to)?;
-            assert_diff(rt, &to, &from)?;
+            draw(alloc, &mut to.surface, &steps)?;
+            assert_diff(rt, &from.surface, &to.surface)?;
+            assert_diff(rt, &to.surface, &from.surface)?;
         }
     }
     Ok(())
@@ -165,6 +210,21 @@ fn pairs_of_short_rows(rt: HostRuntime) -> Result<(), Fail> {
     Ok(())
 }
 
+#[test]
+fn pairs_of_two_rows(rt: HostRuntime) -> Result<(), Fail> {
+    let alloc = rt.alloc();
+    for from in TWO_ROWS {
+        let from = drawn(alloc, 4, 2, UnicodeWidths, &[Step::Print(from)])?;
+        for to in TWO_ROWS {
+            let steps = [Step::Print(to), Step::ClearToEndOfLine(PLAIN)];
+            let to = drawn(alloc, 4, 2, UnicodeWidths, &steps)?;
+            assert_diff(&rt, &from.surface, &to.surface)?;
+            assert_diff(&rt, &to.surface, &from.surface)?;
+        }
+    }
+    Ok(())
+}
+
 // Two columns from one on, and those of the other row from another on: the prints are just what is needed, whatever crosses the edges.
 fn assert_region(
     rt: &impl Abort,
@@ -173,11 +233,13 @@ fn assert_region(
     other: &Surface<UnicodeWidths>,
     other_x: usize,
 ) -> Result<(), SurfaceError> {
-    let (width, _) = own.dimensions();
-    let columns = 2
-        .min(width.saturating_sub(x))
-        .min(width.saturating_sub(other_x));
-    let need = needed(&first_row(own)?, x, &first_row(other)?, other_x, columns);
+    let need = needed(
+        &own.screen()?,
+        (x, 0),
+        &other.screen()?,
+        (other_x, 0),
+        (2, 1),
+    );
     let changes = own.diff_region(x, 0, 2, 1, other, other_x, 0)?;
     assert_eq!(rt; printed(changes.as_slice()), need);
     assert!(rt; changes.len() <= need.saturating_mul(3));
@@ -206,7 +268,7 @@ fn regions_whose_edges_cut_wide_graphemes(rt: HostRuntime) -> Result<(), Fail> {
         for to in TEXTS {
             let own = row(alloc, 5, Pen::Plain, from)?;
             let other = row(alloc, 5, Pen::Plain, to)?;
-            assert_regions(&rt, &own, &other)?;
+            assert_regions(&rt, &own.surface, &other.surface)?;
         }
     }
     Ok(())

@@ -10,9 +10,9 @@ use termwiz_surface::surface::{Surface, SurfaceError};
 
 #[test]
 fn a_fresh_surface_has_no_title_and_no_shape(rt: HostRuntime) -> Result<(), Fail> {
-    let surface = drawn(rt.alloc(), 3, 2, UnicodeWidths, &[])?;
-    assert_eq!(rt; surface.title(), "");
-    assert!(rt; surface.cursor_shape().is_none());
+    let held = drawn(rt.alloc(), 3, 2, UnicodeWidths, &[])?;
+    assert_eq!(rt; held.surface.title(), "");
+    assert!(rt; held.surface.cursor_shape().is_none());
     Ok(())
 }
 
@@ -20,15 +20,18 @@ fn a_fresh_surface_has_no_title_and_no_shape(rt: HostRuntime) -> Result<(), Fail
 fn titles_and_shapes_replace_those_before(rt: HostRuntime) -> Result<(), Fail> {
     let alloc = rt.alloc();
     let steps = [Step::Title("one"), Step::Shape(CursorShape::BlinkingBlock)];
-    let mut surface = drawn(alloc, 3, 2, UnicodeWidths, &steps)?;
-    assert_eq!(rt; surface.title(), "one");
-    assert_eq!(rt; surface.cursor_shape(), Some(CursorShape::BlinkingBlock));
+    let mut held = drawn(alloc, 3, 2, UnicodeWidths, &steps)?;
+    assert_eq!(rt; held.surface.title(), "one");
+    assert_eq!(rt;
+        held.surface.cursor_shape(),
+        Some(CursorShape::BlinkingBlock)
+    );
     let steps = [Step::Title("か\n"), Step::Shape(CursorShape::Default)];
-    draw(alloc, &mut surface, &steps)?;
-    assert_eq!(rt; surface.title(), "か\n");
-    assert_eq!(rt; surface.cursor_shape(), Some(CursorShape::Default));
-    draw(alloc, &mut surface, &[Step::Title("")])?;
-    assert_eq!(rt; surface.title(), "");
+    draw(alloc, &mut held.surface, &steps)?;
+    assert_eq!(rt; held.surface.title(), "か\n");
+    assert_eq!(rt; held.surface.cursor_shape(), Some(CursorShape::Default));
+    draw(alloc, &mut held.surface, &[Step::Title("")])?;
+    assert_eq!(rt; held.surface.title(), "");
     Ok(())
 }
 
@@ -61,30 +64,31 @@ fn assert_kept(
 #[test]
 fn they_change_no_cell_and_keep_the_cursor(rt: HostRuntime) -> Result<(), Fail> {
     let alloc = rt.alloc();
-    let mut surface = drawn(alloc, 3, 2, UnicodeWidths, &[Step::Print("abc")])?;
-    let before = surface.screen()?;
-    assert_kept(&rt, alloc, &mut surface, &KEPT)?;
-    assert!(rt; surface.screen()? == before);
-    assert_lent(&rt, alloc, &surface, 1, 9, &KEPT)?;
+    let mut held = drawn(alloc, 3, 2, UnicodeWidths, &[Step::Print("abc")])?;
+    let before = held.surface.screen()?;
+    assert_kept(&rt, alloc, &mut held.surface, &KEPT)?;
+    assert!(rt; held.surface.screen()? == before);
+    assert_lent(&rt, alloc, &held.surface, 1, 9, &KEPT)?;
     Ok(())
 }
 
 #[test]
 fn a_repaint_has_the_title(rt: HostRuntime) -> Result<(), Fail> {
     let alloc = rt.alloc();
-    let surface = drawn(alloc, 2, 1, UnicodeWidths, &[Step::Title("t")])?;
+    let held = drawn(alloc, 2, 1, UnicodeWidths, &[Step::Title("t")])?;
     let rest = [Step::Title("t"), Step::At(0, 0), Step::Show];
-    assert_repaint(&rt, alloc, &surface, 1, &rest)?;
+    assert_repaint(&rt, alloc, &held.surface, 1, &rest)?;
     Ok(())
 }
 
 #[test]
-fn a_shown_cursor_is_repainted_with_its_shape(rt: HostRuntime) -> Result<(), Fail> {
+fn a_cursor_is_repainted_with_its_shape_while_it_is_shown(rt: HostRuntime) -> Result<(), Fail> {
     let alloc = rt.alloc();
-    let steps = [Step::Show, Step::Shape(CursorShape::SteadyBar)];
-    let mut surface = drawn(alloc, 2, 1, UnicodeWidths, &steps)?;
-    assert_repaint(&rt, alloc, &surface, 2, &steps)?;
-    draw(alloc, &mut surface, &[Step::Hide])?;
-    assert_repaint(&rt, alloc, &surface, 3, &[])?;
+    let steps = [Step::Shape(CursorShape::SteadyBar)];
+    let mut held = drawn(alloc, 2, 1, UnicodeWidths, &steps)?;
+    let rest = [Step::Show, Step::Shape(CursorShape::SteadyBar)];
+    assert_repaint(&rt, alloc, &held.surface, 1, &rest)?;
+    draw(alloc, &mut held.surface, &[Step::Hide])?;
+    assert_repaint(&rt, alloc, &held.surface, 2, &[])?;
     Ok(())
 }

@@ -1,6 +1,8 @@
 //! What is due to a viewer: changes that the log has, or a repaint.
 use crate::steps::{Step, Style};
-use crate::surfaces::{add, assert_lent, assert_repaint_from, assert_same_screen, draw, drawn};
+use crate::surfaces::{
+    Held, add, assert_lent, assert_repaint_from, assert_same_screen, draw, drawn,
+};
 use std::alloc::Global;
 use std::process::Abort;
 use std::test::Fail;
@@ -15,18 +17,18 @@ const SEVEN: [Step<'static>; 7] = [ITALIC, ITALIC, ITALIC, ITALIC, ITALIC, ITALI
 #[test]
 fn changes_are_lent_while_they_are_worth_it(rt: HostRuntime) -> Result<(), Fail> {
     let alloc = rt.alloc();
-    let mut surface = drawn(alloc, 2, 2, UnicodeWidths, &[Step::Print("a")])?;
-    draw(alloc, &mut surface, &SEVEN)?;
-    assert_lent(&rt, alloc, &surface, 1, 8, &SEVEN)?;
-    draw(alloc, &mut surface, &[ITALIC])?;
-    assert_lent(&rt, alloc, &surface, 2, 9, &SEVEN)?;
+    let mut held = drawn(alloc, 2, 2, UnicodeWidths, &[Step::Print("a")])?;
+    draw(alloc, &mut held.surface, &SEVEN)?;
+    assert_lent(&rt, alloc, &held.surface, 1, 8, &SEVEN)?;
+    draw(alloc, &mut held.surface, &[ITALIC])?;
+    assert_lent(&rt, alloc, &held.surface, 2, 9, &SEVEN)?;
     let rest = [
         Step::Print("a"),
         Step::At(1, 0),
         Step::Pen(Style::Italic),
         Step::Show,
     ];
-    assert_repaint_from(&rt, alloc, &surface, 1, 9, &rest)?;
+    assert_repaint_from(&rt, alloc, &held.surface, 1, 9, &rest)?;
     Ok(())
 }
 
@@ -43,21 +45,21 @@ const LAST_TWO: [Step<'static>; 2] = [Step::Hide, Step::Set(Style::Bold)];
 const REPAINTED: [Step<'static>; 3] = [Step::Print("ab"), Step::At(2, 0), Step::Pen(Style::Bold)];
 
 // A surface after the four, of which those before a number are flushed.
-fn flushed(alloc: Global, seq: SequenceNo) -> Result<Surface<OneColumn>, SurfaceError> {
-    let mut surface = drawn(alloc, 4, 3, OneColumn, &FOUR)?;
-    surface.flush_changes_older_than(seq);
-    Ok(surface)
+fn flushed(alloc: Global, seq: SequenceNo) -> Result<Held<OneColumn>, SurfaceError> {
+    let mut held = drawn(alloc, 4, 3, OneColumn, &FOUR)?;
+    held.surface.flush_changes_older_than(seq);
+    Ok(held)
 }
 
 #[test]
 fn flushed_changes_are_repainted(rt: HostRuntime) -> Result<(), Fail> {
     let alloc = rt.alloc();
-    let surface = flushed(alloc, 2)?;
-    assert_lent(&rt, alloc, &surface, 2, 4, &LAST_TWO)?;
-    assert_lent(&rt, alloc, &surface, 3, 4, &[Step::Set(Style::Bold)])?;
-    assert_lent(&rt, alloc, &surface, 4, 4, &[])?;
+    let held = flushed(alloc, 2)?;
+    assert_lent(&rt, alloc, &held.surface, 2, 4, &LAST_TWO)?;
+    assert_lent(&rt, alloc, &held.surface, 3, 4, &[Step::Set(Style::Bold)])?;
+    assert_lent(&rt, alloc, &held.surface, 4, 4, &[])?;
     for seq in [0, 1, 5] {
-        assert_repaint_from(&rt, alloc, &surface, seq, 4, &REPAINTED)?;
+        assert_repaint_from(&rt, alloc, &held.surface, seq, 4, &REPAINTED)?;
     }
     Ok(())
 }
@@ -65,10 +67,10 @@ fn flushed_changes_are_repainted(rt: HostRuntime) -> Result<(), Fail> {
 #[test]
 fn a_flush_of_a_number_that_the_log_lacks_changes_nothing(rt: HostRuntime) -> Result<(), Fail> {
     let alloc = rt.alloc();
-    let mut surface = flushed(alloc, 2)?;
+    let mut held = flushed(alloc, 2)?;
     for seq in [0, 1, 5, usize::MAX] {
-        surface.flush_changes_older_than(seq);
-        assert_lent(&rt, alloc, &surface, 2, 4, &LAST_TWO)?;
+        held.surface.flush_changes_older_than(seq);
+        assert_lent(&rt, alloc, &held.surface, 2, 4, &LAST_TWO)?;
     }
     Ok(())
 }
@@ -76,11 +78,11 @@ fn a_flush_of_a_number_that_the_log_lacks_changes_nothing(rt: HostRuntime) -> Re
 #[test]
 fn a_flush_at_the_number_empties_the_log(rt: HostRuntime) -> Result<(), Fail> {
     let alloc = rt.alloc();
-    let mut surface = flushed(alloc, 4)?;
-    assert_lent(&rt, alloc, &surface, 4, 4, &[])?;
-    assert_repaint_from(&rt, alloc, &surface, 3, 4, &REPAINTED)?;
-    assert_eq!(rt; add(alloc, &mut surface, &Step::Show)?, 4);
-    assert_lent(&rt, alloc, &surface, 4, 5, &[Step::Show])?;
+    let mut held = flushed(alloc, 4)?;
+    assert_lent(&rt, alloc, &held.surface, 4, 4, &[])?;
+    assert_repaint_from(&rt, alloc, &held.surface, 3, 4, &REPAINTED)?;
+    assert_eq!(rt; add(alloc, &mut held.surface, &Step::Show)?, 4);
+    assert_lent(&rt, alloc, &held.surface, 4, 5, &[Step::Show])?;
     Ok(())
 }
 
@@ -94,9 +96,9 @@ fn assert_changed(rt: &impl Abort, surface: &Surface<OneColumn>, own: SequenceNo
 #[test]
 fn each_number_but_the_coming_one_has_changes(rt: HostRuntime) -> Result<(), Fail> {
     let alloc = rt.alloc();
-    assert_changed(&rt, &drawn(alloc, 4, 3, OneColumn, &[])?, 0);
-    assert_changed(&rt, &drawn(alloc, 4, 3, OneColumn, &FOUR)?, 4);
-    assert_changed(&rt, &flushed(alloc, 4)?, 4);
+    assert_changed(&rt, &drawn(alloc, 4, 3, OneColumn, &[])?.surface, 0);
+    assert_changed(&rt, &drawn(alloc, 4, 3, OneColumn, &FOUR)?.surface, 4);
+    assert_changed(&rt, &flushed(alloc, 4)?.surface, 4);
     Ok(())
 }
 
@@ -123,7 +125,7 @@ fn follow(
 #[test]
 fn a_viewer_follows_change_by_change(rt: HostRuntime) -> Result<(), Fail> {
     let alloc = rt.alloc();
-    let mut surface = drawn(alloc, 3, 2, UnicodeWidths, &[Step::Print("w00t")])?;
+    let mut held = drawn(alloc, 3, 2, UnicodeWidths, &[Step::Print("w00t")])?;
     let mut viewer = drawn(alloc, 3, 2, UnicodeWidths, &[Step::Print("か")])?;
     let steps = [
         Step::Print("foo"),
@@ -133,6 +135,9 @@ fn a_viewer_follows_change_by_change(rt: HostRuntime) -> Result<(), Fail> {
         Step::Title("t"),
         Step::Hide,
     ];
-    assert_eq!(rt; follow(&rt, alloc, &mut surface, &mut viewer, &steps)?, 7);
+    assert_eq!(rt;
+        follow(&rt, alloc, &mut held.surface, &mut viewer.surface, &steps)?,
+        7
+    );
     Ok(())
 }

@@ -1,6 +1,6 @@
 //! Texts on a screen.
 use crate::steps::{PLAIN, Step};
-use crate::surfaces::{add, add_list, assert_rows, assert_shows, draw, drawn};
+use crate::surfaces::{Held, add, add_list, assert_rows, assert_shows, draw, drawn};
 use std::alloc::Global;
 use std::process::Abort;
 use std::test::Fail;
@@ -25,70 +25,75 @@ fn assert_numbers<W: Widths>(
 #[test]
 fn texts_wrap_and_scroll(rt: HostRuntime) -> Result<(), Fail> {
     let alloc = rt.alloc();
-    let mut surface = drawn(alloc, 4, 3, UnicodeWidths, &[])?;
-    assert_numbers(&rt, alloc, &mut surface, &["w00t", "foo", "baar", "baz"])?;
-    assert_shows(&rt, &surface, "foob\naarb\naz  \n", (2, 2))?;
-    assert_eq!(rt; surface.current_seqno(), 4);
+    let mut held = drawn(alloc, 4, 3, UnicodeWidths, &[])?;
+    assert_numbers(
+        &rt,
+        alloc,
+        &mut held.surface,
+        &["w00t", "foo", "baar", "baz"],
+    )?;
+    assert_shows(&rt, &held.surface, "foob\naarb\naz  \n", (2, 2))?;
+    assert_eq!(rt; held.surface.current_seqno(), 4);
     Ok(())
 }
 
 #[test]
 fn line_breaks_move_and_scroll(rt: HostRuntime) -> Result<(), Fail> {
     let steps = [Step::Print("bloo\rwat\n hey\r\nho")];
-    let surface = drawn(rt.alloc(), 4, 4, UnicodeWidths, &steps)?;
-    assert_rows(&rt, &surface, "wato\n    \nhey \nho  \n")?;
+    let held = drawn(rt.alloc(), 4, 4, UnicodeWidths, &steps)?;
+    assert_rows(&rt, &held.surface, "wato\n    \nhey \nho  \n")?;
     Ok(())
 }
 
 #[test]
 fn scroll_at_the_last_row(rt: HostRuntime) -> Result<(), Fail> {
-    let surface = drawn(rt.alloc(), 2, 2, OneColumn, &[Step::Print("a\nb\n")])?;
-    assert_shows(&rt, &surface, " b\n  \n", (2, 1))?;
+    let held = drawn(rt.alloc(), 2, 2, OneColumn, &[Step::Print("a\nb\n")])?;
+    assert_shows(&rt, &held.surface, " b\n  \n", (2, 1))?;
     Ok(())
 }
 
 #[test]
 fn line_breaks_do_not_wrap_first(rt: HostRuntime) -> Result<(), Fail> {
     let alloc = rt.alloc();
-    let mut surface = drawn(alloc, 2, 3, OneColumn, &[Step::Print("ab\n")])?;
-    assert_eq!(rt; surface.cursor_position(), (2, 1));
-    draw(alloc, &mut surface, &[Step::Print("\r")])?;
-    assert_eq!(rt; surface.cursor_position(), (0, 1));
-    draw(alloc, &mut surface, &[Step::Print("cd\r\ne")])?;
-    assert_rows(&rt, &surface, "ab\ncd\ne \n")?;
+    let mut held = drawn(alloc, 2, 3, OneColumn, &[Step::Print("ab\n")])?;
+    assert_eq!(rt; held.surface.cursor_position(), (2, 1));
+    draw(alloc, &mut held.surface, &[Step::Print("\r")])?;
+    assert_eq!(rt; held.surface.cursor_position(), (0, 1));
+    draw(alloc, &mut held.surface, &[Step::Print("cd\r\ne")])?;
+    assert_rows(&rt, &held.surface, "ab\ncd\ne \n")?;
     Ok(())
 }
 
 #[test]
 fn answers_and_empty_lists(rt: HostRuntime) -> Result<(), Fail> {
     let alloc = rt.alloc();
-    let mut surface = drawn(alloc, 2, 2, UnicodeWidths, &[])?;
-    assert_eq!(rt; add(alloc, &mut surface, &Step::Print("foo"))?, 0);
-    assert_eq!(rt; add_list(alloc, &mut surface, &[])?, 0);
-    assert_eq!(rt; add_list(alloc, &mut surface, &[Step::Print("a")])?, 1);
-    assert_eq!(rt; surface.current_seqno(), 2);
+    let mut held = drawn(alloc, 2, 2, UnicodeWidths, &[])?;
+    assert_eq!(rt; add(alloc, &mut held.surface, &Step::Print("foo"))?, 0);
+    assert_eq!(rt; add_list(alloc, &mut held.surface, &[])?, 0);
+    assert_eq!(rt; add_list(alloc, &mut held.surface, &[Step::Print("a")])?, 1);
+    assert_eq!(rt; held.surface.current_seqno(), 2);
     Ok(())
 }
 
 #[test]
 fn an_empty_list_takes_no_number(rt: HostRuntime) -> Result<(), Fail> {
     let alloc = rt.alloc();
-    let mut surface = drawn(alloc, 2, 2, UnicodeWidths, &[])?;
-    assert_eq!(rt; add_list(alloc, &mut surface, &[])?, 0);
-    assert_eq!(rt; surface.current_seqno(), 0);
-    assert_numbers(&rt, alloc, &mut surface, &["a", "b", "c"])?;
-    assert_eq!(rt; add_list(alloc, &mut surface, &[])?, 2);
-    assert_eq!(rt; surface.current_seqno(), 3);
+    let mut held = drawn(alloc, 2, 2, UnicodeWidths, &[])?;
+    assert_eq!(rt; add_list(alloc, &mut held.surface, &[])?, 0);
+    assert_eq!(rt; held.surface.current_seqno(), 0);
+    assert_numbers(&rt, alloc, &mut held.surface, &["a", "b", "c"])?;
+    assert_eq!(rt; add_list(alloc, &mut held.surface, &[])?, 2);
+    assert_eq!(rt; held.surface.current_seqno(), 3);
     Ok(())
 }
 
 #[test]
 fn a_list_of_one_answers_one_more_than_its_change(rt: HostRuntime) -> Result<(), Fail> {
     let alloc = rt.alloc();
-    let mut surface = drawn(alloc, 2, 1, OneColumn, &[])?;
-    assert_eq!(rt; add_list(alloc, &mut surface, &[Step::Print("a")])?, 1);
+    let mut held = drawn(alloc, 2, 1, OneColumn, &[])?;
+    assert_eq!(rt; add_list(alloc, &mut held.surface, &[Step::Print("a")])?, 1);
     let mut other = drawn(alloc, 2, 1, OneColumn, &[])?;
-    assert_eq!(rt; add(alloc, &mut other, &Step::Print("a"))?, 0);
+    assert_eq!(rt; add(alloc, &mut other.surface, &Step::Print("a"))?, 0);
     Ok(())
 }
 
@@ -96,16 +101,16 @@ fn a_list_of_one_answers_one_more_than_its_change(rt: HostRuntime) -> Result<(),
 fn clears_to_the_end_of_the_line_prune(rt: HostRuntime) -> Result<(), Fail> {
     let alloc = rt.alloc();
     let steps = [Step::Print("helwowfoo"), Step::ClearToEndOfLine(PLAIN)];
-    let mut surface = drawn(alloc, 3, 3, UnicodeWidths, &steps)?;
-    assert_rows(&rt, &surface, "hel\nwow\nfoo\n")?;
+    let mut held = drawn(alloc, 3, 3, UnicodeWidths, &steps)?;
+    assert_rows(&rt, &held.surface, "hel\nwow\nfoo\n")?;
     let steps = [
         Step::At(0, 0),
         Step::ClearToEndOfLine(PLAIN),
         Step::At(1, 1),
         Step::ClearToEndOfLine(PLAIN),
     ];
-    draw(alloc, &mut surface, &steps)?;
-    assert_rows(&rt, &surface, "   \nw\nfoo\n")?;
+    draw(alloc, &mut held.surface, &steps)?;
+    assert_rows(&rt, &held.surface, "   \nw\nfoo\n")?;
     Ok(())
 }
 
@@ -116,49 +121,49 @@ fn clears_to_the_end_of_the_screen(rt: HostRuntime) -> Result<(), Fail> {
         Step::At(1, 1),
         Step::ClearToEndOfScreen(PLAIN),
     ];
-    let surface = drawn(rt.alloc(), 3, 3, UnicodeWidths, &steps)?;
-    assert_rows(&rt, &surface, "hel\nw\n   \n")?;
+    let held = drawn(rt.alloc(), 3, 3, UnicodeWidths, &steps)?;
+    assert_rows(&rt, &held.surface, "hel\nw\n   \n")?;
     Ok(())
 }
 
 // A surface of which the second row has two cells, and the cursor behind them.
-fn pruned(alloc: Global) -> Result<Surface<UnicodeWidths>, SurfaceError> {
-    let mut surface = drawn(alloc, 4, 3, UnicodeWidths, &[Step::Print("abcdefgh")])?;
-    surface.add_change(Change::CursorPosition {
+fn pruned(alloc: Global) -> Result<Held<UnicodeWidths>, SurfaceError> {
+    let mut held = drawn(alloc, 4, 3, UnicodeWidths, &[Step::Print("abcdefgh")])?;
+    held.surface.add_change(Change::CursorPosition {
         x: Position::Relative(-2),
         y: Position::EndRelative(2),
     })?;
-    draw(alloc, &mut surface, &[Step::ClearToEndOfScreen(PLAIN)])?;
-    Ok(surface)
+    draw(alloc, &mut held.surface, &[Step::ClearToEndOfScreen(PLAIN)])?;
+    Ok(held)
 }
 
 #[test]
 fn a_coloured_clear_fills_a_pruned_row(rt: HostRuntime) -> Result<(), Fail> {
     let alloc = rt.alloc();
-    let mut surface = pruned(alloc)?;
-    assert_rows(&rt, &surface, "abcd\nef\n    \n")?;
+    let mut held = pruned(alloc)?;
+    assert_rows(&rt, &held.surface, "abcd\nef\n    \n")?;
     let coloured = Step::ClearToEndOfLine(ColorAttribute::PaletteIndex(7));
-    draw(alloc, &mut surface, &[coloured])?;
-    assert_rows(&rt, &surface, "abcd\nef  \n    \n")?;
-    draw(alloc, &mut surface, &[Step::Clear(PLAIN)])?;
-    assert_shows(&rt, &surface, "    \n    \n    \n", (0, 0))?;
+    draw(alloc, &mut held.surface, &[coloured])?;
+    assert_rows(&rt, &held.surface, "abcd\nef  \n    \n")?;
+    draw(alloc, &mut held.surface, &[Step::Clear(PLAIN)])?;
+    assert_shows(&rt, &held.surface, "    \n    \n    \n", (0, 0))?;
     Ok(())
 }
 
 #[test]
 fn a_list_is_counted_and_hides_the_cursor(rt: HostRuntime) -> Result<(), Fail> {
     let alloc = rt.alloc();
-    let mut surface = drawn(alloc, 2, 1, OneColumn, &[Step::Print("a")])?;
-    assert_eq!(rt; surface.cursor_visibility(), CursorVisibility::Visible);
-    let number = add_list(alloc, &mut surface, &[Step::Hide, Step::Print("b")])?;
+    let mut held = drawn(alloc, 2, 1, OneColumn, &[Step::Print("a")])?;
+    assert_eq!(rt; held.surface.cursor_visibility(), CursorVisibility::Visible);
+    let number = add_list(alloc, &mut held.surface, &[Step::Hide, Step::Print("b")])?;
     assert_eq!(rt; number, 2);
-    assert_eq!(rt; surface.current_seqno(), 3);
-    assert_eq!(rt; surface.cursor_visibility(), CursorVisibility::Hidden);
+    assert_eq!(rt; held.surface.current_seqno(), 3);
+    assert_eq!(rt; held.surface.cursor_visibility(), CursorVisibility::Hidden);
     Ok(())
 }
 
 fn screen_with(alloc: Global, steps: &[Step<'_>]) -> Result<Screen, SurfaceError> {
-    Ok(drawn(alloc, 3, 2, UnicodeWidths, steps)?.screen()?)
+    Ok(drawn(alloc, 3, 2, UnicodeWidths, steps)?.surface.screen()?)
 }
 
 fn assert_size(rt: &impl Abort, screen: &Screen, width: usize, height: usize) {

@@ -12,42 +12,46 @@ use termwiz_surface::surface::SurfaceError;
 #[test]
 fn a_region_past_the_last_row_refuses_its_list(rt: HostRuntime) -> Result<(), Fail> {
     let alloc = rt.alloc();
-    let mut surface = drawn(alloc, 4, 3, UnicodeWidths, &[])?;
+    let mut held = drawn(alloc, 4, 3, UnicodeWidths, &[])?;
     let past = [Step::Print("x"), Step::ScrollUp(2, 2, 1)];
-    let refused = add_list(alloc, &mut surface, &past);
+    let refused = add_list(alloc, &mut held.surface, &past);
     assert!(rt; matches!(refused, Err(SurfaceError::ScrollRegion)));
-    assert_shows(&rt, &surface, "    \n    \n    \n", (0, 0))?;
-    assert_eq!(rt; surface.current_seqno(), 0);
+    assert_shows(&rt, &held.surface, "    \n    \n    \n", (0, 0))?;
+    assert_eq!(rt; held.surface.current_seqno(), 0);
     let inside = [Step::Print("x"), Step::ScrollUp(1, 2, 1)];
-    assert_eq!(rt; add_list(alloc, &mut surface, &inside)?, 2);
-    assert_shows(&rt, &surface, "x   \n    \n    \n", (1, 0))?;
+    assert_eq!(rt; add_list(alloc, &mut held.surface, &inside)?, 2);
+    assert_shows(&rt, &held.surface, "x   \n    \n    \n", (1, 0))?;
     Ok(())
 }
 
 #[test]
 fn regions_whose_ends_are_past_all_numbers(rt: HostRuntime) -> Result<(), Fail> {
     let alloc = rt.alloc();
-    let mut surface = drawn(alloc, 4, 3, OneColumn, &[Step::Print("x")])?;
+    let mut held = drawn(alloc, 4, 3, OneColumn, &[Step::Print("x")])?;
     for (first, size) in [(1, usize::MAX), (usize::MAX, 1), (4, 0), (0, 4)] {
-        let up = add_list(alloc, &mut surface, &[Step::ScrollUp(first, size, 1)]);
+        let up = add_list(alloc, &mut held.surface, &[Step::ScrollUp(first, size, 1)]);
         assert!(rt; matches!(up, Err(SurfaceError::ScrollRegion)));
-        let down = add_list(alloc, &mut surface, &[Step::ScrollDown(first, size, 1)]);
+        let down = add_list(
+            alloc,
+            &mut held.surface,
+            &[Step::ScrollDown(first, size, 1)],
+        );
         assert!(rt; matches!(down, Err(SurfaceError::ScrollRegion)));
     }
-    assert_eq!(rt; surface.current_seqno(), 1);
+    assert_eq!(rt; held.surface.current_seqno(), 1);
     Ok(())
 }
 
 #[test]
 fn rows_scroll_and_the_cursor_stays(rt: HostRuntime) -> Result<(), Fail> {
     let alloc = rt.alloc();
-    let mut surface = drawn(alloc, 3, 3, UnicodeWidths, &[Step::Print("aaabbbccc")])?;
-    draw(alloc, &mut surface, &[Step::ScrollUp(0, 3, 1)])?;
-    assert_shows(&rt, &surface, "bbb\nccc\n   \n", (3, 2))?;
-    draw(alloc, &mut surface, &[Step::ScrollDown(1, 2, 1)])?;
-    assert_shows(&rt, &surface, "bbb\n   \nccc\n", (3, 2))?;
+    let mut held = drawn(alloc, 3, 3, UnicodeWidths, &[Step::Print("aaabbbccc")])?;
+    draw(alloc, &mut held.surface, &[Step::ScrollUp(0, 3, 1)])?;
+    assert_shows(&rt, &held.surface, "bbb\nccc\n   \n", (3, 2))?;
+    draw(alloc, &mut held.surface, &[Step::ScrollDown(1, 2, 1)])?;
+    assert_shows(&rt, &held.surface, "bbb\n   \nccc\n", (3, 2))?;
     let scrolls = [Step::ScrollUp(0, 3, 1), Step::ScrollDown(1, 2, 1)];
-    assert_lent(&rt, alloc, &surface, 1, 3, &scrolls)?;
+    assert_lent(&rt, alloc, &held.surface, 1, 3, &scrolls)?;
     Ok(())
 }
 
@@ -58,9 +62,9 @@ fn assert_scrolled(
     scroll: &Step<'_>,
     rows: &str,
 ) -> Result<(), SurfaceError> {
-    let mut surface = drawn(alloc, 3, 3, OneColumn, &[Step::Print("aaabbbccc")])?;
-    add(alloc, &mut surface, scroll)?;
-    assert_rows(rt, &surface, rows)?;
+    let mut held = drawn(alloc, 3, 3, OneColumn, &[Step::Print("aaabbbccc")])?;
+    add(alloc, &mut held.surface, scroll)?;
+    assert_rows(rt, &held.surface, rows)?;
     Ok(())
 }
 
@@ -97,13 +101,13 @@ fn a_region_of_no_rows_stays(rt: HostRuntime) -> Result<(), Fail> {
 fn new_rows_are_default_blanks(rt: HostRuntime) -> Result<(), Fail> {
     let alloc = rt.alloc();
     let steps = [Step::Clear(RED), Step::ScrollDown(0, 2, 1)];
-    let surface = drawn(alloc, 2, 2, UnicodeWidths, &steps)?;
+    let held = drawn(alloc, 2, 2, UnicodeWidths, &steps)?;
     let rest = [
         Step::NextRow,
         Step::ClearToEndOfLine(RED),
         Step::At(0, 0),
         Step::Show,
     ];
-    assert_repaint(&rt, alloc, &surface, 2, &rest)?;
+    assert_repaint(&rt, alloc, &held.surface, 2, &rest)?;
     Ok(())
 }

@@ -10,9 +10,9 @@ use termwiz_cell::emoji::UnicodeWidths;
 #[test]
 fn a_fresh_surface_is_repainted_from_any_number(rt: HostRuntime) -> Result<(), Fail> {
     let alloc = rt.alloc();
-    let surface = drawn(alloc, 4, 3, UnicodeWidths, &[])?;
+    let held = drawn(alloc, 4, 3, UnicodeWidths, &[])?;
     for seq in [0, 1, 99] {
-        assert_repaint_from(&rt, alloc, &surface, seq, 0, &[Step::Show])?;
+        assert_repaint_from(&rt, alloc, &held.surface, seq, 0, &[Step::Show])?;
     }
     Ok(())
 }
@@ -20,8 +20,8 @@ fn a_fresh_surface_is_repainted_from_any_number(rt: HostRuntime) -> Result<(), F
 #[test]
 fn a_hidden_cursor_stays_hidden(rt: HostRuntime) -> Result<(), Fail> {
     let alloc = rt.alloc();
-    let surface = drawn(alloc, 2, 1, UnicodeWidths, &[Step::Hide])?;
-    assert_repaint(&rt, alloc, &surface, 1, &[])?;
+    let held = drawn(alloc, 2, 1, UnicodeWidths, &[Step::Hide])?;
+    assert_repaint(&rt, alloc, &held.surface, 1, &[])?;
     Ok(())
 }
 
@@ -34,7 +34,7 @@ fn cleared_rows_print_nothing(rt: HostRuntime) -> Result<(), Fail> {
         Step::At(1, 1),
         Step::ClearToEndOfScreen(PLAIN),
     ];
-    let surface = drawn(alloc, 3, 3, UnicodeWidths, &steps)?;
+    let held = drawn(alloc, 3, 3, UnicodeWidths, &steps)?;
     let rest = [
         Step::Print("hel"),
         Step::NextRow,
@@ -42,7 +42,7 @@ fn cleared_rows_print_nothing(rt: HostRuntime) -> Result<(), Fail> {
         Step::At(1, 1),
         Step::Show,
     ];
-    assert_repaint(&rt, alloc, &surface, 4, &rest)?;
+    assert_repaint(&rt, alloc, &held.surface, 4, &rest)?;
     Ok(())
 }
 
@@ -55,7 +55,7 @@ fn coloured_rows_below_are_one_clear(rt: HostRuntime) -> Result<(), Fail> {
         Step::At(1, 1),
         Step::ClearToEndOfScreen(RED),
     ];
-    let surface = drawn(alloc, 3, 3, UnicodeWidths, &steps)?;
+    let held = drawn(alloc, 3, 3, UnicodeWidths, &steps)?;
     let rest = [
         Step::Pen(Style::Background(RED)),
         Step::Print("hel"),
@@ -65,7 +65,7 @@ fn coloured_rows_below_are_one_clear(rt: HostRuntime) -> Result<(), Fail> {
         Step::At(1, 1),
         Step::Show,
     ];
-    assert_repaint(&rt, alloc, &surface, 4, &rest)?;
+    assert_repaint(&rt, alloc, &held.surface, 4, &rest)?;
     Ok(())
 }
 
@@ -73,7 +73,7 @@ fn coloured_rows_below_are_one_clear(rt: HostRuntime) -> Result<(), Fail> {
 fn repaint_with_a_coloured_end(rt: HostRuntime) -> Result<(), Fail> {
     let alloc = rt.alloc();
     let steps = [Step::Clear(RED), Step::Print("a\r\nb")];
-    let surface = drawn(alloc, 3, 2, UnicodeWidths, &steps)?;
+    let held = drawn(alloc, 3, 2, UnicodeWidths, &steps)?;
     let rest = [
         Step::Pen(Style::Background(RED)),
         Step::Print("a"),
@@ -84,16 +84,16 @@ fn repaint_with_a_coloured_end(rt: HostRuntime) -> Result<(), Fail> {
         Step::At(1, 1),
         Step::Show,
     ];
-    assert_repaint(&rt, alloc, &surface, 2, &rest)?;
+    assert_repaint(&rt, alloc, &held.surface, 2, &rest)?;
     Ok(())
 }
 
 #[test]
 fn a_screen_of_one_colour_is_one_clear(rt: HostRuntime) -> Result<(), Fail> {
     let alloc = rt.alloc();
-    let surface = drawn(alloc, 3, 2, UnicodeWidths, &[Step::Clear(RED)])?;
+    let held = drawn(alloc, 3, 2, UnicodeWidths, &[Step::Clear(RED)])?;
     let rest = [Step::ClearToEndOfScreen(RED), Step::At(0, 0), Step::Show];
-    assert_repaint(&rt, alloc, &surface, 1, &rest)?;
+    assert_repaint(&rt, alloc, &held.surface, 1, &rest)?;
     Ok(())
 }
 
@@ -101,14 +101,14 @@ fn a_screen_of_one_colour_is_one_clear(rt: HostRuntime) -> Result<(), Fail> {
 fn the_pen_is_restored(rt: HostRuntime) -> Result<(), Fail> {
     let alloc = rt.alloc();
     let steps = [Step::Print("a"), Step::Set(Style::Bold)];
-    let surface = drawn(alloc, 2, 1, UnicodeWidths, &steps)?;
+    let held = drawn(alloc, 2, 1, UnicodeWidths, &steps)?;
     let rest = [
         Step::Print("a"),
         Step::At(1, 0),
         Step::Pen(Style::Bold),
         Step::Show,
     ];
-    assert_repaint(&rt, alloc, &surface, 2, &rest)?;
+    assert_repaint(&rt, alloc, &held.surface, 2, &rest)?;
     Ok(())
 }
 
@@ -122,7 +122,7 @@ fn each_row_follows_the_real_pen(rt: HostRuntime) -> Result<(), Fail> {
         Step::At(0, 2),
         Step::Print("c"),
     ];
-    let surface = drawn(alloc, 2, 3, UnicodeWidths, &steps)?;
+    let held = drawn(alloc, 2, 3, UnicodeWidths, &steps)?;
     let rest = [
         Step::Pen(Style::Bold),
         Step::Print("ab"),
@@ -133,7 +133,7 @@ fn each_row_follows_the_real_pen(rt: HostRuntime) -> Result<(), Fail> {
         Step::At(1, 2),
         Step::Show,
     ];
-    assert_repaint(&rt, alloc, &surface, 5, &rest)?;
+    assert_repaint(&rt, alloc, &held.surface, 5, &rest)?;
     Ok(())
 }
 
@@ -144,26 +144,26 @@ fn a_pending_wrap_is_kept(rt: HostRuntime) -> Result<(), Fail> {
         Step::Set(Style::Foreground(AnsiColor::Maroon.into())),
         Step::Print("ab"),
     ];
-    let surface = drawn(alloc, 2, 2, UnicodeWidths, &steps)?;
+    let held = drawn(alloc, 2, 2, UnicodeWidths, &steps)?;
     let rest = [
         Step::Pen(Style::Foreground(ColorAttribute::PaletteIndex(1))),
         Step::Print("ab"),
         Step::At(2, 0),
         Step::Show,
     ];
-    assert_repaint(&rt, alloc, &surface, 2, &rest)?;
+    assert_repaint(&rt, alloc, &held.surface, 2, &rest)?;
     Ok(())
 }
 
 #[test]
 fn spaces_at_the_end_are_left_out_where_they_are_plain(rt: HostRuntime) -> Result<(), Fail> {
     let alloc = rt.alloc();
-    let mut surface = drawn(alloc, 4, 1, UnicodeWidths, &[Step::Print("a ")])?;
+    let mut held = drawn(alloc, 4, 1, UnicodeWidths, &[Step::Print("a ")])?;
     let rest = [Step::Print("a"), Step::At(2, 0), Step::Show];
-    assert_repaint(&rt, alloc, &surface, 1, &rest)?;
+    assert_repaint(&rt, alloc, &held.surface, 1, &rest)?;
     draw(
         alloc,
-        &mut surface,
+        &mut held.surface,
         &[Step::Set(Style::Bold), Step::Print("  ")],
     )?;
     let rest = [
@@ -173,7 +173,7 @@ fn spaces_at_the_end_are_left_out_where_they_are_plain(rt: HostRuntime) -> Resul
         Step::At(4, 0),
         Step::Show,
     ];
-    assert_repaint(&rt, alloc, &surface, 3, &rest)?;
+    assert_repaint(&rt, alloc, &held.surface, 3, &rest)?;
     Ok(())
 }
 
@@ -181,14 +181,14 @@ fn spaces_at_the_end_are_left_out_where_they_are_plain(rt: HostRuntime) -> Resul
 fn an_italic_pen_is_restored(rt: HostRuntime) -> Result<(), Fail> {
     let alloc = rt.alloc();
     let steps = [Step::Print("a"), Step::Set(Style::Italic)];
-    let surface = drawn(alloc, 2, 1, UnicodeWidths, &steps)?;
+    let held = drawn(alloc, 2, 1, UnicodeWidths, &steps)?;
     let rest = [
         Step::Print("a"),
         Step::At(1, 0),
         Step::Pen(Style::Italic),
         Step::Show,
     ];
-    assert_repaint(&rt, alloc, &surface, 2, &rest)?;
+    assert_repaint(&rt, alloc, &held.surface, 2, &rest)?;
     Ok(())
 }
 
@@ -196,14 +196,14 @@ fn an_italic_pen_is_restored(rt: HostRuntime) -> Result<(), Fail> {
 fn texts_printed_apart_stay_apart(rt: HostRuntime) -> Result<(), Fail> {
     let alloc = rt.alloc();
     let steps = [Step::Print("e"), Step::Print("\u{301}")];
-    let surface = drawn(alloc, 3, 1, UnicodeWidths, &steps)?;
+    let held = drawn(alloc, 3, 1, UnicodeWidths, &steps)?;
     let rest = [
         Step::Print("e"),
         Step::Print("\u{301}"),
         Step::At(2, 0),
         Step::Show,
     ];
-    assert_repaint(&rt, alloc, &surface, 2, &rest)?;
+    assert_repaint(&rt, alloc, &held.surface, 2, &rest)?;
     Ok(())
 }
 
@@ -217,8 +217,8 @@ fn a_list_is_painted_as_its_changes_one_by_one(rt: HostRuntime) -> Result<(), Fa
         Step::Print("c"),
     ];
     let mut one = drawn(alloc, 3, 2, UnicodeWidths, &[])?;
-    add_list(alloc, &mut one, &steps)?;
+    add_list(alloc, &mut one.surface, &steps)?;
     let other = drawn(alloc, 3, 2, UnicodeWidths, &steps)?;
-    assert_same_screen(&rt, &one, &other)?;
+    assert_same_screen(&rt, &one.surface, &other.surface)?;
     Ok(())
 }

@@ -91,7 +91,7 @@ fn draws_and_copies_are_followed(rt: HostRuntime) -> Result<(), Fail> {
     let events = vec![in alloc;
         Event::Changes(vec![in alloc; text(alloc, "A")?]?),
         Event::Follow,
-        Event::Draw(widget, 2, 0),
+        Event::Draw(widget.surface, 2, 0),
         Event::Follow,
         Event::Copy(2, 0, 2, 1, 0, 1),
         Event::Follow,

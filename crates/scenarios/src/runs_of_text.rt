@@ -161,10 +161,15 @@ fn printed(
     y: usize,
     line: &str,
 ) -> Result<Screen, SurfaceError> {
-    let mut surface = drawn(alloc, 5, 2, UnicodeWidths, &[Step::Print(BEFORE)])?;
-    surface.add_change(Change::AllAttributes(pen.clone()?))?;
-    draw(alloc, &mut surface, &[Step::At(x, y), Step::Print(line)])?;
-    Ok(surface.screen()?)
+    let mut held = drawn(alloc, 5, 2, UnicodeWidths, &[Step::Print(BEFORE)])?;
+    held.surface
+        .add_change(Change::AllAttributes(pen.clone()?))?;
+    draw(
+        alloc,
+        &mut held.surface,
+        &[Step::At(x, y), Step::Print(line)],
+    )?;
+    Ok(held.surface.screen()?)
 }
 
 // Both show the same, wherever the text is printed.
@@ -196,12 +201,12 @@ fn runs_print_their_graphemes(rt: HostRuntime) -> Result<(), Fail> {
 #[test]
 fn a_hundred_thousand_lines(rt: HostRuntime) -> Result<(), Fail> {
     let alloc = rt.alloc();
-    let mut surface = drawn(alloc, 80, 24, UnicodeWidths, &[])?;
+    let mut held = drawn(alloc, 80, 24, UnicodeWidths, &[])?;
     for _ in 0..100_000 {
-        draw(alloc, &mut surface, &[Step::Print("x\r\n")])?;
+        draw(alloc, &mut held.surface, &[Step::Print("x\r\n")])?;
     }
     let mut viewer = drawn(alloc, 80, 24, UnicodeWidths, &[])?;
-    repaint(alloc, &surface, &mut viewer)?;
-    assert_same_screen(&rt, &surface, &viewer)?;
+    repaint(alloc, &held.surface, &mut viewer.surface)?;
+    assert_same_screen(&rt, &held.surface, &viewer.surface)?;
     Ok(())
 }

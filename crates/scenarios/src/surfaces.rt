@@ -10,6 +10,14 @@ use termwiz_cell::change::{Change, SequenceNo};
 use termwiz_cell::emoji::Widths;
 use termwiz_surface::surface::{Surface, SurfaceError};
 
+/// A surface that an example holds.
+///
+/// Its drop is a function by itself, while that of a surface is proved anew at each `?` behind which one is held.
+#[derive(Drop)]
+pub struct Held<W: Widths> {
+    pub surface: Surface<W>,
+}
+
 /// A new surface after these steps.
 pub fn drawn<W: Widths>(
     alloc: Global,
@@ -17,15 +25,16 @@ pub fn drawn<W: Widths>(
     height: usize,
     widths: W,
     steps: &[Step<'_>],
-) -> Result<Surface<W>, SurfaceError>
+) -> Result<Held<W>, SurfaceError>
     requires some_column { 0 < width }
     requires some_row { 0 < height }
     requires fits { width < 2 ^ 32 }
     requires fits_height { height < 2 ^ 32 }
 {
-    let mut surface = Surface::new(alloc, width, height, widths)?;
-    draw(alloc, &mut surface, steps)?;
-    Ok(surface)
+    let surface = Surface::new(alloc, width, height, widths)?;
+    let mut held = Held { surface };
+    draw(alloc, &mut held.surface, steps)?;
+    Ok(held)
 }
 
 /// Makes the steps one by one.

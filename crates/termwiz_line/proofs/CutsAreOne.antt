@@ -11,7 +11,7 @@ use Rattle.termwiz_line.specs.Pieces.{AreEqualBy}
 use Rattle.termwiz_line.specs.Trim.{IsTrimmed}
 use Rattle.termwiz_line.specs.Wraps.{AreLinesOf, FitsOrAlone, IsSpace, line_of, marked}
 use Rattle.termwiz_line.specs.Zones.{AreZonesOf, IsBlank, semantic, zone_of}
-use Rattle.termwiz_line.specs.CutLaws.{ZonesAreOne, WrapsAreOne}
+use Rattle.termwiz_line.specs.CutLaws.{ZonesAreOne, WrapsAreAlike, WrapsAreOne}
 use Rattle.termwiz_line.proofs.Cuts.{same_append, IsCut-same}
 use Rattle.termwiz_line.proofs.Ends.{All-beginning, All-last, split_last}
 
@@ -53,7 +53,15 @@ lines_of_same : (width seqno : ℕ) (cells : List (ℕ × CellValue)) (a b : Lis
 lines_of_same width seqno cells a b x y = x.lines_are ∙ ap (λ ps. map (line_of seqno) (marked ps)) (IsCut-same (FitsOrAlone width) cells x.pieces y.pieces x.cut y.cut) ∙ sym y.lines_are
 
 pub wraps_are_one : WrapsAreOne
-wraps_are_one width seqno one other a b e x y =
+wraps_are_one width seqno line a b x y =
+    let same : x.kept ≡ y.kept = trimmed_same IsSpace _ x.kept y.kept x.trimmed y.trimmed in
+    elim (empty_or_not x.kept) [
+      | inl e ↦ x.alone e ∙ sym (y.alone (sym same ∙ e))
+      | inr n ↦ lines_of_same width seqno x.kept a b (x.cut n) (subst (λ (k : List (ℕ × CellValue)). AreLinesOf width seqno k b) (sym same) (y.cut (λ e. n (same ∙ e))))
+    ]
+
+pub wraps_are_alike : WrapsAreAlike
+wraps_are_alike width seqno one other a b e x y =
     let cells : one.cells ≡ other.cells = ap (λ c. c.cells) e in
     let same : x.kept ≡ y.kept = trimmed_same IsSpace _ x.kept y.kept x.trimmed (subst (λ (cs : List CellValue). IsTrimmed IsSpace (visible cs) y.kept) (sym cells) y.trimmed) in
     elim (empty_or_not x.kept) [

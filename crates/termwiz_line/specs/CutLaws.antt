@@ -14,9 +14,13 @@ use Rattle.termwiz_line.specs.Zones.{AreZones}
 abbrev pub ZonesAreOne : Type 0
 ZonesAreOne = (cells : List (ℕ × CellValue)) (a b : List ZoneRange) → AreZones cells a → AreZones cells b → a ≡ b
 
--- lines of the same cells, number and flags are wrapped into lines of the same
+-- a line is wrapped in one way
 abbrev pub WrapsAreOne : Type 0
-WrapsAreOne = (width seqno : ℕ) (one other : LineValue) (a b : List LineValue) → line_contents one ≡ line_contents other → IsWrapped width seqno one a → IsWrapped width seqno other b → map line_contents a ≡ map line_contents b
+WrapsAreOne = (width seqno : ℕ) (line : LineValue) (a b : List LineValue) → IsWrapped width seqno line a → IsWrapped width seqno line b → a ≡ b
+
+-- lines of the same cells, number and flags are wrapped into lines of the same
+abbrev pub WrapsAreAlike : Type 0
+WrapsAreAlike = (width seqno : ℕ) (one other : LineValue) (a b : List LineValue) → line_contents one ≡ line_contents other → IsWrapped width seqno one a → IsWrapped width seqno other b → map line_contents a ≡ map line_contents b
 
 -- visible cells have one list of clusters
 abbrev pub ClustersAreOne : Type 0

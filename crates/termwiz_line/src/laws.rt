@@ -1,5 +1,5 @@
 //! What rows, edits and cuts are: laws of the definitions that the contracts cite, each on a function that does nothing.
-ghost use Rattle.termwiz_line.specs.CutLaws.{BytesTellTheirCells, ClustersAreOne, WrapsAreOne, ZonesAreOne};
+ghost use Rattle.termwiz_line.specs.CutLaws.{BytesTellTheirCells, ClustersAreOne, WrapsAreAlike, WrapsAreOne, ZonesAreOne};
 ghost use Rattle.termwiz_line.specs.EditLaws.{AllColumnsShow, StoredAgainShows};
 ghost use Rattle.termwiz_line.specs.StorageLaws.{EqualInAnyForm, WholeIsVisible};
 ghost use Rattle.termwiz_line.specs.RowLaws.{PaintPaints, ClearClears, ClearPast, VisibleFixesRow, CellsHaveRow, VisibleFixesRowOf, WalkGrows, ResizedIsRow, SetCellPaints, PruningKeepsRow};
@@ -33,6 +33,7 @@ pub fn edit_laws()
 pub fn cut_laws()
     ensures zones { ZonesAreOne }
     ensures wraps { WrapsAreOne }
+    ensures alike { WrapsAreAlike }
 {}
 
 /// The clusters of a line follow from its cells, whichever form stores them, and each byte of a cell's text tells the column and the width of that cell.

@@ -44,7 +44,7 @@ use zones::drop_zones;
 ///
 /// Each edit is given the number of the change that it belongs to, and the line keeps the greatest that it has taken. Where each change has a new number, whoever keeps something that was made from a line sees by it that the line has changed since. Two lines are equal where their cells, numbers and flags are, whichever form stores the cells.
 ///
-/// A line stores its cells as a vector or as one text. A new one is a text, and stays one while each cell is set at its end or the last cell is marked; `compress_for_scrollback` makes one of a vector, and any other edit that changes cells a vector of a text. Only `stored_cells`, and whether `as_str` lends, tell which it is.
+/// A line stores its cells as a vector or as one text. A new one is a text, and stays one while each cell is set at its end or the last cell is marked; `compress_for_scrollback` makes one of a vector, and any other edit that changes cells a vector of a text. Only `stored_cells`, whether `as_str` lends, and the variants of visible cells tell which it is.
 ///
 /// `visible_cells` walks what is seen of a line, and `changes` gives the changes that print it, for whoever has to write it somewhere else.
 #[derive(Drop, Debug)]

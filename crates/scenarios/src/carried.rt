@@ -1,103 +1,54 @@
 //! Screens that are carried to a viewer by a repaint.
-ghost use Rattle.std.specs.Prelude.{◌<◌, ◌^◌};
-
+use crate::canvas::Canvas;
 use crate::steps::{PLAIN, RED, Step, Style};
-use crate::surfaces::{assert_same_screen, draw, drawn, repaint};
 use crate::widths::AllWide;
 use std::alloc::Global;
 use std::process::Abort;
-use std::test::Fail;
 use termwiz_cell::cell::{CellAttributes, Underline};
 use termwiz_cell::change::Change;
 use termwiz_cell::color::ColorAttribute;
 use termwiz_cell::emoji::{OneColumn, UnicodeWidths, Widths};
-use termwiz_surface::surface::{Surface, SurfaceError};
 
 // A viewer that is full of other text has the surface's screen after a repaint.
-fn assert_carried<W: Widths>(
-    rt: &impl Abort,
-    alloc: Global,
-    widths: W,
-    surface: &Surface<W>,
-) -> Result<(), SurfaceError> {
-    let (width, height) = surface.dimensions();
-    let mut viewer = drawn(alloc, width, height, widths, &[])?;
-    fill(alloc, &mut viewer.surface)?;
-    repaint(alloc, surface, &mut viewer.surface)?;
-    assert_same_screen(rt, surface, &viewer.surface)?;
-    Ok(())
+fn assert_carried<W: Widths>(rt: &impl Abort, canvas: &Canvas<W>) {
+    let mut viewer = canvas.fresh(rt);
+    fill(rt, &mut viewer);
+    canvas.lead(rt, &mut viewer, 0);
+    canvas.assert_same_screen(rt, &viewer)
 }
 
 // Other text, wide and narrow, a hidden cursor and another pen.
-fn fill<W: Widths>(alloc: Global, viewer: &mut Surface<W>) -> Result<(), SurfaceError> {
+fn fill<W: Widths>(rt: &impl Abort, viewer: &mut Canvas<W>) {
     let mut pen = CellAttributes::blank();
     pen.set_underline(Underline::Double);
-    viewer.add_change(Change::AllAttributes(pen))?;
+    viewer.add_change(rt, Change::AllAttributes(pen));
     for _ in 0..12 {
-        draw(alloc, viewer, &[Step::Print("か#")])?;
+        viewer.draw(rt, &[Step::Print("か#")]);
     }
-    draw(alloc, viewer, &[Step::Hide])
+    viewer.draw(rt, &[Step::Hide])
 }
 
 // Each cursor column of the last row, the pending wrap too.
-fn assert_columns<W: Widths>(
-    rt: &impl Abort,
-    alloc: Global,
-    widths: W,
-    surface: &mut Surface<W>,
-) -> Result<(), SurfaceError> {
-    let (width, height) = surface.dimensions();
-    for column in 0..width + 1 {
-        draw(alloc, surface, &[Step::At(column, height - 1)])?;
-        assert_carried(rt, alloc, widths, surface)?;
+fn assert_columns<W: Widths>(rt: &impl Abort, canvas: &mut Canvas<W>) {
+    let (width, height) = canvas.dimensions();
+    for column in 0..width.saturating_add(1) {
+        canvas.draw(rt, &[Step::At(column, height.saturating_sub(1))]);
+        assert_carried(rt, canvas);
     }
-    Ok(())
 }
 
 // A new surface after these steps, at each cursor column.
-fn assert_drawn(
-    rt: &impl Abort,
-    alloc: Global,
-    width: usize,
-    height: usize,
-    steps: &[Step<'_>],
-) -> Result<(), SurfaceError>
-    requires some_column { 0 < width }
-    requires some_row { 0 < height }
-    requires fits { width < 2 ^ 32 }
-    requires fits_height { height < 2 ^ 32 }
-{
-    let mut held = drawn(alloc, width, height, OneColumn, steps)?;
-    assert_columns(rt, alloc, OneColumn, &mut held.surface)
+fn assert_drawn(rt: &impl Abort, alloc: Global, width: usize, height: usize, steps: &[Step<'_>]) {
+    let mut canvas = Canvas::new(rt, alloc, width, height, OneColumn, steps);
+    assert_columns(rt, &mut canvas)
 }
 
 // The text on the default ground, on red, and bold on blue.
-fn assert_grounds(
-    rt: &impl Abort,
-    alloc: Global,
-    width: usize,
-    height: usize,
-    line: &str,
-) -> Result<(), SurfaceError>
-    requires some_column { 0 < width }
-    requires some_row { 0 < height }
-    requires fits { width < 2 ^ 32 }
-    requires fits_height { height < 2 ^ 32 }
-{
-    assert_drawn(
-        rt,
-        alloc,
-        width,
-        height,
-        &[Step::Clear(PLAIN), Step::Print(line)],
-    )?;
-    assert_drawn(
-        rt,
-        alloc,
-        width,
-        height,
-        &[Step::Clear(RED), Step::Print(line)],
-    )?;
+fn assert_grounds(rt: &impl Abort, alloc: Global, width: usize, height: usize, line: &str) {
+    let steps = [Step::Clear(PLAIN), Step::Print(line)];
+    assert_drawn(rt, alloc, width, height, &steps);
+    let steps = [Step::Clear(RED), Step::Print(line)];
+    assert_drawn(rt, alloc, width, height, &steps);
     let steps = [
         Step::Clear(ColorAttribute::PaletteIndex(4)),
         Step::Set(Style::Bold),
@@ -107,8 +58,7 @@ fn assert_grounds(
 }
 
 #[test]
-fn screens_of_ascii(rt: HostRuntime) -> Result<(), Fail> {
-    let alloc = rt.alloc();
+fn screens_of_ascii(rt: HostRuntime) {
     for (width, height) in [(1, 1), (2, 1), (1, 2), (3, 2), (4, 3), (6, 4)] {
         for line in [
             "",
@@ -118,41 +68,32 @@ fn screens_of_ascii(rt: HostRuntime) -> Result<(), Fail> {
             "\n\n x",
             "abcdefghijklmnopqrstuvwxyz",
         ] {
-            assert_grounds(&rt, alloc, width, height, line)?;
+            assert_grounds(&rt, rt.alloc(), width, height, line);
         }
     }
-    Ok(())
 }
 
 // Text that is cleared in this colour from a column of a row on.
-fn assert_cleared(
-    rt: &impl Abort,
-    alloc: Global,
-    color: &ColorAttribute,
-    x: usize,
-    y: usize,
-) -> Result<(), SurfaceError> {
+fn assert_cleared(rt: &impl Abort, alloc: Global, color: &ColorAttribute, x: usize, y: usize) {
     let steps = [
         Step::Print("w00t foo bar"),
         Step::At(x, y),
         Step::ClearToEndOfLine(*color),
     ];
-    let mut held = drawn(alloc, 4, 3, UnicodeWidths, &steps)?;
-    assert_columns(rt, alloc, UnicodeWidths, &mut held.surface)?;
+    let mut canvas = Canvas::new(rt, alloc, 4, 3, UnicodeWidths, &steps);
+    assert_columns(rt, &mut canvas);
     let steps = [Step::At(x, y), Step::ClearToEndOfScreen(*color)];
-    draw(alloc, &mut held.surface, &steps)?;
-    assert_columns(rt, alloc, UnicodeWidths, &mut held.surface)
+    canvas.draw(rt, &steps);
+    assert_columns(rt, &mut canvas)
 }
 
 #[test]
-fn short_and_coloured_rows(rt: HostRuntime) -> Result<(), Fail> {
-    let alloc = rt.alloc();
+fn short_and_coloured_rows(rt: HostRuntime) {
     for color in [PLAIN, RED] {
         for (x, y) in [(0, 0), (1, 0), (3, 1), (4, 2), (0, 2)] {
-            assert_cleared(&rt, alloc, &color, x, y)?;
+            assert_cleared(&rt, rt.alloc(), &color, x, y);
         }
     }
-    Ok(())
 }
 
 const TEXTS: [&str; 60] = [
@@ -219,36 +160,30 @@ const TEXTS: [&str; 60] = [
 ];
 
 // The text in two rows of this width: once and twice, and once where all is wide.
-fn assert_text(rt: &impl Abort, alloc: Global, width: usize, line: &str) -> Result<(), SurfaceError>
-    requires some_column { 0 < width }
-    requires fits { width < 2 ^ 32 }
-{
+fn assert_text(rt: &impl Abort, alloc: Global, width: usize, line: &str) {
     let print = [Step::Print(line)];
-    let mut held = drawn(alloc, width, 2, UnicodeWidths, &print)?;
-    assert_carried(rt, alloc, UnicodeWidths, &held.surface)?;
-    draw(alloc, &mut held.surface, &print)?;
-    assert_carried(rt, alloc, UnicodeWidths, &held.surface)?;
-    let wide = drawn(alloc, width, 2, AllWide, &print)?;
-    assert_carried(rt, alloc, AllWide, &wide.surface)
+    let mut canvas = Canvas::new(rt, alloc, width, 2, UnicodeWidths, &print);
+    assert_carried(rt, &canvas);
+    canvas.draw(rt, &print);
+    assert_carried(rt, &canvas);
+    let wide = Canvas::new(rt, alloc, width, 2, AllWide, &print);
+    assert_carried(rt, &wide)
 }
 
 #[test]
-fn texts_past_ascii(rt: HostRuntime) -> Result<(), Fail> {
+fn texts_past_ascii(rt: HostRuntime) {
     for line in TEXTS {
         for width in 1..6 {
-            assert_text(&rt, rt.alloc(), width, line)?;
+            assert_text(&rt, rt.alloc(), width, line);
         }
     }
-    Ok(())
 }
 
 #[test]
-fn a_long_run_scrolls(rt: HostRuntime) -> Result<(), Fail> {
-    let alloc = rt.alloc();
-    let mut held = drawn(alloc, 80, 24, UnicodeWidths, &[])?;
+fn a_long_run_scrolls(rt: HostRuntime) {
+    let mut canvas = Canvas::new(&rt, rt.alloc(), 80, 24, UnicodeWidths, &[]);
     for _ in 0..1000 {
-        draw(alloc, &mut held.surface, &[Step::Print("x\r\n")])?;
+        canvas.draw(&rt, &[Step::Print("x\r\n")]);
     }
-    assert_carried(&rt, alloc, UnicodeWidths, &held.surface)?;
-    Ok(())
+    assert_carried(&rt, &canvas)
 }

@@ -1,5 +1,5 @@
 //! The changes that examples are made of.
-ghost use Rattle.std.specs.Prelude.{◌≡◌, pos, IfOk, OnOk};
+ghost use Rattle.std.specs.Prelude.{◌≡◌, pos, IfOk};
 ghost use Rattle.termwiz_cell.specs.Attributes.{default_attributes};
 ghost use Rattle.termwiz_cell.specs.ChangeValue.{change_value};
 ghost use Rattle.termwiz_cell.specs.ChangeValue as change;
@@ -58,15 +58,6 @@ pub fn next_row() -> Change
         x: Position::Absolute(0),
         y: Position::Relative(1),
     }
-}
-
-/// Default attributes on a background of the palette.
-pub fn on_palette(alloc: Global, index: u8) -> Result<CellAttributes, AllocError>
-    ensures { IfOk result (λ attrs. attrs ≡ record default_attributes { background = color.PaletteIndex index }) }
-{
-    let mut attrs = CellAttributes::blank();
-    attrs.set_background(alloc, ColorAttribute::PaletteIndex(index))?;
-    Ok(attrs)
 }
 
 /// The pen of coming texts, with default attributes.

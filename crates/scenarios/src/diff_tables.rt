@@ -1,15 +1,12 @@
 //! Diffs of many pairs of surfaces, made and compared, and their prints counted.
-ghost use Rattle.std.specs.Prelude.{◌<◌, ◌^◌};
-
+use crate::canvas::Canvas;
 use crate::steps::{PLAIN, RED, Step, Style};
-use crate::surfaces::{Held, draw, drawn};
 use std::alloc::Global;
 use std::process::Abort;
-use std::test::Fail;
 use termwiz_cell::change::Change;
 use termwiz_cell::emoji::UnicodeWidths;
 use termwiz_line::line::line::Line;
-use termwiz_surface::surface::{Screen, Surface, SurfaceError};
+use termwiz_surface::surface::Screen;
 use unicode_segmentation::UnicodeSegmentation;
 
 // Wide graphemes at shifted columns, cut at the end of a row, or between others.
@@ -44,22 +41,20 @@ enum Pen {
 
 // A surface of one row with this text in this pen.
 fn row(
+    rt: &impl Abort,
     alloc: Global,
     width: usize,
     pen: Pen,
     text: &str,
-) -> Result<Held<UnicodeWidths>, SurfaceError>
-    requires some { 0 < width }
-    requires fits { width < 2 ^ 32 }
-{
+) -> Canvas<UnicodeWidths> {
     let steps = match pen {
         Pen::Plain => [Step::DefaultPen],
         Pen::Bold => [Step::Pen(Style::Bold)],
         Pen::OnRed => [Step::Pen(Style::Background(RED))],
     };
-    let mut held = drawn(alloc, width, 1, UnicodeWidths, &steps)?;
-    draw(alloc, &mut held.surface, &[Step::Print(text)])?;
-    Ok(held)
+    let mut canvas = Canvas::new(rt, alloc, width, 1, UnicodeWidths, &steps);
+    canvas.draw(rt, &[Step::Print(text)]);
+    canvas
 }
 
 /// How many graphemes the changes print.
@@ -132,144 +127,118 @@ pub fn needed(
 }
 
 // The diff of a pair prints just what is needed, by at most three changes each, and makes the rows equal.
-fn assert_diff(
-    rt: &impl Abort,
-    from: &Surface<UnicodeWidths>,
-    to: &Surface<UnicodeWidths>,
-) -> Result<(), SurfaceError> {
-    let mut made = from.clone()?;
-    let changes = from.diff_screens(to)?;
-    let before = from.screen()?;
-    let wanted = to.screen()?;
+fn assert_diff(rt: &impl Abort, from: &Canvas<UnicodeWidths>, to: &Canvas<UnicodeWidths>) {
+    let mut made = from.clone(rt);
+    let changes = from.diff_screens(rt, to);
+    let before = from.screen(rt);
+    let wanted = to.screen(rt);
     let need = needed(&before, (0, 0), &wanted, (0, 0), from.dimensions());
     assert_eq!(rt; printed(changes.as_slice()), need);
     assert!(rt; changes.len() <= need.saturating_mul(3));
-    made.add_changes(changes)?;
-    assert!(rt; *made.screen()?.rows.as_slice() == *wanted.rows.as_slice());
-    Ok(())
+    made.add_changes(rt, changes);
+    let shown = made.screen(rt);
+    assert!(rt; *shown.rows.as_slice() == *wanted.rows.as_slice());
 }
 
 // Both ways, for each pair of texts in these pens.
-fn assert_pairs(
-    rt: &impl Abort,
-    alloc: Global,
-    width: usize,
-    one: Pen,
-    other: Pen,
-) -> Result<(), SurfaceError>
-    requires some { 0 < width }
-    requires fits { width < 2 ^ 32 }
-{
+fn assert_pairs(rt: &impl Abort, alloc: Global, width: usize, one: Pen, other: Pen) {
     for from in TEXTS {
-        let from = row(alloc, width, one, from)?;
+        let from = row(rt, alloc, width, one, from);
         for to in TEXTS {
-            let to = row(alloc, width, other, to)?;
-            assert_diff(rt, &from.surface, &to.surface)?;
-            assert_diff(rt, &to.surface, &from.surface)?;
+            let to = row(rt, alloc, width, other, to);
+            assert_diff(rt, &from, &to);
+            assert_diff(rt, &to, &from);
         }
     }
-    Ok(())
 }
 
 #[test]
-fn pairs_in_one_pen(rt: HostRuntime) -> Result<(), Fail> {
+fn pairs_in_one_pen(rt: HostRuntime) {
     for width in 1..6 {
-        assert_pairs(&rt, rt.alloc(), width, Pen::Plain, Pen::Plain)?;
+        assert_pairs(&rt, rt.alloc(), width, Pen::Plain, Pen::Plain);
     }
-    Ok(())
 }
 
 #[test]
-fn pairs_in_two_pens(rt: HostRuntime) -> Result<(), Fail> {
+fn pairs_in_two_pens(rt: HostRuntime) {
     for width in 1..6 {
-        assert_pairs(&rt, rt.alloc(), width, Pen::Bold, Pen::OnRed)?;
+        assert_pairs(&rt, rt.alloc(), width, Pen::Bold, Pen::OnRed);
     }
-    Ok(())
 }
 
 // The same for rows that are cleared from a column on, of which fewer cells are stored.
-fn assert_short(rt: &impl Abort, alloc: Global, column: usize) -> Result<(), SurfaceError> {
+fn assert_short(rt: &impl Abort, alloc: Global, column: usize) {
     let steps = [Step::At(column, 0), Step::ClearToEndOfLine(PLAIN)];
     for from in TEXTS {
-        let from = row(alloc, 4, Pen::Plain, from)?;
+        let from = row(rt, alloc, 4, Pen::Plain, from);
         for to in TEXTS {
-            let mut to = row(alloc, 4, Pen::OnRed, to)?;
-            draw(alloc, &mut to.surface, &steps)?;
-            assert_diff(rt, &from.surface, &to.surface)?;
-            assert_diff(rt, &to.surface, &from.surface)?;
+            let mut to = row(rt, alloc, 4, Pen::OnRed, to);
+            to.draw(rt, &steps);
+            assert_diff(rt, &from, &to);
+            assert_diff(rt, &to, &from);
         }
     }
-    Ok(())
 }
 
 #[test]
-fn pairs_of_short_rows(rt: HostRuntime) -> Result<(), Fail> {
+fn pairs_of_short_rows(rt: HostRuntime) {
     for column in 0..4 {
-        assert_short(&rt, rt.alloc(), column)?;
+        assert_short(&rt, rt.alloc(), column);
     }
-    Ok(())
 }
 
 #[test]
-fn pairs_of_two_rows(rt: HostRuntime) -> Result<(), Fail> {
+fn pairs_of_two_rows(rt: HostRuntime) {
     let alloc = rt.alloc();
     for from in TWO_ROWS {
-        let from = drawn(alloc, 4, 2, UnicodeWidths, &[Step::Print(from)])?;
+        let from = Canvas::new(&rt, alloc, 4, 2, UnicodeWidths, &[Step::Print(from)]);
         for to in TWO_ROWS {
             let steps = [Step::Print(to), Step::ClearToEndOfLine(PLAIN)];
-            let to = drawn(alloc, 4, 2, UnicodeWidths, &steps)?;
-            assert_diff(&rt, &from.surface, &to.surface)?;
-            assert_diff(&rt, &to.surface, &from.surface)?;
+            let to = Canvas::new(&rt, alloc, 4, 2, UnicodeWidths, &steps);
+            assert_diff(&rt, &from, &to);
+            assert_diff(&rt, &to, &from);
         }
     }
-    Ok(())
 }
 
 // Two columns from one on, and those of the other row from another on: the prints are just what is needed, whatever crosses the edges.
 fn assert_region(
     rt: &impl Abort,
-    own: &Surface<UnicodeWidths>,
+    own: &Canvas<UnicodeWidths>,
     x: usize,
-    other: &Surface<UnicodeWidths>,
+    other: &Canvas<UnicodeWidths>,
     other_x: usize,
-) -> Result<(), SurfaceError> {
+) {
     let need = needed(
-        &own.screen()?,
+        &own.screen(rt),
         (x, 0),
-        &other.screen()?,
+        &other.screen(rt),
         (other_x, 0),
         (2, 1),
     );
-    let changes = own.diff_region(x, 0, 2, 1, other, other_x, 0)?;
+    let changes = own.diff_region(rt, (x, 0), (2, 1), other, (other_x, 0));
     assert_eq!(rt; printed(changes.as_slice()), need);
     assert!(rt; changes.len() <= need.saturating_mul(3));
-    Ok(())
 }
 
 // From each column on of each of the two.
-fn assert_regions(
-    rt: &impl Abort,
-    own: &Surface<UnicodeWidths>,
-    other: &Surface<UnicodeWidths>,
-) -> Result<(), SurfaceError> {
+fn assert_regions(rt: &impl Abort, own: &Canvas<UnicodeWidths>, other: &Canvas<UnicodeWidths>) {
     let (width, _) = own.dimensions();
     for x in 0..width {
         for other_x in 0..width {
-            assert_region(rt, own, x, other, other_x)?;
+            assert_region(rt, own, x, other, other_x);
         }
     }
-    Ok(())
 }
 
 #[test]
-fn regions_whose_edges_cut_wide_graphemes(rt: HostRuntime) -> Result<(), Fail> {
+fn regions_whose_edges_cut_wide_graphemes(rt: HostRuntime) {
     let alloc = rt.alloc();
     for from in TEXTS {
         for to in TEXTS {
-            let own = row(alloc, 5, Pen::Plain, from)?;
-            let other = row(alloc, 5, Pen::Plain, to)?;
-            assert_regions(&rt, &own.surface, &other.surface)?;
+            let own = row(&rt, alloc, 5, Pen::Plain, from);
+            let other = row(&rt, alloc, 5, Pen::Plain, to);
+            assert_regions(&rt, &own, &other);
         }
     }
-    Ok(())
 }

@@ -1,6 +1,6 @@
 //! Texts past ASCII: wide cells, marks, and graphemes that are printed apart.
+use crate::canvas::Canvas;
 use crate::steps::Step;
-use crate::surfaces::{assert_repaint, assert_shows, draw, drawn};
 use crate::widths::AllWide;
 use std::alloc::{AllocError, Global};
 use std::process::Abort;
@@ -9,89 +9,70 @@ use termwiz_cell::cell::{Cell, CellAttributes};
 use termwiz_cell::emoji::{OneColumn, UnicodeWidths};
 
 #[test]
-fn a_wide_grapheme_in_one_column(rt: HostRuntime) -> Result<(), Fail> {
-    let alloc = rt.alloc();
-    let held = drawn(alloc, 1, 1, UnicodeWidths, &[Step::Print("か")])?;
-    assert_shows(&rt, &held.surface, "か\n", (1, 0))?;
+fn a_wide_grapheme_in_one_column(rt: HostRuntime) {
+    let canvas = Canvas::new(&rt, rt.alloc(), 1, 1, UnicodeWidths, &[Step::Print("か")]);
+    canvas.assert_shows(&rt, "か\n", (1, 0));
     let rest = [Step::Print("か"), Step::At(1, 0), Step::Show];
-    assert_repaint(&rt, alloc, &held.surface, 1, &rest)?;
-    Ok(())
+    canvas.assert_repaint(&rt, 1, &rest);
 }
 
 #[test]
-fn a_wide_grapheme_is_cut_at_the_edge(rt: HostRuntime) -> Result<(), Fail> {
-    let alloc = rt.alloc();
-    let mut held = drawn(alloc, 3, 1, UnicodeWidths, &[Step::Print("abか")])?;
-    assert_shows(&rt, &held.surface, "abか\n", (3, 0))?;
-    draw(alloc, &mut held.surface, &[Step::Print("c")])?;
-    assert_shows(&rt, &held.surface, "c  \n", (1, 0))?;
-    Ok(())
+fn a_wide_grapheme_is_cut_at_the_edge(rt: HostRuntime) {
+    let mut canvas = Canvas::new(&rt, rt.alloc(), 3, 1, UnicodeWidths, &[Step::Print("abか")]);
+    canvas.assert_shows(&rt, "abか\n", (3, 0));
+    canvas.draw(&rt, &[Step::Print("c")]);
+    canvas.assert_shows(&rt, "c  \n", (1, 0));
 }
 
 #[test]
-fn overwriting_the_second_half(rt: HostRuntime) -> Result<(), Fail> {
+fn overwriting_the_second_half(rt: HostRuntime) {
     let steps = [Step::Print("aか"), Step::At(2, 0), Step::Print("b")];
-    let held = drawn(rt.alloc(), 3, 1, UnicodeWidths, &steps)?;
-    assert_shows(&rt, &held.surface, "a b\n", (3, 0))?;
-    Ok(())
+    let canvas = Canvas::new(&rt, rt.alloc(), 3, 1, UnicodeWidths, &steps);
+    canvas.assert_shows(&rt, "a b\n", (3, 0));
 }
 
 #[test]
-fn overwriting_either_half(rt: HostRuntime) -> Result<(), Fail> {
-    let alloc = rt.alloc();
-    let mut held = drawn(alloc, 4, 1, UnicodeWidths, &[Step::Print("🤷12")])?;
-    assert_shows(&rt, &held.surface, "🤷12\n", (4, 0))?;
-    draw(
-        alloc,
-        &mut held.surface,
-        &[Step::At(1, 0), Step::Print("a🤷")],
-    )?;
-    assert_shows(&rt, &held.surface, " a🤷\n", (4, 0))?;
-    draw(
-        alloc,
-        &mut held.surface,
-        &[Step::At(2, 0), Step::Print("x")],
-    )?;
-    assert_shows(&rt, &held.surface, " ax \n", (3, 0))?;
-    Ok(())
+fn overwriting_either_half(rt: HostRuntime) {
+    let mut canvas = Canvas::new(&rt, rt.alloc(), 4, 1, UnicodeWidths, &[Step::Print("🤷12")]);
+    canvas.assert_shows(&rt, "🤷12\n", (4, 0));
+    canvas.draw(&rt, &[Step::At(1, 0), Step::Print("a🤷")]);
+    canvas.assert_shows(&rt, " a🤷\n", (4, 0));
+    canvas.draw(&rt, &[Step::At(2, 0), Step::Print("x")]);
+    canvas.assert_shows(&rt, " ax \n", (3, 0));
 }
 
 #[test]
-fn a_grapheme_without_width_has_one_column(rt: HostRuntime) -> Result<(), Fail> {
-    let held = drawn(
+fn a_grapheme_without_width_has_one_column(rt: HostRuntime) {
+    let canvas = Canvas::new(
+        &rt,
         rt.alloc(),
         4,
         1,
         UnicodeWidths,
         &[Step::Print("A\u{200b}B")],
-    )?;
-    assert_shows(&rt, &held.surface, "A\u{200b}B \n", (3, 0))?;
-    Ok(())
+    );
+    canvas.assert_shows(&rt, "A\u{200b}B \n", (3, 0));
 }
 
 #[test]
-fn all_is_wide_on_an_odd_width(rt: HostRuntime) -> Result<(), Fail> {
-    let alloc = rt.alloc();
-    let held = drawn(alloc, 3, 1, AllWide, &[Step::Print("ab")])?;
-    assert_shows(&rt, &held.surface, "ab\n", (3, 0))?;
+fn all_is_wide_on_an_odd_width(rt: HostRuntime) {
+    let canvas = Canvas::new(&rt, rt.alloc(), 3, 1, AllWide, &[Step::Print("ab")]);
+    canvas.assert_shows(&rt, "ab\n", (3, 0));
     let rest = [Step::Print("ab"), Step::At(3, 0), Step::Show];
-    assert_repaint(&rt, alloc, &held.surface, 1, &rest)?;
-    Ok(())
+    canvas.assert_repaint(&rt, 1, &rest);
 }
 
 #[test]
-fn regional_indicators_printed_apart(rt: HostRuntime) -> Result<(), Fail> {
-    let alloc = rt.alloc();
+fn regional_indicators_printed_apart(rt: HostRuntime) {
     let halves = [Step::Print("\u{1f1fa}"), Step::Print("\u{1f1f8}")];
-    let held = drawn(alloc, 4, 1, OneColumn, &halves)?;
+    let canvas = Canvas::new(&rt, rt.alloc(), 4, 1, OneColumn, &halves);
     let rest = [
         Step::Print("\u{1f1fa}"),
         Step::Print("\u{1f1f8}"),
         Step::At(2, 0),
         Step::Show,
     ];
-    assert_repaint(&rt, alloc, &held.surface, 2, &rest)?;
-    Ok(())
+    canvas.assert_repaint(&rt, 2, &rest);
 }
 
 // The cell of this grapheme is one space.
@@ -114,7 +95,7 @@ fn controls_become_one_space(rt: HostRuntime) -> Result<(), Fail> {
     for control in ["", " ", "\n", "\r", "\t", "\r\n", "\u{7f}"] {
         assert_space(&rt, alloc, control)?;
     }
-    let held = drawn(alloc, 3, 1, UnicodeWidths, &[Step::Print("a\tb")])?;
-    assert_shows(&rt, &held.surface, "a b\n", (3, 0))?;
+    let canvas = Canvas::new(&rt, alloc, 3, 1, UnicodeWidths, &[Step::Print("a\tb")]);
+    canvas.assert_shows(&rt, "a b\n", (3, 0));
     Ok(())
 }

@@ -2,8 +2,11 @@
 #![tactic(auto)]
 
 #[cfg(test)]
+mod canvas;
+#[cfg(test)]
 mod carried;
-pub mod changes;
+#[cfg(test)]
+mod changes;
 #[cfg(test)]
 mod copies;
 #[cfg(test)]
@@ -16,8 +19,6 @@ mod followed;
 mod graphemes;
 #[cfg(test)]
 mod kept;
-#[cfg(test)]
-mod lines;
 #[cfg(test)]
 mod logs;
 #[cfg(test)]
@@ -39,7 +40,4 @@ mod sizes;
 #[cfg(test)]
 mod steps;
 #[cfg(test)]
-mod surfaces;
-#[cfg(test)]
-mod texts_cut;
-pub mod widths;
+mod widths;

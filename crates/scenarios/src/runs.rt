@@ -1,7 +1,7 @@
 //! Runs of events.
+use crate::canvas::Canvas;
 use crate::changes::text;
 use crate::steps::Step;
-use crate::surfaces::drawn;
 use std::process::Abort;
 use std::test::Fail;
 use termwiz_cell::change::SequenceNo;
@@ -87,11 +87,11 @@ fn a_viewer_follows_by_a_repaint_and_by_what_is_due(rt: HostRuntime) -> Result<(
 #[test]
 fn draws_and_copies_are_followed(rt: HostRuntime) -> Result<(), Fail> {
     let alloc = rt.alloc();
-    let widget = drawn(alloc, 2, 1, UnicodeWidths, &[Step::Print("xy")])?;
+    let widget = Canvas::new(&rt, alloc, 2, 1, UnicodeWidths, &[Step::Print("xy")]);
     let events = vec![in alloc;
         Event::Changes(vec![in alloc; text(alloc, "A")?]?),
         Event::Follow,
-        Event::Draw(widget.surface, 2, 0),
+        Event::Draw(widget.into_surface(), 2, 0),
         Event::Follow,
         Event::Copy(2, 0, 2, 1, 0, 1),
         Event::Follow,

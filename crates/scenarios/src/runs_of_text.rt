@@ -1,6 +1,6 @@
 //! Texts that are printed in runs, beside the same texts set grapheme by grapheme.
+use crate::canvas::Canvas;
 use crate::steps::Step;
-use crate::surfaces::{assert_same_screen, draw, drawn, repaint};
 use std::alloc::{AllocError, Global};
 use std::process::Abort;
 use std::test::Fail;
@@ -9,7 +9,7 @@ use termwiz_cell::change::{Change, CursorVisibility, SEQ_ZERO};
 use termwiz_cell::color::{ColorAttribute, RgbColor};
 use termwiz_cell::emoji::UnicodeWidths;
 use termwiz_line::line::line::Line;
-use termwiz_surface::surface::{Screen, SurfaceError};
+use termwiz_surface::surface::Screen;
 use unicode_segmentation::UnicodeSegmentation;
 
 // Lines on which each grapheme is set by itself, and a cursor.
@@ -155,21 +155,17 @@ fn set(
 
 // A surface's screen after the same.
 fn printed(
+    rt: &impl Abort,
     alloc: Global,
-    pen: &CellAttributes,
+    pen: CellAttributes,
     x: usize,
     y: usize,
     line: &str,
-) -> Result<Screen, SurfaceError> {
-    let mut held = drawn(alloc, 5, 2, UnicodeWidths, &[Step::Print(BEFORE)])?;
-    held.surface
-        .add_change(Change::AllAttributes(pen.clone()?))?;
-    draw(
-        alloc,
-        &mut held.surface,
-        &[Step::At(x, y), Step::Print(line)],
-    )?;
-    Ok(held.surface.screen()?)
+) -> Screen {
+    let mut canvas = Canvas::new(rt, alloc, 5, 2, UnicodeWidths, &[Step::Print(BEFORE)]);
+    canvas.add_change(rt, Change::AllAttributes(pen));
+    canvas.draw(rt, &[Step::At(x, y), Step::Print(line)]);
+    canvas.screen(rt)
 }
 
 // Both show the same, wherever the text is printed.
@@ -178,10 +174,11 @@ fn assert_same_print(
     alloc: Global,
     pen: &CellAttributes,
     line: &str,
-) -> Result<(), SurfaceError> {
+) -> Result<(), AllocError> {
     for x in 0..6 {
         for y in 0..2 {
-            assert!(rt; printed(alloc, pen, x, y, line)? == set(alloc, pen, x, y, line)?);
+            let wanted = set(alloc, pen, x, y, line)?;
+            assert!(rt; printed(rt, alloc, pen.clone()?, x, y, line) == wanted);
         }
     }
     Ok(())
@@ -199,14 +196,12 @@ fn runs_print_their_graphemes(rt: HostRuntime) -> Result<(), Fail> {
 }
 
 #[test]
-fn a_hundred_thousand_lines(rt: HostRuntime) -> Result<(), Fail> {
-    let alloc = rt.alloc();
-    let mut held = drawn(alloc, 80, 24, UnicodeWidths, &[])?;
+fn a_hundred_thousand_lines(rt: HostRuntime) {
+    let mut canvas = Canvas::new(&rt, rt.alloc(), 80, 24, UnicodeWidths, &[]);
     for _ in 0..100_000 {
-        draw(alloc, &mut held.surface, &[Step::Print("x\r\n")])?;
+        canvas.draw(&rt, &[Step::Print("x\r\n")]);
     }
-    let mut viewer = drawn(alloc, 80, 24, UnicodeWidths, &[])?;
-    repaint(alloc, &held.surface, &mut viewer.surface)?;
-    assert_same_screen(&rt, &held.surface, &viewer.surface)?;
-    Ok(())
+    let mut viewer = canvas.fresh(&rt);
+    canvas.lead(&rt, &mut viewer, 0);
+    canvas.assert_same_screen(&rt, &viewer);
 }

@@ -1,105 +1,85 @@
 //! Surfaces that take another size, are cloned, and lend their rows.
+use crate::canvas::Canvas;
 use crate::steps::Step;
-use crate::surfaces::{
-    add, assert_lent, assert_repaint, assert_repaint_from, assert_same_screen, assert_shows, draw,
-    drawn,
-};
 use std::test::Fail;
 use termwiz_cell::change::LineAttribute;
 use termwiz_cell::emoji::{OneColumn, UnicodeWidths};
 
 #[test]
-fn a_wide_cell_gets_its_half_back(rt: HostRuntime) -> Result<(), Fail> {
-    let alloc = rt.alloc();
-    let mut held = drawn(alloc, 3, 1, UnicodeWidths, &[Step::Print("abか")])?;
-    assert_shows(&rt, &held.surface, "abか\n", (3, 0))?;
-    held.surface.resize(4, 1)?;
-    assert_shows(&rt, &held.surface, "abか\n", (3, 0))?;
-    draw(
-        alloc,
-        &mut held.surface,
-        &[Step::At(2, 0), Step::Print("x")],
-    )?;
-    assert_shows(&rt, &held.surface, "abx \n", (3, 0))?;
-    assert_eq!(rt; held.surface.current_seqno(), 4);
-    Ok(())
+fn a_wide_cell_gets_its_half_back(rt: HostRuntime) {
+    let mut canvas = Canvas::new(&rt, rt.alloc(), 3, 1, UnicodeWidths, &[Step::Print("abか")]);
+    canvas.assert_shows(&rt, "abか\n", (3, 0));
+    canvas.resize(&rt, 4, 1);
+    canvas.assert_shows(&rt, "abか\n", (3, 0));
+    canvas.draw(&rt, &[Step::At(2, 0), Step::Print("x")]);
+    canvas.assert_shows(&rt, "abx \n", (3, 0));
+    canvas.assert_number(&rt, 4);
 }
 
 #[test]
-fn another_size_takes_a_number(rt: HostRuntime) -> Result<(), Fail> {
-    let alloc = rt.alloc();
-    let mut held = drawn(alloc, 4, 1, UnicodeWidths, &[Step::Print("a")])?;
-    held.surface.flush_changes_older_than(1);
-    held.surface.resize(4, 1)?;
+fn another_size_takes_a_number(rt: HostRuntime) {
+    let mut canvas = Canvas::new(&rt, rt.alloc(), 4, 1, UnicodeWidths, &[Step::Print("a")]);
+    canvas.flush_changes_older_than(1);
+    canvas.resize(&rt, 4, 1);
     let rest = [Step::Print("a"), Step::At(1, 0), Step::Show];
-    assert_repaint_from(&rt, alloc, &held.surface, 1, 2, &rest)?;
-    assert_lent(&rt, alloc, &held.surface, 2, 2, &[])?;
-    Ok(())
+    canvas.assert_repaint_from(&rt, 1, 2, &rest);
+    canvas.assert_lent(&rt, 2, 2, &[]);
 }
 
 #[test]
-fn the_number_0_stays(rt: HostRuntime) -> Result<(), Fail> {
-    let alloc = rt.alloc();
-    let mut held = drawn(alloc, 4, 3, OneColumn, &[])?;
-    held.surface.resize(2, 2)?;
-    assert_shows(&rt, &held.surface, "  \n  \n", (0, 0))?;
-    assert_repaint(&rt, alloc, &held.surface, 0, &[Step::Show])?;
-    Ok(())
+fn the_number_0_stays(rt: HostRuntime) {
+    let mut canvas = Canvas::new(&rt, rt.alloc(), 4, 3, OneColumn, &[]);
+    canvas.resize(&rt, 2, 2);
+    canvas.assert_shows(&rt, "  \n  \n", (0, 0));
+    canvas.assert_repaint(&rt, 0, &[Step::Show]);
 }
 
 #[test]
-fn the_cursor_stays_on_a_smaller_surface(rt: HostRuntime) -> Result<(), Fail> {
-    let alloc = rt.alloc();
+fn the_cursor_stays_on_a_smaller_surface(rt: HostRuntime) {
     let steps = [Step::Print(" a"), Step::At(3, 3)];
-    let mut held = drawn(alloc, 4, 4, UnicodeWidths, &steps)?;
-    held.surface.resize(2, 2)?;
-    assert_eq!(rt; held.surface.cursor_position(), (1, 1));
+    let mut canvas = Canvas::new(&rt, rt.alloc(), 4, 4, UnicodeWidths, &steps);
+    canvas.resize(&rt, 2, 2);
+    assert_eq!(rt; canvas.cursor_position(), (1, 1));
     let rest = [Step::Print(" a"), Step::At(1, 1), Step::Show];
-    assert_repaint(&rt, alloc, &held.surface, 3, &rest)?;
-    Ok(())
+    canvas.assert_repaint(&rt, 3, &rest);
 }
 
 #[test]
-fn rows_come_and_go_at_the_bottom(rt: HostRuntime) -> Result<(), Fail> {
-    let alloc = rt.alloc();
-    let mut held = drawn(alloc, 2, 2, OneColumn, &[Step::Print("abcd")])?;
-    held.surface.resize(3, 3)?;
-    assert_shows(&rt, &held.surface, "ab \ncd \n   \n", (2, 1))?;
-    held.surface.resize(1, 1)?;
-    assert_shows(&rt, &held.surface, "a\n", (0, 0))?;
-    held.surface.resize(2, 2)?;
-    assert_shows(&rt, &held.surface, "a \n  \n", (0, 0))?;
-    Ok(())
+fn rows_come_and_go_at_the_bottom(rt: HostRuntime) {
+    let mut canvas = Canvas::new(&rt, rt.alloc(), 2, 2, OneColumn, &[Step::Print("abcd")]);
+    canvas.resize(&rt, 3, 3);
+    canvas.assert_shows(&rt, "ab \ncd \n   \n", (2, 1));
+    canvas.resize(&rt, 1, 1);
+    canvas.assert_shows(&rt, "a\n", (0, 0));
+    canvas.resize(&rt, 2, 2);
+    canvas.assert_shows(&rt, "a \n  \n", (0, 0));
 }
 
 #[test]
-fn a_clone_goes_its_own_way(rt: HostRuntime) -> Result<(), Fail> {
-    let alloc = rt.alloc();
-    let mut held = drawn(alloc, 4, 2, OneColumn, &[Step::Print("ab")])?;
+fn a_clone_goes_its_own_way(rt: HostRuntime) {
+    let mut canvas = Canvas::new(&rt, rt.alloc(), 4, 2, OneColumn, &[Step::Print("ab")]);
     let more = [Step::Title("t"), Step::Hide];
-    draw(alloc, &mut held.surface, &more)?;
-    let clone = held.surface.clone()?;
-    assert_same_screen(&rt, &held.surface, &clone)?;
-    assert_lent(&rt, alloc, &clone, 1, 3, &more)?;
-    assert_eq!(rt; add(alloc, &mut held.surface, &Step::Print("c"))?, 3);
-    assert_shows(&rt, &held.surface, "abc \n    \n", (3, 0))?;
-    assert_shows(&rt, &clone, "ab  \n    \n", (2, 0))?;
+    canvas.draw(&rt, &more);
+    let clone = canvas.clone(&rt);
+    canvas.assert_same_screen(&rt, &clone);
+    clone.assert_lent(&rt, 1, 3, &more);
+    assert_eq!(rt; canvas.add(&rt, &Step::Print("c")), 3);
+    canvas.assert_shows(&rt, "abc \n    \n", (3, 0));
+    clone.assert_shows(&rt, "ab  \n    \n", (2, 0));
     assert_eq!(rt; clone.title(), "t");
-    assert_eq!(rt; clone.current_seqno(), 3);
-    Ok(())
+    clone.assert_number(&rt, 3);
 }
 
 #[test]
 fn flags_stay_with_their_row(rt: HostRuntime) -> Result<(), Fail> {
-    let alloc = rt.alloc();
     let steps = [
         Step::At(0, 1),
         Step::Line(LineAttribute::DoubleWidthLine),
         Step::ScrollUp(0, 2, 1),
     ];
-    let mut held = drawn(alloc, 2, 2, OneColumn, &steps)?;
-    held.surface.resize(3, 1)?;
-    let lines = held.surface.screen_lines()?;
+    let mut canvas = Canvas::new(&rt, rt.alloc(), 2, 2, OneColumn, &steps);
+    canvas.resize(&rt, 3, 1);
+    let lines = canvas.surface().screen_lines()?;
     assert_eq!(rt; lines.len(), 1);
     for line in &lines {
         assert!(rt; line.is_double_width());
@@ -111,8 +91,8 @@ fn flags_stay_with_their_row(rt: HostRuntime) -> Result<(), Fail> {
 #[test]
 fn stored_cells_are_lent(rt: HostRuntime) -> Result<(), Fail> {
     let alloc = rt.alloc();
-    let held = drawn(alloc, 2, 1, UnicodeWidths, &[Step::Print("か")])?;
-    let rows = held.surface.screen_cells()?;
+    let canvas = Canvas::new(&rt, alloc, 2, 1, UnicodeWidths, &[Step::Print("か")]);
+    let rows = canvas.surface().screen_cells()?;
     let mut texts = String::new(alloc);
     for row in &rows {
         for cell in *row {

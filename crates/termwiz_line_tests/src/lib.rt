@@ -4,6 +4,8 @@
 #[cfg(test)]
 mod alike;
 #[cfg(test)]
+mod changes;
+#[cfg(test)]
 mod clusters;
 #[cfg(test)]
 mod cuts;

@@ -29,47 +29,71 @@ fn indicators(alloc: Global, count: usize) -> Result<String, AllocError> {
     Ok(row)
 }
 
-fn assert_pieces(rt: &impl Abort, text: &str) {
-    let mut pieces = text.graphemes(true);
-    for first in Graphemes::new(text) {
-        assert!(rt; pieces.next() == Some(first));
+// The graphemes of the whole text, each with a bar behind it, which is in none of the texts.
+fn marked(alloc: Global, text: &str) -> Result<String, AllocError> {
+    let mut marked = String::new(alloc);
+    for piece in text.graphemes(true) {
+        marked.push_str(piece)?;
+        marked.push('|')?;
     }
-    assert!(rt; pieces.next().is_none());
+    Ok(marked)
+}
+
+// The same of the first graphemes, one by one.
+fn marked_by_firsts(alloc: Global, text: &str) -> Result<String, AllocError> {
+    let mut marked = String::new(alloc);
+    for piece in Graphemes::new(text) {
+        marked.push_str(piece)?;
+        marked.push('|')?;
+    }
+    Ok(marked)
+}
+
+fn assert_firsts(rt: &impl Abort, alloc: Global, text: &str) -> Result<(), AllocError> {
+    assert!(rt; marked_by_firsts(alloc, text)? == marked(alloc, text)?);
+    Ok(())
 }
 
 #[test]
 fn the_first_graphemes_are_those_of_the_whole(rt: HostRuntime) -> Result<(), Fail> {
+    let alloc = rt.alloc();
     for text in TEXTS {
-        assert_pieces(&rt, text);
+        assert_firsts(&rt, alloc, text)?;
     }
-    assert_pieces(&rt, indicators(rt.alloc(), 200)?.as_str());
+    assert_firsts(&rt, alloc, indicators(alloc, 200)?.as_str())?;
     Ok(())
 }
 
-fn assert_run(rt: &impl Abort, text: &str, limit: usize) {
+// The run's graphemes are of one byte each, and stand before those of the rest.
+fn assert_run(rt: &impl Abort, alloc: Global, text: &str, limit: usize) -> Result<(), AllocError> {
     let (run, rest) = split_plain_run(text, limit);
     assert!(rt; run.len() <= limit);
-    let mut pieces = text.graphemes(true);
-    for _ in 0..run.len() {
-        let piece = pieces.next();
-        assert!(rt; piece.is_some_and(|piece| piece.len() == 1));
+    let mut cut = String::new(alloc);
+    for c in run.chars() {
+        assert!(rt; c.is_ascii());
+        cut.push(c)?;
+        cut.push('|')?;
     }
-    assert_eq!(rt; pieces.as_str(), rest);
+    cut.push_str(marked(alloc, rest)?.as_str())?;
+    assert!(rt; cut == marked(alloc, text)?);
+    Ok(())
+}
+
+fn assert_split(rt: &impl Abort, text: &str, limit: usize, run: &str, rest: &str) {
+    let split = split_plain_run(text, limit);
+    assert_eq!(rt; split.0, run);
+    assert_eq!(rt; split.1, rest);
 }
 
 #[test]
 fn a_run_is_cut_byte_by_byte(rt: HostRuntime) -> Result<(), Fail> {
     for text in TEXTS {
         for limit in 0..30 {
-            assert_run(&rt, text, limit);
+            assert_run(&rt, rt.alloc(), text, limit)?;
         }
     }
-    let (run, rest) = split_plain_run("abce\u{301}", 10);
-    assert_eq!(rt; run, "abc");
-    assert_eq!(rt; rest, "e\u{301}");
-    let (run, rest) = split_plain_run("abc\r\n", 2);
-    assert_eq!(rt; run, "ab");
-    assert_eq!(rt; rest, "c\r\n");
+    assert_split(&rt, "abce\u{301}", 10, "abc", "e\u{301}");
+    assert_split(&rt, "abc\r\n", 2, "ab", "c\r\n");
     Ok(())
 }
 
@@ -77,13 +101,10 @@ fn a_run_is_cut_byte_by_byte(rt: HostRuntime) -> Result<(), Fail> {
 fn joins(alloc: Global, before: &str, more: &str) -> Result<bool, AllocError> {
     let mut whole = String::from_str(alloc, before)?;
     whole.push_str(more)?;
-    let mut pieces = whole.as_str().graphemes(true);
-    for piece in before.graphemes(true) {
-        if pieces.next() != Some(piece) {
-            return Ok(false);
-        }
-    }
-    Ok(pieces.next() == Some(more) && pieces.next().is_none())
+    let mut cut = marked(alloc, before)?;
+    cut.push_str(more)?;
+    cut.push('|')?;
+    Ok(marked(alloc, whole.as_str())? == cut)
 }
 
 fn string_of(alloc: Global, c: char) -> Result<String, AllocError> {

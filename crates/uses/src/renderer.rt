@@ -1,8 +1,8 @@
 //! A renderer: what it does in each turn of its loop.
-ghost use Rattle.std.specs.Prelude.{◌≡◌, OnOk};
+ghost use Rattle.std.specs.Prelude.{◌≡◌, All, OnOk};
 ghost use Rattle.termwiz_cell.specs.Width.{unversioned};
 ghost use Rattle.termwiz_surface.specs.Following.{Follows};
-ghost use Rattle.termwiz_surface.specs.Log.{flushed};
+ghost use Rattle.termwiz_surface.specs.Log.{flushed, next_number};
 ghost use Rattle.termwiz_surface.specs.SurfaceValue.{screen_of};
 
 use termwiz_cell::emoji::Widths;
@@ -24,5 +24,25 @@ pub fn refresh<W: Widths>(
 {
     viewer.follow(surface)?;
     surface.flush_changes_older_than(viewer.last());
+    Ok(())
+}
+
+/// Shows on all its viewers what the surface shows, and lets the surface forget its changes then, since each viewer has them.
+/// After an error some first viewers show it and one may show anything; the next turn goes on from there, and shows it on all of them.
+pub fn refresh_all<W: Widths>(
+    surface: &mut Surface<W>,
+    viewers: &mut [Viewer<W>],
+) -> Result<(), SurfaceError>
+    requires { All (λ v. Follows (λ widths. unversioned (W.width_of widths)) v surface.old) viewers.old }
+    ensures shown { OnOk result (All (λ v. screen_of v.surface ≡ screen_of surface.new) viewers.new) }
+    ensures forgets { OnOk result (surface.new.log ≡ flushed surface.old.log (next_number surface.old.log)) }
+    ensures unchanged { screen_of surface.new ≡ screen_of surface.old }
+    // The next turn can rely on it again, after an error too.
+    ensures follows { All (λ v. Follows (λ widths. unversioned (W.width_of widths)) v surface.new) viewers.new }
+{
+    for each in viewers.iter_mut() {
+        each.follow(surface)?;
+    }
+    surface.flush_changes_older_than(surface.current_seqno());
     Ok(())
 }

@@ -5,12 +5,13 @@ use crate::last_row::clear_last_row;
 use crate::lines::{heading, word_at};
 use crate::one_by_one::make_one_by_one;
 use crate::prompt::show_prompt;
-use crate::renderer::refresh;
+use crate::renderer::{refresh, refresh_all};
 use crate::status::draw_status;
 use crate::viewer::Viewer;
+use std::process::Abort;
 use std::test::Fail;
 use termwiz_cell::cell::CellAttributes;
-use termwiz_cell::change::Change;
+use termwiz_cell::change::{Change, SequenceNo};
 use termwiz_cell::color::ColorAttribute;
 use termwiz_cell::emoji::UnicodeWidths;
 use termwiz_surface::sequence::ChangeSequence;
@@ -118,4 +119,30 @@ fn a_renderer_forgets_what_it_has_shown(rt: HostRuntime) -> Result<(), Fail> {
     assert!(rt; !surface.has_changes(viewer.last()));
     assert!(rt; surface.has_changes(0));
     Ok(())
+}
+
+// The viewers have their cursor there, and this number.
+fn assert_all_show(
+    rt: &impl Abort,
+    viewers: &[view::Viewer<UnicodeWidths>],
+    cursor: (usize, usize),
+    last: SequenceNo,
+) {
+    for viewer in viewers {
+        assert_eq!(rt; viewer.surface().cursor_position(), cursor);
+        assert_eq!(rt; viewer.last(), last);
+    }
+}
+
+#[test]
+fn a_renderer_shows_the_screen_on_all_its_viewers(rt: HostRuntime) {
+    let alloc = rt.alloc();
+    let mut surface = Surface::new(alloc, 5, 2, UnicodeWidths).expect(&rt, "a surface");
+    let text = Change::text_from(alloc, "abc").expect(&rt, "a text");
+    surface.add_change(text).expect(&rt, "a change is made");
+    let one = view::Viewer::new(alloc, &surface).expect(&rt, "a viewer");
+    let other = view::Viewer::new(alloc, &surface).expect(&rt, "another viewer");
+    let mut viewers = vec![in alloc; one, other].expect(&rt, "a list");
+    refresh_all(&mut surface, viewers.as_mut_slice()).expect(&rt, "a turn");
+    assert_all_show(&rt, viewers.as_slice(), (3, 0), 1);
 }

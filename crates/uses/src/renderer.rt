@@ -28,13 +28,15 @@ pub fn refresh<W: Widths>(
 }
 
 /// Shows on all its viewers what the surface shows, and lets the surface forget its changes then, since each viewer has them.
-/// After an error some first viewers show it and one may show anything; the next turn goes on from there, and shows it on all of them.
+/// After an error the viewers may show anything, and a turn that succeeds shows the screen on all of them.
 pub fn refresh_all<W: Widths>(
     surface: &mut Surface<W>,
     viewers: &mut [Viewer<W>],
 ) -> Result<(), SurfaceError>
     requires { All (λ v. Follows (λ widths. unversioned (W.width_of widths)) v surface.old) viewers.old }
     ensures shown { OnOk result (All (λ v. screen_of v.surface ≡ screen_of surface.new) viewers.new) }
+    // Each has the number up to which the log is flushed.
+    ensures numbered { OnOk result (All (λ v. v.last ≡ next_number surface.old.log) viewers.new) }
     ensures forgets { OnOk result (surface.new.log ≡ flushed surface.old.log (next_number surface.old.log)) }
     ensures unchanged { screen_of surface.new ≡ screen_of surface.old }
     // The next turn can rely on it again, after an error too.

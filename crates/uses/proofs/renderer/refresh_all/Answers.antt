@@ -2,6 +2,7 @@ use Rattle.std.proofs.Common.{◌≡◌, ◌<◌, length, arith}
 use Rattle.std.proofs.lemmas.List.Elements.{All-set, AllWithin-more_set}
 use Rattle.termwiz_cell.specs.Width.{unversioned}
 use Rattle.termwiz_surface.specs.Following.{Follows}
+use Rattle.termwiz_surface.specs.Log.{next_number}
 use Rattle.termwiz_surface.specs.SurfaceValue.{screen_of}
 use Rattle.uses.proofs.renderer.refresh_all.Goals as goal
 
@@ -11,6 +12,7 @@ loop-each-preserved g c =
     let followed = c.loop-each.invariant.follows c.loop-each.each-index c.each-item.result lt in
     record {
       shown = AllWithin-more_set _ _ _ lt (λ v. screen_of v.surface ≡ screen_of c.args.surface.now) c.loop-each.invariant.shown (c.in_ok-follow.ensures.caught_up followed).0;
+      numbered = AllWithin-more_set _ _ _ lt (λ v. v.last ≡ next_number c.args.surface.now.log) c.loop-each.invariant.numbered (c.in_ok-follow.ensures.caught_up followed).1;
       follows = All-set (λ v. Follows (λ widths. unversioned (g.W.Widths.width_of widths)) v c.args.surface.now) _ _ _ (c.follow.ensures.follows followed) c.loop-each.invariant.follows;
     }
 

@@ -1,53 +1,52 @@
 //! Attributes: what is set is read back, copied and cleared.
 use crate::samples::{linked, true_color};
-use std::test::Fail;
 use termwiz_cell::cell::{
     Blink, CellAttributes, Intensity, SemanticType, Underline, VerticalAlign,
 };
 use termwiz_cell::color::ColorAttribute;
 
 #[test]
-fn a_palette_colour_takes_the_place_of_a_true_one(rt: HostRuntime) -> Result<(), Fail> {
+fn a_palette_colour_takes_the_place_of_a_true_one(rt: HostRuntime) {
     let palette = ColorAttribute::PaletteIndex(3);
     let mut attrs = CellAttributes::blank();
     attrs
-        .set_foreground(rt.alloc(), true_color())?
-        .set_foreground(rt.alloc(), palette)?;
+        .set_foreground(rt.alloc(), true_color())
+        .expect(&rt, "memory")
+        .set_foreground(rt.alloc(), palette)
+        .expect(&rt, "memory");
     let mut wanted = CellAttributes::blank();
-    wanted.set_foreground(rt.alloc(), palette)?;
+    wanted
+        .set_foreground(rt.alloc(), palette)
+        .expect(&rt, "memory");
     assert_eq!(rt; attrs, wanted);
     assert_eq!(rt; attrs.foreground(), palette);
-    Ok(())
 }
 
 #[test]
-fn attributes_with_colours_and_a_link_are_copied(rt: HostRuntime) -> Result<(), Fail> {
-    let attrs = linked(rt.alloc())?;
-    let copy = attrs.clone()?;
+fn attributes_with_colours_and_a_link_are_copied(rt: HostRuntime) {
+    let attrs = linked(rt.alloc()).expect(&rt, "memory");
+    let copy = attrs.clone().expect(&rt, "memory");
     assert_eq!(rt; copy, attrs);
     assert!(rt; copy.hyperlink().is_some());
     assert_eq!(rt; copy.background(), true_color());
-    Ok(())
 }
 
 #[test]
-fn colours_are_copied_without_the_link(rt: HostRuntime) -> Result<(), Fail> {
-    let attrs = linked(rt.alloc())?;
-    let plain = attrs.clone_sgr_only(rt.alloc())?;
+fn colours_are_copied_without_the_link(rt: HostRuntime) {
+    let attrs = linked(rt.alloc()).expect(&rt, "memory");
+    let plain = attrs.clone_sgr_only(rt.alloc()).expect(&rt, "memory");
     assert!(rt; plain.hyperlink().is_none());
     assert_eq!(rt; plain.underline(), Underline::None);
     assert_eq!(rt; plain.underline_color(), ColorAttribute::PaletteIndex(4));
     assert!(rt; !attrs.attribute_bits_equal(&plain));
-    Ok(())
 }
 
 #[test]
-fn cleared_attributes_are_blank(rt: HostRuntime) -> Result<(), Fail> {
-    let mut attrs = linked(rt.alloc())?;
+fn cleared_attributes_are_blank(rt: HostRuntime) {
+    let mut attrs = linked(rt.alloc()).expect(&rt, "memory");
     attrs.clear();
     assert_eq!(rt; attrs, CellAttributes::default());
     assert!(rt; attrs.is_blank());
-    Ok(())
 }
 
 fn styled() -> CellAttributes {

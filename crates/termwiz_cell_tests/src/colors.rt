@@ -1,5 +1,4 @@
 //! Colours: the classic ones, those of cells, and their texts.
-use std::test::Fail;
 use termwiz_cell::color::{AnsiColor, ColorAttribute, ColorSpec, RgbColor};
 
 fn parts_of(text: &str) -> Option<(u8, u8, u8)> {
@@ -37,15 +36,16 @@ fn colors_become_cell_colors(rt: HostRuntime) {
 }
 
 #[test]
-fn a_color_is_printed_in_both_texts(rt: HostRuntime) -> Result<(), Fail> {
+fn a_color_is_printed_in_both_texts(rt: HostRuntime) {
     let color = RgbColor::new_8bpc(0, 21, 255);
-    let short = color.to_rgb_string(rt.alloc())?;
-    let long = color.to_x11_16bit_rgb_string(rt.alloc())?;
+    let short = color.to_rgb_string(rt.alloc()).expect(&rt, "memory");
+    let long = color
+        .to_x11_16bit_rgb_string(rt.alloc())
+        .expect(&rt, "memory");
     assert_eq!(rt; short.as_str(), "#0015ff");
     assert_eq!(rt; long.as_str(), "rgb:0000/1515/ffff");
     assert_eq!(rt; parts_of(short.as_str()), Some((0, 21, 255)));
     assert_eq!(rt; parts_of(long.as_str()), Some((0, 21, 255)));
-    Ok(())
 }
 
 #[test]

@@ -1,7 +1,6 @@
 //! Lines that are edited alike, of which one is a vector, and the other is stored as one text again after each edit: their answers are the same.
 use std::alloc::{AllocError, Global};
 use std::process::Abort;
-use std::test::Fail;
 use termwiz_cell::cell::{Cell, CellAttributes, SemanticType};
 use termwiz_cell::emoji::UnicodeWidths;
 use termwiz_line::line::bidi::Direction;
@@ -145,7 +144,7 @@ fn assert_alike(rt: &impl Abort, alloc: Global, edits: &[Edit]) -> Result<(), Al
 }
 
 #[test]
-fn appended_cells(rt: HostRuntime) -> Result<(), Fail> {
+fn appended_cells(rt: HostRuntime) {
     let edits = [
         Edit::Narrow(0, "a"),
         Edit::Wide(1, "か"),
@@ -154,12 +153,11 @@ fn appended_cells(rt: HostRuntime) -> Result<(), Fail> {
         Edit::Flag(Flag::Wrapped(true)),
         Edit::Narrow(7, "z"),
     ];
-    assert_alike(&rt, rt.alloc(), &edits)?;
-    Ok(())
+    assert_alike(&rt, rt.alloc(), &edits).expect(&rt, "memory");
 }
 
 #[test]
-fn cells_set_over_halves(rt: HostRuntime) -> Result<(), Fail> {
+fn cells_set_over_halves(rt: HostRuntime) {
     let edits = [
         Edit::Wide(0, "か"),
         Edit::Wide(2, "き"),
@@ -168,12 +166,11 @@ fn cells_set_over_halves(rt: HostRuntime) -> Result<(), Fail> {
         Edit::Erase(3),
         Edit::Remove(0),
     ];
-    assert_alike(&rt, rt.alloc(), &edits)?;
-    Ok(())
+    assert_alike(&rt, rt.alloc(), &edits).expect(&rt, "memory");
 }
 
 #[test]
-fn wide_cells_cut_at_the_end(rt: HostRuntime) -> Result<(), Fail> {
+fn wide_cells_cut_at_the_end(rt: HostRuntime) {
     let edits = [
         Edit::Wide(0, "か"),
         Edit::Wide(2, "き"),
@@ -183,12 +180,11 @@ fn wide_cells_cut_at_the_end(rt: HostRuntime) -> Result<(), Fail> {
         Edit::Narrow(2, " "),
         Edit::Prune,
     ];
-    assert_alike(&rt, rt.alloc(), &edits)?;
-    Ok(())
+    assert_alike(&rt, rt.alloc(), &edits).expect(&rt, "memory");
 }
 
 #[test]
-fn graphemes_that_would_join(rt: HostRuntime) -> Result<(), Fail> {
+fn graphemes_that_would_join(rt: HostRuntime) {
     let edits = [
         Edit::Wide(0, "🇺🇸"),
         Edit::Narrow(2, "🇺"),
@@ -197,12 +193,11 @@ fn graphemes_that_would_join(rt: HostRuntime) -> Result<(), Fail> {
         Edit::Remove(2),
         Edit::Erase(0),
     ];
-    assert_alike(&rt, rt.alloc(), &edits)?;
-    Ok(())
+    assert_alike(&rt, rt.alloc(), &edits).expect(&rt, "memory");
 }
 
 #[test]
-fn texts_inserted_laid_over_and_appended(rt: HostRuntime) -> Result<(), Fail> {
+fn texts_inserted_laid_over_and_appended(rt: HostRuntime) {
     let edits = [
         Edit::Append("か b"),
         Edit::Insert(1, "x"),
@@ -212,12 +207,11 @@ fn texts_inserted_laid_over_and_appended(rt: HostRuntime) -> Result<(), Fail> {
         Edit::Fill(5, 8),
         Edit::EraseWithin(1),
     ];
-    assert_alike(&rt, rt.alloc(), &edits)?;
-    Ok(())
+    assert_alike(&rt, rt.alloc(), &edits).expect(&rt, "memory");
 }
 
 #[test]
-fn prompts_and_flags(rt: HostRuntime) -> Result<(), Fail> {
+fn prompts_and_flags(rt: HostRuntime) {
     let edits = [
         Edit::Prompt(0, "$"),
         Edit::Prompt(1, " "),
@@ -230,12 +224,11 @@ fn prompts_and_flags(rt: HostRuntime) -> Result<(), Fail> {
         Edit::Clear(3),
         Edit::Prompt(4, "か"),
     ];
-    assert_alike(&rt, rt.alloc(), &edits)?;
-    Ok(())
+    assert_alike(&rt, rt.alloc(), &edits).expect(&rt, "memory");
 }
 
 #[test]
-fn halves_that_are_odd(rt: HostRuntime) -> Result<(), Fail> {
+fn halves_that_are_odd(rt: HostRuntime) {
     let edits = [
         Edit::Wide(0, "か"),
         Edit::Reverse(1),
@@ -244,6 +237,5 @@ fn halves_that_are_odd(rt: HostRuntime) -> Result<(), Fail> {
         Edit::Narrow(4, "a"),
         Edit::Resize(3),
     ];
-    assert_alike(&rt, rt.alloc(), &edits)?;
-    Ok(())
+    assert_alike(&rt, rt.alloc(), &edits).expect(&rt, "memory");
 }

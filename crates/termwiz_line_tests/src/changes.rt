@@ -1,7 +1,6 @@
 //! The changes that print a line.
 use std::alloc::{AllocError, Global};
 use std::process::Abort;
-use std::test::Fail;
 use termwiz_cell::cell::{Cell, CellAttributes};
 use termwiz_cell::change::{Change, SEQ_ZERO};
 use termwiz_cell::color::ColorAttribute;
@@ -38,35 +37,34 @@ fn assert_red_end(
 }
 
 #[test]
-fn a_red_line_is_cleared(rt: HostRuntime) -> Result<(), Fail> {
+fn a_red_line_is_cleared(rt: HostRuntime) {
     let alloc = rt.alloc();
-    let blank = Cell::blank_with_attrs(on_red(alloc)?);
-    assert_red_end(&rt, alloc, blank, &[Change::ClearToEndOfLine(RED)])?;
-    Ok(())
+    let blank = Cell::blank_with_attrs(on_red(alloc).expect(&rt, "memory"));
+    assert_red_end(&rt, alloc, blank, &[Change::ClearToEndOfLine(RED)]).expect(&rt, "memory");
 }
 
 #[test]
-fn a_red_end_is_cleared(rt: HostRuntime) -> Result<(), Fail> {
+fn a_red_end_is_cleared(rt: HostRuntime) {
     let alloc = rt.alloc();
-    let red = Cell::new(alloc, &OneColumn, 'a', on_red(alloc)?)?;
+    let red = Cell::new(alloc, &OneColumn, 'a', on_red(alloc).expect(&rt, "memory")).expect(
+        &rt, "memory",
+    );
     let changes = [
-        Change::AllAttributes(on_red(alloc)?),
-        Change::text_from(alloc, "a")?,
+        Change::AllAttributes(on_red(alloc).expect(&rt, "memory")),
+        Change::text_from(alloc, "a").expect(&rt, "memory"),
         Change::ClearToEndOfLine(RED),
     ];
-    assert_red_end(&rt, alloc, red, &changes)?;
-    Ok(())
+    assert_red_end(&rt, alloc, red, &changes).expect(&rt, "memory");
 }
 
 #[test]
-fn a_red_end_behind_a_default_cell(rt: HostRuntime) -> Result<(), Fail> {
+fn a_red_end_behind_a_default_cell(rt: HostRuntime) {
     let alloc = rt.alloc();
-    let plain = Cell::new(alloc, &OneColumn, 'a', CellAttributes::blank())?;
+    let plain = Cell::new(alloc, &OneColumn, 'a', CellAttributes::blank()).expect(&rt, "memory");
     let changes = [
-        Change::text_from(alloc, "a")?,
-        Change::AllAttributes(on_red(alloc)?),
+        Change::text_from(alloc, "a").expect(&rt, "memory"),
+        Change::AllAttributes(on_red(alloc).expect(&rt, "memory")),
         Change::ClearToEndOfLine(RED),
     ];
-    assert_red_end(&rt, alloc, plain, &changes)?;
-    Ok(())
+    assert_red_end(&rt, alloc, plain, &changes).expect(&rt, "memory");
 }

@@ -1,7 +1,6 @@
 //! Shaper clusters of lines.
 use crate::lines::line_of;
 use std::alloc::{AllocError, Global};
-use std::test::Fail;
 use termwiz_cell::cell::{Cell, CellAttributes};
 use termwiz_cell::emoji::{Presentation, UnicodeWidths};
 use termwiz_line::cellcluster::CellCluster;
@@ -45,50 +44,69 @@ fn first_bytes(alloc: Global, line: &Line) -> Result<String, AllocError> {
 }
 
 #[test]
-fn words_take_one_space_behind_them(rt: HostRuntime) -> Result<(), Fail> {
-    let line = Line::from_plain(rt.alloc(), "foo  bar", &UnicodeWidths)?;
+fn words_take_one_space_behind_them(rt: HostRuntime) {
+    let line = Line::from_plain(rt.alloc(), "foo  bar", &UnicodeWidths).expect(&rt, "memory");
     assert_eq!(rt;
-        clusters_of(rt.alloc(), &line)?.as_str(),
+        clusters_of(rt.alloc(), &line)
+            .expect(&rt, "memory")
+            .as_str(),
         "0:4foo |4:1 |5:3bar|"
     );
-    Ok(())
 }
 
 #[test]
-fn spaces_alone_are_a_cluster_and_no_cells_have_none(rt: HostRuntime) -> Result<(), Fail> {
-    let line = Line::from_plain(rt.alloc(), "   a", &UnicodeWidths)?;
-    assert_eq!(rt; clusters_of(rt.alloc(), &line)?.as_str(), "0:3   |3:1a|");
-    let empty = Line::new(rt.alloc(), 0);
-    assert_eq!(rt; empty.cluster(&UnicodeWidths)?.len(), 0);
-    Ok(())
-}
-
-#[test]
-fn each_byte_of_a_wide_cell_is_in_its_column(rt: HostRuntime) -> Result<(), Fail> {
-    let line = line_of(rt.alloc(), &[("か", 2), ("a", 1)])?;
-    assert_eq!(rt; clusters_of(rt.alloc(), &line)?.as_str(), "0:3かa|");
+fn spaces_alone_are_a_cluster_and_no_cells_have_none(rt: HostRuntime) {
+    let line = Line::from_plain(rt.alloc(), "   a", &UnicodeWidths).expect(&rt, "memory");
     assert_eq!(rt;
-        first_bytes(rt.alloc(), &line)?.as_str(),
+        clusters_of(rt.alloc(), &line)
+            .expect(&rt, "memory")
+            .as_str(),
+        "0:3   |3:1a|"
+    );
+    let empty = Line::new(rt.alloc(), 0);
+    assert_eq!(rt;
+        empty.cluster(&UnicodeWidths).expect(&rt, "memory").len(),
+        0
+    );
+}
+
+#[test]
+fn each_byte_of_a_wide_cell_is_in_its_column(rt: HostRuntime) {
+    let line = line_of(rt.alloc(), &[("か", 2), ("a", 1)]).expect(&rt, "memory");
+    assert_eq!(rt;
+        clusters_of(rt.alloc(), &line)
+            .expect(&rt, "memory")
+            .as_str(),
+        "0:3かa|"
+    );
+    assert_eq!(rt;
+        first_bytes(rt.alloc(), &line)
+            .expect(&rt, "memory")
+            .as_str(),
         "0:2|0:2|0:2|2:1|"
     );
-    Ok(())
 }
 
 #[test]
-fn a_long_text_behind_plain_ones_is_in_its_column(rt: HostRuntime) -> Result<(), Fail> {
-    let line = line_of(rt.alloc(), &[("a", 1), ("b", 1), ("é", 1), ("c", 1)])?;
+fn a_long_text_behind_plain_ones_is_in_its_column(rt: HostRuntime) {
+    let line = line_of(rt.alloc(), &[("a", 1), ("b", 1), ("é", 1), ("c", 1)]).expect(&rt, "memory");
     assert_eq!(rt;
-        first_bytes(rt.alloc(), &line)?.as_str(),
+        first_bytes(rt.alloc(), &line)
+            .expect(&rt, "memory")
+            .as_str(),
         "0:1|1:1|2:1|2:1|3:1|"
     );
-    Ok(())
 }
 
 #[test]
-fn a_wide_cell_of_one_byte_takes_two_columns(rt: HostRuntime) -> Result<(), Fail> {
-    let line = line_of(rt.alloc(), &[("a", 2), ("b", 1)])?;
-    assert_eq!(rt; first_bytes(rt.alloc(), &line)?.as_str(), "0:2|2:1|");
-    Ok(())
+fn a_wide_cell_of_one_byte_takes_two_columns(rt: HostRuntime) {
+    let line = line_of(rt.alloc(), &[("a", 2), ("b", 1)]).expect(&rt, "memory");
+    assert_eq!(rt;
+        first_bytes(rt.alloc(), &line)
+            .expect(&rt, "memory")
+            .as_str(),
+        "0:2|2:1|"
+    );
 }
 
 // `a` and `b`, the second with these attributes.
@@ -99,36 +117,48 @@ fn two(alloc: Global, attrs: CellAttributes) -> Result<Line, AllocError> {
 }
 
 #[test]
-fn a_cluster_ends_where_the_attributes_change(rt: HostRuntime) -> Result<(), Fail> {
+fn a_cluster_ends_where_the_attributes_change(rt: HostRuntime) {
     let mut attrs = CellAttributes::blank();
     attrs.set_italic(true);
-    let line = two(rt.alloc(), attrs)?;
-    assert_eq!(rt; clusters_of(rt.alloc(), &line)?.as_str(), "0:1a|1:1b|");
-    Ok(())
+    let line = two(rt.alloc(), attrs).expect(&rt, "memory");
+    assert_eq!(rt;
+        clusters_of(rt.alloc(), &line)
+            .expect(&rt, "memory")
+            .as_str(),
+        "0:1a|1:1b|"
+    );
 }
 
 #[test]
-fn the_mark_ends_no_cluster_and_is_left_out(rt: HostRuntime) -> Result<(), Fail> {
-    let mut line = line_of(rt.alloc(), &[("a", 1), ("b", 1)])?;
-    line.set_last_cell_was_wrapped(true, 0)?;
-    assert_eq!(rt; clusters_of(rt.alloc(), &line)?.as_str(), "0:2ab|");
+fn the_mark_ends_no_cluster_and_is_left_out(rt: HostRuntime) {
+    let mut line = line_of(rt.alloc(), &[("a", 1), ("b", 1)]).expect(&rt, "memory");
+    line.set_last_cell_was_wrapped(true, 0)
+        .expect(&rt, "memory");
+    assert_eq!(rt;
+        clusters_of(rt.alloc(), &line)
+            .expect(&rt, "memory")
+            .as_str(),
+        "0:2ab|"
+    );
     let mut marked = CellAttributes::blank();
     marked.set_wrapped(true);
-    let only = Line::with_width_and_cell(rt.alloc(), 1, Cell::blank_with_attrs(marked), 0)?;
-    for cluster in only.cluster(&UnicodeWidths)? {
+    let only = Line::with_width_and_cell(rt.alloc(), 1, Cell::blank_with_attrs(marked), 0).expect(
+        &rt, "memory",
+    );
+    for cluster in only.cluster(&UnicodeWidths).expect(&rt, "memory") {
         assert!(rt; cluster.attrs == CellAttributes::blank());
     }
-    Ok(())
 }
 
 #[test]
-fn a_cluster_ends_where_the_presentation_changes(rt: HostRuntime) -> Result<(), Fail> {
-    let line = line_of(rt.alloc(), &[("a", 1), ("☺\u{FE0F}", 2), ("b", 1)])?;
+fn a_cluster_ends_where_the_presentation_changes(rt: HostRuntime) {
+    let line = line_of(rt.alloc(), &[("a", 1), ("☺\u{FE0F}", 2), ("b", 1)]).expect(&rt, "memory");
     assert_eq!(rt;
-        clusters_of(rt.alloc(), &line)?.as_str(),
+        clusters_of(rt.alloc(), &line)
+            .expect(&rt, "memory")
+            .as_str(),
         "0:1a|1:2☺\u{FE0F}|3:1b|"
     );
-    Ok(())
 }
 
 // Whether the cluster is shown like this, from left to right.
@@ -137,30 +167,37 @@ fn is_shown_as(cluster: &CellCluster, presentation: Presentation) -> bool {
 }
 
 #[test]
-fn a_cluster_has_the_presentation_of_its_cells(rt: HostRuntime) -> Result<(), Fail> {
-    let line = line_of(rt.alloc(), &[("☺\u{FE0F}", 2)])?;
-    for cluster in line.cluster(&UnicodeWidths)? {
+fn a_cluster_has_the_presentation_of_its_cells(rt: HostRuntime) {
+    let line = line_of(rt.alloc(), &[("☺\u{FE0F}", 2)]).expect(&rt, "memory");
+    for cluster in line.cluster(&UnicodeWidths).expect(&rt, "memory") {
         assert!(rt; is_shown_as(&cluster, Presentation::Emoji));
     }
-    let plain = line_of(rt.alloc(), &[("a", 1)])?;
-    for cluster in plain.cluster(&UnicodeWidths)? {
+    let plain = line_of(rt.alloc(), &[("a", 1)]).expect(&rt, "memory");
+    for cluster in plain.cluster(&UnicodeWidths).expect(&rt, "memory") {
         assert!(rt; is_shown_as(&cluster, Presentation::Text));
     }
-    Ok(())
 }
 
 #[test]
-fn the_clusters_of_cells_and_a_copy_are_those_of_the_line(rt: HostRuntime) -> Result<(), Fail> {
-    let line = line_of(rt.alloc(), &[("か", 2), ("a", 1), (" ", 1), ("b", 1)])?;
-    let clusters = CellCluster::make_cluster(rt.alloc(), &UnicodeWidths, line.visible_cells())?;
-    assert_eq!(rt; shown(rt.alloc(), &clusters)?.as_str(), "0:4かa |4:1b|");
+fn the_clusters_of_cells_and_a_copy_are_those_of_the_line(rt: HostRuntime) {
+    let line = line_of(rt.alloc(), &[("か", 2), ("a", 1), (" ", 1), ("b", 1)]).expect(&rt, "memory");
+    let clusters = CellCluster::make_cluster(
+        rt.alloc(),
+        &UnicodeWidths,
+        line.visible_cells(),
+    ).expect(&rt, "memory");
+    assert_eq!(rt;
+        shown(rt.alloc(), &clusters).expect(&rt, "memory").as_str(),
+        "0:4かa |4:1b|"
+    );
     for cluster in clusters.iter() {
-        let copy = cluster.clone()?;
-        let bytes = cells_of_bytes(rt.alloc(), &copy)?;
+        let copy = cluster.clone().expect(&rt, "memory");
+        let bytes = cells_of_bytes(rt.alloc(), &copy).expect(&rt, "memory");
         assert_eq!(rt;
             bytes.as_str(),
-            cells_of_bytes(rt.alloc(), cluster)?.as_str()
+            cells_of_bytes(rt.alloc(), cluster)
+                .expect(&rt, "memory")
+                .as_str()
         );
     }
-    Ok(())
 }

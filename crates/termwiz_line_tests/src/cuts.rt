@@ -1,7 +1,6 @@
 //! Zones, double clicks and wraps of lines.
 use crate::lines::{cell, line_of};
 use std::alloc::{AllocError, Global};
-use std::test::Fail;
 use termwiz_cell::cell::{Cell, CellAttributes, SemanticType};
 use termwiz_line::line::line::{DoubleClickRange, Line, ZoneRange};
 
@@ -28,24 +27,22 @@ fn zone(semantic_type: SemanticType, from: usize, to: usize) -> ZoneRange {
 }
 
 #[test]
-fn a_zone_ends_where_the_semantic_type_changes(rt: HostRuntime) -> Result<(), Fail> {
-    let mut line = prompt(rt.alloc())?;
-    let zones = line.semantic_zone_ranges()?;
+fn a_zone_ends_where_the_semantic_type_changes(rt: HostRuntime) {
+    let mut line = prompt(rt.alloc()).expect(&rt, "memory");
+    let zones = line.semantic_zone_ranges().expect(&rt, "memory");
     assert_eq!(rt; zones.len(), 2);
     assert!(rt; zones[0] == zone(SemanticType::Prompt, 0, 1));
     assert!(rt; zones[1] == zone(SemanticType::Input, 2, 2));
-    Ok(())
 }
 
 #[test]
-fn blanks_alone_are_in_a_zone_and_no_cells_in_none(rt: HostRuntime) -> Result<(), Fail> {
-    let mut blanks = Line::with_width(rt.alloc(), 3, 0)?;
-    let zones = blanks.semantic_zone_ranges()?;
+fn blanks_alone_are_in_a_zone_and_no_cells_in_none(rt: HostRuntime) {
+    let mut blanks = Line::with_width(rt.alloc(), 3, 0).expect(&rt, "memory");
+    let zones = blanks.semantic_zone_ranges().expect(&rt, "memory");
     assert_eq!(rt; zones.len(), 1);
     assert!(rt; zones[0] == zone(SemanticType::Output, 0, 2));
-    let mut empty = Line::with_width(rt.alloc(), 0, 0)?;
-    assert_eq!(rt; empty.semantic_zone_ranges()?.len(), 0);
-    Ok(())
+    let mut empty = Line::with_width(rt.alloc(), 0, 0).expect(&rt, "memory");
+    assert_eq!(rt; empty.semantic_zone_ranges().expect(&rt, "memory").len(), 0);
 }
 
 // The same, whose zones were asked for.
@@ -103,14 +100,13 @@ fn after_writing(alloc: Global) -> Result<bool, AllocError> {
 }
 
 #[test]
-fn setting_cells_drops_the_zones(rt: HostRuntime) -> Result<(), Fail> {
-    assert!(rt; after_setting(rt.alloc())?);
-    assert!(rt; after_setting_within(rt.alloc())?);
-    assert!(rt; after_a_run(rt.alloc())?);
-    assert!(rt; after_filling(rt.alloc())?);
-    assert!(rt; after_the_mark(rt.alloc())?);
-    assert!(rt; after_writing(rt.alloc())?);
-    Ok(())
+fn setting_cells_drops_the_zones(rt: HostRuntime) {
+    assert!(rt; after_setting(rt.alloc()).expect(&rt, "memory"));
+    assert!(rt; after_setting_within(rt.alloc()).expect(&rt, "memory"));
+    assert!(rt; after_a_run(rt.alloc()).expect(&rt, "memory"));
+    assert!(rt; after_filling(rt.alloc()).expect(&rt, "memory"));
+    assert!(rt; after_the_mark(rt.alloc()).expect(&rt, "memory"));
+    assert!(rt; after_writing(rt.alloc()).expect(&rt, "memory"));
 }
 
 fn after_inserting(alloc: Global) -> Result<bool, AllocError> {
@@ -144,13 +140,12 @@ fn after_splitting(alloc: Global) -> Result<bool, AllocError> {
 }
 
 #[test]
-fn moving_cells_drops_the_zones(rt: HostRuntime) -> Result<(), Fail> {
-    assert!(rt; after_inserting(rt.alloc())?);
-    assert!(rt; after_erasing(rt.alloc())?);
-    assert!(rt; after_removing(rt.alloc())?);
-    assert!(rt; after_appending(rt.alloc())?);
-    assert!(rt; after_splitting(rt.alloc())?);
-    Ok(())
+fn moving_cells_drops_the_zones(rt: HostRuntime) {
+    assert!(rt; after_inserting(rt.alloc()).expect(&rt, "memory"));
+    assert!(rt; after_erasing(rt.alloc()).expect(&rt, "memory"));
+    assert!(rt; after_removing(rt.alloc()).expect(&rt, "memory"));
+    assert!(rt; after_appending(rt.alloc()).expect(&rt, "memory"));
+    assert!(rt; after_splitting(rt.alloc()).expect(&rt, "memory"));
 }
 
 fn after_cutting(alloc: Global) -> Result<bool, AllocError> {
@@ -180,12 +175,11 @@ fn after_clearing(alloc: Global) -> Result<bool, AllocError> {
 }
 
 #[test]
-fn another_length_drops_the_zones(rt: HostRuntime) -> Result<(), Fail> {
-    assert!(rt; after_cutting(rt.alloc())?);
-    assert!(rt; after_pruning(rt.alloc())?);
-    assert!(rt; after_blanking_out(rt.alloc())?);
-    assert!(rt; after_clearing(rt.alloc())?);
-    Ok(())
+fn another_length_drops_the_zones(rt: HostRuntime) {
+    assert!(rt; after_cutting(rt.alloc()).expect(&rt, "memory"));
+    assert!(rt; after_pruning(rt.alloc()).expect(&rt, "memory"));
+    assert!(rt; after_blanking_out(rt.alloc()).expect(&rt, "memory"));
+    assert!(rt; after_clearing(rt.alloc()).expect(&rt, "memory"));
 }
 
 fn foo_bar(alloc: Global) -> Result<Line, AllocError> {
@@ -208,48 +202,48 @@ fn clicked(line: &Line, column: usize) -> DoubleClickRange {
 }
 
 #[test]
-fn a_double_click_selects_the_word(rt: HostRuntime) -> Result<(), Fail> {
-    let mut line = foo_bar(rt.alloc())?;
+fn a_double_click_selects_the_word(rt: HostRuntime) {
+    let mut line = foo_bar(rt.alloc()).expect(&rt, "memory");
     assert!(rt; clicked(&line, 1) == DoubleClickRange::Range(0..3));
     assert!(rt; clicked(&line, 3) == DoubleClickRange::Range(3..3));
     assert!(rt; clicked(&line, 5) == DoubleClickRange::Range(4..7));
     assert!(rt; clicked(&line, 7) == DoubleClickRange::Range(7..7));
-    line.set_last_cell_was_wrapped(true, 1)?;
+    line.set_last_cell_was_wrapped(true, 1)
+        .expect(&rt, "memory");
     assert!(rt; clicked(&line, 5) == DoubleClickRange::RangeWithWrap(4..7));
     assert!(rt; clicked(&line, 1) == DoubleClickRange::Range(0..3));
-    Ok(())
 }
 
 #[test]
-fn a_double_click_on_a_half_selects_up_to_it(rt: HostRuntime) -> Result<(), Fail> {
-    let line = line_of(rt.alloc(), &[("か", 2), (" ", 1), ("b", 1)])?;
+fn a_double_click_on_a_half_selects_up_to_it(rt: HostRuntime) {
+    let line = line_of(rt.alloc(), &[("か", 2), (" ", 1), ("b", 1)]).expect(&rt, "memory");
     assert!(rt; clicked(&line, 1) == DoubleClickRange::Range(0..1));
-    Ok(())
 }
 
 #[test]
-fn the_mark_is_set_on_a_wide_cell_and_its_half(rt: HostRuntime) -> Result<(), Fail> {
-    let mut line = line_of(rt.alloc(), &[("a", 1), ("か", 2)])?;
-    line.set_last_cell_was_wrapped(true, 4)?;
-    let cells = line.stored_cells().ok_or("no cells")?;
+fn the_mark_is_set_on_a_wide_cell_and_its_half(rt: HostRuntime) {
+    let mut line = line_of(rt.alloc(), &[("a", 1), ("か", 2)]).expect(&rt, "memory");
+    line.set_last_cell_was_wrapped(true, 4)
+        .expect(&rt, "memory");
+    let cells = line.stored_cells().expect(&rt, "cells");
     assert_eq!(rt; cells.len(), 3);
     assert!(rt; !cells[0].attrs().wrapped());
     assert!(rt; cells[1].attrs().wrapped());
     assert!(rt; cells[2].attrs().wrapped());
     assert_eq!(rt; line.current_seqno(), 4);
-    Ok(())
 }
 
 #[test]
-fn an_empty_line_is_marked_on_a_blank(rt: HostRuntime) -> Result<(), Fail> {
-    let mut line = Line::with_width(rt.alloc(), 0, 0)?;
+fn an_empty_line_is_marked_on_a_blank(rt: HostRuntime) {
+    let mut line = Line::with_width(rt.alloc(), 0, 0).expect(&rt, "memory");
     assert!(rt; !line.last_cell_was_wrapped());
-    line.set_last_cell_was_wrapped(true, 1)?;
+    line.set_last_cell_was_wrapped(true, 1)
+        .expect(&rt, "memory");
     assert_eq!(rt; line.len(), 1);
     assert!(rt; line.last_cell_was_wrapped());
-    line.set_last_cell_was_wrapped(false, 1)?;
+    line.set_last_cell_was_wrapped(false, 1)
+        .expect(&rt, "memory");
     assert!(rt; !line.last_cell_was_wrapped());
-    Ok(())
 }
 
 // The texts of the lines, each with its length, and `>` where the text goes on.
@@ -271,28 +265,42 @@ fn wrapped(alloc: Global, line: Line, width: usize) -> Result<String, AllocError
 }
 
 #[test]
-fn a_line_is_wrapped_where_the_next_cell_has_no_room(rt: HostRuntime) -> Result<(), Fail> {
-    let line = line_of(rt.alloc(), &[("a", 1), ("か", 2), ("b", 1)])?;
-    assert_eq!(rt; wrapped(rt.alloc(), line, 2)?.as_str(), "a1>|か2>|b1|");
-    Ok(())
+fn a_line_is_wrapped_where_the_next_cell_has_no_room(rt: HostRuntime) {
+    let line = line_of(rt.alloc(), &[("a", 1), ("か", 2), ("b", 1)]).expect(&rt, "memory");
+    assert_eq!(rt;
+        wrapped(rt.alloc(), line, 2).expect(&rt, "memory").as_str(),
+        "a1>|か2>|b1|"
+    );
 }
 
 #[test]
-fn a_compressed_line_is_wrapped_alike(rt: HostRuntime) -> Result<(), Fail> {
-    let mut line = line_of(rt.alloc(), &[("a", 1), ("か", 2), ("b", 1)])?;
-    line.compress_for_scrollback()?;
+fn a_compressed_line_is_wrapped_alike(rt: HostRuntime) {
+    let mut line = line_of(rt.alloc(), &[("a", 1), ("か", 2), ("b", 1)]).expect(&rt, "memory");
+    line.compress_for_scrollback().expect(&rt, "memory");
     assert!(rt; line.stored_cells().is_none());
-    assert_eq!(rt; wrapped(rt.alloc(), line, 2)?.as_str(), "a1>|か2>|b1|");
-    Ok(())
+    assert_eq!(rt;
+        wrapped(rt.alloc(), line, 2).expect(&rt, "memory").as_str(),
+        "a1>|か2>|b1|"
+    );
 }
 
 #[test]
-fn each_line_takes_a_cell_and_spaces_at_the_end_are_dropped(rt: HostRuntime) -> Result<(), Fail> {
-    let spaces = line_of(rt.alloc(), &[(" ", 1), (" ", 1), (" ", 1)])?;
-    assert_eq!(rt; wrapped(rt.alloc(), spaces, 1)?.as_str(), "   3|");
-    let ab = line_of(rt.alloc(), &[("a", 1), ("b", 1)])?;
-    assert_eq!(rt; wrapped(rt.alloc(), ab, 0)?.as_str(), "a1>|b1|");
-    let wide = line_of(rt.alloc(), &[("a", 1), ("か", 2), (" ", 1)])?;
-    assert_eq!(rt; wrapped(rt.alloc(), wide, 1)?.as_str(), "a1>|か2|");
-    Ok(())
+fn each_line_takes_a_cell_and_spaces_at_the_end_are_dropped(rt: HostRuntime) {
+    let spaces = line_of(rt.alloc(), &[(" ", 1), (" ", 1), (" ", 1)]).expect(&rt, "memory");
+    assert_eq!(rt;
+        wrapped(rt.alloc(), spaces, 1)
+            .expect(&rt, "memory")
+            .as_str(),
+        "   3|"
+    );
+    let ab = line_of(rt.alloc(), &[("a", 1), ("b", 1)]).expect(&rt, "memory");
+    assert_eq!(rt;
+        wrapped(rt.alloc(), ab, 0).expect(&rt, "memory").as_str(),
+        "a1>|b1|"
+    );
+    let wide = line_of(rt.alloc(), &[("a", 1), ("か", 2), (" ", 1)]).expect(&rt, "memory");
+    assert_eq!(rt;
+        wrapped(rt.alloc(), wide, 1).expect(&rt, "memory").as_str(),
+        "a1>|か2|"
+    );
 }

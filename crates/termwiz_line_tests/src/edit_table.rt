@@ -1,6 +1,5 @@
 //! Each edit of a line beside the same edit of a list of letters.
 use std::alloc::{AllocError, Global};
-use std::test::Fail;
 use termwiz_cell::cell::{Cell, CellAttributes};
 use termwiz_cell::emoji::OneColumn;
 use termwiz_line::line::line::Line;
@@ -196,7 +195,7 @@ fn agrees(alloc: Global, start: &str, edit: Edit, x: usize) -> Result<bool, Allo
 }
 
 #[test]
-fn edits_do_to_cells_what_they_do_to_letters(rt: HostRuntime) -> Result<(), Fail> {
+fn edits_do_to_cells_what_they_do_to_letters(rt: HostRuntime) {
     let edits = [
         Edit::Set(b'x'),
         Edit::Set(b'W'),
@@ -213,10 +212,9 @@ fn edits_do_to_cells_what_they_do_to_letters(rt: HostRuntime) -> Result<(), Fail
     for start in ["", "a", "W_", "aW", "aW_b", "W_W_", "abcd"] {
         for x in [0, 1, 2, 3, 4, 6] {
             for edit in edits {
-                let same = agrees(rt.alloc(), start, edit, x)?;
+                let same = agrees(rt.alloc(), start, edit, x).expect(&rt, "memory");
                 assert!(rt; same, "{start}: {edit:?} at {x}");
             }
         }
     }
-    Ok(())
 }

@@ -1,6 +1,5 @@
 //! What lines show after some edits.
 use std::alloc::{AllocError, Global};
-use std::test::Fail;
 use termwiz_cell::cell::{Cell, CellAttributes};
 use termwiz_line::line::line::Line;
 
@@ -36,27 +35,33 @@ fn shown(alloc: Global, line: &Line) -> Result<String, AllocError> {
 }
 
 #[test]
-fn the_walk_passes_over_halves(rt: HostRuntime) -> Result<(), Fail> {
-    let line = line_of(rt.alloc(), &[("a", 1), ("か", 2), ("b", 1), ("🤷", 2)])?;
+fn the_walk_passes_over_halves(rt: HostRuntime) {
+    let line = line_of(rt.alloc(), &[("a", 1), ("か", 2), ("b", 1), ("🤷", 2)]).expect(&rt, "memory");
     assert_eq!(rt; line.len(), 6);
-    assert_eq!(rt; shown(rt.alloc(), &line)?.as_str(), "0a|1か|3b|4🤷|");
-    Ok(())
+    assert_eq!(rt;
+        shown(rt.alloc(), &line).expect(&rt, "memory").as_str(),
+        "0a|1か|3b|4🤷|"
+    );
 }
 
 #[test]
-fn a_cell_over_a_half_leaves_a_blank_with_the_attributes(rt: HostRuntime) -> Result<(), Fail> {
-    let mut line = Line::with_width(rt.alloc(), 4, 0)?;
-    line.set_cell(1, italic(rt.alloc(), "か", 2)?, 3)?;
-    line.set_cell(2, cell(rt.alloc(), "x", 1)?, 2)?;
-    assert_eq!(rt; shown(rt.alloc(), &line)?.as_str(), "0 |1 |2x|3 |");
+fn a_cell_over_a_half_leaves_a_blank_with_the_attributes(rt: HostRuntime) {
+    let mut line = Line::with_width(rt.alloc(), 4, 0).expect(&rt, "memory");
+    line.set_cell(1, italic(rt.alloc(), "か", 2).expect(&rt, "memory"), 3)
+        .expect(&rt, "memory");
+    line.set_cell(2, cell(rt.alloc(), "x", 1).expect(&rt, "memory"), 2)
+        .expect(&rt, "memory");
+    assert_eq!(rt;
+        shown(rt.alloc(), &line).expect(&rt, "memory").as_str(),
+        "0 |1 |2x|3 |"
+    );
     assert_eq!(rt; line.current_seqno(), 3);
     let left = line
         .stored_cells()
-        .ok_or("no cells")?
+        .expect(&rt, "cells")
         .get(1)
-        .ok_or("short")?;
+        .expect(&rt, "enough cells");
     assert!(rt; left.attrs().italic());
-    Ok(())
 }
 
 fn pruned(alloc: Global, cells: &[(&str, usize)]) -> Result<(usize, usize), AllocError> {
@@ -66,53 +71,64 @@ fn pruned(alloc: Global, cells: &[(&str, usize)]) -> Result<(usize, usize), Allo
 }
 
 #[test]
-fn pruning_cuts_trailing_blanks_unless_there_is_nothing_else(rt: HostRuntime) -> Result<(), Fail> {
+fn pruning_cuts_trailing_blanks_unless_there_is_nothing_else(rt: HostRuntime) {
     assert_eq!(rt;
-        pruned(rt.alloc(), &[("a", 1), (" ", 1), (" ", 1)])?,
+        pruned(rt.alloc(), &[("a", 1), (" ", 1), (" ", 1)]).expect(&rt, "memory"),
         (1, 1)
     );
     assert_eq!(rt;
-        pruned(rt.alloc(), &[(" ", 1), (" ", 1), (" ", 1)])?,
+        pruned(rt.alloc(), &[(" ", 1), (" ", 1), (" ", 1)]).expect(&rt, "memory"),
         (3, 0)
     );
-    assert_eq!(rt; pruned(rt.alloc(), &[("か", 2), (" ", 1)])?, (2, 1));
-    Ok(())
+    assert_eq!(rt;
+        pruned(rt.alloc(), &[("か", 2), (" ", 1)]).expect(&rt, "memory"),
+        (2, 1)
+    );
 }
 
 #[test]
-fn a_wide_cell_fills_with_its_halves(rt: HostRuntime) -> Result<(), Fail> {
-    let mut line = line_of(rt.alloc(), &[("a", 1), ("b", 1)])?;
-    line.fill_range(1..4, &cell(rt.alloc(), "か", 2)?, 5)?;
-    assert_eq!(rt; shown(rt.alloc(), &line)?.as_str(), "0a|1 |2 |3か|");
+fn a_wide_cell_fills_with_its_halves(rt: HostRuntime) {
+    let mut line = line_of(rt.alloc(), &[("a", 1), ("b", 1)]).expect(&rt, "memory");
+    line.fill_range(1..4, &cell(rt.alloc(), "か", 2).expect(&rt, "memory"), 5)
+        .expect(&rt, "memory");
+    assert_eq!(rt;
+        shown(rt.alloc(), &line).expect(&rt, "memory").as_str(),
+        "0a|1 |2 |3か|"
+    );
     assert_eq!(rt; line.len(), 5);
     assert_eq!(rt; line.current_seqno(), 5);
-    Ok(())
 }
 
 #[test]
-fn a_grown_line_begins_with_the_half_that_was_cut(rt: HostRuntime) -> Result<(), Fail> {
-    let mut line = Line::with_width(rt.alloc(), 1, 0)?;
-    line.set_cell(1, italic(rt.alloc(), "か", 2)?, 0)?;
-    line.resize(2, 0)?;
-    assert_eq!(rt; shown(rt.alloc(), &line)?.as_str(), "0 |1か|");
-    line.resize(4, 7)?;
-    assert_eq!(rt; shown(rt.alloc(), &line)?.as_str(), "0 |1か|3 |");
+fn a_grown_line_begins_with_the_half_that_was_cut(rt: HostRuntime) {
+    let mut line = Line::with_width(rt.alloc(), 1, 0).expect(&rt, "memory");
+    line.set_cell(1, italic(rt.alloc(), "か", 2).expect(&rt, "memory"), 0)
+        .expect(&rt, "memory");
+    line.resize(2, 0).expect(&rt, "memory");
+    assert_eq!(rt;
+        shown(rt.alloc(), &line).expect(&rt, "memory").as_str(),
+        "0 |1か|"
+    );
+    line.resize(4, 7).expect(&rt, "memory");
+    assert_eq!(rt;
+        shown(rt.alloc(), &line).expect(&rt, "memory").as_str(),
+        "0 |1か|3 |"
+    );
     let half = line
         .stored_cells()
-        .ok_or("no cells")?
+        .expect(&rt, "cells")
         .get(2)
-        .ok_or("short")?;
+        .expect(&rt, "enough cells");
     assert!(rt; half.attrs().italic());
     assert_eq!(rt; line.current_seqno(), 7);
-    Ok(())
 }
 
 #[test]
-fn a_copy_is_equal_until_it_is_changed(rt: HostRuntime) -> Result<(), Fail> {
-    let line = line_of(rt.alloc(), &[("か", 2)])?;
-    let mut copy = line.clone()?;
+fn a_copy_is_equal_until_it_is_changed(rt: HostRuntime) {
+    let line = line_of(rt.alloc(), &[("か", 2)]).expect(&rt, "memory");
+    let mut copy = line.clone().expect(&rt, "memory");
     assert!(rt; copy == line);
-    copy.set_cell(0, cell(rt.alloc(), "a", 1)?, 0)?;
+    copy.set_cell(0, cell(rt.alloc(), "a", 1).expect(&rt, "memory"), 0)
+        .expect(&rt, "memory");
     assert!(rt; copy != line);
-    Ok(())
 }

@@ -1,6 +1,5 @@
 //! Lines that store their cells as one text.
 use crate::lines::line_of;
-use std::test::Fail;
 use termwiz_cell::cell::{Cell, CellAttributes};
 use termwiz_line::line::line::Line;
 
@@ -13,50 +12,54 @@ fn shows_mark_apart(line: &Line) -> bool {
 }
 
 #[test]
-fn a_text_is_not_cut_anew(rt: HostRuntime) -> Result<(), Fail> {
+fn a_text_is_not_cut_anew(rt: HostRuntime) {
     let mut line = Line::new(rt.alloc(), 0);
-    line.set_cell_grapheme(0, "e", 1, CellAttributes::blank(), 0)?;
-    line.set_cell_grapheme(1, "\u{301}", 1, CellAttributes::blank(), 0)?;
+    line.set_cell_grapheme(0, "e", 1, CellAttributes::blank(), 0)
+        .expect(&rt, "memory");
+    line.set_cell_grapheme(1, "\u{301}", 1, CellAttributes::blank(), 0)
+        .expect(&rt, "memory");
     assert!(rt; shows_mark_apart(&line));
-    line.compress_for_scrollback()?;
+    line.compress_for_scrollback().expect(&rt, "memory");
     assert!(rt; shows_mark_apart(&line));
-    Ok(())
 }
 
 #[test]
-fn a_run_that_would_be_too_long_is_ended(rt: HostRuntime) -> Result<(), Fail> {
-    let cell = Cell::new_grapheme_with_width(rt.alloc(), "a", 1, CellAttributes::blank())?;
-    let mut line = Line::with_width_and_cell(rt.alloc(), 70000, cell, 0)?;
-    line.compress_for_scrollback()?;
+fn a_run_that_would_be_too_long_is_ended(rt: HostRuntime) {
+    let cell = Cell::new_grapheme_with_width(rt.alloc(), "a", 1, CellAttributes::blank()).expect(
+        &rt, "memory",
+    );
+    let mut line = Line::with_width_and_cell(rt.alloc(), 70000, cell, 0).expect(&rt, "memory");
+    line.compress_for_scrollback().expect(&rt, "memory");
     assert!(rt; line.stored_cells().is_none());
     assert_eq!(rt; line.len(), 70000);
     let last = line.get_cell(69999);
     assert!(rt; last.is_some_and(|cell| cell.str() == "a"));
-    Ok(())
 }
 
 #[test]
-fn an_odd_hidden_cell_is_kept(rt: HostRuntime) -> Result<(), Fail> {
+fn an_odd_hidden_cell_is_kept(rt: HostRuntime) {
     let alloc = rt.alloc();
-    let wide = Cell::new_grapheme_with_width(alloc, "か", 2, CellAttributes::blank())?;
-    let hidden = Cell::new_grapheme_with_width(alloc, "x", 1, CellAttributes::blank())?;
-    let mut line = Line::from_cells(vec![in alloc; wide, hidden]?, 0);
-    line.compress_for_scrollback()?;
-    let cells = line.cells_mut()?;
+    let wide = Cell::new_grapheme_with_width(alloc, "か", 2, CellAttributes::blank()).expect(
+        &rt, "memory",
+    );
+    let hidden = Cell::new_grapheme_with_width(alloc, "x", 1, CellAttributes::blank()).expect(
+        &rt, "memory",
+    );
+    let mut line = Line::from_cells(vec![in alloc; wide, hidden].expect(&rt, "memory"), 0);
+    line.compress_for_scrollback().expect(&rt, "memory");
+    let cells = line.cells_mut().expect(&rt, "memory");
     assert_eq!(rt; cells[0].str(), "か");
     assert_eq!(rt; cells[1].str(), "x");
-    Ok(())
 }
 
 #[test]
-fn lines_are_equal_in_any_form(rt: HostRuntime) -> Result<(), Fail> {
-    let vector = line_of(rt.alloc(), &[("a", 1), ("か", 2), ("b", 1)])?;
-    let mut text = vector.clone()?;
-    text.compress_for_scrollback()?;
+fn lines_are_equal_in_any_form(rt: HostRuntime) {
+    let vector = line_of(rt.alloc(), &[("a", 1), ("か", 2), ("b", 1)]).expect(&rt, "memory");
+    let mut text = vector.clone().expect(&rt, "memory");
+    text.compress_for_scrollback().expect(&rt, "memory");
     assert!(rt; text.stored_cells().is_none());
     assert!(rt; vector.stored_cells().is_some());
     assert!(rt; text == vector);
-    assert!(rt; text.clone()? == text);
-    assert_eq!(rt; text.as_str()?.as_str(), "aかb");
-    Ok(())
+    assert!(rt; text.clone().expect(&rt, "memory") == text);
+    assert_eq!(rt; text.as_str().expect(&rt, "memory").as_str(), "aかb");
 }

@@ -130,17 +130,16 @@ fn assert_forms(rt: &impl Abort, line: &Line, compressed: &Line) {
 }
 
 // The edits, on a vector and on a line that is compressed after each of them.
-fn assert_alike(rt: &impl Abort, alloc: Global, edits: &[Edit]) -> Result<(), AllocError> {
-    let mut line = Line::with_width(alloc, 0, 0)?;
+fn assert_alike(rt: &impl Abort, alloc: Global, edits: &[Edit]) {
+    let mut line = Line::with_width(alloc, 0, 0).expect(rt, "memory");
     let mut compressed = Line::new(alloc, 0);
     for edit in edits {
-        make_edit(alloc, &mut line, *edit)?;
-        make_edit(alloc, &mut compressed, *edit)?;
-        compressed.compress_for_scrollback()?;
+        make_edit(alloc, &mut line, *edit).expect(rt, "memory");
+        make_edit(alloc, &mut compressed, *edit).expect(rt, "memory");
+        compressed.compress_for_scrollback().expect(rt, "memory");
         assert_forms(rt, &line, &compressed);
-        assert_same_answers(rt, &mut line, &mut compressed)?;
+        assert_same_answers(rt, &mut line, &mut compressed);
     }
-    Ok(())
 }
 
 #[test]
@@ -153,7 +152,7 @@ fn appended_cells(rt: HostRuntime) {
         Edit::Flag(Flag::Wrapped(true)),
         Edit::Narrow(7, "z"),
     ];
-    assert_alike(&rt, rt.alloc(), &edits).expect(&rt, "memory");
+    assert_alike(&rt, rt.alloc(), &edits);
 }
 
 #[test]
@@ -166,7 +165,7 @@ fn cells_set_over_halves(rt: HostRuntime) {
         Edit::Erase(3),
         Edit::Remove(0),
     ];
-    assert_alike(&rt, rt.alloc(), &edits).expect(&rt, "memory");
+    assert_alike(&rt, rt.alloc(), &edits);
 }
 
 #[test]
@@ -180,7 +179,7 @@ fn wide_cells_cut_at_the_end(rt: HostRuntime) {
         Edit::Narrow(2, " "),
         Edit::Prune,
     ];
-    assert_alike(&rt, rt.alloc(), &edits).expect(&rt, "memory");
+    assert_alike(&rt, rt.alloc(), &edits);
 }
 
 #[test]
@@ -193,7 +192,7 @@ fn graphemes_that_would_join(rt: HostRuntime) {
         Edit::Remove(2),
         Edit::Erase(0),
     ];
-    assert_alike(&rt, rt.alloc(), &edits).expect(&rt, "memory");
+    assert_alike(&rt, rt.alloc(), &edits);
 }
 
 #[test]
@@ -207,7 +206,7 @@ fn texts_inserted_laid_over_and_appended(rt: HostRuntime) {
         Edit::Fill(5, 8),
         Edit::EraseWithin(1),
     ];
-    assert_alike(&rt, rt.alloc(), &edits).expect(&rt, "memory");
+    assert_alike(&rt, rt.alloc(), &edits);
 }
 
 #[test]
@@ -224,7 +223,7 @@ fn prompts_and_flags(rt: HostRuntime) {
         Edit::Clear(3),
         Edit::Prompt(4, "か"),
     ];
-    assert_alike(&rt, rt.alloc(), &edits).expect(&rt, "memory");
+    assert_alike(&rt, rt.alloc(), &edits);
 }
 
 #[test]
@@ -237,5 +236,5 @@ fn halves_that_are_odd(rt: HostRuntime) {
         Edit::Narrow(4, "a"),
         Edit::Resize(3),
     ];
-    assert_alike(&rt, rt.alloc(), &edits).expect(&rt, "memory");
+    assert_alike(&rt, rt.alloc(), &edits);
 }

@@ -1,6 +1,7 @@
 //! Shaper clusters of lines.
 use crate::lines::line_of;
-use std::alloc::{AllocError, Global};
+use std::alloc::Global;
+use std::process::Abort;
 use termwiz_cell::cell::{Cell, CellAttributes};
 use termwiz_cell::emoji::{Presentation, UnicodeWidths};
 use termwiz_line::cellcluster::CellCluster;
@@ -8,48 +9,47 @@ use termwiz_line::line::bidi::Direction;
 use termwiz_line::line::line::Line;
 
 // The texts of the clusters, each behind its column and its width, as `0:2か|2:1a|`.
-fn shown(alloc: Global, clusters: &[CellCluster]) -> Result<String, AllocError> {
+fn shown(rt: &impl Abort, alloc: Global, clusters: &[CellCluster]) -> String {
     let mut text = String::new(alloc);
     for cluster in clusters {
         let index = cluster.first_cell_idx;
         let width = cluster.width;
         let letters = cluster.text.as_str();
-        write!(text, "{index}:{width}{letters}|")?;
+        write!(text, "{index}:{width}{letters}|").expect(rt, "memory");
     }
-    Ok(text)
+    text
 }
 
-fn clusters_of(alloc: Global, line: &Line) -> Result<String, AllocError> {
-    shown(alloc, &line.cluster(&UnicodeWidths)?)
+fn clusters_of(rt: &impl Abort, alloc: Global, line: &Line) -> String {
+    let clusters = line.cluster(&UnicodeWidths).expect(rt, "memory");
+    shown(rt, alloc, &clusters)
 }
 
 // The column and the width of each byte's cell, as `0:2|0:2|0:2|2:1|`.
-fn cells_of_bytes(alloc: Global, cluster: &CellCluster) -> Result<String, AllocError> {
+fn cells_of_bytes(rt: &impl Abort, alloc: Global, cluster: &CellCluster) -> String {
     let mut text = String::new(alloc);
     let count = cluster.text.len();
     for byte in 0..count {
         let index = cluster.byte_to_cell_idx(byte);
         let width = cluster.byte_to_cell_width(byte);
-        write!(text, "{index}:{width}|")?;
+        write!(text, "{index}:{width}|").expect(rt, "memory");
     }
-    Ok(text)
+    text
 }
 
 // The cells of the bytes of the first cluster.
-fn first_bytes(alloc: Global, line: &Line) -> Result<String, AllocError> {
-    for cluster in line.cluster(&UnicodeWidths)? {
-        return cells_of_bytes(alloc, &cluster);
+fn first_bytes(rt: &impl Abort, alloc: Global, line: &Line) -> String {
+    for cluster in line.cluster(&UnicodeWidths).expect(rt, "memory") {
+        return cells_of_bytes(rt, alloc, &cluster);
     }
-    Ok(String::new(alloc))
+    String::new(alloc)
 }
 
 #[test]
 fn words_take_one_space_behind_them(rt: HostRuntime) {
     let line = Line::from_plain(rt.alloc(), "foo  bar", &UnicodeWidths).expect(&rt, "memory");
     assert_eq!(rt;
-        clusters_of(rt.alloc(), &line)
-            .expect(&rt, "memory")
-            .as_str(),
+        clusters_of(&rt, rt.alloc(), &line).as_str(),
         "0:4foo |4:1 |5:3bar|"
     );
 }
@@ -58,9 +58,7 @@ fn words_take_one_space_behind_them(rt: HostRuntime) {
 fn spaces_alone_are_a_cluster_and_no_cells_have_none(rt: HostRuntime) {
     let line = Line::from_plain(rt.alloc(), "   a", &UnicodeWidths).expect(&rt, "memory");
     assert_eq!(rt;
-        clusters_of(rt.alloc(), &line)
-            .expect(&rt, "memory")
-            .as_str(),
+        clusters_of(&rt, rt.alloc(), &line).as_str(),
         "0:3   |3:1a|"
     );
     let empty = Line::new(rt.alloc(), 0);
@@ -72,79 +70,55 @@ fn spaces_alone_are_a_cluster_and_no_cells_have_none(rt: HostRuntime) {
 
 #[test]
 fn each_byte_of_a_wide_cell_is_in_its_column(rt: HostRuntime) {
-    let line = line_of(rt.alloc(), &[("か", 2), ("a", 1)]).expect(&rt, "memory");
+    let line = line_of(&rt, rt.alloc(), &[("か", 2), ("a", 1)]);
+    assert_eq!(rt; clusters_of(&rt, rt.alloc(), &line).as_str(), "0:3かa|");
     assert_eq!(rt;
-        clusters_of(rt.alloc(), &line)
-            .expect(&rt, "memory")
-            .as_str(),
-        "0:3かa|"
-    );
-    assert_eq!(rt;
-        first_bytes(rt.alloc(), &line)
-            .expect(&rt, "memory")
-            .as_str(),
+        first_bytes(&rt, rt.alloc(), &line).as_str(),
         "0:2|0:2|0:2|2:1|"
     );
 }
 
 #[test]
 fn a_long_text_behind_plain_ones_is_in_its_column(rt: HostRuntime) {
-    let line = line_of(rt.alloc(), &[("a", 1), ("b", 1), ("é", 1), ("c", 1)]).expect(&rt, "memory");
+    let line = line_of(&rt, rt.alloc(), &[("a", 1), ("b", 1), ("é", 1), ("c", 1)]);
     assert_eq!(rt;
-        first_bytes(rt.alloc(), &line)
-            .expect(&rt, "memory")
-            .as_str(),
+        first_bytes(&rt, rt.alloc(), &line).as_str(),
         "0:1|1:1|2:1|2:1|3:1|"
     );
 }
 
 #[test]
 fn a_wide_cell_of_one_byte_takes_two_columns(rt: HostRuntime) {
-    let line = line_of(rt.alloc(), &[("a", 2), ("b", 1)]).expect(&rt, "memory");
-    assert_eq!(rt;
-        first_bytes(rt.alloc(), &line)
-            .expect(&rt, "memory")
-            .as_str(),
-        "0:2|2:1|"
-    );
+    let line = line_of(&rt, rt.alloc(), &[("a", 2), ("b", 1)]);
+    assert_eq!(rt; first_bytes(&rt, rt.alloc(), &line).as_str(), "0:2|2:1|");
 }
 
 // `a` and `b`, the second with these attributes.
-fn two(alloc: Global, attrs: CellAttributes) -> Result<Line, AllocError> {
-    let mut line = line_of(alloc, &[("a", 1)])?;
-    line.set_cell(1, Cell::new_grapheme_with_width(alloc, "b", 1, attrs)?, 0)?;
-    Ok(line)
+fn two(rt: &impl Abort, alloc: Global, attrs: CellAttributes) -> Line {
+    let mut line = line_of(rt, alloc, &[("a", 1)]);
+    let second = Cell::new_grapheme_with_width(alloc, "b", 1, attrs).expect(rt, "memory");
+    line.set_cell(1, second, 0).expect(rt, "memory");
+    line
 }
 
 #[test]
 fn a_cluster_ends_where_the_attributes_change(rt: HostRuntime) {
     let mut attrs = CellAttributes::blank();
     attrs.set_italic(true);
-    let line = two(rt.alloc(), attrs).expect(&rt, "memory");
-    assert_eq!(rt;
-        clusters_of(rt.alloc(), &line)
-            .expect(&rt, "memory")
-            .as_str(),
-        "0:1a|1:1b|"
-    );
+    let line = two(&rt, rt.alloc(), attrs);
+    assert_eq!(rt; clusters_of(&rt, rt.alloc(), &line).as_str(), "0:1a|1:1b|");
 }
 
 #[test]
 fn the_mark_ends_no_cluster_and_is_left_out(rt: HostRuntime) {
-    let mut line = line_of(rt.alloc(), &[("a", 1), ("b", 1)]).expect(&rt, "memory");
+    let mut line = line_of(&rt, rt.alloc(), &[("a", 1), ("b", 1)]);
     line.set_last_cell_was_wrapped(true, 0)
         .expect(&rt, "memory");
-    assert_eq!(rt;
-        clusters_of(rt.alloc(), &line)
-            .expect(&rt, "memory")
-            .as_str(),
-        "0:2ab|"
-    );
+    assert_eq!(rt; clusters_of(&rt, rt.alloc(), &line).as_str(), "0:2ab|");
     let mut marked = CellAttributes::blank();
     marked.set_wrapped(true);
-    let only = Line::with_width_and_cell(rt.alloc(), 1, Cell::blank_with_attrs(marked), 0).expect(
-        &rt, "memory",
-    );
+    let blank = Cell::blank_with_attrs(marked);
+    let only = Line::with_width_and_cell(rt.alloc(), 1, blank, 0).expect(&rt, "memory");
     for cluster in only.cluster(&UnicodeWidths).expect(&rt, "memory") {
         assert!(rt; cluster.attrs == CellAttributes::blank());
     }
@@ -152,11 +126,9 @@ fn the_mark_ends_no_cluster_and_is_left_out(rt: HostRuntime) {
 
 #[test]
 fn a_cluster_ends_where_the_presentation_changes(rt: HostRuntime) {
-    let line = line_of(rt.alloc(), &[("a", 1), ("☺\u{FE0F}", 2), ("b", 1)]).expect(&rt, "memory");
+    let line = line_of(&rt, rt.alloc(), &[("a", 1), ("☺\u{FE0F}", 2), ("b", 1)]);
     assert_eq!(rt;
-        clusters_of(rt.alloc(), &line)
-            .expect(&rt, "memory")
-            .as_str(),
+        clusters_of(&rt, rt.alloc(), &line).as_str(),
         "0:1a|1:2☺\u{FE0F}|3:1b|"
     );
 }
@@ -168,11 +140,11 @@ fn is_shown_as(cluster: &CellCluster, presentation: Presentation) -> bool {
 
 #[test]
 fn a_cluster_has_the_presentation_of_its_cells(rt: HostRuntime) {
-    let line = line_of(rt.alloc(), &[("☺\u{FE0F}", 2)]).expect(&rt, "memory");
+    let line = line_of(&rt, rt.alloc(), &[("☺\u{FE0F}", 2)]);
     for cluster in line.cluster(&UnicodeWidths).expect(&rt, "memory") {
         assert!(rt; is_shown_as(&cluster, Presentation::Emoji));
     }
-    let plain = line_of(rt.alloc(), &[("a", 1)]).expect(&rt, "memory");
+    let plain = line_of(&rt, rt.alloc(), &[("a", 1)]);
     for cluster in plain.cluster(&UnicodeWidths).expect(&rt, "memory") {
         assert!(rt; is_shown_as(&cluster, Presentation::Text));
     }
@@ -180,24 +152,16 @@ fn a_cluster_has_the_presentation_of_its_cells(rt: HostRuntime) {
 
 #[test]
 fn the_clusters_of_cells_and_a_copy_are_those_of_the_line(rt: HostRuntime) {
-    let line = line_of(rt.alloc(), &[("か", 2), ("a", 1), (" ", 1), ("b", 1)]).expect(&rt, "memory");
-    let clusters = CellCluster::make_cluster(
-        rt.alloc(),
-        &UnicodeWidths,
-        line.visible_cells(),
-    ).expect(&rt, "memory");
-    assert_eq!(rt;
-        shown(rt.alloc(), &clusters).expect(&rt, "memory").as_str(),
-        "0:4かa |4:1b|"
-    );
+    let line = line_of(&rt, rt.alloc(), &[("か", 2), ("a", 1), (" ", 1), ("b", 1)]);
+    let made = CellCluster::make_cluster(rt.alloc(), &UnicodeWidths, line.visible_cells());
+    let clusters = made.expect(&rt, "memory");
+    assert_eq!(rt; shown(&rt, rt.alloc(), &clusters).as_str(), "0:4かa |4:1b|");
     for cluster in clusters.iter() {
         let copy = cluster.clone().expect(&rt, "memory");
-        let bytes = cells_of_bytes(rt.alloc(), &copy).expect(&rt, "memory");
+        let bytes = cells_of_bytes(&rt, rt.alloc(), &copy);
         assert_eq!(rt;
             bytes.as_str(),
-            cells_of_bytes(rt.alloc(), cluster)
-                .expect(&rt, "memory")
-                .as_str()
+            cells_of_bytes(&rt, rt.alloc(), cluster).as_str()
         );
     }
 }

@@ -1,6 +1,6 @@
 //! Lines that store their cells as one text.
-use crate::lines::line_of;
-use termwiz_cell::cell::{Cell, CellAttributes};
+use crate::lines::{cell, line_of};
+use termwiz_cell::cell::CellAttributes;
 use termwiz_line::line::line::Line;
 
 // Whether the line shows `e` and a mark, each in a cell of its own.
@@ -25,10 +25,8 @@ fn a_text_is_not_cut_anew(rt: HostRuntime) {
 
 #[test]
 fn a_run_that_would_be_too_long_is_ended(rt: HostRuntime) {
-    let cell = Cell::new_grapheme_with_width(rt.alloc(), "a", 1, CellAttributes::blank()).expect(
-        &rt, "memory",
-    );
-    let mut line = Line::with_width_and_cell(rt.alloc(), 70000, cell, 0).expect(&rt, "memory");
+    let filling = cell(&rt, rt.alloc(), "a", 1);
+    let mut line = Line::with_width_and_cell(rt.alloc(), 70000, filling, 0).expect(&rt, "memory");
     line.compress_for_scrollback().expect(&rt, "memory");
     assert!(rt; line.stored_cells().is_none());
     assert_eq!(rt; line.len(), 70000);
@@ -39,12 +37,8 @@ fn a_run_that_would_be_too_long_is_ended(rt: HostRuntime) {
 #[test]
 fn an_odd_hidden_cell_is_kept(rt: HostRuntime) {
     let alloc = rt.alloc();
-    let wide = Cell::new_grapheme_with_width(alloc, "か", 2, CellAttributes::blank()).expect(
-        &rt, "memory",
-    );
-    let hidden = Cell::new_grapheme_with_width(alloc, "x", 1, CellAttributes::blank()).expect(
-        &rt, "memory",
-    );
+    let wide = cell(&rt, alloc, "か", 2);
+    let hidden = cell(&rt, alloc, "x", 1);
     let mut line = Line::from_cells(vec![in alloc; wide, hidden].expect(&rt, "memory"), 0);
     line.compress_for_scrollback().expect(&rt, "memory");
     let cells = line.cells_mut().expect(&rt, "memory");
@@ -54,7 +48,7 @@ fn an_odd_hidden_cell_is_kept(rt: HostRuntime) {
 
 #[test]
 fn lines_are_equal_in_any_form(rt: HostRuntime) {
-    let vector = line_of(rt.alloc(), &[("a", 1), ("か", 2), ("b", 1)]).expect(&rt, "memory");
+    let vector = line_of(&rt, rt.alloc(), &[("a", 1), ("か", 2), ("b", 1)]);
     let mut text = vector.clone().expect(&rt, "memory");
     text.compress_for_scrollback().expect(&rt, "memory");
     assert!(rt; text.stored_cells().is_none());

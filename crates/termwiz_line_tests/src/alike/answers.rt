@@ -1,5 +1,4 @@
 //! Whether two lines give the same answers.
-use std::alloc::AllocError;
 use std::process::Abort;
 use termwiz_cell::cell::CellAttributes;
 use termwiz_cell::emoji::UnicodeWidths;
@@ -43,12 +42,16 @@ fn assert_same_columns(rt: &impl Abort, one: &Line, other: &Line) {
     }
 }
 
-fn assert_same_texts(rt: &impl Abort, one: &Line, other: &Line) -> Result<(), AllocError> {
-    assert!(rt; one.as_str()?.as_str() == other.as_str()?.as_str());
-    assert!(rt; one.columns_as_str(1..3)?.as_str() == other.columns_as_str(1..3)?.as_str());
+fn assert_same_texts(rt: &impl Abort, one: &Line, other: &Line) {
+    assert!(rt;
+        one.as_str().expect(rt, "memory").as_str() == other.as_str().expect(rt, "memory").as_str()
+    );
+    assert!(rt;
+        one.columns_as_str(1..3).expect(rt, "memory").as_str()
+            == other.columns_as_str(1..3).expect(rt, "memory").as_str()
+    );
     assert_eq!(rt; one.is_whitespace(), other.is_whitespace());
     assert_eq!(rt; one.has_hyperlink(), other.has_hyperlink());
-    Ok(())
 }
 
 fn assert_same_flags(rt: &impl Abort, one: &Line, other: &Line) {
@@ -82,51 +85,66 @@ fn is_same_cluster(one: &CellCluster, other: &CellCluster) -> bool {
         && one.first_cell_idx == other.first_cell_idx
 }
 
-fn assert_same_clusters(rt: &impl Abort, one: &Line, other: &Line) -> Result<(), AllocError> {
-    let clusters = one.cluster(&UnicodeWidths)?;
-    let others = other.cluster(&UnicodeWidths)?;
+fn assert_same_clusters(rt: &impl Abort, one: &Line, other: &Line) {
+    let clusters = one.cluster(&UnicodeWidths).expect(rt, "memory");
+    let others = other.cluster(&UnicodeWidths).expect(rt, "memory");
     assert_eq!(rt; clusters.len(), others.len());
     for (cluster, met) in clusters.iter().zip(others.iter()) {
         assert!(rt; is_same_cluster(cluster, met));
     }
-    Ok(())
 }
 
-fn assert_same_changes(rt: &impl Abort, one: &Line, other: &Line) -> Result<(), AllocError> {
+fn assert_same_changes(rt: &impl Abort, one: &Line, other: &Line) {
     let pen = CellAttributes::blank();
-    assert!(rt; *one.changes(&pen)?.as_slice() == *other.changes(&pen)?.as_slice());
-    Ok(())
+    assert!(rt;
+        *one.changes(&pen).expect(rt, "memory").as_slice()
+            == *other.changes(&pen).expect(rt, "memory").as_slice()
+    );
 }
 
 // Copies of both are cut alike.
-fn assert_same_pieces(rt: &impl Abort, one: &Line, other: &Line) -> Result<(), AllocError> {
-    assert!(rt; one.columns_as_line(1..3)? == other.columns_as_line(1..3)?);
-    let mut head = one.clone()?;
-    let mut other_head = other.clone()?;
-    assert!(rt; head.split_off(2, 9)? == other_head.split_off(2, 9)?);
+fn assert_same_pieces(rt: &impl Abort, one: &Line, other: &Line) {
+    assert!(rt;
+        one.columns_as_line(1..3).expect(rt, "memory")
+            == other.columns_as_line(1..3).expect(rt, "memory")
+    );
+    let mut head = one.clone().expect(rt, "memory");
+    let mut other_head = other.clone().expect(rt, "memory");
+    assert!(rt;
+        head.split_off(2, 9).expect(rt, "memory") == other_head.split_off(2, 9).expect(rt, "memory")
+    );
     assert!(rt; head == other_head);
-    let rows = one.clone()?.wrap(2, 9)?;
-    assert!(rt; *rows.as_slice() == *other.clone()?.wrap(2, 9)?.as_slice());
-    Ok(())
+    let rows = one
+        .clone()
+        .expect(rt, "memory")
+        .wrap(2, 9)
+        .expect(rt, "memory");
+    assert!(rt;
+        *rows.as_slice()
+            == *other
+                .clone()
+                .expect(rt, "memory")
+                .wrap(2, 9)
+                .expect(rt, "memory")
+                .as_slice()
+    );
 }
 
-fn assert_same_zones(rt: &impl Abort, one: &mut Line, other: &mut Line) -> Result<(), AllocError> {
-    assert!(rt; *one.semantic_zone_ranges()? == *other.semantic_zone_ranges()?);
-    Ok(())
+fn assert_same_zones(rt: &impl Abort, one: &mut Line, other: &mut Line) {
+    assert!(rt;
+        *one.semantic_zone_ranges().expect(rt, "memory")
+            == *other.semantic_zone_ranges().expect(rt, "memory")
+    );
 }
 
 /// Each question is answered alike, but the one for the stored cells. Then both lines keep their zones.
-pub(super) fn assert_same_answers(
-    rt: &impl Abort,
-    one: &mut Line,
-    other: &mut Line,
-) -> Result<(), AllocError> {
+pub(super) fn assert_same_answers(rt: &impl Abort, one: &mut Line, other: &mut Line) {
     assert!(rt; *one == *other);
     assert_same_columns(rt, one, other);
-    assert_same_texts(rt, one, other)?;
+    assert_same_texts(rt, one, other);
     assert_same_flags(rt, one, other);
-    assert_same_clusters(rt, one, other)?;
-    assert_same_changes(rt, one, other)?;
-    assert_same_pieces(rt, one, other)?;
+    assert_same_clusters(rt, one, other);
+    assert_same_changes(rt, one, other);
+    assert_same_pieces(rt, one, other);
     assert_same_zones(rt, one, other)
 }

@@ -56,24 +56,19 @@ fn cells_are_shown_by_their_variation(rt: HostRuntime) {
     );
 }
 
-/// A cell of two columns, and its copy.
-fn copied(rt: &impl Abort, alloc: Global, text: &str) -> (Cell, Cell) {
+// The copy of a cell of two columns has its text and its width.
+fn assert_copied(rt: &impl Abort, alloc: Global, text: &str) {
     let cell = cell(rt, alloc, text, 2);
     let copy = cell.clone().expect(rt, "memory");
-    (cell, copy)
+    assert_eq!(rt; copy.str(), text);
+    assert_eq!(rt; copy.width(), 2);
+    assert_eq!(rt; copy, cell);
 }
 
 #[test]
 fn texts_of_seven_and_eight_bytes_are_copied_whole(rt: HostRuntime) {
-    let (seven, short) = copied(&rt, rt.alloc(), "abcdefg");
-    assert_eq!(rt; short.str(), "abcdefg");
-    assert_eq!(rt; short.width(), 2);
-    assert_eq!(rt; short, seven);
-    let (eight, long) = copied(&rt, rt.alloc(), "abcdefgh");
-    assert_eq!(rt; long.str(), "abcdefgh");
-    assert_eq!(rt; long.width(), 2);
-    assert_eq!(rt; long, eight);
-    assert_ne!(rt; seven, eight);
+    assert_copied(&rt, rt.alloc(), "abcdefg");
+    assert_copied(&rt, rt.alloc(), "abcdefgh");
 }
 
 fn is_same(rt: &impl Abort, alloc: Global, text: &str, other: &str) -> bool {

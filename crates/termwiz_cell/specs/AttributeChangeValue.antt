@@ -51,12 +51,12 @@ with_attribute a (Foreground value) = record a { foreground = value }
 with_attribute a (Background value) = record a { background = value }
 with_attribute a (Hyperlink value) = record a { hyperlink = value }
 
--- the change has a link, whose copy may find no memory
+-- the change sets a link, whose copy may find no memory
 abbrev pub is_link : AttributeChangeValue → Bool
 is_link (Hyperlink link) = is_some link
 is_link _ = false
 
--- the change may find no memory: at a link, which is copied, and at the first attribute that needs a box
+-- the change may find no memory: at a link, which is copied, and where attributes that needed no box come to need one
 abbrev pub takes_memory : Attributes → AttributeChangeValue → Bool
 takes_memory a change = is_link change || (not (needs_box a) && needs_box (with_attribute a change))
 

@@ -48,9 +48,11 @@ color_numbers (color.TrueColorWithDefaultFallback c) = 1 ∷ c.red ∷ c.green �
 color_numbers (color.PaletteIndex index) = 2 ∷ index ∷ []
 color_numbers color.Default = 3 ∷ []
 
+-- `==` of colours
 abbrev pub color_eq : ColorAttribute → ColorAttribute → Bool
 color_eq a b = bytes_eq (color_numbers a) (color_numbers b)
 
+-- `==` of links that may be absent
 abbrev pub option_link_eq : Option Link → Option Link → Bool
 option_link_eq None None = true
 option_link_eq None (Some b) = false
@@ -107,7 +109,7 @@ is_true_color (color.TrueColorWithDefaultFallback _) = true
 is_true_color (color.PaletteIndex _) = false
 is_true_color color.Default = false
 
--- the attributes that take memory: a true colour, an underline colour or a link
+-- the attributes take memory: they have a true colour, an underline colour that isn't the default, or a link
 abbrev pub needs_box : Attributes → Bool
 needs_box a = is_true_color a.foreground || (is_true_color a.background || (not (is_default a.underline_color) || is_some a.hyperlink))
 

@@ -85,7 +85,7 @@ abbrev pub palette_part : ColorAttribute → Option ℕ
 palette_part (color.PaletteIndex index) = Some index
 palette_part _ = None
 
--- a rare colour is a true one, and then the palette has none
+-- a rare colour is the default, or a true one beside which the palette has none
 abbrev pub is_apart : ColorAttribute → Option ℕ → Bool
 is_apart color.Default _ = true
 is_apart (color.TrueColorWithPaletteFallback _ _) index = is_none index
@@ -114,7 +114,7 @@ attributes_from style rare = record {
 abbrev pub attributes_of : Inside → Attributes
 attributes_of a = attributes_from (style_in a.form) (rare_in a.form)
 
--- attributes have one form
+-- the box is there only while it is needed, and a colour stands in one place: so attributes have one form
 pub record IsSound (a : Inside) : Type 0 where
   pub needed : IsNeeded a.form
   pub foreground : is_apart (rare_in a.form).foreground (style_in a.form).foreground ≡ true

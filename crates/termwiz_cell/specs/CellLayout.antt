@@ -5,7 +5,7 @@ use Rattle.termwiz_cell.specs.declared.cell.text.CellText.{CellText}
 use Rattle.termwiz_cell.specs.declared.cell.text.CellText.TheVariants.{Narrow, Wide, Long}
 use Rattle.termwiz_cell.specs.CellValue.{CellValue, clean}
 
--- the bytes of a text in either form
+-- the bytes of a text in any form
 abbrev pub text_in : CellText → List ℕ
 text_in (Narrow short) = short.bytes
 text_in (Wide short) = short.bytes

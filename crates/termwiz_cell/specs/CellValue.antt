@@ -23,11 +23,11 @@ blank_of a = record { text = space; wide = false; attrs = a }
 abbrev pub blank : CellValue
 blank = blank_of default_attributes
 
--- the narrow cell of one character of ASCII
+-- the cell of one column whose text is this one byte
 abbrev pub plain_cell : ℕ → Attributes → CellValue
 plain_cell byte a = record { text = byte ∷ []; wide = false; attrs = a }
 
--- what is stored after a wide cell
+-- what is stored after a wide cell: a blank with its attributes
 abbrev pub half : CellValue → CellValue
 half c = blank_of c.attrs
 
@@ -38,21 +38,21 @@ is_wide c = c.wide
 abbrev pub columns : CellValue → ℕ
 columns c = if c.wide then 2 else 1
 
--- whether a single byte is a control character
+-- whether a byte is a control character of ASCII
 abbrev pub is_control : ℕ → Bool
 is_control b = nat_lt b 32 || b == 127
 
--- the text of a cell: the empty text, CR LF and each single control character become a space
+-- the text of a cell: the empty text, CR LF and a single control character of ASCII become a space, and any other text stays
 abbrev pub clean : List ℕ → List ℕ
 clean [] = space
 clean (b ∷ []) = if is_control b then space else b ∷ []
 clean (b ∷ (c ∷ t)) = if bytes_eq (b ∷ (c ∷ t)) (13 ∷ 10 ∷ []) then space else b ∷ (c ∷ t)
 
--- the cell of a text that was given a width: a width of zero becomes one
+-- the cell of a text that was given a width: a width of zero becomes one, and one above two becomes two
 abbrev pub cell_of : List ℕ → ℕ → Attributes → CellValue
 cell_of text width attrs = record { text = clean text; wide = nat_lt 1 width; attrs = attrs }
 
--- the cell of a text whose width is measured
+-- the cell of a text whose width is measured once the text is clean
 abbrev pub measured : (List ℕ → ℕ) → List ℕ → Attributes → CellValue
 measured width text attrs = cell_of text (width (clean text)) attrs
 

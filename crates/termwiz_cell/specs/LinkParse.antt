@@ -6,17 +6,17 @@ use Rattle.termwiz_cell.specs.declared.hyperlink.LinkError.{LinkError}
 use Rattle.termwiz_cell.specs.declared.hyperlink.LinkError.TheVariants.{WrongParamCount, NotUtf8, BadParams, Memory}
 use denote.Ref.{Bor}
 
--- the bytes of the part at a place
+-- the bytes of the part at a place, none past the last one
 abbrev pub part : List (Bor (List ℕ)) → ℕ → List ℕ
 part [] i = []
 part (first ∷ others) zero = first.now
 part (first ∷ others) (suc i) = part others i
 
--- a text and a uri that are empty
+-- a params text and a uri are empty
 abbrev pub AreEmpty : List ℕ → List ℕ → Type 0
 AreEmpty params uri = (params ≡ []) × (uri ≡ [])
 
--- both are texts
+-- both are UTF-8
 abbrev pub AreTexts : List ℕ → List ℕ → Type 0
 AreTexts params uri = IsUtf8 params × IsUtf8 uri
 
@@ -29,7 +29,7 @@ pub record SpellsOnly (params uri : List ℕ) (link : Link) : Type 0 where
   pub spelled : SpellsLink params uri link
   pub only : (other : Link) → SpellsLink params uri other → other ≡ link
 
--- the three parts of a sequence are what a link prints, as text
+-- a sequence has three parts, of which the second and the third are what the link prints, and UTF-8
 pub record ArePrinted (osc : List (Bor (List ℕ))) (link : Link) : Type 0 where
   pub count : length osc ≡ 3
   pub params : part osc 1 ≡ params_text link.params

@@ -68,7 +68,7 @@ pub record IsPlainParam (param : List ℕ × List ℕ) : Type 0 where
   pub key_no_colon : ¬ Contains param.0 colon
   pub value_no_colon : ¬ Contains param.1 colon
 
--- a link that is read back from what it prints
+-- a link that is read back from what it prints: no rule made it, it has params or a uri, and its params are plain and in order
 pub record IsReadable (link : Link) : Type 0 where
   pub explicit : link.implicit ≡ false
   pub some : (link.params ≢ []) ⊎ (link.uri ≢ [])

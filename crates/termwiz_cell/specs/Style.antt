@@ -61,7 +61,7 @@ blink_at n = if n == 0 then blink.None else if n == 1 then blink.Slow else blink
 abbrev pub blink_eq : Blink → Blink → Bool
 blink_eq a b = blink_number a == blink_number b
 
--- there is a rhythm
+-- the text blinks
 abbrev pub is_blinking : Blink → Bool
 is_blinking blink.None = false
 is_blinking _ = true

@@ -5,7 +5,7 @@ use Rattle.termwiz_cell.specs.declared.cell.style.Underline.TheVariants as under
 use Rattle.termwiz_cell.specs.declared.cell.style.SemanticType.TheVariants.{Output}
 use Rattle.termwiz_cell.specs.declared.cell.style.Style.{Style}
 
--- a palette index, or none
+-- the digit of a palette index: 0 for none, and else the index plus 1
 abbrev pub palette_number : Option ℕ → ℕ
 palette_number None = 0
 palette_number (Some index) = index + 1
@@ -31,7 +31,7 @@ style_at w = record {
   background = palette_at (w / 2 ^ 26 % 512);
 }
 
--- each digit of the word spells a value
+-- each digit of the word spells a value, and the word has no others
 pub record IsStyleWord (w : ℕ) : Type 0 where
   pub intensity : w % 4 < 3
   pub underline : w / 2 ^ 2 % 8 < 6

@@ -21,7 +21,7 @@ unversioned width text = width text None
 abbrev pub columns_of : (List ℕ → ℕ) → List ℕ → ℕ
 columns_of width text = sum_by width (graphemes true text)
 
--- the place of a version among the four kinds
+-- the number of a version's kind, of four: 2 above version 9, and 1 more where characters of ambiguous width are wide
 abbrev pub version_index : UnicodeVersion → ℕ
 version_index v = (if nat_lt 9 v.version then 2 else 0) + (if v.ambiguous_are_wide then 1 else 0)
 

@@ -25,9 +25,13 @@ use text::{CellText, cleaned};
 
 /// One cell of a screen: a text, which takes one or two columns, and its attributes.
 ///
-/// The text is mostly one grapheme. The empty text, CR LF and each single control character
-/// become a space, so each cell can be shown, and a width of 0 becomes 1. A text of at most
-/// seven bytes takes no memory.
+/// The text is meant to be one grapheme, but each text is kept whole. The empty text, CR LF and a
+/// text of one control character of ASCII (U+0000 to U+001F, or U+007F) become a space. U+0080 to
+/// U+009F stay, and so do controls in longer texts. A width of 0 becomes 1. A text of at most seven
+/// bytes takes no memory.
+///
+/// Two cells are equal where text, width and attributes are. A clone can only fail where the text
+/// is longer than seven bytes, or the attributes take memory.
 #[derive(Drop)]
 pub struct Cell {
     text: CellText,
@@ -64,14 +68,14 @@ impl Cell {
         Cell::new_grapheme(alloc, widths, text, attrs, None)
     }
 
-    /// A space with default attributes. It takes no memory.
+    /// A space of one column with default attributes. It takes no memory.
     pub fn blank() -> Cell
         ensures { result ≡ blank }
     {
         Cell::blank_with_attrs(CellAttributes::blank())
     }
 
-    /// A space with these attributes. It takes no memory.
+    /// A space of one column with these attributes. It takes no memory.
     pub fn blank_with_attrs(attrs: CellAttributes) -> Cell
         ensures { result ≡ blank_of attrs }
     {
@@ -81,7 +85,8 @@ impl Cell {
         }
     }
 
-    /// The narrow cell of one printable character of ASCII. It takes no memory.
+    /// The cell of one column of a character of printable ASCII, U+0020 to U+007E. It takes no
+    /// memory.
     #[inline]
     pub fn plain(byte: u8, attrs: CellAttributes) -> Cell
         requires { is_plain byte ≡ true }
@@ -93,8 +98,8 @@ impl Cell {
         }
     }
 
-    /// The cell of a text, as wide as the width value says by that version of Unicode. It can
-    /// only fail where the cell's text is longer than seven bytes.
+    /// The cell of a text, as wide as the width value says of the cell's text by that version of
+    /// Unicode. It can only fail where that text is longer than seven bytes.
     #[tactic(auto, using(crate::proofs::Cleaned::clean_clean))]
     pub fn new_grapheme<W: Widths>(
         alloc: Global,
@@ -111,8 +116,8 @@ impl Cell {
         Cell::with_clean_text(alloc, text, width > 1, attrs)
     }
 
-    /// The cell of a text that was given a width, of which 0 becomes 1. It can only fail where
-    /// the cell's text is longer than seven bytes.
+    /// The cell of a text that was given a width of at most 2 columns, of which 0 becomes 1. It
+    /// can only fail where the cell's text is longer than seven bytes.
     #[tactic(auto, using(crate::proofs::Cleaned::clean_clean))]
     pub fn new_grapheme_with_width(
         alloc: Global,
@@ -142,7 +147,7 @@ impl Cell {
         Ok(Cell { text, attrs })
     }
 
-    /// The text, which is no control character, CR LF or empty text.
+    /// The text, which is never empty, CR LF or one control character of ASCII.
     pub fn str(&self) -> &str
         ensures text { result.now ≡ self.now.text }
         ensures clean { clean result.now ≡ result.now }
@@ -181,7 +186,8 @@ impl Cell {
         self.text.is_blank() && self.attrs.is_blank()
     }
 
-    /// How the text is shown: by its variation, where it has one.
+    /// How the text is shown: in the form that a variation selector in it asks for, or else as
+    /// the width value says.
     pub fn presentation<W: Widths>(&self, widths: &W) -> Presentation
         ensures { let shown = W.presentation_of widths.now self.now.text in result ≡ unwrap_or shown.1 shown.0 }
     {

@@ -9,14 +9,19 @@ use crate::cell::{AttributeChange, CellAttributes};
 use crate::color::{ColorAttribute, is_same_color};
 use std::alloc::{AllocError, Global};
 
-/// A column or a row of a surface. Whatever it asks for, the cursor stays on the surface.
+/// A column or a row, counted from 0, to which a cursor is moved.
+///
+/// A surface keeps its cursor in one of its rows, and in a column that is at most its width. In the
+/// column that equals the width, behind the last one, the next grapheme wraps first.
 #[derive(Clone, Copy, PartialEq, Eq, Debug)]
 pub enum Position {
-    /// From the current place: below 0 to the left, or up.
+    /// From the current place: below 0 to the left, or up. The first and the last column or row
+    /// end the move.
     Relative(isize),
-    /// From the first column or row, which is 0.
+    /// From the first column or row, which is 0. A column past the width is the last one, and a
+    /// row past the last one is that one.
     Absolute(usize),
-    /// From the end: the width or height less this.
+    /// From the end: the width or height less this, at least 0. A row is at most the last one.
     EndRelative(usize),
 }
 
@@ -67,10 +72,12 @@ pub enum LineAttribute {
     SingleWidthLine,
 }
 
-/// The number of a change: each has the next one after the change before it. A surface takes one too for another size, and for a list that found no memory.
+/// The number of a change of a surface: each change has the next one after the change before it.
+/// Unless it is 0 still, a surface's number also grows by one for a resize, and for a list that
+/// found no memory. Lines are given such numbers too.
 pub type SequenceNo = usize;
 
-/// The number before any change.
+/// The number of a surface before any change, and of its first one.
 pub const SEQ_ZERO: SequenceNo = 0;
 
 /// One change of a surface: a text to print, a pen to set, a part to clear or scroll, a place for
@@ -86,8 +93,8 @@ pub const SEQ_ZERO: SequenceNo = 0;
 /// shown are kept beside the screen: setting one of them changes no cell.
 ///
 /// Two changes are equal where they say the same: texts are compared by their bytes, and links
-/// by what they name. A clone can only fail at a text, a title, a link, or attributes that need a
-/// box.
+/// as values, wherever they are stored. A clone can only fail at a text, a title, a link, or
+/// attributes that take memory.
 #[derive(Drop, Debug)]
 pub enum Change {
     /// Sets one attribute of the pen, and leaves the others.
@@ -96,7 +103,8 @@ pub enum Change {
     AllAttributes(CellAttributes),
     /// Prints a text at the cursor with the pen, and goes on in the next row where a row is full.
     /// CR goes to the first column, LF to the next row, and CR LF does both: for a new line use
-    /// both. Below the last row the rows scroll up by one. Other control characters are spaces.
+    /// both. Below the last row the rows scroll up by one. Other control characters of ASCII are
+    /// spaces.
     Text(String),
     /// Clears all rows with this background, which is then all that the pen has, and takes the
     /// cursor to the first column of the first row.
@@ -107,7 +115,7 @@ pub enum Change {
     /// Clears from the cursor to the end of its row, and all rows below, with this background,
     /// which is then all that the pen has. The cursor stays.
     ClearToEndOfScreen(ColorAttribute),
-    /// Moves the cursor. It stays on the surface, whatever is asked for.
+    /// Moves the cursor to column `x` and row `y`.
     CursorPosition {
         x: Position,
         y: Position,
@@ -211,7 +219,7 @@ impl Change {
         matches!(self, Change::Text(_))
     }
 
-    /// The text that this prints.
+    /// The text that this prints. It may only be asked of a change that prints one.
     pub fn text(&self) -> &str
         requires { IsTrue (is_text (change_value self.now)) }
         ensures { change_value self.now ≡ Text result.now }

@@ -19,8 +19,8 @@ pub enum Presentation {
 }
 
 impl Presentation {
-    /// How a grapheme is shown, and behind it the form that a variation selector in it asks
-    /// for, if one does.
+    /// How a grapheme is shown by default, and then the form that a variation selector in it
+    /// asks for, if one does.
     pub fn for_grapheme<W: Widths>(
         widths: &W,
         grapheme: &str,
@@ -30,7 +30,7 @@ impl Presentation {
         widths.presentation(grapheme)
     }
 
-    /// How a character is shown.
+    /// How a character is shown by default.
     pub fn for_char<W: Widths>(widths: &W, c: char) -> Presentation
         ensures { result ≡ W.char_presentation_of widths.now c }
     {
@@ -38,7 +38,8 @@ impl Presentation {
     }
 }
 
-/// A version of Unicode, and how it takes the characters of ambiguous width.
+/// A version of Unicode by which a width value may be asked, and how the characters of ambiguous
+/// width are taken. `UnicodeWidths` has one set of tables, whatever is asked for.
 #[derive(Clone, Copy, PartialEq, Eq, Debug)]
 pub struct UnicodeVersion {
     /// The major version.
@@ -47,14 +48,15 @@ pub struct UnicodeVersion {
     pub ambiguous_are_wide: bool,
 }
 
-/// The newest version that is told apart from earlier ones.
+/// Version 14, in which characters of ambiguous width take one column. `UnicodeWidths` answers for it
+/// as for any other version.
 pub const LATEST_UNICODE_VERSION: UnicodeVersion = UnicodeVersion {
     version: 14,
     ambiguous_are_wide: false,
 };
 
 impl UnicodeVersion {
-    /// A version, in which characters of ambiguous width take one column.
+    /// The version of this number, in which characters of ambiguous width take one column.
     pub fn new(version: u8) -> UnicodeVersion
         ensures { result ≡ record { version = version; ambiguous_are_wide = false } }
     {
@@ -64,8 +66,9 @@ impl UnicodeVersion {
         }
     }
 
-    /// The place of a width among those of the four kinds of version: 2 above version 9, and
-    /// 1 more where characters of ambiguous width are wide.
+    /// The number of this version's kind, of four: 0 up to version 9 and 2 above it, and 1 more
+    /// where characters of ambiguous width take two columns. A width value may have a table for
+    /// each kind; `UnicodeWidths` has one for all.
     pub fn idx(&self) -> usize
         ensures { result ≡ spec.version_index self.now }
     {
@@ -77,7 +80,8 @@ impl UnicodeVersion {
 
 /// The widths of texts, and how they are shown.
 ///
-/// A width is 0 to 2, a single space has 1, and the same arguments have always the same answer.
+/// A width is 0 to 2 columns, a single space has 1, and the same arguments have always the same
+/// answer.
 pub trait Widths: Copy {
     ghost use Rattle.std.specs.Prelude.{◌≡◌, ℕ, ◌≤◌, List, [], ◌∷◌, Option};
     ghost use Rattle.termwiz_cell.specs.declared.emoji.Presentation.{Presentation};
@@ -89,15 +93,17 @@ pub trait Widths: Copy {
 
     ghost char_presentation_of: { Self → ℕ → Presentation };
 
-    /// The columns of the text, by that version of Unicode.
+    /// The columns of the text, taken as one grapheme, by that version of Unicode, where one is
+    /// given.
     fn width(&self, text: &str, version: Option<UnicodeVersion>) -> usize
         ensures { result ≡ width_of self.now text.now version };
 
-    /// How the text is shown, and the form that a variation selector in it asks for.
+    /// How the text is shown by default, and then the form that a variation selector in it asks
+    /// for, if one does.
     fn presentation(&self, text: &str) -> (Presentation, Option<Presentation>)
         ensures { result ≡ presentation_of self.now text.now };
 
-    /// How the character is shown.
+    /// How the character is shown by default.
     fn char_presentation(&self, c: char) -> Presentation
         ensures { result ≡ char_presentation_of self.now c };
 
@@ -106,7 +112,7 @@ pub trait Widths: Copy {
     ghost space_has_one: { (w : Self) (version : Option UnicodeVersion) → width_of w (32 ∷ []) version ≡ 1 };
 }
 
-/// Each text has one column.
+/// Each text has one column, the empty one too, and is shown as text.
 #[derive(Clone, Copy, PartialEq, Eq, Debug)]
 pub struct OneColumn;
 
@@ -138,8 +144,9 @@ impl Widths for OneColumn {
     }
 }
 
-/// The widths of the Unicode tables, at most 2, whatever the version. Texts are shown as text,
-/// unless a variation selector asks for more.
+/// The widths of the Unicode tables, cut at 2 columns, whatever the version. Characters of ambiguous
+/// width take one column. Texts are shown as text, unless the first variation selector in them asks
+/// for the emoji form.
 #[derive(Clone, Copy, PartialEq, Eq, Debug)]
 pub struct UnicodeWidths;
 
@@ -157,8 +164,7 @@ impl Widths for UnicodeWidths {
 
     ghost space_has_one = { λ _ _. unicode_columns-space };
 
-    // Most texts are one printable character of ASCII, one of kana or one common ideograph: for
-    // these no table is read.
+    // For one character of printable ASCII, of kana, or of the common ideographs no table is read.
     #[tactic(auto, using(crate::proofs::PlainWidths::one_plain_width, crate::proofs::PlainWidths::one_letter_width))]
     fn width(&self, text: &str, _version: Option<UnicodeVersion>) -> usize {
         if is_one_plain(text) {
@@ -187,7 +193,8 @@ fn table_width(text: &str) -> usize
     text.width().min(2)
 }
 
-/// The columns of a grapheme.
+/// The columns of a grapheme, 0 to 2, as the width value says by that version of Unicode. A text of
+/// several graphemes is taken as one.
 pub fn grapheme_column_width<W: Widths>(
     widths: &W,
     grapheme: &str,
@@ -198,7 +205,7 @@ pub fn grapheme_column_width<W: Widths>(
     widths.width(grapheme, version)
 }
 
-/// The columns of a text: those of its graphemes together.
+/// The columns of a text: those of its graphemes, added up.
 pub fn unicode_column_width<W: Widths>(
     widths: &W,
     text: &str,
@@ -213,14 +220,14 @@ pub fn unicode_column_width<W: Widths>(
     columns
 }
 
-/// Whether the character is white space.
+/// Whether the character is white space by Unicode.
 pub fn is_white_space_char(c: char) -> bool
     ensures { result ≡ is_whitespace c }
 {
     c.is_whitespace()
 }
 
-/// Whether all characters of the text are white space. The empty text has no other.
+/// Whether all characters of the text are white space, as they are in the empty text.
 pub fn is_white_space_grapheme(text: &str) -> bool
     ensures { result ≡ list_all is_whitespace (chars text.now) }
 {

@@ -14,7 +14,8 @@ use std::fmt;
 use std::marker::Model;
 use thiserror::Error;
 
-/// A link: its target, its parameters in the order of their keys, and whether a rule made it.
+/// A link: its target, its parameters in the order of their keys, and whether a rule made it of the
+/// text on a screen. Two links are equal where all three are.
 #[derive(Drop, Debug)]
 pub struct Hyperlink {
     params: BTreeMap<String, String>,
@@ -67,7 +68,7 @@ impl Hyperlink {
         Hyperlink::new_with_params(uri, BTreeMap::new(alloc))
     }
 
-    /// A link with no params that a rule made of the text on the screen.
+    /// A link with no params that a rule made of the text on a screen.
     pub fn new_implicit(alloc: Global, uri: String) -> Hyperlink
         ensures { result ≡ record { uri = string_bytes uri; params = []; implicit = true } }
     {
@@ -108,7 +109,7 @@ impl Hyperlink {
         self.uri.as_str()
     }
 
-    /// The link's parameters.
+    /// The link's parameters, in the order of their keys.
     pub fn params(&self) -> &BTreeMap<String, String>
         ensures params { map param_bytes result.now.entries ≡ self.now.params }
         ensures ordered { AreInOrder self.now.params }
@@ -118,18 +119,21 @@ impl Hyperlink {
         &self.params
     }
 
-    /// Whether a rule made the link of the text on the screen.
+    /// Whether a rule made the link of the text on a screen.
     pub fn is_implicit(&self) -> bool
         ensures { result ≡ self.now.implicit }
     {
         self.implicit
     }
 
-    /// Reads the parts of a link's escape sequence: one that is not looked at, the params and the
-    /// uri. Where both are empty there is no link. The faults are found in the order of
-    /// `LinkError`, and all but `Memory` before anything is stored.
+    /// Reads the three parts of a hyperlink sequence, OSC 8: one that is not looked at, the params
+    /// and the uri. Params are `key=value` with `:` between them, each cut at its first `=`; where
+    /// a key comes again, its last value stands.
+    ///
+    /// Where the params and the uri are both empty there is no link, and no error. The faults are
+    /// found in the order of `LinkError`.
     pub fn parse(alloc: Global, osc: &[&[u8]]) -> Result<Option<Hyperlink>, LinkError>
-        // Each fault, and no link, comes exactly where it should.
+        // Each fault but `Memory`, and no link, comes exactly in its case.
         ensures count { (result ≡ Err LinkError.WrongParamCount) ↔ (length osc.now ≢ 3) }
         ensures utf8 { (result ≡ Err LinkError.NotUtf8)
             ↔ ((length osc.now ≡ 3) × ¬ (AreTexts (part osc.now 1) (part osc.now 2))) }
@@ -142,7 +146,7 @@ impl Hyperlink {
         ensures link { IfOk result (λ found.
             IfSome found (SpellsOnly (part osc.now 1) (part osc.now 2))) }
 
-        // What a link prints is read back.
+        // What a link prints is read back, if there is memory.
         ensures back { (link : Link) → IsReadable link → ArePrinted osc.now link
             → MatchResult result (λ found. found ≡ Some link) (λ e. e ≡ LinkError.Memory) }
     {
@@ -161,6 +165,7 @@ impl Hyperlink {
     }
 }
 
+/// `8;`, the params as `key=value` with `:` between them, in the order of their keys, `;` and the uri.
 impl fmt::Display for Hyperlink {
     ghost output = { λ link. Some (link_text link) };
 

@@ -27,11 +27,12 @@ pub record IsLongestEnd {A : Type 0} (P : A → Type 0) (xs run : List A) : Type
   pub all : All P run
   pub longest : (others more : List A) → rest ≡ others ++ more → more ≢ [] → All P (more ++ run) → ⊥
 
--- past the last cell of a run, or c where there is none
+-- one past the column at which a run's last cell begins, or c where there is none
 abbrev pub end_after : ℕ → List (ℕ × CellValue) → ℕ
 end_after c [] = c
 end_after c (x ∷ xs) = last_index (x ∷ xs) + 1
 
+-- the column of a run's first cell, or c where there is none
 abbrev pub start_of : ℕ → List (ℕ × CellValue) → ℕ
 start_of c [] = c
 start_of c (x ∷ xs) = x.0

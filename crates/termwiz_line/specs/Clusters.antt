@@ -16,7 +16,7 @@ use Rattle.termwiz_line.specs.Zones.{first_index}
 abbrev pub unmarked_attributes : Attributes → Attributes
 unmarked_attributes a = record a { wrapped = false }
 
--- the variation, where there is one
+-- the variation, where there is one, and else the presentation without it
 abbrev pub shown_as : Presentation × Option Presentation → Presentation
 shown_as p = unwrap_or p.1 p.0
 

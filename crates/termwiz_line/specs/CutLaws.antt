@@ -1,4 +1,4 @@
--- What a line is cut into depends on its cells alone, whichever form stores them.
+-- What a line is cut into doesn't depend on the form that stores its cells.
 use Rattle.std.specs.Prelude.{◌≡◌, ℕ, ◌+◌, ◌<◌, List, ◌∷◌, ◌++◌, Option, get_or, length, map}
 use Rattle.termwiz_cell.specs.CellValue.{CellValue, columns}
 use Rattle.termwiz_cell.specs.declared.emoji.Presentation.{Presentation}

@@ -7,7 +7,7 @@ use Rattle.termwiz_cell.specs.CellValue.{CellValue, space}
 use Rattle.termwiz_cell.specs.ChangeValue as change
 use Rattle.termwiz_cell.specs.ChangeValue.{ChangeValue}
 
--- a text joins the text before it where no grapheme runs over the seam: cut together, they are cut as before
+-- a text joins the text before it where no grapheme runs over the seam: cut together, they are the graphemes from before, and then the text as one grapheme
 abbrev pub joins : List ℕ → List ℕ → Bool
 joins before text = pointwise bytes_eq (graphemes true (before ++ text)) (graphemes true before ++ text ∷ [])
 

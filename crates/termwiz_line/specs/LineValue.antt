@@ -24,7 +24,7 @@ pub record IsEdited (old : LineValue) (cells : List CellValue) (seqno : ℕ) (ne
   pub flags : new.flags ≡ old.flags
   pub vector : old.is_vector ≡ true → new.is_vector ≡ true
 
--- trailing default blanks are cut; the line takes the number where that changes it
+-- trailing default blanks are cut, unless that leaves nothing; the line takes the number where that changes it; its flags stay, and a vector stays one
 pub record Prunes (old : LineValue) (seqno : ℕ) (new : LineValue) : Type 0 where
   pub cells : IsPruned old.cells new.cells
   pub shorter : length new.cells < length old.cells → new.seqno ≡ max old.seqno seqno

@@ -48,7 +48,7 @@ WalkGrows = (cs : List CellValue) → (length (visible cs) ≤ length cs) × Are
 abbrev pub ResizedIsRow : Type 0
 ResizedIsRow = (w : ℕ) (cs : List CellValue) → IsRow (length cs) cs → resized w cs ≡ row_of w cs
 
--- setting a cell paints it in the row
+-- setting a cell below the width paints it in the row, where the stored halves are halves
 abbrev pub SetCellPaints : Type 0
 SetCellPaints = (w c : ℕ) (x : CellValue) (cs : List CellValue) → HasHalves w cs → c < w → row_of w (set_cell c x cs) ≡ paint (row_of w cs) c x
 

@@ -29,7 +29,7 @@ pub struct CellCluster {
     pub text: String,
     /// The columns that the cells take.
     pub width: usize,
-    /// How each cell is shown.
+    /// How each cell is shown, as text or as emoji.
     pub presentation: Presentation,
     /// The direction in which the text is laid out: always from left to right.
     pub direction: Direction,

@@ -17,10 +17,12 @@ use termwiz_cell::color::ColorAttribute;
 use termwiz_storage::line::cellref::VisibleCellIter;
 pub use writer::RowWriter;
 
-/// Entries, and the pen after them.
+/// The changes that print rows, and the pen after them.
 #[derive(Drop)]
 pub struct Penned<'a> {
+    /// The changes, in order.
     pub entries: Vec<Change>,
+    /// The attributes that the changes leave for coming text.
     pub pen: &'a CellAttributes,
 }
 

@@ -4,7 +4,7 @@ ghost use Rattle.termwiz_line.specs.EditLaws.{AllColumnsShow, StoredAgainShows};
 ghost use Rattle.termwiz_line.specs.StorageLaws.{EqualInAnyForm, WholeIsVisible};
 ghost use Rattle.termwiz_line.specs.RowLaws.{PaintPaints, ClearClears, ClearPast, VisibleFixesRow, CellsHaveRow, VisibleFixesRowOf, WalkGrows, ResizedIsRow, SetCellPaints, PruningKeepsRow};
 
-/// Painting and clearing a row do to what it shows what the words say, and what it shows fixes it.
+/// What painting and clearing change of what a row shows: which cell stands at which column, and which columns it covers. What a row shows fixes it.
 pub fn row_laws()
     ensures paint { PaintPaints }
     ensures clear { ClearClears }
@@ -12,7 +12,7 @@ pub fn row_laws()
     ensures fixed { VisibleFixesRow }
 {}
 
-/// Stored cells have a row, which shows what the walk of the cells meets, at growing columns and no more cells than there are; resizing gives it.
+/// Stored cells have a row, which shows what the walk of the cells meets, at growing columns and no more cells than there are; cells in settled form that are resized are their row.
 /// Setting a cell paints it in the row, where the stored halves are halves, and pruning changes no row.
 pub fn stored_row_laws()
     ensures row { CellsHaveRow }

@@ -21,7 +21,7 @@ attrs_of rs = flat_map (λ r. replicate r.cells r.attrs) rs
 abbrev pub same_run : AttrsRun → AttrsRun → Type 0
 same_run a b = (b.attrs ≡ a.attrs) × (b.cells ≡ a.cells)
 
--- the attributes of n cells of a run
+-- the attributes of n cells of a run, where there is one
 abbrev pub same_attrs : ℕ → Option (Bor Attributes) → List Attributes
 same_attrs n None = []
 same_attrs n (Some a) = replicate n a.now

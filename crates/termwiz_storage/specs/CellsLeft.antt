@@ -15,7 +15,7 @@ pub record IsOfCell (r : CellRef) : Type 0 where
   pub width : ref_width r ≡ columns (ref_cell r)
   pub clean : clean (ref_cell r).text ≡ (ref_cell r).text
 
--- the first cell that is left comes; None at the end
+-- the first cell that is left comes, and what it tells is true of a cell; None where none is left
 abbrev pub YieldsCell : {S : Type 0} → (S → List (ℕ × CellValue)) → S → Option CellRef → S → Type 0
 YieldsCell rest s None t = (rest s ≡ []) × (rest t ≡ [])
 YieldsCell rest s (Some r) t = (rest s ≡ indexed_cell r ∷ rest t) × IsOfCell r

@@ -7,7 +7,7 @@ use Rattle.termwiz_storage.specs.declared.line.clusterline.runs.Shape.{Shape}
 use Rattle.termwiz_storage.specs.Edits.{with_half}
 use Rattle.termwiz_storage.specs.Stored.{hides, stored}
 
--- each hidden cell is a blank with the attributes of the cell that hides it, and no visible cell lacks its half
+-- each hidden cell is a blank with the attributes of the cell that hides it, and no visible wide cell lacks its half
 pub record IsWhole (cs : List CellValue) : Type 0 where
   pub halves : (k : ℕ) → suc k < length cs → hides cs (suc k) ≡ true → stored cs (suc k) ≡ half (stored cs k)
   pub complete : hides cs (length cs) ≡ false
@@ -20,11 +20,11 @@ char_len b = if nat_lt b 128 then 1 else if nat_lt b 224 then 2 else if nat_lt b
 abbrev pub cell_len : Shape → List ℕ → ℕ
 cell_len s t = if s.one_char then char_len (get_or t 0 0) else s.bytes
 
--- the cell with which a text begins
+-- the cell of this shape and these attributes with which a text begins
 abbrev pub first_cell : List ℕ → Shape → Attributes → CellValue
 first_cell t s a = record { text = take (cell_len s t) t; wide = s.wide; attrs = a }
 
--- the cells of a text of these shapes, each wide one with its half
+-- the cells of a text, of these shapes and attributes, each wide one with its half
 abbrev pub cells_from : List ℕ → List Shape → List Attributes → List CellValue
 cells_from t [] ps = []
 cells_from t (s ∷ ss) [] = []
@@ -46,7 +46,7 @@ abbrev pub AreCuts : List ℕ → List Shape → Type 0
 AreCuts t [] = t ≡ []
 AreCuts t (s ∷ ss) = IsCellText t (cell_len s t) × AreCuts (drop (cell_len s t) t) ss
 
--- a text, with the shapes and the attributes of cells that take n columns
+-- a text, with the shapes and the attributes of cells that take n columns, fewer than 2^64
 pub record IsSound (t : List ℕ) (ss : List Shape) (ps : List Attributes) (n : ℕ) : Type 0 where
   pub cuts : AreCuts t ss
   pub aligned : length ss ≡ length ps

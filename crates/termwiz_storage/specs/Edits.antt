@@ -17,7 +17,7 @@ erased x cs = if nat_lt x (length cs) then remove (torn x cs) x ++ blank ∷ [] 
 abbrev pub inserted_at_margin : ℕ → CellValue → List CellValue → List CellValue
 inserted_at_margin m c cs = if nat_le m (length cs + 1) then insert cs (m - 1) c else cs
 
--- the cell at column x is removed, and a blank with attributes a comes to the last column before margin m
+-- the cell at column x is removed, where there is one, and a blank with attributes a comes to the last column before margin m, where the list reaches up to it
 abbrev pub erased_within : ℕ → ℕ → Attributes → List CellValue → List CellValue
 erased_within x m a cs = inserted_at_margin m (blank_of a) (removed x cs)
 
@@ -29,7 +29,7 @@ removed_at_margin m cs = if nat_le m (length cs) then remove cs (m - 1) else cs
 abbrev pub with_half : CellValue → List CellValue
 with_half c = if is_wide c then c ∷ half c ∷ [] else c ∷ []
 
--- c and its half are inserted at column x, up to which the list is padded; the last cell before margin m makes room
+-- c, and the half of a wide c, are inserted at column x, up to which the list is padded once the cell in the last column before margin m is removed
 abbrev pub inserted : ℕ → CellValue → ℕ → List CellValue → List CellValue
 inserted x c m cs = insert_slice (padded x (removed_at_margin m cs)) x (with_half c)
 

@@ -3,7 +3,7 @@ use Rattle.std.specs.Prelude.{◌≡◌, ℕ, suc, ◌+◌, ◌-◌, ◌<◌, �
 use Rattle.termwiz_cell.specs.CellValue.{CellValue, half, is_wide, columns}
 use Rattle.termwiz_storage.specs.Stored.{stored}
 
--- c was set in each column from a to b - 1, of which there are some; the list is as long as that takes
+-- for a < b: c was set in each column from a to b - 1, in order, and the list is as long as that takes
 pub record IsFilledAs (a b : ℕ) (c : CellValue) (old new : List CellValue) : Type 0 where
   pub len : length new ≡ max (length old) (b - 1 + columns c)
   -- a wide cell before them becomes a blank with its attributes

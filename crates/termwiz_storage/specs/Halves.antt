@@ -1,4 +1,4 @@
--- The halves of wide cells: beside a cell that is set, and where a list grows.
+-- The half that a list of cells may lack at its end, and the list in another length.
 use Rattle.std.specs.Prelude.{ℕ, ◌-◌, nat_le, List, [], ◌∷◌, ◌++◌, length, take, if◌then◌else◌}
 use Rattle.termwiz_cell.specs.CellValue.{CellValue, half}
 use Rattle.termwiz_storage.specs.Stored.{stored, padded, hides}

@@ -9,6 +9,7 @@ abbrev pub cells_of : CellStorage → List CellValue
 cells_of (V s) = s
 cells_of (Cluster s) = s
 
+-- each cell is stored in a place of its own
 abbrev pub is_vector : CellStorage → Bool
 is_vector (V s) = true
 is_vector (Cluster s) = false

@@ -3,7 +3,7 @@ use Rattle.std.specs.Prelude.{ℕ, Bool, List, [], ◌∷◌, ◌++◌, map, tak
 use Rattle.termwiz_cell.specs.CellValue.{CellValue}
 use Rattle.termwiz_storage.specs.Stored.{visible, padded}
 
--- the index of the last of visible cells
+-- the index of the last of visible cells, 0 of none
 abbrev pub last_index : List (ℕ × CellValue) → ℕ
 last_index [] = 0
 last_index (c ∷ []) = c.0

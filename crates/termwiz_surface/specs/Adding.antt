@@ -30,6 +30,6 @@ module _ {W : Type 0} where
   Adds measure old changes told (Err ScrollRegion) new = (regions_fit old.height changes ≡ false) × (new ≡ old)
   -- the numbers would pass the greatest: nothing has changed
   Adds measure old changes told (Err Numbers) new = (regions_fit old.height changes ≡ true) × (2 ^ 64 ≤ next_number old.log + length changes) × (new ≡ old)
-  -- some memory was refused: the surface is any one of that size in its form, with an empty log under a new number
+  -- some memory was refused: the surface is any one of that size in its form, with an empty log under a new number, or 0 where that was the number
   Adds measure old changes told (Err Memory) new =
       (regions_fit old.height changes ≡ true) × (next_number old.log + length changes < 2 ^ 64) × (0 < length changes) × SameFrame (with_log old (restarted old.log)) new × IsSound measure new

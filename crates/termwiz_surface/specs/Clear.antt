@@ -18,7 +18,7 @@ ends r (suc n) = cond (is_blank (stored r n) && not (is_hidden r n)) (ends r n) 
 abbrev pub pruned_length : List CellValue → ℕ → ℕ
 pruned_length r n = cond (nat_lt 0 (ends r (length r)) && nat_lt (ends r (length r)) n) (ends r (length r)) n
 
--- the row of the cursor, cleared
+-- the row of the cursor, cleared from its column on
 abbrev pub cleared_row : Screen → Attributes → List CellValue
 cleared_row s a = clear (row_at s.rows s.y) s.x (blank_of a)
 

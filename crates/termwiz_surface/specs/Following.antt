@@ -23,7 +23,7 @@ pub record ViewerValue (W : Type 0) : Type 0 where
   -- the number that it was last given, or 0
   pub last : ℕ
 
--- from a screen that was last given number n, what is due leads to the screen s; 0 is no number that was given
+-- a screen was last given number n, which is not past the coming one; where the log goes back to n, what is due leads from that screen to the screen s of its size; 0 is no number that was given
 pub record Leads (measure : List ℕ → ℕ) (v : Screen) (n : ℕ) (s : Screen) (log : LogValue) : Type 0 where
   pub not_ahead : n ≤ next_number log
   pub leads : (n ≡ 0 → ⊥) → log.first ≤ n → (v.width ≡ s.width) × (v.height ≡ s.height) × (replay measure v (due log n) ≡ s)
@@ -85,7 +85,7 @@ module _ {W : Type 0} where
   Accepts measure old n changes (Ok k) new = (k ≡ n) × (new.last ≡ n) × Makes measure old.surface changes new.surface
   Accepts measure old n changes (Err e) new = (new.last ≡ 0) × Adds measure old.surface changes 0 (Err e) new.surface
 
-  -- the viewer has no number, and its own has grown by two at most
+  -- the viewer has no number, its width value stays, and its own number has grown by two at most
   pub record IsLost (old new : ViewerValue W) : Type 0 where
     pub last : new.last ≡ 0
     pub widths : new.surface.widths ≡ old.surface.widths

@@ -32,7 +32,7 @@ rows_upto w rows (suc i) = record {
 abbrev pub bottom_attrs : ℕ → ℕ → List (List CellValue) → Attributes
 bottom_attrs w h rows = (stored (row_at rows (h - 1)) (w - 1)).attrs
 
--- the first of the rows before row n that are blanks with attributes a, up to row n
+-- the first of the rows right above row n that are blanks with attributes a, or n where there is none
 abbrev pub first_blank : ℕ → Attributes → List (List CellValue) → ℕ → ℕ
 first_blank w a rows zero = zero
 first_blank w a rows (suc n) = cond (pointwise cell_eq (row_at rows n) (replicate w (blank_of a))) (first_blank w a rows n) (suc n)

@@ -17,7 +17,7 @@ abbrev pub resized_kept : Kept → ℕ → ℕ → Kept
 resized_kept k w h = record k { lengths = replicate h w; flags = resized_flags h k.flags }
 
 module _ {W : Type 0} where
-  -- the surface has another size, and an empty log under a new number
+  -- the surface has another size, and an empty log under a new number, or 0 where that was the number
   abbrev pub HasResized : SurfaceValue W → ℕ → ℕ → SurfaceValue W → Type 0
   HasResized old w h new = Draws (record old { width = w; height = h; log = restarted old.log }) (resized_screen (screen_of old) w h) (resized_kept (kept_of old) w h) new
 

@@ -88,7 +88,7 @@ pub record Does (measure : List ℕ → ℕ) (changes : List ChangeValue) (old n
   pub log : new.log ≡ appended old.log changes
   pub viewer : SameViewer old new
 
--- what a list leaves that ran out of memory: any screen of that size and form over some stored rows, and an empty log under a new number
+-- what a list leaves that ran out of memory: any screen of that size and form over some stored rows, and an empty log under a new number, or 0 where that was the number
 pub record IsBroken (measure : List ℕ → ℕ) (old new : State) : Type 0 where
   pub size : HasSize old.screen.width old.screen.height new.screen
   pub form : IsPrintable measure new.screen

@@ -72,14 +72,14 @@ pub record IsSound {W : Type 0} (measure : List ℕ → ℕ) (s : SurfaceValue W
   pub regions : regions_fit s.height s.log.changes ≡ true
 
 module _ {W : Type 0} where
-  -- the same size and log
+  -- the same width value, size and log
   pub record SameFrame (old new : SurfaceValue W) : Type 0 where
     pub widths : new.widths ≡ old.widths
     pub width : new.width ≡ old.width
     pub height : new.height ≡ old.height
     pub log : new.log ≡ old.log
 
-  -- the surface has this screen now, keeps this beside it, and has its old log
+  -- the surface has this screen now, keeps this beside it, and has its old width value, size and log
   pub record Draws (old : SurfaceValue W) (screen : Screen) (kept : Kept) (new : SurfaceValue W) : Type 0 where
     pub widths : new.widths ≡ old.widths
     pub width : new.width ≡ old.width

@@ -46,7 +46,7 @@ pub fn fewest_prints()
     ensures narrow { FewestNarrowPrints }
 {}
 
-/// Where a text and a move leave the cursor of a sequence: a text in the column in which it leaves a surface's, and a move where it was to lead.
+/// Where a text and a move leave the cursor of a sequence: a text in the column in which it leaves a surface's, and a move by distances at its place, where that is on the screen or as many rows above it.
 pub fn sequence_laws()
     ensures texts { TextsMoveAlike }
     ensures moves { MovesLeadThere }

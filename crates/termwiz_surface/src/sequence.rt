@@ -40,7 +40,7 @@ impl From<AllocError> for SequenceError {
     }
 }
 
-/// A list of changes that grows, and tells where its changes take a cursor and how many rows they reach.
+/// A list of changes that grows, and tells where its changes take a cursor and how far apart the rows are that it reaches.
 ///
 /// It serves a program that doesn't own the whole screen, as a line editor, whose output begins wherever the cursor was when it was called. So places are told from there: the cursor begins at column 0 of row 0, and rows above that one are below 0. Nothing scrolls, and rows have no end.
 ///
@@ -193,7 +193,7 @@ fn push(changes: &mut Vec<Change>, change: Change) -> Result<(), AllocError>
 impl<W: Widths> ChangeSequence<W> {
     ghost use Rattle.termwiz_surface.specs.Sequence.{SequenceValue, IsSequence, AddsAll, AddsOne, DistancesFit, MovesTo, RowFits, move_by, place_after};
 
-    /// An empty sequence for a screen of this size.
+    /// An empty sequence for a screen of this many rows and columns.
     pub fn new(alloc: Global, rows: usize, cols: usize, widths: W) -> ChangeSequence<W>
         requires some_row { 0 < rows }
         requires few_rows { rows < 2 ^ 32 }
@@ -229,7 +229,7 @@ impl<W: Widths> ChangeSequence<W> {
         (self.x, self.y)
     }
 
-    /// How far it is from the least to the greatest row so far, the first row among them.
+    /// The distance in rows from the least to the greatest row that the cursor was in so far, row 0 among them: one less than the rows from the one to the other.
     pub fn render_height(&self) -> usize
         ensures { pos result ≡ self.now.greatest -ℤ self.now.least }
     {
@@ -291,7 +291,7 @@ impl<W: Widths> ChangeSequence<W> {
     /// - a text as on a surface, with a row more at each LF, CR LF and wrap;
     /// - a position to what it asks for, by remainders: the column's is never below 0, and the row's has the sign of what is asked for;
     /// - a clear of the screen and a scroll to column 0 of row 0, and all others not at all.
-    /// On an error nothing has changed.
+    /// `Range`: a text takes the row past the greatest `isize`. `Memory`: a growth was refused. After both nothing has changed.
     pub fn add(&mut self, change: Change) -> Result<(), SequenceError>
         ensures { AddsOne (unversioned (W.width_of self.old.widths)) self.old (change_value change) result self.new }
     {
@@ -314,8 +314,8 @@ impl<W: Widths> ChangeSequence<W> {
         Ok(())
     }
 
-    /// Adds the change that moves the cursor from where it is to a column and a row.
-    /// `Range`: a distance is no `isize`. On an error nothing has changed.
+    /// Adds the change that moves the cursor by the distances from where it is to a column and a row. As by `add` the cursor comes to the remainders of these: to the place itself where the column is less than the columns, and the row, without its sign, less than the rows.
+    /// `Range`: a distance is no `isize`. `Memory`: a growth was refused. After both nothing has changed.
     pub fn move_to(&mut self, place: (usize, isize)) -> Result<(), SequenceError>
         ensures { MovesTo (unversioned (W.width_of self.old.widths)) self.old place result self.new }
     {

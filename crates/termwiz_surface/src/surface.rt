@@ -71,17 +71,17 @@ use termwiz_line::line::line::Line;
 use termwiz_text::split_first_grapheme;
 use thiserror::Error;
 
-/// Why a list of changes is refused. The errors have numbers, and are told in this order.
+/// Why a list of changes, or another size, is refused. The errors have numbers, and are told in this order.
 #[derive(Debug, Drop, Clone, Copy, PartialEq, Eq, Error)]
 pub enum SurfaceError {
     /// Error 1: the region of a scroll goes past the last row. Nothing has changed.
     #[error("a scroll region goes past the last row")]
     ScrollRegion,
-    /// Error 2: the number of changes would pass the greatest `usize`. Nothing has changed, but that a viewer which was to follow has no number then, and may have taken the surface's size.
+    /// Error 2: the numbers of the changes would pass the greatest `usize`. Nothing has changed; of a viewer that was to follow `Viewer::follow` tells.
     #[error("the numbers of changes are used up")]
     Numbers,
     /// Error 3: a growth was refused. After a list of changes, that of a draw or a copy too, the surface keeps its size and the form of its rows, and its log is empty under a new number, or 0 where that was 0.
-    /// Where there was no memory for the list of a draw or a copy, or for another size, nothing has changed.
+    /// Where there was no memory for the list of a draw or a copy, or for another size, nothing has changed. Of a viewer that was to follow `Viewer::follow` tells.
     #[error("out of memory")]
     Memory,
 }
@@ -99,9 +99,9 @@ impl From<AllocError> for SurfaceError {
 
 /// What a terminal's screen holds, with no terminal behind it: rows of cells, a cursor, whether it is shown, and the pen, which is the attributes of coming text.
 ///
-/// Changes go in, one by `add_change` or several as one list by `add_changes`: texts, pens, clears, moves and scrolls. The surface makes them in order, and logs them by their numbers. Beside its screen it keeps a title, the cursor's shape and colour, and how large each line is shown.
+/// Changes go in, one by `add_change` or several as one list by `add_changes`: texts, pens, clears, moves and scrolls. The surface makes them in order, and logs them by their numbers. Beside its screen it keeps a title, the cursor's shape and colour, and how large each line is shown; no method reads the colour back.
 ///
-/// A stream of changes comes out: `get_changes` lends a viewer the changes since the number that it was last given, and answers with a repaint, which brings any screen of this size to this one, where the log no longer has them. `flush_changes_older_than` forgets the changes that all viewers have: without it the log grows with each change. `screen` copies what the surface shows.
+/// A stream of changes comes out: `get_changes` lends a viewer the changes since the number that it was last given, and answers with a repaint, which brings any screen of this size to this one, where the log no longer has them or they are too many. `flush_changes_older_than` forgets the changes that all viewers have: without it the log grows with each change. `screen` copies what the surface shows.
 ///
 /// A viewer is whoever applies that stream: one that writes to a terminal, one at the other end of a connection, or a second surface. It has to measure texts as this surface does, by the width value that it was made with.
 ///
@@ -137,7 +137,7 @@ impl<W: Widths> Model for Surface<W> {
     ghost invariant = { λ s. IsSound (unversioned (W.width_of s.widths)) (record { widths = s.widths; width = s.width; height = s.height; lines = cells_of s.rows.items; flags = row_flags s.rows.items; x = s.x; y = s.y; visibility = s.visibility; pen = s.pen; title = string_bytes s.title; shape = s.shape; color = s.color; log = s.log }) × AreVectors s.rows.items };
 }
 
-/// A copy has the same screen, rows, kept fields, log and number.
+/// A copy has the same screen, stored rows, title, cursor's shape and colour, log and number.
 impl<W: Widths> Clone for Surface<W> {
     ghost is_clone = { λ a b. b ≡ a };
 
@@ -167,7 +167,7 @@ impl<W: Widths> Clone for Surface<W> {
 impl<W: Widths> Surface<W> {
     ghost use Rattle.termwiz_surface.specs.SurfaceValue.{SurfaceValue, IsSound, screen_of, lengths_of, kept_of, SameFrame, Draws};
 
-    /// A surface of default blanks, with the cursor home and shown, default attributes as pen and the number 0.
+    /// A surface of this width in columns and this height in rows: default blanks, with the cursor home and shown, default attributes as pen and the number 0.
     pub fn new(
         alloc: Global,
         width: usize,
@@ -600,8 +600,8 @@ impl<W: Widths> Surface<W> {
         Ok(())
     }
 
-    /// Makes one change. The answer is the number before it.
-    /// `ScrollRegion`, `Numbers`: nothing has changed. `Memory`: the size and the form of the rows stay, the cursor is inside, and the log is empty under a number that is greater by one, or 0 where it was 0.
+    /// Makes one change. The answer is its number.
+    /// `ScrollRegion`, `Numbers`: nothing has changed. `Memory`: it may have been made in part; the size and the form of the rows stay, the cursor is inside, and the log is empty under a number that is greater by one, or 0 where it was 0.
     pub fn add_change(&mut self, change: Change) -> Result<SequenceNo, SurfaceError>
         ensures adds { Adds (unversioned (W.width_of self.old.widths)) self.old (change_value change ∷ []) (next_number self.old.log) result self.new }
         // Each viewer that follows the surface goes on to, also after an error.
@@ -616,8 +616,8 @@ impl<W: Widths> Surface<W> {
         Ok(told)
     }
 
-    /// Makes the changes in order. The answer is the number before them less one, or 0 where it is 0, and how many they are.
-    /// `ScrollRegion`, `Numbers`: nothing has changed. `Memory`: some were made and the last perhaps in part; the size and the form of the rows stay, the cursor is inside, and the log is empty under a number that is greater by one, or 0 where it was 0.
+    /// Makes the changes in order. The answer is the number before them, less one unless it is 0, plus how many they are: where there are some that is the number of the last, or one more where the number before was 0.
+    /// `ScrollRegion`, `Numbers`: nothing has changed. `Memory`: some may have been made, and the last of those in part; the size and the form of the rows stay, the cursor is inside, and the log is empty under a number that is greater by one, or 0 where it was 0.
     pub fn add_changes(&mut self, changes: Vec<Change>) -> Result<SequenceNo, SurfaceError>
         ensures adds { Adds (unversioned (W.width_of self.old.widths)) self.old (map change_value changes.items) (next_number self.old.log - 1 + vec_len changes) result self.new }
         ensures empty { vec_len changes ≡ 0 → IsOk result }
@@ -653,7 +653,9 @@ impl<W: Widths> Surface<W> {
 
     /// The number of the coming change, and what a viewer that was last given this number has to apply.
     ///
-    /// The changes from that number on are lent, without a copy, where the log has them and they are worth sending. Else the answer is a repaint, which brings any screen of this size to this one: so for 0, which is the number of a viewer that was given none, for a number that was flushed or that this surface never gave, and where more changes are due than three and six fifths of the cells. A delta takes no memory.
+    /// The changes from that number on are lent, without a copy, where the log has them and they are worth sending. Else the answer is a repaint, which brings any screen of this size to this one: so for 0, which is the number of a viewer that was given none, for a number before the log's first one, as one that was flushed is, for one past the coming change's, and where more changes are due than 3 plus six fifths of the number of cells. A delta takes no memory.
+    ///
+    /// A repaint also sets the title, unless it is empty, and the shape of a visible cursor, where one was set. It leaves the cursor's colour and the sizes of lines.
     pub fn get_changes(
         &self,
         seq: SequenceNo,

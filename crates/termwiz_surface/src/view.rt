@@ -37,10 +37,10 @@ pub enum Event<W: Widths> {
     Ask(SequenceNo),
 }
 
-/// What came of it.
+/// What came of an event.
 #[derive(Drop)]
 pub enum Outcome {
-    /// What adding the list of changes answered, for a drawing and a copy too.
+    /// The number that adding the list of changes answered, that of a drawing or a copy too.
     Answered(SequenceNo),
     /// The log was flushed, or the surface resized.
     Done,
@@ -54,9 +54,7 @@ pub enum Outcome {
     Asked(SequenceNo, Vec<Change>),
 }
 
-/// Runs the events on one blank surface and its viewer, and gives one outcome for each. A refused
-/// event is an outcome, and the run goes on. It fails where the surface, the viewer, the list of
-/// outcomes, or what is told of a viewer that followed can't be made.
+/// Runs the events on one blank surface, of this width in columns and this height in rows, and its viewer, and gives one outcome for each. A refused event is an outcome, and the run goes on. It fails where there is no memory for the surface, the viewer, the list of outcomes, or what is told of a viewer that followed.
 pub fn run<W: Widths>(
     alloc: Global,
     widths: W,

@@ -3,7 +3,7 @@ use Rattle.std.specs.Prelude.{ℕ, Bool, true, false, ◌&&◌, ◌||◌, ◌==�
 use Rattle.std.specs.Char.{is_ascii}
 use Rattle.std.specs.Int.{is_in_range}
 
--- a letter of hiragana or katakana, or a common ideograph
+-- a letter of hiragana or katakana, or an ideograph from U+4E00 to U+9FFF
 abbrev pub is_letter : ℕ → Bool
 is_letter c = is_in_range 0x3041 0x3096 c || is_in_range 0x30A1 0x30FA c || is_in_range 0x4E00 0x9FFF c
 
@@ -12,11 +12,11 @@ abbrev pub is_one_letter : List ℕ → Bool
 is_one_letter (c ∷ []) = is_letter c
 is_one_letter _ = false
 
--- between two such characters there is a boundary, but for a CR before an LF
+-- a character of ASCII, or such a letter: between two of these there is a boundary, but for a CR before an LF
 abbrev pub is_simple : ℕ → Bool
 is_simple c = is_ascii c || is_letter c
 
--- nothing, or such a character first
+-- nothing, or a simple character first
 abbrev pub begins_simple : List ℕ → Bool
 begins_simple [] = true
 begins_simple (c ∷ cs) = is_simple c

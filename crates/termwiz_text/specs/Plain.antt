@@ -1,4 +1,4 @@
--- Printable ASCII: a space, or a letter, digit or sign of ASCII.
+-- Printable ASCII, U+0020 to U+007E: a space, or a letter, digit or sign.
 use Rattle.std.specs.Prelude.{◌≡◌, ℕ, ◌<◌, ◌≤◌, Bool, true, false, ◌&&◌, nat_le, List, [], ◌∷◌, ◌++◌, map, length}
 use Rattle.std.specs.Char.{is_ascii}
 use Rattle.std.specs.List.{list_all}
@@ -7,27 +7,27 @@ use Rattle.unicode_segmentation.specs.Grapheme.{graphemes}
 abbrev pub is_plain : ℕ → Bool
 is_plain c = nat_le 0x20 c && nat_le c 0x7E
 
--- nothing, or something that begins with any character of ASCII: never a mark on the character before it
+-- nothing, or something that begins with any character of ASCII, which is no mark on the character before it
 abbrev pub begins_unmarked : List ℕ → Bool
 begins_unmarked [] = true
 begins_unmarked (c ∷ cs) = is_ascii c
 
--- the text begins with such a character, and no mark follows it
+-- the text begins with printable ASCII, behind which it ends or goes on with ASCII
 abbrev pub begins_alone : List ℕ → Bool
 begins_alone [] = false
 begins_alone (c ∷ cs) = is_plain c && begins_unmarked cs
 
--- the text is one such character
+-- the text is one character of printable ASCII
 abbrev pub is_one_plain : List ℕ → Bool
 is_one_plain (c ∷ []) = is_plain c
 is_one_plain _ = false
 
--- the text is the longest run, within the limit, of such characters that no mark follows, and the rest
+-- the text is a run of printable ASCII within the limit, and the rest, and both are cut apart
 pub record IsPlainRun (text : List ℕ) (limit : ℕ) (run rest : List ℕ) : Type 0 where
   pub whole : run ++ rest ≡ text
   pub plain : list_all is_plain run ≡ true
   pub within : length run ≤ limit
-  -- each of them is a grapheme by itself
+  -- each byte of the run is a grapheme by itself, and the rest is cut as a text of its own
   pub graphemes_are : graphemes true text ≡ map (λ c. c ∷ []) run ++ graphemes true rest
-  -- it ends before the limit only where none follows
+  -- the run is shorter than the limit only where the rest does not begin with one more that stands alone
   pub longest : length run < limit → begins_alone rest ≡ false

@@ -1,4 +1,4 @@
-//! A text that grows by whole graphemes.
+//! A text that grows by one grapheme at a time.
 ghost use Rattle.std.specs.Prelude.{◌≡◌, ◌↔◌, ◌++◌, ◌∷◌, [], List, ℕ, true, IsTrue, ◌<◌, IfSome, OnSome, IfOk, OnOk, OnErr, string_bytes, if◌then◌else◌};
 ghost use Rattle.termwiz_text.specs.CutAt.{IsCutAt};
 ghost use Rattle.unicode_segmentation.specs.Grapheme.{graphemes};
@@ -7,11 +7,11 @@ use super::{both_plain, is_last_grapheme};
 use std::alloc::{AllocError, Global};
 use std::marker::Model;
 
-/// A text that was put together of texts, each joined where no grapheme ran over the seam.
+/// A text that grows by one grapheme at a time: a text is only joined where it is a grapheme of the whole, and the graphemes before it stay as they were.
 #[derive(Drop)]
 pub struct JoinedText {
     text: String,
-    // where the last one begins
+    // the byte at which the text that was joined last begins
     last: usize,
 }
 
@@ -23,7 +23,7 @@ impl Model for JoinedText {
     ghost invariant = { λ joined. IsCutAt (string_bytes joined.text) joined.last };
 }
 
-// Puts a text behind the one before it, exactly where no grapheme runs over the seam.
+// Appends a text, exactly where it is then the last grapheme, behind those that there were. Says whether it did.
 #[inline(always)]
 fn join_behind(text: &mut String, last: usize, more: &str) -> Result<bool, AllocError>
     requires { IsCutAt (string_bytes text.old) last }
@@ -51,7 +51,7 @@ fn plain_behind(before: &str, text: &str) -> Option<u8>
     }
 }
 
-// The same for any text: what stands from `last` on is cut. It stands apart, so that the way of printable ASCII is short.
+// What `join_behind` does, for any text: what stands from `last` on is cut. It stands apart, so that the way of printable ASCII is short.
 #[inline(never)]
 fn join_by_cut(text: &mut String, last: usize, more: &str) -> Result<bool, AllocError>
     requires { IsCutAt (string_bytes text.old) last }
@@ -81,7 +81,7 @@ impl JoinedText {
         }
     }
 
-    /// Begins anew with this text, in the room of the one before it.
+    /// Begins anew with a copy of this text, in the memory of the one before it. On an error that one is lost.
     pub fn restart(&mut self, first: &str) -> Result<(), AllocError>
         ensures { OnOk result (self.new ≡ first.now) }
     {
@@ -91,7 +91,7 @@ impl JoinedText {
         Ok(())
     }
 
-    /// A text to which others may be joined.
+    /// A copy of this text, to which others may be joined.
     pub fn new(alloc: Global, first: &str) -> Result<JoinedText, AllocError>
         ensures { IfOk result (λ joined. joined ≡ first.now) }
     {
@@ -99,9 +99,9 @@ impl JoinedText {
         Ok(JoinedText { text, last: 0 })
     }
 
-    /// Puts a text behind, exactly where no grapheme runs over the seam: cut together, they are cut as before, with the text as the last grapheme. Says whether it did. At an error the text is as before.
+    /// Appends a text, exactly where it is then the last grapheme, and those before it are as they were. Says whether it did: the empty text and one of several graphemes are never joined. Where it was not joined, and on an error, the text so far stays.
     ///
-    /// Only the text that was joined last is cut, whatever stands before it.
+    /// Only what was joined last, or the first text, is cut again with it, whatever stands before.
     #[inline(always)]
     pub fn join(&mut self, more: &str) -> Result<bool, AllocError>
         ensures joins { IfOk result (λ joined. IsTrue joined ↔ (graphemes true (self.old ++ more.now) ≡ graphemes true self.old ++ more.now ∷ [])) }
@@ -123,7 +123,7 @@ impl JoinedText {
         self.text.as_str()
     }
 
-    /// The text itself.
+    /// The text so far, without a copy.
     pub fn into_string(self) -> String
         ensures { string_bytes result ≡ self }
     {

@@ -1,4 +1,4 @@
-//! Texts cut into graphemes.
+//! Texts cut into graphemes, the extended grapheme clusters of UAX 29.
 #![tactic(auto)]
 
 ghost use Rattle.std.specs.Prelude.{◌≡◌, ◌≤◌, ◌<◌, length, ◌↔◌, ℕ, true, false, List, [], ◌∷◌, ◌++◌, min, take, drop, slice_index, MatchOption, IfSome, IsTrue, IfOk, string_bytes, if◌then◌else◌};
@@ -20,7 +20,7 @@ fn is_plain(byte: u8) -> bool
     b' ' <= byte && byte <= b'~'
 }
 
-/// Whether the text is one printable character of ASCII.
+/// Whether the text is one character of printable ASCII, U+0020 to U+007E.
 pub fn is_one_plain(text: &str) -> bool
     ensures { result ≡ plain.is_one_plain text.now }
 {
@@ -40,14 +40,14 @@ fn begins_line_end(text: &str) -> bool
     }
 }
 
-/// Whether the character is a letter of hiragana or katakana, or a common ideograph.
+/// Whether the character is a letter of hiragana (U+3041 to U+3096) or katakana (U+30A1 to U+30FA), or an ideograph from U+4E00 to U+9FFF. No other letter counts.
 pub fn is_letter(c: char) -> bool
     ensures { result ≡ letter.is_letter c }
 {
     matches!(c, 'ぁ'..='ゖ' | 'ァ'..='ヺ' | '\u{4E00}'..='\u{9FFF}')
 }
 
-/// Whether the text is one such letter.
+/// Whether the text is one character for which `is_letter` holds.
 pub fn is_one_letter(text: &str) -> bool
     ensures { result ≡ letter.is_one_letter (chars text.now) }
 {
@@ -74,7 +74,7 @@ fn begins_simple(text: &str) -> bool
     }
 }
 
-// The first grapheme, where it and the next character are so common that no table is needed.
+// The first grapheme and the rest, where they begin with simple characters, which need no table.
 fn split_first_simple(text: &str) -> Option<(&str, &str)>
     ensures { IfSome result (λ (first, rest). IsFirst text.now first.now rest.now) }
 {
@@ -92,7 +92,7 @@ fn split_first_simple(text: &str) -> Option<(&str, &str)>
     Some((front, rest))
 }
 
-/// The first grapheme of a text, and what follows it.
+/// The first grapheme of a text, and the rest, which is cut as a text of its own. The empty text has none.
 pub fn split_first_grapheme(text: &str) -> Option<(&str, &str)>
     ensures { MatchOption result (graphemes true text.now ≡ []) (λ (first, rest). IsFirst text.now first.now rest.now) }
 {
@@ -133,7 +133,9 @@ fn count_unmarked(bytes: &[u8], limit: usize) -> usize
     count
 }
 
-/// The longest run of printable ASCII, of at most `limit` bytes, that the text begins with and that no mark follows, and the rest. Each byte of the run is a grapheme by itself.
+/// Splits off a run of printable ASCII, U+0020 to U+007E, of at most `limit` bytes, with which the text begins. Each byte of the run is a grapheme by itself, and the rest is cut as a text of its own.
+///
+/// The run may be empty. It is shorter than `limit` only where the rest is empty, begins with another character, or begins with printable ASCII right before a character past ASCII, which may be a mark on it.
 pub fn split_plain_run(text: &str, limit: usize) -> (&str, &str)
     ensures { plain.IsPlainRun text.now limit result.0.now result.1.now }
 {
@@ -164,7 +166,7 @@ fn is_last_grapheme(whole: &str, text: &str) -> bool
     }
 }
 
-/// The graphemes of a text in order.
+/// The graphemes of a text, in order.
 #[derive(Debug, Drop)]
 pub struct Graphemes<'a> {
     rest: &'a str,
@@ -173,6 +175,7 @@ pub struct Graphemes<'a> {
 impl<'a> Graphemes<'a> {
     ghost use Rattle.termwiz_text.specs.Left.{graphemes_to_come};
 
+    /// The graphemes of this text.
     pub fn new(text: &'a str) -> Graphemes<'a>
         ensures left { graphemes_to_come result ≡ graphemes true text.now }
         ensures len { length (graphemes_to_come result) ≤ length text.now }

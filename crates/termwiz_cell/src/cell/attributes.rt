@@ -14,10 +14,12 @@ use std::alloc::{AllocError, Global};
 use std::marker::Model;
 use std::rc::Rc;
 
-/// The attributes of a cell: how its text is drawn, what it is to its reader, and its link.
+/// The attributes of a cell: how its text is drawn, whether that is output, input or a prompt,
+/// whether its row was wrapped behind it, and its link.
 ///
 /// All but true colours, the underline colour and the link stand in one word. Those take
-/// memory, which is given back once all of them have their defaults again.
+/// memory, which is given back once all of them have their defaults again. A clone can only fail
+/// where it takes memory. Calls that begin with `set_` answer the attributes, and can be chained.
 #[derive(Drop)]
 pub struct CellAttributes {
     form: Form,
@@ -48,7 +50,7 @@ impl CellAttributes {
         }
     }
 
-    /// A copy, where that takes no memory.
+    /// A copy, where that takes no memory, and else `None`.
     #[inline]
     pub fn unboxed_copy(&self) -> Option<CellAttributes>
         ensures same { IfSome result (λ copy. copy ≡ self.now) }
@@ -216,14 +218,14 @@ impl CellAttributes {
         self
     }
 
-    /// What the text is to its reader.
+    /// Whether the text is output, input or a prompt.
     pub fn semantic_type(&self) -> SemanticType
         ensures { result ≡ self.now.semantic_type }
     {
         self.form.style().semantic_type()
     }
 
-    /// Sets what the text is to its reader.
+    /// Sets whether the text is output, input or a prompt.
     pub fn set_semantic_type(&mut self, value: SemanticType) -> &mut Self
         ensures same_reference { result.ghost_name ≡ self.entry.ghost_name }
         ensures value { result.now ≡ record self.old { semantic_type = value } }
@@ -255,7 +257,8 @@ impl CellAttributes {
         shown(self.form.foreground(), self.form.style().foreground())
     }
 
-    /// Sets the foreground as `change_foreground` does, which says that nothing changed at an error.
+    /// Sets the colour of the text. It can only fail where `change_foreground` can, which also
+    /// promises that an error leaves the attributes as they were; this contract doesn't say so.
     pub fn set_foreground(
         &mut self,
         alloc: Global,
@@ -270,8 +273,8 @@ impl CellAttributes {
         Ok(self)
     }
 
-    /// Sets the foreground, and answers nothing else. It can only fail where the attributes need
-    /// a box that they did not need before.
+    /// Sets the colour of the text. It can only fail where the attributes take memory and took none
+    /// before. At an error nothing changed.
     pub fn change_foreground(
         &mut self,
         alloc: Global,
@@ -296,7 +299,8 @@ impl CellAttributes {
         shown(self.form.background(), self.form.style().background())
     }
 
-    /// Sets the background as `change_background` does, which says that nothing changed at an error.
+    /// Sets the colour behind the text. It can only fail where `change_background` can, which also
+    /// promises that an error leaves the attributes as they were; this contract doesn't say so.
     pub fn set_background(
         &mut self,
         alloc: Global,
@@ -311,8 +315,8 @@ impl CellAttributes {
         Ok(self)
     }
 
-    /// Sets the background, and answers nothing else. It can only fail where the attributes need
-    /// a box that they did not need before.
+    /// Sets the colour behind the text. It can only fail where the attributes take memory and took none
+    /// before. At an error nothing changed.
     pub fn change_background(
         &mut self,
         alloc: Global,
@@ -337,7 +341,8 @@ impl CellAttributes {
         self.form.underline_color()
     }
 
-    /// Sets the underline colour as `change_underline_color` does, which says that nothing changed at an error.
+    /// Sets the colour of the line under the text. It can only fail where `change_underline_color` can, which also
+    /// promises that an error leaves the attributes as they were; this contract doesn't say so.
     pub fn set_underline_color(
         &mut self,
         alloc: Global,
@@ -352,8 +357,8 @@ impl CellAttributes {
         Ok(self)
     }
 
-    /// Sets the underline colour, and answers nothing else. It can only fail where the attributes need
-    /// a box that they did not need before.
+    /// Sets the colour of the line under the text. It can only fail where the attributes take memory and took none
+    /// before. At an error nothing changed.
     pub fn change_underline_color(
         &mut self,
         alloc: Global,
@@ -367,14 +372,15 @@ impl CellAttributes {
         self.form.set_color(alloc, RareColor::Underline, value)
     }
 
-    /// The link of the text.
+    /// The link of the text, if it has one.
     pub fn hyperlink(&self) -> Option<&Rc<Hyperlink>>
         ensures { option_map (λ rc. rc.now.value) result ≡ self.now.hyperlink }
     {
         self.form.hyperlink()
     }
 
-    /// Sets the link as `change_hyperlink` does, which says that nothing changed at an error.
+    /// Sets the link of the text. It can only fail where `change_hyperlink` can, which also
+    /// promises that an error leaves the attributes as they were; this contract doesn't say so.
     pub fn set_hyperlink(
         &mut self,
         alloc: Global,
@@ -389,8 +395,8 @@ impl CellAttributes {
         Ok(self)
     }
 
-    /// Sets the link, and answers nothing else. It can only fail where the attributes need
-    /// a box that they did not need before.
+    /// Sets the link of the text. It can only fail where the attributes take memory and took none
+    /// before. At an error nothing changed.
     pub fn change_hyperlink(
         &mut self,
         alloc: Global,
@@ -405,7 +411,8 @@ impl CellAttributes {
     }
 
     /// A copy with the semantic type `Output`, and no underline, overline, strike through and
-    /// link: the attributes with which a cleared cell goes on. It can only fail where the copy needs a box.
+    /// link. The other attributes are kept, the underline colour and the wrapped mark too. It can
+    /// only fail where the copy takes memory, for a true colour or an underline colour.
     pub fn clone_sgr_only(&self, alloc: Global) -> Result<CellAttributes, AllocError>
         ensures ok { IfOk result (λ copy. copy ≡ sgr_only self.now) }
         ensures succeeds { needs_box (sgr_only self.now) ≡ false → IsOk result }
@@ -414,8 +421,8 @@ impl CellAttributes {
         Ok(CellAttributes { form })
     }
 
-    /// Applies a change of one attribute. At an error nothing changed. It can only fail where
-    /// the attributes need a box that they did not need before, or at the copy of a link.
+    /// Applies a change of one attribute. It can only fail where the attributes take memory and
+    /// took none before, or at the copy of a link. At an error nothing changed.
     pub fn apply_change(
         &mut self,
         alloc: Global,
@@ -457,7 +464,7 @@ impl CellAttributes {
         Ok(())
     }
 
-    /// Whether all attributes are equal but the colours and the link.
+    /// Whether all attributes but the colours and the link are equal.
     pub fn attribute_bits_equal(&self, other: &CellAttributes) -> bool
         ensures { IsTrue result ↔ (without_colors self.now ≡ without_colors other.now) }
     {

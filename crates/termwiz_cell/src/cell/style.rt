@@ -2,7 +2,7 @@
 ghost use Rattle.std.specs.Prelude.{◌≡◌, ◌<◌};
 ghost use Rattle.termwiz_cell.specs.Style.{intensity_number, intensity_at, underline_number, underline_at, blink_number, blink_at, semantic_number, semantic_at, vertical_number, vertical_at};
 
-/// How strong a text is.
+/// How strong a text is drawn: as others are, bold, or dim.
 #[derive(Clone, Copy, PartialEq, Eq, Debug, Default)]
 pub enum Intensity {
     #[default]
@@ -34,7 +34,7 @@ impl From<Underline> for bool {
     }
 }
 
-/// How fast a text blinks.
+/// Whether and how fast a text blinks.
 #[derive(Clone, Copy, PartialEq, Eq, Debug)]
 pub enum Blink {
     None,
@@ -53,7 +53,7 @@ impl From<Blink> for bool {
     }
 }
 
-/// What a text is to its reader.
+/// What a text is: a program's output, what the user typed, or a prompt for it.
 #[derive(Clone, Copy, PartialEq, Eq, PartialOrd, Ord, Debug, Default)]
 pub enum SemanticType {
     #[default]
@@ -62,7 +62,7 @@ pub enum SemanticType {
     Prompt,
 }
 
-/// Where a text stands on its line.
+/// Where a text stands on its line: on the base line, raised, or lowered.
 #[derive(Clone, Copy, PartialEq, Eq, Debug)]
 pub enum VerticalAlign {
     BaseLine,
@@ -70,7 +70,8 @@ pub enum VerticalAlign {
     SubScript,
 }
 
-/// The small attributes.
+/// The small attributes: all but true colours, the underline colour and the link. The colours here
+/// are palette indices.
 #[derive(Clone, Copy, PartialEq, Eq, Debug)]
 pub struct Style {
     pub intensity: Intensity,

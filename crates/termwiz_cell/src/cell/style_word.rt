@@ -57,7 +57,7 @@ fn flag_digit(flag: bool) -> u64
     if flag { 1 } else { 0 }
 }
 
-/// A digit below 257: 0 for none, and else the index and 1.
+/// A digit below 257: 0 for none, and else the index plus 1.
 fn palette_digit(index: Option<u8>) -> u64
     ensures value { result ≡ palette_number index }
     ensures palette { IsPalette index }
@@ -122,7 +122,7 @@ impl StyleWord {
         copy
     }
 
-    /// Whether both styles are equal but for the palette.
+    /// Whether both styles are equal but for the colours.
     pub(super) fn has_same_bits(&self, other: &StyleWord) -> bool
         ensures { IsTrue result ↔ (bits_at self.now ≡ bits_at other.now) }
     {

@@ -24,7 +24,8 @@ pub(super) struct LongText {
     pub(super) wide: bool,
 }
 
-/// The text without controls: each control character, CR LF and the empty text is a space.
+/// The text as a cell has it: a space for the empty text, CR LF and one control character of ASCII,
+/// and each other text as it is.
 pub(super) fn cleaned(text: &str) -> &str
     ensures { result.now ≡ clean text.now }
 {
@@ -122,8 +123,8 @@ impl CellText {
         }
     }
 
-    /// Whether both are the same text of the same width. The length of a text tells its form, so
-    /// texts of two forms differ.
+    /// Whether both are the same text of the same width. Length and width of a text tell its form,
+    /// so texts of two forms differ.
     #[inline(always)]
     #[tactic(auto, using(crate::proofs::TextForms::short_differs_from_long, crate::proofs::TextForms::long_differs_from_short))]
     pub(super) fn is_same(&self, other: &CellText) -> bool
@@ -158,7 +159,7 @@ impl CellText {
     }
 }
 
-// Whether both are the same text. Most narrow texts have one byte, and are told apart without a call.
+// Whether both are the same text. Those of one byte are told apart without a call.
 #[inline(always)]
 fn is_same_short(a: &str, b: &str) -> bool
     ensures { result ≡ bytes_eq a.now b.now }
@@ -176,8 +177,8 @@ fn is_same_str(a: &str, b: &str) -> bool
     a == b
 }
 
-/// A text of at most seven bytes. Most texts past ASCII have three, and the copy of a known length
-/// needs no call.
+/// A text of at most seven bytes. A character of kana, or a common ideograph, has three, and the copy
+/// of a known length needs no call.
 fn short_text(text: &str) -> ArrayString<7>
     requires { length text.now ≤ 7 }
     ensures { result.bytes ≡ text.now }

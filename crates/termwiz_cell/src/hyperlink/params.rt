@@ -23,7 +23,7 @@ fn is_pair(part: &str) -> bool
     part.bytes().any(|b| b == b'=')
 }
 
-/// The params that the text's pairs make. A later equal key replaces.
+/// The params that the text's pairs make. Where a key comes again, its last value stands.
 pub(super) fn read_params(alloc: Global, text: &str) -> Result<BTreeMap<String, String>, AllocError>
     ensures { IfOk result (λ params. map param_bytes params.entries ≡ params_of text.now) }
 {

@@ -14,7 +14,7 @@ use termwiz_cell::cell::CellAttributes;
 use termwiz_cell::change::Change;
 use termwiz_text::JoinedText;
 
-/// Entries. A text at their end grows by each text that joins it.
+/// Entries: changes, in order. A text at their end grows by each text that joins it. After an error of a method the list may hold anything.
 #[derive(Drop)]
 pub struct EntryList {
     alloc: Global,
@@ -62,7 +62,7 @@ impl EntryList {
         Ok(())
     }
 
-    /// A text comes behind the others, and joins the last where that is a text and no grapheme runs over the seam.
+    /// A text comes behind the others. Where the last entry is a text and no grapheme runs over the seam, it joins that: cut together, they are the last one's graphemes and then the new text as one grapheme. Else it is an entry of its own.
     #[inline(always)]
     pub fn push_text(&mut self, more: &str) -> Result<(), AllocError>
         ensures { OnOk result (self.new ≡ add_text self.old more.now) }
@@ -84,7 +84,7 @@ impl EntryList {
         Ok(())
     }
 
-    /// A pen, where it is another one than before.
+    /// A pen comes behind the others, where it is another one than before.
     #[inline(always)]
     pub fn push_pen(&mut self, old: &CellAttributes, new: &CellAttributes) -> Result<(), AllocError>
         ensures { OnOk result (self.new ≡ self.old ++ pen_entry old.now new.now) }

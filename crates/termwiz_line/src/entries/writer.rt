@@ -19,9 +19,9 @@ use termwiz_cell::cell::CellAttributes;
 use termwiz_cell::change::Change;
 use termwiz_storage::line::cellref::VisibleCellIter;
 
-/// Writes rows of visible cells as entries: a pen for each run of equal attributes, then its texts.
-/// Spaces at the end of a row whose attributes are default but for the background are left out, and
-/// a background other than the default one is cleared to the end of the line.
+/// Writes rows of visible cells as entries: a pen for each run of equal attributes, then its texts. Spaces at the end of a row are left out where their attributes are default but for the background; a background other than the default one is cleared to the end of the line in their place.
+///
+/// After an error of a method the writer may hold anything.
 #[derive(Drop)]
 pub struct RowWriter<'a> {
     entries: EntryList,
@@ -63,7 +63,7 @@ impl<'a> RowWriter<'a> {
         Ok(())
     }
 
-    /// A visible cell with this text comes next.
+    /// A visible cell with this text and these attributes comes next.
     #[inline(always)]
     pub fn cell(&mut self, text: &str, attrs: &'a CellAttributes) -> Result<(), AllocError>
         ensures { OnOk result ((from : spec.Penned) (cells : List (ℕ × CellValue)) (p : ℕ × CellValue) → p.1.text ≡ text.now → p.1.attrs ≡ attrs.now → IsWritten from cells self.old → IsWritten from (cells ++ p ∷ []) self.new) }
@@ -141,7 +141,7 @@ impl<'a> RowWriter<'a> {
         Ok(())
     }
 
-    /// A row of these visible cells, with so many spaces behind them, comes behind the others.
+    /// A row of these visible cells, with so many spaces with these attributes behind them, comes behind the others.
     pub fn row(
         &mut self,
         cells: VisibleCellIter<'a>,

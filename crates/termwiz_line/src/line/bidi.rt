@@ -14,7 +14,9 @@ pub enum Direction {
 pub enum ParagraphDirectionHint {
     LeftToRight,
     RightToLeft,
+    /// The line's text, and from left to right where it doesn't tell.
     AutoLeftToRight,
+    /// The line's text, and from right to left where it doesn't tell.
     AutoRightToLeft,
 }
 

@@ -40,11 +40,11 @@ use zones::drop_zones;
 
 /// A line of cells by itself: a row of a copied screen is one, and so may be what a program keeps of rows that have scrolled away.
 ///
-/// It stores cells from the first column on, and the half of a wide cell follows it. How many it stores is not how wide it is shown: who shows a line reads default blanks behind its last cell, and cuts what is too long.
+/// It stores cells from the first column on. A wide cell hides the one that is stored behind it, as a rule its half: a blank with its attributes. How many cells are stored is not how wide the line is shown: whoever shows it reads default blanks behind its last cell, and cuts what is too long.
 ///
-/// Each edit is given the number of the change that it belongs to, and the line keeps the greatest that it has taken. Where each change has a new number, whoever keeps something that was made from a line sees by it that the line has changed since. Two lines are equal where their cells, numbers and flags are, whichever form stores the cells.
+/// An edit is given the number of the change that it belongs to, and the line keeps the greatest that it has taken; `blank_out` alone sets the number anew. Where each change has a new number, whoever keeps something that was made from a line sees by it that the line has changed since. The number doesn't tell of what `split_off` cuts, nor of what is written by `cells_mut`. Two lines are equal where their cells, numbers and flags are, whichever form stores the cells.
 ///
-/// A line stores its cells as a vector or as one text. A new one is a text, and stays one while each cell is set at its end or the last cell is marked; `compress_for_scrollback` makes one of a vector, and any other edit that changes cells a vector of a text. Only `stored_cells`, whether `as_str` lends, and the variants of visible cells tell which it is.
+/// A line stores its cells as a vector or as one text. `new` makes a text, which stays one while `set_cell`, `set_cell_grapheme` or `overlay_text_with_attribute` sets each cell at its end, `fill_range` sets narrow cells there that aren't default blanks, or `set_last_cell_was_wrapped` marks the last cell. Any other edit that changes cells, and lending them for writing, makes a vector of a text; an edit that changes none, or fails, may. `compress_for_scrollback` makes a text of a vector. `stored_cells`, whether `as_str` lends, and the variants of visible cells tell which it is; `==` doesn't.
 ///
 /// `visible_cells` walks what is seen of a line, and `changes` gives the changes that print it, for whoever has to write it somewhere else.
 #[derive(Drop, Debug)]
@@ -53,7 +53,7 @@ pub struct Line {
     storage: CellStorage,
     seqno: SequenceNo,
     bits: LineBits,
-    // The zones, once they were asked for: each edit drops them.
+    // The zones, once they were asked for: each edit of cells drops them.
     zones: Option<Vec<ZoneRange>>,
 }
 
@@ -82,7 +82,7 @@ impl Line {
         Ok(Line::of(alloc, storage, seqno))
     }
 
-    /// A line of this many copies of a cell.
+    /// A line that stores this many copies of a cell, and no halves where that is wide.
     pub fn with_width_and_cell(
         alloc: Global,
         width: usize,
@@ -102,7 +102,7 @@ impl Line {
         Line::of(alloc, CellStorage::vector(cells), seqno)
     }
 
-    /// A line without cells. It stores them as one text as long as each is set at its end.
+    /// A line without cells. It is stored as one text, and stays one as long as each cell is set at its end.
     pub fn new(alloc: Global, seqno: SequenceNo) -> Line
         ensures { result ≡ record { cells = []; seqno = seqno; flags = no_flags; is_vector = false } }
     {
@@ -122,7 +122,7 @@ impl Line {
         }
     }
 
-    /// Makes this a new line of this many default blanks, with the number and without flags. A vector takes memory only where it grows.
+    /// Makes this a new line of this many default blanks, with this number and without flags. A vector takes memory only where it grows.
     /// On an error number, flags and cells are as before.
     pub fn blank_out(&mut self, width: usize, seqno: SequenceNo) -> Result<(), AllocError>
         ensures ok { OnOk result (self.new ≡ record { cells = replicate width blank; seqno = seqno; flags = no_flags; is_vector = true }) }
@@ -158,7 +158,7 @@ impl Line {
         Ok(Line::of(self.alloc, storage, seqno))
     }
 
-    /// Stores the cells as one text, which takes far less memory: for what is kept of rows that have scrolled away. Cells, number and flags stay.
+    /// Stores the cells as one text, which mostly takes far less memory than a vector: for what is kept of rows that have scrolled away. Cells, number and flags stay.
     /// A vector stays one where a hidden cell isn't a blank with the attributes of the cell that hides it, or where the last visible cell is wide and lacks its half.
     /// On an error nothing changed.
     pub fn compress_for_scrollback(&mut self) -> Result<(), AllocError>
@@ -192,7 +192,7 @@ impl Line {
         self.bits == other.bits
     }
 
-    /// How many cells are stored.
+    /// How many cells are stored, hidden ones among them.
     pub fn len(&self) -> usize
         ensures { result ≡ length self.now.cells }
     {
@@ -221,7 +221,7 @@ impl Line {
         CellCluster::make_cluster(self.alloc, widths, self.visible_cells())
     }
 
-    /// The cells of a vector: the half of a wide cell follows it. A line that is stored in another form has none to lend.
+    /// The stored cells of a vector, hidden ones among them. A line that is stored as one text has none to lend.
     pub fn stored_cells(&self) -> Option<&[Cell]>
         ensures { option_map (λ cells. cells.now) result ≡ (if self.now.is_vector then Some self.now.cells else None) }
     {

@@ -12,7 +12,7 @@ use std::alloc::{AllocError, Global};
 use termwiz_cell::cell::{Cell, CellAttributes};
 use termwiz_cell::emoji::{Presentation, Widths};
 
-/// A visible cell of a line, with its column: a stored cell, or a piece of a text with what belongs to it.
+/// A visible cell of a line, with its column: a stored cell, or a piece of a text with its width in columns and its attributes. One that is made by hand may tell any width and any text.
 #[derive(Clone, Copy, Debug)]
 pub enum CellRef<'a> {
     /// A cell that is stored as one.
@@ -40,7 +40,7 @@ impl<'a> CellRef<'a> {
         }
     }
 
-    /// The text.
+    /// The text of the cell.
     pub fn str(&self) -> &'a str
         ensures { result.now ≡ (ref_cell self.now).text }
     {
@@ -50,7 +50,7 @@ impl<'a> CellRef<'a> {
         }
     }
 
-    /// The columns that the cell takes. A walk gives only cells of 1 or 2.
+    /// The columns that the cell takes. The cells that a walk gives have 1 or 2.
     pub fn width(&self) -> usize
         ensures { result ≡ ref_width self.now }
     {
@@ -70,7 +70,7 @@ impl<'a> CellRef<'a> {
         }
     }
 
-    /// How the text is shown: by its variation, where it has one.
+    /// How the text is shown: in the form that a variation selector in it asks for, or else as the width value says.
     pub fn presentation<W: Widths>(&self, widths: &W) -> Presentation
         ensures { let shown = W.presentation_of widths.now (ref_cell self.now).text in result ≡ unwrap_or shown.1 shown.0 }
     {
@@ -78,7 +78,7 @@ impl<'a> CellRef<'a> {
         variation.unwrap_or(presentation)
     }
 
-    /// A cell of this text, width and attributes, as `Cell::new_grapheme_with_width` makes it.
+    /// A cell of this text, width and attributes, as `Cell::new_grapheme_with_width` makes it. The width must be at most 2.
     pub fn as_cell(&self, alloc: Global) -> Result<Cell, AllocError>
         requires { ref_width self.now ≤ 2 }
         ensures { IfOk result (λ cell. cell ≡ cell_of (ref_cell self.now).text (ref_width self.now) (ref_cell self.now).attrs) }
@@ -97,7 +97,7 @@ impl<'a> CellRef<'a> {
         }
     }
 
-    /// A copy of the cell that a walk gave.
+    /// A copy of the cell. The reference must tell a width and a text that a cell has, as each does that a walk gives.
     pub fn to_cell(&self, alloc: Global) -> Result<Cell, AllocError>
         requires { IsOfCell self.now }
         ensures { IfOk result (λ cell. cell ≡ ref_cell self.now) }
@@ -113,7 +113,7 @@ impl<'a> CellRef<'a> {
             && (self.width() == other.width() && *self.attrs() == *other.attrs())
     }
 
-    /// Whether both are the same cell, at the same column.
+    /// Whether both are the same cell, at the same column. Both references must tell what `to_cell` asks for.
     pub fn is_same(&self, other: &CellRef<'_>) -> bool
         requires own { IsOfCell self.now }
         requires other { IsOfCell other.now }
@@ -122,7 +122,7 @@ impl<'a> CellRef<'a> {
         self.cell_index() == other.cell_index() && self.same_contents(other)
     }
 
-    /// Whether it shows what this cell shows.
+    /// Whether text, width and attributes are those of this cell.
     pub fn is_cell(&self, cell: &Cell) -> bool
         ensures { IsTrue result ↔ (contents self.now ≡ contents_of cell.now) }
     {
@@ -139,7 +139,7 @@ impl<'a> CellRef<'a> {
         matches!(self.str().as_bytes(), b" ")
     }
 
-    /// Whether it shows a default blank.
+    /// Whether this is a space of one column with default attributes.
     pub fn is_blank(&self) -> bool
         ensures { IsTrue result ↔ (contents self.now ≡ contents_of blank) }
     {
@@ -158,7 +158,9 @@ fn copied(cell: &Cell) -> Result<Cell, AllocError>
 /// The visible cells of a line, in order.
 #[derive(Drop)]
 pub enum VisibleCellIter<'a> {
+    /// Of cells that are stored one by one.
     V(VecStorageIter<'a>),
+    /// Of cells that are stored as one text.
     Cluster(ClusterLineIter<'a>),
 }
 

@@ -22,9 +22,9 @@ use std::alloc::{AllocError, Global};
 use std::marker::Model;
 use termwiz_cell::cell::{Cell, CellAttributes};
 
-/// The cells of a line as one text, with what tells each cell's part of it, and runs of equal attributes. It takes far less memory than a vector of cells.
+/// The cells of a line as one text, with what tells each cell's part of it, and runs of equal attributes. Where cells in a row are alike it takes far less memory than a vector of cells.
 ///
-/// It stands for a list of stored cells, in which the half of each wide cell follows it.
+/// It stands for a list of stored cells, in which each wide cell is followed by its half, a blank with its attributes. A cell whose text has 2^32 bytes or more doesn't fit: it is refused as want of memory is.
 #[derive(Drop, Debug)]
 pub struct ClusteredLine {
     text: String,
@@ -90,7 +90,7 @@ impl ClusteredLine {
         self.len == 0
     }
 
-    /// How many cells are left without the default blanks that end the list.
+    /// How many cells are left without the visible default blanks that end the list.
     pub(super) fn kept_len(&self) -> usize
         ensures { IsKept self.now result }
     {
@@ -126,7 +126,7 @@ impl ClusteredLine {
         self.attrs.shrink_to_fit();
     }
 
-    /// Appends the cell of a text of this width, and the half of a wide one. A width of 0 counts as 1. On an error nothing changed.
+    /// Appends the cell of a text of this width, at most 2 columns, and the half of a wide one. A width of 0 counts as 1. On an error nothing changed.
     pub fn append_grapheme(
         &mut self,
         text: &str,
@@ -216,7 +216,7 @@ impl ClusteredLine {
         self.text.as_str()
     }
 
-    /// The visible cells.
+    /// The visible cells, in order.
     pub fn iter(&self) -> ClusterLineIter<'_>
         ensures { result ≡ visible self.now }
     {
@@ -241,7 +241,7 @@ impl ClusteredLine {
     }
 }
 
-/// Whether each hidden cell is the half of the one that hides it, and no wide cell lacks its half.
+/// Whether each hidden cell is the half of the one that hides it, and no visible wide cell lacks its half.
 pub(super) fn is_whole(cells: &[Cell]) -> bool
     ensures { IsTrue result ↔ IsWhole cells.now }
 {

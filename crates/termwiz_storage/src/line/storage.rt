@@ -26,7 +26,11 @@ use crate::line::vecstorage::VecStorage;
 use std::alloc::{AllocError, Global};
 use termwiz_cell::cell::{Cell, CellAttributes};
 
-/// The stored cells of a line. It is the only door to them: each edit of the list is one of its methods.
+/// The stored cells of a line, a list in one of two forms. Its edits are methods here, and `coerce_vec` lends the cells for writing.
+///
+/// A walk over the list gives the visible cells: the stored cell behind a visible wide one is hidden. `set_cell` stores the half of the wide one there, a blank with its attributes.
+///
+/// Two storages are equal where their lists of cells are, whatever the forms.
 #[derive(Drop, Debug)]
 pub enum CellStorage {
     /// Each cell has a place of its own.
@@ -52,7 +56,7 @@ impl CellStorage {
         CellStorage::Cluster(ClusteredLine::new(alloc))
     }
 
-    /// How many cells are stored.
+    /// How many cells are stored, hidden ones among them.
     pub fn len(&self) -> usize
         ensures { result ≡ length (cells_of self.now) }
     {
@@ -72,7 +76,7 @@ impl CellStorage {
         }
     }
 
-    /// The cells of a vector, the half of a wide one behind it. Another form has none to lend.
+    /// The stored cells of a vector, hidden ones among them. A text has none to lend.
     pub fn cells(&self) -> Option<&[Cell]>
         ensures { option_map (λ cells. cells.now) result ≡ (if is_vector self.now then Some (cells_of self.now) else None) }
     {
@@ -92,7 +96,7 @@ impl CellStorage {
         }
     }
 
-    /// The visible cells.
+    /// The visible cells, in order.
     pub fn iter(&self) -> VisibleCellIter<'_>
         ensures { cells_left result ≡ visible (cells_of self.now) }
     {
@@ -102,9 +106,9 @@ impl CellStorage {
         }
     }
 
-    /// Sets a cell. The list is padded so far, a wide cell that is cut leaves a blank with its attributes, and the half of a wide cell follows it.
-    /// Behind the last cell of a text it is appended to the text. Anywhere else, as by each other edit but that of the mark of the last cell, a text becomes a vector.
-    /// On an error, which a column past the greatest number gives too, the cells are as before.
+    /// Sets the cell at a column, and behind a wide one its half. The list is first padded with default blanks as far as these need, and a wide cell stored right before the column becomes a blank with its attributes.
+    /// Right behind the last cell of a text the cell is appended to the text. Anywhere else, and by each other edit but that of the mark of the last cell, a text becomes a vector, also where the list stays as it is.
+    /// On an error, which a cell past the greatest column gives too, and one of 2^32 bytes or more that is appended to a text, the cells are as before.
     pub fn set_cell(&mut self, i: usize, cell: Cell) -> Result<(), AllocError>
         ensures ok { OnOk result (cells_of self.new ≡ set_cell i cell (cells_of self.old)) }
         ensures err { OnErr result (cells_of self.new ≡ cells_of self.old) }
@@ -121,8 +125,8 @@ impl CellStorage {
         Ok(())
     }
 
-    /// Sets a cell as `set_cell` does, in a list that is then cut to `len` cells.
-    /// On an error, which a column past the greatest number gives too, the cells are as before.
+    /// Sets a cell as `set_cell` does, in a list that is then cut to `len` cells. A text becomes a vector.
+    /// On an error, which a cell past the greatest column gives too, the cells are as before.
     #[inline(always)]
     pub fn set_cell_within(&mut self, i: usize, cell: Cell, len: usize) -> Result<(), AllocError>
         ensures ok { OnOk result (cells_of self.new ≡ take len (set_cell i cell (cells_of self.old))) }
@@ -147,8 +151,8 @@ impl CellStorage {
         Ok(())
     }
 
-    /// Sets the cell of each character of a run of printable ASCII, in order from a column on, with attributes that take no memory.
-    /// On an error, which a column past the greatest number gives too, the cells are as before.
+    /// Sets the cell of each character of a run of printable ASCII, in order from a column on, with attributes that take no memory. A text becomes a vector, also by an empty run.
+    /// On an error, which a cell past the greatest column gives too, the cells are as before.
     #[inline]
     pub fn set_run(&mut self, i: usize, run: &str, attrs: &CellAttributes) -> Result<(), AllocError>
         requires plain { list_all is_plain run.now ≡ true }
@@ -164,7 +168,8 @@ impl CellStorage {
         Ok(())
     }
 
-    /// Sets a default blank in each of the columns from one up to another, in order. On an error the cells are as before.
+    /// Sets a default blank in each of the columns from `from` up to `to`, which is not among them, in order. A text becomes a vector, also where there is no such column.
+    /// On an error the cells are as before.
     pub fn set_blanks(&mut self, from: usize, to: usize) -> Result<(), AllocError>
         ensures ok { OnOk result (cells_of self.new ≡ fill (to - from) from blank (cells_of self.old)) }
         ensures err { OnErr result (cells_of self.new ≡ cells_of self.old) }
@@ -174,7 +179,7 @@ impl CellStorage {
         Ok(())
     }
 
-    /// Makes the list this many default blanks in a vector. It takes memory only where a vector grows, or is made. On an error the cells are as before.
+    /// Makes the list this many default blanks, in a vector. It can only fail where the list grows, or a text becomes a vector. On an error the cells are as before.
     pub fn blank_out(&mut self, len: usize) -> Result<(), AllocError>
         ensures ok { OnOk result (cells_of self.new ≡ replicate len blank) }
         ensures err { OnErr result (cells_of self.new ≡ cells_of self.old) }
@@ -189,8 +194,8 @@ impl CellStorage {
         Ok(())
     }
 
-    /// Cuts the list, or grows it by default blanks. Where it grows and its last visible cell lacks its half, the half comes first.
-    /// On an error the cells are as before.
+    /// Cuts the list to this many cells, or grows it by default blanks. Where it grows and its last visible cell is wide and lacks its half, the half comes first. A text becomes a vector, also where the length stays.
+    /// It can only fail where the list grows, or a text becomes a vector. On an error the cells are as before.
     pub fn resize(&mut self, len: usize) -> Result<(), AllocError>
         ensures ok { OnOk result (cells_of self.new ≡ resized len (cells_of self.old)) }
         ensures err { OnErr result (cells_of self.new ≡ cells_of self.old) }
@@ -201,7 +206,7 @@ impl CellStorage {
         Ok(())
     }
 
-    /// Cuts the list to this many cells. On an error the cells are as before.
+    /// Cuts the list to at most this many cells. A text becomes a vector, also where nothing is cut, and only that can fail. On an error the cells are as before.
     pub fn truncate(&mut self, len: usize) -> Result<(), AllocError>
         ensures ok { OnOk result (cells_of self.new ≡ take len (cells_of self.old)) }
         ensures err { OnErr result (cells_of self.new ≡ cells_of self.old) }
@@ -213,7 +218,7 @@ impl CellStorage {
     }
 
     /// Marks the last visible cell and the stored cell that it hides as wrapped, or not. An empty list first gets a default blank.
-    /// On an error the cells are as before.
+    /// With a vector that has cells it never fails. On an error the cells are as before.
     pub fn set_last_wrapped(&mut self, wrapped: bool) -> Result<(), AllocError>
         ensures ok { OnOk result (cells_of self.new ≡ set_last_wrapped wrapped (cells_of self.old)) }
         ensures err { OnErr result (cells_of self.new ≡ cells_of self.old) }
@@ -227,7 +232,7 @@ impl CellStorage {
         Ok(())
     }
 
-    /// How many cells are left without the default blanks that end the list.
+    /// How many cells are left without the visible default blanks that end the list. The hidden cell behind a wide one is none of these.
     pub fn kept_len(&self) -> usize
         ensures { IsKept (cells_of self.now) result }
     {
@@ -257,7 +262,7 @@ impl CellStorage {
         }
     }
 
-    /// The storage as a vector, which it is from then on. Its cells can be written: the list is then what was written, and another vector where one was assigned.
+    /// The storage as a vector, which it is from then on. Its cells can be written: the list is then what was written, and another vector where one was assigned. With a vector it never fails. On an error nothing changed.
     #[inline(never)]
     pub fn coerce_vec(&mut self) -> Result<&mut VecStorage, AllocError>
         ensures* writes_back { sem 𝓛 (LendsVector self.entry result) }
@@ -273,8 +278,8 @@ impl CellStorage {
         }
     }
 
-    /// Puts the cells in a text, which takes far less memory. A vector stays one where a hidden cell isn't a blank with the attributes of the cell that hides it, or where the last visible cell is wide and lacks its half.
-    /// The list of cells stays. On an error nothing changed.
+    /// Puts the cells in a text, which takes far less memory where cells in a row are alike. A vector stays one where a hidden cell isn't a blank with the attributes of the cell that hides it, or where the last visible cell is wide and lacks its half.
+    /// The list of cells stays. On an error, which a visible cell of 2^32 bytes or more gives too, nothing changed.
     pub fn compress(&mut self, alloc: Global) -> Result<(), AllocError>
         ensures cells { cells_of self.new ≡ cells_of self.old }
         ensures clustered { OnOk result (is_vector self.new ≡ false ↔ IsWhole (cells_of self.old)) }
@@ -338,7 +343,7 @@ impl Eq for CellStorage {
 }
 
 impl CellStorage {
-    // Whether each hidden cell is the half of the one that hides it, and no wide cell lacks its half. The reader of a text's length knows it.
+    // Whether each hidden cell is the half of the one that hides it, and no visible wide cell lacks its half. The reader of a text's length knows it.
     fn is_whole(&self) -> bool
         ensures { IsTrue result ↔ IsWhole (cells_of self.now) }
     {

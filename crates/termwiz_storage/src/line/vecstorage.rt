@@ -27,7 +27,7 @@ use std::{mem, slice};
 use termwiz_cell::cell::{Cell, CellAttributes};
 pub(crate) use wrapped::set_wrapped;
 
-/// The cells of a line, each with a place of its own.
+/// The cells of a line, each with a place of its own. It is read, and written, as a slice of cells.
 #[derive(Drop, Debug)]
 pub struct VecStorage {
     cells: Vec<Cell>,
@@ -56,7 +56,7 @@ impl VecStorage {
         VecStorage { cells, used }
     }
 
-    /// How many cells are stored.
+    /// How many cells are stored, hidden ones among them.
     pub fn len(&self) -> usize
         ensures { result ≡ length self.now }
     {
@@ -70,14 +70,14 @@ impl VecStorage {
         self.cells.is_empty()
     }
 
-    /// The stored cells.
+    /// The stored cells, hidden ones among them.
     pub fn cells(&self) -> &[Cell]
         ensures { result.now ≡ self.now }
     {
         &self.cells
     }
 
-    /// The visible cells.
+    /// The visible cells, in order.
     pub fn iter(&self) -> VecStorageIter<'_>
         ensures { result ≡ visible self.now }
     {
@@ -170,8 +170,8 @@ impl VecStorage {
         Ok(())
     }
 
-    /// Sets a cell. The list is padded so far, a wide cell that is cut leaves a blank with its attributes, and the half of a wide cell follows it.
-    /// On an error, which a column past the greatest number gives too, nothing changed.
+    /// Sets the cell at a column, and behind a wide one its half. The list is first padded with default blanks as far as these need, and a wide cell stored right before the column becomes a blank with its attributes.
+    /// On an error, which a cell past the greatest column gives too, nothing changed.
     #[inline(always)]
     pub(crate) fn set_cell(&mut self, i: usize, cell: Cell) -> Result<(), AllocError>
         ensures ok { OnOk result (self.new ≡ set_cell i cell self.old) }
@@ -185,7 +185,7 @@ impl VecStorage {
         Ok(())
     }
 
-    /// Sets a cell as `set_cell` does, in a list that is then cut to `len` cells. On an error, which a column past the greatest number gives too, nothing changed.
+    /// Sets a cell as `set_cell` does, in a list that is then cut to `len` cells. On an error, which a cell past the greatest column gives too, nothing changed.
     #[inline(always)]
     pub(crate) fn set_cell_within(
         &mut self,
@@ -213,7 +213,7 @@ impl VecStorage {
     }
 
     /// Sets the cell of each character of a run of printable ASCII, in order from a column on, with attributes that take no memory. It takes memory only where the list grows.
-    /// On an error, which a column past the greatest number gives too, nothing changed.
+    /// On an error, which a cell past the greatest column gives too, nothing changed.
     pub(crate) fn set_run(
         &mut self,
         i: usize,
@@ -244,7 +244,7 @@ impl VecStorage {
         put_cells(&mut self.cells, i, run, attrs);
     }
 
-    /// Sets a default blank in each of the columns from one up to another, in order. On an error nothing changed.
+    /// Sets a default blank in each of the columns from `from` up to `to`, which is not among them, in order. On an error nothing changed.
     pub(crate) fn set_blanks(&mut self, from: usize, to: usize) -> Result<(), AllocError>
         ensures ok { OnOk result (self.new ≡ fill (to - from) from blank self.old) }
         ensures err { OnErr result (self.new ≡ self.old) }
@@ -268,7 +268,7 @@ impl VecStorage {
         }
     }
 
-    /// Cuts the list.
+    /// Cuts the list to at most this many cells.
     pub(crate) fn truncate(&mut self, len: usize)
         ensures { self.new ≡ take len self.old }
     {
@@ -276,7 +276,7 @@ impl VecStorage {
         self.used = self.used.min(len);
     }
 
-    /// Makes the list this many default blanks. It takes memory only where it grows. On an error nothing changed.
+    /// Makes the list this many default blanks. It can only fail where the list grows. On an error nothing changed.
     pub(crate) fn blank_out(&mut self, len: usize) -> Result<(), AllocError>
         ensures ok { OnOk result (self.new ≡ replicate len blank) }
         ensures err { OnErr result (self.new ≡ self.old) }
@@ -322,8 +322,8 @@ impl VecStorage {
         hidden
     }
 
-    /// Cuts the list, or grows it by default blanks. Where it grows and its last visible cell lacks its half, the half comes first.
-    /// On an error nothing changed.
+    /// Cuts the list to this many cells, or grows it by default blanks. Where it grows and its last visible cell is wide and lacks its half, the half comes first.
+    /// It can only fail where the list grows. On an error nothing changed.
     pub(crate) fn resize(&mut self, len: usize) -> Result<(), AllocError>
         ensures ok { OnOk result (self.new ≡ resized len self.old) }
         ensures err { OnErr result (self.new ≡ self.old) }
@@ -344,7 +344,7 @@ impl VecStorage {
         Ok(())
     }
 
-    /// How many cells are left without the default blanks that end the list.
+    /// How many cells are left without the visible default blanks that end the list.
     pub(crate) fn kept_len(&self) -> usize
         ensures { IsKept self.now result }
     {
@@ -386,7 +386,7 @@ impl VecStorage {
         end
     }
 
-    // The column behind the last visible cell that is no default blank, where no stored one behind `end` is another.
+    // The column behind the last visible cell that is no default blank, where all stored ones from `end` on are default blanks.
     fn walked_len(&self, end: usize) -> usize
         requires within { end ≤ length self.now }
         requires rest { IsUsedTo end self.now }
@@ -469,7 +469,7 @@ fn half_behind(cells: &Vec<Cell>) -> Result<Cell, AllocError>
     Ok(Cell::blank_with_attrs(attrs))
 }
 
-// What follows a wide cell.
+// The half of a cell.
 fn half_of(cell: &Cell) -> Result<Cell, AllocError>
     ensures { IfOk result (λ made. made ≡ half cell.now) }
 {

@@ -18,7 +18,7 @@ use termwiz_cell::emoji::Widths;
 impl<W: Widths> Surface<W> {
     /// Draws what another surface shows on this one, from this column and row on, counted from 0. What doesn't fit is left out: where the place lies outside, that is all of it. Cells that this surface shows there already are not printed again.
     ///
-    /// The cursor and the pen are set back by the last two changes, so they are as before, a pending wrap too. Where both surfaces measure texts alike and no wide grapheme of either crosses an edge of its region, this one's shows then what the other's does, and all else stays. What crosses an edge is printed whole.
+    /// Where anything is printed, the last two changes set back the cursor and the pen, so they are as before, a pending wrap too. Where both surfaces measure texts alike and no wide grapheme of either crosses an edge of its region, this one's shows then what the other's does, and all else stays. What crosses an edge is printed whole.
     ///
     /// The changes are made and logged as one list, and the answer is that of `add_changes`. `Numbers`: nothing has changed. `Memory`: either there was none for the list, and nothing has changed, or the surface is as after `add_changes`. `ScrollRegion` never comes.
     pub fn draw_from_screen(
@@ -44,7 +44,7 @@ impl<W: Widths> Surface<W> {
 
     /// Copies what a region shows, of this column, row, width and height, to the region of this size from another column and row on, all counted from 0. The regions may overlap: what is copied is what was shown before. Both are cut to what fits in the surface; where one begins outside, nothing is copied. Cells that are shown there already are not printed again.
     ///
-    /// Where no wide grapheme crosses an edge of either region, the second one shows then what the first did, and all else stays. What crosses an edge is printed whole. The cursor stays behind the last grapheme that was printed, with its pen.
+    /// Where no wide grapheme crosses an edge of either region, the second one shows then what the first did, and all else stays. What crosses an edge is printed whole. Where anything is printed, the cursor is left behind the last grapheme, with its pen.
     ///
     /// The changes are made and logged as one list, and the answer is that of `add_changes`. `Numbers`: nothing has changed. `Memory`: either there was none for the list, and nothing has changed, or the surface is as after `add_changes`. `ScrollRegion` never comes.
     pub fn copy_region(

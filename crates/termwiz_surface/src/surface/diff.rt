@@ -28,9 +28,9 @@ use termwiz_cell::emoji::Widths;
 use termwiz_line::line::line::Line;
 
 impl<W: Widths> Surface<W> {
-    /// The changes that make this surface show what another one of its size shows: made by `add_changes`, they give it the other's rows. They print exactly the cells that it doesn't show yet, and there are none where the rows are equal. Where the sizes differ, what fits in both is compared.
+    /// The changes that make this surface show what another one of its size shows: made by `add_changes`, they give it the other's rows by exactly the cells that it doesn't show yet, where both measure texts alike. There are none where the rows are equal. Where the sizes differ, what fits in both is compared.
     ///
-    /// They are moves, pens and texts alone, at most three for each cell that they print, and leave the cursor behind the last cell with its pen.
+    /// They are moves, pens and texts alone, at most three for each cell that they print. Where there are some, they leave the cursor behind the last cell, with its pen.
     pub fn diff_screens(&self, other: &Surface<W>) -> Result<Vec<Change>, AllocError>
         // The equation in `IsDiff` says where the exact prints are promised: where both have one width function, and for lines, by `f ≡ f`, always.
         ensures diff { IfOk result (λ l. let f = unversioned (W.width_of self.now.widths) in let a = screen_of self.now in let b = screen_of other.now in IsDiff f a (f ≡ unversioned (W.width_of other.now.widths)) (need a.rows b.rows (cut (whole a.width a.height) a.width a.height b.width b.height)) (map change_value l.items)) }
@@ -42,9 +42,9 @@ impl<W: Widths> Surface<W> {
         self.diff_of(other, Region::band(self.width, 0, self.height))
     }
 
-    /// The changes that print what a region of another surface shows and the region of this size from this column and row on doesn't. Regions are cut to what fits in both surfaces; where one begins outside, there is nothing to print.
+    /// The changes that print what a region of another surface shows and the region of this size from this column and row on doesn't, all counted from 0. Regions are cut to what fits in both surfaces; where one begins outside, there is nothing to print.
     ///
-    /// Where no wide grapheme of either surface crosses an edge of its region, made by `add_changes` they give the region of this surface what the other's shows, and all else stays. What crosses an edge is printed whole.
+    /// Where both measure texts alike and no wide grapheme of either surface crosses an edge of its region, made by `add_changes` they give the region of this surface what the other's shows, and all else stays. What crosses an edge is printed whole.
     pub fn diff_region(
         &self,
         x: usize,

@@ -11,7 +11,7 @@ use termwiz_cell::emoji::Widths;
 use termwiz_line::line::line::Line;
 
 impl<W: Widths> Surface<W> {
-    /// The rows from the top, as they are stored: a row may be shorter than the surface is wide, and shows default blanks behind its cells. Nothing reads the numbers of these lines.
+    /// The rows from the top, as they are stored: a row may be shorter than the surface is wide, and shows default blanks behind its cells. The numbers of these lines are 0, so `changed_since` is always true: what has changed `get_changes` tells.
     pub fn screen_lines(&self) -> Result<Vec<&Line>, AllocError>
         ensures cells { IfOk result (λ lines. map (λ l. l.now.cells) lines.items ≡ self.now.lines) }
         ensures flags { IfOk result (λ lines. map (λ l. l.now.flags) lines.items ≡ self.now.flags) }

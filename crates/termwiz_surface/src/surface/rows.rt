@@ -1,4 +1,4 @@
-//! The rows of a surface: lines whose numbers nothing reads.
+//! The rows of a surface: lines that all have the number 0.
 ghost use Rattle.std.specs.Prelude.{◌≡◌, ◌+◌, ℕ, true, false, [], ◌∷◌, length, drop, ◌-◌, ◌<◌, ◌≤◌, slice_set, get_or, replicate, take, map, string_bytes, ◌++◌, IfOk, OnOk, OnErr};
 ghost use Rattle.std.specs.VecDeque.{deque_len, deque_capacity};
 ghost use Rattle.termwiz_cell.specs.CellValue.{blank};

@@ -9,10 +9,10 @@ use termwiz_cell::cell::CellAttributes;
 use termwiz_cell::change::CursorVisibility;
 use termwiz_line::line::line::Line;
 
-/// What a surface shows. Two screens are equal where all of this is, whatever the numbers of the rows.
+/// What a surface shows. Two screens are equal where all of this is, whatever the numbers and flags of the rows.
 #[derive(Drop, Debug)]
 pub struct Screen {
-    /// The columns.
+    /// How many columns there are.
     pub width: usize,
     /// How many rows there are.
     pub height: usize,

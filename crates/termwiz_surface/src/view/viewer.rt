@@ -16,9 +16,9 @@ use termwiz_cell::emoji::Widths;
 
 /// A surface that follows another one, its source: it shows what the source showed when it followed last.
 ///
-/// `follow` asks the source for what changed since the number that it gave last, and makes those changes. So a viewer gets a few changes where few were made, and the whole screen where the source no longer knows them; and where the source has another size, the viewer takes it first. A viewer's own surface logs what it made, so that viewers can follow a viewer.
+/// `follow` asks the source for what changed since the number that it gave last, and makes those changes. So a viewer gets a few changes where few were made, and the whole screen where the source no longer knows them; and where the source has another size, the viewer takes it first. A viewer's own surface logs what it made, so that viewers can follow a viewer. Nothing flushes that log: it grows with each change, and only another size, or a list that found no memory, empties it.
 ///
-/// A viewer is for one source. With another one that measures texts alike, call `follow` on a new viewer.
+/// A viewer is for one source: it keeps that one's number and width value. For another source make a new viewer.
 #[derive(Drop)]
 pub struct Viewer<W: Widths> {
     surface: Surface<W>,

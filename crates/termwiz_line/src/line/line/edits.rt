@@ -40,9 +40,9 @@ impl Line {
         Ok(())
     }
 
-    /// Sets the cell at a column. The line is padded with default blanks so far, a wide cell that is cut leaves a blank with its attributes, and the half of a wide cell follows it.
+    /// Sets the cell at a column. The line is padded with default blanks up to it, a wide cell that is cut leaves a blank with its attributes, and the half of a wide cell follows it.
     /// At the end of a line that stores its cells as one text it is appended to the text.
-    /// The line takes the number. On an error, which a column past the greatest number gives too, number, flags and cells are as before.
+    /// The line takes the number. On an error, which also comes where the cell would end past the greatest `usize`, number, flags and cells are as before.
     pub fn set_cell(&mut self, i: usize, cell: Cell, seqno: SequenceNo) -> Result<(), AllocError>
         ensures ok { OnOk result (IsEdited self.old (set_cell i cell self.old.cells) seqno self.new) }
         ensures err { OnErr result (IsUnchanged self.old self.new) }
@@ -55,7 +55,7 @@ impl Line {
     }
 
     /// Sets the cell of a text of this width at a column, as `set_cell` does. A width of 0 counts as 1.
-    /// The line takes the number. On an error, which a column past the greatest number gives too, number, flags and cells are as before.
+    /// The line takes the number. On an error, which also comes where the cell would end past the greatest `usize`, number, flags and cells are as before.
     pub fn set_cell_grapheme(
         &mut self,
         i: usize,
@@ -75,7 +75,7 @@ impl Line {
     }
 
     /// Sets the cell at a column as `set_cell` does, in a line that is then cut to `width` columns.
-    /// The line takes the number. On an error, which a column past the greatest number gives too, number, flags and cells are as before.
+    /// The line takes the number. On an error, which also comes where the cell would end past the greatest `usize`, number, flags and cells are as before.
     #[inline(always)]
     pub fn set_cell_within(
         &mut self,
@@ -93,8 +93,8 @@ impl Line {
         Ok(())
     }
 
-    /// Sets the cell of each character of a run of printable ASCII, in order from a column on, with attributes that take no memory. It takes memory only where the line grows.
-    /// The line takes the number. On an error, which a column past the greatest number gives too, number, flags and cells are as before.
+    /// Sets the cell of each character of a run of printable ASCII, in order from a column on, with attributes that take no memory. A vector takes memory only where it grows.
+    /// The line takes the number. On an error, which also comes where the run would end past the greatest `usize`, number, flags and cells are as before.
     pub fn set_run(
         &mut self,
         i: usize,
@@ -171,8 +171,8 @@ impl Line {
         self.storage.is_empty() && cell.is_blank()
     }
 
-    /// Sets the cell in each of the columns, in order, and then prunes. An empty line stays as it is where the cell is a default blank.
-    /// On an error the cell was set in some first columns, and nothing was pruned.
+    /// Sets the cell in each of the columns, in order, as `set_cell` does, and then prunes as `prune_trailing_blanks` does. So of a wide cell the last one stays, and each before it leaves its half. An empty line stays as it is where the cell is a default blank.
+    /// The line takes the number with the first cell that is set, and where pruning changes it. On an error the cell was set in some first columns, and nothing was pruned.
     pub fn fill_range(
         &mut self,
         range: Range<usize>,
@@ -194,7 +194,7 @@ impl Line {
     /// ```text
     /// |abcd|  X at 1, margin 4:  |aXbc|      X at 1, margin 3:  |aXbd|
     /// ```
-    /// The line takes the number. On an error, which a column past the greatest number gives too, number, flags and cells are as before.
+    /// The line takes the number. On an error, which also comes where the cell would end past the greatest `usize`, number, flags and cells are as before.
     pub fn insert_cell(
         &mut self,
         x: usize,
@@ -266,7 +266,7 @@ impl Line {
         Ok(())
     }
 
-    /// Keeps the cells up to a column, and the number. The rest is handed out as a line with the same flags and with the number that is given.
+    /// Keeps the cells before a column, and the number. The rest is handed out as a line with the same flags and with the number that is given.
     /// On an error number, flags and cells are as before.
     pub fn split_off(&mut self, i: usize, seqno: SequenceNo) -> Result<Line, AllocError>
         ensures kept { OnOk result (HasCells self.old (take i self.old.cells) self.new) }

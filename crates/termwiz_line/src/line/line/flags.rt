@@ -10,7 +10,7 @@ use bitflags::Flags;
 use termwiz_cell::change::{SEQ_ZERO, SequenceNo};
 
 impl Line {
-    /// The number of the last change.
+    /// The line's number: the greatest that it has taken since it was made or blanked out.
     pub fn current_seqno(&self) -> SequenceNo
         ensures { result ≡ self.now.seqno }
     {
@@ -31,7 +31,7 @@ impl Line {
         self.seqno = self.seqno.max(seqno);
     }
 
-    /// Whether each cell is shown one column wide and one row high.
+    /// Whether cells are shown in their own size, neither twice as wide nor as a half of two rows.
     pub fn is_single_width(&self) -> bool
         ensures { result ≡ not (self.now.flags.double_width || self.now.flags.double_height_top || self.now.flags.double_height_bottom) }
     {
@@ -40,7 +40,7 @@ impl Line {
             || self.bits.contains(LineBits::DOUBLE_HEIGHT_BOTTOM))
     }
 
-    /// Shows each cell one column wide and one row high. The line takes the number.
+    /// Shows cells in their own size. The line takes the number.
     pub fn set_single_width(&mut self, seqno: SequenceNo)
         ensures { self.new ≡ record self.old { flags = with_sizes false false false self.old.flags; seqno = max self.old.seqno seqno } }
     {
@@ -99,7 +99,7 @@ impl Line {
         self.seqno = self.seqno.max(seqno);
     }
 
-    /// Says whether who shows the line may lay out its text by the bidirectional algorithm. The line takes the number.
+    /// Says whether whoever shows the line may lay out its text by the bidirectional algorithm. The line takes the number.
     pub fn set_bidi_enabled(&mut self, enabled: bool, seqno: SequenceNo)
         ensures { self.new ≡ record self.old { flags = record self.old.flags { bidi_enabled = enabled }; seqno = max self.old.seqno seqno } }
     {

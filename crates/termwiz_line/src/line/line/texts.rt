@@ -24,7 +24,7 @@ use termwiz_storage::line::vecstorage::push_with_half;
 use termwiz_text::Graphemes;
 
 impl Line {
-    /// A line of the cells of a text's graphemes, the half of each wide one behind it, with these attributes. They are measured by the given version.
+    /// A line of the cells of a text's graphemes, the half of each wide one behind it, with these attributes. They are measured by the given version of Unicode.
     pub fn from_text<W: Widths>(
         alloc: Global,
         text: &str,
@@ -76,7 +76,7 @@ impl Line {
     /// |abcdef|  `xかy` from column 1:  |axかyf|      |ab|  `x` from column 4:  |ab  x|
     /// ```
     /// The line takes the number with the first; an empty text changes nothing.
-    /// On an error, which a column past the greatest number gives too, some first ones are set.
+    /// On an error, which also comes where a cell would end past the greatest `usize`, some first ones are set.
     pub fn overlay_text_with_attribute<W: Widths>(
         &mut self,
         start: usize,
@@ -142,7 +142,7 @@ impl Line {
         self.storage.has_hyperlink()
     }
 
-    /// Whether the text of each visible cell is a single space.
+    /// Whether the text of each visible cell is a single space, as of a line without cells.
     pub fn is_whitespace(&self) -> bool
         ensures { IsTrue result ↔ All (λ p. p.1.text ≡ space) (visible self.now.cells) }
     {

@@ -16,7 +16,7 @@ use termwiz_storage::line::cellref::{CellRef, VisibleCellIter};
 use termwiz_storage::line::vecstorage::push_with_half;
 
 impl Line {
-    /// Cuts the line into lines of at most this many columns, which have the number and no flags. A line takes as many cells as fit, and one at least; the half of a wide cell follows it. The cells behind the last one that isn't a space are dropped, and each line but the last is marked as wrapped.
+    /// Cuts the line into lines of at most this many columns, which have the number and no flags. A line takes as many cells as fit, and one at least, so a wide cell has a line of 2 columns where the width is less; the half of a wide cell follows it. The cells behind the last one that isn't a space are dropped, and each line but the last is marked as wrapped.
     /// ```text
     /// |aかb |  at 2 columns:  |a|  |か|  |b|
     /// ```

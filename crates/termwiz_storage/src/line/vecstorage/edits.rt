@@ -19,7 +19,7 @@ impl VecStorage {
         Ok(VecStorage::new(cells))
     }
 
-    /// Removes the cell at a column, where there is one. A wide cell that this cuts becomes a blank with its attributes.
+    /// Removes the stored cell at a column, where there is one. A wide cell stored right before it becomes a blank with its attributes.
     pub(crate) fn remove_cell(&mut self, x: usize)
         ensures { self.new ≡ removed x self.old }
     {
@@ -29,7 +29,7 @@ impl VecStorage {
         }
     }
 
-    /// Removes the cell at a column as `remove_cell` does, and appends a default blank.
+    /// Removes the cell at a column as `remove_cell` does, where there is one, and then appends a default blank.
     pub(crate) fn erase_cell(&mut self, x: usize)
         ensures { self.new ≡ erased x self.old }
     {
@@ -39,7 +39,7 @@ impl VecStorage {
         }
     }
 
-    /// Removes the cell at a column as `remove_cell` does, and inserts a blank with these attributes in the last column before a margin, where the list reaches up to it.
+    /// Removes the cell at a column as `remove_cell` does, where there is one, and then inserts a blank with these attributes in the last column before a margin, where the list reaches up to that column.
     /// On an error nothing changed.
     pub(crate) fn erase_cell_with_margin(
         &mut self,
@@ -63,8 +63,8 @@ impl VecStorage {
         Ok(())
     }
 
-    /// Inserts a cell at a column, and its half behind a wide one. The list is padded so far, and its last cell before a margin is removed first.
-    /// On an error, which a column past the greatest number gives too, nothing changed.
+    /// Inserts a cell at a column, and behind a wide one its half. First the stored cell in the last column before a margin is removed, where there is one, and the list is padded with default blanks up to the column.
+    /// On an error, which a cell past the greatest column gives too, nothing changed.
     pub(crate) fn insert_cell(
         &mut self,
         x: usize,
@@ -80,7 +80,7 @@ impl VecStorage {
         Ok(())
     }
 
-    /// Keeps the cells up to a column, and hands out the rest. On an error nothing changed.
+    /// Keeps the stored cells before a column, and hands out the rest. On an error nothing changed.
     pub(crate) fn split_off(&mut self, at: usize) -> Result<VecStorage, AllocError>
         ensures kept { OnOk result (self.new ≡ take at self.old) }
         ensures rest { IfOk result (λ rest. rest ≡ drop at self.old) }
@@ -103,7 +103,7 @@ impl VecStorage {
         Ok(())
     }
 
-    /// The visible cells that begin in the columns from one up to another, the half of each wide one behind it.
+    /// The visible cells that begin in the columns from `from` up to `to`, which is not among them, the half of each wide one behind it.
     pub(crate) fn columns(&self, from: usize, to: usize) -> Result<VecStorage, AllocError>
         ensures { IfOk result (λ cells. cells ≡ columns_between from to self.now) }
     {
@@ -232,7 +232,7 @@ fn insert_moving(
     Ok(())
 }
 
-/// Pushes a cell, and its half behind a wide one.
+/// Pushes a cell, and behind a wide one its half. On an error the wide cell may have been pushed without its half.
 pub fn push_with_half(out: &mut Vec<Cell>, cell: Cell) -> Result<(), AllocError>
     ensures { OnOk result (out.new.items ≡ out.old.items ++ with_half cell) }
 {
@@ -260,7 +260,7 @@ fn is_shown(i: usize, from: usize, hidden: bool) -> bool
     i >= from && !hidden
 }
 
-/// Whether a cell hides the next one.
+/// Whether a cell, which may be hidden itself, hides the next one.
 pub(crate) fn hides_next(cell: &Cell, hidden: bool) -> bool
     ensures { result ≡ (is_wide cell.now && not hidden) }
 {

@@ -32,7 +32,7 @@ impl VecStorage {
         self.used = self.cells.len();
     }
 
-    // Whether the cell before column i covers it.
+    // Whether the cell before column i hides it.
     fn is_hidden(&self, i: usize) -> bool
         requires { i ≤ length self.now }
         ensures value { result ≡ hides self.now i }

@@ -1,2 +1,4 @@
 pub mod Status
 pub mod LastRow
+pub mod Prompt
+pub mod Words

@@ -1,7 +1,9 @@
 //! A follower of one's own, which is sent what changed since it asked last.
-ghost use Rattle.std.specs.Prelude.{◌≡◌, IfOk, OnErr, OnOk};
+ghost use Rattle.std.specs.Prelude.{◌≡◌, [], ◌∷◌, IfOk, OnErr, OnOk};
+ghost use Rattle.termwiz_cell.specs.ChangeValue.{change_value};
 ghost use Rattle.termwiz_cell.specs.Width.{unversioned};
 ghost use Rattle.termwiz_surface.specs.Following.{Follows};
+ghost use Rattle.termwiz_surface.specs.Step.{replay};
 ghost use Rattle.termwiz_surface.specs.SurfaceValue.{screen_of};
 
 use std::alloc::{AllocError, Global};
@@ -87,6 +89,7 @@ pub fn make_and_show<W: Widths>(
     requires same_width { follower.old.surface.width ≡ surface.old.width }
     requires same_height { follower.old.surface.height ≡ surface.old.height }
     requires follows { Follows (λ widths. unversioned (W.width_of widths)) follower.old surface.old }
+    ensures made { OnOk result (screen_of surface.new ≡ replay (unversioned (W.width_of surface.old.widths)) (screen_of surface.old) (change_value change ∷ [])) }
     ensures shown { OnOk result (screen_of follower.new.surface ≡ screen_of surface.new) }
     ensures follows { Follows (λ widths. unversioned (W.width_of widths)) follower.new surface.new }
     ensures width { follower.new.surface.width ≡ surface.new.width }

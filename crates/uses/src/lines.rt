@@ -2,8 +2,11 @@
 ghost use Rattle.std.specs.Prelude.{◌≡◌, ◌<◌, ◌≤◌, IfOk, false, length, true};
 ghost use Rattle.termwiz_cell.specs.Attributes.{default_attributes};
 ghost use Rattle.termwiz_cell.specs.Width.{unversioned};
+ghost use Rattle.termwiz_storage.specs.Stored.{visible};
+ghost use Rattle.termwiz_line.specs.Clicks.{IsLower, IsUpper};
 ghost use Rattle.termwiz_line.specs.LineFlags.{no_flags, with_sizes};
 ghost use Rattle.termwiz_line.specs.Texts.{stored_text};
+ghost use Rattle.uses.specs.Words.{is_in_word};
 
 use std::alloc::{AllocError, Global};
 use std::ops::Range;
@@ -11,7 +14,7 @@ use termwiz_cell::change::SequenceNo;
 use termwiz_cell::emoji::Widths;
 use termwiz_line::line::line::{DoubleClickRange, Line};
 
-/// A line of a text that is shown twice as wide.
+/// A line of a text that is shown twice as wide, with a number.
 pub fn heading<W: Widths>(
     alloc: Global,
     text: &str,
@@ -20,15 +23,18 @@ pub fn heading<W: Widths>(
 ) -> Result<Line, AllocError>
     ensures text { IfOk result (λ line. line.cells ≡ stored_text (unversioned (W.width_of widths.now)) default_attributes text.now) }
     ensures wide { IfOk result (λ line. line.flags ≡ with_sizes true false false no_flags) }
+    ensures numbered { IfOk result (λ line. line.seqno ≡ seqno) }
 {
     let mut line = Line::from_plain(alloc, text, widths)?;
     line.set_double_width(seqno);
     Ok(line)
 }
 
-/// The columns of the word at a column of a line.
+/// The columns of the word at a column of a line: the longest run of cells there that are no spaces.
 pub fn word_at(line: &Line, column: usize) -> Range<usize>
     requires { column < length line.now.cells }
+    ensures start { IsLower is_in_word (visible line.now.cells) column result.start }
+    ensures end { IsUpper is_in_word (visible line.now.cells) column result.end }
     ensures before { result.start ≤ column }
     ensures behind { column ≤ result.end }
     ensures within { result.end ≤ length line.now.cells }

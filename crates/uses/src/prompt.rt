@@ -1,5 +1,7 @@
 //! The prompt of a line editor: a line to edit and a hint below it.
 ghost use Rattle.std.specs.Prelude.{◌≡◌, pos, ◌<◌, OnOk};
+ghost use Rattle.termwiz_cell.specs.Width.{unversioned};
+ghost use Rattle.uses.specs.Prompt.{prompted};
 
 use std::alloc::Global;
 use termwiz_cell::change::Change;
@@ -17,8 +19,11 @@ pub fn show_prompt<W: Widths>(
     column: usize,
 ) -> Result<(), SequenceError>
     requires { column < sequence.old.columns }
+    ensures added { OnOk result (sequence.new ≡ prompted (unversioned (W.width_of sequence.old.widths)) sequence.old line.now hint.now column) }
     // However long both are, and wherever the cursor was.
-    ensures { OnOk result (sequence.new.cursor ≡ (column, pos 0)) }
+    ensures shown { OnOk result (sequence.new.cursor ≡ (column, pos 0)) }
+    // So the next prompt can be shown, after an error too.
+    ensures columns { sequence.new.columns ≡ sequence.old.columns }
 {
     // A move leads where it is to lead, if that is on the screen.
     sequence_laws();

@@ -75,13 +75,13 @@ impl<W: Widths> Canvas<W> {
 
     /// Makes a step, and answers with its number.
     pub fn add(&mut self, rt: &impl Abort, step: &Step<'_>) -> SequenceNo {
-        let change = step.change(self.alloc).expect(rt, "a change");
+        let change = step.change(rt, self.alloc);
         self.add_change(rt, change)
     }
 
     /// Makes the steps as one list, and answers with its number.
     pub fn add_list(&mut self, rt: &impl Abort, steps: &[Step<'_>]) -> SequenceNo {
-        let changes = changes(self.alloc, steps).expect(rt, "a list of changes");
+        let changes = changes(rt, self.alloc, steps);
         self.add_changes(rt, changes)
     }
 
@@ -224,7 +224,7 @@ impl<W: Widths> Canvas<W> {
 
     /// The list is refused, since a region of it goes past the last row.
     pub fn assert_refused(&mut self, rt: &impl Abort, steps: &[Step<'_>]) {
-        let changes = changes(self.alloc, steps).expect(rt, "a list of changes");
+        let changes = changes(rt, self.alloc, steps);
         let refused = self.surface.add_changes(changes);
         assert!(rt; matches!(refused, Err(SurfaceError::ScrollRegion)));
     }
@@ -330,6 +330,6 @@ pub fn assert_lent<W: Widths>(
 
 // The changes are these steps.
 fn assert_changes(rt: &impl Abort, alloc: Global, made: &[Change], steps: &[Step<'_>]) {
-    let expected = changes(alloc, steps).expect(rt, "a list of changes");
+    let expected = changes(rt, alloc, steps);
     assert!(rt; *made == *expected.as_slice());
 }

@@ -1,5 +1,5 @@
 //! The changes that examples are made of.
-ghost use Rattle.std.specs.Prelude.{◌≡◌, pos, IfOk};
+ghost use Rattle.std.specs.Prelude.{◌≡◌, pos};
 ghost use Rattle.termwiz_cell.specs.Attributes.{default_attributes};
 ghost use Rattle.termwiz_cell.specs.ChangeValue.{change_value};
 ghost use Rattle.termwiz_cell.specs.ChangeValue as change;
@@ -7,7 +7,8 @@ ghost use Rattle.termwiz_cell.specs.declared.color.ColorAttribute.TheVariants as
 ghost use Rattle.termwiz_cell.specs.declared.change.Position.TheVariants as position;
 ghost use Rattle.termwiz_cell.specs.declared.change.CursorVisibility.TheVariants as cursor;
 
-use std::alloc::{AllocError, Global};
+use std::alloc::Global;
+use std::process::Abort;
 use termwiz_cell::cell::CellAttributes;
 use termwiz_cell::change::{Change, CursorVisibility, Position};
 use termwiz_cell::color::ColorAttribute;
@@ -34,10 +35,10 @@ pub fn cleared() -> Change
 }
 
 /// Prints a text.
-pub fn text(alloc: Global, text: &str) -> Result<Change, AllocError>
-    ensures { IfOk result (λ made. change_value made ≡ change.Text text.now) }
+pub fn text(rt: &impl Abort, alloc: Global, text: &str) -> Change
+    ensures { change_value result ≡ change.Text text.now }
 {
-    Change::text_from(alloc, text)
+    Change::text_from(alloc, text).expect(rt, "memory")
 }
 
 /// Moves the cursor to a column and a row.

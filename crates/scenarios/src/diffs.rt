@@ -3,7 +3,6 @@ use crate::canvas::Canvas;
 use crate::steps::{PLAIN, RED, Step, Style};
 use std::alloc::Global;
 use std::process::Abort;
-use std::test::Fail;
 use termwiz_cell::emoji::UnicodeWidths;
 use termwiz_line::line::line::Line;
 
@@ -175,46 +174,47 @@ const TWO_LINES: [Step<'static>; 5] = [
     Step::Print("か"),
 ];
 
+// A line of this text.
+fn plain(rt: &impl Abort, alloc: Global, text: &str) -> Line {
+    Line::from_plain(alloc, text, &UnicodeWidths).expect(rt, "memory")
+}
+
 #[test]
-fn lines_are_compared_with_the_rows_from_the_top(rt: HostRuntime) -> Result<(), Fail> {
+fn lines_are_compared_with_the_rows_from_the_top(rt: HostRuntime) {
     let alloc = rt.alloc();
     let mut fresh = Canvas::new(&rt, alloc, 3, 2, UnicodeWidths, &[]);
-    let long = Line::from_plain(alloc, "abcd", &UnicodeWidths)?;
-    let wide = Line::from_plain(alloc, "か", &UnicodeWidths)?;
-    let lines = vec![in alloc; &long, &wide]?;
+    let long = plain(&rt, alloc, "abcd");
+    let wide = plain(&rt, alloc, "か");
+    let lines = vec![in alloc; &long, &wide].expect(&rt, "memory");
     fresh.assert_lines_diff(&rt, lines, &TWO_LINES);
     fresh.add_list(&rt, &TWO_LINES);
     fresh.assert_rows(&rt, "abc\nか \n");
-    Ok(())
 }
 
 #[test]
-fn lines_past_the_last_row_are_left_out(rt: HostRuntime) -> Result<(), Fail> {
+fn lines_past_the_last_row_are_left_out(rt: HostRuntime) {
     let alloc = rt.alloc();
     let fresh = Canvas::new(&rt, alloc, 3, 2, UnicodeWidths, &[]);
-    let long = Line::from_plain(alloc, "abcd", &UnicodeWidths)?;
-    let wide = Line::from_plain(alloc, "か", &UnicodeWidths)?;
-    let lines = vec![in alloc; &long, &wide, &long]?;
+    let long = plain(&rt, alloc, "abcd");
+    let wide = plain(&rt, alloc, "か");
+    let lines = vec![in alloc; &long, &wide, &long].expect(&rt, "memory");
     fresh.assert_lines_diff(&rt, lines, &TWO_LINES);
-    Ok(())
 }
 
 #[test]
-fn a_line_is_compared_with_no_row_past_the_last(rt: HostRuntime) -> Result<(), Fail> {
+fn a_line_is_compared_with_no_row_past_the_last(rt: HostRuntime) {
     let alloc = rt.alloc();
     let fresh = Canvas::new(&rt, alloc, 3, 2, UnicodeWidths, &[]);
-    let long = Line::from_plain(alloc, "abcd", &UnicodeWidths)?;
+    let long = plain(&rt, alloc, "abcd");
     fresh.assert_line_diff(&rt, 5, &long, &[]);
-    Ok(())
 }
 
 #[test]
-fn a_line_is_compared_with_the_row_of_its_number(rt: HostRuntime) -> Result<(), Fail> {
+fn a_line_is_compared_with_the_row_of_its_number(rt: HostRuntime) {
     let alloc = rt.alloc();
     let words = Canvas::new(&rt, alloc, 4, 3, UnicodeWidths, &WORDS);
-    let line = Line::from_plain(alloc, "aa", &UnicodeWidths)?;
+    let line = plain(&rt, alloc, "aa");
     words.assert_line_diff(&rt, 5, &line, &[]);
     let steps = [Step::At(2, 1), Step::DefaultPen, Step::Print("  ")];
     words.assert_line_diff(&rt, 1, &line, &steps);
-    Ok(())
 }

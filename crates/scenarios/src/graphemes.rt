@@ -2,9 +2,8 @@
 use crate::canvas::Canvas;
 use crate::steps::Step;
 use crate::widths::AllWide;
-use std::alloc::{AllocError, Global};
+use std::alloc::Global;
 use std::process::Abort;
-use std::test::Fail;
 use termwiz_cell::cell::{Cell, CellAttributes};
 use termwiz_cell::emoji::{OneColumn, UnicodeWidths};
 
@@ -76,26 +75,19 @@ fn regional_indicators_printed_apart(rt: HostRuntime) {
 }
 
 // The cell of this grapheme is one space.
-fn assert_space(rt: &impl Abort, alloc: Global, control: &str) -> Result<(), AllocError> {
-    let cell = Cell::new_grapheme(
-        alloc,
-        &UnicodeWidths,
-        control,
-        CellAttributes::blank(),
-        None,
-    )?;
+fn assert_space(rt: &impl Abort, alloc: Global, control: &str) {
+    let pen = CellAttributes::blank();
+    let cell = Cell::new_grapheme(alloc, &UnicodeWidths, control, pen, None).expect(rt, "memory");
     assert_eq!(rt; cell.str(), " ");
     assert_eq!(rt; cell.width(), 1);
-    Ok(())
 }
 
 #[test]
-fn controls_become_one_space(rt: HostRuntime) -> Result<(), Fail> {
+fn controls_become_one_space(rt: HostRuntime) {
     let alloc = rt.alloc();
     for control in ["", " ", "\n", "\r", "\t", "\r\n", "\u{7f}"] {
-        assert_space(&rt, alloc, control)?;
+        assert_space(&rt, alloc, control);
     }
     let canvas = Canvas::new(&rt, alloc, 3, 1, UnicodeWidths, &[Step::Print("a\tb")]);
     canvas.assert_shows(&rt, "a b\n", (3, 0));
-    Ok(())
 }

@@ -3,7 +3,6 @@ use crate::canvas::Canvas;
 use crate::steps::{PLAIN, Step};
 use std::alloc::Global;
 use std::process::Abort;
-use std::test::Fail;
 use termwiz_cell::change::{Change, CursorVisibility, Position};
 use termwiz_cell::color::ColorAttribute;
 use termwiz_cell::emoji::{OneColumn, UnicodeWidths};
@@ -155,7 +154,7 @@ fn screens_are_compared_by_what_they_show(rt: HostRuntime) {
 }
 
 #[test]
-fn refusals_say_why(rt: HostRuntime) -> Result<(), Fail> {
+fn refusals_say_why(rt: HostRuntime) {
     for (error, text) in [
         (
             SurfaceError::ScrollRegion,
@@ -164,7 +163,9 @@ fn refusals_say_why(rt: HostRuntime) -> Result<(), Fail> {
         (SurfaceError::Numbers, "the numbers of changes are used up"),
         (SurfaceError::Memory, "out of memory"),
     ] {
-        assert_eq!(rt; error.to_string(rt.alloc())?.as_str(), text);
+        assert_eq!(rt;
+            error.to_string(rt.alloc()).expect(&rt, "memory").as_str(),
+            text
+        );
     }
-    Ok(())
 }

@@ -1,9 +1,8 @@
 //! Texts that are printed in runs, beside the same texts set grapheme by grapheme.
 use crate::canvas::Canvas;
 use crate::steps::Step;
-use std::alloc::{AllocError, Global};
+use std::alloc::Global;
 use std::process::Abort;
-use std::test::Fail;
 use termwiz_cell::cell::{Cell, CellAttributes};
 use termwiz_cell::change::{Change, CursorVisibility, SEQ_ZERO};
 use termwiz_cell::color::{ColorAttribute, RgbColor};
@@ -25,12 +24,13 @@ struct Sheet {
 }
 
 impl Sheet {
-    fn new(alloc: Global, width: usize, height: usize) -> Result<Sheet, AllocError> {
+    fn new(rt: &impl Abort, alloc: Global, width: usize, height: usize) -> Sheet {
         let mut lines = Vec::new(alloc);
         for _ in 0..height {
-            lines.push(Line::with_width(alloc, width, SEQ_ZERO)?)?;
+            let line = Line::with_width(alloc, width, SEQ_ZERO).expect(rt, "memory");
+            lines.push(line).expect(rt, "memory");
         }
-        Ok(Sheet {
+        Sheet {
             alloc,
             width,
             height,
@@ -38,69 +38,69 @@ impl Sheet {
             x: 0,
             y: 0,
             pen: CellAttributes::blank(),
-        })
+        }
     }
 
-    fn go_down(&mut self) -> Result<(), AllocError> {
+    fn go_down(&mut self, rt: &impl Abort) {
         let below = self.y.saturating_add(1);
         if below < self.height {
             self.y = below;
-            return Ok(());
+            return;
         }
         if !self.lines.is_empty() {
             let _ = self.lines.remove(0);
         }
-        self.lines
-            .push(Line::with_width(self.alloc, self.width, SEQ_ZERO)?)?;
-        Ok(())
+        let line = Line::with_width(self.alloc, self.width, SEQ_ZERO).expect(rt, "memory");
+        self.lines.push(line).expect(rt, "memory");
     }
 
-    fn set(&mut self, grapheme: &str) -> Result<(), AllocError> {
+    fn set(&mut self, rt: &impl Abort, grapheme: &str) {
         if self.x >= self.width {
-            self.go_down()?;
+            self.go_down(rt);
             self.x = 0;
         }
-        let pen = self.pen.clone()?;
-        let cell = Cell::new_grapheme(self.alloc, &UnicodeWidths, grapheme, pen, None)?;
+        let pen = self.pen.clone().expect(rt, "memory");
+        let cell = Cell::new_grapheme(self.alloc, &UnicodeWidths, grapheme, pen, None).expect(
+            rt, "memory",
+        );
         let end = self.x.saturating_add(cell.width());
         if let Some(line) = self.lines.get_mut(self.y) {
-            line.set_cell(self.x, cell, SEQ_ZERO)?;
+            line.set_cell(self.x, cell, SEQ_ZERO).expect(rt, "memory");
             if line.len() > self.width {
-                line.resize(self.width, SEQ_ZERO)?;
+                line.resize(self.width, SEQ_ZERO).expect(rt, "memory");
             }
         }
         self.x = end.min(self.width);
-        Ok(())
     }
 
-    fn print(&mut self, text: &str) -> Result<(), AllocError> {
+    fn print(&mut self, rt: &impl Abort, text: &str) {
         for grapheme in text.graphemes(true) {
             match grapheme {
                 "\r" => self.x = 0,
-                "\n" => self.go_down()?,
+                "\n" => self.go_down(rt),
                 "\r\n" => {
-                    self.go_down()?;
+                    self.go_down(rt);
                     self.x = 0;
                 }
-                _ => self.set(grapheme)?,
+                _ => self.set(rt, grapheme),
             }
         }
-        Ok(())
     }
 
-    fn screen(&self) -> Result<Screen, AllocError> {
+    fn screen(&self, rt: &impl Abort) -> Screen {
         let mut rows = Vec::new(self.alloc);
         for line in &self.lines {
-            rows.push(line.resized(self.width, SEQ_ZERO)?)?;
+            let row = line.resized(self.width, SEQ_ZERO).expect(rt, "memory");
+            rows.push(row).expect(rt, "memory");
         }
-        Ok(Screen {
+        Screen {
             width: self.width,
             height: self.height,
             rows,
             cursor: (self.x, self.y),
             visibility: CursorVisibility::Visible,
-            pen: self.pen.clone()?,
-        })
+            pen: self.pen.clone().expect(rt, "memory"),
+        }
     }
 }
 
@@ -127,30 +127,34 @@ const TEXTS: [&str; 16] = [
 ];
 
 // Attributes that take no memory, and attributes that do.
-fn pens(alloc: Global) -> Result<[CellAttributes; 3], AllocError> {
+fn pens(rt: &impl Abort, alloc: Global) -> [CellAttributes; 3] {
     let mut red = CellAttributes::blank();
-    red.change_foreground(alloc, ColorAttribute::PaletteIndex(1))?;
+    red.change_foreground(alloc, ColorAttribute::PaletteIndex(1))
+        .expect(rt, "memory");
     let mut orange = CellAttributes::blank();
     let color = RgbColor::new_8bpc(255, 128, 0);
-    orange.change_background(alloc, ColorAttribute::TrueColorWithDefaultFallback(color))?;
-    Ok([CellAttributes::blank(), red, orange])
+    orange
+        .change_background(alloc, ColorAttribute::TrueColorWithDefaultFallback(color))
+        .expect(rt, "memory");
+    [CellAttributes::blank(), red, orange]
 }
 
 // A sheet's screen after the text, which is set with the pen from a column of a row on.
 fn set(
+    rt: &impl Abort,
     alloc: Global,
     pen: &CellAttributes,
     x: usize,
     y: usize,
     line: &str,
-) -> Result<Screen, AllocError> {
-    let mut sheet = Sheet::new(alloc, 5, 2)?;
-    sheet.print(BEFORE)?;
-    sheet.pen = pen.clone()?;
+) -> Screen {
+    let mut sheet = Sheet::new(rt, alloc, 5, 2);
+    sheet.print(rt, BEFORE);
+    sheet.pen = pen.clone().expect(rt, "memory");
     sheet.x = x;
     sheet.y = y;
-    sheet.print(line)?;
-    sheet.screen()
+    sheet.print(rt, line);
+    sheet.screen(rt)
 }
 
 // A surface's screen after the same.
@@ -169,30 +173,24 @@ fn printed(
 }
 
 // Both show the same, wherever the text is printed.
-fn assert_same_print(
-    rt: &impl Abort,
-    alloc: Global,
-    pen: &CellAttributes,
-    line: &str,
-) -> Result<(), AllocError> {
+fn assert_same_print(rt: &impl Abort, alloc: Global, pen: &CellAttributes, line: &str) {
     for x in 0..6 {
         for y in 0..2 {
-            let wanted = set(alloc, pen, x, y, line)?;
-            assert!(rt; printed(rt, alloc, pen.clone()?, x, y, line) == wanted);
+            let wanted = set(rt, alloc, pen, x, y, line);
+            let own = pen.clone().expect(rt, "memory");
+            assert!(rt; printed(rt, alloc, own, x, y, line) == wanted);
         }
     }
-    Ok(())
 }
 
 #[test]
-fn runs_print_their_graphemes(rt: HostRuntime) -> Result<(), Fail> {
+fn runs_print_their_graphemes(rt: HostRuntime) {
     let alloc = rt.alloc();
-    for pen in pens(alloc)? {
+    for pen in pens(&rt, alloc) {
         for line in TEXTS {
-            assert_same_print(&rt, alloc, &pen, line)?;
+            assert_same_print(&rt, alloc, &pen, line);
         }
     }
-    Ok(())
 }
 
 #[test]

@@ -1,7 +1,6 @@
 //! Surfaces that take another size, are cloned, and lend their rows.
 use crate::canvas::Canvas;
 use crate::steps::Step;
-use std::test::Fail;
 use termwiz_cell::change::LineAttribute;
 use termwiz_cell::emoji::{OneColumn, UnicodeWidths};
 
@@ -55,14 +54,22 @@ fn rows_come_and_go_at_the_bottom(rt: HostRuntime) {
     canvas.assert_shows(&rt, "a \n  \n", (0, 0));
 }
 
+const NAMED: [Step<'static>; 2] = [Step::Title("t"), Step::Hide];
+
+#[test]
+fn a_clone_has_the_screen_and_the_log(rt: HostRuntime) {
+    let mut canvas = Canvas::new(&rt, rt.alloc(), 4, 2, OneColumn, &[Step::Print("ab")]);
+    canvas.draw(&rt, &NAMED);
+    let clone = canvas.clone(&rt);
+    canvas.assert_same_screen(&rt, &clone);
+    clone.assert_lent(&rt, 1, 3, &NAMED);
+}
+
 #[test]
 fn a_clone_goes_its_own_way(rt: HostRuntime) {
     let mut canvas = Canvas::new(&rt, rt.alloc(), 4, 2, OneColumn, &[Step::Print("ab")]);
-    let more = [Step::Title("t"), Step::Hide];
-    canvas.draw(&rt, &more);
+    canvas.draw(&rt, &NAMED);
     let clone = canvas.clone(&rt);
-    canvas.assert_same_screen(&rt, &clone);
-    clone.assert_lent(&rt, 1, 3, &more);
     assert_eq!(rt; canvas.add(&rt, &Step::Print("c")), 3);
     canvas.assert_shows(&rt, "abc \n    \n", (3, 0));
     clone.assert_shows(&rt, "ab  \n    \n", (2, 0));
@@ -71,7 +78,7 @@ fn a_clone_goes_its_own_way(rt: HostRuntime) {
 }
 
 #[test]
-fn flags_stay_with_their_row(rt: HostRuntime) -> Result<(), Fail> {
+fn flags_stay_with_their_row(rt: HostRuntime) {
     let steps = [
         Step::At(0, 1),
         Step::Line(LineAttribute::DoubleWidthLine),
@@ -79,27 +86,25 @@ fn flags_stay_with_their_row(rt: HostRuntime) -> Result<(), Fail> {
     ];
     let mut canvas = Canvas::new(&rt, rt.alloc(), 2, 2, OneColumn, &steps);
     canvas.resize(&rt, 3, 1);
-    let lines = canvas.surface().screen_lines()?;
+    let lines = canvas.surface().screen_lines().expect(&rt, "lines");
     assert_eq!(rt; lines.len(), 1);
     for line in &lines {
         assert!(rt; line.is_double_width());
         assert_eq!(rt; line.len(), 3);
     }
-    Ok(())
 }
 
 #[test]
-fn stored_cells_are_lent(rt: HostRuntime) -> Result<(), Fail> {
+fn stored_cells_are_lent(rt: HostRuntime) {
     let alloc = rt.alloc();
     let canvas = Canvas::new(&rt, alloc, 2, 1, UnicodeWidths, &[Step::Print("か")]);
-    let rows = canvas.surface().screen_cells()?;
+    let rows = canvas.surface().screen_cells().expect(&rt, "cells");
     let mut texts = String::new(alloc);
     for row in &rows {
         for cell in *row {
-            texts.push_str(cell.str())?;
+            texts.push_str(cell.str()).expect(&rt, "memory");
         }
-        texts.push('|')?;
+        texts.push('|').expect(&rt, "memory");
     }
     assert_eq!(rt; texts.as_str(), "か |");
-    Ok(())
 }

@@ -1,6 +1,7 @@
 //! Changes as plain values, of which examples write lists.
 use crate::changes::{at, default_pen, hidden, next_row, text, visible};
-use std::alloc::{AllocError, Global};
+use std::alloc::Global;
+use std::process::Abort;
 use termwiz_cell::cell::{AttributeChange, CellAttributes, Intensity};
 use termwiz_cell::change::{Change, CursorShape, LineAttribute};
 use termwiz_cell::color::ColorAttribute;
@@ -61,7 +62,7 @@ impl Style {
     }
 
     /// Default attributes but for this one.
-    pub fn attributes(self, alloc: Global) -> Result<CellAttributes, AllocError> {
+    pub fn attributes(self, rt: &impl Abort, alloc: Global) -> CellAttributes {
         let mut attrs = CellAttributes::blank();
         match self {
             Style::Bold => {
@@ -71,55 +72,56 @@ impl Style {
                 attrs.set_italic(true);
             }
             Style::Foreground(color) => {
-                attrs.set_foreground(alloc, color)?;
+                attrs.set_foreground(alloc, color).expect(rt, "memory");
             }
             Style::Background(color) => {
-                attrs.set_background(alloc, color)?;
+                attrs.set_background(alloc, color).expect(rt, "memory");
             }
         }
-        Ok(attrs)
+        attrs
     }
 }
 
 impl Step<'_> {
     /// The change itself.
-    pub fn change(&self, alloc: Global) -> Result<Change, AllocError> {
+    pub fn change(&self, rt: &impl Abort, alloc: Global) -> Change {
         match self {
-            Step::Print(line) => text(alloc, line),
-            Step::At(x, y) => Ok(at(*x, *y)),
-            Step::NextRow => Ok(next_row()),
-            Step::Hide => Ok(hidden()),
-            Step::Show => Ok(visible()),
-            Step::Clear(color) => Ok(Change::ClearScreen(*color)),
-            Step::ClearToEndOfLine(color) => Ok(Change::ClearToEndOfLine(*color)),
-            Step::ClearToEndOfScreen(color) => Ok(Change::ClearToEndOfScreen(*color)),
-            Step::ScrollUp(first_row, region_size, scroll_count) => Ok(Change::ScrollRegionUp {
+            Step::Print(line) => text(rt, alloc, line),
+            Step::At(x, y) => at(*x, *y),
+            Step::NextRow => next_row(),
+            Step::Hide => hidden(),
+            Step::Show => visible(),
+            Step::Clear(color) => Change::ClearScreen(*color),
+            Step::ClearToEndOfLine(color) => Change::ClearToEndOfLine(*color),
+            Step::ClearToEndOfScreen(color) => Change::ClearToEndOfScreen(*color),
+            Step::ScrollUp(first_row, region_size, scroll_count) => Change::ScrollRegionUp {
                 first_row: *first_row,
                 region_size: *region_size,
                 scroll_count: *scroll_count,
-            }),
-            Step::ScrollDown(first_row, region_size, scroll_count) => {
-                Ok(Change::ScrollRegionDown {
-                    first_row: *first_row,
-                    region_size: *region_size,
-                    scroll_count: *scroll_count,
-                })
+            },
+            Step::ScrollDown(first_row, region_size, scroll_count) => Change::ScrollRegionDown {
+                first_row: *first_row,
+                region_size: *region_size,
+                scroll_count: *scroll_count,
+            },
+            Step::Title(title) => {
+                let title = String::from_str(alloc, title).expect(rt, "memory");
+                Change::Title(title)
             }
-            Step::Title(title) => Ok(Change::Title(String::from_str(alloc, title)?)),
-            Step::Shape(shape) => Ok(Change::CursorShape(*shape)),
-            Step::Line(attribute) => Ok(Change::LineAttribute(*attribute)),
-            Step::Set(style) => Ok(Change::Attribute(style.change())),
-            Step::Pen(style) => Ok(Change::AllAttributes(style.attributes(alloc)?)),
-            Step::DefaultPen => Ok(default_pen()),
+            Step::Shape(shape) => Change::CursorShape(*shape),
+            Step::Line(attribute) => Change::LineAttribute(*attribute),
+            Step::Set(style) => Change::Attribute(style.change()),
+            Step::Pen(style) => Change::AllAttributes(style.attributes(rt, alloc)),
+            Step::DefaultPen => default_pen(),
         }
     }
 }
 
 /// The changes themselves.
-pub fn changes(alloc: Global, steps: &[Step<'_>]) -> Result<Vec<Change>, AllocError> {
+pub fn changes(rt: &impl Abort, alloc: Global, steps: &[Step<'_>]) -> Vec<Change> {
     let mut list = Vec::new(alloc);
     for step in steps {
-        list.push(step.change(alloc)?)?;
+        list.push(step.change(rt, alloc)).expect(rt, "memory");
     }
-    Ok(list)
+    list
 }

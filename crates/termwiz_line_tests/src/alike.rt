@@ -3,7 +3,7 @@ use std::alloc::{AllocError, Global};
 use std::process::Abort;
 use termwiz_cell::cell::{Cell, CellAttributes, SemanticType};
 use termwiz_cell::emoji::UnicodeWidths;
-use termwiz_line::line::bidi::Direction;
+use termwiz_line::line::bidi::{Direction, ParagraphDirectionHint};
 use termwiz_line::line::line::Line;
 
 mod answers;
@@ -18,6 +18,8 @@ enum Edit {
     Wide(usize, &'static str),
     // Sets a narrow one that is a prompt.
     Prompt(usize, &'static str),
+    // Sets a narrow one, and cuts the line to a width.
+    Within(usize, &'static str, usize),
     // Inserts a narrow one within 6 columns.
     Insert(usize, &'static str),
     // Lays a text over the line, in italics.
@@ -33,8 +35,10 @@ enum Edit {
     EraseWithin(usize),
     Remove(usize),
     Resize(usize),
-    // Makes so many blanks of the line.
+    // Makes so many blanks of the line, in italics.
     Clear(usize),
+    // Makes it a new line of so many default blanks.
+    BlankOut(usize),
     Prune,
     // Shows the cell at a column in reverse, and it alone: half a wide cell, or the half behind it.
     Reverse(usize),
@@ -44,8 +48,13 @@ enum Edit {
 #[derive(Clone, Copy)]
 enum Flag {
     Wrapped(bool),
+    SingleWidth,
     DoubleWidth,
+    UpperHalf,
+    LowerHalf,
     RightToLeft,
+    Bidi(bool),
+    BidiInfo,
 }
 
 fn italic() -> CellAttributes {
@@ -67,8 +76,13 @@ fn narrow(alloc: Global, text: &str) -> Result<Cell, AllocError> {
 fn set_flag(line: &mut Line, flag: Flag) -> Result<(), AllocError> {
     match flag {
         Flag::Wrapped(wrapped) => line.set_last_cell_was_wrapped(wrapped, 1)?,
+        Flag::SingleWidth => line.set_single_width(2),
         Flag::DoubleWidth => line.set_double_width(2),
+        Flag::UpperHalf => line.set_double_height_top(2),
+        Flag::LowerHalf => line.set_double_height_bottom(2),
         Flag::RightToLeft => line.set_direction(Direction::RightToLeft, true, 3),
+        Flag::Bidi(enabled) => line.set_bidi_enabled(enabled, 3),
+        Flag::BidiInfo => line.set_bidi_info(true, ParagraphDirectionHint::RightToLeft, 3),
     }
     Ok(())
 }
@@ -87,6 +101,7 @@ fn make_edit(alloc: Global, line: &mut Line, edit: Edit) -> Result<(), AllocErro
         Edit::Narrow(x, text) => line.set_cell_grapheme(x, text, 1, CellAttributes::blank(), 1),
         Edit::Wide(x, text) => line.set_cell_grapheme(x, text, 2, italic(), 1),
         Edit::Prompt(x, text) => line.set_cell_grapheme(x, text, 1, prompt(), 1),
+        Edit::Within(x, text, width) => { line.set_cell_within(x, narrow(alloc, text)?, width, 1) }
         Edit::Insert(x, text) => line.insert_cell(x, narrow(alloc, text)?, 6, 1),
         Edit::Overlay(x, text) => {
             line.overlay_text_with_attribute(x, text, &italic(), 1, &UnicodeWidths)
@@ -99,6 +114,7 @@ fn make_edit(alloc: Global, line: &mut Line, edit: Edit) -> Result<(), AllocErro
         Edit::Remove(x) => line.remove_cell(x, 1),
         Edit::Resize(width) => line.resize(width, 1),
         Edit::Clear(width) => line.resize_and_clear(width, 1, italic()),
+        Edit::BlankOut(width) => line.blank_out(width, 5),
         Edit::Prune => line.prune_trailing_blanks(1),
         Edit::Reverse(x) => reverse(line, x),
         Edit::Flag(flag) => set_flag(line, flag),
@@ -235,6 +251,35 @@ fn halves_that_are_odd(rt: HostRuntime) {
         Edit::Reverse(0),
         Edit::Narrow(4, "a"),
         Edit::Resize(3),
+    ];
+    assert_alike(&rt, rt.alloc(), &edits);
+}
+
+#[test]
+fn sizes_and_directions(rt: HostRuntime) {
+    let edits = [
+        Edit::Wide(0, "か"),
+        Edit::Flag(Flag::UpperHalf),
+        Edit::Flag(Flag::LowerHalf),
+        Edit::Flag(Flag::SingleWidth),
+        Edit::Flag(Flag::Bidi(true)),
+        Edit::Flag(Flag::BidiInfo),
+        Edit::Flag(Flag::Bidi(false)),
+    ];
+    assert_alike(&rt, rt.alloc(), &edits);
+}
+
+#[test]
+fn cells_cut_and_blanked_out(rt: HostRuntime) {
+    let edits = [
+        Edit::Wide(0, "か"),
+        Edit::Wide(2, "き"),
+        Edit::Within(3, "x", 3),
+        Edit::Within(1, "y", 9),
+        Edit::Flag(Flag::DoubleWidth),
+        Edit::BlankOut(2),
+        Edit::Narrow(2, "a"),
+        Edit::BlankOut(0),
     ];
     assert_alike(&rt, rt.alloc(), &edits);
 }

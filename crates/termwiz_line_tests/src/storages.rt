@@ -1,6 +1,6 @@
 //! Lines that store their cells as one text.
 use crate::lines::{cell, line_of};
-use termwiz_cell::cell::CellAttributes;
+use termwiz_cell::cell::{Cell, CellAttributes};
 use termwiz_line::line::line::Line;
 
 // Whether the line shows `e` and a mark, each in a cell of its own.
@@ -21,6 +21,25 @@ fn a_text_is_not_cut_anew(rt: HostRuntime) {
     assert!(rt; shows_mark_apart(&line));
     line.compress_for_scrollback().expect(&rt, "memory");
     assert!(rt; shows_mark_apart(&line));
+}
+
+#[test]
+fn a_blank_past_the_end_is_stored(rt: HostRuntime) {
+    let mut line = Line::new(rt.alloc(), 0);
+    line.set_cell(7, Cell::blank(), 0).expect(&rt, "memory");
+    assert_eq!(rt; line.len(), 8);
+    line.prune_trailing_blanks(1).expect(&rt, "memory");
+    assert_eq!(rt; line.len(), 8);
+    assert_eq!(rt; line.current_seqno(), 0);
+}
+
+#[test]
+fn a_control_at_the_end_is_a_space(rt: HostRuntime) {
+    let mut line = Line::new(rt.alloc(), 0);
+    line.set_cell_grapheme(0, "\u{7f}", 1, CellAttributes::blank(), 0)
+        .expect(&rt, "memory");
+    assert!(rt; line.stored_cells().is_none());
+    assert_eq!(rt; line.as_str().expect(&rt, "memory").as_str(), " ");
 }
 
 #[test]

@@ -3,9 +3,8 @@ use crate::changes::{at, text};
 use crate::steps::{PLAIN, Step, changes};
 use std::alloc::Global;
 use std::process::Abort;
-use termwiz_cell::change::{Change, Position};
+use termwiz_cell::change::{Change, ChangeSequence, Position, SequenceError};
 use termwiz_cell::emoji::UnicodeWidths;
-use termwiz_surface::sequence::{ChangeSequence, SequenceError};
 
 // A new sequence for two rows of four columns.
 fn small(alloc: Global) -> ChangeSequence<UnicodeWidths> {

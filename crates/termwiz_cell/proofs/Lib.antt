@@ -15,3 +15,5 @@ pub mod LinkOutcomes
 mod Selectors
 mod PlainWidths
 pub mod Cleaned
+pub mod Graphemes
+mod CursorPlaces

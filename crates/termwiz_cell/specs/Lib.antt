@@ -15,6 +15,8 @@ pub mod Lending
 pub mod AttributeChangeValue
 pub mod Shapes
 pub mod ChangeValue
+pub mod Graphemes
+pub mod Sequence
 pub mod AnsiColor
 pub mod ColorSpec
 pub mod ColorText

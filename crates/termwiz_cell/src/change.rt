@@ -5,8 +5,11 @@ ghost use Rattle.termwiz_cell.specs.AttributeChangeValue.{attribute_change_value
 ghost use Rattle.termwiz_cell.specs.ChangeValue.{Attribute, LineAttribute, Text, change_value, change_eq, change_eq-Decides, copy_takes_memory, is_text, position_eq, scroll_eq, visibility_eq};
 ghost use Rattle.termwiz_cell.specs.Shapes.{is_blinking_shape, line_eq, shape_eq};
 
+mod sequence;
+
 use crate::cell::{AttributeChange, CellAttributes};
 use crate::color::{ColorAttribute, is_same_color};
+pub use sequence::{ChangeSequence, SequenceError};
 use std::alloc::{AllocError, Global};
 
 /// A column or a row, counted from 0, to which a cursor is moved.

@@ -8,11 +8,10 @@ use Rattle.std.proofs.lemmas.Bool.{cases_Bool}
 use Rattle.std.proofs.lemmas.Int.{ints}
 use Rattle.std.proofs.Math.Nat.{mod-eq_of_lt}
 use Rattle.unicode_segmentation.specs.Grapheme.{graphemes}
-use Rattle.termwiz_cell.specs.Attributes.{default_attributes}
 use Rattle.termwiz_cell.specs.CellValue.{CellValue, columns}
 use Rattle.termwiz_surface.specs.Print.{print_piece, print_one, printed_cell, wraps}
 use Rattle.termwiz_surface.specs.Screen.{Screen}
-use Rattle.termwiz_surface.specs.Sequence.{grapheme_place, piece_place}
+use Rattle.termwiz_cell.specs.Sequence.{cell_place, grapheme_place, printed_columns}
 use Rattle.termwiz_surface.specs.SequenceLaws.{TextsMoveAlike, MovesLeadThere}
 use Rattle.termwiz_surface.specs.declared.surface.print.Piece.TheVariants.{CarriageReturn, LineFeed, CarriageReturnLineFeed, Cell}
 
@@ -22,24 +21,24 @@ pub record IsAlike (w : ℕ) (s : Screen) (at : ℕ × ℤ) : Type 0 where
   pub column : s.x ≡ at.0
 
 module _ (w : ℕ) (s : Screen) (at : ℕ × ℤ) (h : IsAlike w s at) where
-  alike-cell : (c d : CellValue) → columns c ≡ columns d → IsAlike w (print_piece s (Cell c)) (piece_place w at (Cell d))
-  alike-cell c d e =
+  alike-cell : (c : CellValue) (n : ℕ) → columns c ≡ n → IsAlike w (print_piece s (Cell c)) (cell_place w at n)
+  alike-cell c n e =
       let same : (at.0 == w) ≡ wraps s = ap₂ (λ (a b : ℕ). a == b) (sym h.column) (sym h.width) in
       elim (cases_Bool (wraps s)) [
         | inl p ↦ rw (same, p) (record { width = h.width; column = ap₂ min (zero-add (columns c) ∙ e) h.width })
         | inr n ↦ rw (same, n) (record { width = h.width; column = ap₂ min (ap₂ (λ (a b : ℕ). a + b) h.column e) h.width })
       ]
 
-  alike-piece : (c d : CellValue) → columns c ≡ columns d → (return feed both : Bool)
+  alike-piece : (c : CellValue) (n : ℕ) → columns c ≡ n → (return feed both : Bool)
       → IsAlike w (print_piece s (if return then CarriageReturn else (if feed then LineFeed else (if both then CarriageReturnLineFeed else Cell c))))
-      (piece_place w at (if return then CarriageReturn else (if feed then LineFeed else (if both then CarriageReturnLineFeed else Cell d))))
-  alike-piece c d e true feed both = record { width = h.width; column = refl }
-  alike-piece c d e false true both = record { width = h.width; column = h.column }
-  alike-piece c d e false false true = record { width = h.width; column = refl }
-  alike-piece c d e false false false = alike-cell c d e
+      (if return then (0, at.1) else (if feed then (at.0, at.1 +ℤ pos 1) else (if both then (0, at.1 +ℤ pos 1) else cell_place w at n)))
+  alike-piece c n e true feed both = record { width = h.width; column = refl }
+  alike-piece c n e false true both = record { width = h.width; column = h.column }
+  alike-piece c n e false false true = record { width = h.width; column = refl }
+  alike-piece c n e false false false = alike-cell c n e
 
   alike-one : (f : List ℕ → ℕ) (g : List ℕ) → IsAlike w (print_one f s g) (grapheme_place f w at g)
-  alike-one f g = alike-piece (printed_cell f s.pen g) (printed_cell f default_attributes g) refl (bytes_eq g (13 ∷ [])) (bytes_eq g (10 ∷ [])) (bytes_eq g (13 ∷ 10 ∷ []))
+  alike-one f g = alike-piece (printed_cell f s.pen g) (printed_columns f g) refl (bytes_eq g (13 ∷ [])) (bytes_eq g (10 ∷ [])) (bytes_eq g (13 ∷ 10 ∷ []))
 
 alike-all : (f : List ℕ → ℕ) (w : ℕ) (s : Screen) (at : ℕ × ℤ) → IsAlike w s at → (gs : List (List ℕ)) → IsAlike w (fold (print_one f) s gs) (fold (grapheme_place f w) at gs)
 alike-all f w s at h [] = h

@@ -6,8 +6,8 @@ use Rattle.std.proofs.lemmas.List.{map-append, get_or-map, map-set, length-set, 
 use Rattle.std.proofs.lemmas.Bool.{cases_Bool, cases_eq, cases_lt}
 use Rattle.unicode_segmentation.specs.Grapheme.{graphemes}
 use Rattle.unicode_segmentation.proofs.Computing.{unicode_segmentation}
-use Rattle.termwiz_surface.specs.Graphemes.{is_single, replacement, single}
-use Rattle.termwiz_surface.proofs.Graphemes.{graphemes-single}
+use Rattle.termwiz_cell.specs.Graphemes.{is_single, replacement, single}
+use Rattle.termwiz_cell.proofs.Graphemes.{graphemes-single}
 use Rattle.termwiz_cell.specs.CellValue.{CellValue, blank, columns, is_control, clean, measured}
 use Rattle.termwiz_cell.specs.Attributes.{Attributes}
 use Rattle.termwiz_line.specs.LineFlags.{LineFlags}

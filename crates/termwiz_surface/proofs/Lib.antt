@@ -1,4 +1,3 @@
-mod Graphemes
 mod Stored
 mod Drawn
 mod Printing
@@ -46,5 +45,4 @@ mod Restoring
 mod FewestPrints
 mod Copying
 mod DiffSurfaces
-mod CursorPlaces
 mod CursorColumns

@@ -7,7 +7,6 @@ use Rattle.std.proofs.lemmas.List.Sums.{AllPass-from_list_all, fold-append}
 use Rattle.std.proofs.lemmas.Bool.{cases_Bool, le-ltb, leb-true, and_parts, ne_eqb}
 use Rattle.std.proofs.lemmas.List.{set-get_or, set-set, get_or-set_same, take_all, get_or_append_left, get_or-take, length-take, drop_more}
 use Rattle.unicode_segmentation.specs.Grapheme.{graphemes}
-use Rattle.unicode_segmentation.proofs.Computing.{unicode_segmentation}
 use Rattle.termwiz_text.specs.Plain.{is_plain}
 use Rattle.termwiz_text.proofs.Plain.{graphemes_plain, utf8_one}
 use Rattle.termwiz_cell.specs.Attributes.{Attributes}
@@ -15,20 +14,16 @@ use Rattle.termwiz_cell.specs.CellValue.{CellValue, plain_cell, clean, measured}
 use Rattle.termwiz_storage.specs.Stored.{set_cell, set_run}
 use Rattle.termwiz_storage.proofs.SetCell.{length-set_cell}
 use Rattle.termwiz_surface.specs.declared.surface.print.Piece.TheVariants.{Cell}
-use Rattle.termwiz_surface.specs.Graphemes.{single}
+use Rattle.termwiz_cell.specs.Graphemes.{single}
 use Rattle.termwiz_surface.specs.Kept.{Kept}
 use Rattle.termwiz_surface.specs.Screen.{Screen, row_at}
 use Rattle.termwiz_surface.specs.Print.{piece_of, print_piece, print_one, put, put_kept, printed_cell, piece_kept, one_kept, kept_after, wraps, wrapped, wrapped_kept, columns_left}
 use Rattle.termwiz_surface.specs.Printing.{AreNarrow, Prints, PrintsSome}
 use Rattle.termwiz_surface.specs.Rows.{painted_in}
 use Rattle.termwiz_surface.specs.SurfaceValue.{SurfaceValue, IsMeasured, IsSound, Draws, screen_of, kept_of}
-use Rattle.termwiz_surface.proofs.Graphemes.{single_same}
+use Rattle.termwiz_cell.proofs.Graphemes.{graphemes-nothing, single_same}
 use Rattle.termwiz_surface.proofs.Stored.{IsLawful}
 use Rattle.termwiz_surface.proofs.Drawn.{IsSound-put, rows-put, lengths-put}
-
-pub graphemes-nothing : graphemes true [] ≡ []
-unfolding unicode_segmentation
-graphemes-nothing = refl
 
 plain_from : (b : ℕ) → is_plain b ≡ true → 32 ≤ b
 plain_from b h = leb-true 32 b (and_parts (nat_le 0x20 b) (nat_le b 0x7E) h).0

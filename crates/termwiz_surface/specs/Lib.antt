@@ -1,4 +1,3 @@
-pub mod Graphemes
 pub mod Screen
 pub mod Rows
 pub mod Place
@@ -36,5 +35,4 @@ pub mod Copies
 pub mod Ends
 pub mod Walked
 pub mod RegionValue
-pub mod Sequence
 pub mod SequenceLaws

@@ -3,7 +3,7 @@ use Rattle.std.specs.Prelude.{◌≡◌, ℕ, ◌<◌, ℤ, pos, ◌-ℤ◌, uns
 use Rattle.termwiz_cell.specs.ChangeValue.{Text}
 use Rattle.termwiz_cell.specs.declared.change.Position.TheVariants.{Relative}
 use Rattle.termwiz_surface.specs.Screen.{Screen}
-use Rattle.termwiz_surface.specs.Sequence.{change_place, position_place}
+use Rattle.termwiz_cell.specs.Sequence.{change_place, position_place}
 use Rattle.termwiz_surface.specs.Step.{step}
 
 -- from equal columns a text leaves the cursor of a screen, and that of a sequence of its width, in equal columns

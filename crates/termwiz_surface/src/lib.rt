@@ -2,6 +2,5 @@
 #![tactic(auto)]
 
 pub mod laws;
-pub mod sequence;
 pub mod surface;
 pub mod view;

@@ -1,7 +1,7 @@
 -- The changes of a prompt.
 use Rattle.std.specs.Prelude.{ℕ, pos, List, [], ◌∷◌}
 use Rattle.termwiz_cell.specs.ChangeValue.{Text}
-use Rattle.termwiz_surface.specs.Sequence.{SequenceValue, added, all_added, move_by}
+use Rattle.termwiz_cell.specs.Sequence.{SequenceValue, added, all_added, move_by}
 
 module _ {W : Type 0} where
   -- a line, and a hint in the row below it

@@ -4,10 +4,9 @@ ghost use Rattle.termwiz_cell.specs.Width.{unversioned};
 ghost use Rattle.uses.specs.Prompt.{prompted};
 
 use std::alloc::Global;
-use termwiz_cell::change::Change;
+use termwiz_cell::change::{Change, ChangeSequence, SequenceError};
 use termwiz_cell::emoji::Widths;
 use termwiz_surface::laws::sequence_laws;
-use termwiz_surface::sequence::{ChangeSequence, SequenceError};
 
 /// Prints a line and a hint below it, and takes the cursor back to a column of the row where the sequence began.
 /// On an error some of it was added.

@@ -12,10 +12,9 @@ use crate::window::show_widget;
 use std::alloc::Global;
 use std::process::Abort;
 use termwiz_cell::cell::CellAttributes;
-use termwiz_cell::change::{Change, SequenceNo};
+use termwiz_cell::change::{Change, ChangeSequence, SequenceNo};
 use termwiz_cell::color::ColorAttribute;
 use termwiz_cell::emoji::UnicodeWidths;
-use termwiz_surface::sequence::ChangeSequence;
 use termwiz_surface::surface::Surface;
 use termwiz_surface::view;
 

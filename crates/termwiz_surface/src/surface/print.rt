@@ -5,7 +5,7 @@ ghost use Rattle.termwiz_text.specs.Plain.{is_plain};
 ghost use Rattle.unicode_segmentation.specs.Grapheme.{graphemes};
 ghost use Rattle.termwiz_cell.specs.CellValue.{measured};
 ghost use Rattle.termwiz_cell.specs.Width.{unversioned};
-ghost use Rattle.termwiz_surface.specs.Graphemes.{single};
+ghost use Rattle.termwiz_cell.specs.Graphemes.{single};
 ghost use Rattle.termwiz_surface.specs.Print.{piece_of, printed_cell};
 ghost use Rattle.termwiz_surface.specs.SurfaceValue.{IsMeasured};
 ghost use Rattle.termwiz_surface.specs.Printing.{AreNarrow, IsMeasuredPiece, IsNarrowRun};
@@ -46,7 +46,7 @@ pub(super) fn printed_piece<W: Widths>(
 
 // The cell of a grapheme.
 #[inline(always)]
-#[tactic(auto, using(crate::proofs::Graphemes::single_same))]
+#[tactic(auto, using(termwiz_cell::proofs::Graphemes::single_same))]
 fn printed_cell<W: Widths>(
     alloc: Global,
     widths: &W,

@@ -1,5 +1,5 @@
 use Rattle.std.proofs.Common.{◌≡◌, [], ◌∷◌, ap, length, arith, rules}
-use Rattle.termwiz_surface.proofs.Graphemes.{no_grapheme}
+use Rattle.termwiz_cell.proofs.Graphemes.{no_grapheme}
 use Rattle.termwiz_surface.proofs.surface.Surface.print_first.Goals as goal
 
 pub returns-clause-ok : goal.returns-clause-ok

@@ -6,7 +6,8 @@ use Rattle.termwiz_cell.specs.Width.{unversioned}
 use Rattle.termwiz_surface.specs.Print.{print_one, kept_after}
 use Rattle.termwiz_surface.specs.Printing.{PrintsSome}
 use Rattle.termwiz_surface.specs.SurfaceValue.{screen_of, kept_of}
-use Rattle.termwiz_surface.proofs.Printing.{screen-left, kept-left, graphemes-nothing}
+use Rattle.termwiz_cell.proofs.Graphemes.{graphemes-nothing}
+use Rattle.termwiz_surface.proofs.Printing.{screen-left, kept-left}
 use Rattle.termwiz_surface.proofs.surface.Surface.print_text.Goals as goal
 
 pub pieces-preserved : goal.pieces-preserved

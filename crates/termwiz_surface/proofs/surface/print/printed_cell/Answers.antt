@@ -3,7 +3,7 @@ use Rattle.termwiz_cell.specs.CellValue.{measured}
 use Rattle.termwiz_cell.specs.Width.{unversioned}
 use Rattle.termwiz_surface.specs.Print.{printed_cell}
 use Rattle.termwiz_surface.specs.SurfaceValue.{IsMeasured}
-use Rattle.termwiz_surface.proofs.Graphemes.{single_same}
+use Rattle.termwiz_cell.proofs.Graphemes.{single_same}
 use Rattle.termwiz_surface.proofs.Drawn.{IsMeasured-measured}
 use Rattle.termwiz_surface.proofs.surface.print.printed_cell.Goals as goal
 

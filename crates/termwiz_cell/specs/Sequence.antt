@@ -1,19 +1,17 @@
 -- A sequence of changes: what contracts see of it, and where each change takes its cursor. Its rows have no bound: the first is 0, and those above it are below 0.
-use Rattle.std.specs.Prelude.{◌≡◌, ℕ, ◌+◌, ◌<◌, ◌≤◌, ◌^◌, ℤ, pos, ◌+ℤ◌, ◌-ℤ◌, ◌≤ℤ◌, unsigned_abs, min, true, ◌==◌, List, [], ◌∷◌, ◌++◌, fold, Result, Ok, Err, if◌then◌else◌}
+use Rattle.std.specs.Prelude.{◌≡◌, ℕ, ◌+◌, ◌<◌, ◌≤◌, ◌^◌, ℤ, pos, ◌+ℤ◌, ◌-ℤ◌, ◌≤ℤ◌, unsigned_abs, min, true, ◌==◌, List, [], ◌∷◌, ◌++◌, fold, bytes_eq, Result, Ok, Err, if◌then◌else◌}
 use Rattle.std.specs.Int.{int_rem_euclid, int_max, int_min, w64}
 use Rattle.std.specs.Int.RustNames.{FitsSigned, int_rem}
 use Rattle.unicode_segmentation.specs.Grapheme.{graphemes}
 use Rattle.termwiz_cell.specs.Attributes.{default_attributes}
-use Rattle.termwiz_cell.specs.CellValue.{columns}
+use Rattle.termwiz_cell.specs.CellValue.{columns, measured}
 use Rattle.termwiz_cell.specs.ChangeValue as change
 use Rattle.termwiz_cell.specs.ChangeValue.{ChangeValue, is_text}
 use Rattle.termwiz_cell.specs.declared.change.Position.{Position}
 use Rattle.termwiz_cell.specs.declared.change.Position.TheVariants.{Relative, Absolute, EndRelative}
-use Rattle.termwiz_surface.specs.Print.{piece_of}
-use Rattle.termwiz_surface.specs.declared.surface.print.Piece.{Piece}
-use Rattle.termwiz_surface.specs.declared.surface.print.Piece.TheVariants.{CarriageReturn, LineFeed, CarriageReturnLineFeed, Cell}
-use Rattle.termwiz_surface.specs.declared.sequence.SequenceError.{SequenceError}
-use Rattle.termwiz_surface.specs.declared.sequence.SequenceError.TheVariants.{Range, Memory}
+use Rattle.termwiz_cell.specs.Graphemes.{single}
+use Rattle.termwiz_cell.specs.declared.change.sequence.SequenceError.{SequenceError}
+use Rattle.termwiz_cell.specs.declared.change.sequence.SequenceError.TheVariants.{Range, Memory}
 
 pub record SequenceValue (W : Type 0) : Type 0 where
   pub widths : W
@@ -30,15 +28,17 @@ pub record SequenceValue (W : Type 0) : Type 0 where
 abbrev pub cell_place : ℕ → ℕ × ℤ → ℕ → ℕ × ℤ
 cell_place w at n = if at.0 == w then (min n w, at.1 +ℤ pos 1) else (min (at.0 + n) w, at.1)
 
-abbrev pub piece_place : ℕ → ℕ × ℤ → Piece → ℕ × ℤ
-piece_place w at CarriageReturn = (0, at.1)
-piece_place w at LineFeed = (at.0, at.1 +ℤ pos 1)
-piece_place w at CarriageReturnLineFeed = (0, at.1 +ℤ pos 1)
-piece_place w at (Cell c) = cell_place w at (columns c)
+-- the columns of the cell that a grapheme prints, whatever the pen
+abbrev pub printed_columns : (List ℕ → ℕ) → List ℕ → ℕ
+printed_columns measure g = columns (measured measure (single g) default_attributes)
 
--- the pieces are those that a surface prints, where the pen is of no matter
+-- where a grapheme takes a cursor: CR, LF and CR LF break the line, and any other one prints a cell
 abbrev pub grapheme_place : (List ℕ → ℕ) → ℕ → ℕ × ℤ → List ℕ → ℕ × ℤ
-grapheme_place measure w at g = piece_place w at (piece_of measure default_attributes g)
+grapheme_place measure w at g =
+    if bytes_eq g (13 ∷ []) then (0, at.1)
+    else (if bytes_eq g (10 ∷ []) then (at.0, at.1 +ℤ pos 1)
+    else (if bytes_eq g (13 ∷ 10 ∷ []) then (0, at.1 +ℤ pos 1)
+    else cell_place w at (printed_columns measure g)))
 
 abbrev pub text_place : (List ℕ → ℕ) → ℕ → ℕ × ℤ → List ℕ → ℕ × ℤ
 text_place measure w at text = fold (grapheme_place measure w) at (graphemes true text)

@@ -5,7 +5,7 @@ use Rattle.std.proofs.lemmas.Int.{to_z-of_z, ints}
 use Rattle.std.proofs.lemmas.Result.{err_from_is_err_and}
 use Rattle.termwiz_cell.specs.ChangeValue.{CursorPosition}
 use Rattle.termwiz_cell.specs.declared.change.Position.TheVariants.{Relative}
-use Rattle.termwiz_surface.proofs.sequence.ChangeSequence.move_by.Goals as goal
+use Rattle.termwiz_cell.proofs.change.sequence.ChangeSequence.move_by.Goals as goal
 
 pub returns-clause-ok : goal.returns-clause-ok
 returns-clause-ok g c =

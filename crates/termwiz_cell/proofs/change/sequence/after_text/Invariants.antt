@@ -2,8 +2,8 @@ use Rattle.std.proofs.Common.{◌≡◌, ◌≤◌, pos, ◌+ℤ◌, ◌≤ℤ�
 use Rattle.std.specs.Str.{IsUtf8}
 use Rattle.unicode_segmentation.specs.Grapheme.{graphemes}
 use Rattle.termwiz_cell.specs.Width.{unversioned}
-use Rattle.termwiz_surface.specs.Sequence.{grapheme_place, text_place}
-use Rattle.termwiz_surface.proofs.sequence.after_text.Given as goal
+use Rattle.termwiz_cell.specs.Sequence.{grapheme_place, text_place}
+use Rattle.termwiz_cell.proofs.change.sequence.after_text.Given as goal
 
 -- what is left leads where the whole text leads, with a row more at most for each byte
 abbrev pub invariant-graphemes : goal.invariant-graphemes

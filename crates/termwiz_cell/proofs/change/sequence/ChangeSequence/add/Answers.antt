@@ -1,5 +1,5 @@
 use Rattle.std.proofs.Common.{rules}
-use Rattle.termwiz_surface.proofs.sequence.ChangeSequence.add.Goals as goal
+use Rattle.termwiz_cell.proofs.change.sequence.ChangeSequence.add.Goals as goal
 
 pub invariant_of-self-2 : goal.invariant_of-self-2
 invariant_of-self-2 g c =

@@ -1,8 +1,8 @@
 use Rattle.std.proofs.Common.{◌≡◌, ◌++◌, map}
 use Rattle.termwiz_cell.specs.ChangeValue.{change_value}
 use Rattle.termwiz_cell.specs.Width.{unversioned}
-use Rattle.termwiz_surface.specs.Sequence.{RowsFit, all_added}
-use Rattle.termwiz_surface.proofs.sequence.ChangeSequence.add_changes.Given as goal
+use Rattle.termwiz_cell.specs.Sequence.{RowsFit, all_added}
+use Rattle.termwiz_cell.proofs.change.sequence.ChangeSequence.add_changes.Given as goal
 
 -- the changes so far are added, and the width value stays
 abbrev pub invariant-loop-change : goal.invariant-loop-change

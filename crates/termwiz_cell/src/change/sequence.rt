@@ -3,18 +3,15 @@ ghost use Rattle.std.specs.Prelude.{◌≡◌, ℕ, ℤ, pos, ◌+◌, ◌+ℤ�
 ghost use Rattle.std.specs.Int.{int_rem_euclid, w64};
 ghost use Rattle.std.specs.Int.RustNames.{FitsSigned, int_rem};
 ghost use Rattle.unicode_segmentation.specs.Grapheme.{graphemes};
-ghost use Rattle.termwiz_cell.specs.Attributes.{default_attributes};
-ghost use Rattle.termwiz_cell.specs.CellValue.{columns};
 ghost use Rattle.termwiz_cell.specs.ChangeValue.{change_value, is_text};
 ghost use Rattle.termwiz_cell.specs.Width.{unversioned};
-ghost use Rattle.termwiz_surface.specs.Print.{printed_cell};
-ghost use Rattle.termwiz_surface.specs.Sequence.{aim, cell_place, grapheme_place, position_place, text_place};
-ghost use Rattle.termwiz_surface.specs.declared.sequence.SequenceError.TheVariants.{Range};
+ghost use Rattle.termwiz_cell.specs.Sequence.{aim, cell_place, grapheme_place, position_place, printed_columns, text_place};
+ghost use Rattle.termwiz_cell.specs.declared.change.sequence.SequenceError.TheVariants.{Range};
 
+use super::{Change, Position};
+use crate::emoji::Widths;
 use std::alloc::{AllocError, Global};
 use std::marker::Model;
-use termwiz_cell::change::{Change, Position};
-use termwiz_cell::emoji::Widths;
 use termwiz_text::split_first_grapheme;
 use thiserror::Error;
 
@@ -31,7 +28,7 @@ pub enum SequenceError {
 
 impl From<AllocError> for SequenceError {
     ghost use Rattle.std.specs.Prelude.{◌≡◌};
-    ghost use Rattle.termwiz_surface.specs.declared.sequence.SequenceError.TheVariants.{Memory};
+    ghost use Rattle.termwiz_cell.specs.declared.change.sequence.SequenceError.TheVariants.{Memory};
 
     ghost from_gives = { λ _ error. error ≡ Memory };
 
@@ -60,7 +57,7 @@ pub struct ChangeSequence<W: Widths> {
 impl<W: Widths> Model for ChangeSequence<W> {
     ghost use Rattle.std.specs.Prelude.{map};
     ghost use Rattle.termwiz_cell.specs.ChangeValue.{change_value};
-    ghost use Rattle.termwiz_surface.specs.Sequence.{SequenceValue, IsSequence};
+    ghost use Rattle.termwiz_cell.specs.Sequence.{SequenceValue, IsSequence};
 
     ghost Value = { SequenceValue W };
 
@@ -74,7 +71,7 @@ impl<W: Widths> Model for ChangeSequence<W> {
 fn columns_of<W: Widths>(widths: &W, grapheme: &str) -> usize
     requires alone { graphemes true grapheme.now ≡ grapheme.now ∷ [] }
     requires no_break { bytes_eq grapheme.now (13 ∷ 10 ∷ []) ≡ false }
-    ensures { result ≡ columns (printed_cell (unversioned (W.width_of widths.now)) default_attributes grapheme.now) }
+    ensures { result ≡ printed_columns (unversioned (W.width_of widths.now)) grapheme.now }
 {
     match grapheme.as_bytes() {
         [byte] if *byte < 0x20 || *byte == 0x7f => 1,
@@ -191,7 +188,7 @@ fn push(changes: &mut Vec<Change>, change: Change) -> Result<(), AllocError>
 }
 
 impl<W: Widths> ChangeSequence<W> {
-    ghost use Rattle.termwiz_surface.specs.Sequence.{SequenceValue, IsSequence, AddsAll, AddsOne, DistancesFit, MovesTo, RowFits, move_by, place_after};
+    ghost use Rattle.termwiz_cell.specs.Sequence.{SequenceValue, IsSequence, AddsAll, AddsOne, DistancesFit, MovesTo, RowFits, move_by, place_after};
 
     /// An empty sequence for a screen of this many rows and columns.
     pub fn new(alloc: Global, rows: usize, cols: usize, widths: W) -> ChangeSequence<W>

@@ -3,9 +3,9 @@ use Rattle.std.proofs.Common.{◌≡◌, ℕ, ◌<◌, true, List, [], ◌∷◌
 use Rattle.std.proofs.lemmas.List.Sums.{fold-append}
 use Rattle.unicode_segmentation.specs.Grapheme.{graphemes}
 use Rattle.termwiz_cell.specs.ChangeValue.{ChangeValue}
-use Rattle.termwiz_surface.specs.Sequence.{SequenceValue, AddsOne, AddsAll, RowFits, RowsFit, added, all_added}
-use Rattle.termwiz_surface.specs.declared.sequence.SequenceError.{SequenceError}
-use Rattle.termwiz_surface.proofs.Printing.{graphemes-nothing}
+use Rattle.termwiz_cell.specs.Sequence.{SequenceValue, AddsOne, AddsAll, RowFits, RowsFit, added, all_added}
+use Rattle.termwiz_cell.specs.declared.change.sequence.SequenceError.{SequenceError}
+use Rattle.termwiz_cell.proofs.Graphemes.{graphemes-nothing}
 
 -- a grapheme by itself is no empty text
 pub alone_some : (g : List ℕ) → graphemes true g ≡ g ∷ [] → 0 < length g

@@ -3,9 +3,9 @@ use Rattle.std.proofs.lemmas.List.{map-append, append_assoc}
 use Rattle.std.proofs.lemmas.Result.{err_from_is_err_and}
 use Rattle.termwiz_cell.specs.ChangeValue.{ChangeValue, change_value}
 use Rattle.termwiz_cell.specs.Width.{unversioned}
-use Rattle.termwiz_surface.specs.Sequence.{AddsAll, AddsOne}
-use Rattle.termwiz_surface.proofs.CursorPlaces.{adds_more, stops}
-use Rattle.termwiz_surface.proofs.sequence.ChangeSequence.add_changes.Goals as goal
+use Rattle.termwiz_cell.specs.Sequence.{AddsAll, AddsOne}
+use Rattle.termwiz_cell.proofs.CursorPlaces.{adds_more, stops}
+use Rattle.termwiz_cell.proofs.change.sequence.ChangeSequence.add_changes.Goals as goal
 
 pub loop-change-preserved : goal.loop-change-preserved
 loop-change-preserved g c =

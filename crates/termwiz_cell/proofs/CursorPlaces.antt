@@ -1,16 +1,9 @@
 -- Facts on where a sequence's cursor goes.
-use Rattle.std.proofs.Common.{◌≡◌, ℕ, ◌<◌, true, List, [], ◌∷◌, ◌++◌, length, sym, subst, ◌∙◌, arith, Result, Ok, Err}
+use Rattle.std.proofs.Common.{◌≡◌, ℕ, List, [], ◌∷◌, ◌++◌, sym, subst, ◌∙◌, Result, Ok, Err}
 use Rattle.std.proofs.lemmas.List.Sums.{fold-append}
-use Rattle.unicode_segmentation.specs.Grapheme.{graphemes}
 use Rattle.termwiz_cell.specs.ChangeValue.{ChangeValue}
 use Rattle.termwiz_cell.specs.Sequence.{SequenceValue, AddsOne, AddsAll, RowFits, RowsFit, added, all_added}
 use Rattle.termwiz_cell.specs.declared.change.sequence.SequenceError.{SequenceError}
-use Rattle.termwiz_cell.proofs.Graphemes.{graphemes-nothing}
-
--- a grapheme by itself is no empty text
-pub alone_some : (g : List ℕ) → graphemes true g ≡ g ∷ [] → 0 < length g
-alone_some [] h = let no : ◌≡◌ {A = List (List ℕ)} [] ([] ∷ []) = sym graphemes-nothing ∙ h in cc
-alone_some (b ∷ g) h = omega arith
 
 module _ {W : Type 0} (f : List ℕ → ℕ) where
   -- one more row that can be told

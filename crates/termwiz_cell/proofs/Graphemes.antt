@@ -1,5 +1,5 @@
 -- Facts on graphemes.
-use Rattle.std.proofs.Common.{◌≡◌, ℕ, true, List, [], ◌∷◌, length, refl, sym, ap, ◌∙◌, arith, append-nil, if◌then◌else◌}
+use Rattle.std.proofs.Common.{◌≡◌, ℕ, ◌<◌, true, List, [], ◌∷◌, length, refl, sym, ap, ◌∙◌, arith, append-nil, if◌then◌else◌}
 use Rattle.std.specs.Prelude.{◌==◌}
 use Rattle.std.specs.List.{concat}
 use Rattle.std.specs.Str.{IsUtf8}
@@ -8,11 +8,6 @@ use Rattle.unicode_segmentation.specs.Grapheme.{graphemes}
 use Rattle.unicode_segmentation.proofs.Computing.{unicode_segmentation}
 use Rattle.unicode_segmentation.proofs.SegmentsLemmas.{concat-segments}
 use Rattle.termwiz_cell.specs.Graphemes.{is_single, single, replacement}
-
--- a text of nothing has no grapheme
-pub graphemes-nothing : graphemes true [] ≡ []
-unfolding unicode_segmentation
-graphemes-nothing = refl
 
 one_of : (ps : List (List ℕ)) (t : List ℕ) → concat ps ≡ t → (length ps == 1) ≡ true → ps ≡ t ∷ []
 one_of [] t e h = cc
@@ -27,6 +22,16 @@ graphemes-single t u h = one_of (graphemes true t) t (concat-segments _ t u) h
 pub single_same : (g : List ℕ) → graphemes true g ≡ g ∷ [] → single g ≡ g
 single_same g h = ap (λ ps. if length ps == 1 then g else replacement) h
 
+-- a text of nothing has no grapheme
+pub graphemes-nothing : graphemes true [] ≡ []
+unfolding unicode_segmentation
+graphemes-nothing = refl
+
 -- and no other one
 pub no_grapheme : (t : List ℕ) → IsUtf8 t → graphemes true t ≡ [] → t ≡ []
 no_grapheme t u h = sym (concat-segments _ t u) ∙ ap concat h
+
+-- a grapheme by itself is no empty text
+pub alone_some : (g : List ℕ) → graphemes true g ≡ g ∷ [] → 0 < length g
+alone_some [] h = let no : ◌≡◌ {A = List (List ℕ)} [] ([] ∷ []) = sym graphemes-nothing ∙ h in cc
+alone_some (b ∷ g) h = omega arith

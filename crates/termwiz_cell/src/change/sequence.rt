@@ -67,7 +67,7 @@ impl<W: Widths> Model for ChangeSequence<W> {
 }
 
 // The columns of the cell that a grapheme prints.
-#[tactic(auto, using(crate::proofs::Graphemes::single_same, crate::proofs::CursorPlaces::alone_some))]
+#[tactic(auto, using(crate::proofs::Graphemes::single_same, crate::proofs::Graphemes::alone_some))]
 fn columns_of<W: Widths>(widths: &W, grapheme: &str) -> usize
     requires alone { graphemes true grapheme.now ≡ grapheme.now ∷ [] }
     requires no_break { bytes_eq grapheme.now (13 ∷ 10 ∷ []) ≡ false }

@@ -2,6 +2,13 @@
 //! The program keeps no time: measure it from outside, at two counts, and take the difference.
 #![tactic(auto)]
 
+mod attributes;
+mod diffs;
+mod drawn;
+mod lines;
+mod printing;
+mod sizes;
+mod viewers;
 mod workload;
 
 use std::env;

@@ -1,0 +1,128 @@
+//! The surfaces that workloads begin with, and what draws on them.
+//!
+//! What a workload does over and over counts, and a call of its own isn't to: so what its loop
+//! calls here is inlined.
+ghost use Rattle.std.specs.Prelude.{◌<◌, ◌^◌};
+
+use std::alloc::{AllocError, Global};
+use termwiz_cell::cell::CellAttributes;
+use termwiz_cell::change::{Change, Position};
+use termwiz_cell::color::ColorAttribute;
+use termwiz_cell::emoji::UnicodeWidths;
+use termwiz_surface::surface::{Surface, SurfaceError};
+
+/// A short line.
+pub const SHORT: &str = "x\r\n";
+
+/// A text of eight characters.
+pub const EIGHT: &str = "colours ";
+
+/// Another, which differs in each.
+pub const OTHER_EIGHT: &str = "COLOURED";
+
+/// A blank 80x24.
+pub fn blank(alloc: Global) -> Result<Surface<UnicodeWidths>, SurfaceError> {
+    Ok(Surface::new(alloc, 80, 24, UnicodeWidths)?)
+}
+
+/// A surface with a colour for every 8 columns.
+pub fn coloured(
+    alloc: Global,
+    width: usize,
+    height: usize,
+) -> Result<Surface<UnicodeWidths>, SurfaceError>
+    requires some_column { 0 < width }
+    requires some_row { 0 < height }
+    requires fits { width < 2 ^ 32 }
+    requires fits_height { height < 2 ^ 32 }
+{
+    let mut surface = Surface::new(alloc, width, height, UnicodeWidths)?;
+    add_colours(alloc, &mut surface, width * height / 8)?;
+    Ok(surface)
+}
+
+/// An 80x24 full of a text of eight characters.
+pub fn full(alloc: Global, eight: &str) -> Result<Surface<UnicodeWidths>, SurfaceError> {
+    let mut surface = Surface::new(alloc, 80, 24, UnicodeWidths)?;
+    add_texts(alloc, &mut surface, eight, 80 * 24 / 8)?;
+    Ok(surface)
+}
+
+/// Prints a text.
+#[inline(always)]
+pub fn add_text(
+    alloc: Global,
+    surface: &mut Surface<UnicodeWidths>,
+    text: &str,
+) -> Result<(), SurfaceError> {
+    let change = Change::text_from(alloc, text)?;
+    surface.add_change(change)?;
+    Ok(())
+}
+
+/// Prints a text so often.
+pub fn add_texts(
+    alloc: Global,
+    surface: &mut Surface<UnicodeWidths>,
+    text: &str,
+    count: usize,
+) -> Result<(), SurfaceError> {
+    for _ in 0..count {
+        add_text(alloc, surface, text)?;
+    }
+    Ok(())
+}
+
+/// Prints so many texts of eight characters, each in the next of ten colours.
+#[inline(always)]
+pub fn add_colours(
+    alloc: Global,
+    surface: &mut Surface<UnicodeWidths>,
+    count: usize,
+) -> Result<(), SurfaceError> {
+    for index in 0..count {
+        add_pen(alloc, surface, (index % 10) as u8)?;
+        add_text(alloc, surface, EIGHT)?;
+    }
+    Ok(())
+}
+
+#[inline(always)]
+fn add_pen(
+    alloc: Global,
+    surface: &mut Surface<UnicodeWidths>,
+    index: u8,
+) -> Result<(), SurfaceError> {
+    let change = pen(alloc, index)?;
+    surface.add_change(change)?;
+    Ok(())
+}
+
+fn pen(alloc: Global, index: u8) -> Result<Change, AllocError> {
+    let mut attrs = CellAttributes::blank();
+    attrs.set_foreground(alloc, ColorAttribute::PaletteIndex(index))?;
+    Ok(Change::AllAttributes(attrs))
+}
+
+/// Prints another character in each twentieth cell of an 80x24.
+pub fn speckle(alloc: Global, surface: &mut Surface<UnicodeWidths>) -> Result<(), SurfaceError> {
+    for y in 0..24 {
+        for x in 0..4 {
+            add_speck(alloc, surface, 20 * x, y)?;
+        }
+    }
+    Ok(())
+}
+
+fn add_speck(
+    alloc: Global,
+    surface: &mut Surface<UnicodeWidths>,
+    x: usize,
+    y: usize,
+) -> Result<(), SurfaceError> {
+    surface.add_change(Change::CursorPosition {
+        x: Position::Absolute(x),
+        y: Position::Absolute(y),
+    })?;
+    add_text(alloc, surface, "#")
+}

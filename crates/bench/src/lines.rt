@@ -1,0 +1,87 @@
+//! Workloads on lines of up to 120 columns.
+ghost use Rattle.std.specs.Prelude.{◌<◌};
+
+use std::alloc::{AllocError, Global};
+use termwiz_cell::cell::CellAttributes;
+use termwiz_cell::change::SEQ_ZERO;
+use termwiz_cell::color::ColorAttribute;
+use termwiz_line::line::line::Line;
+use termwiz_surface::surface::SurfaceError;
+
+pub fn cloned(alloc: Global, count: u32) -> Result<usize, SurfaceError> {
+    let line = coloured(alloc)?;
+    let mut columns = 0usize;
+    for _ in 0..count {
+        columns = columns.wrapping_add(line.clone()?.len());
+    }
+    Ok(columns)
+}
+
+pub fn compressed(alloc: Global, count: u32) -> Result<usize, SurfaceError> {
+    let line = coloured(alloc)?;
+    let mut columns = 0usize;
+    for _ in 0..count {
+        columns = columns.wrapping_add(compressed_copy(&line)?.len());
+    }
+    Ok(columns)
+}
+
+#[inline(always)]
+fn compressed_copy(line: &Line) -> Result<Line, AllocError> {
+    let mut copy = line.clone()?;
+    copy.compress_for_scrollback()?;
+    Ok(copy)
+}
+
+pub fn walked(alloc: Global, count: u32) -> Result<usize, SurfaceError> {
+    let mut line = coloured(alloc)?;
+    line.compress_for_scrollback()?;
+    Ok(widths(&line, count))
+}
+
+// The widths of the cells, which are walked over so often.
+fn widths(line: &Line, count: u32) -> usize {
+    let mut columns = 0usize;
+    for _ in 0..count {
+        for cell in line.visible_cells() {
+            columns = columns.wrapping_add(cell.width());
+        }
+    }
+    columns
+}
+
+pub fn appended(alloc: Global, count: u32) -> Result<usize, SurfaceError> {
+    let mut line = Line::new(alloc, SEQ_ZERO);
+    let mut columns = 0usize;
+    for _ in 0..count {
+        if line.len() >= 120 {
+            columns = columns.wrapping_add(line.len());
+            line = Line::new(alloc, SEQ_ZERO);
+        }
+        append(&mut line)?;
+    }
+    Ok(columns)
+}
+
+#[inline(always)]
+fn append(line: &mut Line) -> Result<(), AllocError> {
+    let end = line.len();
+    line.set_cell_grapheme(end, "x", 1, CellAttributes::blank(), SEQ_ZERO)
+}
+
+// A line of 120 columns with a colour for every 8.
+fn coloured(alloc: Global) -> Result<Line, AllocError> {
+    let mut line = Line::with_width(alloc, 120, SEQ_ZERO)?;
+    for column in 0..120 {
+        set_coloured(alloc, &mut line, column)?;
+    }
+    Ok(line)
+}
+
+fn set_coloured(alloc: Global, line: &mut Line, column: usize) -> Result<(), AllocError>
+    requires { column < 120 }
+{
+    let mut attrs = CellAttributes::blank();
+    attrs.set_foreground(alloc, ColorAttribute::PaletteIndex((column / 8) as u8))?;
+    line.set_cell_grapheme(column, "x", 1, attrs, SEQ_ZERO)
+}

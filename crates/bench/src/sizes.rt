@@ -1,0 +1,27 @@
+//! Workloads that make a surface, or give it another size.
+use crate::drawn::coloured;
+use std::alloc::Global;
+use termwiz_cell::emoji::UnicodeWidths;
+use termwiz_surface::surface::{Surface, SurfaceError};
+
+pub fn resized(alloc: Global, count: u32) -> Result<usize, SurfaceError> {
+    let mut surface = coloured(alloc, 200, 60)?;
+    resize(&mut surface, count)
+}
+
+fn resize(surface: &mut Surface<UnicodeWidths>, count: u32) -> Result<usize, SurfaceError> {
+    for _ in 0..count {
+        surface.resize(80, 24)?;
+        surface.resize(200, 60)?;
+    }
+    Ok(surface.current_seqno())
+}
+
+pub fn made(alloc: Global, count: u32) -> Result<usize, SurfaceError> {
+    let mut columns = 0usize;
+    for _ in 0..count {
+        let (width, _) = Surface::new(alloc, 80, 24, UnicodeWidths)?.dimensions();
+        columns = columns.wrapping_add(width);
+    }
+    Ok(columns)
+}

@@ -1,0 +1,92 @@
+//! Workloads that ask a surface what changed.
+ghost use Rattle.std.specs.Prelude.{◌<◌, ◌^◌};
+
+use crate::drawn::{EIGHT, SHORT, add_text, add_texts, blank, coloured};
+use std::alloc::Global;
+use termwiz_cell::change::{Change, CursorVisibility, SequenceNo};
+use termwiz_cell::emoji::UnicodeWidths;
+use termwiz_surface::surface::{Surface, SurfaceError};
+use termwiz_surface::view::Viewer;
+
+pub fn due(alloc: Global, count: u32) -> Result<usize, SurfaceError> {
+    let mut surface = blank(alloc)?;
+    add_texts(alloc, &mut surface, SHORT, 11)?;
+    asked(&surface, 1, count)
+}
+
+pub fn repainted(
+    alloc: Global,
+    width: usize,
+    height: usize,
+    count: u32,
+) -> Result<usize, SurfaceError>
+    requires some_column { 0 < width }
+    requires some_row { 0 < height }
+    requires fits { width < 2 ^ 32 }
+    requires fits_height { height < 2 ^ 32 }
+{
+    let surface = coloured(alloc, width, height)?;
+    asked(&surface, 0, count)
+}
+
+pub fn one_pen(alloc: Global, count: u32) -> Result<usize, SurfaceError> {
+    let mut surface = Surface::new(alloc, 200, 60, UnicodeWidths)?;
+    add_texts(alloc, &mut surface, EIGHT, 200 * 60 / 8)?;
+    asked(&surface, 0, count)
+}
+
+// How many entries so many answers to a number have.
+fn asked(
+    surface: &Surface<UnicodeWidths>,
+    seq: SequenceNo,
+    count: u32,
+) -> Result<usize, SurfaceError> {
+    let mut entries = 0usize;
+    for _ in 0..count {
+        let (_, changes) = surface.get_changes(seq)?;
+        entries = entries.wrapping_add(changes.as_slice().len());
+    }
+    Ok(entries)
+}
+
+pub fn followed_by_deltas(alloc: Global, count: u32) -> Result<usize, SurfaceError> {
+    let mut surface = blank(alloc)?;
+    let mut viewer = Viewer::new(alloc, &surface)?;
+    follow_deltas(alloc, &mut surface, &mut viewer, count)
+}
+
+fn follow_deltas(
+    alloc: Global,
+    surface: &mut Surface<UnicodeWidths>,
+    viewer: &mut Viewer<UnicodeWidths>,
+    count: u32,
+) -> Result<usize, SurfaceError> {
+    for round in 0..count {
+        add_text(alloc, surface, SHORT)?;
+        viewer.follow(surface)?;
+        if round % 64 == 63 {
+            surface.flush_changes_older_than(viewer.last());
+        }
+    }
+    Ok(viewer.last())
+}
+
+pub fn followed_by_repaints(alloc: Global, count: u32) -> Result<usize, SurfaceError> {
+    let mut surface = coloured(alloc, 80, 24)?;
+    let mut viewer = Viewer::new(alloc, &surface)?;
+    follow_repaints(&mut surface, &mut viewer, count)
+}
+
+// What each round changes is flushed before the viewer follows, so that its number isn't known.
+fn follow_repaints(
+    surface: &mut Surface<UnicodeWidths>,
+    viewer: &mut Viewer<UnicodeWidths>,
+    count: u32,
+) -> Result<usize, SurfaceError> {
+    for _ in 0..count {
+        surface.add_change(Change::CursorVisibility(CursorVisibility::Visible))?;
+        surface.flush_changes_older_than(surface.current_seqno());
+        viewer.follow(surface)?;
+    }
+    Ok(viewer.last())
+}

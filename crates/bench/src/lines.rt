@@ -10,6 +10,11 @@ use termwiz_surface::surface::SurfaceError;
 
 pub fn cloned(alloc: Global, count: u32) -> Result<usize, SurfaceError> {
     let line = coloured(alloc)?;
+    clones(&line, count)
+}
+
+// How many columns so many clones have.
+fn clones(line: &Line, count: u32) -> Result<usize, SurfaceError> {
     let mut columns = 0usize;
     for _ in 0..count {
         columns = columns.wrapping_add(line.clone()?.len());
@@ -19,18 +24,18 @@ pub fn cloned(alloc: Global, count: u32) -> Result<usize, SurfaceError> {
 
 pub fn compressed(alloc: Global, count: u32) -> Result<usize, SurfaceError> {
     let line = coloured(alloc)?;
-    let mut columns = 0usize;
-    for _ in 0..count {
-        columns = columns.wrapping_add(compressed_copy(&line)?.len());
-    }
-    Ok(columns)
+    compressions(&line, count)
 }
 
-#[inline(always)]
-fn compressed_copy(line: &Line) -> Result<Line, AllocError> {
-    let mut copy = line.clone()?;
-    copy.compress_for_scrollback()?;
-    Ok(copy)
+// How many columns so many clones have that are stored as one text.
+fn compressions(line: &Line, count: u32) -> Result<usize, SurfaceError> {
+    let mut columns = 0usize;
+    for _ in 0..count {
+        let mut copy = line.clone()?;
+        copy.compress_for_scrollback()?;
+        columns = columns.wrapping_add(copy.len());
+    }
+    Ok(columns)
 }
 
 pub fn walked(alloc: Global, count: u32) -> Result<usize, SurfaceError> {

@@ -1,5 +1,5 @@
 //! Workloads that make a surface, or give it another size.
-use crate::drawn::coloured;
+use crate::drawn::{blank, coloured};
 use std::alloc::Global;
 use termwiz_cell::emoji::UnicodeWidths;
 use termwiz_surface::surface::{Surface, SurfaceError};
@@ -20,8 +20,14 @@ fn resize(surface: &mut Surface<UnicodeWidths>, count: u32) -> Result<usize, Sur
 pub fn made(alloc: Global, count: u32) -> Result<usize, SurfaceError> {
     let mut columns = 0usize;
     for _ in 0..count {
-        let (width, _) = Surface::new(alloc, 80, 24, UnicodeWidths)?.dimensions();
-        columns = columns.wrapping_add(width);
+        columns = columns.wrapping_add(width_of_new(alloc)?);
     }
     Ok(columns)
+}
+
+#[inline(always)]
+fn width_of_new(alloc: Global) -> Result<usize, SurfaceError> {
+    let surface = blank(alloc)?;
+    let (width, _) = surface.dimensions();
+    Ok(width)
 }

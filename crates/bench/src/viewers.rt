@@ -51,8 +51,16 @@ fn asked(
 
 pub fn followed_by_deltas(alloc: Global, count: u32) -> Result<usize, SurfaceError> {
     let mut surface = blank(alloc)?;
-    let mut viewer = Viewer::new(alloc, &surface)?;
-    follow_deltas(alloc, &mut surface, &mut viewer, count)
+    view_deltas(alloc, &mut surface, count)
+}
+
+fn view_deltas(
+    alloc: Global,
+    surface: &mut Surface<UnicodeWidths>,
+    count: u32,
+) -> Result<usize, SurfaceError> {
+    let mut viewer = Viewer::new(alloc, surface)?;
+    follow_deltas(alloc, surface, &mut viewer, count)
 }
 
 fn follow_deltas(
@@ -62,8 +70,7 @@ fn follow_deltas(
     count: u32,
 ) -> Result<usize, SurfaceError> {
     for round in 0..count {
-        add_text(alloc, surface, SHORT)?;
-        viewer.follow(surface)?;
+        follow_delta(alloc, surface, viewer)?;
         if round % 64 == 63 {
             surface.flush_changes_older_than(viewer.last());
         }
@@ -71,10 +78,29 @@ fn follow_deltas(
     Ok(viewer.last())
 }
 
+#[inline(always)]
+fn follow_delta(
+    alloc: Global,
+    surface: &mut Surface<UnicodeWidths>,
+    viewer: &mut Viewer<UnicodeWidths>,
+) -> Result<(), SurfaceError> {
+    add_text(alloc, surface, SHORT)?;
+    viewer.follow(surface)?;
+    Ok(())
+}
+
 pub fn followed_by_repaints(alloc: Global, count: u32) -> Result<usize, SurfaceError> {
     let mut surface = coloured(alloc, 80, 24)?;
-    let mut viewer = Viewer::new(alloc, &surface)?;
-    follow_repaints(&mut surface, &mut viewer, count)
+    view_repaints(alloc, &mut surface, count)
+}
+
+fn view_repaints(
+    alloc: Global,
+    surface: &mut Surface<UnicodeWidths>,
+    count: u32,
+) -> Result<usize, SurfaceError> {
+    let mut viewer = Viewer::new(alloc, surface)?;
+    follow_repaints(surface, &mut viewer, count)
 }
 
 // What each round changes is flushed before the viewer follows, so that its number isn't known.

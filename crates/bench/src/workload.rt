@@ -4,7 +4,7 @@ use std::alloc::Global;
 use termwiz_surface::surface::SurfaceError;
 
 /// A workload by its name.
-#[derive(Clone, Copy, Debug)]
+#[derive(Clone, Copy)]
 pub enum Workload {
     /// A line of 80 characters on 80x24.
     Plain,
@@ -54,7 +54,7 @@ pub enum Workload {
     Equality,
 }
 
-const NAMES: [(&str, Workload); 23] = [
+static NAMES: [(&str, Workload); 23] = [
     ("plain", Workload::Plain),
     ("colours", Workload::Colours),
     ("kana", Workload::Kana),
@@ -82,9 +82,9 @@ const NAMES: [(&str, Workload); 23] = [
 
 impl Workload {
     pub fn from_name(name: &str) -> Option<Workload> {
-        for (own, workload) in NAMES {
-            if own == name {
-                return Some(workload);
+        for (own, workload) in &NAMES {
+            if *own == name {
+                return Some(*workload);
             }
         }
         None

@@ -1,15 +1,9 @@
 //! Tests of `termwiz_cell` by its public calls, in a crate of their own: a crate with tests is
-//! proved twice.
+//! proved twice. They are those that worked cases cannot tell, which stand in `cell_cases`.
 #![tactic(auto)]
 
 #[cfg(test)]
-mod attribute_changes;
-#[cfg(test)]
 mod attributes;
-#[cfg(test)]
-mod cells;
-#[cfg(test)]
-mod changes;
 #[cfg(test)]
 mod colors;
 mod constants;
@@ -21,7 +15,3 @@ mod links;
 mod loans;
 #[cfg(test)]
 mod refusals;
-#[cfg(test)]
-mod samples;
-#[cfg(test)]
-mod widths;

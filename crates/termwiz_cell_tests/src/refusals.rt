@@ -1,7 +1,19 @@
 //! Setters that find no memory: `rt try --test --fail-alloc 1..` refuses each allocation in turn.
-use crate::samples::{link, true_color};
+use std::alloc::{AllocError, Global};
+use std::rc::Rc;
 use std::test::Fail;
 use termwiz_cell::cell::{CellAttributes, Intensity};
+use termwiz_cell::color::{ColorAttribute, RgbColor};
+use termwiz_cell::hyperlink::Hyperlink;
+
+fn true_color() -> ColorAttribute {
+    ColorAttribute::TrueColorWithPaletteFallback(RgbColor::default(), 7)
+}
+
+fn link(alloc: Global) -> Result<Rc<Hyperlink>, AllocError> {
+    let uri = "u".to_owned(alloc)?;
+    Ok(Rc::new(alloc, Hyperlink::new(alloc, uri))?)
+}
 
 fn bold() -> CellAttributes {
     let mut attrs = CellAttributes::blank();

@@ -1,6 +1,6 @@
 //! What is told of cells.
 use crate::fault::Fault;
-use crate::words::{first, number, quoted, quoted_char, sides};
+use crate::words::{first, number, sides, text, told};
 use std::alloc::Global;
 use termwiz_cell::cell::{Cell, CellAttributes};
 use termwiz_cell::emoji::{OneColumn, UnicodeWidths, Widths};
@@ -8,38 +8,29 @@ use termwiz_cell::emoji::{OneColumn, UnicodeWidths, Widths};
 pub fn answer(alloc: Global, words: &str) -> Result<String, Fault> {
     let (what, words) = first(words)?;
     match what {
-        "same" => same(alloc, words),
-        _ => told(alloc, what, &cell(alloc, words)?),
-    }
-}
-
-fn told(alloc: Global, what: &str, cell: &Cell) -> Result<String, Fault> {
-    match what {
-        "text" => text(alloc, cell),
-        "blank" => blank(alloc, cell),
-        "shown" => shown(alloc, cell),
+        "show" => show(alloc, words),
+        "form" => form(alloc, words),
+        "same" => told(alloc, is_same(alloc, words)?),
         _ => Err(Fault::Bad),
     }
 }
 
-fn text(alloc: Global, cell: &Cell) -> Result<String, Fault> {
-    let (text, width) = (cell.str(), cell.width());
-    Ok(format!(in alloc; "{text:?}, columns {width}")?)
+fn show(alloc: Global, words: &str) -> Result<String, Fault> {
+    let cell = cell(alloc, words)?;
+    let (text, width, blank) = (cell.str(), cell.width(), cell.is_blank());
+    Ok(format!(in alloc; "\"{text}\", columns {width}, blank {blank}")?)
 }
 
-fn blank(alloc: Global, cell: &Cell) -> Result<String, Fault> {
-    Ok(format!(in alloc; "{}", cell.is_blank())?)
+fn form(alloc: Global, words: &str) -> Result<String, Fault> {
+    let form = cell(alloc, words)?.presentation(&UnicodeWidths);
+    Ok(format!(in alloc; "{form:?}")?)
 }
 
-fn shown(alloc: Global, cell: &Cell) -> Result<String, Fault> {
-    let shown = cell.presentation(&UnicodeWidths);
-    Ok(format!(in alloc; "{shown:?}")?)
-}
-
-fn same(alloc: Global, words: &str) -> Result<String, Fault> {
+fn is_same(alloc: Global, words: &str) -> Result<bool, Fault> {
     let (one, other) = sides(words)?;
-    let same = cell(alloc, one)? == cell(alloc, other)?;
-    Ok(format!(in alloc; "{same}")?)
+    let one = cell(alloc, one)?;
+    let other = cell(alloc, other)?;
+    Ok(one == other)
 }
 
 fn cell(alloc: Global, words: &str) -> Result<Cell, Fault> {
@@ -60,28 +51,25 @@ fn made(alloc: Global, words: &str) -> Result<Cell, Fault> {
 fn of_text(alloc: Global, words: &str) -> Result<Cell, Fault> {
     let (how, word) = first(words)?;
     match how {
-        "grapheme" => of_grapheme(alloc, word),
-        "char" => of_char(alloc, word, &UnicodeWidths),
-        "one" => of_char(alloc, word, &OneColumn),
-        _ => of_width(alloc, word, number(how)?),
+        "grapheme" => of_grapheme(alloc, text(word)),
+        "char" => of_char(alloc, text(word), &UnicodeWidths),
+        "one" => of_char(alloc, text(word), &OneColumn),
+        _ => of_width(alloc, text(word), how),
     }
 }
 
-fn of_grapheme(alloc: Global, word: &str) -> Result<Cell, Fault> {
-    let text = quoted(alloc, word)?;
+fn of_grapheme(alloc: Global, text: &str) -> Result<Cell, Fault> {
     let attrs = CellAttributes::blank();
-    let cell = Cell::new_grapheme(alloc, &UnicodeWidths, text.as_str(), attrs, None)?;
-    Ok(cell)
+    Ok(Cell::new_grapheme(alloc, &UnicodeWidths, text, attrs, None)?)
 }
 
-fn of_char<W: Widths>(alloc: Global, word: &str, widths: &W) -> Result<Cell, Fault> {
-    let c = quoted_char(alloc, word)?;
+fn of_char<W: Widths>(alloc: Global, text: &str, widths: &W) -> Result<Cell, Fault> {
+    let c = text.chars().next().ok_or(Fault::Bad)?;
     Ok(Cell::new(alloc, widths, c, CellAttributes::blank())?)
 }
 
-fn of_width(alloc: Global, word: &str, width: usize) -> Result<Cell, Fault> {
-    let text = quoted(alloc, word)?;
+fn of_width(alloc: Global, text: &str, width: &str) -> Result<Cell, Fault> {
+    let width = number(width)?.min(2);
     let attrs = CellAttributes::blank();
-    let cell = Cell::new_grapheme_with_width(alloc, text.as_str(), width.min(2), attrs)?;
-    Ok(cell)
+    Ok(Cell::new_grapheme_with_width(alloc, text, width, attrs)?)
 }

@@ -3,37 +3,26 @@ use crate::fault::Fault;
 use crate::words::{first, sides};
 use std::alloc::Global;
 use std::collections::BTreeMap;
-use termwiz_cell::hyperlink::{Hyperlink, LinkError};
+use termwiz_cell::hyperlink::Hyperlink;
 
 pub fn answer(alloc: Global, words: &str) -> Result<String, Fault> {
     let (what, words) = first(words)?;
     match what {
-        "print" => print(alloc, words),
-        "parts" => parts(alloc, words),
+        "read" => read(alloc, words),
+        "show" => show_made(alloc, words),
         "same" => same(alloc, words),
         _ => Err(Fault::Bad),
     }
 }
 
-fn print(alloc: Global, words: &str) -> Result<String, Fault> {
-    match words.strip_prefix("osc ") {
-        Some(parts) => reprinted(alloc, parts),
-        None => Ok(link(alloc, words)?.to_string(alloc)?),
-    }
-}
-
-/// The link of a sequence's parts, printed again, or why it is none.
-fn reprinted(alloc: Global, parts: &str) -> Result<String, Fault> {
-    match parsed(alloc, parts)? {
-        Ok(Some(link)) => Ok(link.to_string(alloc)?),
+/// The link of a sequence's parts, or why it is none.
+fn read(alloc: Global, words: &str) -> Result<String, Fault> {
+    let parts: Vec<&[u8]> = words.split(';').map(part).collect(alloc)?;
+    match Hyperlink::parse(alloc, parts.as_slice()) {
+        Ok(Some(link)) => show(alloc, &link),
         Ok(None) => Ok("none".to_owned(alloc)?),
         Err(error) => Ok(format!(in alloc; "{error:?}: {error}")?),
     }
-}
-
-fn parsed(alloc: Global, parts: &str) -> Result<Result<Option<Hyperlink>, LinkError>, Fault> {
-    let parts: Vec<&[u8]> = parts.split(';').map(part).collect(alloc)?;
-    Ok(Hyperlink::parse(alloc, parts.as_slice()))
 }
 
 /// The bytes of a part. A case is text, so one byte that isn't has a word.
@@ -45,18 +34,19 @@ fn part(word: &str) -> &[u8] {
     }
 }
 
-fn parts(alloc: Global, words: &str) -> Result<String, Fault> {
-    let link = link(alloc, words)?;
+fn show_made(alloc: Global, words: &str) -> Result<String, Fault> {
+    show(alloc, &link(alloc, words)?)
+}
+
+fn show(alloc: Global, link: &Hyperlink) -> Result<String, Fault> {
     let (uri, count, implicit) = (link.uri(), link.params().len(), link.is_implicit());
-    Ok(format!(in alloc; "{uri}, params {count}, implicit {implicit}")?)
+    Ok(format!(in alloc; "{link}, uri {uri}, params {count}, implicit {implicit}")?)
 }
 
 fn same(alloc: Global, words: &str) -> Result<String, Fault> {
     let (one, other) = sides(words)?;
-    told_same(alloc, &link(alloc, one)?, &link(alloc, other)?)
-}
-
-fn told_same(alloc: Global, one: &Hyperlink, other: &Hyperlink) -> Result<String, Fault> {
+    let one = link(alloc, one)?;
+    let other = link(alloc, other)?;
     let (same, params) = (one == other, one.params() == other.params());
     Ok(format!(in alloc; "{same}, params {params}")?)
 }

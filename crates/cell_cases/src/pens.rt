@@ -11,78 +11,23 @@ use termwiz_cell::color::ColorAttribute;
 pub fn answer(alloc: Global, words: &str) -> Result<String, Fault> {
     let (what, words) = first(words)?;
     match what {
+        "show" => show(alloc, words),
         "same" => same(alloc, words),
-        _ => told(alloc, what, &pen(alloc, words)?),
-    }
-}
-
-fn told(alloc: Global, what: &str, pen: &CellAttributes) -> Result<String, Fault> {
-    match what {
-        "styles" => styles(alloc, pen),
-        "flags" => flags(alloc, pen),
-        "colours" => colours(alloc, pen),
-        "link" => target(alloc, pen),
-        "blank" => blank(alloc, pen),
         _ => Err(Fault::Bad),
     }
 }
 
-fn styles(alloc: Global, pen: &CellAttributes) -> Result<String, Fault> {
-    let (intensity, underline, blink) = (pen.intensity(), pen.underline(), pen.blink());
-    let (semantic, align) = (pen.semantic_type(), pen.vertical_align());
-    Ok(format!(in alloc; "{intensity:?} {underline:?} {blink:?} {semantic:?} {align:?}")?)
-}
-
-/// The flags that are set.
-fn flags(alloc: Global, pen: &CellAttributes) -> Result<String, Fault> {
-    let mut told = String::new(alloc);
-    for (name, is_set) in [
-        ("reverse", pen.reverse()),
-        ("strike", pen.strikethrough()),
-        ("invisible", pen.invisible()),
-        ("wrapped", pen.wrapped()),
-        ("overline", pen.overline()),
-        ("italic", pen.italic()),
-    ] {
-        push_flag(&mut told, name, is_set)?;
-    }
-    Ok(told)
-}
-
-fn push_flag(told: &mut String, name: &str, is_set: bool) -> Result<(), Fault> {
-    if is_set {
-        if !told.is_empty() {
-            told.push(' ')?;
-        }
-        told.push_str(name)?;
-    }
-    Ok(())
-}
-
-fn colours(alloc: Global, pen: &CellAttributes) -> Result<String, Fault> {
-    let (before, behind) = (pen.foreground(), pen.background());
-    let line = pen.underline_color();
-    Ok(format!(in alloc; "{before:?}, {behind:?}, {line:?}")?)
-}
-
-fn target(alloc: Global, pen: &CellAttributes) -> Result<String, Fault> {
-    match pen.hyperlink() {
-        Some(link) => Ok(link.uri().to_owned(alloc)?),
-        None => Ok("none".to_owned(alloc)?),
-    }
-}
-
-fn blank(alloc: Global, pen: &CellAttributes) -> Result<String, Fault> {
-    Ok(format!(in alloc; "{}", pen.is_blank())?)
+fn show(alloc: Global, words: &str) -> Result<String, Fault> {
+    let pen = pen(alloc, words)?;
+    let blank = pen.is_blank();
+    Ok(format!(in alloc; "{pen:?}, blank {blank}")?)
 }
 
 fn same(alloc: Global, words: &str) -> Result<String, Fault> {
     let (one, other) = sides(words)?;
-    told_same(alloc, &pen(alloc, one)?, &pen(alloc, other)?)
-}
-
-fn told_same(alloc: Global, one: &CellAttributes, other: &CellAttributes) -> Result<String, Fault> {
-    let (same, bits) = (one == other, one.attribute_bits_equal(other));
+    let one = pen(alloc, one)?;
+    let other = pen(alloc, other)?;
+    let (same, bits) = (one == other, one.attribute_bits_equal(&other));
     Ok(format!(in alloc; "{same}, bits {bits}")?)
 }
 
@@ -117,13 +62,13 @@ fn set_color(
     name: &str,
     color: ColorAttribute,
 ) -> Result<(), Fault> {
-    let set = match name {
-        "fg" => pen.set_foreground(alloc, color).is_ok(),
-        "bg" => pen.set_background(alloc, color).is_ok(),
-        "line" => pen.set_underline_color(alloc, color).is_ok(),
-        _ => false,
+    match name {
+        "fg" => pen.set_foreground(alloc, color)?,
+        "bg" => pen.set_background(alloc, color)?,
+        "line" => pen.set_underline_color(alloc, color)?,
+        _ => return Err(Fault::Bad),
     };
-    if set { Ok(()) } else { Err(Fault::Bad) }
+    Ok(())
 }
 
 fn replace(alloc: Global, pen: &mut CellAttributes, word: &str) -> Result<(), Fault> {

@@ -2,24 +2,24 @@
 use crate::fault::Fault;
 use termwiz_cell::change::{CursorShape, LineAttribute};
 
-const SHAPES: [(&str, CursorShape); 7] = [
-    ("default", CursorShape::Default),
-    ("blinking-block", CursorShape::BlinkingBlock),
-    ("steady-block", CursorShape::SteadyBlock),
-    ("blinking-underline", CursorShape::BlinkingUnderline),
-    ("steady-underline", CursorShape::SteadyUnderline),
-    ("blinking-bar", CursorShape::BlinkingBar),
-    ("steady-bar", CursorShape::SteadyBar),
-];
-
 /// The shape of this name.
 pub fn shape(word: &str) -> Result<CursorShape, Fault> {
-    for (name, shape) in SHAPES {
-        if name == word {
-            return Ok(shape);
-        }
+    match word {
+        "default" => Ok(CursorShape::Default),
+        "blinking-block" => Ok(CursorShape::BlinkingBlock),
+        "blinking-underline" => Ok(CursorShape::BlinkingUnderline),
+        "blinking-bar" => Ok(CursorShape::BlinkingBar),
+        _ => steady_shape(word),
     }
-    Err(Fault::Bad)
+}
+
+fn steady_shape(word: &str) -> Result<CursorShape, Fault> {
+    match word {
+        "steady-block" => Ok(CursorShape::SteadyBlock),
+        "steady-underline" => Ok(CursorShape::SteadyUnderline),
+        "steady-bar" => Ok(CursorShape::SteadyBar),
+        _ => Err(Fault::Bad),
+    }
 }
 
 /// The size of a line of this name.

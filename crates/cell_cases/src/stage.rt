@@ -22,7 +22,7 @@ impl Stage {
         self.told.as_str()
     }
 
-    /// Tells each line again with its answer. A fault is told below its line, and ends the play.
+    /// Tells each line again with its answer. A line that has none is the last one that is told.
     pub fn play(&mut self, script: &str) -> Result<(), Fault> {
         for line in script.lines() {
             if !line.starts_with('#') {
@@ -43,20 +43,9 @@ impl Stage {
         if line.is_empty() || line.starts_with("case ") {
             return Ok(());
         }
-        match answer(self.alloc, line) {
-            Ok(told) => self.tell_answer(told.as_str()),
-            Err(fault) => self.tell_fault(fault),
-        }
-    }
-
-    fn tell_answer(&mut self, told: &str) -> Result<(), Fault> {
+        let told = answer(self.alloc, line)?;
         self.told.push_str("  ")?;
-        self.tell(told)
-    }
-
-    fn tell_fault(&mut self, fault: Fault) -> Result<(), Fault> {
-        self.tell("  no such question, or no memory")?;
-        Err(fault)
+        self.tell(told.as_str())
     }
 }
 

@@ -1,4 +1,4 @@
-//! What `{:?}` shows of cells and attributes.
+//! What `{:?}` shows of a cell with attributes.
 use termwiz_cell::cell::{Cell, CellAttributes, Intensity};
 use termwiz_cell::color::ColorAttribute;
 
@@ -15,11 +15,4 @@ fn a_bold_red_cell_shows_what_is_not_default(rt: HostRuntime) {
         shown.as_str(),
         "Cell { text: \"x\", width: 1, attrs: CellAttributes { intensity: Bold, foreground: PaletteIndex(1) } }"
     );
-}
-
-#[test]
-fn default_attributes_show_no_field(rt: HostRuntime) {
-    let attrs = CellAttributes::blank();
-    let shown = format!(in rt.alloc(); "{attrs:?}").expect(&rt, "memory");
-    assert_eq!(rt; shown.as_str(), "CellAttributes");
 }

@@ -15,3 +15,5 @@ mod links;
 mod loans;
 #[cfg(test)]
 mod refusals;
+#[cfg(test)]
+mod widths;

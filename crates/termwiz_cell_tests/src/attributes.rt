@@ -1,4 +1,5 @@
 //! Attributes: which styles are on, and the order of semantic types.
+use std::process::Abort;
 use termwiz_cell::cell::{Blink, SemanticType, Underline};
 
 #[test]
@@ -7,14 +8,14 @@ fn styles_say_whether_they_are_on(rt: HostRuntime) {
     assert!(rt; !bool::from(Blink::None));
 }
 
+fn assert_below(rt: &impl Abort, lower: SemanticType, higher: SemanticType) {
+    assert!(rt; lower < higher, "{lower:?} {higher:?}");
+    assert!(rt; !(higher <= lower), "{higher:?} {lower:?}");
+}
+
 #[test]
 fn semantic_types_are_in_order(rt: HostRuntime) {
-    for (lower, higher) in [
-        (SemanticType::Output, SemanticType::Input),
-        (SemanticType::Input, SemanticType::Prompt),
-        (SemanticType::Output, SemanticType::Prompt),
-    ] {
-        assert!(rt; lower < higher, "{lower:?} {higher:?}");
-        assert!(rt; !(higher <= lower), "{higher:?} {lower:?}");
-    }
+    assert_below(&rt, SemanticType::Output, SemanticType::Input);
+    assert_below(&rt, SemanticType::Input, SemanticType::Prompt);
+    assert_below(&rt, SemanticType::Output, SemanticType::Prompt);
 }

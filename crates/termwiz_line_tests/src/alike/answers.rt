@@ -58,6 +58,10 @@ fn assert_same_flags(rt: &impl Abort, one: &Line, other: &Line) {
     assert_eq!(rt; one.current_seqno(), other.current_seqno());
     assert_eq!(rt; one.changed_since(0), other.changed_since(0));
     assert_eq!(rt; one.last_cell_was_wrapped(), other.last_cell_was_wrapped());
+    assert!(rt; one.bidi_info() == other.bidi_info());
+}
+
+fn assert_same_sizes(rt: &impl Abort, one: &Line, other: &Line) {
     assert_eq!(rt; one.is_single_width(), other.is_single_width());
     assert_eq!(rt; one.is_double_width(), other.is_double_width());
     assert_eq!(rt; one.is_double_height_top(), other.is_double_height_top());
@@ -65,11 +69,10 @@ fn assert_same_flags(rt: &impl Abort, one: &Line, other: &Line) {
         one.is_double_height_bottom(),
         other.is_double_height_bottom()
     );
-    assert!(rt; one.bidi_info() == other.bidi_info());
 }
 
-// Both have the same text, and each of its bytes the same cell.
-fn is_same_cluster(one: &CellCluster, other: &CellCluster) -> bool {
+// Each byte of both texts has the same cell.
+fn has_same_bytes(one: &CellCluster, other: &CellCluster) -> bool {
     for byte in 0..one.text.len().min(other.text.len()) {
         if one.byte_to_cell_idx(byte) != other.byte_to_cell_idx(byte)
             || one.byte_to_cell_width(byte) != other.byte_to_cell_width(byte)
@@ -77,7 +80,12 @@ fn is_same_cluster(one: &CellCluster, other: &CellCluster) -> bool {
             return false;
         }
     }
-    one.text.as_str() == other.text.as_str()
+    true
+}
+
+fn is_same_cluster(one: &CellCluster, other: &CellCluster) -> bool {
+    has_same_bytes(one, other)
+        && one.text.as_str() == other.text.as_str()
         && one.attrs == other.attrs
         && one.width == other.width
         && one.presentation == other.presentation
@@ -143,6 +151,7 @@ pub(super) fn assert_same_answers(rt: &impl Abort, one: &mut Line, other: &mut L
     assert_same_columns(rt, one, other);
     assert_same_texts(rt, one, other);
     assert_same_flags(rt, one, other);
+    assert_same_sizes(rt, one, other);
     assert_same_clusters(rt, one, other);
     assert_same_changes(rt, one, other);
     assert_same_pieces(rt, one, other);

@@ -1,14 +1,10 @@
 //! `surfview WIDTH HEIGHT` reads a script of changes and prints what a surface shows and answers.
 #![tactic(auto)]
 
-mod printed;
-mod script;
-mod session;
-
-use session::{SessionError, session};
 use std::env;
 use std::io::ErrorKind;
 use std::process::ExitCode;
+use surfview_session::session::{SessionError, session};
 
 fn main(rt: HostRuntime) -> ExitCode {
     let status = match words(&rt) {

@@ -5,7 +5,7 @@ use Rattle.termwiz_cell.specs.declared.emoji.UnicodeWidths.{UnicodeWidths}
 use Rattle.termwiz_surface.specs.Schedule.{IsSchedule}
 use Rattle.termwiz_surface.specs.declared.view.Event.{Event}
 use Rattle.termwiz_surface.specs.declared.view.Outcome.{Outcome}
-use Rattle.surfview.specs.Size.{GiveSizes}
+use Rattle.surfview_session.specs.Size.{GiveSizes}
 
 pub record IsRun {A : Type 0} (words : List (String A)) (outcomes : List Outcome) : Type 0 where
   pub width : ℕ

@@ -1,9 +1,9 @@
 -- The exit status of each way in which a session ends early: 2 for what it was given, 3 for what it was refused.
 use Rattle.std.specs.Prelude.{ℕ}
-use Rattle.surfview.specs.declared.session.SessionError.{SessionError}
-use Rattle.surfview.specs.declared.script.ScriptError.{ScriptError}
-use Rattle.surfview.specs.declared.script.ScriptError.TheVariants as script
-use Rattle.surfview.specs.declared.session.SessionError.TheVariants.{Usage, Unreadable, BadCommand, Memory, Write}
+use Rattle.surfview_session.specs.declared.session.SessionError.{SessionError}
+use Rattle.surfview_session.specs.declared.script.ScriptError.{ScriptError}
+use Rattle.surfview_session.specs.declared.script.ScriptError.TheVariants as script
+use Rattle.surfview_session.specs.declared.session.SessionError.TheVariants.{Usage, Unreadable, BadCommand, Memory, Write}
 
 abbrev pub status_of : SessionError → ℕ
 status_of Usage = 2

@@ -1,7 +1,7 @@
 use Rattle.std.proofs.Common.{rules, ◌≡◌, [], ◌∷◌, ◌++◌}
 use Rattle.std.proofs.lemmas.List.Elements.{All-push}
 use Rattle.termwiz_surface.specs.Schedule.{IsInRange}
-use Rattle.surfview.proofs.script.events.Goals as goal
+use Rattle.surfview_session.proofs.script.events.Goals as goal
 
 pub loop-index-preserved-then-not-starts_with : goal.loop-index-preserved-then-not-starts_with
 loop-index-preserved-then-not-starts_with c =

@@ -1,6 +1,6 @@
 -- The words that give a surface's size: a width and a height, each a number from 1 to 1000.
 use Rattle.std.specs.Prelude.{◌≡◌, ℕ, List, [], ◌∷◌, ◌≤◌, String, string_bytes}
-use Rattle.surfview.specs.Number.{IsNumber, value_of}
+use Rattle.surfview_session.specs.Number.{IsNumber, value_of}
 
 pub record IsSize (word : List ℕ) : Type 0 where
   pub number : IsNumber word

@@ -182,6 +182,3 @@ impl Display for Escaped<'_> {
         Ok(())
     }
 }
-
-#[cfg(test)]
-mod tests;

@@ -1,10 +1,10 @@
 //! One run of the program: from its words and its input to what it prints and its exit status.
 ghost use Rattle.std.specs.Prelude.{◌≡◌, ◌≤◌, ◌⊎◌, ◌↔◌, IfOk, IfSome, IfErr, IsSome, IsErr};
 ghost use Rattle.std.specs.List.{All};
-ghost use Rattle.surfview.specs.Run.{IsRun};
-ghost use Rattle.surfview.specs.Size.{AreSizes, GiveSizes};
+ghost use Rattle.surfview_session.specs.Run.{IsRun};
+ghost use Rattle.surfview_session.specs.Size.{AreSizes, GiveSizes};
 ghost use Rattle.termwiz_surface.specs.Schedule.{IsInRange};
-ghost use Rattle.surfview.specs.Status.{status_of};
+ghost use Rattle.surfview_session.specs.Status.{status_of};
 
 use crate::printed::Printed;
 use crate::script::{self, ScriptError, size};
@@ -29,7 +29,7 @@ pub enum SessionError {
 }
 
 impl From<AllocError> for SessionError {
-    ghost use Rattle.surfview.specs.declared.session.SessionError.TheVariants.{Memory};
+    ghost use Rattle.surfview_session.specs.declared.session.SessionError.TheVariants.{Memory};
 
     ghost from_gives = { λ _ error. error ≡ Memory };
 
@@ -39,7 +39,7 @@ impl From<AllocError> for SessionError {
 }
 
 impl From<ScriptError> for SessionError {
-    ghost use Rattle.surfview.specs.Status.{of_script};
+    ghost use Rattle.surfview_session.specs.Status.{of_script};
 
     ghost from_gives = { λ error made. made ≡ of_script error };
 
@@ -167,6 +167,3 @@ fn print<O: Write>(alloc: Global, outcomes: &[Outcome], out: &mut O) -> Result<(
     }
     out.flush().map_err(|_| SessionError::Write)
 }
-
-#[cfg(test)]
-mod tests;

@@ -2,9 +2,9 @@
 ghost use Rattle.std.specs.Prelude.{◌≤◌, length, IfOk, IfSome};
 ghost use Rattle.std.specs.List.{All};
 ghost use Rattle.termwiz_surface.specs.Schedule.{IsInRange};
-ghost use Rattle.surfview.specs.Size.{IsSize};
+ghost use Rattle.surfview_session.specs.Size.{IsSize};
 ghost use Rattle.std.specs.Option.{SomeIff};
-ghost use Rattle.surfview.specs.Number.{IsNumber, value_of};
+ghost use Rattle.surfview_session.specs.Number.{IsNumber, value_of};
 
 use std::alloc::{AllocError, Global};
 use termwiz_cell::cell::{CellAttributes, Intensity, Underline};
@@ -34,7 +34,7 @@ enum LineError {
 
 impl From<AllocError> for LineError {
     ghost use Rattle.std.specs.Prelude.{◌≡◌};
-    ghost use Rattle.surfview.specs.declared.script.LineError.TheVariants.{Memory};
+    ghost use Rattle.surfview_session.specs.declared.script.LineError.TheVariants.{Memory};
 
     ghost from_gives = { λ _ error. error ≡ Memory };
 
@@ -284,6 +284,3 @@ fn scalar_value(digits: &str) -> Option<char> {
     let value = u32::from_str_radix(digits, 16).ok()?;
     char::from_u32(value)
 }
-
-#[cfg(test)]
-mod tests;

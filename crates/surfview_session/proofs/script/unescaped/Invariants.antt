@@ -1,7 +1,7 @@
 use Rattle.std.proofs.Common.{length}
 use denote.Text.{Utf8}
 use denote.Shadow.{shadow}
-use Rattle.surfview.proofs.script.unescaped.Given as goal
+use Rattle.surfview_session.proofs.script.unescaped.Given as goal
 
 -- what is left is text
 abbrev pub invariant-loop-before : goal.invariant-loop-before

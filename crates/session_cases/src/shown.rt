@@ -3,6 +3,7 @@ use crate::fault::Fault;
 use std::alloc::{AllocError, Global};
 use surfview_session::printed::Printed;
 use surfview_session::script::events;
+use termwiz_cell::change::Change;
 use termwiz_cell::emoji::UnicodeWidths;
 use termwiz_surface::surface::SurfaceError;
 use termwiz_surface::view::{Event, Outcome};
@@ -47,14 +48,26 @@ pub fn listed(alloc: Global, text: &str) -> Result<String, Fault> {
 
 fn named(alloc: Global, event: &Event<UnicodeWidths>) -> Result<String, AllocError> {
     match event {
-        Event::Changes(changes) => format!(in alloc; "changes {changes:?}\n"),
-        Event::Resize(width, height) => format!(in alloc; "resize {width} {height}\n"),
-        Event::Flush(seq) => format!(in alloc; "flush {seq}\n"),
+        Event::Changes(changes) => listed_changes(alloc, changes.as_slice()),
+        Event::Resize(width, height) => size(alloc, *width, *height),
+        Event::Flush(seq) => numbered(alloc, "flush", *seq),
         Event::Follow => String::from_str(alloc, "view\n"),
         Event::Show => String::from_str(alloc, "show\n"),
-        Event::Ask(seq) => format!(in alloc; "ask {seq}\n"),
+        Event::Ask(seq) => numbered(alloc, "ask", *seq),
         Event::Draw(..) | Event::Copy(..) => String::from_str(alloc, "another event\n"),
     }
+}
+
+fn listed_changes(alloc: Global, changes: &[Change]) -> Result<String, AllocError> {
+    format!(in alloc; "changes {changes:?}\n")
+}
+
+fn size(alloc: Global, width: usize, height: usize) -> Result<String, AllocError> {
+    format!(in alloc; "resize {width} {height}\n")
+}
+
+fn numbered(alloc: Global, name: &str, number: usize) -> Result<String, AllocError> {
+    format!(in alloc; "{name} {number}\n")
 }
 
 /// The error of a surface, by its word.

@@ -81,7 +81,7 @@ impl Trial {
             bytes: self.input.as_slice(),
             failure: self.failure,
         };
-        session(
+        ended(
             self.alloc,
             self.words.as_slice(),
             &mut input,
@@ -94,4 +94,15 @@ impl Trial {
     pub fn report_memory(&mut self) -> u8 {
         SessionError::Memory.report(&mut self.err)
     }
+}
+
+/// The status of a session of these words, which reads and writes there.
+fn ended(
+    alloc: Global,
+    words: &[String],
+    input: &mut Source,
+    out: &mut Sink,
+    err: &mut Sink,
+) -> u8 {
+    session(alloc, words, input, out, err)
 }

@@ -3,10 +3,10 @@
 use std::fmt;
 use std::fmt::{Display, Formatter};
 use termwiz_cell::cell::{CellAttributes, Intensity, Underline};
-use termwiz_cell::change::{Change, CursorVisibility, Position};
+use termwiz_cell::change::{Change, CursorVisibility, Position, SequenceNo};
 use termwiz_cell::color::ColorAttribute;
 use termwiz_line::line::line::Line;
-use termwiz_surface::surface::SurfaceError;
+use termwiz_surface::surface::{Screen, SurfaceError};
 use termwiz_surface::view::Outcome;
 
 /// An outcome as the lines that are printed for it, of which there may be none.
@@ -17,32 +17,60 @@ impl Display for Printed<'_> {
     fn fmt<W: fmt::Write>(&self, f: &mut Formatter<W>) -> fmt::Result {
         match self.0 {
             Outcome::Answered(_) | Outcome::Done => Ok(()),
-            Outcome::Refused(SurfaceError::ScrollRegion) => writeln!(f, "refused: scroll region"),
-            Outcome::Refused(SurfaceError::Numbers) => writeln!(f, "refused: numbers"),
-            Outcome::Refused(SurfaceError::Memory) => writeln!(f, "refused: memory"),
-            Outcome::Shown(rows, (x, y)) => {
-                for row in rows.lines() {
-                    writeln!(f, "|{row}|")?;
-                }
-                writeln!(f, "cursor {x} {y}")
-            }
-            Outcome::Followed(seq, _, screen) => {
-                writeln!(f, "viewer {seq}")?;
-                for row in &screen.rows {
-                    writeln!(f, "|{}|", PrintedRow(row))?;
-                }
-                let (x, y) = screen.cursor;
-                writeln!(f, "cursor {x} {y}")
-            }
-            Outcome::Asked(seq, changes) => {
-                writeln!(f, "number {seq}")?;
-                for change in changes {
-                    writeln!(f, "{}", PrintedChange(change))?;
-                }
-                Ok(())
-            }
+            Outcome::Refused(error) => write_refusal(f, *error),
+            Outcome::Shown(rows, cursor) => write_shown(f, rows.as_str(), *cursor),
+            Outcome::Followed(seq, _, screen) => write_followed(f, *seq, screen),
+            Outcome::Asked(seq, changes) => write_asked(f, *seq, changes.as_slice()),
         }
     }
+}
+
+fn write_refusal<W: fmt::Write>(f: &mut Formatter<W>, error: SurfaceError) -> fmt::Result {
+    match error {
+        SurfaceError::ScrollRegion => f.write_str("refused: scroll region\n"),
+        SurfaceError::Numbers => f.write_str("refused: numbers\n"),
+        SurfaceError::Memory => f.write_str("refused: memory\n"),
+    }
+}
+
+fn write_cursor<W: fmt::Write>(f: &mut Formatter<W>, cursor: (usize, usize)) -> fmt::Result {
+    let (x, y) = cursor;
+    writeln!(f, "cursor {x} {y}")
+}
+
+fn write_shown<W: fmt::Write>(
+    f: &mut Formatter<W>,
+    rows: &str,
+    cursor: (usize, usize),
+) -> fmt::Result {
+    for row in rows.lines() {
+        writeln!(f, "|{row}|")?;
+    }
+    write_cursor(f, cursor)
+}
+
+fn write_followed<W: fmt::Write>(
+    f: &mut Formatter<W>,
+    seq: SequenceNo,
+    screen: &Screen,
+) -> fmt::Result {
+    writeln!(f, "viewer {seq}")?;
+    for row in &screen.rows {
+        writeln!(f, "|{}|", PrintedRow(row))?;
+    }
+    write_cursor(f, screen.cursor)
+}
+
+fn write_asked<W: fmt::Write>(
+    f: &mut Formatter<W>,
+    seq: SequenceNo,
+    changes: &[Change],
+) -> fmt::Result {
+    writeln!(f, "number {seq}")?;
+    for change in changes {
+        writeln!(f, "{}", PrintedChange(change))?;
+    }
+    Ok(())
 }
 
 /// The texts of a row's visible cells.

@@ -73,24 +73,66 @@ fn event(alloc: Global, line: &str) -> Result<Event<UnicodeWidths>, LineError>
     ensures { IfOk result (λ event. IsInRange event) }
 {
     if let Some(text) = line.strip_prefix("text ") {
-        let text = unescaped(alloc, text)?;
-        return changes(alloc, Change::Text(text));
+        return text_event(alloc, text);
     }
     let words: Vec<&str> = line.split(' ').collect(alloc)?;
-    match words.as_slice() {
-        ["text"] => changes(alloc, Change::Text(String::new(alloc))),
-        ["at", x, y] => changes(alloc, cursor_position(x, y)?),
-        ["pen", words @ ..] => changes(alloc, Change::AllAttributes(pen(alloc, words)?)),
-        ["clear", color @ ..] => changes(alloc, Change::ClearScreen(background(color)?)),
-        ["eol", color @ ..] => changes(alloc, Change::ClearToEndOfLine(background(color)?)),
-        ["eos", color @ ..] => changes(alloc, Change::ClearToEndOfScreen(background(color)?)),
-        ["up", first, size, count] => changes(alloc, scroll_up(first, size, count)?),
-        ["down", first, size, count] => changes(alloc, scroll_down(first, size, count)?),
-        ["resize", width, height] => resize(width, height),
-        ["flush", seq] => Ok(Event::Flush(given(seq)?)),
+    event_of(alloc, words.as_slice())
+}
+
+/// The event of a text, whose escapes stand in it yet.
+fn text_event(alloc: Global, text: &str) -> Result<Event<UnicodeWidths>, LineError>
+    ensures { IfOk result (λ event. IsInRange event) }
+{
+    let text = unescaped(alloc, text)?;
+    changes(alloc, Change::Text(text))
+}
+
+/// The event of a line's words.
+fn event_of(alloc: Global, words: &[&str]) -> Result<Event<UnicodeWidths>, LineError>
+    ensures { IfOk result (λ event. IsInRange event) }
+{
+    match words {
         ["view"] => Ok(Event::Follow),
         ["show"] => Ok(Event::Show),
-        ["ask", seq] => Ok(Event::Ask(given(seq)?)),
+        ["resize", width, height] => resize(width, height),
+        ["flush", seq] => flush(seq),
+        ["ask", seq] => ask(seq),
+        _ => change_event(alloc, words),
+    }
+}
+
+/// The event of the words of a change.
+fn change_event(alloc: Global, words: &[&str]) -> Result<Event<UnicodeWidths>, LineError>
+    ensures { IfOk result (λ event. IsInRange event) }
+{
+    let change = change(alloc, words)?;
+    changes(alloc, change)
+}
+
+/// The change of a line's words, which is no text but the empty one.
+fn change(alloc: Global, words: &[&str]) -> Result<Change, LineError> {
+    match words {
+        ["text"] => Ok(Change::Text(String::new(alloc))),
+        ["at", x, y] => cursor_position(x, y),
+        ["pen", words @ ..] => pen_change(alloc, words),
+        ["up", first, size, count] => scroll_up(first, size, count),
+        ["down", first, size, count] => scroll_down(first, size, count),
+        _ => clear(words),
+    }
+}
+
+/// The pen that the words make.
+fn pen_change(alloc: Global, words: &[&str]) -> Result<Change, LineError> {
+    let pen = pen(alloc, words)?;
+    Ok(Change::AllAttributes(pen))
+}
+
+/// The clear that the first word names, with the background of the others.
+fn clear(words: &[&str]) -> Result<Change, LineError> {
+    match words {
+        ["clear", color @ ..] => background(color).map(Change::ClearScreen),
+        ["eol", color @ ..] => background(color).map(Change::ClearToEndOfLine),
+        ["eos", color @ ..] => background(color).map(Change::ClearToEndOfScreen),
         _ => Err(LineError::BadCommand),
     }
 }
@@ -137,6 +179,20 @@ fn resize(width: &str, height: &str) -> Result<Event<UnicodeWidths>, LineError>
     let width = size(width).ok_or(LineError::BadCommand)?;
     let height = size(height).ok_or(LineError::BadCommand)?;
     Ok(Event::Resize(width, height))
+}
+
+/// The event of a flush before a number.
+fn flush(seq: &str) -> Result<Event<UnicodeWidths>, LineError>
+    ensures { IfOk result (λ event. IsInRange event) }
+{
+    Ok(Event::Flush(given(seq)?))
+}
+
+/// The event that asks for what is due from a number on.
+fn ask(seq: &str) -> Result<Event<UnicodeWidths>, LineError>
+    ensures { IfOk result (λ event. IsInRange event) }
+{
+    Ok(Event::Ask(given(seq)?))
 }
 
 /// The number that a word of a command gives.

@@ -1,0 +1,10 @@
+-- The columns of a text by each measure.
+use Rattle.std.specs.Prelude.{ℕ, List, [], ◌∷◌, bytes_eq, if◌then◌else◌}
+use Rattle.termwiz_cell.specs.Width.{unicode_columns}
+use Rattle.surface_cases.specs.declared.measure.Measure.{Measure}
+use Rattle.surface_cases.specs.declared.measure.Measure.TheVariants.{Unicode, One, Wide}
+
+unfoldable pub measured : Measure → List ℕ → ℕ
+measured Unicode text = unicode_columns text
+measured One _ = 1
+measured Wide text = if bytes_eq text (32 ∷ []) then 1 else 2

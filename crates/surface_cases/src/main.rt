@@ -1,0 +1,77 @@
+//! Plays worked cases: surfaces that are drawn in steps, and what is asked of them, line by line.
+//!
+//! Standard input has the cases, and standard output tells them again with each answer below its line, two spaces in. A line that begins with `#` says what a case shows, and is not told. Words are parted by one space.
+//!
+//! A case:
+//! - `case TITLE`: begins a case, with nothing left of the one before.
+//!
+//! What a case has, each numbered from 0 on:
+//! - `new WIDTH HEIGHT MEASURE`: a surface, on which the coming changes are made. A measure is `unicode`, `one` (each grapheme has one column) or `wide` (all but a space have two).
+//! - `clone`: one more surface, a clone of this one.
+//! - `on N`: the coming lines are about this surface.
+//! - `viewer`: a viewer of this surface, or of the viewer that is viewed.
+//! - `view N`: what is asked then is asked of this viewer's surface.
+//! - `sequence WIDTH HEIGHT MEASURE`: a sequence, to which the coming changes are added.
+//!
+//! Changes, which tell their numbers or why they are refused:
+//! - `text TEXT`, `title TEXT` (or `title` alone): with `\n`, `\r`, `\t`, `\s` (a space), `\\` and `\u{HEX}`.
+//! - `move X Y`: a place is `=N` from the start, `$N` from the end, or `~N` a distance.
+//! - `set ATTRIBUTE`, `pen ATTRIBUTE ..` (the default pen but for these): `bold`, `italic`, `double` (underlined), `fg=COLOR` or `bg=COLOR`.
+//! - `clear COLOR`, `eol COLOR`, `eos COLOR`: clear all, to the end of the line, to the end of the screen. A colour is a number of the palette, `maroon` or `default`.
+//! - `up FIRST SIZE COUNT`, `down FIRST SIZE COUNT`: scroll a region.
+//! - `hidden`, `visible`, `shape SHAPE`: the cursor.
+//! - `row ATTRIBUTE`: how large the cursor's line is shown, `top`, `bottom`, `double` or `single`.
+//! - `list`, and later `end`: the changes between are made as one list.
+//!
+//! Other steps:
+//! - `resize WIDTH HEIGHT`, `flush N`.
+//! - `draw N X Y`: surface N is drawn on this one.
+//! - `copy X Y WIDTH HEIGHT TO_X TO_Y`: a region is copied.
+//! - `lead N SEQ`: surface N makes what is due from a number on, and the number for the next time is told.
+//! - `follow N`: viewer N follows this surface. Its answer, its last number, the surface's number and whether both show the same are told.
+//! - `goto X Y`: a sequence moves to a place.
+//!
+//! What is asked:
+//! - `rows`: the rows and the cursor's place; `number`: that of the coming change; `kept`: the title, the cursor's shape and whether it is shown.
+//! - `screen`: how many columns each row of the screen has; `flags`: the same of each line, and whether it is double wide; `cells`: the texts of each row's stored cells.
+//! - `has SEQ`: whether there are changes for a viewer with a number; `ask SEQ`: what is due to it, lent or repainted.
+//! - `same N`: whether the screen is that of surface N.
+//! - `diff N`, `diff-region X Y WIDTH HEIGHT N OTHER_X OTHER_Y`, `diff-line ROW TEXT`, `diff-lines TEXT ..`: the changes that lead there.
+//! - `place`: where a sequence is, and how many rows below its highest it reached; `consume`: its changes, and no sequence is left.
+//! - `cell TEXT`: the text and the width of a cell of one grapheme.
+//! - `refusals`, `sequence-refusals`: what each error says.
+//!
+//! Any number may be `max`, and a distance `min` too.
+#![tactic(auto)]
+
+mod changes;
+mod fault;
+mod measure;
+mod play;
+mod sequences;
+mod stage;
+mod tell;
+mod words;
+
+use play::Play;
+use std::io::{Read, Write};
+use std::process::ExitCode;
+
+fn main(rt: HostRuntime) -> ExitCode {
+    let mut bytes = Vec::new(rt.alloc());
+    if rt.stdin().read_to_end(&mut bytes).is_err() {
+        return ExitCode::FAILURE;
+    }
+    let Ok(script) = str::from_utf8(bytes.as_slice()) else {
+        return ExitCode::FAILURE;
+    };
+    let mut play = Play::new(rt.alloc());
+    let played = play.play(script);
+    if rt.stdout().write_all(play.told().as_bytes()).is_err() {
+        return ExitCode::FAILURE;
+    }
+    match played {
+        Ok(()) => ExitCode::SUCCESS,
+        Err(_) => ExitCode::FAILURE,
+    }
+}

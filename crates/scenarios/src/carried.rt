@@ -13,7 +13,7 @@ use termwiz_cell::emoji::{OneColumn, UnicodeWidths, Widths};
 fn assert_carried<W: Widths>(rt: &impl Abort, canvas: &Canvas<W>) {
     let mut viewer = canvas.fresh(rt);
     fill(rt, &mut viewer);
-    canvas.lead(rt, &mut viewer, 0);
+    canvas.lead(rt, &mut viewer);
     canvas.assert_same_screen(rt, &viewer)
 }
 

@@ -1,7 +1,6 @@
-//! Surfaces that are drawn on others, and regions that are copied.
+//! Regions that are copied, and their prints counted.
 use crate::canvas::Canvas;
 use crate::diff_tables::{fitting, needed, printed};
-use crate::diffs::WORDS;
 use crate::steps::{RED, Step, Style};
 use std::borrow::CowSlice;
 use std::process::Abort;
@@ -9,89 +8,13 @@ use termwiz_cell::change::SequenceNo;
 use termwiz_cell::emoji::UnicodeWidths;
 use termwiz_surface::surface::Screen;
 
-#[test]
-fn a_drawn_surface_leaves_the_cursor_and_the_pen(rt: HostRuntime) {
-    let alloc = rt.alloc();
-    let mut canvas = Canvas::new(&rt, alloc, 4, 1, UnicodeWidths, &[Step::Print("A")]);
-    let widget = Canvas::new(&rt, alloc, 2, 1, UnicodeWidths, &[Step::Print("xy")]);
-    assert_eq!(&rt; canvas.draw_from_screen(&rt, &widget, 2, 0), 5);
-    canvas.assert_shows(&rt, "A xy\n", (1, 0));
-    let steps = [
-        Step::At(2, 0),
-        Step::DefaultPen,
-        Step::Print("xy"),
-        Step::At(1, 0),
-        Step::DefaultPen,
-    ];
-    canvas.assert_lent(&rt, 1, 6, &steps);
-}
-
-#[test]
-fn a_drawn_surface_leaves_another_pen_and_a_pending_wrap(rt: HostRuntime) {
-    let alloc = rt.alloc();
-    let steps = [Step::Pen(Style::Italic), Step::Print("abcd")];
-    let mut canvas = Canvas::new(&rt, alloc, 4, 1, UnicodeWidths, &steps);
-    let widget = Canvas::new(&rt, alloc, 2, 1, UnicodeWidths, &[Step::Print("xy")]);
-    assert_eq!(&rt; canvas.draw_from_screen(&rt, &widget, 1, 0), 6);
-    canvas.assert_shows(&rt, "axyd\n", (4, 0));
-    let steps = [
-        Step::At(1, 0),
-        Step::DefaultPen,
-        Step::Print("xy"),
-        Step::At(4, 0),
-        Step::Pen(Style::Italic),
-    ];
-    canvas.assert_lent(&rt, 2, 7, &steps);
-}
-
-#[test]
-fn a_surface_is_drawn_over_wide_graphemes(rt: HostRuntime) {
-    let alloc = rt.alloc();
-    let mut canvas = Canvas::new(&rt, alloc, 4, 1, UnicodeWidths, &[Step::Print("か a")]);
-    let widget = Canvas::new(&rt, alloc, 4, 1, UnicodeWidths, &[Step::Print("abcd")]);
-    assert_eq!(&rt; canvas.draw_from_screen(&rt, &widget, 0, 0), 5);
-    canvas.assert_shows(&rt, "abcd\n", (4, 0));
-    canvas.assert_number(&rt, 6);
-}
-
-#[test]
-fn a_wide_grapheme_under_the_edge_is_cut(rt: HostRuntime) {
-    let alloc = rt.alloc();
-    let mut canvas = Canvas::new(&rt, alloc, 4, 1, UnicodeWidths, &[Step::Print("aかb")]);
-    let widget = Canvas::new(&rt, alloc, 2, 1, UnicodeWidths, &[Step::Print("xy")]);
-    assert_eq!(&rt; canvas.draw_from_screen(&rt, &widget, 2, 0), 5);
-    canvas.assert_rows(&rt, "a xy\n");
-    let steps = [
-        Step::At(2, 0),
-        Step::DefaultPen,
-        Step::Print("xy"),
-        Step::At(4, 0),
-        Step::DefaultPen,
-    ];
-    canvas.assert_lent(&rt, 1, 6, &steps);
-}
-
-#[test]
-fn nothing_is_drawn_outside(rt: HostRuntime) {
-    let alloc = rt.alloc();
-    let mut canvas = Canvas::new(&rt, alloc, 4, 1, UnicodeWidths, &[]);
-    let widget = Canvas::new(&rt, alloc, 2, 1, UnicodeWidths, &[Step::Print("xy")]);
-    assert_eq!(&rt; canvas.draw_from_screen(&rt, &widget, 4, 0), 0);
-    canvas.flush_changes_older_than(usize::MAX);
-    canvas.assert_repaint_from(&rt, usize::MAX, 0, &[Step::Show]);
-}
-
-#[test]
-fn a_region_is_copied_over_itself(rt: HostRuntime) {
-    let alloc = rt.alloc();
-    let mut canvas = Canvas::new(&rt, alloc, 4, 3, UnicodeWidths, &WORDS);
-    assert_eq!(&rt; canvas.copy_region(&rt, (0, 0), (2, 2), (2, 1)), 8);
-    canvas.assert_shows(&rt, "foob\naafo\nazaa\n", (4, 2));
-    let mut canvas = Canvas::new(&rt, alloc, 4, 3, UnicodeWidths, &WORDS);
-    let most = (usize::MAX, usize::MAX);
-    assert_eq!(&rt; canvas.copy_region(&rt, (0, 0), most, (1, 1)), 8);
-    canvas.assert_shows(&rt, "foob\nafoo\naaar\n", (4, 2));
-}
+// Four words on 4x3, one behind the other: they end in the last row.
+const WORDS: [Step<'static>; 4] = [
+    Step::Print("w00t"),
+    Step::Print("foo"),
+    Step::Print("baar"),
+    Step::Print("baz"),
+];
 
 // No wide grapheme lies across the left or the right edge of a region.
 fn is_uncrossed(screen: &Screen, from: (usize, usize), size: (usize, usize)) -> bool {

@@ -200,6 +200,6 @@ fn a_hundred_thousand_lines(rt: HostRuntime) {
         canvas.draw(&rt, &[Step::Print("x\r\n")]);
     }
     let mut viewer = canvas.fresh(&rt);
-    canvas.lead(&rt, &mut viewer, 0);
+    canvas.lead(&rt, &mut viewer);
     canvas.assert_same_screen(&rt, &viewer);
 }

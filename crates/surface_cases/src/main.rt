@@ -1,19 +1,19 @@
 //! Plays worked cases: surfaces that are drawn in steps, and what is asked of them, line by line.
 //!
-//! Standard input has the cases, and standard output tells them again with each answer below its line, two spaces in. A line that begins with `#` says what a case shows, and is not told. Words are parted by one space.
+//! Standard input has the cases, and standard output tells them again with each answer below its line, two spaces in. A line that begins with `#` says what a case shows, or with `##` what the coming cases are about, and is not told. Words are parted by one space. The play ends at a line that is no command.
 //!
 //! A case:
 //! - `case TITLE`: begins a case, with nothing left of the one before.
 //!
-//! What a case has, each numbered from 0 on:
+//! What a case has. Surfaces and viewers are numbered from 0 on, each by themselves:
 //! - `new WIDTH HEIGHT MEASURE`: a surface, on which the coming changes are made. A measure is `unicode`, `one` (each grapheme has one column) or `wide` (all but a space have two).
 //! - `clone`: one more surface, a clone of this one.
 //! - `on N`: the coming lines are about this surface.
 //! - `viewer`: a viewer of this surface, or of the viewer that is viewed.
 //! - `view N`: what is asked then is asked of this viewer's surface.
-//! - `sequence WIDTH HEIGHT MEASURE`: a sequence, to which the coming changes are added.
+//! - `sequence WIDTH HEIGHT MEASURE`: a sequence in place of any before, to which the coming changes are added.
 //!
-//! Changes, which tell their numbers or why they are refused:
+//! Changes. On a surface they tell their numbers, and everywhere why they are refused:
 //! - `text TEXT`, `title TEXT` (or `title` alone): with `\n`, `\r`, `\t`, `\s` (a space), `\\` and `\u{HEX}`.
 //! - `move X Y`: a place is `=N` from the start, `$N` from the end, or `~N` a distance.
 //! - `set ATTRIBUTE`, `pen ATTRIBUTE ..` (the default pen but for these): `bold`, `italic`, `double` (underlined), `fg=COLOR` or `bg=COLOR`.
@@ -37,7 +37,7 @@
 //! - `has SEQ`: whether there are changes for a viewer with a number; `ask SEQ`: what is due to it, lent or repainted.
 //! - `same N`: whether the screen is that of surface N.
 //! - `diff N`, `diff-region X Y WIDTH HEIGHT N OTHER_X OTHER_Y`, `diff-line ROW TEXT`, `diff-lines TEXT ..`: the changes that lead there.
-//! - `place`: where a sequence is, and how many rows below its highest it reached; `consume`: its changes, and no sequence is left.
+//! - `place`: where a sequence is, and the distance from the least row to the greatest that it reached; `consume`: its changes, and no sequence is left.
 //! - `cell TEXT`: the text and the width of a cell of one grapheme.
 //! - `refusals`, `sequence-refusals`: what each error says.
 //!

@@ -4,7 +4,7 @@ ghost use Rattle.std.specs.Prelude.{◌≡◌};
 use termwiz_cell::emoji::{Presentation, UnicodeVersion, UnicodeWidths, Widths};
 
 /// How columns are measured.
-#[derive(Clone, Copy, PartialEq, Eq, Debug)]
+#[derive(Clone, Copy)]
 pub enum Measure {
     /// By the Unicode tables.
     Unicode,

@@ -66,8 +66,7 @@ fn told(alloc: Global, made: Result<(), SequenceError>) -> Result<String, Fault>
 pub fn sequence_refusals(alloc: Global) -> Result<String, Fault> {
     let mut told = String::new(alloc);
     for error in [SequenceError::Range, SequenceError::Memory] {
-        let line = format!(in alloc; "  {error}\n")?;
-        told.push_str(line.as_str())?;
+        writeln!(told, "  {error}")?;
     }
     Ok(told)
 }

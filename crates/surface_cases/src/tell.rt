@@ -8,7 +8,7 @@ use termwiz_cell::cell::{Cell, CellAttributes};
 use termwiz_cell::change::{Change, SequenceNo};
 use termwiz_cell::emoji::UnicodeWidths;
 use termwiz_line::line::line::Line;
-use termwiz_surface::surface::{Surface, SurfaceError};
+use termwiz_surface::surface::{Screen, Surface, SurfaceError};
 
 /// The number of a change that was made, or why it was refused.
 pub fn made(alloc: Global, made: Result<SequenceNo, SurfaceError>) -> Result<String, Fault> {
@@ -23,8 +23,7 @@ pub fn rows(alloc: Global, surface: &Surface<Measure>) -> Result<String, Fault> 
     let shown = surface.screen_chars_to_string()?;
     let mut told = framed(alloc, shown.as_str())?;
     let (x, y) = surface.cursor_position();
-    let cursor = format!(in alloc; "  cursor {x} {y}\n")?;
-    told.push_str(cursor.as_str())?;
+    writeln!(told, "  cursor {x} {y}")?;
     Ok(told)
 }
 
@@ -32,8 +31,7 @@ pub fn rows(alloc: Global, surface: &Surface<Measure>) -> Result<String, Fault> 
 fn framed(alloc: Global, shown: &str) -> Result<String, Fault> {
     let mut told = String::new(alloc);
     for row in shown.lines() {
-        let line = format!(in alloc; "  |{row}|\n")?;
-        told.push_str(line.as_str())?;
+        writeln!(told, "  |{row}|")?;
     }
     Ok(told)
 }
@@ -59,8 +57,7 @@ pub fn screen(alloc: Global, surface: &Surface<Measure>) -> Result<String, Fault
 fn lengths(alloc: Global, rows: &[Line]) -> Result<String, Fault> {
     let mut told = String::new(alloc);
     for row in rows {
-        let line = format!(in alloc; "  {} columns\n", row.len())?;
-        told.push_str(line.as_str())?;
+        writeln!(told, "  {} columns", row.len())?;
     }
     Ok(told)
 }
@@ -71,8 +68,7 @@ pub fn flags(alloc: Global, surface: &Surface<Measure>) -> Result<String, Fault>
     let mut told = String::new(alloc);
     for line in &lines {
         let (columns, double) = (line.len(), line.is_double_width());
-        let line = format!(in alloc; "  {columns} columns, double wide: {double}\n")?;
-        told.push_str(line.as_str())?;
+        writeln!(told, "  {columns} columns, double wide: {double}")?;
     }
     Ok(told)
 }
@@ -91,8 +87,7 @@ pub fn cells(alloc: Global, surface: &Surface<Measure>) -> Result<String, Fault>
 fn texts(alloc: Global, row: &[Cell]) -> Result<String, Fault> {
     let mut told = String::from_str(alloc, " ")?;
     for cell in row {
-        let text = format!(in alloc; " {:?}", cell.str())?;
-        told.push_str(text.as_str())?;
+        write!(told, " {:?}", cell.str())?;
     }
     told.push('\n')?;
     Ok(told)
@@ -128,8 +123,7 @@ pub fn due(
 pub fn listed(alloc: Global, changes: &[Change]) -> Result<String, Fault> {
     let mut told = String::new(alloc);
     for change in changes {
-        let line = format!(in alloc; "  {change:?}\n")?;
-        told.push_str(line.as_str())?;
+        writeln!(told, "  {change:?}")?;
     }
     Ok(told)
 }
@@ -137,7 +131,11 @@ pub fn listed(alloc: Global, changes: &[Change]) -> Result<String, Fault> {
 /// Whether both have the same screen.
 pub fn is_same(one: &Surface<Measure>, other: &Surface<Measure>) -> Result<bool, Fault> {
     let screen = one.screen()?;
-    Ok(screen == other.screen()?)
+    has_screen(other, &screen)
+}
+
+fn has_screen(surface: &Surface<Measure>, screen: &Screen) -> Result<bool, Fault> {
+    Ok(surface.screen()? == *screen)
 }
 
 pub fn same(
@@ -229,8 +227,7 @@ pub fn refusals(alloc: Global) -> Result<String, Fault> {
         SurfaceError::Numbers,
         SurfaceError::Memory,
     ] {
-        let line = format!(in alloc; "  {error}\n")?;
-        told.push_str(line.as_str())?;
+        writeln!(told, "  {error}")?;
     }
     Ok(told)
 }

@@ -96,7 +96,7 @@ fn short_and_coloured_rows(rt: HostRuntime) {
     }
 }
 
-const TEXTS: [&str; 60] = [
+static TEXTS: [&str; 60] = [
     "か",
     "かか",
     "aか",
@@ -172,7 +172,7 @@ fn assert_text(rt: &impl Abort, alloc: Global, width: usize, line: &str) {
 
 #[test]
 fn texts_past_ascii(rt: HostRuntime) {
-    for line in TEXTS {
+    for line in &TEXTS {
         for width in 1..6 {
             assert_text(&rt, rt.alloc(), width, line);
         }

@@ -10,7 +10,7 @@ use termwiz_surface::surface::Screen;
 use unicode_segmentation::UnicodeSegmentation;
 
 // Wide graphemes at shifted columns, cut at the end of a row, or between others.
-const TEXTS: [&str; 9] = [
+static TEXTS: [&str; 9] = [
     "",
     "a",
     "か",
@@ -23,7 +23,7 @@ const TEXTS: [&str; 9] = [
 ];
 
 // Two rows of four columns: wide graphemes at shifted columns, and short rows.
-const TWO_ROWS: [&str; 6] = [
+static TWO_ROWS: [&str; 6] = [
     "",
     "か a\r\nbか",
     "aか\r\nか b",
@@ -142,9 +142,9 @@ fn assert_diff(rt: &impl Abort, from: &Canvas<UnicodeWidths>, to: &Canvas<Unicod
 
 // Both ways, for each pair of texts in these pens.
 fn assert_pairs(rt: &impl Abort, alloc: Global, width: usize, one: Pen, other: Pen) {
-    for from in TEXTS {
+    for from in &TEXTS {
         let from = row(rt, alloc, width, one, from);
-        for to in TEXTS {
+        for to in &TEXTS {
             let to = row(rt, alloc, width, other, to);
             assert_diff(rt, &from, &to);
             assert_diff(rt, &to, &from);
@@ -169,9 +169,9 @@ fn pairs_in_two_pens(rt: HostRuntime) {
 // The same for rows that are cleared from a column on, of which fewer cells are stored.
 fn assert_short(rt: &impl Abort, alloc: Global, column: usize) {
     let steps = [Step::At(column, 0), Step::ClearToEndOfLine(PLAIN)];
-    for from in TEXTS {
+    for from in &TEXTS {
         let from = row(rt, alloc, 4, Pen::Plain, from);
-        for to in TEXTS {
+        for to in &TEXTS {
             let mut to = row(rt, alloc, 4, Pen::OnRed, to);
             to.draw(rt, &steps);
             assert_diff(rt, &from, &to);
@@ -190,9 +190,9 @@ fn pairs_of_short_rows(rt: HostRuntime) {
 #[test]
 fn pairs_of_two_rows(rt: HostRuntime) {
     let alloc = rt.alloc();
-    for from in TWO_ROWS {
+    for from in &TWO_ROWS {
         let from = Canvas::new(&rt, alloc, 4, 2, UnicodeWidths, &[Step::Print(from)]);
-        for to in TWO_ROWS {
+        for to in &TWO_ROWS {
             let steps = [Step::Print(to), Step::ClearToEndOfLine(PLAIN)];
             let to = Canvas::new(&rt, alloc, 4, 2, UnicodeWidths, &steps);
             assert_diff(&rt, &from, &to);
@@ -234,8 +234,8 @@ fn assert_regions(rt: &impl Abort, own: &Canvas<UnicodeWidths>, other: &Canvas<U
 #[test]
 fn regions_whose_edges_cut_wide_graphemes(rt: HostRuntime) {
     let alloc = rt.alloc();
-    for from in TEXTS {
-        for to in TEXTS {
+    for from in &TEXTS {
+        for to in &TEXTS {
             let own = row(&rt, alloc, 5, Pen::Plain, from);
             let other = row(&rt, alloc, 5, Pen::Plain, to);
             assert_regions(&rt, &own, &other);

@@ -107,7 +107,7 @@ impl Sheet {
 // What stands there before: narrow and wide cells, of which a text may break some.
 const BEFORE: &str = "aか#きb\r\nかくc";
 
-const TEXTS: [&str; 16] = [
+static TEXTS: [&str; 16] = [
     "a",
     "abcde",
     "abcdefghijklm",
@@ -187,7 +187,7 @@ fn assert_same_print(rt: &impl Abort, alloc: Global, pen: &CellAttributes, line:
 fn runs_print_their_graphemes(rt: HostRuntime) {
     let alloc = rt.alloc();
     for pen in pens(&rt, alloc) {
-        for line in TEXTS {
+        for line in &TEXTS {
             assert_same_print(&rt, alloc, &pen, line);
         }
     }

@@ -3,8 +3,7 @@ use crate::fault::Fault;
 use crate::measure::Measure;
 use crate::words::{distance, given, size};
 use std::alloc::Global;
-use termwiz_cell::change::Change;
-use termwiz_surface::sequence::{ChangeSequence, SequenceError};
+use termwiz_cell::change::{Change, ChangeSequence, SequenceError};
 
 /// A sequence of a case.
 #[derive(Drop)]

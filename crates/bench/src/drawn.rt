@@ -98,6 +98,7 @@ fn add_pen(
     Ok(())
 }
 
+#[inline(never)]
 fn pen(alloc: Global, index: u8) -> Result<Change, AllocError> {
     let mut attrs = CellAttributes::blank();
     attrs.set_foreground(alloc, ColorAttribute::PaletteIndex(index))?;

@@ -41,6 +41,13 @@ pub fn coloured(
     Ok(surface)
 }
 
+/// A full surface of 80x24, with a colour for every 8 columns.
+pub fn coloured_full(alloc: Global) -> Result<Surface<UnicodeWidths>, SurfaceError> {
+    let mut surface = Surface::new_full(alloc, 80, 24, UnicodeWidths)?;
+    add_colours(alloc, &mut surface, 80 * 24 / 8)?;
+    Ok(surface)
+}
+
 /// An 80x24 full of a text of eight characters.
 pub fn full(alloc: Global, eight: &str) -> Result<Surface<UnicodeWidths>, SurfaceError> {
     let mut surface = Surface::new(alloc, 80, 24, UnicodeWidths)?;

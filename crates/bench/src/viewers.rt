@@ -1,7 +1,7 @@
 //! Workloads that ask a surface what changed.
 ghost use Rattle.std.specs.Prelude.{◌<◌, ◌^◌};
 
-use crate::drawn::{EIGHT, SHORT, add_text, add_texts, blank, coloured};
+use crate::drawn::{EIGHT, SHORT, add_text, add_texts, blank, coloured, coloured_full};
 use std::alloc::Global;
 use termwiz_cell::change::{Change, CursorVisibility, SequenceNo};
 use termwiz_cell::emoji::UnicodeWidths;
@@ -91,6 +91,11 @@ fn follow_delta(
 
 pub fn followed_by_repaints(alloc: Global, count: u32) -> Result<usize, SurfaceError> {
     let mut surface = coloured(alloc, 80, 24)?;
+    view_repaints(alloc, &mut surface, count)
+}
+
+pub fn followed_by_full_repaints(alloc: Global, count: u32) -> Result<usize, SurfaceError> {
+    let mut surface = coloured_full(alloc)?;
     view_repaints(alloc, &mut surface, count)
 }
 

@@ -34,6 +34,8 @@ pub enum Workload {
     FollowDelta,
     /// A viewer of a coloured 80x24 that follows by a repaint.
     FollowRepaint,
+    /// A viewer of a full surface of the same that follows by a repaint.
+    FollowFullRepaint,
     /// A 200x60 that is made an 80x24 and a 200x60 again.
     Resize,
     /// Making an 80x24.
@@ -54,7 +56,7 @@ pub enum Workload {
     Equality,
 }
 
-static NAMES: [(&str, Workload); 23] = [
+static NAMES: [(&str, Workload); 24] = [
     ("plain", Workload::Plain),
     ("colours", Workload::Colours),
     ("kana", Workload::Kana),
@@ -69,6 +71,7 @@ static NAMES: [(&str, Workload); 23] = [
     ("diff-100", Workload::DiffAll),
     ("follow-delta", Workload::FollowDelta),
     ("follow-repaint", Workload::FollowRepaint),
+    ("follow-full-repaint", Workload::FollowFullRepaint),
     ("resize", Workload::Resize),
     ("new", Workload::New),
     ("line-clone", Workload::LineClone),
@@ -108,6 +111,7 @@ pub fn run(alloc: Global, workload: Workload, count: u32) -> Result<usize, Surfa
         Workload::DiffAll => diffs::all(alloc, count),
         Workload::FollowDelta => viewers::followed_by_deltas(alloc, count),
         Workload::FollowRepaint => viewers::followed_by_repaints(alloc, count),
+        Workload::FollowFullRepaint => viewers::followed_by_full_repaints(alloc, count),
         Workload::Resize => sizes::resized(alloc, count),
         Workload::New => sizes::made(alloc, count),
         Workload::LineClone => lines::cloned(alloc, count),

@@ -20,6 +20,7 @@ impl Display for Printed<'_> {
             Outcome::Refused(error) => write_refusal(f, *error),
             Outcome::Shown(rows, cursor) => write_shown(f, rows.as_str(), *cursor),
             Outcome::Followed(seq, _, screen) => write_followed(f, *seq, screen),
+            Outcome::FollowedFull(seq, _, shown) => write_followed(f, *seq, &shown.screen),
             Outcome::Asked(seq, changes) => write_asked(f, *seq, changes.as_slice()),
         }
     }

@@ -79,6 +79,7 @@ module _ {W : Type 0} (f : List ℕ → ℕ) (s : SurfaceValue W) (lawful : IsLa
     fits = sound.fits;
     fits_height = sound.fits_height;
     full = e ∙ sound.full;
+    sides = sound.sides;
     column = lx;
     row = ly;
     stored_so = λ j l. let q : length s.lines ≡ s.height = sound.full in each j (omega arith);

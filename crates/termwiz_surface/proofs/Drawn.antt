@@ -42,14 +42,15 @@ IsMeasured-measured f g pen u = elim (clean_cases (single g)) [
   | inr e ↦ record { alone = rw e graphemes-space; is_clean = rw e refl; wide_is = refl }
 ]
 
--- the form says nothing of the flags of rows
-pub any_flags : {W : Type 0} (f : List ℕ → ℕ) (s : SurfaceValue W) (flags : List LineFlags) → IsSound f s → IsSound f (record s { flags = flags })
-any_flags f s flags z = record {
+-- of the flags of rows the form says how many they are
+pub any_flags : {W : Type 0} (f : List ℕ → ℕ) (s : SurfaceValue W) (flags : List LineFlags) → length flags ≡ length s.lines → IsSound f s → IsSound f (record s { flags = flags })
+any_flags f s flags e z = record {
   some_column = z.some_column;
   some_row = z.some_row;
   fits = z.fits;
   fits_height = z.fits_height;
   full = z.full;
+  sides = e ∙ z.full;
   column = z.column;
   row = z.row;
   stored_so = z.stored_so;
@@ -65,6 +66,7 @@ any_log f s log z fits regions = record {
   fits = z.fits;
   fits_height = z.fits_height;
   full = z.full;
+  sides = z.sides;
   column = z.column;
   row = z.row;
   stored_so = z.stored_so;
@@ -106,6 +108,7 @@ module _ {W : Type 0} (f : List ℕ → ℕ) (s : SurfaceValue W) (lawful : IsLa
     fits = sound.fits;
     fits_height = sound.fits_height;
     full = scrolled_full;
+    sides = sound.sides;
     column = sound.column;
     row = sound.row;
     stored_so = scrolled_stored;
@@ -122,6 +125,7 @@ module _ {W : Type 0} (f : List ℕ → ℕ) (s : SurfaceValue W) (lawful : IsLa
     fits = sound.fits;
     fits_height = sound.fits_height;
     full = e ∙ sound.full;
+    sides = sound.sides;
     column = sound.column;
     row = sound.row;
     stored_so = stored_so;
@@ -181,6 +185,7 @@ module _ {W : Type 0} (f : List ℕ → ℕ) (s : SurfaceValue W) (c : CellValue
       fits = sound.fits;
       fits_height = sound.fits_height;
       full = length-set _ _ _ ∙ sound.full;
+      sides = sound.sides;
       column = omega arith;
       row = sound.row;
       stored_so = put_stored;

@@ -11,10 +11,10 @@ use Rattle.termwiz_line.specs.Entries.{Penned, row_entries}
 use Rattle.termwiz_line.specs.LastChange.{last_is}
 use Rattle.termwiz_line.specs.Writing.{Writing, behind}
 use Rattle.termwiz_line.proofs.LastChange.{last_pushed}
-use Rattle.termwiz_surface.specs.Drawing.{IsBeforeRow, IsDrawnUpto}
+use Rattle.termwiz_surface.specs.Drawing.{IsBeforeRow, AreApart, IsDrawnUpto}
 use Rattle.termwiz_surface.proofs.LastChanges.{front_behind_first}
 use Rattle.termwiz_surface.specs.Screen.{row_at}
-use Rattle.termwiz_surface.specs.Repaint.{next_line, first_entries, ends_with, rows_upto, bottom_attrs, first_blank, front_of, joined_row, bottom, joins_rows, all_rows}
+use Rattle.termwiz_surface.specs.Repaint.{next_line, ends_with, rows_upto, bottom_attrs, first_blank, front_of, joined_row, bottom, joins_rows, all_rows}
 
 pub and_not_false : (p b : Bool) → b ≡ false → p ≡ (p && not b)
 and_not_false true b e = sym (ap not e)
@@ -35,13 +35,13 @@ module _ (w : ℕ) (rows : List (List CellValue)) (v u t : Writing) where
       ∙ ap (λ b. last_is is_text (v.printed.entries ++ cond b [] (next_line ∷ []))) (ne_eqb (suc i) 0 (omega arith))
       ∙ last_pushed is_text v.printed.entries next_line
 
-  pub row_drawn : (title : List ℕ) (i : ℕ) (row : List CellValue) → IsDrawnUpto title w rows i v → u.printed ≡ record v.printed { entries = v.printed.entries ++ cond (eqb i 0) [] (next_line ∷ []) } →
-      t.printed ≡ behind u.printed.entries (row_entries u.printed.pen (visible_upto row w)) → row_at rows i ≡ row → IsDrawnUpto title w rows (i + 1) t
-  row_drawn title i row z eu et er = record {
+  pub row_drawn : (first : List ChangeValue) (i : ℕ) (row : List CellValue) → IsDrawnUpto first w rows i v → u.printed ≡ record v.printed { entries = v.printed.entries ++ cond (eqb i 0) [] (next_line ∷ []) } →
+      t.printed ≡ behind u.printed.entries (row_entries u.printed.pen (visible_upto row w)) → row_at rows i ≡ row → IsDrawnUpto first w rows (i + 1) t
+  row_drawn first i row z eu et er = record {
     printed =
         et ∙ (λ k. behind (drawn k).entries (row_entries (drawn k).pen (visible_upto (sym er k) w)))
         ∙ (λ k. record { entries = regroup k; pen = (row_entries above.pen (visible_upto (row_at rows i) w)).pen })
-        ∙ sym (ap (λ j. behind (first_entries title) (rows_upto w rows j)) (add-one i));
+        ∙ sym (ap (λ j. behind first (rows_upto w rows j)) (add-one i));
   }
     where
       above : Penned
@@ -50,13 +50,13 @@ module _ (w : ℕ) (rows : List (List CellValue)) (v u t : Writing) where
       move : List ChangeValue
       move = cond (eqb i 0) [] (next_line ∷ [])
 
-      drawn : u.printed ≡ record { entries = (first_entries title ++ above.entries) ++ move; pen = above.pen }
+      drawn : u.printed ≡ record { entries = (first ++ above.entries) ++ move; pen = above.pen }
       drawn = eu ∙ ap (λ (d : Penned). record d { entries = d.entries ++ move }) z.printed
 
       row_here : List ChangeValue
       row_here = (row_entries above.pen (visible_upto (row_at rows i) w)).entries
 
-      regroup : ((first_entries title ++ above.entries) ++ move) ++ row_here ≡ first_entries title ++ (above.entries ++ (move ++ row_here))
+      regroup : ((first ++ above.entries) ++ move) ++ row_here ≡ first ++ (above.entries ++ (move ++ row_here))
       regroup = simp append_assoc
 
 -- the entries, whose last clears a line, with all below cleared in its place
@@ -68,10 +68,10 @@ abbrev pub clearable : Attributes → Bool
 clearable a = is_plain a && not (attributes_eq a default_attributes)
 
 -- behind the first entries
-pub cleared_behind : (a : Attributes) (title : List ℕ) (d : Penned) → ends_with a d.entries ≡ true → cleared_below a (behind (first_entries title) d) ≡ behind (first_entries title) (cleared_below a d)
-cleared_behind a title d h =
+pub cleared_behind : (a : Attributes) (first : List ChangeValue) (d : Penned) → ends_with a d.entries ≡ true → cleared_below a (behind first d) ≡ behind first (cleared_below a d)
+cleared_behind a first d h =
     let cleared = change.ClearToEndOfScreen a.background ∷ [] in
-    ap (λ es. record { entries = es; pen = a }) (ap (λ es. es ++ cleared) (front_behind_first a title d.entries h) ∙ append_assoc (first_entries title) (front_of d.entries) cleared)
+    ap (λ es. record { entries = es; pen = a }) (ap (λ es. es ++ cleared) (front_behind_first a first d.entries h) ∙ append_assoc first (front_of d.entries) cleared)
 
 module _ (w h : ℕ) (rows : List (List CellValue)) (a : Attributes) (is_bottom : a ≡ bottom_attrs w h rows) where
   pub not_clearable : clearable a ≡ false → all_rows w h rows ≡ rows_upto w rows h
@@ -109,3 +109,11 @@ first_blank-here w a rows (suc n) l e =
     let one : suc n - 1 ≡ n = omega arith in
     let here : pointwise cell_eq (row_at rows n) (replicate w (blank_of a)) ≡ false = rw one at e in
     sym (cond-false _ (first_blank w a rows n) (suc n) here)
+
+-- nothing is written yet but these entries
+module _ (first : List ChangeValue) (writer : Writing) (e : writer.printed ≡ record { entries = first; pen = default_attributes }) where
+  pub before_rows : AreApart first → writer.spaces ≡ 0 → IsBeforeRow 0 writer
+  before_rows apart none = record { between = none; apart = λ zero. ap (λ (d : Penned). last_is is_text d.entries) e ∙ apart.no_text }
+
+  pub none_drawn : (w : ℕ) (rows : List (List CellValue)) → IsDrawnUpto first w rows 0 writer
+  none_drawn w rows = record { printed = e ∙ ap (λ es. record { entries = es; pen = default_attributes }) (sym (append-nil first)) }

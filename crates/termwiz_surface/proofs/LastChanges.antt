@@ -12,8 +12,10 @@ use Rattle.termwiz_cell.specs.ChangeValue.{ChangeValue, is_text}
 use Rattle.termwiz_cell.specs.declared.change.Change.{Change}
 use Rattle.termwiz_line.specs.LastChange.{last_is}
 use Rattle.termwiz_line.specs.GrowingText.{IsLastOf}
-use Rattle.termwiz_surface.specs.Drawing.{clears}
-use Rattle.termwiz_surface.specs.Repaint.{is_clear_of, ends_with, front_of, is_move, all_moves, without_last_moves, is_nil, first_entries}
+use Rattle.termwiz_surface.specs.Drawing.{clears, AreApart}
+use Rattle.termwiz_surface.specs.Repaint.{is_clear_of, ends_with, front_of, is_move, all_moves, without_last_moves, is_nil, started_entries, title_entry, lines_upto, full_entries}
+use Rattle.termwiz_surface.specs.Place.{cursor_at}
+use Rattle.termwiz_cell.specs.declared.change.LineAttribute.{LineAttribute}
 
 pub ends_with_last : (a : Attributes) (es : List ChangeValue) → last_is (is_clear_of a) es ≡ ends_with a es
 ends_with_last a [] = refl
@@ -77,25 +79,34 @@ pub clears_is : (a : Attributes) (es : List ChangeValue) (o : Option Change) →
 clears_is a es None h = sym (h (is_clear_of a) (λ text. refl))
 clears_is a es (Some e) h = sym (h (is_clear_of a))
 
--- the first entries, of which the last is a clear of the screen or a title
-pub first_no_text : (title : List ℕ) → last_is is_text (first_entries title) ≡ false
-first_no_text [] = refl
-first_no_text (b ∷ bs) = refl
+-- behind other entries
+last_behind : (test : ChangeValue → Bool) (first : List ChangeValue) (e : ChangeValue) (es : List ChangeValue) → last_is test (first ++ e ∷ es) ≡ last_is test (e ∷ es)
+last_behind test [] e es = refl
+last_behind test (f ∷ []) e es = refl
+last_behind test (f ∷ (g ∷ first)) e es = last_behind test (g ∷ first) e es
 
-pub ends_behind_first : (a : Attributes) (title : List ℕ) (es : List ChangeValue) → last_is (is_clear_of a) (first_entries title ++ es) ≡ ends_with a es
-ends_behind_first a [] [] = refl
-ends_behind_first a (b ∷ bs) [] = refl
-ends_behind_first a [] (e ∷ es) = ends_with_last a (e ∷ es)
-ends_behind_first a (b ∷ bs) (e ∷ es) = ends_with_last a (e ∷ es)
+pub ends_behind_first : (a : Attributes) (first : List ChangeValue) (es : List ChangeValue) → AreApart first → last_is (is_clear_of a) (first ++ es) ≡ ends_with a es
+ends_behind_first a first [] h = ap (last_is (is_clear_of a)) (append-nil first) ∙ h.no_clear a
+ends_behind_first a first (e ∷ es) h = last_behind (is_clear_of a) first e es ∙ ends_with_last a (e ∷ es)
 
-pub front_behind_first : (a : Attributes) (title : List ℕ) (es : List ChangeValue) → ends_with a es ≡ true → front_of (first_entries title ++ es) ≡ first_entries title ++ front_of es
-front_behind_first a title [] h = absurd (true≢false (sym h))
-front_behind_first a [] (e ∷ es) h = refl
-front_behind_first a (b ∷ bs) (e ∷ es) h = refl
+front_behind : (first : List ChangeValue) (e : ChangeValue) (es : List ChangeValue) → front_of (first ++ e ∷ es) ≡ first ++ front_of (e ∷ es)
+front_behind [] e es = refl
+front_behind (f ∷ []) e es = refl
+front_behind (f ∷ (g ∷ first)) e es = ap (λ l. f ∷ l) (front_behind (g ∷ first) e es)
 
-pub moves_behind_first : (title : List ℕ) (es : List ChangeValue) → without_last_moves (first_entries title ++ es) ≡ first_entries title ++ without_last_moves es
-moves_behind_first [] es = refl
-moves_behind_first (b ∷ bs) es = refl
+pub front_behind_first : (a : Attributes) (first : List ChangeValue) (es : List ChangeValue) → ends_with a es ≡ true → front_of (first ++ es) ≡ first ++ front_of es
+front_behind_first a first [] h = absurd (true≢false (sym h))
+front_behind_first a first (e ∷ es) h = front_behind first e es
+
+-- the first entries of a repaint, of which the last is a clear of the screen or a title, and those of a full one, of which it is a move
+pub first_apart : (title : List ℕ) → AreApart (started_entries ++ title_entry title)
+first_apart [] = record { no_text = refl; no_clear = λ a. refl }
+first_apart (b ∷ bs) = record { no_text = refl; no_clear = λ a. refl }
+
+pub full_apart : (title : List ℕ) (color : ColorAttribute) (lines : List LineAttribute) → AreApart (started_entries ++ full_entries title color lines)
+full_apart title color lines =
+    let first = started_entries ++ (change.Title title ∷ change.CursorColor color ∷ lines_upto lines (length lines)) in
+    record { no_text = last_behind is_text first (cursor_at 0 0) []; no_clear = λ a. last_behind (is_clear_of a) first (cursor_at 0 0) [] }
 
 -- lists put behind one another
 pub all_pushed : (a b d e f : List ChangeValue) → (((a ++ b) ++ d) ++ e) ++ f ≡ a ++ (b ++ (d ++ (e ++ f)))

@@ -46,3 +46,6 @@ mod FewestPrints
 mod Copying
 mod DiffSurfaces
 mod CursorColumns
+mod FullScreens
+mod CalmEntries
+mod FullRepaint

@@ -180,6 +180,7 @@ prints-after_wrap f old mid new (b ∷ bs) some plain d inside p =
       widths = p.widths ∙ d.widths;
       width = p.width ∙ d.width;
       height = p.height ∙ d.height;
+      full = p.full ∙ d.full;
       log = p.log ∙ d.log;
       screen_is = p.screen_is ∙ ap (λ (z : Screen). fold (print_one f) z (pieces (b ∷ bs))) d.screen_is ∙ screen-from_wrap f (screen_of old) (kept_of old) (b ∷ []) (pieces bs) (piece-plain f old.pen b is) settled;
       kept_is = p.kept_is ∙ ap₂ (λ (z : Screen) (k : Kept). kept_after f z k (pieces (b ∷ bs))) d.screen_is d.kept_is ∙ kept-from_wrap f (screen_of old) (kept_of old) (b ∷ []) (pieces bs) (piece-plain f old.pen b is) settled;
@@ -206,7 +207,7 @@ narrow-shorter f n run rest short more e s l h = λ k d m.
 pub one_byte : (bs : List ℕ) (k : ℕ) → k < length bs → slice_range bs k (k + 1) ≡ get_or bs k 0 ∷ []
 one_byte bs k l = let one : k + 1 - k ≡ 1 = omega arith in rw (one, drop_more bs k 0 l) refl
 
-kept_after-append : (f : List ℕ → ℕ) (s : Screen) (k : Kept) (gs hs : List (List ℕ)) → kept_after f s k (gs ++ hs) ≡ kept_after f (fold (print_one f) s gs) (kept_after f s k gs) hs
+pub kept_after-append : (f : List ℕ → ℕ) (s : Screen) (k : Kept) (gs hs : List (List ℕ)) → kept_after f s k (gs ++ hs) ≡ kept_after f (fold (print_one f) s gs) (kept_after f s k gs) hs
 kept_after-append f s k [] hs = refl
 kept_after-append f s k (g ∷ gs) hs = kept_after-append f (print_one f s g) (one_kept f s g k) gs hs
 

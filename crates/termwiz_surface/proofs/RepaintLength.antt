@@ -1,5 +1,5 @@
 -- How many entries a repaint has: at most two for each column, one more for each row, and a few around them.
-use Rattle.std.proofs.Common.{◌≡◌, ℕ, zero, suc, ◌+◌, ◌-◌, ◌*◌, ◌<◌, ◌≤◌, Bool, true, false, cond, not, ◌&&◌, eqb, ltb, List, [], ◌∷◌, ◌++◌, length, fold, Option, Some, None, arith, mul-le-mul_left, mul-suc, ltb-true, refl, ap, ◌∙◌}
+use Rattle.std.proofs.Common.{◌≡◌, ℕ, zero, suc, ◌+◌, ◌-◌, ◌*◌, ◌<◌, ◌≤◌, Bool, true, false, cond, not, ◌&&◌, eqb, ltb, List, [], ◌∷◌, ◌++◌, length, get_or, fold, Option, Some, None, arith, mul-le-mul_left, mul-suc, ltb-true, refl, ap, ◌∙◌}
 use Rattle.std.proofs.lemmas.List.{length-append}
 use Rattle.std.proofs.lemmas.Bool.{and_parts}
 use Rattle.termwiz_cell.specs.declared.change.CursorShape.{CursorShape}
@@ -13,8 +13,11 @@ use Rattle.termwiz_storage.specs.Stored.{stored}
 use Rattle.termwiz_line.specs.Row.{is_hidden, visible_upto}
 use Rattle.termwiz_line.specs.Entries.{joins, add_text, Penned, pen_entry, cell_out, cells_out, trimmed, last_attrs, is_empty, clear_entry, with_tail, ends_plain, row_entries}
 use Rattle.termwiz_surface.specs.Screen.{Screen, row_at}
-use Rattle.termwiz_surface.specs.Repaint.{next_line, rows_upto, bottom_attrs, front_of, joined_row, bottom, joins_rows, all_rows, all_moves, without_last_moves, is_nil, cursor_entry, shown_entries, title_entry, first_entries, repaint_of, repaint}
+use Rattle.termwiz_surface.specs.Repaint.{next_line, rows_upto, bottom_attrs, front_of, joined_row, bottom, joins_rows, all_rows, all_moves, without_last_moves, is_nil, cursor_entry, shown_entries, title_entry, repaint_of, repaint, lines_upto, full_entries, full_shown_entries, full_repaint}
 use Rattle.termwiz_surface.specs.Place.{cursor_at}
+use Rattle.termwiz_surface.specs.FullScreen.{FullScreen}
+use Rattle.termwiz_cell.specs.declared.change.LineAttribute.{LineAttribute}
+use Rattle.termwiz_cell.specs.declared.change.LineAttribute.TheVariants.{SingleWidthLine}
 use Rattle.termwiz_surface.proofs.RowTrimming.{trimmed_shorter}
 use Rattle.termwiz_surface.proofs.RepaintBottom.{length-front_of}
 
@@ -139,37 +142,68 @@ length_shown cursor.Visible None = omega arith
 length_shown cursor.Visible (Some shape) = omega arith
 length_shown cursor.Hidden shape = omega arith
 
-length_first : (title : List ℕ) → length (first_entries title) ≤ 3
-length_first [] = omega arith
-length_first (b ∷ bs) = omega arith
+length_title : (title : List ℕ) → length (title_entry title) ≤ 1
+length_title [] = omega arith
+length_title (b ∷ bs) = omega arith
 
-length_repaint_of : (d : Penned) (t : Screen) (title : List ℕ) (shape : Option CursorShape) → length (repaint_of d t title shape) ≤ length d.entries + 7
-length_repaint_of d t title shape =
+pub length_repaint_of : (first : List ChangeValue) (d : Penned) (t : Screen) (last : List ChangeValue) → length (repaint_of first d t last) ≤ length first + length d.entries + length last + 4
+length_repaint_of first d t last =
     omega (
       arith,
-      length_first title,
-      length_front d.entries,
-      length-append (first_entries title) (front ++ (place ++ (pen ++ shown))),
-      length-append front (place ++ (pen ++ shown)),
-      length-append place (pen ++ shown),
-      length-append pen shown,
-      length_optional (is_nil (title_entry title ++ front) && (eqb t.x 0 && eqb t.y 0)) (cursor_at t.x t.y),
+      length_front (first ++ d.entries),
+      length-append first d.entries,
+      length-append front (place ++ (pen ++ last)),
+      length-append place (pen ++ last),
+      length-append pen last,
+      length_optional (is_nil front && (eqb t.x 0 && eqb t.y 0)) (cursor_at t.x t.y),
       length_optional (attributes_eq d.pen t.pen) (change.AllAttributes t.pen),
-      length_shown t.visibility shape,
     )
   where
     front : List ChangeValue
-    front = without_last_moves d.entries
+    front = without_last_moves (first ++ d.entries)
 
     place : List ChangeValue
-    place = cursor_entry (title_entry title ++ front) t.x t.y
+    place = cursor_entry front t.x t.y
 
     pen : List ChangeValue
     pen = pen_entry d.pen t.pen
 
-    shown : List ChangeValue
-    shown = shown_entries t.visibility shape
-
 -- with a row, the moves between rows are one fewer
 pub repaint_short : (t : Screen) (title : List ℕ) (shape : Option CursorShape) → 0 < t.height → length (repaint t title shape) ≤ 2 * (t.width * t.height) + t.height + 6
-repaint_short t title shape some = omega (arith, some, length_repaint_of (all_rows t.width t.height t.rows) t title shape, length_all_rows t.width t.height t.rows)
+repaint_short t title shape some =
+    let d = all_rows t.width t.height t.rows in
+    omega (arith, some, length_repaint_of (title_entry title) d t (shown_entries t.visibility shape), length_title title, length_shown t.visibility shape, length_all_rows t.width t.height t.rows)
+
+-- the attributes of rows, and the moves between them
+length_lines : (lines : List LineAttribute) (i : ℕ) → length (lines_upto lines i) ≤ i + (i - 1)
+length_lines lines zero = omega arith
+length_lines lines (suc i) =
+    let move : List ChangeValue = cond (eqb i 0) [] (next_line ∷ []) in
+    omega (arith, length_lines lines i, moves i, length-append (lines_upto lines i) (move ++ entry), length-append move entry)
+  where
+    entry : List ChangeValue
+    entry = change.LineAttribute (get_or lines i SingleWidthLine) ∷ []
+
+    moves : (i : ℕ) → length (cond {A = List ChangeValue} (eqb i 0) [] (next_line ∷ [])) + (i - 1) ≤ i
+    moves zero = omega arith
+    moves (suc i) = omega (arith, length_optional (eqb (suc i) 0) next_line)
+
+length_full_shown : (v : CursorVisibility) (shape : CursorShape) → length (full_shown_entries v shape) ≤ 2
+length_full_shown cursor.Visible shape = omega arith
+length_full_shown cursor.Hidden shape = omega arith
+
+-- a full repaint has two more for each row, and one more
+pub full_repaint_short : (t : FullScreen) → 0 < t.screen.height → length t.lines ≡ t.screen.height → length (full_repaint t) ≤ 2 * (t.screen.width * t.screen.height) + 3 * t.screen.height + 7
+full_repaint_short t some full =
+    let s = t.screen in
+    let lines : List ChangeValue = lines_upto t.lines (length t.lines) in
+    omega (
+      arith,
+      some,
+      full,
+      length_repaint_of (full_entries t.title t.color t.lines) (all_rows s.width s.height s.rows) s (full_shown_entries s.visibility t.shape),
+      length-append lines (cursor_at 0 0 ∷ []),
+      length_lines t.lines (length t.lines),
+      length_full_shown s.visibility t.shape,
+      length_all_rows s.width s.height s.rows,
+    )

@@ -1,5 +1,5 @@
 -- A repaint holds no scroll, so each region in it lies on the surface.
-use Rattle.std.proofs.Common.{◌≡◌, ℕ, zero, suc, Bool, true, false, cond, ◌&&◌, eqb, List, [], ◌∷◌, ◌++◌, fold, refl}
+use Rattle.std.proofs.Common.{◌≡◌, ℕ, zero, suc, Bool, true, false, cond, ◌&&◌, eqb, List, [], ◌∷◌, ◌++◌, fold, length, get_or, refl}
 use Rattle.std.specs.Prelude.{Option, Some, None}
 use Rattle.std.proofs.lemmas.Bool.{and_parts}
 use Rattle.termwiz_cell.specs.declared.change.CursorShape.{CursorShape}
@@ -12,8 +12,11 @@ use Rattle.termwiz_cell.specs.ChangeValue.{ChangeValue}
 use Rattle.termwiz_line.specs.Row.{visible_upto}
 use Rattle.termwiz_line.specs.Entries.{joins, add_text, Penned, pen_entry, cell_out, cells_out, trimmed, last_attrs, is_empty, clear_entry, with_tail, ends_plain, row_entries}
 use Rattle.termwiz_surface.specs.Screen.{Screen, row_at}
-use Rattle.termwiz_surface.specs.Repaint.{next_line, rows_upto, bottom_attrs, front_of, joined_row, bottom, joins_rows, all_rows, all_moves, without_last_moves, is_nil, cursor_entry, shape_entry, shown_entries, title_entry, repaint}
+use Rattle.termwiz_surface.specs.Repaint.{next_line, rows_upto, bottom_attrs, front_of, joined_row, bottom, joins_rows, all_rows, all_moves, without_last_moves, is_nil, cursor_entry, shape_entry, shown_entries, title_entry, repaint_of, repaint, lines_upto, full_entries, full_shown_entries, full_repaint}
 use Rattle.termwiz_surface.specs.Place.{cursor_at}
+use Rattle.termwiz_surface.specs.FullScreen.{FullScreen}
+use Rattle.termwiz_cell.specs.declared.change.LineAttribute.{LineAttribute}
+use Rattle.termwiz_cell.specs.declared.change.LineAttribute.TheVariants.{SingleWidthLine}
 use Rattle.termwiz_surface.specs.Step.{region_fits, regions_fit}
 use Rattle.termwiz_surface.proofs.LogRegions.{regions-append}
 
@@ -108,13 +111,29 @@ module _ (h : ℕ) where
   title_fits [] = refl
   title_fits (b ∷ bs) = refl
 
-  pub repaint_fits : (s : Screen) (title : List ℕ) (shape : Option CursorShape) → regions_fit h (repaint s title shape) ≡ true
-  repaint_fits s title shape =
+  repaint_of_fits : (first : List ChangeValue) (s : Screen) (last : List ChangeValue) → regions_fit h first ≡ true → regions_fit h last ≡ true → regions_fit h (repaint_of first (all_rows s.width s.height s.rows) s last) ≡ true
+  repaint_of_fits first s last p q =
       let d = all_rows s.width s.height s.rows in
-      let es = without_last_moves d.entries in
-      let last = pen_entry d.pen s.pen ++ shown_entries s.visibility shape in
-      let place = cursor_entry (title_entry title ++ es) s.x s.y in
-      regions-append h (title_entry title) (es ++ (place ++ last)) (title_fits title)
-      (regions-append h es (place ++ last) (moves d.entries (all_fit s.width s.height s.rows))
-      (regions-append h place last (optional (is_nil (title_entry title ++ es) && (eqb s.x 0 && eqb s.y 0)) (cursor_at s.x s.y) refl)
-      (regions-append h (pen_entry d.pen s.pen) (shown_entries s.visibility shape) (pens d.pen s.pen) (shown_fits s.visibility shape))))
+      let es = without_last_moves (first ++ d.entries) in
+      let place = cursor_entry es s.x s.y in
+      regions-append h es (place ++ (pen_entry d.pen s.pen ++ last)) (moves (first ++ d.entries) (regions-append h first d.entries p (all_fit s.width s.height s.rows)))
+      (regions-append h place (pen_entry d.pen s.pen ++ last) (optional (is_nil es && (eqb s.x 0 && eqb s.y 0)) (cursor_at s.x s.y) refl)
+      (regions-append h (pen_entry d.pen s.pen) last (pens d.pen s.pen) q))
+
+  pub repaint_fits : (s : Screen) (title : List ℕ) (shape : Option CursorShape) → regions_fit h (repaint s title shape) ≡ true
+  repaint_fits s title shape = repaint_of_fits (title_entry title) s (shown_entries s.visibility shape) (title_fits title) (shown_fits s.visibility shape)
+
+  lines_fit : (lines : List LineAttribute) (i : ℕ) → regions_fit h (lines_upto lines i) ≡ true
+  lines_fit lines zero = refl
+  lines_fit lines (suc i) =
+      regions-append h (lines_upto lines i) (cond (eqb i 0) [] (next_line ∷ []) ++ change.LineAttribute (get_or lines i SingleWidthLine) ∷ []) (lines_fit lines i)
+      (regions-append h (cond (eqb i 0) [] (next_line ∷ [])) (change.LineAttribute (get_or lines i SingleWidthLine) ∷ []) (optional (eqb i 0) next_line refl) refl)
+
+  full_shown_fits : (v : CursorVisibility) (shape : CursorShape) → regions_fit h (full_shown_entries v shape) ≡ true
+  full_shown_fits cursor.Visible shape = refl
+  full_shown_fits cursor.Hidden shape = refl
+
+  pub full_repaint_fits : (t : FullScreen) → regions_fit h (full_repaint t) ≡ true
+  full_repaint_fits t =
+      repaint_of_fits (full_entries t.title t.color t.lines) t.screen (full_shown_entries t.screen.visibility t.shape)
+      (regions-append h (lines_upto t.lines (length t.lines)) (cursor_at 0 0 ∷ []) (lines_fit t.lines (length t.lines)) refl) (full_shown_fits t.screen.visibility t.shape)

@@ -58,7 +58,7 @@ upto_emptied w h rows s z = record {
 }
 
 module _ (f : List ℕ → ℕ) (one : f space ≡ 1) (w h : ℕ) (rows : List (List CellValue)) (z : (j : ℕ) → j < h → IsPrintableRow f w (row_at rows j)) where
-  to_row : (i : ℕ) (pen : Attributes) (s : Screen) → i < h → IsUpto w h rows i pen s → replay f s (cond (eqb i 0) [] (next_line ∷ [])) ≡ row_start i s
+  pub to_row : (i : ℕ) (pen : Attributes) (s : Screen) → i < h → IsUpto w h rows i pen s → replay f s (cond (eqb i 0) [] (next_line ∷ [])) ≡ row_start i s
   to_row i pen s l u = elim (cases_eq i 0) [
     | inl e ↦ (let t : eqb i 0 ≡ true = eq-eqb i 0 e in let y : s.y ≡ i = omega (arith, u.y_is) in let x : s.x ≡ 0 = u.x_is e in rw t (λ n. record s { x = x n; y = y n }))
     | inr e ↦ (let t : eqb i 0 ≡ false = ne_eqb i 0 e in

@@ -1,5 +1,5 @@
 -- A repaint, replayed on any screen of that size, gives the screen.
-use Rattle.std.proofs.Common.{◌≡◌, ℕ, ◌-◌, ◌<◌, ◌≤◌, min, Bool, true, false, cond, ◌&&◌, eqb, leb, List, [], ◌∷◌, ◌++◌, Option, Some, None, arith, eqb-true, le-leb, refl, sym, ap, ◌∙◌}
+use Rattle.std.proofs.Common.{◌≡◌, ℕ, ◌-◌, ◌<◌, ◌≤◌, min, Bool, true, false, cond, ◌&&◌, eqb, leb, List, [], ◌∷◌, ◌++◌, Option, Some, None, arith, eqb-true, le-leb, refl, sym, ap, ◌∙◌, subst}
 use Rattle.std.proofs.lemmas.List.Sums.{fold-append}
 use Rattle.std.proofs.lemmas.Bool.{and_parts, false≢true}
 use Rattle.termwiz_cell.specs.declared.change.CursorShape.{CursorShape}
@@ -12,7 +12,7 @@ use Rattle.termwiz_line.specs.Entries.{Penned, pen_entry}
 use Rattle.termwiz_surface.specs.Screen.{Screen}
 use Rattle.termwiz_surface.specs.Place.{placed}
 use Rattle.termwiz_surface.specs.Step.{step, replay}
-use Rattle.termwiz_surface.specs.Repaint.{all_rows, all_moves, without_last_moves, is_nil, cursor_entry, shown_entries, title_entry, first_entries, repaint_of, repaint}
+use Rattle.termwiz_surface.specs.Repaint.{all_rows, all_moves, without_last_moves, is_nil, cursor_entry, shown_entries, title_entry, repaint_of, repaint}
 use Rattle.termwiz_surface.specs.Place.{cursor_at}
 use Rattle.termwiz_surface.specs.Printable.{IsPrintable, HasSize}
 use Rattle.termwiz_surface.proofs.EntryTexts.{replay_pen}
@@ -53,14 +53,10 @@ module _ (f : List ℕ → ℕ) where
       rw b (λ i. record s { x = x; y = row i })
 
   -- it is left out where nothing moved it from the first place
-  cursor_is : (s : Screen) (before es : List ChangeValue) (x y : ℕ) → s.x ≡ 0 → s.y ≡ 0 → x ≤ (replay f s es).width → y < (replay f s es).height →
-      replay f (replay f s es) (cursor_entry (before ++ es) x y) ≡ record (replay f s es) { x = x; y = y }
-  cursor_is s before es x y ex ey lx ly = moved (is_nil (before ++ es) && (eqb x 0 && eqb y 0)) (λ h. let q = and_parts (is_nil (before ++ es)) (eqb x 0 && eqb y 0) h in here (none_behind before q.0, q.1))
+  cursor_is : (s : Screen) (es : List ChangeValue) (x y : ℕ) → s.x ≡ 0 → s.y ≡ 0 → x ≤ (replay f s es).width → y < (replay f s es).height →
+      replay f (replay f s es) (cursor_entry es x y) ≡ record (replay f s es) { x = x; y = y }
+  cursor_is s es x y ex ey lx ly = moved (is_nil es && (eqb x 0 && eqb y 0)) (λ h. here (and_parts (is_nil es) (eqb x 0 && eqb y 0) h))
     where
-      none_behind : (l : List ChangeValue) → is_nil (l ++ es) ≡ true → is_nil es ≡ true
-      none_behind [] h = h
-      none_behind (e ∷ l) h = absurd (false≢true h)
-
       at_nil : (l : List ChangeValue) → is_nil l ≡ true → replay f s l ≡ s
       at_nil [] h = refl
       at_nil (e ∷ l) h = absurd (false≢true h)
@@ -82,30 +78,35 @@ module _ (f : List ℕ → ℕ) where
   replay_shown s cursor.Hidden shape h = λ i. record s { visibility = h i }
 
   -- nor is a title
-  replay_first : (s : Screen) (title : List ℕ) (es : List ChangeValue) → replay f s (first_entries title ++ es) ≡ replay f (emptied s) es
-  replay_first s [] es = refl
-  replay_first s (b ∷ bs) es = refl
+  replay_title : (s : Screen) (title : List ℕ) → replay f s (title_entry title) ≡ s
+  replay_title s [] = refl
+  replay_title s (b ∷ bs) = refl
 
-  -- entries that leave the screen's rows and a pen give the screen, with its cursor and pen behind them
-  pub repaint_of_gives : (t s : Screen) (d : Penned) (title : List ℕ) (shape : Option CursorShape) → t.x ≤ t.width → t.y < t.height → HasRows t.width t.height t.rows d.pen (replay f (emptied s) d.entries) → replay f s (repaint_of d t title shape) ≡ t
-  repaint_of_gives t s d title shape lx ly g =
-      replay_first s title _
-      ∙ fold-append (step f) (emptied s) front _
-      ∙ fold-append (step f) u (cursor_entry (title_entry title ++ front) t.x t.y) _
-      ∙ ap (λ v. replay f v (pen_entry d.pen t.pen ++ shown_entries t.visibility shape)) (cursor_is (emptied s) (title_entry title) front t.x t.y refl refl (omega (arith, g.width, b.width)) (omega (arith, g.height, b.height)))
-      ∙ fold-append (step f) (record u { x = t.x; y = t.y }) (pen_entry d.pen t.pen) (shown_entries t.visibility shape)
-      ∙ ap (λ v. replay f v (shown_entries t.visibility shape)) (replay_pen f (record u { x = t.x; y = t.y }) d.pen t.pen (sym b.pen_is ∙ g.pen_is))
-      ∙ replay_shown (record u { x = t.x; y = t.y; pen = t.pen }) t.visibility shape (sym b.hidden ∙ g.hidden)
+  -- entries that leave the screen's rows and a pen give the screen, with its cursor and pen behind them, where those before them leave a cleared screen and the last ones its visibility
+  pub repaint_of_gives : (t s : Screen) (first : List ChangeValue) (d : Penned) (last : List ChangeValue) → t.x ≤ t.width → t.y < t.height → replay f (emptied s) first ≡ emptied s →
+      HasRows t.width t.height t.rows d.pen (replay f (emptied s) d.entries) → ((v : Screen) → v.visibility ≡ cursor.Hidden → replay f v last ≡ record v { visibility = t.visibility }) → replay f s (repaint_of first d t last) ≡ t
+  repaint_of_gives t s first d last lx ly e rows shows =
+      fold-append (step f) (emptied s) front _
+      ∙ fold-append (step f) u (cursor_entry front t.x t.y) _
+      ∙ ap (λ v. replay f v (pen_entry d.pen t.pen ++ last)) (cursor_is (emptied s) front t.x t.y refl refl (omega (arith, g.width, b.width)) (omega (arith, g.height, b.height)))
+      ∙ fold-append (step f) (record u { x = t.x; y = t.y }) (pen_entry d.pen t.pen) last
+      ∙ ap (λ v. replay f v last) (replay_pen f (record u { x = t.x; y = t.y }) d.pen t.pen (sym b.pen_is ∙ g.pen_is))
+      ∙ shows (record u { x = t.x; y = t.y; pen = t.pen }) (sym b.hidden ∙ g.hidden)
       ∙ λ i. record t { width = (sym b.width ∙ g.width) i; height = (sym b.height ∙ g.height) i; rows = (sym b.rows_are ∙ g.rows_are) i }
     where
       front : List ChangeValue
-      front = without_last_moves d.entries
+      front = without_last_moves (first ++ d.entries)
 
       u : Screen
       u = replay f (emptied s) front
 
-      b : SameButPlace (replay f (emptied s) d.entries) u
-      b = last_moves_move f d.entries (emptied s)
+      b : SameButPlace (replay f (emptied s) (first ++ d.entries)) u
+      b = last_moves_move f (first ++ d.entries) (emptied s)
+
+      g : HasRows t.width t.height t.rows d.pen (replay f (emptied s) (first ++ d.entries))
+      g = subst (HasRows t.width t.height t.rows d.pen) (sym (fold-append (step f) (emptied s) first d.entries ∙ ap (λ v. replay f v d.entries) e)) rows
 
   pub repaint_gives : f space ≡ 1 → (t s : Screen) (title : List ℕ) (shape : Option CursorShape) → IsPrintable f t → HasSize t.width t.height s → replay f s (repaint t title shape) ≡ t
-  repaint_gives one t s title shape p z = repaint_of_gives t s (all_rows t.width t.height t.rows) title shape p.column p.row (all_rows_give f one t.width t.height t.rows p.full p.rows_so s z p.some_column)
+  repaint_gives one t s title shape p z =
+      repaint_of_gives t s (title_entry title) (all_rows t.width t.height t.rows) (shown_entries t.visibility shape) p.column p.row (replay_title (emptied s) title)
+      (all_rows_give f one t.width t.height t.rows p.full p.rows_so s z p.some_column) (λ v h. replay_shown v t.visibility shape h)

@@ -1,11 +1,15 @@
 -- A screen in another size has it.
-use Rattle.std.proofs.Common.{◌≡◌, ℕ, ◌-◌, ◌<◌, min, inl, inr, List, [], ◌++◌, length, map, take, replicate, refl, ap, ◌∙◌, arith, length-append}
+use Rattle.std.proofs.Common.{◌≡◌, ℕ, ◌-◌, ◌<◌, min, inl, inr, List, [], ◌++◌, length, map, take, replicate, refl, sym, ap, subst, ◌∙◌, arith, length-append}
 use Rattle.std.proofs.lemmas.Bool.{cases_lt}
 use Rattle.std.proofs.lemmas.List.{length-map, length-replicate, length-take, get_or-map, get_or-replicate, get_or_append_left, get_or-append_right}
 use Rattle.termwiz_cell.specs.CellValue.{CellValue, blank}
 use Rattle.termwiz_line.specs.Row.{row_of}
 use Rattle.termwiz_surface.specs.Printable.{HasSize}
-use Rattle.termwiz_surface.specs.Resizing.{resized_screen}
+use Rattle.termwiz_line.specs.LineFlags.{no_flags}
+use Rattle.termwiz_surface.specs.FullScreen.{HasFullSize, full_of, line_attribute}
+use Rattle.termwiz_surface.specs.Kept.{Kept}
+use Rattle.termwiz_surface.specs.Resizing.{HasResized, resized_screen}
+use Rattle.termwiz_surface.specs.SurfaceValue.{SurfaceValue, screen_of}
 use Rattle.termwiz_surface.specs.Screen.{Screen, row_at}
 use Rattle.termwiz_line.proofs.RowOf.{length-row_of}
 
@@ -36,3 +40,10 @@ module _ (s : Screen) (w h : ℕ) where
     full = omega (arith, above_count, length-append above below, length-replicate (h - length s.rows) (replicate w blank));
     row_length = row_length;
   }
+
+-- a surface in another size has as many sides as rows
+pub full_size-resized : {W : Type 0} (old new : SurfaceValue W) (w h : ℕ) → HasResized old w h new → HasFullSize w h (full_of new)
+full_size-resized old new w h r = record {
+  screen = subst (HasSize w h) (sym r.screen_is) (resized_size (screen_of old) w h);
+  lines = length-map new.flags line_attribute ∙ ap (λ (k : Kept). length k.flags) r.kept_is ∙ omega (arith, length-append (take h old.flags) (replicate (h - length old.flags) no_flags), length-take h old.flags, length-replicate (h - length old.flags) no_flags);
+}

@@ -1,5 +1,5 @@
 -- What a surface does is what the schedule allows, and a run goes on by one event.
-use Rattle.std.proofs.Common.{◌≡◌, ℕ, ◌+◌, ◌-◌, List, [], ◌∷◌, ◌++◌, length, map, refl, ap, ◌∙◌, arith, replicate, inl, inr}
+use Rattle.std.proofs.Common.{◌≡◌, ℕ, Bool, ◌+◌, ◌-◌, List, [], ◌∷◌, ◌++◌, length, map, refl, ap, ◌∙◌, arith, replicate, inl, inr}
 use Rattle.std.specs.Prelude.{Result, Ok, Err, None, Vec, vec_len, ◌⊎◌}
 use Rattle.std.specs.declared.alloc.Global.{Global}
 use Rattle.termwiz_cell.specs.Attributes.{default_attributes}
@@ -7,6 +7,8 @@ use Rattle.termwiz_cell.specs.CellValue.{blank}
 use Rattle.termwiz_cell.specs.ChangeValue.{ChangeValue, change_value}
 use Rattle.termwiz_cell.specs.declared.change.Change.{Change}
 use Rattle.termwiz_cell.specs.declared.change.CursorVisibility.TheVariants.{Visible}
+use Rattle.termwiz_cell.specs.declared.change.CursorShape.TheVariants as shapes
+use Rattle.termwiz_surface.specs.FullScreen.{line_attribute}
 use Rattle.termwiz_cell.specs.declared.color.ColorAttribute.TheVariants.{Default}
 use Rattle.termwiz_line.specs.LineFlags.{no_flags}
 use Rattle.termwiz_line.specs.Row.{row_of}
@@ -29,8 +31,8 @@ use Rattle.termwiz_surface.proofs.Regions.{map-replicate}
 use Rattle.termwiz_surface.proofs.SoundRepaint.{sound_has_size, sound_is_printable}
 use Rattle.std.proofs.lemmas.List.{length-replicate}
 
-pub Runs-push : {W : Type 0} {measure_of : W → List ℕ → ℕ} {measure : List ℕ → ℕ} {a b : State} {events : List (Event W)} {outcomes : List Outcome} (event : Event W) (outcome : Outcome) (c : State)
-    → Runs measure_of measure a events outcomes b → Allows measure_of measure b event outcome c → Runs measure_of measure a (events ++ event ∷ []) (outcomes ++ outcome ∷ []) c
+pub Runs-push : {W : Type 0} {measure_of : W → List ℕ → ℕ} {measure : List ℕ → ℕ} {full : Bool} {a b : State} {events : List (Event W)} {outcomes : List Outcome} (event : Event W) (outcome : Outcome) (c : State)
+    → Runs measure_of measure full a events outcomes b → Allows measure_of measure full b event outcome c → Runs measure_of measure full a (events ++ event ∷ []) (outcomes ++ outcome ∷ []) c
 Runs-push event outcome c (Ended s) h = Next s c c event outcome [] [] h (Ended c)
 Runs-push event outcome c (Next old mid new e o es os k r) h = Next old mid c e o (es ++ event ∷ []) (os ++ outcome ∷ []) k (Runs-push event outcome c r h)
 
@@ -38,17 +40,17 @@ screen_of-blank : (w h : ℕ) → record (blank_screen w h) { rows = map (row_of
 screen_of-blank w h i = record (blank_screen w h) { rows = (map-replicate (row_of w) h (replicate w blank) ∙ ap (replicate h) (row_blank w)) i }
 
 module _ {W : Type 0} where
-  abbrev pub blank_surface : W → ℕ → ℕ → SurfaceValue W
-  blank_surface widths w h = record { widths = widths; width = w; height = h; lines = replicate h (replicate w blank); flags = replicate h no_flags; x = 0; y = 0; visibility = Visible; pen = default_attributes; title = []; shape = None; color = Default; log = record { first = 0; changes = [] } }
+  abbrev pub blank_surface : W → ℕ → ℕ → Bool → SurfaceValue W
+  blank_surface widths w h full = record { widths = widths; width = w; height = h; lines = replicate h (replicate w blank); flags = replicate h no_flags; x = 0; y = 0; visibility = Visible; pen = default_attributes; title = []; shape = None; color = Default; full = full; log = record { first = 0; changes = [] } }
 
   -- a new surface and its viewer are in the first state
-  pub state_of-blank : (widths : W) (w h : ℕ) → let s = blank_surface widths w h in state_of s (blank_viewer s) ≡ first_state w h
-  state_of-blank widths w h i = record {
+  pub state_of-blank : (widths : W) (w h : ℕ) (full : Bool) → let s = blank_surface widths w h full in state_of s (blank_viewer s) ≡ first_state w h
+  state_of-blank widths w h full i = record {
     screen = screen_of-blank w h i;
     kept = record { lengths = (map-replicate length h (replicate w blank) ∙ ap (replicate h) (length-replicate w blank)) i; flags = replicate h no_flags; title = []; shape = None; color = Default };
     log = record { first = 0; changes = [] };
     given = 0;
-    shown = screen_of-blank w h i;
+    shown = record { screen = screen_of-blank w h i; title = []; shape = shapes.Default; color = Default; lines = map-replicate line_attribute h no_flags i };
     own = 0;
   }
 
@@ -77,14 +79,15 @@ module _ {W : Type 0} where
           stored_so = sound.stored_so;
           rows = refl;
           lengths = refl;
+          sides = sound.sides ∙ frame.height;
           log = frame.log;
           viewer = record { given = refl; shown = refl; own = refl };
         },
       )
 
-  module _ (measure_of : W → List ℕ → ℕ) (old new : SurfaceValue W) (v : ViewerValue W) (result : Result ℕ SurfaceError) where
+  module _ (measure_of : W → List ℕ → ℕ) (old new : SurfaceValue W) (v : ViewerValue W) (full : Bool) (result : Result ℕ SurfaceError) where
     pub Allows-changes : (changes : Vec Change Global) → Adds (measure_of old.widths) old (map change_value changes.items) (next_number old.log - 1 + vec_len changes) result new
-        → Allows measure_of (measure_of old.widths) (state_of old v) (Changes changes) (outcome_of result) (state_of new v)
+        → Allows measure_of (measure_of old.widths) full (state_of old v) (Changes changes) (outcome_of result) (state_of new v)
     Allows-changes changes h = Allows-list (measure_of old.widths) old new v (map change_value changes.items) result (Adds-values (measure_of old.widths) old new changes (map change_value changes.items) result refl h)
 
     Allows-diff : (Same : Type 0) (ps : List Print) (finish : List ChangeValue → List ChangeValue) → AddsDiff (measure_of old.widths) Same ps finish old result new ⊎ AddsNothing old result new
@@ -92,8 +95,8 @@ module _ {W : Type 0} where
     Allows-diff Same ps finish (inl d) = inl (record { changes = d.changes; is_diff = d.is_diff; done = Allows-list (measure_of old.widths) old new v (finish d.changes) result d.done })
     Allows-diff Same ps finish (inr d) = inr (record { refused = ap outcome_of d.refused; same = ap (λ t. state_of t v) d.same })
 
-    pub Allows-drawn : (other : SurfaceValue W) (x y : ℕ) → IsDrawn measure_of old other x y result new → Allows measure_of (measure_of old.widths) (state_of old v) (Draw other x y) (outcome_of result) (state_of new v)
+    pub Allows-drawn : (other : SurfaceValue W) (x y : ℕ) → IsDrawn measure_of old other x y result new → Allows measure_of (measure_of old.widths) full (state_of old v) (Draw other x y) (outcome_of result) (state_of new v)
     Allows-drawn other x y = Allows-diff _ _ (restoring old.x old.y old.pen)
 
-    pub Allows-copied : (from_x from_y w h x y : ℕ) → IsCopied measure_of old from_x from_y w h x y result new → Allows measure_of (measure_of old.widths) (state_of old v) (Copy from_x from_y w h x y) (outcome_of result) (state_of new v)
+    pub Allows-copied : (from_x from_y w h x y : ℕ) → IsCopied measure_of old from_x from_y w h x y result new → Allows measure_of (measure_of old.widths) full (state_of old v) (Copy from_x from_y w h x y) (outcome_of result) (state_of new v)
     Allows-copied from_x from_y w h x y = Allows-diff _ _ (λ l. l)

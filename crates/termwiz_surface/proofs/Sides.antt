@@ -1,10 +1,11 @@
 -- Rows that keep their flags and stay vectors.
 use Rattle.std.proofs.Common.{◌≡◌, ℕ, ◌<◌, true, List, length, get_or, set, sym, ◌∙◌, ap, subst}
-use Rattle.std.proofs.lemmas.List.{get_or-map, set-get_or, map-set}
+use Rattle.std.proofs.lemmas.List.{length-map, get_or-map, set-get_or, map-set}
 use Rattle.std.proofs.lemmas.List.Elements.{All-get_or, All-set}
 use Rattle.termwiz_line.specs.LineFlags.{LineFlags, no_flags}
 use Rattle.termwiz_line.specs.LineValue.{LineValue, IsEdited, IsUnchanged}
 use Rattle.termwiz_cell.specs.CellValue.{CellValue}
+use Rattle.termwiz_surface.specs.ScreenValue.{cells_of}
 use Rattle.termwiz_surface.specs.Sides.{row_flags, KeepsSide, KeepSides}
 
 -- of one row
@@ -36,3 +37,7 @@ pub flags-set : (ls : List LineValue) (i : ℕ) (l m : LineValue) (f : LineFlags
 flags-set ls i l m f h e k =
     map-set (λ (v : LineValue). v.flags) ls i m
     ∙ ap (set (row_flags ls) i) (k ∙ ap f (sym (get_or-map (λ (v : LineValue). v.flags) ls i l no_flags h ∙ ap (λ (v : LineValue). v.flags) (sym e))))
+
+-- as many flags as rows
+pub sides-full : (ls : List LineValue) {h : ℕ} → length (cells_of ls) ≡ h → length (row_flags ls) ≡ h
+sides-full ls e = length-map ls (λ (l : LineValue). l.flags) ∙ sym (length-map ls (λ (l : LineValue). l.cells)) ∙ e

@@ -1,15 +1,23 @@
 -- The screen of a sound surface: its size, that text can print it, and so that its repaint gives it.
-use Rattle.std.proofs.Common.{◌≡◌, ℕ, ◌<◌, List, [], length, Option, arith, sym, ap, ◌∙◌, subst}
+use Rattle.std.proofs.Common.{◌≡◌, ℕ, ◌<◌, ◌≤◌, Bool, true, false, List, [], length, arith, sym, ap, ◌∙◌, subst}
 use Rattle.std.proofs.lemmas.List.{get_or-map, length-map}
-use Rattle.termwiz_cell.specs.declared.change.CursorShape.{CursorShape}
+use Rattle.termwiz_cell.specs.declared.change.CursorShape.TheVariants.{Default}
+use Rattle.termwiz_cell.specs.declared.color.ColorAttribute.TheVariants as color
 use Rattle.termwiz_cell.specs.CellValue.{CellValue, space}
 use Rattle.termwiz_line.specs.Row.{row_of}
 use Rattle.termwiz_surface.specs.Screen.{Screen, row_at}
-use Rattle.termwiz_surface.specs.Step.{replay}
-use Rattle.termwiz_surface.specs.Repaint.{repaint}
-use Rattle.termwiz_surface.specs.SurfaceValue.{SurfaceValue, screen_of, IsMeasured, IsStored, IsSound}
+use Rattle.termwiz_surface.specs.Step.{replay, regions_fit}
+use Rattle.termwiz_surface.specs.Repaint.{repaint_in, full_repaint}
+use Rattle.termwiz_surface.specs.FullScreen.{FullScreen, line_attribute, full_screen, full_of, full_replay, HasFullSize}
+use Rattle.termwiz_surface.specs.Kept.{Kept}
+use Rattle.termwiz_surface.specs.Stream.{most_entries}
+use Rattle.termwiz_surface.specs.SurfaceValue.{SurfaceValue, screen_of, kept_of, IsMeasured, IsStored, IsSound}
 use Rattle.termwiz_surface.specs.Printable.{IsPrintableRow, IsPrintable, HasSize}
 use Rattle.termwiz_line.proofs.RowOf.{row_of_row, row_shows, length-row_of}
+use Rattle.termwiz_surface.proofs.FullRepaint.{full_repaint_gives}
+use Rattle.termwiz_surface.proofs.FullScreens.{screen-replayed}
+use Rattle.termwiz_surface.proofs.RepaintLength.{repaint_short, full_repaint_short}
+use Rattle.termwiz_surface.proofs.RepaintRegions.{repaint_fits, full_repaint_fits}
 use Rattle.termwiz_surface.proofs.RepaintScreen.{repaint_gives}
 
 -- the row of a form that is stored
@@ -37,5 +45,27 @@ module _ {W : Type 0} (f : List ℕ → ℕ) (v : SurfaceValue W) (z : IsSound f
     row = z.row;
   }
 
-  pub sound_repaint : f space ≡ 1 → (s : Screen) (title : List ℕ) (shape : Option CursorShape) → HasSize v.width v.height s → replay f s (repaint (screen_of v) title shape) ≡ screen_of v
-  sound_repaint one s title shape size = repaint_gives f one (screen_of v) s title shape sound_is_printable size
+  attributes-full : length (full_of v).lines ≡ v.height
+  attributes-full = length-map v.flags line_attribute ∙ z.sides
+
+  pub sound_has_full_size : HasFullSize v.width v.height (full_of v)
+  sound_has_full_size = record { screen = sound_has_size; lines = attributes-full }
+
+  pub sound_full_repaint : f space ≡ 1 → (g : FullScreen) → HasFullSize v.width v.height g → full_replay f g (full_repaint (full_of v)) ≡ full_of v
+  sound_full_repaint one g size = full_repaint_gives f one (full_of v) g sound_is_printable attributes-full size
+
+  -- a full repaint gives the screen too
+  pub sound_repaint : f space ≡ 1 → (full : Bool) (s : Screen) → HasSize v.width v.height s → replay f s (repaint_in full (screen_of v) (kept_of v)) ≡ screen_of v
+  sound_repaint one true s size =
+      let g : FullScreen = record { screen = s; title = []; shape = Default; color = color.Default; lines = (full_of v).lines } in
+      sym (screen-replayed f (full_repaint (full_of v)) g) ∙ ap (λ (h : FullScreen). h.screen) (sound_full_repaint one g (record { screen = size; lines = attributes-full }))
+  sound_repaint one false s size = repaint_gives f one (screen_of v) s v.title v.shape sound_is_printable size
+
+  pub sound_short : (full : Bool) → length (repaint_in full (screen_of v) (kept_of v)) ≤ most_entries full v.width v.height
+  sound_short true = full_repaint_short (full_of v) z.some_row attributes-full
+  sound_short false = repaint_short (screen_of v) v.title v.shape z.some_row
+
+-- no region in a repaint goes past the last row
+pub repaint_in-fits : (h : ℕ) (full : Bool) (s : Screen) (k : Kept) → regions_fit h (repaint_in full s k) ≡ true
+repaint_in-fits h true s k = full_repaint_fits h (full_screen s k)
+repaint_in-fits h false s k = repaint_fits h s k.title k.shape

@@ -1,26 +1,26 @@
 -- What asking and applying make of a viewer is what following may make of it.
-use Rattle.std.proofs.Common.{◌≡◌, ℕ, ◌+◌, ◌≤◌, ◌^◌, inl, inr, List, length, refl, sym, ap, ◌∙◌, arith}
+use Rattle.std.proofs.Common.{◌≡◌, ℕ, ◌+◌, ◌≤◌, ◌^◌, inl, inr, true, List, length, refl, sym, ap, ◌∙◌, arith}
 use Rattle.std.specs.Prelude.{Result, Ok, Err, OnOk}
 use Rattle.std.proofs.lemmas.Bool.{true≢false}
 use Rattle.termwiz_cell.specs.ChangeValue.{ChangeValue}
 use Rattle.termwiz_surface.specs.Following.{ViewerValue, Follows, forgetful, IsFitted, IsAnswer, Fetches, Accepts, IsLost, HasNoRoom, FollowsTo}
 use Rattle.termwiz_surface.specs.Log.{next_number}
 use Rattle.termwiz_surface.specs.Adding.{Makes}
-use Rattle.termwiz_surface.specs.Printable.{HasSize}
+use Rattle.termwiz_surface.specs.FullScreen.{HasFullSize, full_of, full_replay}
 use Rattle.termwiz_surface.specs.Step.{replay, regions_fit}
 use Rattle.termwiz_surface.specs.SurfaceValue.{SurfaceValue, screen_of}
 use Rattle.termwiz_surface.specs.declared.surface.SurfaceError.{SurfaceError}
 use Rattle.termwiz_surface.specs.declared.surface.SurfaceError.TheVariants.{ScrollRegion, Numbers, Memory}
-use Rattle.termwiz_surface.proofs.Following.{Follows-none, Follows-same, Follows-fitted, caught_up, fitted_widths, fitted_height, fitted_number, fitted_last}
+use Rattle.termwiz_surface.proofs.Following.{Follows-none, Follows-same, Follows-fitted, caught_up, fully_caught_up, full-made, fitted_widths, fitted_full, fitted_height, fitted_number, fitted_last}
 use Rattle.termwiz_surface.proofs.Logs.{restarted_number}
 
 module _ {W : Type 0} where
   -- a viewer that is as another one but for its number
-  lost_alike : (old mid new : ViewerValue W) → mid.surface.widths ≡ old.surface.widths → next_number mid.surface.log ≤ next_number old.surface.log + 1 → new.last ≡ 0 → new.surface ≡ mid.surface → IsLost old new
-  lost_alike old mid new w n l e = record { last = l; widths = ap (λ (s : SurfaceValue W). s.widths) e ∙ w; number = omega (arith, n, ap (λ (s : SurfaceValue W). next_number s.log) e) }
+  lost_alike : (old mid new : ViewerValue W) → mid.surface.widths ≡ old.surface.widths → mid.surface.full ≡ old.surface.full → next_number mid.surface.log ≤ next_number old.surface.log + 1 → new.last ≡ 0 → new.surface ≡ mid.surface → IsLost old new
+  lost_alike old mid new w k n l e = record { last = l; widths = ap (λ (s : SurfaceValue W). s.widths) e ∙ w; full = ap (λ (s : SurfaceValue W). s.full) e ∙ k; number = omega (arith, n, ap (λ (s : SurfaceValue W). next_number s.log) e) }
 
   lost_forgetful : (old new : ViewerValue W) → new ≡ forgetful old → IsLost old new
-  lost_forgetful old new e = lost_alike old old new refl (omega arith) (ap (λ (v : ViewerValue W). v.last) e) (ap (λ (v : ViewerValue W). v.surface) e)
+  lost_forgetful old new e = lost_alike old old new refl refl (omega arith) (ap (λ (v : ViewerValue W). v.last) e) (ap (λ (v : ViewerValue W). v.surface) e)
 
   -- the changes that are asked for have no room
   no_room : (measure : List ℕ → ℕ) (s : SurfaceValue W) (old mid : ViewerValue W) (cs : List ChangeValue) → IsFitted old s mid → IsAnswer measure s mid.last cs → 2 ^ 64 ≤ next_number mid.surface.log + length cs → HasNoRoom old s
@@ -39,12 +39,13 @@ module _ {W : Type 0} where
   FollowsTo-refused f measure s old mid new n cs ScrollRegion fitted answer h =
       true≢false (sym answer.regions ∙ ap (λ k. regions_fit k cs) (sym (fitted_height old s mid fitted)) ∙ h.1.0)
   FollowsTo-refused f measure s old mid new n cs Numbers fitted answer h =
-      (lost_alike old mid new (fitted_widths old s mid fitted) (fitted_number old s mid fitted) h.0 h.1.2, no_room (f s.widths) s old mid cs fitted answer h.1.1)
+      (lost_alike old mid new (fitted_widths old s mid fitted) (fitted_full old s mid fitted) (fitted_number old s mid fitted) h.0 h.1.2, no_room (f s.widths) s old mid cs fitted answer h.1.1)
   FollowsTo-refused f measure s old mid new n cs Memory fitted answer h =
       let frame = h.1.3 in
       record {
         last = h.0;
         widths = frame.widths ∙ fitted_widths old s mid fitted;
+        full = frame.full ∙ fitted_full old s mid fitted;
         number = omega (arith, ap next_number frame.log, restarted_number mid.surface.log, fitted_number old s mid fitted);
       }
 
@@ -62,7 +63,7 @@ module _ {W : Type 0} where
   )
   FollowsTo-missed f measure s old mid new Memory (inl h) e = lost_forgetful old new (e ∙ ap forgetful h.1)
   FollowsTo-missed f measure s old mid new Memory (inr h) e =
-      lost_alike old mid new (fitted_widths old s mid h) (fitted_number old s mid h) (ap (λ (v : ViewerValue W). v.last) e) (ap (λ (v : ViewerValue W). v.surface) e)
+      lost_alike old mid new (fitted_widths old s mid h) (fitted_full old s mid h) (fitted_number old s mid h) (ap (λ (v : ViewerValue W). v.last) e) (ap (λ (v : ViewerValue W). v.surface) e)
 
   -- after each error the viewer has no number
   pub FollowsTo-lost : (f : W → List ℕ → ℕ) (s : SurfaceValue W) (old new : ViewerValue W) (e : SurfaceError) → FollowsTo f s old (Err e) new → IsLost old new
@@ -77,22 +78,31 @@ module _ {W : Type 0} where
   Follows-missed f s old new e h k = Follows-lost f s old new k (FollowsTo-lost f s old new e h)
 
   -- a viewer in the surface's size makes what it asked for
-  module _ (f : W → List ℕ → ℕ) (s : SurfaceValue W) (old mid new : ViewerValue W) (n : ℕ) (cs : List ChangeValue) (number : n ≡ next_number s.log) (fitted : IsFitted old s mid) (size : HasSize s.width s.height (screen_of mid.surface)) (answer : IsAnswer (f s.widths) s mid.last cs) where
+  module _ (f : W → List ℕ → ℕ) (s : SurfaceValue W) (old mid new : ViewerValue W) (n : ℕ) (cs : List ChangeValue) (number : n ≡ next_number s.log) (fitted : IsFitted old s mid) (size : HasFullSize s.width s.height (full_of mid.surface)) (answer : IsAnswer (f s.widths) s mid.last cs) where
     pub FollowsTo-accepted : (result : Result ℕ SurfaceError) → Accepts (f mid.surface.widths) mid n cs result new → FollowsTo f s old result new
-    FollowsTo-accepted (Ok k) h = (h.0 ∙ number, h.1 ∙ sym h.0, record { mid = mid; changes = cs; fitted = fitted; stream = answer.stream; makes = h.2 })
+    FollowsTo-accepted (Ok k) h = (h.0 ∙ number, h.1 ∙ sym h.0, record { mid = mid; changes = cs; fitted = fitted; stream = answer.stream; full = answer.full; makes = h.2 })
     FollowsTo-accepted (Err e) h = FollowsTo-refused f (f mid.surface.widths) s old mid new n cs e fitted answer h
 
     module _ (follows : Follows f old s) where
       shown : Makes (f mid.surface.widths) mid.surface cs new.surface → screen_of new.surface ≡ screen_of s
       shown made =
           let follows_now = Follows-fitted f old s mid follows fitted in
-          made.screen_is ∙ ap (λ m. replay m (screen_of mid.surface) cs) follows_now.one_measure ∙ caught_up f mid s cs follows_now size answer.stream
+          made.screen_is ∙ ap (λ m. replay m (screen_of mid.surface) cs) follows_now.one_measure ∙ caught_up f mid s cs follows_now size.screen answer.stream
+
+      shown_fully : Makes (f mid.surface.widths) mid.surface cs new.surface → s.full ≡ true → full_of new.surface ≡ full_of s
+      shown_fully made e =
+          let follows_now = Follows-fitted f old s mid follows fitted in
+          full-made (f mid.surface.widths) mid.surface new.surface cs made ∙ ap (λ m. full_replay m (full_of mid.surface) cs) follows_now.one_measure ∙ fully_caught_up f mid s cs follows_now e size (answer.full e)
 
       pub accepted_shows : (result : Result ℕ SurfaceError) → Accepts (f mid.surface.widths) mid n cs result new → OnOk result ((screen_of new.surface ≡ screen_of s) × (new.last ≡ next_number s.log))
       accepted_shows (Ok k) h = (shown h.2, h.1 ∙ number)
       accepted_shows (Err e) h = tt
 
+      pub accepted_shows_fully : (result : Result ℕ SurfaceError) → Accepts (f mid.surface.widths) mid n cs result new → s.full ≡ true → OnOk result (full_of new.surface ≡ full_of s)
+      accepted_shows_fully (Ok k) h e = shown_fully h.2 e
+      accepted_shows_fully (Err k) h e = tt
+
       pub Follows-accepted : (result : Result ℕ SurfaceError) → Accepts (f mid.surface.widths) mid n cs result new → Follows f new s
       Follows-accepted (Ok k) h =
-          Follows-same f new s (ap f h.2.widths ∙ ap f (fitted_widths old s mid fitted) ∙ follows.one_measure) (shown h.2) (h.1 ∙ number)
+          Follows-same f new s (ap f h.2.widths ∙ ap f (fitted_widths old s mid fitted) ∙ follows.one_measure) (shown h.2) (shown_fully h.2) (h.1 ∙ number)
       Follows-accepted (Err e) h = Follows-missed f s old new e (FollowsTo-accepted (Err e) h) follows

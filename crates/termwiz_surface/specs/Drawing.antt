@@ -3,10 +3,10 @@ use Rattle.std.specs.Prelude.{◌≡◌, ℕ, Bool, false, List, Option, Some, N
 use Rattle.termwiz_cell.specs.Attributes.{Attributes}
 use Rattle.termwiz_cell.specs.CellValue.{CellValue}
 use Rattle.termwiz_cell.specs.declared.change.Change.{Change}
-use Rattle.termwiz_cell.specs.ChangeValue.{change_value, is_text}
+use Rattle.termwiz_cell.specs.ChangeValue.{ChangeValue, change_value, is_text}
 use Rattle.termwiz_line.specs.LastChange.{last_is}
 use Rattle.termwiz_line.specs.Writing.{Writing, behind}
-use Rattle.termwiz_surface.specs.Repaint.{is_clear_of, first_entries, rows_upto}
+use Rattle.termwiz_surface.specs.Repaint.{is_clear_of, rows_upto}
 
 -- an entry that is there clears to the end of the line with attributes a
 abbrev pub clears : Attributes → Option Change → Bool
@@ -18,6 +18,11 @@ pub record IsBeforeRow (i : ℕ) (writer : Writing) : Type 0 where
   pub between : writer.spaces ≡ 0
   pub apart : i ≡ 0 → last_is is_text writer.printed.entries ≡ false
 
--- the rows above row i are written behind the clear with this title, and nothing of that row
-pub record IsDrawnUpto (title : List ℕ) (w : ℕ) (rows : List (List CellValue)) (i : ℕ) (writer : Writing) : Type 0 where
-  pub printed : writer.printed ≡ behind (first_entries title) (rows_upto w rows i)
+-- the last of these entries is no text, and clears no line, so that rows may be written behind them
+pub record AreApart (first : List ChangeValue) : Type 0 where
+  pub no_text : last_is is_text first ≡ false
+  pub no_clear : (a : Attributes) → last_is (is_clear_of a) first ≡ false
+
+-- the rows above row i are written behind these entries, and nothing of that row
+pub record IsDrawnUpto (first : List ChangeValue) (w : ℕ) (rows : List (List CellValue)) (i : ℕ) (writer : Writing) : Type 0 where
+  pub printed : writer.printed ≡ behind first (rows_upto w rows i)

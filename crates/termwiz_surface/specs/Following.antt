@@ -1,5 +1,5 @@
 -- Viewers: a surface that follows another one, by what its viewer was last given.
-use Rattle.std.specs.Prelude.{◌≡◌, ℕ, ◌+◌, ◌*◌, ◌≤◌, ◌^◌, Bool, true, false, ◌&&◌, ◌==◌, ◌⊎◌, List, [], length, map, replicate, None, Result, Ok, Err, Vec, if◌then◌else◌}
+use Rattle.std.specs.Prelude.{◌≡◌, ℕ, ◌+◌, ◌≤◌, ◌^◌, Bool, true, false, ◌&&◌, ◌==◌, ◌⊎◌, List, [], length, map, replicate, None, Result, Ok, Err, Vec, if◌then◌else◌}
 use Rattle.std.specs.declared.alloc.Global.{Global}
 use Rattle.termwiz_cell.specs.Attributes.{default_attributes}
 use Rattle.termwiz_cell.specs.CellValue.{blank}
@@ -12,8 +12,10 @@ use Rattle.termwiz_surface.specs.Adding.{Adds, Makes}
 use Rattle.termwiz_surface.specs.Log.{LogValue, next_number, due, is_known, worth}
 use Rattle.termwiz_surface.specs.Resizing.{HasResized}
 use Rattle.termwiz_surface.specs.Screen.{Screen}
-use Rattle.termwiz_surface.specs.Step.{replay, regions_fit}
-use Rattle.termwiz_surface.specs.Stream.{IsStream}
+use Rattle.termwiz_surface.specs.Step.{regions_fit}
+use Rattle.termwiz_surface.specs.Stream.{IsStream, IsFullStream, most_entries}
+use Rattle.termwiz_surface.specs.FullScreen.{FullScreen, full_of}
+use Rattle.termwiz_surface.specs.Picture.{Pictures, screens, full_screens, played}
 use Rattle.termwiz_surface.specs.SurfaceValue.{SurfaceValue, screen_of}
 use Rattle.termwiz_surface.specs.declared.surface.SurfaceError.{SurfaceError}
 use Rattle.termwiz_surface.specs.declared.surface.SurfaceError.TheVariants.{ScrollRegion, Numbers, Memory}
@@ -23,21 +25,30 @@ pub record ViewerValue (W : Type 0) : Type 0 where
   -- the number that it was last given, or 0
   pub last : ℕ
 
--- a screen was last given number n, which is not past the coming one; where the log goes back to n, what is due leads from that screen to the screen s of its size; 0 is no number that was given
-pub record Leads (measure : List ℕ → ℕ) (v : Screen) (n : ℕ) (s : Screen) (log : LogValue) : Type 0 where
+-- a picture was last given number n, which is not past the coming one; where the log goes back to n, what is due leads from that picture to the picture p of its size; 0 is no number that was given
+pub record LeadsTo {P : Type 0} (pictures : Pictures P) (measure : List ℕ → ℕ) (v : P) (n : ℕ) (p : P) (log : LogValue) : Type 0 where
   pub not_ahead : n ≤ next_number log
-  pub leads : (n ≡ 0 → ⊥) → log.first ≤ n → (v.width ≡ s.width) × (v.height ≡ s.height) × (replay measure v (due log n) ≡ s)
+  pub leads : (n ≡ 0 → ⊥) → log.first ≤ n → ((pictures.screen v).width ≡ (pictures.screen p).width) × ((pictures.screen v).height ≡ (pictures.screen p).height) × (played pictures measure v (due log n) ≡ p)
+
+-- of screens
+abbrev pub Leads : (List ℕ → ℕ) → Screen → ℕ → Screen → LogValue → Type 0
+Leads = LeadsTo screens
+
+-- of full screens
+abbrev pub FullLeads : (List ℕ → ℕ) → FullScreen → ℕ → FullScreen → LogValue → Type 0
+FullLeads = LeadsTo full_screens
 
 module _ {W : Type 0} where
-  -- the viewer measures as the surface does, and what is due leads it to the surface's screen
+  -- the viewer measures as the surface does, and what is due leads it to the surface's screen, and of a full surface to its full screen
   pub record Follows (measure_of : W → List ℕ → ℕ) (v : ViewerValue W) (s : SurfaceValue W) : Type 0 where
     pub one_measure : measure_of v.surface.widths ≡ measure_of s.widths
     pub leads : Leads (measure_of s.widths) (screen_of v.surface) v.last (screen_of s) s.log
+    pub full : s.full ≡ true → FullLeads (measure_of s.widths) (full_of v.surface) v.last (full_of s) s.log
 
-  -- a viewer with a blank surface of that size and width value, and no number
+  -- a viewer with a blank surface of that size, width value and kind, and no number
   abbrev pub blank_viewer : SurfaceValue W → ViewerValue W
   blank_viewer s = record {
-    surface = record { widths = s.widths; width = s.width; height = s.height; lines = replicate s.height (replicate s.width blank); flags = replicate s.height no_flags; x = 0; y = 0; visibility = Visible; pen = default_attributes; title = []; shape = None; color = Default; log = record { first = 0; changes = [] } };
+    surface = record { widths = s.widths; width = s.width; height = s.height; lines = replicate s.height (replicate s.width blank); flags = replicate s.height no_flags; x = 0; y = 0; visibility = Visible; pen = default_attributes; title = []; shape = None; color = Default; full = s.full; log = record { first = 0; changes = [] } };
     last = 0;
   }
 
@@ -66,11 +77,12 @@ module _ {W : Type 0} where
   Fits old s (Err Memory) new = (has_size_of old s ≡ false) × (new ≡ forgetful old)
   Fits old s (Err ScrollRegion) new = ⊥
 
-  -- these changes bring a viewer that asks with number n to the surface's screen, and no scroll among them goes past the last row
+  -- these changes bring a viewer that asks with number n to the surface's screen, and of a full surface to its full screen; and no scroll among them goes past the last row
   pub record IsAnswer (measure : List ℕ → ℕ) (s : SurfaceValue W) (n : ℕ) (changes : List ChangeValue) : Type 0 where
     pub stream : IsStream measure (screen_of s) s.log n changes
+    pub full : s.full ≡ true → IsFullStream measure (full_of s) s.log n changes
     pub regions : regions_fit s.height changes ≡ true
-    pub short : is_known (worth s.width s.height) s.log n ≡ false → length changes ≤ 2 * (s.width * s.height) + s.height + 6
+    pub short : is_known (worth s.width s.height) s.log n ≡ false → length changes ≤ most_entries s.full s.width s.height
 
   -- the viewer asks in the surface's size
   abbrev pub Fetches : (List ℕ → ℕ) → SurfaceValue W → ViewerValue W → Result (ℕ × Vec Change Global) SurfaceError → ViewerValue W → Type 0
@@ -85,17 +97,18 @@ module _ {W : Type 0} where
   Accepts measure old n changes (Ok k) new = (k ≡ n) × (new.last ≡ n) × Makes measure old.surface changes new.surface
   Accepts measure old n changes (Err e) new = (new.last ≡ 0) × Adds measure old.surface changes 0 (Err e) new.surface
 
-  -- the viewer has no number, its width value stays, and its own number has grown by two at most
+  -- the viewer has no number, its width value and its kind stay, and its own number has grown by two at most
   pub record IsLost (old new : ViewerValue W) : Type 0 where
     pub last : new.last ≡ 0
     pub widths : new.surface.widths ≡ old.surface.widths
+    pub full : new.surface.full ≡ old.surface.full
     pub number : next_number new.surface.log ≤ next_number old.surface.log + 2
 
   -- the viewer's own number has no room for another size's and those of the changes that it asks for
   pub record HasNoRoom (old : ViewerValue W) (s : SurfaceValue W) : Type 0 where
     pub count : ℕ
     pub known : is_known (worth s.width s.height) s.log (asks_with old s) ≡ true → count ≡ length (due s.log (asks_with old s))
-    pub repaint : is_known (worth s.width s.height) s.log (asks_with old s) ≡ false → count ≤ 2 * (s.width * s.height) + s.height + 6
+    pub repaint : is_known (worth s.width s.height) s.log (asks_with old s) ≡ false → count ≤ most_entries s.full s.width s.height
     pub no_room : 2 ^ 64 ≤ next_number old.surface.log + 1 + count
 
   -- the viewer in the surface's size makes what it asked for, and its own log tells how
@@ -104,6 +117,7 @@ module _ {W : Type 0} where
     pub changes : List ChangeValue
     pub fitted : IsFitted old s mid
     pub stream : IsStream (measure_of s.widths) (screen_of s) s.log mid.last changes
+    pub full : s.full ≡ true → IsFullStream (measure_of s.widths) (full_of s) s.log mid.last changes
     pub makes : Makes (measure_of mid.surface.widths) mid.surface changes new.surface
 
   -- what following answers, and what it makes of the viewer

@@ -1,33 +1,32 @@
--- What happens to a surface keeps its viewers following.
+-- What happens to a surface keeps its viewers following, those that show screens and those that show full ones.
 use Rattle.std.specs.Prelude.{◌≡◌, ℕ, List}
 use Rattle.termwiz_cell.specs.ChangeValue.{ChangeValue}
-use Rattle.termwiz_surface.specs.Following.{Leads}
+use Rattle.termwiz_surface.specs.Following.{LeadsTo}
 use Rattle.termwiz_surface.specs.Log.{LogValue, next_number, appended, flushed, restarted}
-use Rattle.termwiz_surface.specs.Printable.{HasSize}
-use Rattle.termwiz_surface.specs.Screen.{Screen}
-use Rattle.termwiz_surface.specs.Step.{replay}
-use Rattle.termwiz_surface.specs.Stream.{IsStream}
+use Rattle.termwiz_surface.specs.Picture.{Pictures, played}
+use Rattle.termwiz_surface.specs.Stream.{Brings}
 
--- a viewer with the screen's own picture and number is led there by nothing
-abbrev pub LeadsWhereItIs : Type 0
-LeadsWhereItIs = (measure : List ℕ → ℕ) (v s : Screen) (n : ℕ) (log : LogValue) → v ≡ s → n ≡ next_number log → Leads measure v n s log
+module _ {P : Type 0} (pictures : Pictures P) where
+  -- a viewer with the surface's own picture and number is led there by nothing
+  abbrev pub LeadsWhereItIs : Type 0
+  LeadsWhereItIs = (measure : List ℕ → ℕ) (v p : P) (n : ℕ) (log : LogValue) → v ≡ p → n ≡ next_number log → LeadsTo pictures measure v n p log
 
--- changes that are made and logged lead on
-abbrev pub ChangesLeadOn : Type 0
-ChangesLeadOn =
-    (measure : List ℕ → ℕ) (v s t : Screen) (n : ℕ) (log : LogValue) (changes : List ChangeValue) → t.width ≡ s.width → t.height ≡ s.height → t ≡ replay measure s changes →
-    Leads measure v n s log → Leads measure v n t (appended log changes)
+  -- changes that are made and logged lead on
+  abbrev pub ChangesLeadOn : Type 0
+  ChangesLeadOn =
+      (measure : List ℕ → ℕ) (v p q : P) (n : ℕ) (log : LogValue) (changes : List ChangeValue) → (pictures.screen q).width ≡ (pictures.screen p).width → (pictures.screen q).height ≡ (pictures.screen p).height →
+      q ≡ played pictures measure p changes → LeadsTo pictures measure v n p log → LeadsTo pictures measure v n q (appended log changes)
 
--- what a viewer is answered leads it to the screen, where it is led
-abbrev pub StreamsLeadOn : Type 0
-StreamsLeadOn =
-    (measure : List ℕ → ℕ) (v s : Screen) (n : ℕ) (log : LogValue) (changes : List ChangeValue) → HasSize s.width s.height v → Leads measure v n s log → IsStream measure s log n changes →
-    replay measure v changes ≡ s
+  -- what a viewer is answered leads it to the picture, where it is led
+  abbrev pub StreamsLeadOn : Type 0
+  StreamsLeadOn =
+      (measure : List ℕ → ℕ) (v p : P) (n : ℕ) (log : LogValue) (changes : List ChangeValue) → pictures.IsSized (pictures.screen p).width (pictures.screen p).height v → LeadsTo pictures measure v n p log →
+      Brings pictures measure p log n changes → played pictures measure v changes ≡ p
 
--- what is flushed no viewer needs that is led
-abbrev pub FlushesKeepLeading : Type 0
-FlushesKeepLeading = (measure : List ℕ → ℕ) (v s : Screen) (n k : ℕ) (log : LogValue) → Leads measure v n s log → Leads measure v n s (flushed log k)
+  -- what is flushed no viewer needs that is led
+  abbrev pub FlushesKeepLeading : Type 0
+  FlushesKeepLeading = (measure : List ℕ → ℕ) (v p : P) (n k : ℕ) (log : LogValue) → LeadsTo pictures measure v n p log → LeadsTo pictures measure v n p (flushed log k)
 
--- after want of memory, and in another size, no number above 0 is known
-abbrev pub RestartsKeepLeading : Type 0
-RestartsKeepLeading = (measure : List ℕ → ℕ) (v s t : Screen) (n : ℕ) (log : LogValue) → Leads measure v n s log → Leads measure v n t (restarted log)
+  -- after want of memory, and in another size, no number above 0 is known
+  abbrev pub RestartsKeepLeading : Type 0
+  RestartsKeepLeading = (measure : List ℕ → ℕ) (v p q : P) (n : ℕ) (log : LogValue) → LeadsTo pictures measure v n p log → LeadsTo pictures measure v n q (restarted log)

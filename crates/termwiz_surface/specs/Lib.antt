@@ -11,6 +11,7 @@ pub mod Adding
 pub mod Printable
 pub mod Drawing
 pub mod RepaintLaws
+pub mod FullLaws
 pub mod Chars
 pub mod ShownChars
 pub mod Schedule
@@ -19,6 +20,9 @@ pub mod Padding
 pub mod Stream
 pub mod Log
 pub mod Kept
+pub mod FullScreen
+pub mod Picture
+pub mod FullScreenValue
 pub mod Resizing
 pub mod Sides
 pub mod Regions

@@ -1,7 +1,10 @@
 -- Repaints: the changes that bring any screen of that size to this one.
-use Rattle.std.specs.Prelude.{ℕ, zero, suc, ◌-◌, pos, Bool, true, false, cond, not, ◌&&◌, eqb, ltb, List, [], ◌∷◌, ◌++◌, replicate, Option, Some, None}
+use Rattle.std.specs.Prelude.{if◌then◌else◌, ℕ, zero, suc, ◌-◌, pos, length, get_or, Bool, true, false, cond, not, ◌&&◌, eqb, ltb, List, [], ◌∷◌, ◌++◌, replicate, Option, Some, None}
 use Rattle.std.specs.Cmp.Lexicographic.{pointwise}
+use Rattle.termwiz_cell.specs.declared.color.ColorAttribute.{ColorAttribute}
 use Rattle.termwiz_cell.specs.declared.color.ColorAttribute.TheVariants as color
+use Rattle.termwiz_cell.specs.declared.change.LineAttribute.{LineAttribute}
+use Rattle.termwiz_cell.specs.declared.change.LineAttribute.TheVariants.{SingleWidthLine}
 use Rattle.termwiz_cell.specs.declared.change.Position.TheVariants as position
 use Rattle.termwiz_cell.specs.declared.change.CursorShape.{CursorShape}
 use Rattle.termwiz_cell.specs.declared.change.CursorVisibility.{CursorVisibility}
@@ -13,6 +16,8 @@ use Rattle.termwiz_cell.specs.ChangeValue.{ChangeValue}
 use Rattle.termwiz_storage.specs.Stored.{stored}
 use Rattle.termwiz_line.specs.Row.{visible_upto}
 use Rattle.termwiz_line.specs.Entries.{Penned, pen_entry, row_entries}
+use Rattle.termwiz_surface.specs.FullScreen.{FullScreen, full_screen}
+use Rattle.termwiz_surface.specs.Kept.{Kept}
 use Rattle.termwiz_surface.specs.Place.{cursor_at}
 use Rattle.termwiz_surface.specs.Screen.{Screen, row_at}
 
@@ -115,16 +120,33 @@ title_entry (b ∷ bs) = change.Title (b ∷ bs) ∷ []
 abbrev pub started_entries : List ChangeValue
 started_entries = change.CursorVisibility cursor.Hidden ∷ change.ClearScreen color.Default ∷ []
 
--- the entries before those of the rows
-abbrev pub first_entries : List ℕ → List ChangeValue
-first_entries title = started_entries ++ title_entry title
-
--- the entries of the rows, which leave a pen, between the clear with the title and the cursor, pen, visibility and shape
-abbrev pub repaint_of : Penned → Screen → List ℕ → Option CursorShape → List ChangeValue
-repaint_of d s title shape =
-    first_entries title
-    ++ (without_last_moves d.entries ++ (cursor_entry (title_entry title ++ without_last_moves d.entries) s.x s.y ++ (pen_entry d.pen s.pen ++ shown_entries s.visibility shape)))
+-- the first two entries, those before the rows' and the rows', which leave a pen; the moves at their end are dropped; then the cursor, the pen, and the last entries
+abbrev pub repaint_of : List ChangeValue → Penned → Screen → List ChangeValue → List ChangeValue
+repaint_of first d s last =
+    started_entries ++ (without_last_moves (first ++ d.entries) ++ (cursor_entry (without_last_moves (first ++ d.entries)) s.x s.y ++ (pen_entry d.pen s.pen ++ last)))
 
 -- the repaint of a screen with this title, and the cursor in this shape
 abbrev pub repaint : Screen → List ℕ → Option CursorShape → List ChangeValue
-repaint s title shape = repaint_of (all_rows s.width s.height s.rows) s title shape
+repaint s title shape = repaint_of (title_entry title) (all_rows s.width s.height s.rows) s (shown_entries s.visibility shape)
+
+-- the attributes of the rows above row i, with a move down before each but the first
+abbrev pub lines_upto : List LineAttribute → ℕ → List ChangeValue
+lines_upto lines zero = []
+lines_upto lines (suc i) = lines_upto lines i ++ (cond (eqb i 0) [] (next_line ∷ []) ++ change.LineAttribute (get_or lines i SingleWidthLine) ∷ [])
+
+-- what a full repaint has before the entries of the rows: the title, be it empty, the cursor's colour, and each row's attribute; then the cursor goes home
+abbrev pub full_entries : List ℕ → ColorAttribute → List LineAttribute → List ChangeValue
+full_entries title color lines = change.Title title ∷ change.CursorColor color ∷ (lines_upto lines (length lines) ++ cursor_at 0 0 ∷ [])
+
+-- and at its end: a visible cursor is shown, and the cursor gets its shape
+abbrev pub full_shown_entries : CursorVisibility → CursorShape → List ChangeValue
+full_shown_entries cursor.Visible shape = change.CursorVisibility cursor.Visible ∷ change.CursorShape shape ∷ []
+full_shown_entries cursor.Hidden shape = change.CursorShape shape ∷ []
+
+-- the repaint of a full screen
+abbrev pub full_repaint : FullScreen → List ChangeValue
+full_repaint f = repaint_of (full_entries f.title f.color f.lines) (all_rows f.screen.width f.screen.height f.screen.rows) f.screen (full_shown_entries f.screen.visibility f.shape)
+
+-- the repaint of a screen with what is kept beside it, in full or not
+abbrev pub repaint_in : Bool → Screen → Kept → List ChangeValue
+repaint_in full s k = if full then full_repaint (full_screen s k) else repaint s k.title k.shape

@@ -1,6 +1,6 @@
 -- Which outcomes a list of events may have: a state, what each event may answer and leave, and whole runs.
 use Rattle.std.specs.Bool.{⊤}
-use Rattle.std.specs.Prelude.{◌≡◌, ◌⊎◌, true, false, if◌then◌else◌, ℕ, ◌+◌, ◌-◌, ◌*◌, ◌^◌, ◌<◌, ◌≤◌, List, [], ◌∷◌, length, map, replicate, string_bytes, None, Result, Ok, Err}
+use Rattle.std.specs.Prelude.{◌≡◌, ◌⊎◌, Bool, true, false, if◌then◌else◌, ℕ, ◌+◌, ◌-◌, ◌^◌, ◌<◌, ◌≤◌, List, [], ◌∷◌, length, map, replicate, string_bytes, None, Result, Ok, Err}
 use Rattle.termwiz_cell.specs.Attributes.{default_attributes}
 use Rattle.termwiz_cell.specs.CellValue.{CellValue, blank}
 use Rattle.termwiz_cell.specs.ChangeValue.{ChangeValue, change_value}
@@ -10,7 +10,12 @@ use Rattle.termwiz_surface.specs.Screen.{Screen, row_at}
 use Rattle.termwiz_surface.specs.Step.{replay, replay_kept, regions_fit}
 use Rattle.termwiz_surface.specs.Log.{LogValue, next_number, due, is_known, worth, appended, flushed, restarted}
 use Rattle.termwiz_surface.specs.Resizing.{resized_screen, resized_kept}
-use Rattle.termwiz_surface.specs.Stream.{IsStream}
+use Rattle.termwiz_surface.specs.Stream.{IsStream, IsFullStream, most_entries}
+use Rattle.termwiz_surface.specs.FullScreen.{FullScreen, full_screen, full_of}
+use Rattle.termwiz_surface.specs.FullScreenValue.{full_value}
+use Rattle.termwiz_surface.specs.Picture.{Pictures, screens, full_screens, played}
+use Rattle.termwiz_cell.specs.declared.change.CursorShape.TheVariants as shapes
+use Rattle.termwiz_cell.specs.declared.change.LineAttribute.TheVariants.{SingleWidthLine}
 use Rattle.termwiz_surface.specs.Printable.{HasSize, IsPrintable}
 use Rattle.termwiz_surface.specs.ShownChars.{shown_chars}
 use Rattle.termwiz_surface.specs.Following.{ViewerValue}
@@ -28,23 +33,26 @@ use Rattle.termwiz_surface.specs.declared.surface.SurfaceError.TheVariants.{Scro
 use Rattle.termwiz_surface.specs.declared.view.Event.{Event}
 use Rattle.termwiz_surface.specs.declared.view.Event.TheVariants.{Changes, Draw, Copy, Flush, Resize, Follow, Show, Ask}
 use Rattle.termwiz_surface.specs.declared.view.Outcome.{Outcome}
-use Rattle.termwiz_surface.specs.declared.view.Outcome.TheVariants.{Answered, Done, Refused, Followed, Shown, Asked}
+use Rattle.termwiz_surface.specs.declared.view.Outcome.TheVariants.{Answered, Done, Refused, Followed, FollowedFull, Shown, Asked}
 
 -- a screen, what is kept beside it, and the log of the changes that were made; and what the viewer has, which Follow alone touches
 pub record State : Type 0 where
   pub screen : Screen
   pub kept : Kept
   pub log : LogValue
-  -- the number that the viewer was last given, its screen, and its own number
+  -- the number that the viewer was last given, its full screen, and its own number
   pub given : ℕ
-  pub shown : Screen
+  pub shown : FullScreen
   pub own : ℕ
 
 abbrev pub state_of : {W : Type 0} → SurfaceValue W → ViewerValue W → State
-state_of s v = record { screen = screen_of s; kept = kept_of s; log = s.log; given = v.last; shown = screen_of v.surface; own = next_number v.surface.log }
+state_of s v = record { screen = screen_of s; kept = kept_of s; log = s.log; given = v.last; shown = full_of v.surface; own = next_number v.surface.log }
 
 abbrev pub blank_screen : ℕ → ℕ → Screen
 blank_screen w h = record { width = w; height = h; rows = replicate h (replicate w blank); x = 0; y = 0; visibility = Visible; pen = default_attributes }
+
+abbrev pub blank_full_screen : ℕ → ℕ → FullScreen
+blank_full_screen w h = record { screen = blank_screen w h; title = []; shape = shapes.Default; color = Default; lines = replicate h SingleWidthLine }
 
 -- blank screens of this size, before any change
 abbrev pub first_state : ℕ → ℕ → State
@@ -53,7 +61,7 @@ first_state w h = record {
   kept = record { lengths = replicate h w; flags = replicate h no_flags; title = []; shape = None; color = Default };
   log = record { first = 0; changes = [] };
   given = 0;
-  shown = blank_screen w h;
+  shown = blank_full_screen w h;
   own = 0;
 }
 
@@ -96,18 +104,19 @@ pub record IsBroken (measure : List ℕ → ℕ) (old new : State) : Type 0 wher
   pub stored_so : (j : ℕ) → j < new.screen.height → IsStored measure new.screen.width (row_at lines j)
   pub rows : new.screen.rows ≡ map (row_of new.screen.width) lines
   pub lengths : new.kept.lengths ≡ map length lines
+  pub sides : length new.kept.flags ≡ old.screen.height
   pub log : new.log ≡ restarted old.log
   pub viewer : SameViewer old new
 
--- the viewer made these changes, and shows this screen now
-pub record CatchesUp (measure : List ℕ → ℕ) (changes : List ChangeValue) (t : Screen) (old new : State) : Type 0 where
-  pub shows : t ≡ old.screen
+-- the viewer made these changes, and shows this picture now
+pub record CatchesUp {P : Type 0} (pictures : Pictures P) (measure : List ℕ → ℕ) (changes : List ChangeValue) (t : P) (old new : State) : Type 0 where
+  pub shows : t ≡ pictures.shown (full_screen old.screen old.kept)
   -- what was due led there from what the viewer showed
-  pub known : is_known (worth old.screen.width old.screen.height) old.log old.given ≡ true → (changes ≡ due old.log old.given) × (replay measure old.shown changes ≡ t)
-  -- a repaint leads there from any screen
-  pub repaint : is_known (worth old.screen.width old.screen.height) old.log old.given ≡ false → (s : Screen) → HasSize old.screen.width old.screen.height s → replay measure s changes ≡ t
+  pub known : is_known (worth old.screen.width old.screen.height) old.log old.given ≡ true → (changes ≡ due old.log old.given) × (played pictures measure (pictures.shown old.shown) changes ≡ t)
+  -- a repaint leads there from any picture
+  pub repaint : is_known (worth old.screen.width old.screen.height) old.log old.given ≡ false → (p : P) → pictures.IsSized old.screen.width old.screen.height p → played pictures measure p changes ≡ t
   pub given : new.given ≡ next_number old.log
-  pub shown : new.shown ≡ t
+  pub shown : pictures.shown new.shown ≡ t
   -- another size takes a number too
   pub own : (new.own ≡ old.own + length changes) ⊎ (new.own ≡ old.own + 1 + length changes)
   pub surface : SameSurface old new
@@ -118,9 +127,9 @@ pub record Loses (old new : State) : Type 0 where
   pub own : new.own ≤ old.own + 2
   pub surface : SameSurface old new
 
--- how many changes a viewer may have to make at most
-abbrev pub most_due : State → ℕ
-most_due s = if is_known (worth s.screen.width s.screen.height) s.log s.given then length (due s.log s.given) else 2 * (s.screen.width * s.screen.height) + s.screen.height + 6
+-- how many changes a viewer may have to make at most, of a full surface or another one
+abbrev pub most_due : Bool → State → ℕ
+most_due full s = if is_known (worth s.screen.width s.screen.height) s.log s.given then length (due s.log s.given) else most_entries full s.screen.width s.screen.height
 
 -- what adding a list of changes answered, as an outcome
 abbrev pub outcome_of : Result ℕ SurfaceError → Outcome
@@ -147,36 +156,46 @@ pub record AllowsNothing (old : State) (outcome : Outcome) (new : State) : Type 
   pub refused : outcome ≡ Refused Memory
   pub same : new ≡ old
 
--- the event may have this outcome, and go over from old to new; width values measure by measure_of, and the surface by measure
-abbrev pub Allows : {W : Type 0} → (W → List ℕ → ℕ) → (List ℕ → ℕ) → State → Event W → Outcome → State → Type 0
-Allows measure_of measure old (Changes changes) outcome new = AllowsList measure old (map change_value changes.items) outcome new
-Allows measure_of measure old (Draw other x y) outcome new =
+-- the event may have this outcome, and go over from old to new; width values measure by measure_of, and the surface by measure; it is a full one or another one
+abbrev pub Allows : {W : Type 0} → (W → List ℕ → ℕ) → (List ℕ → ℕ) → Bool → State → Event W → Outcome → State → Type 0
+Allows measure_of measure full old (Changes changes) outcome new = AllowsList measure old (map change_value changes.items) outcome new
+Allows measure_of measure full old (Draw other x y) outcome new =
     AllowsDiff measure (measure ≡ measure_of other.widths) (need old.screen.rows (screen_of other).rows (drawn_region old.screen (screen_of other) x y)) (restoring old.screen.x old.screen.y old.screen.pen) old outcome new
     ⊎ AllowsNothing old outcome new
-Allows measure_of measure old (Copy from_x from_y w h x y) outcome new =
+Allows measure_of measure full old (Copy from_x from_y w h x y) outcome new =
     AllowsDiff measure (measure ≡ measure) (need old.screen.rows old.screen.rows (copied_region old.screen from_x from_y w h x y)) (λ l. l) old outcome new ⊎ AllowsNothing old outcome new
-Allows measure_of measure old (Flush n) Done new = new ≡ record old { log = flushed old.log n }
-Allows measure_of measure old (Resize w h) Done new = (next_number old.log + 1 < 2 ^ 64) × TakesSize w h old new
-Allows measure_of measure old (Resize w h) (Refused Numbers) new = (2 ^ 64 ≤ next_number old.log + 1) × (new ≡ old)
-Allows measure_of measure old (Resize w h) (Refused Memory) new = (next_number old.log + 1 < 2 ^ 64) × (new ≡ old)
-Allows measure_of measure old Show (Shown text cursor) new =
+Allows measure_of measure full old (Flush n) Done new = new ≡ record old { log = flushed old.log n }
+Allows measure_of measure full old (Resize w h) Done new = (next_number old.log + 1 < 2 ^ 64) × TakesSize w h old new
+Allows measure_of measure full old (Resize w h) (Refused Numbers) new = (2 ^ 64 ≤ next_number old.log + 1) × (new ≡ old)
+Allows measure_of measure full old (Resize w h) (Refused Memory) new = (next_number old.log + 1 < 2 ^ 64) × (new ≡ old)
+Allows measure_of measure full old Show (Shown text cursor) new =
     (string_bytes text ≡ shown_chars old.screen.rows old.kept.lengths) × (cursor ≡ (old.screen.x, old.screen.y)) × (new ≡ old)
-Allows measure_of measure old Show (Refused Memory) new = new ≡ old
-Allows measure_of measure old (Ask n) (Asked k changes) new =
-    (k ≡ next_number old.log) × IsStream measure old.screen old.log n (map change_value changes.items) × (new ≡ old)
-Allows measure_of measure old (Ask n) (Refused Memory) new = new ≡ old
-Allows measure_of measure old Follow (Followed n changes screen) new = (n ≡ next_number old.log) × CatchesUp measure (map change_value changes.items) (screen_value screen) old new
-Allows measure_of measure old Follow (Refused Numbers) new = Loses old new × (2 ^ 64 ≤ old.own + 1 + most_due old)
-Allows measure_of measure old Follow (Refused Memory) new = Loses old new
+Allows measure_of measure full old Show (Refused Memory) new = new ≡ old
+Allows measure_of measure full old (Ask n) (Asked k changes) new =
+    (k ≡ next_number old.log) × IsStream measure old.screen old.log n (map change_value changes.items) × (full ≡ true → IsFullStream measure (full_screen old.screen old.kept) old.log n (map change_value changes.items)) × (new ≡ old)
+Allows measure_of measure full old (Ask n) (Refused Memory) new = new ≡ old
+Allows measure_of measure full old Follow (Followed n changes screen) new =
+    (full ≡ false) × (n ≡ next_number old.log) × CatchesUp screens measure (map change_value changes.items) (screen_value screen) old new
+Allows measure_of measure full old Follow (FollowedFull n changes picture) new =
+    (full ≡ true) × (n ≡ next_number old.log) × CatchesUp full_screens measure (map change_value changes.items) (full_value picture) old new
+Allows measure_of measure full old Follow (Refused Numbers) new = Loses old new × (2 ^ 64 ≤ old.own + 1 + most_due full old)
+Allows measure_of measure full old Follow (Refused Memory) new = Loses old new
 -- no other outcome comes
-Allows measure_of measure old _ _ new = ⊥
+Allows measure_of measure full old _ _ new = ⊥
 
 -- the events may have these outcomes, and go over from old to new
-pub data Runs {W : Type 0} (measure_of : W → List ℕ → ℕ) (measure : List ℕ → ℕ) : State → List (Event W) → List Outcome → State → Type 0 where
-  Ended : (s : State) → Runs measure_of measure s [] [] s
+pub data Runs {W : Type 0} (measure_of : W → List ℕ → ℕ) (measure : List ℕ → ℕ) (full : Bool) : State → List (Event W) → List Outcome → State → Type 0 where
+  Ended : (s : State) → Runs measure_of measure full s [] [] s
   Next : (old mid new : State) (event : Event W) (outcome : Outcome) (events : List (Event W)) (outcomes : List Outcome)
-      → Allows measure_of measure old event outcome mid → Runs measure_of measure mid events outcomes new → Runs measure_of measure old (event ∷ events) (outcome ∷ outcomes) new
+      → Allows measure_of measure full old event outcome mid → Runs measure_of measure full mid events outcomes new → Runs measure_of measure full old (event ∷ events) (outcome ∷ outcomes) new
 
--- the outcomes are those of some run from blank screens
+-- the outcomes are those of some run from blank screens, of a full surface or another one
+abbrev pub IsScheduleOf : Bool → {W : Type 0} → (W → List ℕ → ℕ) → (List ℕ → ℕ) → ℕ → ℕ → List (Event W) → List Outcome → Type 0
+IsScheduleOf full measure_of measure w h events outcomes = (end : State) × Runs measure_of measure full (first_state w h) events outcomes end
+
 abbrev pub IsSchedule : {W : Type 0} → (W → List ℕ → ℕ) → (List ℕ → ℕ) → ℕ → ℕ → List (Event W) → List Outcome → Type 0
-IsSchedule measure_of measure w h events outcomes = (end : State) × Runs measure_of measure (first_state w h) events outcomes end
+IsSchedule measure_of measure w h events outcomes = IsScheduleOf false measure_of measure w h events outcomes
+
+-- of a full surface
+abbrev pub IsFullSchedule : {W : Type 0} → (W → List ℕ → ℕ) → (List ℕ → ℕ) → ℕ → ℕ → List (Event W) → List Outcome → Type 0
+IsFullSchedule measure_of measure w h events outcomes = IsScheduleOf true measure_of measure w h events outcomes

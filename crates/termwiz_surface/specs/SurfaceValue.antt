@@ -1,5 +1,5 @@
 -- What contracts see of a surface, and the form that it keeps.
-use Rattle.std.specs.Prelude.{◌≡◌, ℕ, suc, ◌<◌, ◌≤◌, ◌^◌, true, nat_lt, Option, List, [], ◌∷◌, map, length}
+use Rattle.std.specs.Prelude.{◌≡◌, ℕ, suc, ◌<◌, ◌≤◌, ◌^◌, Bool, true, nat_lt, Option, List, [], ◌∷◌, map, length}
 use Rattle.unicode_segmentation.specs.Grapheme.{graphemes}
 use Rattle.termwiz_cell.specs.Attributes.{Attributes}
 use Rattle.termwiz_cell.specs.CellValue.{CellValue, half, is_wide, clean}
@@ -29,6 +29,8 @@ pub record SurfaceValue (W : Type 0) : Type 0 where
   -- the cursor's shape, where one was set, and its colour
   pub shape : Option CursorShape
   pub color : ColorAttribute
+  -- its repaints carry the title, the cursor's shape and colour and the sizes of lines too
+  pub full : Bool
   pub log : LogValue
 
 module _ {W : Type 0} where
@@ -64,6 +66,8 @@ pub record IsSound {W : Type 0} (measure : List ℕ → ℕ) (s : SurfaceValue W
   pub fits : s.width < 2 ^ 32
   pub fits_height : s.height < 2 ^ 32
   pub full : length s.lines ≡ s.height
+  -- each row has flags
+  pub sides : length s.flags ≡ s.height
   pub column : s.x ≤ s.width
   pub row : s.y < s.height
   pub stored_so : (j : ℕ) → j < s.height → IsStored measure s.width (row_at s.lines j)
@@ -72,18 +76,20 @@ pub record IsSound {W : Type 0} (measure : List ℕ → ℕ) (s : SurfaceValue W
   pub regions : regions_fit s.height s.log.changes ≡ true
 
 module _ {W : Type 0} where
-  -- the same width value, size and log
+  -- the same width value, size, kind and log
   pub record SameFrame (old new : SurfaceValue W) : Type 0 where
     pub widths : new.widths ≡ old.widths
     pub width : new.width ≡ old.width
     pub height : new.height ≡ old.height
+    pub full : new.full ≡ old.full
     pub log : new.log ≡ old.log
 
-  -- the surface has this screen now, keeps this beside it, and has its old width value, size and log
+  -- the surface has this screen now, keeps this beside it, and has its old width value, size, kind and log
   pub record Draws (old : SurfaceValue W) (screen : Screen) (kept : Kept) (new : SurfaceValue W) : Type 0 where
     pub widths : new.widths ≡ old.widths
     pub width : new.width ≡ old.width
     pub height : new.height ≡ old.height
+    pub full : new.full ≡ old.full
     pub log : new.log ≡ old.log
     pub screen_is : screen_of new ≡ screen
     pub kept_is : kept_of new ≡ kept

@@ -1,6 +1,8 @@
 //! Laws of the definitions that contracts cite, each on a function that does nothing.
 ghost use Rattle.termwiz_surface.specs.FollowingLaws.{ChangesLeadOn, FlushesKeepLeading, LeadsWhereItIs, RestartsKeepLeading, StreamsLeadOn};
 ghost use Rattle.termwiz_surface.specs.DiffLaws.{CutIsInside, DiffGivesBand, DiffGivesRegion, DiffGivesRows, DrawingRestores, LinesArePrintable, NeedGivesRegion, NeedGivesRows, NeedIs, PrintsAreDiff, RegionIsDiff};
+ghost use Rattle.termwiz_surface.specs.FullLaws.{ChangesMakeFullScreens, FullRepaintGivesScreen, FullRepaintIsShort, FullStepsAreSo, ResizedKeepsLines};
+ghost use Rattle.termwiz_surface.specs.Picture.{full_screens, screens};
 ghost use Rattle.termwiz_surface.specs.Fewest.{FewestNarrowPrints, FewestPrints};
 ghost use Rattle.termwiz_surface.specs.RepaintLaws.{LineEntriesGiveRow, RepaintGivesScreen, RepaintIsShort};
 ghost use Rattle.termwiz_surface.specs.SequenceLaws.{MovesLeadThere, TextsMoveAlike};
@@ -14,11 +16,29 @@ pub fn repaint_laws()
 
 /// A viewer that follows a surface still does after whatever happens to the surface: changes, flushes, want of memory and another size; and what it is answered leads it to the surface's screen. `Follows` is made of what these laws speak of.
 pub fn following_laws()
-    ensures same { LeadsWhereItIs }
-    ensures changes { ChangesLeadOn }
-    ensures streams { StreamsLeadOn }
-    ensures flushes { FlushesKeepLeading }
-    ensures restarts { RestartsKeepLeading }
+    ensures same { LeadsWhereItIs screens }
+    ensures changes { ChangesLeadOn screens }
+    ensures streams { StreamsLeadOn screens }
+    ensures flushes { FlushesKeepLeading screens }
+    ensures restarts { RestartsKeepLeading screens }
+{}
+
+/// The same of full surfaces, and what leads a viewer to their full screens.
+pub fn full_following_laws()
+    ensures same { LeadsWhereItIs full_screens }
+    ensures changes { ChangesLeadOn full_screens }
+    ensures streams { StreamsLeadOn full_screens }
+    ensures flushes { FlushesKeepLeading full_screens }
+    ensures restarts { RestartsKeepLeading full_screens }
+{}
+
+/// What changes make of full screens, and what a full repaint does when it is replayed.
+pub fn full_repaint_laws()
+    ensures step { FullStepsAreSo }
+    ensures changes { ChangesMakeFullScreens }
+    ensures resized { ResizedKeepsLines }
+    ensures gives { FullRepaintGivesScreen }
+    ensures short { FullRepaintIsShort }
 {}
 
 /// What a diff has to print: in words, and what it gives where it is painted.

@@ -1,11 +1,9 @@
 //! Surfaces.
-ghost use Rattle.std.specs.Prelude.{◌≡◌, ℕ, true, ◌+◌, ◌-◌, ◌*◌, ◌<◌, ◌≤◌, ◌^◌, List, [], ◌∷◌, length, map, vec_len, replicate, string_bytes, slice_set, get_or, None, false, not, ◌==◌, IsOk, IsOkAnd, IfOk, OnOk, OnErr};
+ghost use Rattle.std.specs.Prelude.{◌≡◌, true, ◌+◌, ◌-◌, ◌*◌, ◌<◌, ◌≤◌, ◌^◌, List, [], ◌∷◌, length, map, vec_len, replicate, string_bytes, slice_set, get_or, None, false, IsOk, IfOk, OnOk, OnErr};
 ghost use Rattle.termwiz_cell.specs.Attributes.{default_attributes, with_background};
 ghost use Rattle.termwiz_cell.specs.CellValue.{blank};
 ghost use Rattle.termwiz_cell.specs.Width.{unversioned};
 ghost use Rattle.termwiz_cell.specs.declared.change.CursorVisibility.TheVariants.{Visible};
-ghost use Rattle.termwiz_surface.specs.Print.{down, put, wrapped, print_one, one_kept, print, columns_left, down_kept, put_kept, wrapped_kept, print_kept};
-ghost use Rattle.termwiz_surface.specs.Printing.{AreNarrow, IsNarrowRun, Prints, PrintsSome};
 ghost use Rattle.termwiz_surface.specs.Clear.{clear_eol, clear_eos, clear_screen, eol_lengths, eos_lengths, screen_lengths};
 ghost use Rattle.termwiz_surface.specs.Place.{placed};
 ghost use Rattle.termwiz_surface.specs.Step.{step, step_kept, replay, replay_kept, region_fits, regions_fit};
@@ -15,24 +13,20 @@ ghost use Rattle.termwiz_line.specs.LineFlags.{no_flags};
 ghost use Rattle.termwiz_cell.specs.declared.color.ColorAttribute.TheVariants.{Default};
 ghost use Rattle.termwiz_cell.specs.AttributeChangeValue.{attribute_change_value, with_attribute};
 ghost use Rattle.termwiz_cell.specs.ChangeValue.{change_value};
-ghost use Rattle.std.specs.List.{All, list_all};
-ghost use Rattle.termwiz_text.specs.Plain.{is_plain};
-ghost use Rattle.termwiz_cell.specs.Attributes.{needs_box};
-ghost use Rattle.unicode_segmentation.specs.Grapheme.{graphemes};
+ghost use Rattle.std.specs.List.{All};
 ghost use Rattle.termwiz_surface.specs.ShownChars.{shown_chars};
 ghost use Rattle.termwiz_surface.specs.ScreenValue.{screen_value};
-ghost use Rattle.termwiz_surface.specs.SurfaceValue.{IsMeasured, IsSound};
-ghost use Rattle.termwiz_surface.specs.Adding.{Adds, Makes, Refuses, with_log};
+ghost use Rattle.termwiz_surface.specs.SurfaceValue.{IsSound};
+ghost use Rattle.termwiz_surface.specs.Adding.{Adds, Makes, Refuses};
 ghost use Rattle.termwiz_surface.specs.Following.{Follows, ViewerValue};
-ghost use Rattle.termwiz_surface.specs.Log.{due, flushed, is_known, next_number, worth};
-ghost use Rattle.std.specs.Cow.{IsOwnedSlice};
-ghost use Rattle.termwiz_surface.specs.Stream.{IsStream, Lends, stream_of};
+ghost use Rattle.termwiz_surface.specs.Log.{next_number};
 ghost use Rattle.termwiz_surface.specs.Printable.{HasSize, IsPrintable};
-ghost use Rattle.termwiz_surface.specs.Repaint.{repaint};
-ghost use Rattle.termwiz_surface.specs.Screen.{Screen as SeenScreen};
+ghost use Rattle.termwiz_surface.specs.FullScreen.{full_of, HasFullSize};
 
+mod answers;
 mod copies;
 mod diff;
+mod full;
 mod lines;
 mod log;
 mod pen;
@@ -45,30 +39,27 @@ mod rows;
 mod screen;
 mod shown;
 
-use log::{Log, worth};
+pub use full::FullScreen;
+use log::Log;
 use pen::{background_only, blank_with};
 use place::{column_at, row_at};
-use print::{Piece, begins_plain, printed_piece, split_narrow_run};
 use region::regions_fit;
-use repaint::{all_rows, framed};
 use rows::{
-    blank_rows, chars_of, fill_row, fill_rows, paint_row, paint_run, resized_lines,
-    scroll_region_down, scroll_region_up, scroll_rows, set_line_attribute,
+    blank_rows, chars_of, fill_row, fill_rows, resized_lines, scroll_region_down, scroll_region_up,
+    set_line_attribute,
 };
 pub use screen::Screen;
 use std::alloc::{AllocError, Global};
-use std::borrow::CowSlice;
 use std::collections::VecDeque;
 use std::marker::Model;
 use std::slice;
-use termwiz_cell::cell::{AttributeChange, Cell, CellAttributes};
+use termwiz_cell::cell::{AttributeChange, CellAttributes};
 use termwiz_cell::change::{
     Change, CursorShape, CursorVisibility, LineAttribute, Position, SequenceNo,
 };
 use termwiz_cell::color::ColorAttribute;
 use termwiz_cell::emoji::Widths;
 use termwiz_line::line::line::Line;
-use termwiz_text::split_first_grapheme;
 use thiserror::Error;
 
 /// Why a list of changes, or another size, is refused. The errors have numbers, and are told in this order.
@@ -99,9 +90,11 @@ impl From<AllocError> for SurfaceError {
 
 /// What a terminal's screen holds, with no terminal behind it: rows of cells, a cursor, whether it is shown, and the pen, which is the attributes of coming text.
 ///
-/// Changes go in, one by `add_change` or several as one list by `add_changes`: texts, pens, clears, moves and scrolls. The surface makes them in order, and logs them by their numbers. Beside its screen it keeps a title, the cursor's shape and colour, and how large each line is shown; no method reads the colour back.
+/// Changes go in, one by `add_change` or several as one list by `add_changes`: texts, pens, clears, moves and scrolls. The surface makes them in order, and logs them by their numbers. Beside its screen it keeps a title, the cursor's shape and colour, and how large each line is shown; of the colour `full_screen` alone tells.
 ///
-/// A stream of changes comes out: `get_changes` lends a viewer the changes since the number that it was last given, and answers with a repaint, which brings any screen of this size to this one, where the log no longer has them or they are too many. `flush_changes_older_than` forgets the changes that all viewers have: without it the log grows with each change. `screen` copies what the surface shows.
+/// A stream of changes comes out: `get_changes` lends a viewer the changes since the number that it was last given, and answers with a repaint, which brings any screen of this size to this one, where the log no longer has them or they are too many. `flush_changes_older_than` forgets the changes that all viewers have: without it the log grows with each change. `screen` copies what the surface shows, and `full_screen` what it keeps beside it too.
+///
+/// A surface that `new_full` makes is a full one: its repaints bring all of that as well, so that its viewers have it whatever they missed. Those of another one bring the screen, and leave some of the rest.
 ///
 /// A viewer is whoever applies that stream: one that writes to a terminal, one at the other end of a connection, or a second surface. It has to measure texts as this surface does, by the width value that it was made with.
 ///
@@ -120,6 +113,7 @@ pub struct Surface<W: Widths> {
     title: String,
     shape: Option<CursorShape>,
     color: ColorAttribute,
+    full: bool,
     log: Log,
 }
 
@@ -132,9 +126,9 @@ impl<W: Widths> Model for Surface<W> {
 
     ghost Value = { SurfaceValue W };
 
-    ghost view = { λ s. record { widths = s.widths; width = s.width; height = s.height; lines = cells_of s.rows.items; flags = row_flags s.rows.items; x = s.x; y = s.y; visibility = s.visibility; pen = s.pen; title = string_bytes s.title; shape = s.shape; color = s.color; log = s.log } };
+    ghost view = { λ s. record { widths = s.widths; width = s.width; height = s.height; lines = cells_of s.rows.items; flags = row_flags s.rows.items; x = s.x; y = s.y; visibility = s.visibility; pen = s.pen; title = string_bytes s.title; shape = s.shape; color = s.color; full = s.full; log = s.log } };
 
-    ghost invariant = { λ s. IsSound (unversioned (W.width_of s.widths)) (record { widths = s.widths; width = s.width; height = s.height; lines = cells_of s.rows.items; flags = row_flags s.rows.items; x = s.x; y = s.y; visibility = s.visibility; pen = s.pen; title = string_bytes s.title; shape = s.shape; color = s.color; log = s.log }) × AreVectors s.rows.items };
+    ghost invariant = { λ s. IsSound (unversioned (W.width_of s.widths)) (record { widths = s.widths; width = s.width; height = s.height; lines = cells_of s.rows.items; flags = row_flags s.rows.items; x = s.x; y = s.y; visibility = s.visibility; pen = s.pen; title = string_bytes s.title; shape = s.shape; color = s.color; full = s.full; log = s.log }) × AreVectors s.rows.items };
 }
 
 /// A copy has the same screen, stored rows, title, cursor's shape and colour, log and number.
@@ -159,6 +153,7 @@ impl<W: Widths> Clone for Surface<W> {
             title,
             shape: self.shape,
             color: self.color,
+            full: self.full,
             log,
         })
     }
@@ -178,7 +173,40 @@ impl<W: Widths> Surface<W> {
         requires some_row { 0 < height }
         requires fits { width < 2 ^ 32 }
         requires fits_height { height < 2 ^ 32 }
-        ensures { IfOk result (λ s. s ≡ record { widths = widths; width = width; height = height; lines = replicate height (replicate width blank); flags = replicate height no_flags; x = 0; y = 0; visibility = Visible; pen = default_attributes; title = []; shape = None; color = Default; log = record { first = 0; changes = [] } }) }
+        ensures { IfOk result (λ s. s ≡ record { widths = widths; width = width; height = height; lines = replicate height (replicate width blank); flags = replicate height no_flags; x = 0; y = 0; visibility = Visible; pen = default_attributes; title = []; shape = None; color = Default; full = false; log = record { first = 0; changes = [] } }) }
+    {
+        Surface::blank(alloc, width, height, widths, false)
+    }
+
+    /// A surface as `new` makes it, whose repaints carry all that is kept beside the screen too: the title, the cursor's shape and colour, and how each row is shown. A viewer of it shows all of this, as `full_screen` tells.
+    pub fn new_full(
+        alloc: Global,
+        width: usize,
+        height: usize,
+        widths: W,
+    ) -> Result<Surface<W>, AllocError>
+        requires some_column { 0 < width }
+        requires some_row { 0 < height }
+        requires fits { width < 2 ^ 32 }
+        requires fits_height { height < 2 ^ 32 }
+        ensures { IfOk result (λ s. s ≡ record { widths = widths; width = width; height = height; lines = replicate height (replicate width blank); flags = replicate height no_flags; x = 0; y = 0; visibility = Visible; pen = default_attributes; title = []; shape = None; color = Default; full = true; log = record { first = 0; changes = [] } }) }
+    {
+        Surface::blank(alloc, width, height, widths, true)
+    }
+
+    /// A blank surface, whose repaints are full ones or not.
+    pub(crate) fn blank(
+        alloc: Global,
+        width: usize,
+        height: usize,
+        widths: W,
+        full: bool,
+    ) -> Result<Surface<W>, AllocError>
+        requires some_column { 0 < width }
+        requires some_row { 0 < height }
+        requires fits { width < 2 ^ 32 }
+        requires fits_height { height < 2 ^ 32 }
+        ensures { IfOk result (λ s. s ≡ record { widths = widths; width = width; height = height; lines = replicate height (replicate width blank); flags = replicate height no_flags; x = 0; y = 0; visibility = Visible; pen = default_attributes; title = []; shape = None; color = Default; full = full; log = record { first = 0; changes = [] } }) }
     {
         let rows = blank_rows(alloc, width, height)?;
         Ok(Surface {
@@ -194,6 +222,7 @@ impl<W: Widths> Surface<W> {
             title: String::new(alloc),
             shape: None,
             color: ColorAttribute::Default,
+            full,
             log: Log::new(alloc),
         })
     }
@@ -206,6 +235,8 @@ impl<W: Widths> Surface<W> {
         ensures sound { IsSound (unversioned (W.width_of self.now.widths)) self.now }
         // Its screen has its size, so repaints can be replayed on it.
         ensures sized { HasSize self.now.width self.now.height (screen_of self.now) }
+        // So has its full screen.
+        ensures fully_sized { HasFullSize self.now.width self.now.height (full_of self.now) }
         // Each row of the screen has a half behind each wide cell, and each visible cell is one grapheme with the width that is measured for it.
         ensures printable { IsPrintable (unversioned (W.width_of self.now.widths)) (screen_of self.now) }
     {
@@ -217,6 +248,13 @@ impl<W: Widths> Surface<W> {
         ensures { result ≡ self.now.widths }
     {
         self.widths
+    }
+
+    /// Whether its repaints carry all that is kept beside the screen.
+    pub(crate) fn is_full(&self) -> bool
+        ensures { result ≡ self.now.full }
+    {
+        self.full
     }
 
     /// The cursor's column and row, from 0. The column is the width where a wrap is pending.
@@ -279,138 +317,6 @@ impl<W: Widths> Surface<W> {
             visibility: self.visibility,
             pen,
         })
-    }
-
-    fn line_feed(&mut self) -> Result<(), AllocError>
-        ensures ok { OnOk result (Draws self.old (down (screen_of self.old)) (down_kept (screen_of self.old) (kept_of self.old)) self.new) }
-        ensures err { OnErr result (self.new ≡ self.old) }
-    {
-        if self.y + 1 < self.height {
-            self.y += 1;
-            return Ok(());
-        }
-        scroll_rows(&mut self.rows, self.width)?;
-        Ok(())
-    }
-
-    #[inline(always)]
-    fn put(&mut self, cell: Cell) -> Result<(), AllocError>
-        requires inside { self.old.x < self.old.width }
-        requires measured { IsMeasured (unversioned (W.width_of self.old.widths)) cell }
-        ensures ok { OnOk result (let s = screen_of self.old in Draws self.old (put s cell) (put_kept s cell (kept_of self.old)) self.new) }
-        ensures err { OnErr result (self.new ≡ self.old) }
-    {
-        let end = self.x + cell.width();
-        paint_row(&mut self.rows, self.width, self.x, self.y, cell)?;
-        self.x = end.min(self.width);
-        Ok(())
-    }
-
-    // Goes to the next row, where a wrap is pending.
-    fn wrap(&mut self) -> Result<(), AllocError>
-        ensures ok { OnOk result (Draws self.old (wrapped (screen_of self.old)) (wrapped_kept (screen_of self.old) (kept_of self.old)) self.new) }
-        ensures inside { OnOk result (self.new.x < self.new.width) }
-        ensures err { OnErr result (self.new ≡ self.old) }
-    {
-        if self.x >= self.width {
-            self.line_feed()?;
-            self.x = 0;
-        }
-        Ok(())
-    }
-
-    fn print_one(&mut self, grapheme: &str) -> Result<(), AllocError>
-        requires { graphemes true grapheme.now ≡ grapheme.now ∷ [] }
-        ensures ok { OnOk result (let f = unversioned (W.width_of self.old.widths) in let s = screen_of self.old in Draws self.old (print_one f s grapheme.now) (one_kept f s grapheme.now (kept_of self.old)) self.new) }
-        ensures err { OnErr result (SameFrame self.old self.new) }
-    {
-        match printed_piece(self.alloc, &self.widths, grapheme, &self.pen)? {
-            Piece::CarriageReturn => self.x = 0,
-            Piece::LineFeed => self.line_feed()?,
-            Piece::CarriageReturnLineFeed => {
-                self.line_feed()?;
-                self.x = 0;
-            }
-            Piece::Cell(cell) => {
-                self.wrap()?;
-                self.put(cell)?;
-            }
-        }
-        Ok(())
-    }
-
-    // How many characters a run may have: what fits in the row in which the first one comes, and none where the pen takes memory.
-    fn run_limit(&self) -> usize
-        ensures fits { result ≤ columns_left (screen_of self.now) }
-        ensures unboxed { 0 < result → needs_box self.now.pen ≡ false }
-    {
-        if self.pen.unboxed_copy().is_none() {
-            0
-        } else if self.x < self.width {
-            self.width - self.x
-        } else {
-            self.width
-        }
-    }
-
-    // Prints a run of ASCII in the cursor's row.
-    fn put_run(&mut self, run: &str) -> Result<(), AllocError>
-        requires plain { list_all is_plain run.now ≡ true }
-        requires narrow { AreNarrow (unversioned (W.width_of self.old.widths)) run.now }
-        requires unboxed { needs_box self.old.pen ≡ false }
-        requires fits { self.old.x + length run.now ≤ self.old.width }
-        ensures ok { OnOk result (Prints (unversioned (W.width_of self.old.widths)) self.old (map (λ c. c ∷ []) run.now) self.new) }
-        ensures err { OnErr result (self.new ≡ self.old) }
-    {
-        paint_run(&mut self.rows, self.x, self.y, run, &self.pen)?;
-        self.x += run.len();
-        Ok(())
-    }
-
-    // Prints a run of ASCII in the row in which its first character comes.
-    fn print_run(&mut self, run: &str) -> Result<(), AllocError>
-        requires some { 0 < length run.now }
-        requires plain { list_all is_plain run.now ≡ true }
-        requires narrow { AreNarrow (unversioned (W.width_of self.old.widths)) run.now }
-        requires unboxed { needs_box self.old.pen ≡ false }
-        requires fits { length run.now ≤ columns_left (screen_of self.old) }
-        ensures ok { OnOk result (Prints (unversioned (W.width_of self.old.widths)) self.old (map (λ c. c ∷ []) run.now) self.new) }
-        ensures err { OnErr result (SameFrame self.old self.new) }
-    {
-        self.wrap()?;
-        self.put_run(run)?;
-        Ok(())
-    }
-
-    // Prints the run of ASCII that the text begins with, or else its first grapheme, and gives what is left.
-    fn print_first<'a>(&mut self, text: &'a str) -> Result<&'a str, AllocError>
-        requires { 0 < length text.now }
-        ensures ok { IfOk result (λ rest. PrintsSome (unversioned (W.width_of self.old.widths)) self.old text.now rest.now self.new) }
-        ensures err { OnErr result (SameFrame self.old self.new) }
-    {
-        if begins_plain(text) {
-            let (run, rest) = split_narrow_run(&self.widths, text, self.run_limit());
-            if !run.is_empty() {
-                self.print_run(run)?;
-                return Ok(rest);
-            }
-        }
-        let Some((grapheme, rest)) = split_first_grapheme(text) else {
-            unreachable!();
-        };
-        self.print_one(grapheme)?;
-        Ok(rest)
-    }
-
-    fn print_text(&mut self, text: &str) -> Result<(), AllocError>
-        ensures ok { OnOk result (let f = unversioned (W.width_of self.old.widths) in let s = screen_of self.old in Draws self.old (print f s text.now) (print_kept f s text.now (kept_of self.old)) self.new) }
-        ensures err { OnErr result (SameFrame self.old self.new) }
-    {
-        let mut rest = text;
-        'pieces: while !rest.is_empty() {
-            rest = self.print_first(rest)?;
-        }
-        Ok(())
     }
 
     // Clears from the cursor to the end of its row, with a pen of this background from then on. The clears stand apart, so that the way of a text is short.
@@ -631,66 +537,5 @@ impl<W: Widths> Surface<W> {
             return Err(SurfaceError::Memory);
         }
         Ok(told)
-    }
-
-    /// Whether there are changes that a viewer with this number lacks: whether it isn't the coming change's.
-    pub fn has_changes(&self, seq: SequenceNo) -> bool
-        ensures { result ≡ not (seq == next_number self.now.log) }
-    {
-        seq != self.log.next_number()
-    }
-
-    /// Forgets the changes before this number, where it is from the first number of the log on up to the coming change's. Viewers with this number and greater ones are answered as before.
-    pub fn flush_changes_older_than(&mut self, seq: SequenceNo)
-        ensures flushes { self.new ≡ with_log self.old (flushed self.old.log seq) }
-        // The answer for this number, and for each greater one, is as it was.
-        ensures answers { (n most : ℕ) → seq ≤ n → (is_known most self.new.log n ≡ is_known most self.old.log n) × (due self.new.log n ≡ due self.old.log n) }
-        // Each viewer that follows the surface goes on to.
-        ensures followed { (v : ViewerValue W) → Follows (λ widths. unversioned (W.width_of widths)) v self.old → Follows (λ widths. unversioned (W.width_of widths)) v self.new }
-    {
-        self.log.flush(seq);
-    }
-
-    /// The number of the coming change, and what a viewer that was last given this number has to apply.
-    ///
-    /// The changes from that number on are lent, without a copy, where the log has them and they are worth sending. Else the answer is a repaint, which brings any screen of this size to this one: so for 0, which is the number of a viewer that was given none, for a number before the log's first one, as one that was flushed is, for one past the coming change's, and where more changes are due than 3 plus six fifths of the number of cells. A delta takes no memory.
-    ///
-    /// A repaint also sets the title, unless it is empty, and the shape of a visible cursor, where one was set. It leaves the cursor's colour and the sizes of lines.
-    pub fn get_changes(
-        &self,
-        seq: SequenceNo,
-    ) -> Result<(SequenceNo, CowSlice<'_, Change>), AllocError>
-        ensures number { IfOk result (λ answer. answer.0 ≡ next_number self.now.log) }
-        ensures due { is_known (worth self.now.width self.now.height) self.now.log seq ≡ true → IsOkAnd result (λ answer. Lends answer.1 (due self.now.log seq)) }
-        // Replayed on any screen of that size, whatever it shows, a repaint gives this one: rows, cursor, visibility and pen.
-        ensures repaint { is_known (worth self.now.width self.now.height) self.now.log seq ≡ false → IfOk result (λ answer. (s : SeenScreen) → HasSize self.now.width self.now.height s → replay (unversioned (W.width_of self.now.widths)) s (stream_of answer.1) ≡ screen_of self.now) }
-        ensures short { is_known (worth self.now.width self.now.height) self.now.log seq ≡ false → IfOk result (λ answer. length (stream_of answer.1) ≤ 2 * (self.now.width * self.now.height) + self.now.height + 6) }
-        // No scroll in the answer has a region that goes past the last row.
-        ensures regions { IfOk result (λ answer. regions_fit self.now.height (stream_of answer.1) ≡ true) }
-        ensures owned { is_known (worth self.now.width self.now.height) self.now.log seq ≡ false → IfOk result (λ answer. IsOwnedSlice answer.1) }
-        // Both kinds of answer in one: what leads on a viewer that is led, by `following_laws`.
-        ensures stream { IfOk result (λ answer. IsStream (unversioned (W.width_of self.now.widths)) (screen_of self.now) self.now.log seq (stream_of answer.1)) }
-    {
-        let number = self.log.next_number();
-        match self.log.due(seq, worth(self.width, self.height)) {
-            Some(due) => Ok((number, CowSlice::Borrowed(due))),
-            None => Ok((number, CowSlice::Owned(self.repaint()?))),
-        }
-    }
-
-    fn repaint(&self) -> Result<Vec<Change>, AllocError>
-        ensures { IfOk result (λ changes. map change_value changes.items ≡ repaint (screen_of self.now) self.now.title self.now.shape) }
-    {
-        let padding = Cell::blank();
-        let title = self.title.as_str();
-        let drawn = all_rows(self.alloc, &self.rows, self.width, &padding, title)?;
-        framed(
-            drawn,
-            self.x,
-            self.y,
-            self.visibility,
-            self.shape,
-            &self.pen,
-        )
     }
 }

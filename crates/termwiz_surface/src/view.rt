@@ -5,11 +5,11 @@ ghost use Rattle.termwiz_cell.specs.ChangeValue.{change_value};
 ghost use Rattle.std.specs.List.{All};
 ghost use Rattle.termwiz_cell.specs.Width.{unversioned};
 ghost use Rattle.termwiz_surface.specs.Following.{Follows, ViewerValue};
-ghost use Rattle.termwiz_surface.specs.Schedule.{Allows, IsInRange, IsSchedule, outcome_of, state_of};
+ghost use Rattle.termwiz_surface.specs.Schedule.{Allows, IsFullSchedule, IsInRange, IsSchedule, IsScheduleOf, outcome_of, state_of};
 
 mod viewer;
 
-use crate::surface::{Screen, Surface, SurfaceError};
+use crate::surface::{FullScreen, Screen, Surface, SurfaceError};
 use std::alloc::{AllocError, Global};
 use std::borrow::CowSlice;
 use termwiz_cell::change::{Change, SequenceNo};
@@ -48,6 +48,8 @@ pub enum Outcome {
     Refused(SurfaceError),
     /// The surface's number, the changes that the viewer made, and what it shows then.
     Followed(SequenceNo, Vec<Change>, Screen),
+    /// The number of a full surface, the changes that the viewer made, and its full screen then.
+    FollowedFull(SequenceNo, Vec<Change>, FullScreen),
     /// The texts of the stored rows, each with a line feed, and the cursor's column and row.
     Shown(String, (usize, usize)),
     /// The surface's number, and what a viewer that was last given the asked number has to apply.
@@ -69,7 +71,44 @@ pub fn run<W: Widths>(
     requires sizes { All IsInRange events.items }
     ensures { IfOk result (λ outcomes. IsSchedule (λ widths. unversioned (W.width_of widths)) (unversioned (W.width_of widths)) width height events.items outcomes.items) }
 {
-    let mut surface = Surface::new(alloc, width, height, widths)?;
+    run_on(alloc, widths, width, height, false, events)
+}
+
+/// Runs the events as `run` does, on a surface whose repaints carry all that is kept beside the screen. What the viewer shows is told by its full screen.
+pub fn run_full<W: Widths>(
+    alloc: Global,
+    widths: W,
+    width: usize,
+    height: usize,
+    events: Vec<Event<W>>,
+) -> Result<Vec<Outcome>, AllocError>
+    requires some_column { 0 < width }
+    requires some_row { 0 < height }
+    requires fits { width < 2 ^ 32 }
+    requires fits_height { height < 2 ^ 32 }
+    requires sizes { All IsInRange events.items }
+    ensures { IfOk result (λ outcomes. IsFullSchedule (λ widths. unversioned (W.width_of widths)) (unversioned (W.width_of widths)) width height events.items outcomes.items) }
+{
+    run_on(alloc, widths, width, height, true, events)
+}
+
+// Runs the events on a full surface, or on another one.
+fn run_on<W: Widths>(
+    alloc: Global,
+    widths: W,
+    width: usize,
+    height: usize,
+    full: bool,
+    events: Vec<Event<W>>,
+) -> Result<Vec<Outcome>, AllocError>
+    requires some_column { 0 < width }
+    requires some_row { 0 < height }
+    requires fits { width < 2 ^ 32 }
+    requires fits_height { height < 2 ^ 32 }
+    requires sizes { All IsInRange events.items }
+    ensures { IfOk result (λ outcomes. IsScheduleOf full (λ widths. unversioned (W.width_of widths)) (unversioned (W.width_of widths)) width height events.items outcomes.items) }
+{
+    let mut surface = Surface::blank(alloc, width, height, widths, full)?;
     let mut viewer = Viewer::new(alloc, &surface)?;
     let mut outcomes = Vec::new(alloc);
     for event in events {
@@ -87,8 +126,9 @@ fn serve<W: Widths>(
 ) -> Result<Outcome, AllocError>
     requires range { IsInRange event }
     requires follows { Follows (λ widths. unversioned (W.width_of widths)) viewer.old surface.old }
-    ensures step { IfOk result (λ outcome. Allows (λ widths. unversioned (W.width_of widths)) (unversioned (W.width_of surface.old.widths)) (state_of surface.old viewer.old) event outcome (state_of surface.new viewer.new)) }
+    ensures step { IfOk result (λ outcome. Allows (λ widths. unversioned (W.width_of widths)) (unversioned (W.width_of surface.old.widths)) surface.old.full (state_of surface.old viewer.old) event outcome (state_of surface.new viewer.new)) }
     ensures widths { OnOk result (surface.new.widths ≡ surface.old.widths) }
+    ensures full { OnOk result (surface.new.full ≡ surface.old.full) }
     ensures follows { OnOk result (Follows (λ widths. unversioned (W.width_of widths)) viewer.new surface.new) }
 {
     match event {
@@ -132,7 +172,7 @@ fn follow<W: Widths>(
     viewer: &mut Viewer<W>,
 ) -> Result<Outcome, AllocError>
     requires { Follows (λ widths. unversioned (W.width_of widths)) viewer.old surface.now }
-    ensures step { IfOk result (λ outcome. Allows (λ widths. unversioned (W.width_of widths)) (unversioned (W.width_of surface.now.widths)) (state_of surface.now viewer.old) Event.Follow outcome (state_of surface.now viewer.new)) }
+    ensures step { IfOk result (λ outcome. Allows (λ widths. unversioned (W.width_of widths)) (unversioned (W.width_of surface.now.widths)) surface.now.full (state_of surface.now viewer.old) Event.Follow outcome (state_of surface.now viewer.new)) }
     ensures follows { OnOk result (Follows (λ widths. unversioned (W.width_of widths)) viewer.new surface.now) }
 {
     match viewer.fetch(surface) {
@@ -140,6 +180,10 @@ fn follow<W: Widths>(
             let told = copied(alloc, CowSlice::Borrowed(changes.as_slice()))?;
             match viewer.accept(number, changes) {
                 Ok(number) => {
+                    if surface.is_full() {
+                        let shown = viewer.surface().full_screen()?;
+                        return Ok(Outcome::FollowedFull(number, told, shown));
+                    }
                     let screen = viewer.surface().screen()?;
                     Ok(Outcome::Followed(number, told, screen))
                 }
@@ -155,7 +199,7 @@ fn follow<W: Widths>(
 
 // The changes from a number on, as a list of their own.
 fn ask<W: Widths>(alloc: Global, surface: &Surface<W>, seq: SequenceNo) -> Outcome
-    ensures { (viewer : ViewerValue W) → Allows (λ widths. unversioned (W.width_of widths)) (unversioned (W.width_of surface.now.widths)) (state_of surface.now viewer) (Event.Ask seq) result (state_of surface.now viewer) }
+    ensures { (viewer : ViewerValue W) → Allows (λ widths. unversioned (W.width_of widths)) (unversioned (W.width_of surface.now.widths)) surface.now.full (state_of surface.now viewer) (Event.Ask seq) result (state_of surface.now viewer) }
 {
     match surface.get_changes(seq) {
         Ok((number, changes)) => match copied(alloc, changes) {

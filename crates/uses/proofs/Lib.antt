@@ -1,1 +1,2 @@
 mod ClearedRow
+mod HeadingRow

@@ -1,4 +1,5 @@
 pub mod Status
 pub mod LastRow
 pub mod Prompt
+pub mod Headings
 pub mod Words

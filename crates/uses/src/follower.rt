@@ -10,7 +10,7 @@ use std::alloc::{AllocError, Global};
 use std::marker::Model;
 use termwiz_cell::change::{Change, SEQ_ZERO, SequenceNo};
 use termwiz_cell::emoji::Widths;
-use termwiz_surface::laws::following_laws;
+use termwiz_surface::laws::{following_laws, full_following_laws, full_repaint_laws};
 use termwiz_surface::surface::{Surface, SurfaceError};
 use termwiz_surface::view::copied;
 
@@ -67,8 +67,11 @@ impl<W: Widths> Follower<W> {
         ensures width { self.new.surface.width ≡ self.old.surface.width }
         ensures height { self.new.surface.height ≡ self.old.surface.height }
     {
-        // An answer leads a screen of the surface's size to the surface's, from where the follower is.
+        // An answer leads a screen of the surface's size to the surface's, from where the follower is,
         following_laws();
+        // and a full screen to that of a full surface.
+        full_following_laws();
+        full_repaint_laws();
         let _size = self.shown.dimensions();
         let asked = self.last;
         self.last = SEQ_ZERO;

@@ -7,6 +7,7 @@ pub mod last_row;
 pub mod lines;
 pub mod one_by_one;
 pub mod prompt;
+pub mod remote;
 pub mod renderer;
 pub mod status;
 #[cfg(test)]

@@ -5,6 +5,7 @@ use crate::last_row::clear_last_row;
 use crate::lines::{heading, word_at};
 use crate::one_by_one::make_one_by_one;
 use crate::prompt::show_prompt;
+use crate::remote::show_heading;
 use crate::renderer::{refresh, refresh_all};
 use crate::status::draw_status;
 use crate::viewer::Viewer;
@@ -12,7 +13,7 @@ use crate::window::show_widget;
 use std::alloc::Global;
 use std::process::Abort;
 use termwiz_cell::cell::CellAttributes;
-use termwiz_cell::change::{Change, ChangeSequence, SequenceNo};
+use termwiz_cell::change::{Change, ChangeSequence, LineAttribute, SequenceNo};
 use termwiz_cell::color::ColorAttribute;
 use termwiz_cell::emoji::UnicodeWidths;
 use termwiz_surface::surface::Surface;
@@ -180,4 +181,16 @@ fn a_window_is_shown_with_its_widget(rt: HostRuntime) {
     show_widget(&mut window, &widget, 1, 0, &mut viewer).expect(&rt, "a shown window");
     assert_rows(&rt, viewer.surface(), "wかt\nab  \n");
     assert_eq!(rt; viewer.surface().cursor_position(), (2, 1));
+}
+
+#[test]
+fn a_remote_terminal_has_the_title_and_the_heading(rt: HostRuntime) {
+    let alloc = rt.alloc();
+    let mut session = Surface::new_full(alloc, 8, 2, UnicodeWidths).expect(&rt, "a session");
+    let mut remote = view::Viewer::new(alloc, &session).expect(&rt, "a remote terminal");
+    show_heading(alloc, &mut session, "w00t", &mut remote).expect(&rt, "a heading");
+    let shown = remote.surface().full_screen().expect(&rt, "a full screen");
+    assert_eq!(rt; shown.title.as_str(), "w00t");
+    assert!(rt; shown.lines[0] == LineAttribute::DoubleWidthLine);
+    assert!(rt; shown.lines[1] == LineAttribute::SingleWidthLine);
 }

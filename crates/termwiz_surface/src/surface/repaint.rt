@@ -1,5 +1,5 @@
 //! Repaints: the changes that bring any screen of that size to the one that rows show.
-ghost use Rattle.std.specs.Prelude.{◌≡◌, ◌-◌, ◌<◌, ◌≤◌, ◌++◌, ◌∷◌, [], ℕ, List, ◌&&◌, not, true, false, cond, eqb, map, length, IfOk, OnOk};
+ghost use Rattle.std.specs.Prelude.{◌≡◌, ◌-◌, ◌<◌, ◌≤◌, ◌++◌, ◌∷◌, [], List, ◌&&◌, not, true, false, cond, eqb, map, length, IfOk, OnOk};
 ghost use Rattle.std.specs.Option.{option_copied};
 ghost use Rattle.termwiz_cell.specs.Attributes.{default_attributes, attributes_eq, is_plain, color_eq};
 ghost use Rattle.termwiz_cell.specs.CellValue.{blank};
@@ -13,9 +13,11 @@ ghost use Rattle.termwiz_line.specs.Writing.{behind};
 ghost use Rattle.termwiz_surface.specs.Screen.{Screen};
 ghost use Rattle.termwiz_surface.specs.ScreenValue.{cells_of};
 ghost use Rattle.termwiz_surface.specs.Padding.{IsPaddable, ArePaddable};
-ghost use Rattle.termwiz_surface.specs.Drawing.{clears, IsBeforeRow, IsDrawnUpto};
+ghost use Rattle.termwiz_surface.specs.Drawing.{clears, IsBeforeRow, AreApart, IsDrawnUpto};
 ghost use Rattle.termwiz_surface.specs.Place.{cursor_at};
 ghost use Rattle.termwiz_surface.specs.Repaint as spec;
+
+pub(super) mod full;
 
 use crate::surface::shown::{is_blank_row, last_attrs};
 use std::alloc::{AllocError, Global};
@@ -26,21 +28,20 @@ use termwiz_cell::color::ColorAttribute;
 use termwiz_line::entries::{Penned, RowWriter, is_default, is_plain, is_same};
 use termwiz_line::line::line::Line;
 
-/// The entries that clear the screen, with the cursor hidden, and set the title, and those of all rows. Blank rows at the bottom with one background are left to one clear to the end of the screen.
+/// The entries of all rows, behind those that are written already. Blank rows at the bottom with one background are left to one clear to the end of the screen.
 pub(super) fn all_rows<'a>(
-    alloc: Global,
+    mut writer: RowWriter<'a>,
     rows: &'a VecDeque<Line>,
     width: usize,
     padding: &'a Cell,
-    title: &str,
 ) -> Result<Penned<'a>, AllocError>
+    requires before { IsBeforeRow 0 writer }
     requires some_column { 0 < width }
     requires some_row { 0 < length (cells_of rows.now.items) }
     requires paddable { ArePaddable width (cells_of rows.now.items) }
     requires blank { padding.now ≡ blank }
-    ensures { IfOk result (λ drawn. penned_value drawn ≡ behind (spec.first_entries title.now) (spec.all_rows width (length (cells_of rows.now.items)) (map (row_of width) (cells_of rows.now.items)))) }
+    ensures { IfOk result (λ drawn. (first : List ChangeValue) → AreApart first → IsDrawnUpto first width (map (row_of width) (cells_of rows.now.items)) 0 writer.entry → penned_value drawn ≡ behind first (spec.all_rows width (length (cells_of rows.now.items)) (map (row_of width) (cells_of rows.now.items)))) }
 {
-    let mut writer = started(alloc, padding, title)?;
     let attrs = bottom_attrs(rows, width, padding);
     if is_clearable(attrs) {
         return joined_rows(writer, rows, width, padding, attrs);
@@ -60,16 +61,30 @@ fn bottom_attrs<'a>(rows: &'a VecDeque<Line>, width: usize, padding: &'a Cell) -
     last_attrs(&rows[rows.len() - 1], width, padding)
 }
 
-// A clear of the screen with the cursor hidden, and the title.
-fn started<'a>(alloc: Global, padding: &'a Cell, title: &str) -> Result<RowWriter<'a>, AllocError>
+/// A clear of the screen with the cursor hidden, and the title, unless it is empty.
+pub(super) fn started<'a>(
+    alloc: Global,
+    padding: &'a Cell,
+    title: &str,
+) -> Result<RowWriter<'a>, AllocError>
     requires { padding.now ≡ blank }
-    ensures printed { IfOk result (λ writer. writer.printed ≡ record { entries = spec.first_entries title.now; pen = default_attributes }) }
+    ensures printed { IfOk result (λ writer. writer.printed ≡ record { entries = spec.started_entries ++ spec.title_entry title.now; pen = default_attributes }) }
+    ensures between { IfOk result (λ writer. writer.spaces ≡ 0) }
+{
+    let mut writer = cleared(alloc, padding)?;
+    push_title(&mut writer, alloc, title)?;
+    Ok(writer)
+}
+
+// A clear of the screen with the cursor hidden.
+fn cleared<'a>(alloc: Global, padding: &'a Cell) -> Result<RowWriter<'a>, AllocError>
+    requires { padding.now ≡ blank }
+    ensures printed { IfOk result (λ writer. writer.printed ≡ record { entries = spec.started_entries; pen = default_attributes }) }
     ensures between { IfOk result (λ writer. writer.spaces ≡ 0) }
 {
     let mut writer = RowWriter::new(alloc, padding.attrs());
     writer.push(Change::CursorVisibility(CursorVisibility::Hidden))?;
     writer.push(Change::ClearScreen(ColorAttribute::Default))?;
-    push_title(&mut writer, alloc, title)?;
     Ok(writer)
 }
 
@@ -105,7 +120,7 @@ fn joined_rows<'a>(
     requires blank { padding.now ≡ blank }
     requires bottom { attrs.now ≡ spec.bottom_attrs width (length (cells_of rows.now.items)) (map (row_of width) (cells_of rows.now.items)) }
     requires clearable { (is_plain attrs.now && not (attributes_eq attrs.now default_attributes)) ≡ true }
-    ensures { IfOk result (λ drawn. (title : List ℕ) → IsDrawnUpto title width (map (row_of width) (cells_of rows.now.items)) 0 writer.entry → penned_value drawn ≡ behind (spec.first_entries title) (spec.all_rows width (length (cells_of rows.now.items)) (map (row_of width) (cells_of rows.now.items)))) }
+    ensures { IfOk result (λ drawn. (first : List ChangeValue) → AreApart first → IsDrawnUpto first width (map (row_of width) (cells_of rows.now.items)) 0 writer.entry → penned_value drawn ≡ behind first (spec.all_rows width (length (cells_of rows.now.items)) (map (row_of width) (cells_of rows.now.items)))) }
 {
     let above = rows_above(rows, width, attrs);
     write_rows(&mut writer, rows, width, padding, 0, above)?;
@@ -202,7 +217,7 @@ fn write_rows<'a>(
     requires paddable { ArePaddable width (cells_of rows.now.items) }
     requires blank { padding.now ≡ blank }
     ensures before { OnOk result (IsBeforeRow to writer.new) }
-    ensures upto { OnOk result ((title : List ℕ) → IsDrawnUpto title width (map (row_of width) (cells_of rows.now.items)) from writer.old → IsDrawnUpto title width (map (row_of width) (cells_of rows.now.items)) to writer.new) }
+    ensures upto { OnOk result ((first : List ChangeValue) → IsDrawnUpto first width (map (row_of width) (cells_of rows.now.items)) from writer.old → IsDrawnUpto first width (map (row_of width) (cells_of rows.now.items)) to writer.new) }
 {
     for i in from..to {
         push_next_line(writer, i)?;
@@ -254,7 +269,7 @@ fn push_next_line(writer: &mut RowWriter<'_>, i: usize) -> Result<(), AllocError
     Ok(())
 }
 
-/// The entries that clear the screen, set the title and draw the rows, and then the cursor, the pen, the visibility and the shape of a visible cursor.
+/// What was drawn without its last moves, and then the cursor, the pen, the visibility and the shape of a visible cursor.
 pub(super) fn framed(
     drawn: Penned<'_>,
     x: usize,
@@ -263,7 +278,21 @@ pub(super) fn framed(
     shape: Option<CursorShape>,
     pen: &CellAttributes,
 ) -> Result<Vec<Change>, AllocError>
-    ensures { IfOk result (λ entries. (title : List ℕ) (d : line.Penned) (s : Screen) → penned_value drawn.entry ≡ behind (spec.first_entries title) d → s.x ≡ x → s.y ≡ y → s.visibility ≡ visibility → s.pen ≡ pen.now → map change_value entries.items ≡ spec.repaint_of d s title shape) }
+    ensures { IfOk result (λ entries. (first : List ChangeValue) (d : line.Penned) (s : Screen) → penned_value drawn.entry ≡ behind (spec.started_entries ++ first) d → s.x ≡ x → s.y ≡ y → s.visibility ≡ visibility → s.pen ≡ pen.now → map change_value entries.items ≡ spec.repaint_of first d s (spec.shown_entries s.visibility shape)) }
+{
+    let mut entries = placed(drawn, x, y, pen)?;
+    push_visible(&mut entries, visibility, shape)?;
+    Ok(entries)
+}
+
+// What was drawn without its last moves, and then the cursor and the pen.
+fn placed(
+    drawn: Penned<'_>,
+    x: usize,
+    y: usize,
+    pen: &CellAttributes,
+) -> Result<Vec<Change>, AllocError>
+    ensures { IfOk result (λ entries. (first : List ChangeValue) (d : line.Penned) (s : Screen) → penned_value drawn.entry ≡ behind (spec.started_entries ++ first) d → s.x ≡ x → s.y ≡ y → s.pen ≡ pen.now → let es = spec.without_last_moves (first ++ d.entries) in map change_value entries.items ≡ ((spec.started_entries ++ es) ++ spec.cursor_entry es s.x s.y) ++ line.pen_entry d.pen s.pen) }
 {
     let Penned {
         mut entries,
@@ -273,7 +302,6 @@ pub(super) fn framed(
     let nothing = is_started_alone(entries.as_slice());
     push_cursor(&mut entries, nothing, x, y)?;
     push_pen(&mut entries, last, pen)?;
-    push_visible(&mut entries, visibility, shape)?;
     Ok(entries)
 }
 

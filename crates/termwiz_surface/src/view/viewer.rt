@@ -1,10 +1,10 @@
 //! Viewers: surfaces that follow another one.
-ghost use Rattle.std.specs.Prelude.{◌≡◌, map, IfOk, OnOk, OnErr};
+ghost use Rattle.std.specs.Prelude.{◌≡◌, true, map, IfOk, OnOk, OnErr};
 ghost use Rattle.termwiz_cell.specs.ChangeValue.{change_value};
 ghost use Rattle.termwiz_cell.specs.Width.{unversioned};
 ghost use Rattle.termwiz_surface.specs.Following.{blank_viewer, forgetful, Accepts, Fetches, Fits, Follows, FollowsTo};
 ghost use Rattle.termwiz_surface.specs.Log.{next_number};
-ghost use Rattle.termwiz_surface.specs.Printable.{HasSize};
+ghost use Rattle.termwiz_surface.specs.FullScreen.{full_of, HasFullSize};
 ghost use Rattle.termwiz_surface.specs.SurfaceValue.{screen_of};
 
 use super::copied;
@@ -16,7 +16,7 @@ use termwiz_cell::emoji::Widths;
 
 /// A surface that follows another one, its source: it shows what the source showed when it followed last.
 ///
-/// `follow` asks the source for what changed since the number that it gave last, and makes those changes. So a viewer gets a few changes where few were made, and the whole screen where the source no longer knows them; and where the source has another size, the viewer takes it first. A viewer's own surface logs what it made, so that viewers can follow a viewer. Nothing flushes that log: it grows with each change, and only another size, or a list that found no memory, empties it.
+/// `follow` asks the source for what changed since the number that it gave last, and makes those changes. So a viewer gets a few changes where few were made, and the whole screen where the source no longer knows them; and where the source has another size, the viewer takes it first. From a full source it also has all that is kept beside the screen. A viewer's own surface logs what it made, so that viewers can follow a viewer. Nothing flushes that log: it grows with each change, and only another size, or a list that found no memory, empties it.
 ///
 /// A viewer is for one source: it keeps that one's number and width value. For another source make a new viewer.
 #[derive(Drop)]
@@ -35,13 +35,13 @@ impl<W: Widths> Model for Viewer<W> {
 }
 
 impl<W: Widths> Viewer<W> {
-    /// A viewer that shows a blank surface of the source's size and width value, and was given no number.
+    /// A viewer that shows a blank surface of the source's size, width value and kind, and was given no number.
     pub fn new(alloc: Global, source: &Surface<W>) -> Result<Viewer<W>, AllocError>
         ensures blank { IfOk result (λ viewer. viewer ≡ blank_viewer source.now) }
         ensures follows { IfOk result (λ viewer. Follows (λ widths. unversioned (W.width_of widths)) viewer source.now) }
     {
         let (width, height) = source.dimensions();
-        let surface = Surface::new(alloc, width, height, source.widths())?;
+        let surface = Surface::blank(alloc, width, height, source.widths(), source.is_full())?;
         Ok(Viewer {
             surface,
             alloc,
@@ -66,7 +66,7 @@ impl<W: Widths> Viewer<W> {
     /// Takes the source's size, and no number, where the viewer has another size.
     fn fit(&mut self, source: &Surface<W>) -> Result<(), SurfaceError>
         ensures fits { Fits self.old source.now result self.new }
-        ensures sized { OnOk result (HasSize source.now.width source.now.height (screen_of self.new.surface)) }
+        ensures sized { OnOk result (HasFullSize source.now.width source.now.height (full_of self.new.surface)) }
     {
         let (width, height) = source.dimensions();
         let (own_width, own_height) = self.surface.dimensions();
@@ -83,7 +83,7 @@ impl<W: Widths> Viewer<W> {
         source: &Surface<W>,
     ) -> Result<(SequenceNo, Vec<Change>), SurfaceError>
         ensures fetches { Fetches (unversioned (W.width_of source.now.widths)) source.now self.old result self.new }
-        ensures sized { OnOk result (HasSize source.now.width source.now.height (screen_of self.new.surface)) }
+        ensures sized { OnOk result (HasFullSize source.now.width source.now.height (full_of self.new.surface)) }
     {
         self.fit(source)?;
         let (number, changes) = source.get_changes(self.last)?;
@@ -119,6 +119,8 @@ impl<W: Widths> Viewer<W> {
         ensures steps { FollowsTo (λ widths. unversioned (W.width_of widths)) source.now self.old result self.new }
         // A viewer that follows the source shows its screen after each success,
         ensures caught_up { Follows (λ widths. unversioned (W.width_of widths)) self.old source.now → OnOk result ((screen_of self.new.surface ≡ screen_of source.now) × (self.new.last ≡ next_number source.now.log)) }
+        // and that of a full source its full screen,
+        ensures fully_caught_up { Follows (λ widths. unversioned (W.width_of widths)) self.old source.now → source.now.full ≡ true → OnOk result (full_of self.new.surface ≡ full_of source.now) }
         // and follows it also after a failure.
         ensures follows { Follows (λ widths. unversioned (W.width_of widths)) self.old source.now → Follows (λ widths. unversioned (W.width_of widths)) self.new source.now }
         ensures failed { OnErr result (self.new.last ≡ 0) }

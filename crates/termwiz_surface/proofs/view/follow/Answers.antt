@@ -1,9 +1,10 @@
-use Rattle.std.proofs.Common.{map, ap, ◌∙◌}
+use Rattle.std.proofs.Common.{map, sym, ap, ◌∙◌}
 use Rattle.std.specs.Prelude.{Ok, Err}
 use Rattle.termwiz_cell.specs.ChangeValue.{change_value}
 use Rattle.termwiz_cell.specs.Width.{unversioned}
+use Rattle.termwiz_surface.specs.FullScreen.{full_of}
 use Rattle.termwiz_surface.specs.SurfaceValue.{screen_of}
-use Rattle.termwiz_surface.proofs.FollowedRuns.{Allows-followed, Allows-lost}
+use Rattle.termwiz_surface.proofs.FollowedRuns.{Allows-followed, Allows-followed_full, Allows-lost}
 use Rattle.termwiz_surface.proofs.Viewing.{FollowsTo-accepted, Follows-accepted}
 use Rattle.termwiz_surface.proofs.view.follow.Goals as goal
 
@@ -11,10 +12,21 @@ pub returns-in_ok-screen-in-Ok-accept-clause-step : goal.returns-in_ok-screen-in
 returns-in_ok-screen-in-Ok-accept-clause-step g c =
     let got = c.in-Ok.ensures.fetches in
     Allows-followed (λ widths. unversioned (g.W.Widths.width_of widths)) c.args.surface.now c.args.viewer.now c.requires c.fetch.new.self c.accept.new.self c.in-Ok.number (map change_value c.in-Ok.changes.items) got.0 got.1 c.in-Ok.ensures.sized got.2
-    c.in-Ok-accept.number c.in-Ok-accept.ensures c.in_ok-told-in-Ok.told c.in_ok-screen-in-Ok-accept.screen (c.in_ok-told-in-Ok.ensures ∙ ap (map change_value) c.as_slice.ensures.value) (c.in_ok-screen-in-Ok-accept.ensures.shown ∙ ap screen_of c.surface.ensures)
+    c.in-Ok-accept.number c.in-Ok-accept.ensures (sym c.is_full.ensures ∙ c.if-is_full.false) c.in_ok-told-in-Ok.told c.in_ok-screen-in-Ok-accept.screen (c.in_ok-told-in-Ok.ensures ∙ ap (map change_value) c.as_slice.ensures.value) (c.in_ok-screen-in-Ok-accept.ensures.shown ∙ ap screen_of c.surface-in-Ok-accept.ensures)
 
 pub returns-in_ok-screen-in-Ok-accept-clause-follows : goal.returns-in_ok-screen-in-Ok-accept-clause-follows
 returns-in_ok-screen-in-Ok-accept-clause-follows g c =
+    let got = c.in-Ok.ensures.fetches in
+    Follows-accepted (λ widths. unversioned (g.W.Widths.width_of widths)) c.args.surface.now c.args.viewer.now c.fetch.new.self c.accept.new.self c.in-Ok.number (map change_value c.in-Ok.changes.items) got.0 got.1 c.in-Ok.ensures.sized got.2 c.requires (Ok c.in-Ok-accept.number) c.in-Ok-accept.ensures
+
+pub returns-then-is_full-clause-step : goal.returns-then-is_full-clause-step
+returns-then-is_full-clause-step g c =
+    let got = c.in-Ok.ensures.fetches in
+    Allows-followed_full (λ widths. unversioned (g.W.Widths.width_of widths)) c.args.surface.now c.args.viewer.now c.requires c.fetch.new.self c.accept.new.self c.in-Ok.number (map change_value c.in-Ok.changes.items) got.0 got.1 c.in-Ok.ensures.sized got.2
+    c.in-Ok-accept.number c.in-Ok-accept.ensures (sym c.is_full.ensures ∙ c.if-is_full.true) c.in_ok-told-in-Ok.told c.in_ok-shown-in-Ok-accept.shown (c.in_ok-told-in-Ok.ensures ∙ ap (map change_value) c.as_slice.ensures.value) (c.in_ok-shown-in-Ok-accept.ensures ∙ ap full_of c.surface.ensures)
+
+pub returns-then-is_full-clause-follows : goal.returns-then-is_full-clause-follows
+returns-then-is_full-clause-follows g c =
     let got = c.in-Ok.ensures.fetches in
     Follows-accepted (λ widths. unversioned (g.W.Widths.width_of widths)) c.args.surface.now c.args.viewer.now c.fetch.new.self c.accept.new.self c.in-Ok.number (map change_value c.in-Ok.changes.items) got.0 got.1 c.in-Ok.ensures.sized got.2 c.requires (Ok c.in-Ok-accept.number) c.in-Ok-accept.ensures
 

@@ -14,3 +14,6 @@ returns-clause-widget g c same none =
 
 pub returns-clause-follows : goal.returns-clause-follows
 returns-clause-follows g c = c.follow.ensures.follows (c.draw_from_screen.ensures.followed c.args.viewer.now c.requires)
+
+pub returns-in_err-follow-clause-follows : goal.returns-in_err-follow-clause-follows
+returns-in_err-follow-clause-follows g c = c.in_err-follow.ensures.follows (c.in_ok-draw_from_screen.ensures.followed c.args.viewer.now c.requires)

@@ -1,10 +1,11 @@
-use Rattle.std.proofs.Common.{◌≡◌, ◌+◌, ◌-◌, ◌<◌, ◌^◌, min, refl, sym, subst, arith}
+use Rattle.std.proofs.Common.{◌≡◌, ◌+◌, ◌-◌, ◌<◌, ◌^◌, min, length, refl, sym, ap, ◌∙◌, subst, arith}
 use Rattle.std.specs.Prelude.{None, string_bytes}
 use Rattle.termwiz_cell.specs.Width.{unversioned}
 use Rattle.termwiz_surface.specs.ScreenValue.{cells_of}
 use Rattle.termwiz_surface.specs.Log.{next_number}
 use Rattle.termwiz_surface.specs.SurfaceValue.{SurfaceValue}
 use Rattle.termwiz_surface.proofs.Logs.{restarted_fits}
+use Rattle.termwiz_surface.proofs.Sides.{sides-full}
 use Rattle.termwiz_surface.proofs.ResizedRows.{length-resized_stored, stored-resized, lengths-resized, shown-resized}
 use Rattle.termwiz_surface.proofs.surface.Surface.change_size.Goals as goal
 
@@ -18,6 +19,7 @@ invariant_of-self-2 g c =
         fits = c.requires.fits;
         fits_height = c.requires.fits_height;
         full = length-resized_stored c.args.width c.args.height (cells_of s.rows.items);
+        sides = sides-full c.resize_rows.new.rows.items (ap length c.in_ok-resize_rows.ensures.ok ∙ length-resized_stored c.args.width c.args.height (cells_of s.rows.items));
         column = omega (arith, c.requires.some_column);
         row = omega (arith, c.requires.some_row);
         stored_so = stored-resized (unversioned (g.W.Widths.width_of s.widths)) s.width c.args.width c.args.height s.height (cells_of s.rows.items) (record { space = g.met.W.Widths.space_has_one s.widths None }) c.requires.some_column form.full form.stored_so;
@@ -37,6 +39,7 @@ returns-clause-ok g c =
       widths = refl;
       width = refl;
       height = refl;
+      full = refl;
       log = refl;
       screen_is = λ i. record {
         width = c.args.width;

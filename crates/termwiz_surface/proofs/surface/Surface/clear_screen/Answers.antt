@@ -28,6 +28,7 @@ returns-clause-ok g c =
       widths = refl;
       width = refl;
       height = refl;
+      full = refl;
       log = refl;
       screen_is = rw (rows-screen f _ (record { space = g.met.W.Widths.space_has_one c.self.inside.widths None }) c.self.invariant.0 (with_background c.args.color.now) (cells_of c.fill_rows.new.rows.items) done) refl;
       kept_is = λ i. record {

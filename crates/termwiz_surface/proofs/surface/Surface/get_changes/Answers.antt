@@ -1,16 +1,17 @@
-use Rattle.std.proofs.Common.{◌≡◌, ◌*◌, ◌+◌, ◌-◌, true, map, ◌<◌, ◌≤◌, false, length, refl, sym, ap, ◌∙◌, subst}
+use Rattle.std.proofs.Common.{◌≡◌, ◌-◌, true, map, ◌≤◌, false, length, refl, sym, ap, ◌∙◌, subst}
 use Rattle.std.proofs.lemmas.Bool.{true≢false}
 use Rattle.std.specs.Prelude.{None}
 use Rattle.termwiz_cell.specs.ChangeValue.{change_value}
 use Rattle.termwiz_cell.specs.Width.{unversioned}
 use Rattle.termwiz_surface.specs.Log.{is_known, worth}
 use Rattle.termwiz_surface.specs.Step.{replay, regions_fit}
-use Rattle.termwiz_surface.specs.SurfaceValue.{SurfaceValue, IsSound, screen_of}
+use Rattle.termwiz_surface.specs.SurfaceValue.{SurfaceValue, IsSound, screen_of, kept_of}
+use Rattle.termwiz_surface.specs.FullScreen.{full_replay}
+use Rattle.termwiz_surface.specs.Repaint.{repaint_in}
+use Rattle.termwiz_surface.specs.Stream.{most_entries}
 use Rattle.termwiz_surface.proofs.LogRegions.{regions-drop}
 use Rattle.termwiz_surface.proofs.Logs.{known-least}
-use Rattle.termwiz_surface.proofs.RepaintLength.{repaint_short}
-use Rattle.termwiz_surface.proofs.RepaintRegions.{repaint_fits}
-use Rattle.termwiz_surface.proofs.SoundRepaint.{sound_repaint}
+use Rattle.termwiz_surface.proofs.SoundRepaint.{sound_repaint, sound_full_repaint, sound_short, repaint_in-fits}
 use Rattle.termwiz_surface.proofs.surface.Surface.get_changes.Given as given
 use Rattle.termwiz_surface.proofs.surface.Surface.get_changes.Goals as goal
 
@@ -24,12 +25,15 @@ module _ (g : given.Over) (c : goal.In_ok-repaint-in-None g) where
 pub returns-in_ok-repaint-in-None-clause-due : goal.returns-in_ok-repaint-in-None-clause-due
 returns-in_ok-repaint-in-None-clause-due g c = λ known. absurd (true≢false (sym known ∙ unknown g c))
 
+module _ (g : given.Over) (c : goal.In_ok-repaint-in-None g) where
+  pub sound : IsSound (unversioned (g.W.Widths.width_of c.args.self.now.widths)) c.args.self.now
+  sound = subst (λ (v : SurfaceValue _). IsSound (unversioned (g.W.Widths.width_of v.widths)) v) c.self.view_is c.self.invariant.0
+
 pub returns-in_ok-repaint-in-None-clause-repaint : goal.returns-in_ok-repaint-in-None-clause-repaint
 returns-in_ok-repaint-in-None-clause-repaint g c =
     let width = unversioned (g.W.Widths.width_of c.args.self.now.widths) in
-    let sound = subst (λ (v : SurfaceValue _). IsSound (unversioned (g.W.Widths.width_of v.widths)) v) c.self.view_is c.self.invariant.0 in
     let v = c.args.self.now in
-    λ known s size. ap (replay width s) c.in_ok-repaint-in-None.ensures ∙ sound_repaint width v sound (g.met.W.Widths.space_has_one v.widths None) s v.title v.shape size
+    λ known s size. ap (replay width s) c.in_ok-repaint-in-None.ensures ∙ sound_repaint width v (sound g c) (g.met.W.Widths.space_has_one v.widths None) v.full s size
 
 pub returns-in_ok-repaint-in-None-clause-stream : goal.returns-in_ok-repaint-in-None-clause-stream
 returns-in_ok-repaint-in-None-clause-stream g c = record {
@@ -37,17 +41,26 @@ returns-in_ok-repaint-in-None-clause-stream g c = record {
   repaint = returns-in_ok-repaint-in-None-clause-repaint g c;
 }
 
+pub returns-in_ok-repaint-in-None-clause-full : goal.returns-in_ok-repaint-in-None-clause-full
+returns-in_ok-repaint-in-None-clause-full g c =
+    let width = unversioned (g.W.Widths.width_of c.args.self.now.widths) in
+    let v = c.args.self.now in
+    λ full. record {
+      known = λ known. absurd (true≢false (sym known ∙ unknown g c));
+      repaint = λ not_known t size.
+          ap (full_replay width t) (c.in_ok-repaint-in-None.ensures ∙ ap (λ b. repaint_in b (screen_of v) (kept_of v)) full)
+          ∙ sound_full_repaint width v (sound g c) (g.met.W.Widths.space_has_one v.widths None) t size;
+    }
+
 pub returns-in_ok-repaint-in-None-clause-short : goal.returns-in_ok-repaint-in-None-clause-short
 returns-in_ok-repaint-in-None-clause-short g c =
     let v = c.args.self.now in
-    let s = screen_of v in
-    let some_row : 0 < s.height = subst (λ (v : SurfaceValue _). 0 < v.height) c.self.view_is c.self.invariant.0.some_row in
-    λ known. subst (λ changes. length changes ≤ 2 * (s.width * s.height) + s.height + 6) (sym c.in_ok-repaint-in-None.ensures) (repaint_short s v.title v.shape some_row)
+    λ known. subst (λ changes. length changes ≤ most_entries v.full v.width v.height) (sym c.in_ok-repaint-in-None.ensures) (sound_short (unversioned (g.W.Widths.width_of v.widths)) v (sound g c) v.full)
 
 pub returns-in_ok-repaint-in-None-clause-regions : goal.returns-in_ok-repaint-in-None-clause-regions
 returns-in_ok-repaint-in-None-clause-regions g c =
     let v = c.args.self.now in
-    ap (regions_fit v.height) c.in_ok-repaint-in-None.ensures ∙ repaint_fits v.height (screen_of v) v.title v.shape
+    ap (regions_fit v.height) c.in_ok-repaint-in-None.ensures ∙ repaint_in-fits v.height v.full (screen_of v) (kept_of v)
 
 pub returns-in-Some-clause-regions : goal.returns-in-Some-clause-regions
 returns-in-Some-clause-regions g c =

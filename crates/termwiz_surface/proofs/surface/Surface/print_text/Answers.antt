@@ -20,6 +20,7 @@ pieces-preserved g c =
         widths = some.prints.widths ∙ before.frame.widths;
         width = some.prints.width ∙ before.frame.width;
         height = some.prints.height ∙ before.frame.height;
+        full = some.prints.full ∙ before.frame.full;
         log = some.prints.log ∙ before.frame.log;
       };
       screen = screen-left _ c.pieces.self c.print_first.new.self c.pieces.rest.now c.in_ok-rest.rest.now some ∙ before.screen;
@@ -40,6 +41,7 @@ returns-clause-ok g c =
       widths = before.frame.widths;
       width = before.frame.width;
       height = before.frame.height;
+      full = before.frame.full;
       log = before.frame.log;
       screen_is = sym (ap (fold (print_one f) (screen_of c.pieces.self)) nothing) ∙ before.screen;
       kept_is = sym (ap (kept_after f (screen_of c.pieces.self) (kept_of c.pieces.self)) nothing) ∙ before.kept;

@@ -33,6 +33,7 @@ returns-clause-ok g c =
       widths = refl;
       width = refl;
       height = refl;
+      full = refl;
       log = refl;
       screen_is = rw (rows-put (width g c) _ c.args.cell c.self.invariant.0 (inside g c)) refl;
       kept_is = λ i. record {

@@ -20,6 +20,7 @@ returns-clause-ok g c =
       widths = refl;
       width = refl;
       height = refl;
+      full = refl;
       log = refl;
       screen_is = (IsPrinted-run (unversioned (g.W.Widths.width_of c.self.inside.widths)) (record { space = g.met.W.Widths.space_has_one c.self.inside.widths None }) c.args.run.now _ c.self.invariant.0 fits c.requires.plain narrow).screen;
       kept_is = (IsPrinted-run (unversioned (g.W.Widths.width_of c.self.inside.widths)) (record { space = g.met.W.Widths.space_has_one c.self.inside.widths None }) c.args.run.now _ c.self.invariant.0 fits c.requires.plain narrow).kept;

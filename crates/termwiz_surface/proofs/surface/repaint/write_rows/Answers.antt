@@ -29,8 +29,8 @@ loop-i-preserved c =
     let inside : i < length ls = omega (arith, c.requires.within, length-cells_of ls) in
     record {
       before = record { between = ap (λ v. v.spaces) c.expect_rows.ensures ∙ c.in_ok-write_row.ensures.between; apart = λ e. absurd (omega (arith, e)) };
-      upto = λ title drawn.
-          subst (IsDrawnUpto title w (map (row_of w) (cells_of ls)) (i + 1)) (sym c.expect_rows.ensures)
-          (row_drawn w (map (row_of w) (cells_of ls)) c.loop-i.writer c.push_next_line.new.writer c.write_row.new.writer title i (row_of w c.index.result.now.cells) (c.loop-i.invariant.upto title drawn)
+      upto = λ first drawn.
+          subst (IsDrawnUpto first w (map (row_of w) (cells_of ls)) (i + 1)) (sym c.expect_rows.ensures)
+          (row_drawn w (map (row_of w) (cells_of ls)) c.loop-i.writer c.push_next_line.new.writer c.write_row.new.writer first i (row_of w c.index.result.now.cells) (c.loop-i.invariant.upto first drawn)
           c.in_ok-push_next_line.ensures.printed c.in_ok-write_row.ensures.row (row-read w ls i c.index.result.now inside c.index.ensures));
     }

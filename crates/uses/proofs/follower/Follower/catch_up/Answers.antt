@@ -1,11 +1,12 @@
-use Rattle.std.proofs.Common.{◌≡◌, map, sym, ap, ◌∙◌, subst}
+use Rattle.std.proofs.Common.{◌≡◌, true, map, sym, ap, ◌∙◌, subst}
 use Rattle.termwiz_cell.specs.ChangeValue.{change_value}
 use Rattle.termwiz_cell.specs.Width.{unversioned}
 use Rattle.termwiz_surface.specs.Following.{ViewerValue}
 use Rattle.termwiz_surface.specs.Printable.{HasSize}
 use Rattle.termwiz_surface.specs.Step.{replay}
-use Rattle.termwiz_surface.specs.Stream.{IsStream, stream_of}
-use Rattle.termwiz_surface.specs.SurfaceValue.{SurfaceValue, screen_of}
+use Rattle.termwiz_surface.specs.Stream.{IsStream, IsFullStream, stream_of}
+use Rattle.termwiz_surface.specs.FullScreen.{full_screen, full_of, full_replay, HasFullSize}
+use Rattle.termwiz_surface.specs.SurfaceValue.{SurfaceValue, screen_of, kept_of}
 use Rattle.uses.proofs.follower.Follower.catch_up.Goals as goal
 
 pub returns-clause-shown : goal.returns-clause-shown
@@ -24,11 +25,25 @@ returns-clause-shown g c =
     ∙ ap (λ m. replay m (screen_of v.surface) (stream_of c.in_ok-number.changes)) c.requires.follows.one_measure
     ∙ c.following_laws.ensures.streams (f s.widths) (screen_of v.surface) (screen_of s) v.last s.log (stream_of c.in_ok-number.changes) size c.requires.follows.leads stream
 
+-- of a full surface it shows the full screen
 pub returns-clause-follows : goal.returns-clause-follows
 returns-clause-follows g c =
     let f = λ (widths : g.row.W.Denot). unversioned (g.W.Widths.width_of widths) in
     let s = c.args.surface.now in
+    let v = c.args.self.now in
+    let shown : c.self.inside.shown ≡ v.surface = ap (λ (u : ViewerValue _). u.surface) c.self.view_is in
+    let size : HasFullSize s.width s.height (full_of v.surface) =
+    subst (λ w. HasFullSize w s.height (full_of v.surface)) c.requires.same_width
+    (subst (λ h. HasFullSize v.surface.width h (full_of v.surface)) c.requires.same_height (subst (λ (u : SurfaceValue _). HasFullSize u.width u.height (full_of u)) shown c.dimensions-size.ensures.fully_sized)) in
+    let made = c.in_ok-add_changes.ensures.adds.3 in
+    let full_shown : s.full ≡ true → full_of c.add_changes.new.self ≡ full_of s = λ full.
+    (λ i. full_screen (made.screen_is i) (made.kept_is i))
+    ∙ (λ i. c.full_repaint_laws.ensures.changes (f (shown i).widths) (c.in_ok-copied.ensures i) (screen_of (shown i)) (kept_of (shown i)) i)
+    ∙ ap (λ m. full_replay m (full_of v.surface) (stream_of c.in_ok-number.changes)) c.requires.follows.one_measure
+    ∙ c.full_following_laws.ensures.streams (f s.widths) (full_of v.surface) (full_of s) v.last s.log (stream_of c.in_ok-number.changes) size (c.requires.follows.full full)
+    (subst (λ n. IsFullStream (f s.widths) (full_of s) s.log n (stream_of c.in_ok-number.changes)) (ap (λ (u : ViewerValue _). u.last) c.self.view_is) (c.in_ok-number.ensures.full full)) in
     record {
-      one_measure = ap f c.in_ok-add_changes.ensures.adds.3.widths ∙ ap (λ (u : ViewerValue _). f u.surface.widths) c.self.view_is ∙ c.requires.follows.one_measure;
+      one_measure = ap f made.widths ∙ ap (λ (u : ViewerValue _). f u.surface.widths) c.self.view_is ∙ c.requires.follows.one_measure;
       leads = c.following_laws.ensures.same (f s.widths) (screen_of c.add_changes.new.self) (screen_of s) c.in_ok-number.number s.log (returns-clause-shown g c) c.in_ok-number.ensures.number;
+      full = λ full. c.full_following_laws.ensures.same (f s.widths) (full_of c.add_changes.new.self) (full_of s) c.in_ok-number.number s.log (full_shown full) c.in_ok-number.ensures.number;
     }

@@ -1,12 +1,13 @@
-use Rattle.std.proofs.Common.{[], ap, refl, arith, replicate, subst, sym}
+use Rattle.std.proofs.Common.{[], length, ap, ◌∙◌, refl, arith, replicate, subst, sym}
 use Rattle.std.proofs.lemmas.List.{length-replicate, get_or-replicate}
 use Rattle.termwiz_cell.specs.Width.{unversioned}
 use Rattle.std.specs.Prelude.{None}
 use Rattle.termwiz_cell.specs.CellValue.{blank}
 use Rattle.termwiz_surface.specs.Log.{next_number}
 use Rattle.termwiz_surface.specs.SurfaceValue.{IsStored}
+use Rattle.termwiz_surface.proofs.Sides.{sides-full}
 use Rattle.termwiz_surface.proofs.Stored.{IsStored-blank}
-use Rattle.termwiz_surface.proofs.surface.Surface.new.Goals as goal
+use Rattle.termwiz_surface.proofs.surface.Surface.blank.Goals as goal
 
 pub invariant_of-result : goal.invariant_of-result
 invariant_of-result g c = (
@@ -16,6 +17,7 @@ invariant_of-result g c = (
     fits = c.requires.fits;
     fits_height = c.requires.fits_height;
     full = length-replicate _ _;
+    sides = sides-full c.in_ok-rows.rows.items (ap length c.in_ok-rows.ensures.cells ∙ length-replicate _ _);
     column = omega arith;
     row = c.requires.some_row;
     number_fits = omega (arith, ap next_number c.new-2.ensures);

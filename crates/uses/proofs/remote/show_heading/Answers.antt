@@ -1,0 +1,33 @@
+use Rattle.std.proofs.Common.{◌≡◌, get_or, sym, ap, ◌∙◌, subst}
+use Rattle.termwiz_cell.specs.Width.{unversioned}
+use Rattle.termwiz_cell.specs.declared.change.LineAttribute.TheVariants.{DoubleWidthLine, SingleWidthLine}
+use Rattle.termwiz_surface.specs.FullScreen.{FullScreen}
+use Rattle.termwiz_surface.specs.Kept.{Kept}
+use Rattle.termwiz_surface.specs.Step.{replay, replay_kept}
+use Rattle.termwiz_surface.specs.SurfaceValue.{screen_of, kept_of}
+use Rattle.uses.proofs.HeadingRow.{row_is_wide}
+use Rattle.uses.proofs.remote.show_heading.Goals as goal
+
+pub returns-clause-shown : goal.returns-clause-shown
+returns-clause-shown g c =
+    c.in_ok-follow.ensures.fully_caught_up (c.in_ok-add_changes.ensures.followed c.args.remote.now c.requires.follows) (c.in_ok-add_changes.ensures.adds.3.full ∙ c.requires.full)
+
+pub returns-clause-title : goal.returns-clause-title
+returns-clause-title g c =
+    let width = unversioned (g.W.Widths.width_of c.args.session.now.widths) in
+    let old = c.args.session.now in
+    ap (λ (f : FullScreen). f.title) (returns-clause-shown g c)
+    ∙ ap (λ (k : Kept). k.title) c.in_ok-add_changes.ensures.adds.3.kept_is
+    ∙ ap (λ changes. (replay_kept width (screen_of old) (kept_of old) changes).title) c.in_ok-changes.ensures
+
+pub returns-clause-wide : goal.returns-clause-wide
+returns-clause-wide g c =
+    let width = unversioned (g.W.Widths.width_of c.args.session.now.widths) in
+    let old = c.args.session.now in
+    let made = c.in_ok-add_changes.ensures.adds.3 in
+    let screen = made.screen_is ∙ ap (replay width (screen_of old)) c.in_ok-changes.ensures in
+    let kept = made.kept_is ∙ ap (replay_kept width (screen_of old) (kept_of old)) c.in_ok-changes.ensures in
+    let session = c.add_changes.new.self in
+    let measure = unversioned (g.W.Widths.width_of session.widths) in
+    subst (λ (f : FullScreen). get_or f.lines f.screen.y SingleWidthLine ≡ DoubleWidthLine) (sym (returns-clause-shown g c))
+    (row_is_wide width old session c.args.heading.now measure c.dimensions-size.ensures.sound screen kept)

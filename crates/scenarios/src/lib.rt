@@ -10,6 +10,8 @@ mod copies;
 #[cfg(test)]
 mod diff_tables;
 #[cfg(test)]
+mod full_runs;
+#[cfg(test)]
 mod runs;
 #[cfg(test)]
 mod runs_of_text;

@@ -105,6 +105,7 @@ fn cleared(name: &str, rest: &str) -> Result<Option<Change>, Fault> {
         "eol" => Ok(Some(Change::ClearToEndOfLine(color(rest)?))),
         "eos" => Ok(Some(Change::ClearToEndOfScreen(color(rest)?))),
         "row" => Ok(Some(Change::LineAttribute(line_attribute(rest)?))),
+        "color" => Ok(Some(Change::CursorColor(color(rest)?))),
         _ => Ok(None),
     }
 }

@@ -7,6 +7,7 @@
 //!
 //! What a case has. Surfaces and viewers are numbered from 0 on, each by themselves:
 //! - `new WIDTH HEIGHT MEASURE`: a surface, on which the coming changes are made. A measure is `unicode`, `one` (each grapheme has one column) or `wide` (all but a space have two).
+//! - `new-full WIDTH HEIGHT MEASURE`: the same of a full surface.
 //! - `clone`: one more surface, a clone of this one.
 //! - `on N`: the coming lines are about this surface.
 //! - `viewer`: a viewer of this surface, or of the viewer that is viewed.
@@ -19,7 +20,7 @@
 //! - `set ATTRIBUTE`, `pen ATTRIBUTE ..` (the default pen but for these): `bold`, `italic`, `double` (underlined), `fg=COLOR` or `bg=COLOR`.
 //! - `clear COLOR`, `eol COLOR`, `eos COLOR`: clear all, to the end of the line, to the end of the screen. A colour is a number of the palette, `maroon` or `default`.
 //! - `up FIRST SIZE COUNT`, `down FIRST SIZE COUNT`: scroll a region.
-//! - `hidden`, `visible`, `shape SHAPE`: the cursor.
+//! - `hidden`, `visible`, `shape SHAPE`, `color COLOR`: the cursor.
 //! - `row ATTRIBUTE`: how large the cursor's line is shown, `top`, `bottom`, `double` or `single`.
 //! - `list`, and later `end`: the changes between are made as one list.
 //!
@@ -34,6 +35,7 @@
 //! What is asked:
 //! - `rows`: the rows and the cursor's place; `number`: that of the coming change; `kept`: the title, the cursor's shape and whether it is shown.
 //! - `screen`: how many columns each row of the screen has; `flags`: the same of each line, and whether it is double wide; `cells`: the texts of each row's stored cells.
+//! - `full`: the rows, the cursor, and all that a full surface carries; `full-same N`: whether surface N has the same.
 //! - `has SEQ`: whether there are changes for a viewer with a number; `ask SEQ`: what is due to it, lent or repainted.
 //! - `same N`: whether the screen is that of surface N.
 //! - `diff N`, `diff-region X Y WIDTH HEIGHT N OTHER_X OTHER_Y`, `diff-line ROW TEXT`, `diff-lines TEXT ..`: the changes that lead there.

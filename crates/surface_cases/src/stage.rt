@@ -1,4 +1,6 @@
 //! The surfaces of a case, and what the lines do with them.
+ghost use Rattle.std.specs.Prelude.{◌<◌, ◌^◌, IfOk};
+
 use crate::changes::change;
 use crate::fault::Fault;
 use crate::measure::Measure;
@@ -65,6 +67,7 @@ impl Stage {
     fn made(&mut self, name: &str, words: &[&str]) -> Result<String, Fault> {
         match name {
             "new" => self.make(words),
+            "new-full" => self.make_full(words),
             "clone" => self.make_clone(),
             "viewer" => self.make_viewer(),
             "sequence" => self.make_sequence(words),
@@ -127,6 +130,7 @@ impl Stage {
             "has" => tell::has(self.alloc, own, word),
             "ask" => tell::answer(self.alloc, own, word),
             "same" => tell::same(self.alloc, own, self.other(word)?),
+            "full-same" => tell::full_same(self.alloc, own, self.other(word)?),
             "diff" => tell::diff(self.alloc, own, self.other(word)?),
             _ => Err(Fault::Bad),
         }
@@ -202,13 +206,20 @@ impl Stage {
     }
 
     fn make(&mut self, words: &[&str]) -> Result<String, Fault> {
-        let [width, height, measure] = words else {
-            return Err(Fault::Bad);
-        };
-        let measure = Measure::from_word(measure).ok_or(Fault::Bad)?;
-        let (width, height) = size(width, height)?;
-        self.shown = Shown::Surface(self.surfaces.len());
+        let (width, height, measure) = measured_size(words)?;
         let surface = Surface::new(self.alloc, width, height, measure)?;
+        self.show(surface)
+    }
+
+    fn make_full(&mut self, words: &[&str]) -> Result<String, Fault> {
+        let (width, height, measure) = measured_size(words)?;
+        let surface = Surface::new_full(self.alloc, width, height, measure)?;
+        self.show(surface)
+    }
+
+    // The coming lines are about this new surface.
+    fn show(&mut self, surface: Surface<Measure>) -> Result<String, Fault> {
+        self.shown = Shown::Surface(self.surfaces.len());
         self.keep(surface)
     }
 
@@ -345,6 +356,18 @@ impl Stage {
     }
 }
 
+// A width and a height, and how columns are measured.
+fn measured_size(words: &[&str]) -> Result<(usize, usize, Measure), Fault>
+    ensures { IfOk result (λ made. (0 < made.0) × (made.0 < 2 ^ 32) × (0 < made.1) × (made.1 < 2 ^ 32)) }
+{
+    let [width, height, measure] = words else {
+        return Err(Fault::Bad);
+    };
+    let measure = Measure::from_word(measure).ok_or(Fault::Bad)?;
+    let (width, height) = size(width, height)?;
+    Ok((width, height, measure))
+}
+
 // The only number of the words.
 fn one(words: &[&str]) -> Result<usize, Fault> {
     match words {
@@ -359,6 +382,7 @@ fn named(alloc: Global, own: &Surface<Measure>, name: &str) -> Result<String, Fa
         "rows" => tell::rows(alloc, own),
         "number" => tell::number(alloc, own),
         "kept" => tell::kept(alloc, own),
+        "full" => tell::full(alloc, own),
         "screen" => tell::screen(alloc, own),
         "flags" => tell::flags(alloc, own),
         "cells" => tell::cells(alloc, own),

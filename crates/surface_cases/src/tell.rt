@@ -5,10 +5,10 @@ use crate::words::{given, pair, unescaped};
 use std::alloc::Global;
 use std::borrow::CowSlice;
 use termwiz_cell::cell::{Cell, CellAttributes};
-use termwiz_cell::change::{Change, SequenceNo};
+use termwiz_cell::change::{Change, LineAttribute, SequenceNo};
 use termwiz_cell::emoji::UnicodeWidths;
 use termwiz_line::line::line::Line;
-use termwiz_surface::surface::{Screen, Surface, SurfaceError};
+use termwiz_surface::surface::{FullScreen, Screen, Surface, SurfaceError};
 
 /// The number of a change that was made, or why it was refused.
 pub fn made(alloc: Global, made: Result<SequenceNo, SurfaceError>) -> Result<String, Fault> {
@@ -46,6 +46,49 @@ pub fn kept(alloc: Global, surface: &Surface<Measure>) -> Result<String, Fault> 
     let shape = surface.cursor_shape();
     let cursor = surface.cursor_visibility();
     Ok(format!(in alloc; "  title {title:?}, shape {shape:?}, cursor {cursor:?}\n")?)
+}
+
+/// The rows and the cursor, and all that is kept beside the screen of a full surface.
+pub fn full(alloc: Global, surface: &Surface<Measure>) -> Result<String, Fault> {
+    let mut told = rows(alloc, surface)?;
+    let full = surface.full_screen()?;
+    let kept = beside(alloc, &full)?;
+    told.push_str(kept.as_str())?;
+    Ok(told)
+}
+
+fn beside(alloc: Global, full: &FullScreen) -> Result<String, Fault> {
+    let ((x, y), visibility) = (full.screen.cursor, full.screen.visibility);
+    let (title, shape, color) = (full.title.as_str(), full.shape, full.color);
+    let mut told = format!(in alloc;
+        "  at {x} {y} {visibility:?}, title {title:?}, shape {shape:?}"
+    )?;
+    write!(told, ", color {color:?}, lines")?;
+    push_attributes(&mut told, full.lines.as_slice())?;
+    Ok(told)
+}
+
+fn push_attributes(told: &mut String, lines: &[LineAttribute]) -> Result<(), Fault> {
+    for line in lines {
+        write!(told, " {line:?}")?;
+    }
+    told.push('\n')?;
+    Ok(())
+}
+
+/// Whether both have the same full screen.
+pub fn full_same(
+    alloc: Global,
+    one: &Surface<Measure>,
+    other: &Surface<Measure>,
+) -> Result<String, Fault> {
+    let full = one.full_screen()?;
+    let same = has_full_screen(other, &full)?;
+    Ok(format!(in alloc; "  {same}\n")?)
+}
+
+fn has_full_screen(surface: &Surface<Measure>, full: &FullScreen) -> Result<bool, Fault> {
+    Ok(surface.full_screen()? == *full)
 }
 
 /// How many columns each row of the screen has.

@@ -191,6 +191,9 @@ fn a_remote_terminal_has_the_title_and_the_heading(rt: HostRuntime) {
     show_heading(alloc, &mut session, "w00t", &mut remote).expect(&rt, "a heading");
     let shown = remote.surface().full_screen().expect(&rt, "a full screen");
     assert_eq!(rt; shown.title.as_str(), "w00t");
-    assert!(rt; shown.lines[0] == LineAttribute::DoubleWidthLine);
-    assert!(rt; shown.lines[1] == LineAttribute::SingleWidthLine);
+    let lines = [
+        LineAttribute::DoubleWidthLine,
+        LineAttribute::SingleWidthLine,
+    ];
+    assert_eq!(rt; shown.lines.as_slice(), lines.as_slice());
 }

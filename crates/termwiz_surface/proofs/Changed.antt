@@ -7,13 +7,14 @@ use Rattle.termwiz_cell.specs.Attributes.{Attributes}
 use Rattle.termwiz_cell.specs.CellValue.{CellValue, blank_of}
 use Rattle.termwiz_storage.specs.Stored.{fill, IsPruned}
 use Rattle.termwiz_line.specs.Row.{row_of, clear}
-use Rattle.termwiz_surface.specs.Screen.{row_at}
-use Rattle.termwiz_surface.specs.SurfaceValue.{SurfaceValue, IsStored, IsSound, screen_of}
-use Rattle.termwiz_surface.specs.Clear.{pruned_length, cleared_row, cleared_row_length, cleared_length}
-use Rattle.termwiz_surface.specs.Rows.{IsPartly, ArePartly, AreFilled}
-use Rattle.termwiz_surface.proofs.Filling.{filled-others}
-use Rattle.termwiz_surface.proofs.Stored.{IsLawful}
-use Rattle.termwiz_surface.proofs.Clear.{IsStored-fill, length-filled, row-fill, row-pruned, length-pruned, IsStored-pruned}
+use Rattle.termwiz_screen.specs.Screen.{row_at}
+use Rattle.termwiz_surface.specs.SurfaceValue.{SurfaceValue, IsSound, screen_of}
+use Rattle.termwiz_screen.specs.Measured.{IsStored}
+use Rattle.termwiz_screen.specs.Clear.{pruned_length, cleared_row, cleared_row_length, cleared_length}
+use Rattle.termwiz_screen.specs.Rows.{IsPartly, ArePartly, AreFilled}
+use Rattle.termwiz_screen.proofs.Filling.{filled-others}
+use Rattle.termwiz_screen.proofs.Stored.{IsLawful}
+use Rattle.termwiz_screen.proofs.Clear.{IsStored-fill, length-filled, row-fill, row-pruned, length-pruned, IsStored-pruned}
 
 -- one row
 module _ (f : List ℕ → ℕ) (w x : ℕ) (a : Attributes) (cs new : List CellValue) (h : IsLawful f) (s : IsStored f w cs) (l : x ≤ w) (p : IsPruned (fill (w - x) x (blank_of a) cs) new) where

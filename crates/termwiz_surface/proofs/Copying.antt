@@ -7,14 +7,14 @@ use Rattle.std.proofs.lemmas.List.{length-map}
 use Rattle.termwiz_cell.specs.ChangeValue.{ChangeValue, change_value}
 use Rattle.termwiz_cell.specs.declared.change.Change.{Change}
 use Rattle.termwiz_surface.specs.Adding.{Adds}
-use Rattle.termwiz_surface.specs.Diff.{all_drawing, restoring}
-use Rattle.termwiz_surface.specs.Log.{next_number}
-use Rattle.termwiz_surface.specs.Screen.{Screen}
-use Rattle.termwiz_surface.specs.Step.{replay, regions_fit}
+use Rattle.termwiz_screen.specs.Diff.{all_drawing, restoring}
+use Rattle.termwiz_screen.specs.Log.{next_number}
+use Rattle.termwiz_screen.specs.Screen.{Screen}
+use Rattle.termwiz_screen.specs.Step.{replay, regions_fit}
 use Rattle.termwiz_surface.specs.SurfaceValue.{SurfaceValue, IsSound, screen_of}
 use Rattle.termwiz_surface.specs.declared.surface.SurfaceError.{SurfaceError}
 use Rattle.termwiz_surface.specs.declared.surface.SurfaceError.TheVariants.{ScrollRegion}
-use Rattle.termwiz_surface.proofs.Restoring.{drawing_restores, drawings_fit, restoring_fits}
+use Rattle.termwiz_screen.proofs.Restoring.{drawing_restores, drawings_fit, restoring_fits}
 
 module _ {W : Type 0} (f : List ℕ → ℕ) (old new : SurfaceValue W) where
   -- the number that is told counts the values of the changes

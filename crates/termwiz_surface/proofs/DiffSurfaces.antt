@@ -7,17 +7,17 @@ use Rattle.termwiz_cell.specs.CellValue.{CellValue, space}
 use Rattle.termwiz_cell.specs.ChangeValue.{ChangeValue}
 use Rattle.termwiz_line.specs.Row.{IsRow, row_of}
 use Rattle.termwiz_line.proofs.RowOf.{row_of_row}
-use Rattle.termwiz_surface.specs.Step.{replay}
-use Rattle.termwiz_surface.specs.Screen.{Screen, row_at}
+use Rattle.termwiz_screen.specs.Step.{replay}
+use Rattle.termwiz_screen.specs.Screen.{Screen, row_at}
 use Rattle.termwiz_surface.specs.SurfaceValue.{SurfaceValue, screen_of, IsSound}
-use Rattle.termwiz_surface.specs.Printable.{ArePrintable, IsPrintableRow}
-use Rattle.termwiz_surface.specs.Diff.{Region, cut, need, diff, band}
-use Rattle.termwiz_surface.specs.DiffLists.{IsDiff}
-use Rattle.termwiz_surface.specs.DiffRegions.{AreRows}
+use Rattle.termwiz_screen.specs.Printable.{ArePrintable, IsPrintableRow}
+use Rattle.termwiz_screen.specs.Diff.{Region, cut, need, diff, band}
+use Rattle.termwiz_screen.specs.DiffLists.{IsDiff}
+use Rattle.termwiz_screen.specs.DiffRegions.{AreRows}
 use Rattle.termwiz_surface.proofs.SoundRepaint.{sound_is_printable}
-use Rattle.termwiz_surface.proofs.LineEntries.{line_printable}
-use Rattle.termwiz_surface.proofs.DiffScreens.{cut_inside, band_inside}
-use Rattle.termwiz_surface.proofs.DiffLists.{region_diff, band_diff, gives_band}
+use Rattle.termwiz_screen.proofs.LineEntries.{line_printable}
+use Rattle.termwiz_screen.proofs.DiffScreens.{cut_inside, band_inside}
+use Rattle.termwiz_screen.proofs.DiffLists.{region_diff, band_diff, gives_band}
 
 module _ {W : Type 0} (g : List ℕ → ℕ) (v : SurfaceValue W) (sound : IsSound g v) where
   pub sound_row : (j : ℕ) → j < v.height → IsPrintableRow g v.width (row_at (screen_of v).rows j)

@@ -1,46 +1,23 @@
 -- What scrolling and putting a cell make of a surface.
-use Rattle.std.proofs.Common.{◌≡◌, ℕ, suc, ◌+◌, ◌-◌, ◌<◌, ◌≤◌, ◌^◌, ◌⊎◌, inl, inr, true, min, max, List, [], ◌∷◌, ◌++◌, length, get_or, map, drop, set, replicate, refl, sym, ◌∙◌, ap, ap₂, subst, arith, length-append, length-drop}
+use Rattle.std.proofs.Common.{◌≡◌, ℕ, suc, ◌+◌, ◌-◌, ◌<◌, ◌≤◌, ◌^◌, inl, inr, true, min, max, List, [], ◌∷◌, ◌++◌, length, get_or, map, drop, set, replicate, refl, sym, ◌∙◌, ap, ap₂, subst, arith, length-append, length-drop}
 use Rattle.std.specs.Prelude.{slice_set}
-use Rattle.std.specs.Str.{IsUtf8, bytes_eq}
 use Rattle.std.proofs.lemmas.List.{map-append, get_or-map, map-set, length-set, get_or-set_same, get_or-set_other, get_or_append_left, get_or-append_right, length-replicate, drop-map, get_or-drop}
-use Rattle.std.proofs.lemmas.Bool.{cases_Bool, cases_eq, cases_lt}
-use Rattle.unicode_segmentation.specs.Grapheme.{graphemes}
-use Rattle.unicode_segmentation.proofs.Computing.{unicode_segmentation}
-use Rattle.termwiz_cell.specs.Graphemes.{is_single, replacement, single}
-use Rattle.termwiz_cell.proofs.Graphemes.{graphemes-single}
-use Rattle.termwiz_cell.specs.CellValue.{CellValue, blank, columns, is_control, clean, measured}
-use Rattle.termwiz_cell.specs.Attributes.{Attributes}
+use Rattle.std.proofs.lemmas.Bool.{cases_eq, cases_lt}
+use Rattle.termwiz_cell.specs.CellValue.{CellValue, blank, columns}
 use Rattle.termwiz_line.specs.LineFlags.{LineFlags}
 use Rattle.termwiz_line.specs.Row.{row_of, paint}
-use Rattle.termwiz_surface.specs.Regions.{region_up, region_down}
-use Rattle.termwiz_surface.specs.Rows.{painted_in, ArePartlyReset}
-use Rattle.termwiz_surface.specs.Log.{LogValue, next_number}
-use Rattle.termwiz_surface.specs.Screen.{row_at}
-use Rattle.termwiz_surface.specs.Step.{regions_fit}
-use Rattle.termwiz_surface.specs.Print.{scrolled}
-use Rattle.termwiz_surface.specs.SurfaceValue.{SurfaceValue, IsMeasured, IsStored, IsSound}
+use Rattle.termwiz_screen.specs.Regions.{region_up, region_down}
+use Rattle.termwiz_screen.specs.Rows.{painted_in, ArePartlyReset}
+use Rattle.termwiz_screen.specs.Log.{LogValue, next_number}
+use Rattle.termwiz_screen.specs.Screen.{row_at}
+use Rattle.termwiz_screen.specs.Step.{regions_fit}
+use Rattle.termwiz_screen.specs.Print.{scrolled}
+use Rattle.termwiz_surface.specs.SurfaceValue.{SurfaceValue, IsSound}
+use Rattle.termwiz_screen.specs.Measured.{IsMeasured, IsStored}
 use Rattle.termwiz_line.proofs.StoredRows.{row_blank}
-use Rattle.termwiz_surface.proofs.Regions.{length-region_up, length-region_down}
-use Rattle.termwiz_surface.proofs.ScrolledRows.{stored-up, stored-down, stored-partly_reset}
-use Rattle.termwiz_surface.proofs.Stored.{IsLawful, halved, length-painted_in, graphemes-space, IsStored-blank, IsStored-painted_in, row-painted_in}
-
-graphemes-replacement : graphemes true replacement ≡ replacement ∷ []
-unfolding unicode_segmentation
-graphemes-replacement = refl
-
-single_alone : (g : List ℕ) → IsUtf8 g → graphemes true (single g) ≡ single g ∷ []
-single_alone g u = elim (cases_Bool (is_single g)) [ inl t ↦ rw t (graphemes-single g u t) | inr t ↦ rw t graphemes-replacement ]
-
-clean_cases : (t : List ℕ) → (clean t ≡ t) ⊎ (clean t ≡ 32 ∷ [])
-clean_cases [] = inr refl
-clean_cases (b ∷ []) = elim (cases_Bool (is_control b)) [ inl t ↦ inr (rw t refl) | inr t ↦ inl (rw t refl) ]
-clean_cases (b ∷ (c ∷ t)) = elim (cases_Bool (bytes_eq (b ∷ (c ∷ t)) (13 ∷ 10 ∷ []))) [ inl h ↦ inr (rw h refl) | inr h ↦ inl (rw h refl) ]
-
-pub IsMeasured-measured : (f : List ℕ → ℕ) (g : List ℕ) (pen : Attributes) → IsUtf8 g → IsMeasured f (measured f (single g) pen)
-IsMeasured-measured f g pen u = elim (clean_cases (single g)) [
-  | inl e ↦ record { alone = rw e (single_alone g u); is_clean = ap clean e; wide_is = refl }
-  | inr e ↦ record { alone = rw e graphemes-space; is_clean = rw e refl; wide_is = refl }
-]
+use Rattle.termwiz_screen.proofs.Regions.{length-region_up, length-region_down}
+use Rattle.termwiz_screen.proofs.ScrolledRows.{stored-up, stored-down, stored-partly_reset}
+use Rattle.termwiz_screen.proofs.Stored.{IsLawful, halved, length-painted_in, IsStored-blank, IsStored-painted_in, row-painted_in}
 
 -- of the flags of rows the form says how many they are
 pub any_flags : {W : Type 0} (f : List ℕ → ℕ) (s : SurfaceValue W) (flags : List LineFlags) → length flags ≡ length s.lines → IsSound f s → IsSound f (record s { flags = flags })

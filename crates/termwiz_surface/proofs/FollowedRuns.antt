@@ -6,20 +6,20 @@ use Rattle.std.proofs.lemmas.Bool.{true≢false, cases_Bool, eq-eqb, eqb-true}
 use Rattle.termwiz_cell.specs.ChangeValue.{ChangeValue, change_value}
 use Rattle.termwiz_cell.specs.declared.change.Change.{Change}
 use Rattle.termwiz_surface.specs.Following.{ViewerValue, Follows, FollowsTo, Accepts, IsFitted, IsAnswer, IsLost, HasNoRoom, has_size_of, asks_with}
-use Rattle.termwiz_surface.specs.Log.{next_number, due, is_known, worth, restarted}
-use Rattle.termwiz_surface.specs.FullScreen.{FullScreen, HasFullSize, full_of}
-use Rattle.termwiz_surface.specs.FullScreenValue.{full_value}
-use Rattle.termwiz_surface.specs.Picture.{Pictures, screens, full_screens, played}
-use Rattle.termwiz_surface.specs.Stream.{Brings}
-use Rattle.termwiz_surface.specs.declared.surface.full.FullScreen as full_code
-use Rattle.termwiz_surface.specs.Printable.{HasSize}
+use Rattle.termwiz_screen.specs.Log.{next_number, due, is_known, worth, restarted}
+use Rattle.termwiz_screen.specs.FullScreen.{FullScreen, HasFullSize}
+use Rattle.termwiz_surface.specs.SurfaceValue.{SurfaceValue, screen_of, full_of}
+use Rattle.termwiz_screen.specs.FullScreenValue.{full_value}
+use Rattle.termwiz_screen.specs.Picture.{Pictures, screens, full_screens, played}
+use Rattle.termwiz_screen.specs.Stream.{Brings}
+use Rattle.termwiz_screen.specs.declared.full.FullScreen as full_code
+use Rattle.termwiz_screen.specs.Printable.{HasSize}
 use Rattle.termwiz_surface.specs.Schedule.{Allows, CatchesUp, Loses, most_due, state_of}
-use Rattle.termwiz_surface.specs.Screen.{Screen}
-use Rattle.termwiz_surface.specs.ScreenValue.{screen_value}
-use Rattle.termwiz_surface.specs.SurfaceValue.{SurfaceValue, screen_of}
+use Rattle.termwiz_screen.specs.Screen.{Screen}
+use Rattle.termwiz_screen.specs.ScreenValue.{screen_value}
 use Rattle.termwiz_surface.specs.declared.surface.SurfaceError.{SurfaceError}
 use Rattle.termwiz_surface.specs.declared.surface.SurfaceError.TheVariants.{ScrollRegion, Numbers, Memory}
-use Rattle.termwiz_surface.specs.declared.surface.screen.Screen as code
+use Rattle.termwiz_screen.specs.declared.screen.Screen as code
 use Rattle.termwiz_surface.specs.declared.view.Event.TheVariants.{Follow}
 use Rattle.termwiz_surface.specs.declared.view.Outcome.TheVariants.{Followed, FollowedFull, Refused}
 use Rattle.termwiz_surface.proofs.Following.{known_tells, caught_up, fully_caught_up, fitted_last}

@@ -11,19 +11,19 @@ use Rattle.termwiz_cell.specs.ChangeValue.{ChangeValue}
 use Rattle.termwiz_surface.specs.Adding.{Adds, Makes, with_log}
 use Rattle.termwiz_surface.specs.Copies.{AddsDiff, AddsNothing}
 use Rattle.termwiz_surface.specs.Following.{ViewerValue, LeadsTo, Follows, has_size_of, asks_with, IsFitted}
-use Rattle.termwiz_surface.specs.Log.{LogValue, next_number, due, reaches, is_known, worth, appended, flushed, restarted}
-use Rattle.termwiz_surface.specs.Printable.{HasSize}
-use Rattle.termwiz_surface.specs.Prints.{Print}
+use Rattle.termwiz_screen.specs.Log.{LogValue, next_number, due, reaches, is_known, worth, appended, flushed, restarted}
+use Rattle.termwiz_screen.specs.Printable.{HasSize}
+use Rattle.termwiz_screen.specs.Prints.{Print}
 use Rattle.termwiz_surface.specs.Resizing.{HasResized, Resizes}
-use Rattle.termwiz_surface.specs.FullScreen.{full_screen, full_of, full_replay, HasFullSize}
-use Rattle.termwiz_surface.specs.Picture.{Pictures, screens, full_screens, played}
-use Rattle.termwiz_surface.specs.Step.{replay}
-use Rattle.termwiz_surface.specs.Stream.{Brings, IsStream, IsFullStream}
-use Rattle.termwiz_surface.specs.SurfaceValue.{SurfaceValue, screen_of, kept_of}
+use Rattle.termwiz_screen.specs.FullScreen.{full_screen, full_replay, HasFullSize}
+use Rattle.termwiz_surface.specs.SurfaceValue.{SurfaceValue, screen_of, kept_of, full_of}
+use Rattle.termwiz_screen.specs.Picture.{Pictures, screens, full_screens, played}
+use Rattle.termwiz_screen.specs.Step.{replay}
+use Rattle.termwiz_screen.specs.Stream.{Brings, IsStream, IsFullStream}
 use Rattle.termwiz_surface.specs.declared.surface.SurfaceError.{SurfaceError}
 use Rattle.termwiz_surface.specs.declared.surface.SurfaceError.TheVariants.{ScrollRegion, Numbers, Memory}
-use Rattle.termwiz_surface.proofs.FullScreens.{full-replayed}
-use Rattle.termwiz_surface.proofs.Logs.{reached, restarted_number}
+use Rattle.termwiz_screen.proofs.FullScreens.{full-replayed}
+use Rattle.termwiz_screen.proofs.Logs.{reached, restarted_number}
 use Rattle.termwiz_surface.proofs.ResizedSize.{resized_size}
 
 pub known_tells : (most : ℕ) (log : LogValue) (n : ℕ) → is_known most log n ≡ true → (n ≡ 0 → ⊥) × (log.first ≤ n)

@@ -1,60 +1,25 @@
 -- A run of ASCII that is printed at once prints its characters in turn.
-use Rattle.std.proofs.Common.{◌≡◌, ℕ, suc, ◌+◌, ◌-◌, ◌<◌, ◌≤◌, inl, inr, true, false, min, List, [], ◌∷◌, ◌++◌, length, get_or, take, fold, map, refl, sym, ◌∙◌, ap, ap₂, subst, arith}
-use Rattle.std.specs.Prelude.{slice_set, nat_le}
-use Rattle.std.specs.List.{list_all, slice_range}
-use Rattle.std.specs.Str.{IsCharBoundary}
-use Rattle.std.proofs.lemmas.List.Sums.{AllPass-from_list_all, fold-append}
-use Rattle.std.proofs.lemmas.Bool.{cases_Bool, le-ltb, leb-true, and_parts, ne_eqb}
-use Rattle.std.proofs.lemmas.List.{set-get_or, set-set, get_or-set_same, take_all, get_or_append_left, get_or-take, length-take, drop_more}
+use Rattle.std.proofs.Common.{◌≡◌, ℕ, suc, ◌+◌, ◌-◌, ◌<◌, ◌≤◌, true, false, min, List, [], ◌∷◌, length, fold, refl, sym, ◌∙◌, ap, ap₂, subst, arith}
+use Rattle.std.specs.Prelude.{slice_set}
+use Rattle.std.specs.List.{list_all}
+use Rattle.std.proofs.lemmas.List.Sums.{fold-append}
+use Rattle.std.proofs.lemmas.Bool.{and_parts, ne_eqb}
+use Rattle.std.proofs.lemmas.List.{set-get_or, set-set, get_or-set_same, take_all}
 use Rattle.unicode_segmentation.specs.Grapheme.{graphemes}
 use Rattle.termwiz_text.specs.Plain.{is_plain}
-use Rattle.termwiz_text.proofs.Plain.{graphemes_plain, utf8_one}
-use Rattle.termwiz_cell.specs.Attributes.{Attributes}
-use Rattle.termwiz_cell.specs.CellValue.{CellValue, plain_cell, clean, measured}
+use Rattle.termwiz_cell.specs.CellValue.{CellValue, plain_cell}
 use Rattle.termwiz_storage.specs.Stored.{set_cell, set_run}
 use Rattle.termwiz_storage.proofs.SetCell.{length-set_cell}
-use Rattle.termwiz_surface.specs.declared.surface.print.Piece.TheVariants.{Cell}
-use Rattle.termwiz_cell.specs.Graphemes.{single}
-use Rattle.termwiz_surface.specs.Kept.{Kept}
-use Rattle.termwiz_surface.specs.Screen.{Screen, row_at}
-use Rattle.termwiz_surface.specs.Print.{piece_of, print_piece, print_one, put, put_kept, printed_cell, piece_kept, one_kept, kept_after, wraps, wrapped, wrapped_kept, columns_left}
-use Rattle.termwiz_surface.specs.Printing.{AreNarrow, Prints, PrintsSome}
-use Rattle.termwiz_surface.specs.Rows.{painted_in}
-use Rattle.termwiz_surface.specs.SurfaceValue.{SurfaceValue, IsMeasured, IsSound, Draws, screen_of, kept_of}
-use Rattle.termwiz_cell.proofs.Graphemes.{graphemes-nothing, single_same}
-use Rattle.termwiz_surface.proofs.Stored.{IsLawful}
+use Rattle.termwiz_screen.specs.Kept.{Kept}
+use Rattle.termwiz_screen.specs.Screen.{Screen, row_at}
+use Rattle.termwiz_screen.specs.Print.{print_one, put, put_kept, printed_cell, one_kept, kept_after, wraps, wrapped, wrapped_kept}
+use Rattle.termwiz_screen.specs.Runs.{AreNarrow}
+use Rattle.termwiz_surface.specs.Printing.{Prints, PrintsSome}
+use Rattle.termwiz_screen.specs.Rows.{painted_in}
+use Rattle.termwiz_surface.specs.SurfaceValue.{SurfaceValue, IsSound, Draws, screen_of, kept_of}
+use Rattle.termwiz_screen.proofs.Stored.{IsLawful}
+use Rattle.termwiz_screen.proofs.Runs.{piece-plain, measured-plain, IsMeasured-plain, pieces, screen-from_wrap, kept-from_wrap, kept_after-append}
 use Rattle.termwiz_surface.proofs.Drawn.{IsSound-put, rows-put, lengths-put}
-
-plain_from : (b : ℕ) → is_plain b ≡ true → 32 ≤ b
-plain_from b h = leb-true 32 b (and_parts (nat_le 0x20 b) (nat_le b 0x7E) h).0
-
-plain_to : (b : ℕ) → is_plain b ≡ true → b ≤ 126
-plain_to b h = leb-true b 126 (and_parts (nat_le 0x20 b) (nat_le b 0x7E) h).1
-
-alone-plain : (b : ℕ) → is_plain b ≡ true → graphemes true (b ∷ []) ≡ (b ∷ []) ∷ []
-alone-plain b h = graphemes_plain b [] (utf8_one b h) h refl ∙ ap (λ gs. (b ∷ []) ∷ gs) graphemes-nothing
-
-clean-plain : (b : ℕ) → is_plain b ≡ true → clean (b ∷ []) ≡ b ∷ []
-clean-plain b h =
-    let low : 32 ≤ b = plain_from b h in
-    let high : b ≤ 126 = plain_to b h in
-    rw (le-ltb b 32 low, ne_eqb b 127 (omega arith)) refl
-
-piece-plain : (f : List ℕ → ℕ) (pen : Attributes) (b : ℕ) → is_plain b ≡ true → piece_of f pen (b ∷ []) ≡ Cell (printed_cell f pen (b ∷ []))
-piece-plain f pen b h =
-    let low : 32 ≤ b = plain_from b h in
-    rw (ne_eqb b 13 (omega arith), ne_eqb b 10 (omega arith)) refl
-
-module _ (f : List ℕ → ℕ) (b : ℕ) (a : Attributes) (plain : is_plain b ≡ true) (narrow : f (b ∷ []) ≤ 1) where
-  measured-plain : measured f (single (b ∷ [])) a ≡ plain_cell b a
-  measured-plain = rw (single_same (b ∷ []) (alone-plain b plain), clean-plain b plain, le-ltb 1 (f (b ∷ [])) narrow) refl
-
-  IsMeasured-plain : IsMeasured f (plain_cell b a)
-  IsMeasured-plain = record { alone = alone-plain b plain; is_clean = clean-plain b plain; wide_is = sym (le-ltb 1 (f (b ∷ [])) narrow) }
-
--- the graphemes of a run
-abbrev pub pieces : List ℕ → List (List ℕ)
-pieces bs = map (λ c. c ∷ []) bs
 
 module _ {W : Type 0} where
   -- the surface with one character printed in its row, and with a run
@@ -135,40 +100,6 @@ module _ {W : Type 0} (f : List ℕ → ℕ) (lawful : IsLawful f) where
         kept = more.kept ∙ ap₂ (λ (z : Screen) (k : Kept). kept_after f z k (pieces bs)) (screen_more s sound b inside is.0 one) (kept_more s sound b inside is.0 one);
       })
 
--- what a wrap keeps, and the room that it leaves
-pub pen-wrapped : (s : Screen) → (wrapped s).pen ≡ s.pen
-pen-wrapped s = elim (cases_Bool (wraps s)) [ inl w ↦ rw w refl | inr n ↦ rw n refl ]
-
-pub room-wrapped : (s : Screen) (n : ℕ) → s.x ≤ s.width → n ≤ columns_left s → (wrapped s).x + n ≤ s.width
-room-wrapped s n l h = elim (cases_Bool (wraps s)) [
-  | inl w ↦ let m : n ≤ s.width = rw w at h in rw w (omega arith)
-  | inr q ↦ let m : n ≤ s.width - s.x = rw q at h in rw q (omega arith)
-]
-
--- a wrap may come before its grapheme
-module _ (f : List ℕ → ℕ) (s : Screen) (k : Kept) (g : List ℕ) (gs : List (List ℕ)) (is_text : piece_of f s.pen g ≡ Cell (printed_cell f s.pen g)) (settled : wraps (wrapped s) ≡ false) where
-  wrapped-twice : wrapped (wrapped s) ≡ wrapped s
-  wrapped-twice = rw settled refl
-
-  piece-wrapped : piece_of f (wrapped s).pen g ≡ Cell (printed_cell f s.pen g)
-  piece-wrapped = ap (λ (a : Attributes). piece_of f a g) (pen-wrapped s) ∙ is_text
-
-  print-wrapped : print_one f (wrapped s) g ≡ print_one f s g
-  print-wrapped = ap (print_piece (wrapped s)) piece-wrapped ∙ ap (λ (z : Screen). put z (printed_cell f s.pen g)) wrapped-twice ∙ sym (ap (print_piece s) is_text)
-
-  kept-wrapped : one_kept f (wrapped s) g (wrapped_kept s k) ≡ one_kept f s g k
-  kept-wrapped =
-      let once : wrapped_kept (wrapped s) (wrapped_kept s k) ≡ wrapped_kept s k = rw settled refl in
-      ap (λ p. piece_kept (wrapped s) p (wrapped_kept s k)) piece-wrapped
-      ∙ ap₂ (λ (z : Screen) (m : Kept). put_kept z (printed_cell f s.pen g) m) wrapped-twice once
-      ∙ sym (ap (λ p. piece_kept s p k) is_text)
-
-  pub screen-from_wrap : fold (print_one f) (wrapped s) (g ∷ gs) ≡ fold (print_one f) s (g ∷ gs)
-  screen-from_wrap = ap (λ (z : Screen). fold (print_one f) z gs) print-wrapped
-
-  pub kept-from_wrap : kept_after f (wrapped s) (wrapped_kept s k) (g ∷ gs) ≡ kept_after f s k (g ∷ gs)
-  kept-from_wrap = ap₂ (λ (z : Screen) (m : Kept). kept_after f z m gs) print-wrapped kept-wrapped
-
 -- a run that is printed after the wrap is printed
 pub prints-after_wrap : {W : Type 0} (f : List ℕ → ℕ) (old mid new : SurfaceValue W) (bs : List ℕ) → 0 < length bs → list_all is_plain bs ≡ true
     → Draws old (wrapped (screen_of old)) (wrapped_kept (screen_of old) (kept_of old)) mid → mid.x < mid.width → Prints f mid (pieces bs) new → Prints f old (pieces bs) new
@@ -185,31 +116,6 @@ prints-after_wrap f old mid new (b ∷ bs) some plain d inside p =
       screen_is = p.screen_is ∙ ap (λ (z : Screen). fold (print_one f) z (pieces (b ∷ bs))) d.screen_is ∙ screen-from_wrap f (screen_of old) (kept_of old) (b ∷ []) (pieces bs) (piece-plain f old.pen b is) settled;
       kept_is = p.kept_is ∙ ap₂ (λ (z : Screen) (k : Kept). kept_after f z k (pieces (b ∷ bs))) d.screen_is d.kept_is ∙ kept-from_wrap f (screen_of old) (kept_of old) (b ∷ []) (pieces bs) (piece-plain f old.pen b is) settled;
     }
-
--- a run of ASCII may be cut anywhere
-pub boundary-plain : (bs : List ℕ) (i : ℕ) → list_all is_plain bs ≡ true → i ≤ length bs → IsCharBoundary bs i
-boundary-plain bs i h l = (
-  l,
-  λ m n.
-      let is : is_plain (get_or bs i 0) ≡ true = AllPass-from_list_all is_plain bs h i 0 m in
-      let low : get_or bs i 0 ≤ 126 = plain_to (get_or bs i 0) is in
-      absurd (omega arith),
-)
-
--- a shorter beginning of the same text is a beginning of the narrow one
-pub narrow-shorter : (f : List ℕ → ℕ) (n : ℕ) (run rest short more : List ℕ) → run ++ rest ≡ short ++ more → length short ≤ n → n ≤ length run → AreNarrow f (take n run) → AreNarrow f short
-narrow-shorter f n run rest short more e s l h = λ k d m.
-    let left : get_or (run ++ rest) k d ≡ get_or run k d = get_or_append_left run rest d k (omega arith) in
-    let right : get_or (short ++ more) k d ≡ get_or short k d = get_or_append_left short more d k m in
-    let same : get_or (take n run) k d ≡ get_or short k d = get_or-take n run k d (omega arith) ∙ sym left ∙ ap (λ (t : List ℕ). get_or t k d) e ∙ right in
-    subst (λ (b : ℕ). f (b ∷ []) ≤ 1) same (h k d (omega (arith, length-take n run)))
-
-pub one_byte : (bs : List ℕ) (k : ℕ) → k < length bs → slice_range bs k (k + 1) ≡ get_or bs k 0 ∷ []
-one_byte bs k l = let one : k + 1 - k ≡ 1 = omega arith in rw (one, drop_more bs k 0 l) refl
-
-pub kept_after-append : (f : List ℕ → ℕ) (s : Screen) (k : Kept) (gs hs : List (List ℕ)) → kept_after f s k (gs ++ hs) ≡ kept_after f (fold (print_one f) s gs) (kept_after f s k gs) hs
-kept_after-append f s k [] hs = refl
-kept_after-append f s k (g ∷ gs) hs = kept_after-append f (print_one f s g) (one_kept f s g k) gs hs
 
 module _ {W : Type 0} (f : List ℕ → ℕ) (old new : SurfaceValue W) (text rest : List ℕ) (p : PrintsSome f old text rest new) where
   -- printing what is left leads where printing the whole led

@@ -4,13 +4,14 @@ use Rattle.std.proofs.lemmas.Bool.{cases_lt}
 use Rattle.std.proofs.lemmas.List.{length-map, length-replicate, length-take, get_or-map, get_or-replicate, get_or_append_left, get_or-append_right}
 use Rattle.termwiz_cell.specs.CellValue.{CellValue, blank}
 use Rattle.termwiz_line.specs.Row.{row_of}
-use Rattle.termwiz_surface.specs.Printable.{HasSize}
+use Rattle.termwiz_screen.specs.Printable.{HasSize}
 use Rattle.termwiz_line.specs.LineFlags.{no_flags}
-use Rattle.termwiz_surface.specs.FullScreen.{HasFullSize, full_of, line_attribute}
-use Rattle.termwiz_surface.specs.Kept.{Kept}
-use Rattle.termwiz_surface.specs.Resizing.{HasResized, resized_screen}
-use Rattle.termwiz_surface.specs.SurfaceValue.{SurfaceValue, screen_of}
-use Rattle.termwiz_surface.specs.Screen.{Screen, row_at}
+use Rattle.termwiz_screen.specs.FullScreen.{HasFullSize, line_attribute}
+use Rattle.termwiz_surface.specs.SurfaceValue.{SurfaceValue, screen_of, full_of}
+use Rattle.termwiz_screen.specs.Kept.{Kept}
+use Rattle.termwiz_surface.specs.Resizing.{HasResized}
+use Rattle.termwiz_screen.specs.Resized.{resized_screen}
+use Rattle.termwiz_screen.specs.Screen.{Screen, row_at}
 use Rattle.termwiz_line.proofs.RowOf.{length-row_of}
 
 module _ (s : Screen) (w h : ℕ) where

@@ -8,17 +8,17 @@ use Rattle.termwiz_cell.specs.ChangeValue.{ChangeValue, change_value}
 use Rattle.termwiz_cell.specs.declared.change.Change.{Change}
 use Rattle.termwiz_cell.specs.declared.change.CursorVisibility.TheVariants.{Visible}
 use Rattle.termwiz_cell.specs.declared.change.CursorShape.TheVariants as shapes
-use Rattle.termwiz_surface.specs.FullScreen.{line_attribute}
+use Rattle.termwiz_screen.specs.FullScreen.{line_attribute}
 use Rattle.termwiz_cell.specs.declared.color.ColorAttribute.TheVariants.{Default}
 use Rattle.termwiz_line.specs.LineFlags.{no_flags}
 use Rattle.termwiz_line.specs.Row.{row_of}
 use Rattle.termwiz_surface.specs.SurfaceValue.{SurfaceValue}
 use Rattle.termwiz_surface.specs.Adding.{Adds}
 use Rattle.termwiz_surface.specs.Copies.{AddsDiff, AddsNothing, IsDrawn, IsCopied}
-use Rattle.termwiz_surface.specs.Diff.{restoring}
-use Rattle.termwiz_surface.specs.Prints.{Print}
+use Rattle.termwiz_screen.specs.Diff.{restoring}
+use Rattle.termwiz_screen.specs.Prints.{Print}
 use Rattle.termwiz_surface.specs.Following.{ViewerValue, blank_viewer}
-use Rattle.termwiz_surface.specs.Log.{next_number}
+use Rattle.termwiz_screen.specs.Log.{next_number}
 use Rattle.termwiz_surface.specs.Schedule.{State, AllowsList, AllowsDiff, AllowsNothing, Allows, Runs, Ended, Next, outcome_of, state_of, first_state, blank_screen}
 use Rattle.termwiz_surface.specs.declared.surface.SurfaceError.{SurfaceError}
 use Rattle.termwiz_surface.specs.declared.surface.SurfaceError.TheVariants.{ScrollRegion, Numbers, Memory}
@@ -27,7 +27,7 @@ use Rattle.termwiz_surface.specs.declared.view.Event.TheVariants.{Changes, Draw,
 use Rattle.termwiz_surface.specs.declared.view.Outcome.{Outcome}
 use Rattle.termwiz_line.proofs.StoredRows.{row_blank}
 use Rattle.termwiz_surface.proofs.Copying.{Adds-values}
-use Rattle.termwiz_surface.proofs.Regions.{map-replicate}
+use Rattle.termwiz_screen.proofs.Regions.{map-replicate}
 use Rattle.termwiz_surface.proofs.SoundRepaint.{sound_has_size, sound_is_printable}
 use Rattle.std.proofs.lemmas.List.{length-replicate}
 

@@ -8,11 +8,12 @@ use Rattle.termwiz_storage.specs.Halves.{resized}
 use Rattle.termwiz_storage.proofs.SetCell.{stored-padded}
 use Rattle.termwiz_line.specs.LineValue.{LineValue}
 use Rattle.termwiz_line.specs.Row.{row_of}
-use Rattle.termwiz_surface.specs.Screen.{row_at}
-use Rattle.termwiz_surface.specs.ScreenValue.{cells_of, numberless}
-use Rattle.termwiz_surface.specs.SurfaceValue.{SurfaceValue, IsStored, IsSound}
+use Rattle.termwiz_screen.specs.Screen.{row_at}
+use Rattle.termwiz_screen.specs.ScreenValue.{cells_of, numberless}
+use Rattle.termwiz_surface.specs.SurfaceValue.{SurfaceValue, IsSound}
+use Rattle.termwiz_screen.specs.Measured.{IsStored}
 use Rattle.termwiz_line.proofs.StoredRows.{row_ext}
-use Rattle.termwiz_surface.proofs.Stored.{halved}
+use Rattle.termwiz_screen.proofs.Stored.{halved}
 
 module _ (f : List ℕ → ℕ) (w : ℕ) (cs : List CellValue) (s : IsStored f w cs) where
   -- a short row does not end in a wide cell

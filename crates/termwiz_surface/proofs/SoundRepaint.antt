@@ -5,20 +5,21 @@ use Rattle.termwiz_cell.specs.declared.change.CursorShape.TheVariants.{Default}
 use Rattle.termwiz_cell.specs.declared.color.ColorAttribute.TheVariants as color
 use Rattle.termwiz_cell.specs.CellValue.{CellValue, space}
 use Rattle.termwiz_line.specs.Row.{row_of}
-use Rattle.termwiz_surface.specs.Screen.{Screen, row_at}
-use Rattle.termwiz_surface.specs.Step.{replay, regions_fit}
-use Rattle.termwiz_surface.specs.Repaint.{repaint_in, full_repaint}
-use Rattle.termwiz_surface.specs.FullScreen.{FullScreen, line_attribute, full_screen, full_of, full_replay, HasFullSize}
-use Rattle.termwiz_surface.specs.Kept.{Kept}
-use Rattle.termwiz_surface.specs.Stream.{most_entries}
-use Rattle.termwiz_surface.specs.SurfaceValue.{SurfaceValue, screen_of, kept_of, IsMeasured, IsStored, IsSound}
-use Rattle.termwiz_surface.specs.Printable.{IsPrintableRow, IsPrintable, HasSize}
+use Rattle.termwiz_screen.specs.Screen.{Screen, row_at}
+use Rattle.termwiz_screen.specs.Step.{replay, regions_fit}
+use Rattle.termwiz_screen.specs.Repaint.{repaint_in, full_repaint}
+use Rattle.termwiz_screen.specs.FullScreen.{FullScreen, line_attribute, full_screen, full_replay, HasFullSize}
+use Rattle.termwiz_surface.specs.SurfaceValue.{SurfaceValue, screen_of, kept_of, full_of, IsSound}
+use Rattle.termwiz_screen.specs.Kept.{Kept}
+use Rattle.termwiz_screen.specs.Stream.{most_entries}
+use Rattle.termwiz_screen.specs.Measured.{IsMeasured, IsStored}
+use Rattle.termwiz_screen.specs.Printable.{IsPrintableRow, IsPrintable, HasSize}
 use Rattle.termwiz_line.proofs.RowOf.{row_of_row, row_shows, length-row_of}
-use Rattle.termwiz_surface.proofs.FullRepaint.{full_repaint_gives}
-use Rattle.termwiz_surface.proofs.FullScreens.{screen-replayed}
-use Rattle.termwiz_surface.proofs.RepaintLength.{repaint_short, full_repaint_short}
-use Rattle.termwiz_surface.proofs.RepaintRegions.{repaint_fits, full_repaint_fits}
-use Rattle.termwiz_surface.proofs.RepaintScreen.{repaint_gives}
+use Rattle.termwiz_screen.proofs.FullRepaint.{full_repaint_gives}
+use Rattle.termwiz_screen.proofs.FullScreens.{screen-replayed}
+use Rattle.termwiz_screen.proofs.RepaintLength.{repaint_short, full_repaint_short}
+use Rattle.termwiz_screen.proofs.RepaintRegions.{repaint_fits, full_repaint_fits}
+use Rattle.termwiz_screen.proofs.RepaintScreen.{repaint_gives}
 
 -- the row of a form that is stored
 pub stored_is_printable : (f : List ℕ → ℕ) (w : ℕ) (cells : List CellValue) → IsStored f w cells → IsPrintableRow f w (row_of w cells)

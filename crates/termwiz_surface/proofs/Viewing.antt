@@ -4,15 +4,15 @@ use Rattle.std.specs.Prelude.{Result, Ok, Err, OnOk}
 use Rattle.std.proofs.lemmas.Bool.{true≢false}
 use Rattle.termwiz_cell.specs.ChangeValue.{ChangeValue}
 use Rattle.termwiz_surface.specs.Following.{ViewerValue, Follows, forgetful, IsFitted, IsAnswer, Fetches, Accepts, IsLost, HasNoRoom, FollowsTo}
-use Rattle.termwiz_surface.specs.Log.{next_number}
+use Rattle.termwiz_screen.specs.Log.{next_number}
 use Rattle.termwiz_surface.specs.Adding.{Makes}
-use Rattle.termwiz_surface.specs.FullScreen.{HasFullSize, full_of, full_replay}
-use Rattle.termwiz_surface.specs.Step.{replay, regions_fit}
-use Rattle.termwiz_surface.specs.SurfaceValue.{SurfaceValue, screen_of}
+use Rattle.termwiz_screen.specs.FullScreen.{HasFullSize, full_replay}
+use Rattle.termwiz_surface.specs.SurfaceValue.{SurfaceValue, screen_of, full_of}
+use Rattle.termwiz_screen.specs.Step.{replay, regions_fit}
 use Rattle.termwiz_surface.specs.declared.surface.SurfaceError.{SurfaceError}
 use Rattle.termwiz_surface.specs.declared.surface.SurfaceError.TheVariants.{ScrollRegion, Numbers, Memory}
 use Rattle.termwiz_surface.proofs.Following.{Follows-none, Follows-same, Follows-fitted, caught_up, fully_caught_up, full-made, fitted_widths, fitted_full, fitted_height, fitted_number, fitted_last}
-use Rattle.termwiz_surface.proofs.Logs.{restarted_number}
+use Rattle.termwiz_screen.proofs.Logs.{restarted_number}
 
 module _ {W : Type 0} where
   -- a viewer that is as another one but for its number

@@ -2,11 +2,11 @@
 use Rattle.std.specs.Prelude.{◌≡◌, ℕ, ◌+◌, ◌-◌, ◌⊎◌, List, length, Result, Err}
 use Rattle.termwiz_cell.specs.ChangeValue.{ChangeValue}
 use Rattle.termwiz_surface.specs.Adding.{Adds}
-use Rattle.termwiz_surface.specs.Diff.{Region, cut, need, restoring}
-use Rattle.termwiz_surface.specs.DiffLists.{IsDiff}
-use Rattle.termwiz_surface.specs.Log.{next_number}
-use Rattle.termwiz_surface.specs.Prints.{Print}
-use Rattle.termwiz_surface.specs.Screen.{Screen}
+use Rattle.termwiz_screen.specs.Diff.{Region, cut, need, restoring}
+use Rattle.termwiz_screen.specs.DiffLists.{IsDiff}
+use Rattle.termwiz_screen.specs.Log.{next_number}
+use Rattle.termwiz_screen.specs.Prints.{Print}
+use Rattle.termwiz_screen.specs.Screen.{Screen}
 use Rattle.termwiz_surface.specs.SurfaceValue.{SurfaceValue, screen_of}
 use Rattle.termwiz_surface.specs.declared.surface.SurfaceError.{SurfaceError}
 use Rattle.termwiz_surface.specs.declared.surface.SurfaceError.TheVariants.{Memory}

@@ -9,14 +9,14 @@ use Rattle.termwiz_cell.specs.declared.change.CursorVisibility.TheVariants.{Visi
 use Rattle.termwiz_cell.specs.declared.color.ColorAttribute.TheVariants.{Default}
 use Rattle.termwiz_line.specs.LineFlags.{no_flags}
 use Rattle.termwiz_surface.specs.Adding.{Adds, Makes}
-use Rattle.termwiz_surface.specs.Log.{LogValue, next_number, due, is_known, worth}
+use Rattle.termwiz_screen.specs.Log.{LogValue, next_number, due, is_known, worth}
 use Rattle.termwiz_surface.specs.Resizing.{HasResized}
-use Rattle.termwiz_surface.specs.Screen.{Screen}
-use Rattle.termwiz_surface.specs.Step.{regions_fit}
-use Rattle.termwiz_surface.specs.Stream.{IsStream, IsFullStream, most_entries}
-use Rattle.termwiz_surface.specs.FullScreen.{FullScreen, full_of}
-use Rattle.termwiz_surface.specs.Picture.{Pictures, screens, full_screens, played}
-use Rattle.termwiz_surface.specs.SurfaceValue.{SurfaceValue, screen_of}
+use Rattle.termwiz_screen.specs.Screen.{Screen}
+use Rattle.termwiz_screen.specs.Step.{regions_fit}
+use Rattle.termwiz_screen.specs.Stream.{IsStream, IsFullStream, most_entries}
+use Rattle.termwiz_screen.specs.FullScreen.{FullScreen}
+use Rattle.termwiz_surface.specs.SurfaceValue.{SurfaceValue, screen_of, full_of}
+use Rattle.termwiz_screen.specs.Picture.{Pictures, screens, full_screens, played}
 use Rattle.termwiz_surface.specs.declared.surface.SurfaceError.{SurfaceError}
 use Rattle.termwiz_surface.specs.declared.surface.SurfaceError.TheVariants.{ScrollRegion, Numbers, Memory}
 

@@ -2,9 +2,9 @@
 use Rattle.std.specs.Prelude.{◌≡◌, ℕ, List}
 use Rattle.termwiz_cell.specs.ChangeValue.{ChangeValue}
 use Rattle.termwiz_surface.specs.Following.{LeadsTo}
-use Rattle.termwiz_surface.specs.Log.{LogValue, next_number, appended, flushed, restarted}
-use Rattle.termwiz_surface.specs.Picture.{Pictures, played}
-use Rattle.termwiz_surface.specs.Stream.{Brings}
+use Rattle.termwiz_screen.specs.Log.{LogValue, next_number, appended, flushed, restarted}
+use Rattle.termwiz_screen.specs.Picture.{Pictures, played}
+use Rattle.termwiz_screen.specs.Stream.{Brings}
 
 module _ {P : Type 0} (pictures : Pictures P) where
   -- a viewer with the surface's own picture and number is led there by nothing

@@ -1,20 +1,10 @@
--- What another size makes of a screen, of what is kept beside it, and of a surface.
-use Rattle.std.specs.Prelude.{◌≡◌, ℕ, ◌+◌, ◌<◌, ◌≤◌, ◌^◌, pos, replicate, Result, Ok, Err}
-use Rattle.termwiz_surface.specs.Kept.{Kept}
-use Rattle.termwiz_surface.specs.Log.{next_number, restarted}
-use Rattle.termwiz_surface.specs.Place.{moved}
-use Rattle.termwiz_surface.specs.Resized.{resized_rows, resized_flags}
-use Rattle.termwiz_surface.specs.Screen.{Screen}
+-- What another size makes of a surface.
+use Rattle.std.specs.Prelude.{◌≡◌, ℕ, ◌+◌, ◌<◌, ◌≤◌, ◌^◌, Result, Ok, Err}
+use Rattle.termwiz_screen.specs.Log.{next_number, restarted}
+use Rattle.termwiz_screen.specs.Resized.{resized_screen, resized_kept}
 use Rattle.termwiz_surface.specs.SurfaceValue.{SurfaceValue, screen_of, kept_of, Draws}
 use Rattle.termwiz_surface.specs.declared.surface.SurfaceError.{SurfaceError}
 use Rattle.termwiz_surface.specs.declared.surface.SurfaceError.TheVariants.{ScrollRegion, Numbers, Memory}
-
--- the screen in another size; the cursor is placed as by a move of nothing
-abbrev pub resized_screen : Screen → ℕ → ℕ → Screen
-resized_screen s w h = record s { width = w; height = h; rows = resized_rows w h s.rows; x = moved (pos 0) s.x w; y = moved (pos 0) s.y h }
-
-abbrev pub resized_kept : Kept → ℕ → ℕ → Kept
-resized_kept k w h = record k { lengths = replicate h w; flags = resized_flags h k.flags }
 
 module _ {W : Type 0} where
   -- the surface has another size, and an empty log under a new number, or 0 where that was the number

@@ -6,26 +6,27 @@ use Rattle.termwiz_cell.specs.CellValue.{CellValue, blank}
 use Rattle.termwiz_cell.specs.ChangeValue.{ChangeValue, change_value}
 use Rattle.termwiz_cell.specs.declared.change.CursorVisibility.TheVariants.{Visible}
 use Rattle.termwiz_line.specs.Row.{row_of}
-use Rattle.termwiz_surface.specs.Screen.{Screen, row_at}
-use Rattle.termwiz_surface.specs.Step.{replay, replay_kept, regions_fit}
-use Rattle.termwiz_surface.specs.Log.{LogValue, next_number, due, is_known, worth, appended, flushed, restarted}
-use Rattle.termwiz_surface.specs.Resizing.{resized_screen, resized_kept}
-use Rattle.termwiz_surface.specs.Stream.{IsStream, IsFullStream, most_entries}
-use Rattle.termwiz_surface.specs.FullScreen.{FullScreen, full_screen, full_of}
-use Rattle.termwiz_surface.specs.FullScreenValue.{full_value}
-use Rattle.termwiz_surface.specs.Picture.{Pictures, screens, full_screens, played}
+use Rattle.termwiz_screen.specs.Screen.{Screen, row_at}
+use Rattle.termwiz_screen.specs.Step.{replay, replay_kept, regions_fit}
+use Rattle.termwiz_screen.specs.Log.{LogValue, next_number, due, is_known, worth, appended, flushed, restarted}
+use Rattle.termwiz_screen.specs.Resized.{resized_screen, resized_kept}
+use Rattle.termwiz_screen.specs.Stream.{IsStream, IsFullStream, most_entries}
+use Rattle.termwiz_screen.specs.FullScreen.{FullScreen, full_screen}
+use Rattle.termwiz_surface.specs.SurfaceValue.{SurfaceValue, screen_of, kept_of, full_of}
+use Rattle.termwiz_screen.specs.FullScreenValue.{full_value}
+use Rattle.termwiz_screen.specs.Picture.{Pictures, screens, full_screens, played}
 use Rattle.termwiz_cell.specs.declared.change.CursorShape.TheVariants as shapes
 use Rattle.termwiz_cell.specs.declared.change.LineAttribute.TheVariants.{SingleWidthLine}
-use Rattle.termwiz_surface.specs.Printable.{HasSize, IsPrintable}
-use Rattle.termwiz_surface.specs.ShownChars.{shown_chars}
+use Rattle.termwiz_screen.specs.Printable.{HasSize, IsPrintable}
+use Rattle.termwiz_screen.specs.ShownChars.{shown_chars}
 use Rattle.termwiz_surface.specs.Following.{ViewerValue}
-use Rattle.termwiz_surface.specs.ScreenValue.{screen_value}
-use Rattle.termwiz_surface.specs.SurfaceValue.{SurfaceValue, IsStored, screen_of, kept_of}
-use Rattle.termwiz_surface.specs.Prints.{Print}
-use Rattle.termwiz_surface.specs.Diff.{need, restoring}
-use Rattle.termwiz_surface.specs.DiffLists.{IsDiff}
+use Rattle.termwiz_screen.specs.ScreenValue.{screen_value}
+use Rattle.termwiz_screen.specs.Measured.{IsStored}
+use Rattle.termwiz_screen.specs.Prints.{Print}
+use Rattle.termwiz_screen.specs.Diff.{need, restoring}
+use Rattle.termwiz_screen.specs.DiffLists.{IsDiff}
 use Rattle.termwiz_surface.specs.Copies.{drawn_region, copied_region}
-use Rattle.termwiz_surface.specs.Kept.{Kept}
+use Rattle.termwiz_screen.specs.Kept.{Kept}
 use Rattle.termwiz_line.specs.LineFlags.{no_flags}
 use Rattle.termwiz_cell.specs.declared.color.ColorAttribute.TheVariants.{Default}
 use Rattle.termwiz_surface.specs.declared.surface.SurfaceError.{SurfaceError}

@@ -1,18 +1,18 @@
 -- What contracts see of a surface, and the form that it keeps.
-use Rattle.std.specs.Prelude.{◌≡◌, ℕ, suc, ◌<◌, ◌≤◌, ◌^◌, Bool, true, nat_lt, Option, List, [], ◌∷◌, map, length}
-use Rattle.unicode_segmentation.specs.Grapheme.{graphemes}
+use Rattle.std.specs.Prelude.{◌≡◌, ℕ, ◌<◌, ◌≤◌, ◌^◌, Bool, true, Option, List, map, length}
 use Rattle.termwiz_cell.specs.Attributes.{Attributes}
-use Rattle.termwiz_cell.specs.CellValue.{CellValue, half, is_wide, clean}
+use Rattle.termwiz_cell.specs.CellValue.{CellValue}
 use Rattle.termwiz_cell.specs.declared.change.CursorVisibility.{CursorVisibility}
-use Rattle.termwiz_storage.specs.Stored.{stored}
 use Rattle.termwiz_line.specs.Row.{row_of}
 use Rattle.termwiz_cell.specs.declared.color.ColorAttribute.{ColorAttribute}
 use Rattle.termwiz_cell.specs.declared.change.CursorShape.{CursorShape}
 use Rattle.termwiz_line.specs.LineFlags.{LineFlags}
-use Rattle.termwiz_surface.specs.Kept.{Kept}
-use Rattle.termwiz_surface.specs.Log.{LogValue, next_number}
-use Rattle.termwiz_surface.specs.Screen.{Screen, row_at}
-use Rattle.termwiz_surface.specs.Step.{regions_fit}
+use Rattle.termwiz_screen.specs.FullScreen.{FullScreen, full_screen}
+use Rattle.termwiz_screen.specs.Kept.{Kept}
+use Rattle.termwiz_screen.specs.Log.{LogValue, next_number}
+use Rattle.termwiz_screen.specs.Measured.{IsStored}
+use Rattle.termwiz_screen.specs.Screen.{Screen, row_at}
+use Rattle.termwiz_screen.specs.Step.{regions_fit}
 
 pub record SurfaceValue (W : Type 0) : Type 0 where
   pub widths : W
@@ -44,20 +44,9 @@ module _ {W : Type 0} where
   abbrev pub kept_of : SurfaceValue W → Kept
   kept_of s = record { lengths = lengths_of s; flags = s.flags; title = s.title; shape = s.shape; color = s.color }
 
--- the cell's text is one clean grapheme, and its width is measured
-pub record IsMeasured (measure : List ℕ → ℕ) (c : CellValue) : Type 0 where
-  pub alone : graphemes true c.text ≡ c.text ∷ []
-  pub is_clean : clean c.text ≡ c.text
-  pub wide_is : c.wide ≡ nat_lt 1 (measure c.text)
-
--- the form of the cells that are stored in a row of width w
-pub record IsStored (measure : List ℕ → ℕ) (w : ℕ) (cs : List CellValue) : Type 0 where
-  pub some : 0 < length cs
-  pub within : length cs ≤ w
-  pub halves : (k : ℕ) → suc k < w → is_wide (stored cs k) ≡ true → stored cs (suc k) ≡ half (stored cs k)
-  -- a short row does not end in a wide cell
-  pub closed : (k : ℕ) → suc k < w → is_wide (stored cs k) ≡ true → suc k < length cs
-  pub measured : (k : ℕ) → IsMeasured measure (stored cs k)
+-- the full screen of a surface
+abbrev pub full_of : {W : Type 0} → SurfaceValue W → FullScreen
+full_of s = full_screen (screen_of s) (kept_of s)
 
 -- the form that every surface keeps
 pub record IsSound {W : Type 0} (measure : List ℕ → ℕ) (s : SurfaceValue W) : Type 0 where

@@ -1,18 +1,10 @@
 //! Laws of the definitions that contracts cite, each on a function that does nothing.
 ghost use Rattle.termwiz_surface.specs.FollowingLaws.{ChangesLeadOn, FlushesKeepLeading, LeadsWhereItIs, RestartsKeepLeading, StreamsLeadOn};
-ghost use Rattle.termwiz_surface.specs.DiffLaws.{CutIsInside, DiffGivesBand, DiffGivesRegion, DiffGivesRows, DrawingRestores, LinesArePrintable, NeedGivesRegion, NeedGivesRows, NeedIs, PrintsAreDiff, RegionIsDiff};
-ghost use Rattle.termwiz_surface.specs.FullLaws.{ChangesMakeFullScreens, FullRepaintGivesScreen, FullRepaintIsShort, FullStepsAreSo, ResizedKeepsLines};
-ghost use Rattle.termwiz_surface.specs.Picture.{full_screens, screens};
-ghost use Rattle.termwiz_surface.specs.Fewest.{FewestNarrowPrints, FewestPrints};
-ghost use Rattle.termwiz_surface.specs.RepaintLaws.{LineEntriesGiveRow, RepaintGivesScreen, RepaintIsShort};
-ghost use Rattle.termwiz_surface.specs.SequenceLaws.{MovesLeadThere, TextsMoveAlike};
+ghost use Rattle.termwiz_screen.specs.Picture.{full_screens, screens};
 
-/// What a repaint and the entries of a line do when they are replayed.
-pub fn repaint_laws()
-    ensures gives { RepaintGivesScreen }
-    ensures short { RepaintIsShort }
-    ensures line { LineEntriesGiveRow }
-{}
+pub use termwiz_screen::laws::{
+    diff_laws, fewest_prints, full_repaint_laws, need_laws, repaint_laws, sequence_laws,
+};
 
 /// A viewer that follows a surface still does after whatever happens to the surface: changes, flushes, want of memory and another size; and what it is answered leads it to the surface's screen. `Follows` is made of what these laws speak of.
 pub fn following_laws()
@@ -30,44 +22,4 @@ pub fn full_following_laws()
     ensures streams { StreamsLeadOn full_screens }
     ensures flushes { FlushesKeepLeading full_screens }
     ensures restarts { RestartsKeepLeading full_screens }
-{}
-
-/// What changes make of full screens, and what a full repaint does when it is replayed.
-pub fn full_repaint_laws()
-    ensures step { FullStepsAreSo }
-    ensures changes { ChangesMakeFullScreens }
-    ensures resized { ResizedKeepsLines }
-    ensures gives { FullRepaintGivesScreen }
-    ensures short { FullRepaintIsShort }
-{}
-
-/// What a diff has to print: in words, and what it gives where it is painted.
-pub fn need_laws()
-    ensures worded { NeedIs }
-    ensures inside { CutIsInside }
-    ensures region { NeedGivesRegion }
-    ensures rows { NeedGivesRows }
-{}
-
-/// What the changes of a diff do when they are replayed, whoever made them.
-pub fn diff_laws()
-    ensures prints { PrintsAreDiff }
-    ensures region_is { RegionIsDiff }
-    ensures rows { DiffGivesRows }
-    ensures region { DiffGivesRegion }
-    ensures band { DiffGivesBand }
-    ensures lines { LinesArePrintable }
-    ensures restores { DrawingRestores }
-{}
-
-/// How few paints lead from one screen to another of its size: no fewer than a third of what a diff prints, and no fewer than all of it where nothing is wide.
-pub fn fewest_prints()
-    ensures thirds { FewestPrints }
-    ensures narrow { FewestNarrowPrints }
-{}
-
-/// Where a text and a move leave the cursor of a sequence: a text in the column in which it leaves a surface's, and a move by distances at its place, where that is on the screen or as many rows above it.
-pub fn sequence_laws()
-    ensures texts { TextsMoveAlike }
-    ensures moves { MovesLeadThere }
 {}

@@ -4,51 +4,33 @@ ghost use Rattle.termwiz_cell.specs.Attributes.{default_attributes, with_backgro
 ghost use Rattle.termwiz_cell.specs.CellValue.{blank};
 ghost use Rattle.termwiz_cell.specs.Width.{unversioned};
 ghost use Rattle.termwiz_cell.specs.declared.change.CursorVisibility.TheVariants.{Visible};
-ghost use Rattle.termwiz_surface.specs.Clear.{clear_eol, clear_eos, clear_screen, eol_lengths, eos_lengths, screen_lengths};
-ghost use Rattle.termwiz_surface.specs.Place.{placed};
-ghost use Rattle.termwiz_surface.specs.Step.{step, step_kept, replay, replay_kept, region_fits, regions_fit};
-ghost use Rattle.termwiz_surface.specs.Regions.{region_up, region_down};
-ghost use Rattle.termwiz_surface.specs.Kept.{with_line_attribute};
+ghost use Rattle.termwiz_screen.specs.Clear.{clear_eol, clear_eos, clear_screen, eol_lengths, eos_lengths, screen_lengths};
+ghost use Rattle.termwiz_screen.specs.Place.{placed};
+ghost use Rattle.termwiz_screen.specs.Step.{step, step_kept, replay, replay_kept, region_fits, regions_fit};
+ghost use Rattle.termwiz_screen.specs.Regions.{region_up, region_down};
+ghost use Rattle.termwiz_screen.specs.Kept.{with_line_attribute};
 ghost use Rattle.termwiz_line.specs.LineFlags.{no_flags};
 ghost use Rattle.termwiz_cell.specs.declared.color.ColorAttribute.TheVariants.{Default};
 ghost use Rattle.termwiz_cell.specs.AttributeChangeValue.{attribute_change_value, with_attribute};
 ghost use Rattle.termwiz_cell.specs.ChangeValue.{change_value};
 ghost use Rattle.std.specs.List.{All};
-ghost use Rattle.termwiz_surface.specs.ShownChars.{shown_chars};
-ghost use Rattle.termwiz_surface.specs.ScreenValue.{screen_value};
-ghost use Rattle.termwiz_surface.specs.SurfaceValue.{IsSound};
+ghost use Rattle.termwiz_screen.specs.ShownChars.{shown_chars};
+ghost use Rattle.termwiz_screen.specs.ScreenValue.{screen_value};
+ghost use Rattle.termwiz_surface.specs.SurfaceValue.{IsSound, full_of};
 ghost use Rattle.termwiz_surface.specs.Adding.{Adds, Makes, Refuses};
 ghost use Rattle.termwiz_surface.specs.Following.{Follows, ViewerValue};
-ghost use Rattle.termwiz_surface.specs.Log.{next_number};
-ghost use Rattle.termwiz_surface.specs.Printable.{HasSize, IsPrintable};
-ghost use Rattle.termwiz_surface.specs.FullScreen.{full_of, HasFullSize};
+ghost use Rattle.termwiz_screen.specs.Log.{next_number};
+ghost use Rattle.termwiz_screen.specs.Printable.{HasSize, IsPrintable};
+ghost use Rattle.termwiz_screen.specs.FullScreen.{HasFullSize};
 
 mod answers;
 mod copies;
 mod diff;
 mod full;
 mod lines;
-mod log;
-mod pen;
-mod place;
 mod print;
-mod region;
-mod repaint;
 mod resizing;
-mod rows;
-mod screen;
-mod shown;
 
-pub use full::FullScreen;
-use log::Log;
-use pen::{background_only, blank_with};
-use place::{column_at, row_at};
-use region::regions_fit;
-use rows::{
-    blank_rows, chars_of, fill_row, fill_rows, resized_lines, scroll_region_down, scroll_region_up,
-    set_line_attribute,
-};
-pub use screen::Screen;
 use std::alloc::{AllocError, Global};
 use std::collections::VecDeque;
 use std::marker::Model;
@@ -60,6 +42,16 @@ use termwiz_cell::change::{
 use termwiz_cell::color::ColorAttribute;
 use termwiz_cell::emoji::Widths;
 use termwiz_line::line::line::Line;
+pub use termwiz_screen::full::FullScreen;
+use termwiz_screen::log::Log;
+use termwiz_screen::pen::{background_only, blank_with};
+use termwiz_screen::place::{column_at, row_at};
+use termwiz_screen::region::regions_fit;
+use termwiz_screen::rows::{
+    blank_rows, chars_of, fill_row, fill_rows, resized_lines, scroll_region_down, scroll_region_up,
+    set_line_attribute,
+};
+pub use termwiz_screen::screen::Screen;
 use thiserror::Error;
 
 /// Why a list of changes, or another size, is refused. The errors have numbers, and are told in this order.
@@ -120,8 +112,8 @@ pub struct Surface<W: Widths> {
 impl<W: Widths> Model for Surface<W> {
     ghost use Rattle.termwiz_cell.specs.Width.{unversioned};
     ghost use Rattle.std.specs.Prelude.{string_bytes};
-    ghost use Rattle.termwiz_surface.specs.ScreenValue.{cells_of};
-    ghost use Rattle.termwiz_surface.specs.Sides.{row_flags, AreVectors};
+    ghost use Rattle.termwiz_screen.specs.ScreenValue.{cells_of};
+    ghost use Rattle.termwiz_screen.specs.Sides.{row_flags, AreVectors};
     ghost use Rattle.termwiz_surface.specs.SurfaceValue.{SurfaceValue, IsSound};
 
     ghost Value = { SurfaceValue W };

@@ -4,11 +4,11 @@ use Rattle.std.proofs.lemmas.List.{get_or-set_same, length-map, length-set, map-
 use Rattle.termwiz_cell.specs.ChangeValue as change
 use Rattle.termwiz_cell.specs.declared.change.LineAttribute.TheVariants.{DoubleWidthLine, SingleWidthLine}
 use Rattle.termwiz_line.specs.LineFlags.{LineFlags, no_flags}
-use Rattle.termwiz_surface.specs.FullScreen.{line_attribute, full_of}
+use Rattle.termwiz_surface.specs.FullScreen.{line_attribute}
+use Rattle.termwiz_surface.specs.SurfaceValue.{SurfaceValue, screen_of, kept_of, full_of, IsSound}
 use Rattle.termwiz_surface.specs.Kept.{Kept, with_line_attribute}
 use Rattle.termwiz_surface.specs.Screen.{Screen}
 use Rattle.termwiz_surface.specs.Step.{step, step_kept, replay, replay_kept}
-use Rattle.termwiz_surface.specs.SurfaceValue.{SurfaceValue, screen_of, kept_of, IsSound}
 use Rattle.uses.specs.Headings.{heading_changes}
 
 -- a row whose flags were set so is shown so

@@ -4,7 +4,7 @@ ghost use Rattle.termwiz_cell.specs.ChangeValue.{change_value};
 ghost use Rattle.termwiz_cell.specs.Width.{unversioned};
 ghost use Rattle.termwiz_cell.specs.declared.change.LineAttribute.TheVariants.{DoubleWidthLine, SingleWidthLine};
 ghost use Rattle.termwiz_surface.specs.Following.{Follows};
-ghost use Rattle.termwiz_surface.specs.FullScreen.{full_of};
+ghost use Rattle.termwiz_surface.specs.SurfaceValue.{full_of};
 ghost use Rattle.uses.specs.Headings.{heading_changes};
 
 use std::alloc::{AllocError, Global};

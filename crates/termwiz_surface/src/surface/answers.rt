@@ -5,24 +5,24 @@ ghost use Rattle.termwiz_cell.specs.ChangeValue.{change_value};
 ghost use Rattle.termwiz_cell.specs.Width.{unversioned};
 ghost use Rattle.termwiz_surface.specs.Adding.{with_log};
 ghost use Rattle.termwiz_surface.specs.Following.{Follows, ViewerValue};
-ghost use Rattle.termwiz_surface.specs.FullScreen.{full_of, full_screen};
-ghost use Rattle.termwiz_surface.specs.Log.{due, flushed, is_known, next_number, worth};
-ghost use Rattle.termwiz_surface.specs.Printable.{HasSize};
-ghost use Rattle.termwiz_surface.specs.Repaint.{repaint, full_repaint, repaint_in};
-ghost use Rattle.termwiz_surface.specs.Screen.{Screen};
-ghost use Rattle.termwiz_surface.specs.Step.{replay, regions_fit};
-ghost use Rattle.termwiz_surface.specs.Stream.{IsStream, IsFullStream, Lends, most_entries, stream_of};
-ghost use Rattle.termwiz_surface.specs.SurfaceValue.{screen_of, kept_of};
+ghost use Rattle.termwiz_surface.specs.SurfaceValue.{screen_of, kept_of, full_of};
+ghost use Rattle.termwiz_screen.specs.FullScreen.{full_screen};
+ghost use Rattle.termwiz_screen.specs.Log.{due, flushed, is_known, next_number, worth};
+ghost use Rattle.termwiz_screen.specs.Printable.{HasSize};
+ghost use Rattle.termwiz_screen.specs.Repaint.{repaint, full_repaint, repaint_in};
+ghost use Rattle.termwiz_screen.specs.Screen.{Screen};
+ghost use Rattle.termwiz_screen.specs.Step.{replay, regions_fit};
+ghost use Rattle.termwiz_screen.specs.Stream.{IsStream, IsFullStream, Lends, most_entries, stream_of};
 
 use super::Surface;
-use super::log::worth;
-use super::repaint::full::{fully_framed, fully_started};
-use super::repaint::{all_rows, framed, started};
 use std::alloc::AllocError;
 use std::borrow::CowSlice;
 use termwiz_cell::cell::Cell;
 use termwiz_cell::change::{Change, SequenceNo};
 use termwiz_cell::emoji::Widths;
+use termwiz_screen::log::worth;
+use termwiz_screen::repaint::full::{fully_framed, fully_started};
+use termwiz_screen::repaint::{all_rows, framed, started};
 
 impl<W: Widths> Surface<W> {
     /// Whether there are changes that a viewer with this number lacks: whether it isn't the coming change's.

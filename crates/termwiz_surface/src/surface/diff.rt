@@ -4,28 +4,23 @@ ghost use Rattle.std.specs.List.{All};
 ghost use Rattle.termwiz_cell.specs.ChangeValue.{change_value};
 ghost use Rattle.termwiz_cell.specs.Width.{unversioned};
 ghost use Rattle.termwiz_line.specs.Row.{row_of};
-ghost use Rattle.termwiz_surface.specs.Diff.{band, cut, diff, need, whole};
-ghost use Rattle.termwiz_surface.specs.DiffLists.{IsDiff};
-ghost use Rattle.termwiz_surface.specs.DiffRegions.{AreRows, CrossNone, HaveRegion};
-ghost use Rattle.termwiz_surface.specs.Printable.{ArePrintable};
-ghost use Rattle.termwiz_surface.specs.Prints.{printed};
-ghost use Rattle.termwiz_surface.specs.RegionValue.{region_value};
-ghost use Rattle.termwiz_surface.specs.Screen.{row_at};
-ghost use Rattle.termwiz_surface.specs.Step.{replay};
+ghost use Rattle.termwiz_screen.specs.Diff.{band, cut, diff, need, whole};
+ghost use Rattle.termwiz_screen.specs.DiffLists.{IsDiff};
+ghost use Rattle.termwiz_screen.specs.DiffRegions.{AreRows, CrossNone, HaveRegion};
+ghost use Rattle.termwiz_screen.specs.Printable.{ArePrintable};
+ghost use Rattle.termwiz_screen.specs.Prints.{printed};
+ghost use Rattle.termwiz_screen.specs.RegionValue.{region_value};
+ghost use Rattle.termwiz_screen.specs.Screen.{row_at};
+ghost use Rattle.termwiz_screen.specs.Step.{replay};
 ghost use Rattle.termwiz_surface.specs.SurfaceValue.{screen_of};
 
-mod lists;
-mod region;
-mod rows;
-mod writer;
-
 use super::Surface;
-use lists::{diff_line, diff_lines, diff_rows};
-use region::Region;
 use std::alloc::AllocError;
 use termwiz_cell::change::Change;
 use termwiz_cell::emoji::Widths;
 use termwiz_line::line::line::Line;
+use termwiz_screen::diff::lists::{diff_line, diff_lines, diff_rows};
+use termwiz_screen::diff::region::Region;
 
 impl<W: Widths> Surface<W> {
     /// The changes that make this surface show what another one of its size shows: made by `add_changes`, they give it the other's rows by exactly the cells that it doesn't show yet, where both measure texts alike. There are none where the rows are equal. Where the sizes differ, what fits in both is compared.

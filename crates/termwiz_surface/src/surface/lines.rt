@@ -1,7 +1,7 @@
 //! The rows of a surface, lent as lines or as cells.
 ghost use Rattle.std.specs.Prelude.{◌≡◌, true, map, IfOk};
-ghost use Rattle.termwiz_surface.specs.ScreenValue.{cells_of};
-ghost use Rattle.termwiz_surface.specs.Sides.{row_flags, AreVectors};
+ghost use Rattle.termwiz_screen.specs.ScreenValue.{cells_of};
+ghost use Rattle.termwiz_screen.specs.Sides.{row_flags, AreVectors};
 
 use super::Surface;
 use std::alloc::{AllocError, Global};

@@ -1,100 +1,24 @@
-//! Texts: their graphemes, the cells that these print, and how a surface prints them.
-ghost use Rattle.std.specs.Prelude.{◌≡◌, ◌+◌, ◌<◌, ◌≤◌, true, false, List, [], ◌∷◌, length, map, take, IfOk, OnOk, OnErr};
+//! How a surface prints texts.
+ghost use Rattle.std.specs.Prelude.{◌≡◌, ◌+◌, ◌<◌, ◌≤◌, true, false, [], ◌∷◌, length, map, IfOk, OnOk, OnErr};
 ghost use Rattle.std.specs.List.{list_all};
 ghost use Rattle.termwiz_text.specs.Plain.{is_plain};
 ghost use Rattle.unicode_segmentation.specs.Grapheme.{graphemes};
 ghost use Rattle.termwiz_cell.specs.CellValue.{measured};
 ghost use Rattle.termwiz_cell.specs.Width.{unversioned};
-ghost use Rattle.termwiz_cell.specs.Graphemes.{single};
 ghost use Rattle.termwiz_cell.specs.Attributes.{needs_box};
-ghost use Rattle.termwiz_surface.specs.Print.{columns_left, down, down_kept, one_kept, piece_of, print, print_kept, print_one, printed_cell, put, put_kept, wrapped, wrapped_kept};
-ghost use Rattle.termwiz_surface.specs.SurfaceValue.{Draws, IsMeasured, SameFrame, kept_of, screen_of};
-ghost use Rattle.termwiz_surface.specs.Printing.{AreNarrow, IsMeasuredPiece, IsNarrowRun, Prints, PrintsSome};
+ghost use Rattle.termwiz_screen.specs.Print.{columns_left, down, down_kept, one_kept, print, print_kept, print_one, put, put_kept, wrapped, wrapped_kept};
+ghost use Rattle.termwiz_surface.specs.SurfaceValue.{Draws, SameFrame, kept_of, screen_of};
+ghost use Rattle.termwiz_screen.specs.Measured.{IsMeasured};
+ghost use Rattle.termwiz_screen.specs.Runs.{AreNarrow};
+ghost use Rattle.termwiz_surface.specs.Printing.{Prints, PrintsSome};
 
 use super::Surface;
-use super::rows::{paint_row, paint_run, scroll_rows};
-use std::alloc::{AllocError, Global};
-use termwiz_cell::cell::{Cell, CellAttributes};
+use std::alloc::AllocError;
+use termwiz_cell::cell::Cell;
 use termwiz_cell::emoji::Widths;
-use termwiz_text::{split_first_grapheme, split_plain_run};
-
-/// What a grapheme prints: a line break, or a cell.
-#[derive(Drop, Debug)]
-pub enum Piece {
-    CarriageReturn,
-    LineFeed,
-    CarriageReturnLineFeed,
-    Cell(Cell),
-}
-
-// The piece that a grapheme prints with a pen.
-#[inline(always)]
-fn printed_piece<W: Widths>(
-    alloc: Global,
-    widths: &W,
-    grapheme: &str,
-    pen: &CellAttributes,
-) -> Result<Piece, AllocError>
-    requires { graphemes true grapheme.now ≡ grapheme.now ∷ [] }
-    ensures piece { IfOk result (λ piece. piece ≡ piece_of (unversioned (W.width_of widths.now)) pen.now grapheme.now) }
-    ensures measured { IfOk result (IsMeasuredPiece (unversioned (W.width_of widths.now))) }
-{
-    Ok(match grapheme.as_bytes() {
-        [b'\r'] => Piece::CarriageReturn,
-        [b'\n'] => Piece::LineFeed,
-        [b'\r', b'\n'] => Piece::CarriageReturnLineFeed,
-        _ => Piece::Cell(printed_cell(alloc, widths, grapheme, pen)?),
-    })
-}
-
-// The cell of a grapheme.
-#[inline(always)]
-#[tactic(auto, using(termwiz_cell::proofs::Graphemes::single_same))]
-fn printed_cell<W: Widths>(
-    alloc: Global,
-    widths: &W,
-    grapheme: &str,
-    pen: &CellAttributes,
-) -> Result<Cell, AllocError>
-    requires { graphemes true grapheme.now ≡ grapheme.now ∷ [] }
-    ensures cell { IfOk result (λ cell. cell ≡ printed_cell (unversioned (W.width_of widths.now)) pen.now grapheme.now) }
-    ensures measured { IfOk result (IsMeasured (unversioned (W.width_of widths.now))) }
-{
-    let attrs = pen.clone()?;
-    let cell = Cell::new_grapheme(alloc, widths, grapheme, attrs, None)?;
-    Ok(cell)
-}
-
-// Whether a text begins with printable ASCII. Where it does not, there is no run to look for.
-fn begins_plain(text: &str) -> bool {
-    matches!(text.as_bytes(), [b' '..=b'~', ..])
-}
-
-// How many characters of a run of ASCII, from its first one on, have at most one column each.
-fn narrow_len<W: Widths>(widths: &W, run: &str) -> usize
-    requires { list_all is_plain run.now ≡ true }
-    ensures within { result ≤ length run.now }
-    ensures narrow { AreNarrow (unversioned (W.width_of widths.now)) (take result run.now) }
-{
-    for k in 0..run.len() {
-        if widths.width(&run[k..k + 1], None) > 1 {
-            return k;
-        }
-    }
-    run.len()
-}
-
-// The run of printable ASCII, each with at most one column, that the text begins with and that fits in this many columns, and what follows it.
-fn split_narrow_run<'a, W: Widths>(widths: &W, text: &'a str, columns: usize) -> (&'a str, &'a str)
-    ensures { IsNarrowRun (unversioned (W.width_of widths.now)) text.now columns result.0.now result.1.now }
-{
-    let (run, rest) = split_plain_run(text, columns);
-    let narrow = narrow_len(widths, run);
-    if narrow < run.len() {
-        return split_plain_run(text, narrow);
-    }
-    (run, rest)
-}
+use termwiz_screen::print::{Piece, begins_plain, printed_piece, split_narrow_run};
+use termwiz_screen::rows::{paint_row, paint_run, scroll_rows};
+use termwiz_text::split_first_grapheme;
 
 impl<W: Widths> Surface<W> {
     fn line_feed(&mut self) -> Result<(), AllocError>

@@ -2,13 +2,13 @@
 ghost use Rattle.std.specs.Prelude.{◌≡◌, ◌+◌, ◌<◌, ◌^◌, OnOk, OnErr};
 ghost use Rattle.termwiz_cell.specs.Width.{unversioned};
 ghost use Rattle.termwiz_surface.specs.Following.{Follows, ViewerValue};
-ghost use Rattle.termwiz_surface.specs.Log.{next_number};
+ghost use Rattle.termwiz_screen.specs.Log.{next_number};
 ghost use Rattle.termwiz_surface.specs.Resizing.{HasResized, Resizes};
 
-use super::rows::resize_rows;
 use super::{Surface, SurfaceError};
 use std::alloc::AllocError;
 use termwiz_cell::emoji::Widths;
+use termwiz_screen::rows::resize_rows;
 
 impl<W: Widths> Surface<W> {
     /// Takes another size, in columns and rows. Each row is cut, or filled with default blanks; rows go at the bottom, or default ones come there. The cursor stays where it is on the surface still, and else, from a pending wrap too, goes to the last column or row.

@@ -3,9 +3,9 @@ ghost use Rattle.std.specs.Prelude.{◌≡◌, true, map, IfOk, OnOk, OnErr};
 ghost use Rattle.termwiz_cell.specs.ChangeValue.{change_value};
 ghost use Rattle.termwiz_cell.specs.Width.{unversioned};
 ghost use Rattle.termwiz_surface.specs.Following.{blank_viewer, forgetful, Accepts, Fetches, Fits, Follows, FollowsTo};
-ghost use Rattle.termwiz_surface.specs.Log.{next_number};
-ghost use Rattle.termwiz_surface.specs.FullScreen.{full_of, HasFullSize};
-ghost use Rattle.termwiz_surface.specs.SurfaceValue.{screen_of};
+ghost use Rattle.termwiz_screen.specs.Log.{next_number};
+ghost use Rattle.termwiz_surface.specs.SurfaceValue.{screen_of, full_of};
+ghost use Rattle.termwiz_screen.specs.FullScreen.{HasFullSize};
 
 use super::copied;
 use crate::surface::{Surface, SurfaceError};

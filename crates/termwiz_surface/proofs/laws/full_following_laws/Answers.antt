@@ -1,4 +1,4 @@
-use Rattle.termwiz_surface.specs.Picture.{full_screens}
+use Rattle.termwiz_screen.specs.Picture.{full_screens}
 use Rattle.termwiz_surface.proofs.Following.{Leads-same, Leads-appended, Leads-flushed, Leads-restarted, Leads-stream}
 use Rattle.termwiz_surface.proofs.laws.full_following_laws.Goals as goal
 

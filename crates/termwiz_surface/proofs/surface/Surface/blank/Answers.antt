@@ -3,10 +3,10 @@ use Rattle.std.proofs.lemmas.List.{length-replicate, get_or-replicate}
 use Rattle.termwiz_cell.specs.Width.{unversioned}
 use Rattle.std.specs.Prelude.{None}
 use Rattle.termwiz_cell.specs.CellValue.{blank}
-use Rattle.termwiz_surface.specs.Log.{next_number}
-use Rattle.termwiz_surface.specs.SurfaceValue.{IsStored}
-use Rattle.termwiz_surface.proofs.Sides.{sides-full}
-use Rattle.termwiz_surface.proofs.Stored.{IsStored-blank}
+use Rattle.termwiz_screen.specs.Log.{next_number}
+use Rattle.termwiz_screen.specs.Measured.{IsStored}
+use Rattle.termwiz_screen.proofs.Sides.{sides-full}
+use Rattle.termwiz_screen.proofs.Stored.{IsStored-blank}
 use Rattle.termwiz_surface.proofs.surface.Surface.blank.Goals as goal
 
 pub invariant_of-result : goal.invariant_of-result

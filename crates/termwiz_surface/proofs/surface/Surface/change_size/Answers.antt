@@ -1,12 +1,12 @@
 use Rattle.std.proofs.Common.{◌≡◌, ◌+◌, ◌-◌, ◌<◌, ◌^◌, min, length, refl, sym, ap, ◌∙◌, subst, arith}
 use Rattle.std.specs.Prelude.{None, string_bytes}
 use Rattle.termwiz_cell.specs.Width.{unversioned}
-use Rattle.termwiz_surface.specs.ScreenValue.{cells_of}
-use Rattle.termwiz_surface.specs.Log.{next_number}
+use Rattle.termwiz_screen.specs.ScreenValue.{cells_of}
+use Rattle.termwiz_screen.specs.Log.{next_number}
 use Rattle.termwiz_surface.specs.SurfaceValue.{SurfaceValue}
-use Rattle.termwiz_surface.proofs.Logs.{restarted_fits}
-use Rattle.termwiz_surface.proofs.Sides.{sides-full}
-use Rattle.termwiz_surface.proofs.ResizedRows.{length-resized_stored, stored-resized, lengths-resized, shown-resized}
+use Rattle.termwiz_screen.proofs.Logs.{restarted_fits}
+use Rattle.termwiz_screen.proofs.Sides.{sides-full}
+use Rattle.termwiz_screen.proofs.ResizedRows.{length-resized_stored, stored-resized, lengths-resized, shown-resized}
 use Rattle.termwiz_surface.proofs.surface.Surface.change_size.Goals as goal
 
 pub invariant_of-self-2 : goal.invariant_of-self-2

@@ -2,7 +2,7 @@ use Rattle.std.proofs.Common.{refl}
 use Rattle.std.specs.Prelude.{None, string_bytes}
 use Rattle.termwiz_cell.specs.Attributes.{with_background}
 use Rattle.termwiz_cell.specs.Width.{unversioned}
-use Rattle.termwiz_surface.specs.ScreenValue.{cells_of}
+use Rattle.termwiz_screen.specs.ScreenValue.{cells_of}
 use Rattle.termwiz_surface.proofs.Changed.{IsSound-partly, IsSound-eos, rows-eos, lengths-eos}
 use Rattle.termwiz_surface.proofs.surface.Surface.clear_to_end_of_screen.Goals as goal
 

@@ -2,8 +2,8 @@ use Rattle.std.proofs.Common.{map}
 use Rattle.termwiz_cell.specs.ChangeValue.{change_value}
 use Rattle.termwiz_cell.specs.Width.{unversioned}
 use Rattle.termwiz_surface.specs.Copies.{copied_region}
-use Rattle.termwiz_surface.specs.DiffRegions.{CrossNone, HaveRegion}
-use Rattle.termwiz_surface.specs.Screen.{Screen}
+use Rattle.termwiz_screen.specs.DiffRegions.{CrossNone, HaveRegion}
+use Rattle.termwiz_screen.specs.Screen.{Screen}
 use Rattle.termwiz_surface.specs.SurfaceValue.{screen_of}
 use Rattle.termwiz_surface.proofs.Copying.{added_screen, copied_no_scroll}
 use Rattle.termwiz_surface.proofs.surface.Surface.copy_region.Goals as goal

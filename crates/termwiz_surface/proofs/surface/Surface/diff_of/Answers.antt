@@ -3,13 +3,13 @@ use Rattle.std.proofs.lemmas.Result.{IfOk-weaker}
 use Rattle.std.specs.VecDeque.{deque_len}
 use Rattle.termwiz_cell.specs.Width.{unversioned}
 use Rattle.termwiz_line.specs.Row.{row_of}
-use Rattle.termwiz_surface.specs.Diff.{cut, diff, need}
-use Rattle.termwiz_surface.specs.DiffLists.{IsDiff}
-use Rattle.termwiz_surface.specs.RegionValue.{region_value}
-use Rattle.termwiz_surface.specs.ScreenValue.{cells_of}
+use Rattle.termwiz_screen.specs.Diff.{cut, diff, need}
+use Rattle.termwiz_screen.specs.DiffLists.{IsDiff}
+use Rattle.termwiz_screen.specs.RegionValue.{region_value}
+use Rattle.termwiz_screen.specs.ScreenValue.{cells_of}
 use Rattle.termwiz_surface.specs.SurfaceValue.{SurfaceValue, IsSound, screen_of}
 use Rattle.termwiz_surface.proofs.DiffSurfaces.{sound_rows, sound_diff}
-use Rattle.termwiz_surface.proofs.Lines.{length-cells_of}
+use Rattle.termwiz_screen.proofs.Lines.{length-cells_of}
 use Rattle.termwiz_surface.proofs.surface.Surface.diff_of.Goals as goal
 
 pub returns-clause-list : goal.returns-clause-list

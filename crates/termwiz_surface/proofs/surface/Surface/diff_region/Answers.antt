@@ -2,9 +2,9 @@ use Rattle.std.proofs.Common.{map}
 use Rattle.std.proofs.lemmas.Result.{IfOk-weaker}
 use Rattle.termwiz_cell.specs.ChangeValue.{change_value}
 use Rattle.termwiz_cell.specs.Width.{unversioned}
-use Rattle.termwiz_surface.specs.Diff.{Region}
+use Rattle.termwiz_screen.specs.Diff.{Region}
 use Rattle.termwiz_surface.specs.SurfaceValue.{screen_of}
-use Rattle.termwiz_surface.proofs.DiffCalls.{cut_region}
+use Rattle.termwiz_screen.proofs.DiffCalls.{cut_region}
 use Rattle.termwiz_surface.proofs.surface.Surface.diff_region.Goals as goal
 
 pub returns-clause-region : goal.returns-clause-region

@@ -2,11 +2,11 @@ use Rattle.std.proofs.Common.{◌≡◌, map, ap, ◌∙◌, subst}
 use Rattle.std.proofs.lemmas.Result.{IfOk-weaker}
 use Rattle.termwiz_cell.specs.ChangeValue.{change_value}
 use Rattle.termwiz_cell.specs.Width.{unversioned}
-use Rattle.termwiz_surface.specs.Diff.{cut, diff, need, whole}
-use Rattle.termwiz_surface.specs.DiffLists.{IsDiff}
-use Rattle.termwiz_surface.specs.RegionValue.{region_value}
+use Rattle.termwiz_screen.specs.Diff.{cut, diff, need, whole}
+use Rattle.termwiz_screen.specs.DiffLists.{IsDiff}
+use Rattle.termwiz_screen.specs.RegionValue.{region_value}
 use Rattle.termwiz_surface.specs.SurfaceValue.{SurfaceValue, screen_of}
-use Rattle.termwiz_surface.proofs.DiffCalls.{same_rows, equal_rows}
+use Rattle.termwiz_screen.proofs.DiffCalls.{same_rows, equal_rows}
 use Rattle.termwiz_surface.proofs.surface.Surface.diff_screens.Goals as goal
 
 pub returns-clause-rows : goal.returns-clause-rows

@@ -1,8 +1,8 @@
 use Rattle.std.proofs.Common.{subst}
 use Rattle.termwiz_cell.specs.Width.{unversioned}
-use Rattle.termwiz_surface.specs.FullScreen.{HasFullSize, full_of}
-use Rattle.termwiz_surface.specs.Printable.{HasSize, IsPrintable}
-use Rattle.termwiz_surface.specs.SurfaceValue.{SurfaceValue, screen_of}
+use Rattle.termwiz_screen.specs.FullScreen.{HasFullSize}
+use Rattle.termwiz_surface.specs.SurfaceValue.{SurfaceValue, screen_of, full_of}
+use Rattle.termwiz_screen.specs.Printable.{HasSize, IsPrintable}
 use Rattle.termwiz_surface.proofs.SoundRepaint.{sound_has_size, sound_has_full_size, sound_is_printable}
 use Rattle.termwiz_surface.proofs.surface.Surface.dimensions.Goals as goal
 

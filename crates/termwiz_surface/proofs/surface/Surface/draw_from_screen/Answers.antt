@@ -4,11 +4,11 @@ use Rattle.termwiz_cell.specs.ChangeValue.{ChangeValue, change_value}
 use Rattle.termwiz_cell.specs.Width.{unversioned}
 use Rattle.termwiz_surface.specs.Adding.{Adds}
 use Rattle.termwiz_surface.specs.Copies.{drawn_region}
-use Rattle.termwiz_surface.specs.Diff.{restoring}
-use Rattle.termwiz_surface.specs.DiffRegions.{CrossNone, HaveRegion}
-use Rattle.termwiz_surface.specs.Log.{next_number}
-use Rattle.termwiz_surface.specs.Screen.{Screen}
-use Rattle.termwiz_surface.specs.Step.{replay}
+use Rattle.termwiz_screen.specs.Diff.{restoring}
+use Rattle.termwiz_screen.specs.DiffRegions.{CrossNone, HaveRegion}
+use Rattle.termwiz_screen.specs.Log.{next_number}
+use Rattle.termwiz_screen.specs.Screen.{Screen}
+use Rattle.termwiz_screen.specs.Step.{replay}
 use Rattle.termwiz_surface.specs.SurfaceValue.{SurfaceValue, IsSound, screen_of}
 use Rattle.termwiz_surface.proofs.Copying.{Adds-restoring, drawn_screen, drawn_no_scroll}
 use Rattle.termwiz_surface.proofs.surface.Surface.draw_from_screen.Given as given

@@ -1,7 +1,7 @@
 use Rattle.std.proofs.Common.{arith}
 use Rattle.termwiz_surface.proofs.Drawn.{any_log}
-use Rattle.termwiz_surface.proofs.Logs.{flushed_number, flushed_alike}
-use Rattle.termwiz_surface.proofs.LogRegions.{regions-flushed}
+use Rattle.termwiz_screen.proofs.Logs.{flushed_number, flushed_alike}
+use Rattle.termwiz_screen.proofs.LogRegions.{regions-flushed}
 use Rattle.termwiz_surface.proofs.surface.Surface.flush_changes_older_than.Goals as goal
 
 pub invariant_of-self : goal.invariant_of-self

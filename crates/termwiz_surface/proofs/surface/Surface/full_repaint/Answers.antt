@@ -4,13 +4,13 @@ use Rattle.termwiz_cell.specs.ChangeValue.{change_value}
 use Rattle.termwiz_line.specs.PennedValue.{penned_value}
 use Rattle.termwiz_line.specs.Row.{row_of}
 use Rattle.termwiz_line.specs.Writing.{behind}
-use Rattle.termwiz_surface.specs.FullScreen.{line_attribute, shape_of, full_screen}
-use Rattle.termwiz_surface.specs.Repaint.{started_entries, full_entries, full_shown_entries, all_rows, repaint_of, full_repaint}
-use Rattle.termwiz_surface.specs.ScreenValue.{cells_of}
-use Rattle.termwiz_surface.specs.Sides.{row_flags}
+use Rattle.termwiz_screen.specs.FullScreen.{line_attribute, shape_of, full_screen}
+use Rattle.termwiz_screen.specs.Repaint.{started_entries, full_entries, full_shown_entries, all_rows, repaint_of, full_repaint}
+use Rattle.termwiz_screen.specs.ScreenValue.{cells_of}
+use Rattle.termwiz_screen.specs.Sides.{row_flags}
 use Rattle.termwiz_surface.specs.SurfaceValue.{SurfaceValue, screen_of, kept_of}
-use Rattle.termwiz_surface.proofs.JoinedRows.{before_rows, none_drawn}
-use Rattle.termwiz_surface.proofs.LastChanges.{full_apart}
+use Rattle.termwiz_screen.proofs.JoinedRows.{before_rows, none_drawn}
+use Rattle.termwiz_screen.proofs.LastChanges.{full_apart}
 use Rattle.termwiz_surface.proofs.surface.Surface.full_repaint.Goals as goal
 
 pub all_rows-requires-clause-before : goal.all_rows-requires-clause-before

@@ -3,14 +3,14 @@ use Rattle.std.proofs.lemmas.Bool.{true≢false}
 use Rattle.std.specs.Prelude.{None}
 use Rattle.termwiz_cell.specs.ChangeValue.{change_value}
 use Rattle.termwiz_cell.specs.Width.{unversioned}
-use Rattle.termwiz_surface.specs.Log.{is_known, worth}
-use Rattle.termwiz_surface.specs.Step.{replay, regions_fit}
+use Rattle.termwiz_screen.specs.Log.{is_known, worth}
+use Rattle.termwiz_screen.specs.Step.{replay, regions_fit}
 use Rattle.termwiz_surface.specs.SurfaceValue.{SurfaceValue, IsSound, screen_of, kept_of}
-use Rattle.termwiz_surface.specs.FullScreen.{full_replay}
-use Rattle.termwiz_surface.specs.Repaint.{repaint_in}
-use Rattle.termwiz_surface.specs.Stream.{most_entries}
-use Rattle.termwiz_surface.proofs.LogRegions.{regions-drop}
-use Rattle.termwiz_surface.proofs.Logs.{known-least}
+use Rattle.termwiz_screen.specs.FullScreen.{full_replay}
+use Rattle.termwiz_screen.specs.Repaint.{repaint_in}
+use Rattle.termwiz_screen.specs.Stream.{most_entries}
+use Rattle.termwiz_screen.proofs.LogRegions.{regions-drop}
+use Rattle.termwiz_screen.proofs.Logs.{known-least}
 use Rattle.termwiz_surface.proofs.SoundRepaint.{sound_repaint, sound_full_repaint, sound_short, repaint_in-fits}
 use Rattle.termwiz_surface.proofs.surface.Surface.get_changes.Given as given
 use Rattle.termwiz_surface.proofs.surface.Surface.get_changes.Goals as goal

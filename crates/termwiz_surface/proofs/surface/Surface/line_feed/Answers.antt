@@ -3,8 +3,8 @@ use Rattle.std.specs.Prelude.{nat_lt}
 use Rattle.std.proofs.lemmas.Bool.{le-ltb}
 use Rattle.termwiz_cell.specs.Width.{unversioned}
 use Rattle.std.specs.Prelude.{None, string_bytes}
-use Rattle.termwiz_surface.specs.ScreenValue.{cells_of}
-use Rattle.termwiz_surface.proofs.Sides.{sides-full}
+use Rattle.termwiz_screen.specs.ScreenValue.{cells_of}
+use Rattle.termwiz_screen.proofs.Sides.{sides-full}
 use Rattle.termwiz_surface.proofs.Drawn.{any_flags, IsSound-scrolled, rows-scrolled, lengths-scrolled}
 use Rattle.termwiz_surface.proofs.surface.Surface.line_feed.Goals as goal
 

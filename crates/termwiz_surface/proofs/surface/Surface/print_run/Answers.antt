@@ -1,7 +1,8 @@
 use Rattle.std.proofs.Common.{subst}
 use Rattle.termwiz_cell.specs.Width.{unversioned}
 use Rattle.termwiz_surface.specs.Printing.{Prints}
-use Rattle.termwiz_surface.proofs.Printing.{prints-after_wrap, pieces}
+use Rattle.termwiz_screen.proofs.Runs.{pieces}
+use Rattle.termwiz_surface.proofs.Printing.{prints-after_wrap}
 use Rattle.termwiz_surface.proofs.surface.Surface.print_run.Goals as goal
 
 pub returns-clause-ok : goal.returns-clause-ok

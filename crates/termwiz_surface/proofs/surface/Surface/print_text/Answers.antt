@@ -3,7 +3,7 @@ use Rattle.std.specs.Prelude.{◌==◌}
 use Rattle.std.proofs.lemmas.Bool.{eqb-true}
 use Rattle.unicode_segmentation.specs.Grapheme.{graphemes}
 use Rattle.termwiz_cell.specs.Width.{unversioned}
-use Rattle.termwiz_surface.specs.Print.{print_one, kept_after}
+use Rattle.termwiz_screen.specs.Print.{print_one, kept_after}
 use Rattle.termwiz_surface.specs.Printing.{PrintsSome}
 use Rattle.termwiz_surface.specs.SurfaceValue.{screen_of, kept_of}
 use Rattle.termwiz_cell.proofs.Graphemes.{graphemes-nothing}

@@ -2,7 +2,7 @@ use Rattle.std.proofs.Common.{◌≡◌, fold, length, true}
 use Rattle.std.specs.Str.{IsUtf8}
 use Rattle.unicode_segmentation.specs.Grapheme.{graphemes}
 use Rattle.termwiz_cell.specs.Width.{unversioned}
-use Rattle.termwiz_surface.specs.Print.{print, print_one, kept_after, print_kept}
+use Rattle.termwiz_screen.specs.Print.{print, print_one, kept_after, print_kept}
 use Rattle.termwiz_surface.specs.SurfaceValue.{SameFrame, screen_of, kept_of}
 use Rattle.termwiz_surface.proofs.surface.Surface.print_text.Given as goal
 

@@ -1,7 +1,7 @@
 use Rattle.std.proofs.Common.{◌+◌, ◌≤◌, length, refl, sym, subst}
 use Rattle.std.specs.Prelude.{None}
 use Rattle.termwiz_cell.specs.Width.{unversioned}
-use Rattle.termwiz_surface.specs.Printing.{AreNarrow}
+use Rattle.termwiz_screen.specs.Runs.{AreNarrow}
 use Rattle.termwiz_surface.specs.SurfaceValue.{SurfaceValue}
 use Rattle.termwiz_surface.proofs.Printing.{IsPrinted-run}
 use Rattle.termwiz_surface.proofs.surface.Surface.put_run.Goals as goal

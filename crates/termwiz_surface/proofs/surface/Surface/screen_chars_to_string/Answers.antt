@@ -1,7 +1,7 @@
 use Rattle.std.proofs.Common.{◌∙◌, arith}
 use Rattle.std.proofs.lemmas.Result.{IfOk-weaker}
-use Rattle.termwiz_surface.specs.ScreenValue.{cells_of}
-use Rattle.termwiz_surface.proofs.Shown.{chars_shown}
+use Rattle.termwiz_screen.specs.ScreenValue.{cells_of}
+use Rattle.termwiz_screen.proofs.ShownTexts.{chars_shown}
 use Rattle.termwiz_surface.proofs.surface.Surface.screen_chars_to_string.Goals as goal
 
 pub returns : goal.returns

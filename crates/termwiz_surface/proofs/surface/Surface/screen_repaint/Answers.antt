@@ -3,12 +3,12 @@ use Rattle.std.proofs.lemmas.Result.{IfOk-weaker}
 use Rattle.termwiz_cell.specs.ChangeValue.{change_value}
 use Rattle.termwiz_line.specs.PennedValue.{penned_value}
 use Rattle.termwiz_line.specs.Row.{row_of}
-use Rattle.termwiz_surface.specs.ScreenValue.{cells_of}
+use Rattle.termwiz_screen.specs.ScreenValue.{cells_of}
 use Rattle.termwiz_surface.specs.SurfaceValue.{SurfaceValue, screen_of}
 use Rattle.termwiz_line.specs.Writing.{behind}
-use Rattle.termwiz_surface.specs.Repaint.{started_entries, title_entry, all_rows, repaint}
-use Rattle.termwiz_surface.proofs.JoinedRows.{before_rows, none_drawn}
-use Rattle.termwiz_surface.proofs.LastChanges.{first_apart}
+use Rattle.termwiz_screen.specs.Repaint.{started_entries, title_entry, all_rows, repaint}
+use Rattle.termwiz_screen.proofs.JoinedRows.{before_rows, none_drawn}
+use Rattle.termwiz_screen.proofs.LastChanges.{first_apart}
 use Rattle.termwiz_surface.proofs.surface.Surface.screen_repaint.Goals as goal
 
 pub all_rows-requires-clause-before : goal.all_rows-requires-clause-before

@@ -1,11 +1,11 @@
 use Rattle.std.proofs.Common.{◌+◌, ◌≤◌, length, ap, refl, sym, subst}
 use Rattle.std.specs.Prelude.{None, string_bytes}
 use Rattle.termwiz_cell.specs.Width.{unversioned}
-use Rattle.termwiz_surface.specs.ScreenValue.{cells_of}
+use Rattle.termwiz_screen.specs.ScreenValue.{cells_of}
 use Rattle.termwiz_surface.specs.SurfaceValue.{SurfaceValue}
-use Rattle.termwiz_surface.proofs.Sides.{sides-full}
+use Rattle.termwiz_screen.proofs.Sides.{sides-full}
 use Rattle.termwiz_surface.proofs.Drawn.{any_flags, IsSound-partly_reset, IsSound-down}
-use Rattle.termwiz_surface.proofs.ScrolledRows.{rows-down, lengths-down}
+use Rattle.termwiz_screen.proofs.ScrolledRows.{rows-down, lengths-down}
 use Rattle.termwiz_surface.proofs.surface.Surface.scroll_region_down.Goals as goal
 
 pub invariant_of-self : goal.invariant_of-self

@@ -1,5 +1,5 @@
 use Rattle.std.proofs.Common.{◌≡◌, map, take}
-use Rattle.termwiz_surface.specs.ScreenValue.{cells_of}
+use Rattle.termwiz_screen.specs.ScreenValue.{cells_of}
 use Rattle.termwiz_surface.proofs.surface.lines.lent_cells.Given as goal
 
 -- the cells of the first lines are lent

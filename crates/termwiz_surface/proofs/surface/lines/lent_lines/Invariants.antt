@@ -1,6 +1,6 @@
 use Rattle.std.proofs.Common.{◌≡◌, map, take}
-use Rattle.termwiz_surface.specs.ScreenValue.{cells_of}
-use Rattle.termwiz_surface.specs.Sides.{row_flags}
+use Rattle.termwiz_screen.specs.ScreenValue.{cells_of}
+use Rattle.termwiz_screen.specs.Sides.{row_flags}
 use Rattle.termwiz_surface.proofs.surface.lines.lent_lines.Given as goal
 
 -- the first lines are lent

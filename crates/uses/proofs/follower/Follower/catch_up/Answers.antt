@@ -5,8 +5,8 @@ use Rattle.termwiz_surface.specs.Following.{ViewerValue}
 use Rattle.termwiz_surface.specs.Printable.{HasSize}
 use Rattle.termwiz_surface.specs.Step.{replay}
 use Rattle.termwiz_surface.specs.Stream.{IsStream, IsFullStream, stream_of}
-use Rattle.termwiz_surface.specs.FullScreen.{full_screen, full_of, full_replay, HasFullSize}
-use Rattle.termwiz_surface.specs.SurfaceValue.{SurfaceValue, screen_of, kept_of}
+use Rattle.termwiz_surface.specs.FullScreen.{full_screen, full_replay, HasFullSize}
+use Rattle.termwiz_surface.specs.SurfaceValue.{SurfaceValue, screen_of, kept_of, full_of}
 use Rattle.uses.proofs.follower.Follower.catch_up.Goals as goal
 
 pub returns-clause-shown : goal.returns-clause-shown

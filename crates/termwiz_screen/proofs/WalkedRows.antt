@@ -1,0 +1,212 @@
+-- A walk of the other row's visible cells, column by column: what it has still to meet, and what was needed so far.
+use Rattle.std.proofs.Common.{◌≡◌, ℕ, zero, suc, ◌+◌, ◌-◌, ◌<◌, ◌≤◌, ◌||◌, ◌&&◌, inl, inr, Bool, true, false, not, cond, min, List, [], ◌∷◌, ◌++◌, length, drop, get_or, map, fold, arith, refl, sym, ap, ap₂, ◌∙◌, subst}
+use Rattle.std.proofs.Math.Seq.{drop-cons}
+use Rattle.std.proofs.lemmas.List.{drop_all, get_or_past, map-append, append-nil}
+use Rattle.std.proofs.lemmas.List.Sums.{fold-append}
+use Rattle.std.proofs.lemmas.Bool.{cases_lt, and_from, and_left, not_from_false, false≢true}
+use Rattle.termwiz_cell.specs.CellValue.{CellValue, blank, columns, is_wide}
+use Rattle.termwiz_storage.specs.Stored.{stored, visible, visible_from, hides}
+use Rattle.termwiz_line.specs.Row.{is_hidden, row_of}
+use Rattle.termwiz_line.proofs.RowOf.{hidden_row, row_of_at, settled_visible}
+use Rattle.termwiz_screen.specs.Diff.{shows, row_need, in_row, Drawn, print_out}
+use Rattle.termwiz_screen.specs.Walked.{EndsBlank}
+
+-- a walk of stored cells stands at the start of a cell at column k, and has this left
+pub record IsAt (cs : List CellValue) (k : ℕ) (left : List (ℕ × CellValue)) : Type 0 where
+  pub rest : left ≡ visible_from k 0 (drop k cs)
+  pub starts : hides cs k ≡ false
+
+pub at_start : (cs : List CellValue) (left : List (ℕ × CellValue)) → left ≡ visible cs → IsAt cs 0 left
+at_start cs left e = record { rest = e; starts = refl }
+
+skip_one : (i : ℕ) (l : List CellValue) → visible_from i 1 l ≡ visible_from (i + 1) 0 (drop 1 l)
+skip_one i [] = refl
+skip_one i (c ∷ cs) = refl
+
+drop_one : (k : ℕ) (cs : List CellValue) → drop 1 (drop k cs) ≡ drop (suc k) cs
+drop_one k cs = elim (cases_lt k (length cs)) [
+  | inl l ↦ ap (drop 1) (drop-cons cs k blank l)
+  | inr l ↦ ap (drop 1) (drop_all k cs l) ∙ sym (drop_all (suc k) cs (omega arith))
+]
+
+-- what is behind the first cell
+behind : (cs : List CellValue) (k : ℕ) (wide : Bool) (more : List (ℕ × CellValue)) → is_wide (stored cs k) ≡ wide → hides cs k ≡ false →
+    more ≡ visible_from (k + 1) (cond {A = ℕ} wide 2 1 - 1) (drop (suc k) cs) → IsAt cs (k + cond wide 2 1) more
+behind cs k true more w h e = record {
+  rest = e ∙ skip_one (k + 1) (drop (suc k) cs) ∙ ap₂ (λ i l. visible_from i 0 l) two (drop_one (suc k) cs ∙ ap (λ i. drop i cs) next);
+  starts = ap (hides cs) (sym next) ∙ and_right_false;
+}
+  where
+    two : k + 1 + 1 ≡ k + 2
+    two = omega arith
+
+    next : suc (suc k) ≡ k + 2
+    next = omega arith
+
+    hidden : hides cs (suc k) ≡ true
+    hidden = and_from _ _ w (not_from_false _ h)
+
+    and_right_false : hides cs (suc (suc k)) ≡ false
+    and_right_false = rw hidden (no_and (is_wide (stored cs (suc k))))
+      where
+        no_and : (b : Bool) → (b && false) ≡ false
+        no_and true = refl
+        no_and false = refl
+behind cs k false more w h e = record {
+  rest = e ∙ ap (λ i. visible_from (k + 1) 0 (drop i cs)) next;
+  starts = ap (hides cs) (sym next) ∙ and_left _ (not (hides cs k)) w;
+}
+  where
+    next : suc k ≡ k + 1
+    next = omega arith
+
+-- one more cell
+pub record IsNext (cs : List CellValue) (k : ℕ) (p : ℕ × CellValue) (more : List (ℕ × CellValue)) : Type 0 where
+  pub within : k < length cs
+  pub cell : p.1 ≡ stored cs k
+  pub at : IsAt cs (k + columns p.1) more
+
+pub at_next : (cs : List CellValue) (k : ℕ) (left : List (ℕ × CellValue)) (p : ℕ × CellValue) (more : List (ℕ × CellValue)) → IsAt cs k left → left ≡ p ∷ more → IsNext cs k p more
+at_next cs k left p more z e = elim (cases_lt k (length cs)) [
+  | inr l ↦ absurd (none (sym e ∙ z.rest ∙ ap (visible_from k 0) (drop_all k cs l)))
+  | inl l ↦
+      let same : p ∷ more ≡ (k, stored cs k) ∷ visible_from (k + 1) (columns (stored cs k) - 1) (drop (suc k) cs) = sym e ∙ z.rest ∙ ap (visible_from k 0) (drop-cons cs k blank l) in
+      let cell : p.1 ≡ stored cs k = ap (λ (q : ℕ × CellValue). q.1) (ap (λ ps. get_or ps 0 p) same) in
+      record {
+        within = l;
+        cell = cell;
+        at = subst (λ c. IsAt cs (k + columns c) more) (sym cell) (behind cs k (is_wide (stored cs k)) more refl z.starts (ap (drop 1) same));
+      }
+]
+  where
+    none : p ∷ more ≡ [] → ⊥
+    none h = false≢true (ap (λ (l : List (ℕ × CellValue)). is_none l) (sym h))
+      where
+        is_none : List (ℕ × CellValue) → Bool
+        is_none [] = false
+        is_none (x ∷ xs) = true
+
+-- nothing is left: what follows is blank
+pub at_end : (w : ℕ) (cs : List CellValue) (k : ℕ) (left : List (ℕ × CellValue)) → IsAt cs k left → left ≡ [] → EndsBlank w (row_of w cs) k
+at_end w cs k left z e = record {
+  blanks = λ j a b. row_of_at w cs j b ∙ settled_visible cs j (shown j a) ∙ get_or_past cs j blank (omega (arith, over));
+  starts = λ j a b. hidden_row w cs j (omega arith) ∙ shown j a;
+}
+  where
+    over : length cs ≤ k
+    over = elim (cases_lt k (length cs)) [
+      | inr l ↦ l
+      | inl l ↦ absurd (some (sym e ∙ z.rest ∙ ap (visible_from k 0) (drop-cons cs k blank l)))
+    ]
+      where
+        is_some : List (ℕ × CellValue) → Bool
+        is_some [] = false
+        is_some (x ∷ xs) = true
+
+        some : {p : ℕ × CellValue} {ps : List (ℕ × CellValue)} → [] ≡ p ∷ ps → ⊥
+        some h = false≢true (ap is_some h)
+
+    shown : (j : ℕ) → k ≤ j → hides cs j ≡ false
+    shown j a = elim (cases_lt k j) [
+      | inl l ↦
+          let same : j ≡ suc (j - 1) = omega arith in
+          ap (hides cs) same ∙ and_left (is_wide (stored cs (j - 1))) (not (hides cs (j - 1))) (ap is_wide (get_or_past cs (j - 1) blank (omega (arith, over))))
+      | inr l ↦
+          let same : j ≡ k = omega arith in
+          ap (hides cs) same ∙ z.starts
+    ]
+
+-- one more column of what is needed
+module _ (own : List CellValue) (x : ℕ) (b : List CellValue) (q : ℕ) where
+  pub needed_shown : (m k : ℕ) (c : CellValue) → q + m ≡ k → is_hidden b k ≡ false → stored b k ≡ c → row_need own x b q (suc m) ≡ row_need own x b q m ++ cond (shows own (x + m) c) [] ((x + m, c) ∷ [])
+  needed_shown m k c e h s = λ i. row_need own x b q m ++ cond (hidden i || shows own (x + m) (cell i)) [] ((x + m, cell i) ∷ [])
+    where
+      hidden : is_hidden b (q + m) ≡ false
+      hidden = ap (is_hidden b) e ∙ h
+
+      cell : stored b (q + m) ≡ c
+      cell = ap (stored b) e ∙ s
+
+  needed_hidden : (m : ℕ) → is_hidden b (q + m) ≡ true → row_need own x b q (suc m) ≡ row_need own x b q m
+  needed_hidden m h = (λ i. row_need own x b q m ++ cond (h i || shows own (x + m) (stored b (q + m))) [] ((x + m, stored b (q + m)) ∷ [])) ∙ append-nil (row_need own x b q m)
+
+-- more cells are printed
+pub one_more : (row : ℕ) (d e g : Drawn) (ps last all : List (ℕ × CellValue)) → all ≡ ps ++ last → e ≡ fold print_out d (map (in_row row) ps) → g ≡ fold print_out e (map (in_row row) last) →
+    g ≡ fold print_out d (map (in_row row) all)
+one_more row d e g ps last all h u v =
+    v ∙ ap (λ y. fold print_out y (map (in_row row) last)) u
+    ∙ sym (fold-append print_out d (map (in_row row) ps) (map (in_row row) last))
+    ∙ ap (fold print_out d) (sym (map-append (in_row row) ps last) ∙ ap (map (in_row row)) (sym h))
+
+hidden_nothing : (k : ℕ) → is_hidden [] k ≡ false
+hidden_nothing zero = refl
+hidden_nothing (suc k) = ap is_wide (get_or_past [] k blank (omega arith))
+
+pub needed_nothing : (own : List CellValue) (p m : ℕ) → row_need own p [] 0 (suc m) ≡ row_need own p [] 0 m ++ cond (shows own (p + m) blank) [] ((p + m, blank) ∷ [])
+needed_nothing own p m =
+    let same : 0 + m ≡ m = omega arith in
+    needed_shown own p [] 0 m m blank same (hidden_nothing m) (get_or_past [] m blank (omega arith))
+
+-- one more default blank
+pub blank_next : (own : List CellValue) (from k row : ℕ) (c : CellValue) (d e g : Drawn) → c ≡ blank → e ≡ fold print_out d (map (in_row row) (row_need own from [] 0 k)) →
+    g ≡ fold print_out e (map (in_row row) (cond (shows own (from + k) c) [] ((from + k, c) ∷ []))) → g ≡ fold print_out d (map (in_row row) (row_need own from [] 0 (k + 1)))
+blank_next own from k row c d e g s u v =
+    let next : k + 1 ≡ suc k = omega arith in
+    one_more row d e g (row_need own from [] 0 k) (cond (shows own (from + k) c) [] ((from + k, c) ∷ [])) (row_need own from [] 0 (k + 1))
+    (ap (row_need own from [] 0) next ∙ needed_nothing own from k ∙ ap (λ e. row_need own from [] 0 k ++ cond (shows own (from + k) e) [] ((from + k, e) ∷ [])) (sym s)) u v
+
+-- the cells so far, and the next one
+module _ (own : List CellValue) (x : ℕ) (cs : List CellValue) (q n w row : ℕ) where
+  next_hidden : (k : ℕ) → hides cs k ≡ false → is_wide (stored cs k) ≡ true → suc k ≤ w → is_hidden (row_of w cs) (suc k) ≡ true
+  next_hidden k h s l = hidden_row w cs (suc k) l ∙ and_from _ _ s (not_from_false _ h)
+
+  needed_two : (k : ℕ) (wide : Bool) → is_wide (stored cs k) ≡ wide → hides cs k ≡ false → q ≤ k → k < q + n → q + n ≤ w →
+      row_need own x (row_of w cs) q (min n (k + cond wide 2 1 - q)) ≡ row_need own x (row_of w cs) q (suc (k - q))
+  needed_two k false s h a b l =
+      let same : min n (k + 1 - q) ≡ suc (k - q) = omega arith in
+      ap (row_need own x (row_of w cs) q) same
+  needed_two k true s h a b l = elim (cases_lt (suc (k - q)) n) [
+    | inl m ↦
+        let same : min n (k + 2 - q) ≡ suc (suc (k - q)) = omega arith in
+        let there : suc k ≡ q + suc (k - q) = omega arith in
+        ap (row_need own x (row_of w cs) q) same ∙ needed_hidden own x (row_of w cs) q (suc (k - q)) (ap (is_hidden (row_of w cs)) (sym there) ∙ next_hidden k h s (omega arith))
+    | inr m ↦
+        let same : min n (k + 2 - q) ≡ suc (k - q) = omega arith in
+        ap (row_need own x (row_of w cs) q) same
+  ]
+
+  pub printed_next : (d e g : Drawn) (k : ℕ) (c : CellValue) → c ≡ stored cs k → hides cs k ≡ false → q ≤ k → k < q + n → q + n ≤ w →
+      e ≡ fold print_out d (map (in_row row) (row_need own x (row_of w cs) q (min n (k - q)))) → g ≡ fold print_out e (map (in_row row) (cond (shows own (x + (k - q)) c) [] ((x + (k - q), c) ∷ []))) →
+      g ≡ fold print_out d (map (in_row row) (row_need own x (row_of w cs) q (min n (k + columns c - q))))
+  printed_next d e g k c s h a b l u v =
+      let there : q + (k - q) ≡ k = omega arith in
+      let before : k - q ≡ min n (k - q) = omega arith in
+      let inside : k < w = omega arith in
+      let last : List (ℕ × CellValue) = cond (shows own (x + (k - q)) c) [] ((x + (k - q), c) ∷ []) in
+      one_more row d e g (row_need own x (row_of w cs) q (min n (k - q))) last (row_need own x (row_of w cs) q (min n (k + columns c - q)))
+      (ap (λ (y : CellValue). row_need own x (row_of w cs) q (min n (k + columns y - q))) s
+      ∙ needed_two k (is_wide (stored cs k)) refl h a b l
+      ∙ needed_shown own x (row_of w cs) q (k - q) k c there (hidden_row w cs k (omega arith) ∙ h) (row_of_at w cs k inside ∙ settled_visible cs k h ∙ sym s)
+      ∙ ap (λ m. row_need own x (row_of w cs) q m ++ last) before) u v
+
+  before_region : (k : ℕ) (wide : Bool) → is_wide (stored cs k) ≡ wide → hides cs k ≡ false → k < q → q + n ≤ w → row_need own x (row_of w cs) q (min n (k + cond wide 2 1 - q)) ≡ []
+  before_region k false s h a l =
+      let same : min n (k + 1 - q) ≡ 0 = omega arith in
+      ap (row_need own x (row_of w cs) q) same
+  before_region k true s h a l = elim (cases_lt 0 (min n (k + 2 - q))) [
+    | inr m ↦
+        let same : min n (k + 2 - q) ≡ 0 = omega arith in
+        ap (row_need own x (row_of w cs) q) same
+    | inl m ↦
+        let same : min n (k + 2 - q) ≡ 1 = omega arith in
+        let there : suc k ≡ q + 0 = omega arith in
+        ap (row_need own x (row_of w cs) q) same ∙ needed_hidden own x (row_of w cs) q 0 (ap (is_hidden (row_of w cs)) (sym there) ∙ next_hidden k h s (omega arith))
+  ]
+
+  pub skipped_next : (d e : Drawn) (k : ℕ) (c : CellValue) → c ≡ stored cs k → hides cs k ≡ false → k < q → q + n ≤ w →
+      e ≡ fold print_out d (map (in_row row) (row_need own x (row_of w cs) q (min n (k - q)))) → e ≡ fold print_out d (map (in_row row) (row_need own x (row_of w cs) q (min n (k + columns c - q))))
+  skipped_next d e k c s h a l u =
+      let nothing : min n (k - q) ≡ 0 = omega arith in
+      u ∙ ap (λ ps. fold print_out d (map (in_row row) ps)) (ap (row_need own x (row_of w cs) q) nothing
+      ∙ sym (before_region k (is_wide (stored cs k)) refl h a l)
+      ∙ ap (λ (y : CellValue). row_need own x (row_of w cs) q (min n (k + columns y - q))) (sym s))

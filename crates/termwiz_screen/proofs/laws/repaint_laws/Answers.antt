@@ -1,0 +1,7 @@
+use Rattle.termwiz_screen.proofs.RepaintScreen.{repaint_gives}
+use Rattle.termwiz_screen.proofs.RepaintLength.{repaint_short}
+use Rattle.termwiz_screen.proofs.LineEntries.{line_done}
+use Rattle.termwiz_screen.proofs.laws.repaint_laws.Goals as goal
+
+pub returns : goal.returns
+returns c = record { gives = repaint_gives; short = repaint_short; line = line_done }

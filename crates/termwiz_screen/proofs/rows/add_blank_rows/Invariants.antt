@@ -1,0 +1,12 @@
+use Rattle.std.proofs.Common.{◌≡◌, ◌+◌, ◌++◌, replicate}
+use Rattle.std.specs.VecDeque.{deque_len, deque_capacity}
+use Rattle.termwiz_cell.specs.CellValue.{blank}
+use Rattle.termwiz_screen.specs.ScreenValue.{numberless}
+use Rattle.termwiz_screen.proofs.rows.add_blank_rows.Given as goal
+
+abbrev pub invariant-loop-row : goal.invariant-loop-row
+invariant-loop-row l = record {
+  items : l.rows.items ≡ l.fn.rows.items ++ replicate l._row (numberless (replicate l.width blank));
+  len : deque_len l.rows ≡ deque_len l.fn.rows + l._row;
+  room : deque_capacity l.rows ≡ deque_capacity l.fn.rows;
+}

@@ -1,0 +1,102 @@
+//! The lists of changes of diffs.
+ghost use Rattle.std.specs.Prelude.{◌≡◌, ◌-◌, ◌<◌, ◌^◌, ◌∷◌, [], map, min, length, IfOk};
+ghost use Rattle.std.specs.VecDeque.{deque_len};
+ghost use Rattle.termwiz_cell.specs.CellValue.{blank};
+ghost use Rattle.termwiz_cell.specs.ChangeValue.{change_value};
+ghost use Rattle.termwiz_line.specs.Row.{row_of};
+ghost use Rattle.termwiz_screen.specs.Diff.{band, cut, diff};
+ghost use Rattle.termwiz_screen.specs.RegionValue.{region_value};
+ghost use Rattle.termwiz_screen.specs.ScreenValue.{cells_of};
+ghost use Rattle.termwiz_screen.specs.Sides.{AreVectors};
+ghost use Rattle.termwiz_screen.specs.Walked.{AreHalved};
+
+use super::region::Region;
+use super::rows::{print_lines, print_row, print_rows};
+use super::writer::DiffWriter;
+use std::alloc::{AllocError, Global};
+use std::collections::VecDeque;
+use termwiz_cell::cell::Cell;
+use termwiz_cell::change::Change;
+use termwiz_line::line::line::Line;
+
+/// The changes that print what a region of other rows of a width shows and own rows of a width don't.
+pub fn diff_rows(
+    alloc: Global,
+    own: &VecDeque<Line>,
+    width: usize,
+    other: &VecDeque<Line>,
+    other_width: usize,
+    region: Region,
+) -> Result<Vec<Change>, AllocError>
+    requires fits { width < 2 ^ 32 }
+    requires other_fits { other_width < 2 ^ 32 }
+    requires vectors { AreVectors own.now.items }
+    requires halved { AreHalved width (cells_of own.now.items) }
+    ensures { IfOk result (λ l. map change_value l.items ≡ diff (map (row_of width) (cells_of own.now.items)) (map (row_of other_width) (cells_of other.now.items)) (cut (region_value region) width (deque_len own.now) other_width (deque_len other.now))) }
+{
+    let region = region.cut((width, own.len()), (other_width, other.len()));
+    if region.is_empty() {
+        return Ok(Vec::new(alloc));
+    }
+    let padding = Cell::blank();
+    let mut writer = DiffWriter::new(alloc);
+    print_rows(&mut writer, own, other, &padding, region)?;
+    writer.into_vec()
+}
+
+/// The changes that print what lines show and the first own rows don't.
+pub fn diff_lines(
+    alloc: Global,
+    own: &VecDeque<Line>,
+    width: usize,
+    lines: Vec<&Line>,
+) -> Result<Vec<Change>, AllocError>
+    requires fits { width < 2 ^ 32 }
+    requires vectors { AreVectors own.now.items }
+    requires halved { AreHalved width (cells_of own.now.items) }
+    ensures { IfOk result (λ l. map change_value l.items ≡ diff (map (row_of width) (cells_of own.now.items)) (map (λ line. row_of width line.now.cells) lines.entry.items) (band width 0 0 (min (deque_len own.now) (length lines.entry.items)))) }
+{
+    diff_padded(alloc, own, width, lines, &Cell::blank())
+}
+
+// The same, where the cell of what is behind a line's end is lent too.
+fn diff_padded<'a>(
+    alloc: Global,
+    own: &VecDeque<Line>,
+    width: usize,
+    lines: Vec<&'a Line>,
+    padding: &'a Cell,
+) -> Result<Vec<Change>, AllocError>
+    requires blank { padding.now ≡ blank }
+    requires fits { width < 2 ^ 32 }
+    requires vectors { AreVectors own.now.items }
+    requires halved { AreHalved width (cells_of own.now.items) }
+    ensures { IfOk result (λ l. map change_value l.items ≡ diff (map (row_of width) (cells_of own.now.items)) (map (λ line. row_of width line.now.cells) lines.entry.items) (band width 0 0 (min (deque_len own.now) (length lines.entry.items)))) }
+{
+    let mut writer = DiffWriter::new(alloc);
+    print_lines(&mut writer, own, &lines, padding, width)?;
+    writer.into_vec()
+}
+
+/// The changes that print what a line shows and an own row, if there is one with this number, doesn't.
+pub fn diff_line(
+    alloc: Global,
+    own: &VecDeque<Line>,
+    width: usize,
+    row: usize,
+    line: &Line,
+) -> Result<Vec<Change>, AllocError>
+    requires fits { width < 2 ^ 32 }
+    requires vectors { AreVectors own.now.items }
+    requires halved { AreHalved width (cells_of own.now.items) }
+    ensures { IfOk result (λ l. map change_value l.items ≡ diff (map (row_of width) (cells_of own.now.items)) (row_of width line.now.cells ∷ []) (band width row 0 (min 1 (deque_len own.now - row)))) }
+{
+    if row >= own.len() {
+        return Ok(Vec::new(alloc));
+    }
+    let padding = Cell::blank();
+    let mut writer = DiffWriter::new(alloc);
+    let region = Region::band(width, row, 1);
+    print_row(&mut writer, &own[row], line, &padding, region, row)?;
+    writer.into_vec()
+}

@@ -1,0 +1,279 @@
+//! The cells that a diff prints, row by row.
+ghost use Rattle.std.specs.Prelude.{◌≡◌, ◌+◌, ◌-◌, ◌<◌, ◌≤◌, ◌^◌, ◌∷◌, [], ℕ, List, cond, fold, map, min, length, nat_lt, true, IfOk, OnOk};
+ghost use Rattle.std.specs.VecDeque.{deque_len};
+ghost use Rattle.termwiz_cell.specs.CellValue.{CellValue, blank, cell_eq};
+ghost use Rattle.termwiz_storage.specs.CellRef.{ref_cell};
+ghost use Rattle.termwiz_storage.specs.CellsLeft.{cells_left, IsOfCell};
+ghost use Rattle.termwiz_storage.specs.Stored.{stored, visible};
+ghost use Rattle.termwiz_line.specs.Row.{HasHalves, is_hidden, row_of};
+ghost use Rattle.termwiz_screen.specs.Diff.{band, in_row, need, print_out, row_need, shows};
+ghost use Rattle.termwiz_screen.specs.RegionValue.{region_value};
+ghost use Rattle.termwiz_screen.specs.ScreenValue.{cells_of};
+ghost use Rattle.termwiz_screen.specs.Sides.{AreVectors};
+ghost use Rattle.termwiz_screen.specs.Walked.{AreHalved, EndsBlank};
+
+use super::region::Region;
+use super::writer::DiffWriter;
+use std::alloc::AllocError;
+use std::collections::VecDeque;
+use termwiz_cell::cell::{Cell, CellAttributes};
+use termwiz_line::entries::is_same;
+use termwiz_line::line::line::Line;
+use termwiz_storage::line::cellref::{CellRef, VisibleCellIter};
+
+/// The rows of a region of another surface, one after another.
+pub(super) fn print_rows<'a>(
+    writer: &mut DiffWriter<'a>,
+    own: &VecDeque<Line>,
+    other: &'a VecDeque<Line>,
+    padding: &'a Cell,
+    region: Region,
+) -> Result<(), AllocError>
+    requires blank { padding.now ≡ blank }
+    requires own_fits { region.x + region.width < 2 ^ 32 }
+    requires other_fits { region.other_x + region.width < 2 ^ 32 }
+    requires own_rows { region.y + region.height ≤ deque_len own.now }
+    requires other_rows { region.other_y + region.height ≤ deque_len other.now }
+    requires vectors { AreVectors own.now.items }
+    ensures { OnOk result ((v w : ℕ) → AreHalved v (cells_of own.now.items) → region.x + region.width ≤ v → region.other_x + region.width ≤ w → writer.new ≡ fold print_out writer.old (need (map (row_of v) (cells_of own.now.items)) (map (row_of w) (cells_of other.now.items)) (region_value region))) }
+{
+    for i in 0..region.height {
+        let row = region.y + i;
+        print_row(
+            writer,
+            &own[row],
+            &other[region.other_y + i],
+            padding,
+            region,
+            row,
+        )?;
+    }
+    Ok(())
+}
+
+/// The rows that lines show, one after another.
+pub(super) fn print_lines<'a>(
+    writer: &mut DiffWriter<'a>,
+    own: &VecDeque<Line>,
+    lines: &[&'a Line],
+    padding: &'a Cell,
+    width: usize,
+) -> Result<(), AllocError>
+    requires blank { padding.now ≡ blank }
+    requires fits { width < 2 ^ 32 }
+    requires vectors { AreVectors own.now.items }
+    ensures { OnOk result (AreHalved width (cells_of own.now.items) → writer.new ≡ fold print_out writer.old (need (map (row_of width) (cells_of own.now.items)) (map (λ line. row_of width line.now.cells) lines.now) (band width 0 0 (min (deque_len own.now) (length lines.now))))) }
+{
+    let region = Region::band(width, 0, own.len().min(lines.len()));
+    for row in 0..region.height {
+        print_row(writer, &own[row], lines[row], padding, region, row)?;
+    }
+    Ok(())
+}
+
+/// One row of a region: the cells that this line shows and the own one doesn't.
+pub(super) fn print_row<'a>(
+    writer: &mut DiffWriter<'a>,
+    own: &Line,
+    other: &'a Line,
+    padding: &'a Cell,
+    region: Region,
+    row: usize,
+) -> Result<(), AllocError>
+    requires blank { padding.now ≡ blank }
+    requires own_fits { region.x + region.width < 2 ^ 32 }
+    requires other_fits { region.other_x + region.width < 2 ^ 32 }
+    requires vector { own.now.is_vector ≡ true }
+    ensures { OnOk result ((v w : ℕ) → HasHalves v own.now.cells → region.x + region.width ≤ v → region.other_x + region.width ≤ w → writer.new ≡ fold print_out writer.old (map (in_row row) (row_need (row_of v own.now.cells) region.x (row_of w other.now.cells) region.other_x region.width))) }
+{
+    // Most rows are equal, which shows without a walk.
+    if region.x == region.other_x && own.has_same_cells(other) {
+        return Ok(());
+    }
+    print_cells(writer, cells_of_line(own), other, padding, region, row)?;
+    Ok(())
+}
+
+fn cells_of_line(line: &Line) -> &[Cell]
+    requires { line.now.is_vector ≡ true }
+    ensures { result.now ≡ line.now.cells }
+{
+    line.stored_cells().unwrap()
+}
+
+fn print_cells<'a>(
+    writer: &mut DiffWriter<'a>,
+    own: &[Cell],
+    other: &'a Line,
+    padding: &'a Cell,
+    region: Region,
+    row: usize,
+) -> Result<(), AllocError>
+    requires blank { padding.now ≡ blank }
+    requires own_fits { region.x + region.width < 2 ^ 32 }
+    requires other_fits { region.other_x + region.width < 2 ^ 32 }
+    ensures { OnOk result ((w : ℕ) → region.other_x + region.width ≤ w → writer.new ≡ fold print_out writer.old (map (in_row row) (row_need own.now region.x (row_of w other.now.cells) region.other_x region.width))) }
+{
+    let next = print_visible(writer, own, other.visible_cells(), padding, region, row)?;
+    let met = next.saturating_sub(region.other_x).min(region.width);
+    let end = region.x + region.width;
+    // Behind the stored cells of both are default blanks. The first column there may be the half of a wide own cell.
+    let count = end.min(own.len() + 1).saturating_sub(region.x + met);
+    print_blanks(writer, own, padding, row, region.x + met, count)?;
+    Ok(())
+}
+
+// The visible cells of a line at the region's columns. Tells the column behind the last one that was met.
+// Each form of storage is walked apart, so that the walk needs no test for each cell.
+fn print_visible<'a>(
+    writer: &mut DiffWriter<'a>,
+    own: &[Cell],
+    cells: VisibleCellIter<'a>,
+    padding: &Cell,
+    region: Region,
+    row: usize,
+) -> Result<usize, AllocError>
+    requires blank { padding.now ≡ blank }
+    requires own_fits { region.x + region.width < 2 ^ 32 }
+    requires other_fits { region.other_x + region.width < 2 ^ 32 }
+    ensures printed { IfOk result (λ next. (w : ℕ) (cs : List CellValue) → cells_left cells.entry ≡ visible cs → region.other_x + region.width ≤ w → writer.new ≡ fold print_out writer.old (map (in_row row) (row_need own.now region.x (row_of w cs) region.other_x (min region.width (next - region.other_x))))) }
+    ensures rest { IfOk result (λ next. (w : ℕ) (cs : List CellValue) → cells_left cells.entry ≡ visible cs → next < region.other_x + region.width → EndsBlank w (row_of w cs) next) }
+{
+    match cells {
+        VisibleCellIter::V(cells) => {
+            let cells = VisibleCellIter::V(cells);
+            print_walk(writer, own, cells, padding, region, row)
+        }
+        VisibleCellIter::Cluster(cells) => {
+            let cells = VisibleCellIter::Cluster(cells);
+            print_walk(writer, own, cells, padding, region, row)
+        }
+    }
+}
+
+#[inline(always)]
+fn print_walk<'a>(
+    writer: &mut DiffWriter<'a>,
+    own: &[Cell],
+    cells: VisibleCellIter<'a>,
+    padding: &Cell,
+    region: Region,
+    row: usize,
+) -> Result<usize, AllocError>
+    requires blank { padding.now ≡ blank }
+    requires own_fits { region.x + region.width < 2 ^ 32 }
+    requires other_fits { region.other_x + region.width < 2 ^ 32 }
+    ensures printed { IfOk result (λ next. (w : ℕ) (cs : List CellValue) → cells_left cells.entry ≡ visible cs → region.other_x + region.width ≤ w → writer.new ≡ fold print_out writer.old (map (in_row row) (row_need own.now region.x (row_of w cs) region.other_x (min region.width (next - region.other_x))))) }
+    ensures rest { IfOk result (λ next. (w : ℕ) (cs : List CellValue) → cells_left cells.entry ≡ visible cs → next < region.other_x + region.width → EndsBlank w (row_of w cs) next) }
+{
+    let end = region.other_x + region.width;
+    let mut next = 0;
+    for cell in cells {
+        if next >= end {
+            return Ok(next);
+        }
+        let width = cell.width();
+        if next >= region.other_x {
+            let column = region.x + (next - region.other_x);
+            print_unless_shown(writer, own, padding, row, column, cell)?;
+        }
+        next += width;
+    }
+    Ok(next)
+}
+
+// This many default blanks from a column on.
+fn print_blanks<'a>(
+    writer: &mut DiffWriter<'a>,
+    own: &[Cell],
+    padding: &'a Cell,
+    row: usize,
+    from: usize,
+    count: usize,
+) -> Result<(), AllocError>
+    requires blank { padding.now ≡ blank }
+    requires fits { from + count ≤ 2 ^ 32 }
+    ensures { OnOk result (writer.new ≡ fold print_out writer.old (map (in_row row) (row_need own.now from [] 0 count))) }
+{
+    let blank = CellRef::CellRef {
+        cell_index: 0,
+        cell: padding,
+    };
+    for k in 0..count {
+        print_unless_shown(writer, own, padding, row, from + k, blank)?;
+    }
+    Ok(())
+}
+
+// A cell is printed at a column, unless the own row shows it there.
+#[inline(always)]
+fn print_unless_shown<'a>(
+    writer: &mut DiffWriter<'a>,
+    own: &[Cell],
+    padding: &Cell,
+    row: usize,
+    column: usize,
+    cell: CellRef<'a>,
+) -> Result<(), AllocError>
+    requires blank { padding.now ≡ blank }
+    requires fits { column < 2 ^ 32 }
+    requires cell { IsOfCell cell }
+    ensures { OnOk result (writer.new ≡ fold print_out writer.old (map (in_row row) (cond (shows own.now column (ref_cell cell.entry)) [] ((column, ref_cell cell.entry) ∷ [])))) }
+{
+    if !is_shown(own, padding, column, &cell) {
+        writer.print(row, column, cell)?;
+    }
+    Ok(())
+}
+
+// Whether the row of these cells shows the cell at a column.
+#[inline(always)]
+fn is_shown(own: &[Cell], padding: &Cell, column: usize, cell: &CellRef<'_>) -> bool
+    requires { padding.now ≡ blank }
+    ensures { result ≡ shows own.now column (ref_cell cell.now) }
+{
+    is_equal(cell_at(own, padding, column), cell) && !is_half(own, column)
+}
+
+// Whether the column holds the second half of a wide cell.
+#[inline(always)]
+fn is_half(cells: &[Cell], column: usize) -> bool
+    ensures { result ≡ is_hidden cells.now column }
+{
+    column > 0 && column <= cells.len() && cells[column - 1].width() > 1
+}
+
+// The cell at a column: past the end of the stored cells the padding.
+#[inline(always)]
+fn cell_at<'a>(cells: &'a [Cell], padding: &'a Cell, column: usize) -> &'a Cell
+    requires { padding.now ≡ blank }
+    ensures { result.now ≡ stored cells.now column }
+{
+    if column < cells.len() {
+        &cells[column]
+    } else {
+        padding
+    }
+}
+
+#[inline(always)]
+fn is_equal(own: &Cell, cell: &CellRef<'_>) -> bool
+    ensures { result ≡ cell_eq own.now (ref_cell cell.now) }
+{
+    match cell {
+        CellRef::CellRef { cell, .. } => *own == **cell,
+        CellRef::ClusterRef {
+            text,
+            width,
+            attrs,
+            ..
+        } => is_piece(own, text, *width, attrs),
+    }
+}
+
+// Whether the cell has this text, width and attributes.
+fn is_piece(own: &Cell, text: &str, width: usize, attrs: &CellAttributes) -> bool
+    ensures { result ≡ cell_eq own.now (record { text = text.now; wide = nat_lt 1 width; attrs = attrs.now }) }
+{
+    own.str() == text && ((own.width() > 1) == (width > 1) && is_same(own.attrs(), attrs))
+}

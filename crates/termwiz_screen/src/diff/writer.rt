@@ -1,0 +1,115 @@
+//! A writer of the changes that print cells at their places.
+ghost use Rattle.std.specs.Prelude.{◌≡◌, ◌<◌, ◌^◌, ◌++◌, ◌∷◌, [], map, IfOk, OnOk};
+ghost use Rattle.termwiz_cell.specs.ChangeValue.{change_value};
+ghost use Rattle.termwiz_storage.specs.CellRef.{ref_cell};
+ghost use Rattle.termwiz_storage.specs.CellsLeft.{IsOfCell};
+ghost use Rattle.termwiz_screen.specs.Diff as spec;
+ghost use Rattle.termwiz_screen.specs.Place.{cursor_at};
+ghost use Rattle.termwiz_screen.specs.Prints.{Print};
+ghost use Rattle.termwiz_screen.specs.Ends.{end_value};
+
+use std::alloc::{AllocError, Global};
+use std::marker::Model;
+use termwiz_cell::cell::CellAttributes;
+use termwiz_cell::change::{Change, Position};
+use termwiz_line::entries::EntryList;
+use termwiz_storage::line::cellref::CellRef;
+
+// Where the last cell ended: the cursor and the pen behind it.
+#[derive(Clone, Copy)]
+struct End<'a> {
+    x: usize,
+    y: usize,
+    pen: &'a CellAttributes,
+}
+
+/// Writes cells as changes: a move and a pen where they are needed, and their texts.
+#[derive(Drop)]
+pub(super) struct DiffWriter<'a> {
+    entries: EntryList,
+    end: Option<End<'a>>,
+}
+
+impl<'a> Model for DiffWriter<'a> {
+    ghost use Rattle.termwiz_screen.specs.Diff.{Drawn};
+    ghost use Rattle.termwiz_screen.specs.Ends.{end_value};
+
+    ghost Value = { Drawn };
+
+    ghost view = { λ w. record { entries = w.entries; end = end_value w.end } };
+}
+
+impl<'a> DiffWriter<'a> {
+    /// A writer of nothing yet.
+    pub(super) fn new(alloc: Global) -> DiffWriter<'a>
+        ensures { result ≡ spec.nothing_drawn }
+    {
+        DiffWriter {
+            entries: EntryList::new(alloc),
+            end: None,
+        }
+    }
+
+    /// A cell comes to a column of a row.
+    #[inline(always)]
+    pub(super) fn print(
+        &mut self,
+        row: usize,
+        column: usize,
+        cell: CellRef<'a>,
+    ) -> Result<(), AllocError>
+        requires fits { column < 2 ^ 32 }
+        requires cell { IsOfCell cell }
+        ensures { OnOk result (self.new ≡ spec.print_out self.old (record { row = row; column = column; cell = ref_cell cell.entry })) }
+    {
+        let pen = cell.attrs();
+        let x = column + cell.width();
+        push_place(&mut self.entries, self.end, row, column, pen)?;
+        self.entries.push_text(cell.str())?;
+        self.end = Some(End { x, y: row, pen });
+        Ok(())
+    }
+
+    /// The changes in a list.
+    pub(super) fn into_vec(self) -> Result<Vec<Change>, AllocError>
+        ensures { IfOk result (λ changes. map change_value changes.items ≡ self.entry.entries) }
+    {
+        self.entries.into_vec()
+    }
+}
+
+// A move to a place and a pen, where they are needed.
+#[inline(always)]
+fn push_place(
+    entries: &mut EntryList,
+    end: Option<End<'_>>,
+    row: usize,
+    column: usize,
+    pen: &CellAttributes,
+) -> Result<(), AllocError>
+    ensures { OnOk result ((p : Print) → p.row ≡ row → p.column ≡ column → p.cell.attrs ≡ pen.now → entries.new ≡ (entries.old ++ spec.move_to (end_value end.entry) p) ++ spec.pen_to (end_value end.entry) p) }
+{
+    match end {
+        Some(end) => {
+            if end.x != column || end.y != row {
+                push_move(entries, row, column)?;
+            }
+            entries.push_pen(end.pen, pen)?;
+        }
+        None => {
+            push_move(entries, row, column)?;
+            entries.push(Change::AllAttributes(pen.clone()?))?;
+        }
+    }
+    Ok(())
+}
+
+fn push_move(entries: &mut EntryList, row: usize, column: usize) -> Result<(), AllocError>
+    ensures { OnOk result (entries.new ≡ entries.old ++ cursor_at column row ∷ []) }
+{
+    entries.push(Change::CursorPosition {
+        x: Position::Absolute(column),
+        y: Position::Absolute(row),
+    })?;
+    Ok(())
+}

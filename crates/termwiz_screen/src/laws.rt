@@ -1,0 +1,53 @@
+//! Laws of the definitions that contracts cite, each on a function that does nothing.
+ghost use Rattle.termwiz_screen.specs.DiffLaws.{CutIsInside, DiffGivesBand, DiffGivesRegion, DiffGivesRows, DrawingRestores, LinesArePrintable, NeedGivesRegion, NeedGivesRows, NeedIs, PrintsAreDiff, RegionIsDiff};
+ghost use Rattle.termwiz_screen.specs.FullLaws.{ChangesMakeFullScreens, FullRepaintGivesScreen, FullRepaintIsShort, FullStepsAreSo, ResizedKeepsLines};
+ghost use Rattle.termwiz_screen.specs.Fewest.{FewestNarrowPrints, FewestPrints};
+ghost use Rattle.termwiz_screen.specs.RepaintLaws.{LineEntriesGiveRow, RepaintGivesScreen, RepaintIsShort};
+ghost use Rattle.termwiz_screen.specs.SequenceLaws.{MovesLeadThere, TextsMoveAlike};
+
+/// What a repaint and the entries of a line do when they are replayed.
+pub fn repaint_laws()
+    ensures gives { RepaintGivesScreen }
+    ensures short { RepaintIsShort }
+    ensures line { LineEntriesGiveRow }
+{}
+
+/// What changes make of full screens, and what a full repaint does when it is replayed.
+pub fn full_repaint_laws()
+    ensures step { FullStepsAreSo }
+    ensures changes { ChangesMakeFullScreens }
+    ensures resized { ResizedKeepsLines }
+    ensures gives { FullRepaintGivesScreen }
+    ensures short { FullRepaintIsShort }
+{}
+
+/// What a diff has to print: in words, and what it gives where it is painted.
+pub fn need_laws()
+    ensures worded { NeedIs }
+    ensures inside { CutIsInside }
+    ensures region { NeedGivesRegion }
+    ensures rows { NeedGivesRows }
+{}
+
+/// What the changes of a diff do when they are replayed, whoever made them.
+pub fn diff_laws()
+    ensures prints { PrintsAreDiff }
+    ensures region_is { RegionIsDiff }
+    ensures rows { DiffGivesRows }
+    ensures region { DiffGivesRegion }
+    ensures band { DiffGivesBand }
+    ensures lines { LinesArePrintable }
+    ensures restores { DrawingRestores }
+{}
+
+/// How few paints lead from one screen to another of its size: no fewer than a third of what a diff prints, and no fewer than all of it where nothing is wide.
+pub fn fewest_prints()
+    ensures thirds { FewestPrints }
+    ensures narrow { FewestNarrowPrints }
+{}
+
+/// Where a text and a move leave the cursor of a sequence: a text in the column in which it leaves a surface's, and a move by distances at its place, where that is on the screen or as many rows above it.
+pub fn sequence_laws()
+    ensures texts { TextsMoveAlike }
+    ensures moves { MovesLeadThere }
+{}

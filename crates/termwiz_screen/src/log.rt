@@ -1,0 +1,156 @@
+//! The log of a surface: the changes that were made, by their numbers.
+ghost use Rattle.std.specs.Prelude.{◌≡◌, ◌+◌, ◌-◌, ◌^◌, min, ◌<◌, ◌≤◌, true, false, nat_lt, List, [], ◌∷◌, length, map, drop, vec_len, IsOk, OnOk, OnErr};
+ghost use Rattle.std.specs.Option.{IsNone, IfSome};
+ghost use Rattle.termwiz_cell.specs.ChangeValue.{change_value};
+ghost use Rattle.termwiz_screen.specs.Log.{appended, due, flushed, is_known, next_number, restarted, worth};
+
+use std::alloc::{AllocError, Global};
+use std::marker::Model;
+use termwiz_cell::change::{Change, SEQ_ZERO, SequenceNo};
+
+/// The changes from a first number on. The change after the last one has the coming number.
+#[derive(Drop)]
+pub struct Log {
+    first: SequenceNo,
+    changes: Vec<Change>,
+}
+
+impl Model for Log {
+    ghost use Rattle.std.specs.Prelude.{map};
+    ghost use Rattle.termwiz_cell.specs.ChangeValue.{change_value};
+    ghost use Rattle.termwiz_screen.specs.Log.{LogValue};
+
+    ghost Value = { LogValue };
+
+    ghost view = { λ l. record { first = l.first; changes = map change_value l.changes.items } };
+}
+
+impl Clone for Log {
+    ghost is_clone = { λ a b. b ≡ a };
+
+    fn clone(&self) -> Result<Log, AllocError> {
+        let changes = self.changes.clone()?;
+        Ok(Log {
+            first: self.first,
+            changes,
+        })
+    }
+}
+
+impl Log {
+    /// An empty log under the number 0.
+    pub fn new(alloc: Global) -> Log
+        ensures { result ≡ record { first = 0; changes = [] } }
+    {
+        Log {
+            first: SEQ_ZERO,
+            changes: Vec::new(alloc),
+        }
+    }
+
+    /// The number of the coming change.
+    #[inline(always)]
+    pub fn next_number(&self) -> SequenceNo
+        requires { next_number self.now < 2 ^ 64 }
+        ensures { result ≡ next_number self.now }
+    {
+        self.first + self.changes.len()
+    }
+
+    /// Whether there are numbers for so many more changes.
+    #[inline(always)]
+    pub fn has_numbers(&self, count: usize) -> bool
+        requires { next_number self.now < 2 ^ 64 }
+        ensures { result ≡ nat_lt (next_number self.now + count) (2 ^ 64) }
+    {
+        count <= usize::MAX - self.next_number()
+    }
+
+    /// Makes room for so many more changes.
+    #[inline(always)]
+    pub fn reserve(&mut self, count: usize) -> Result<(), AllocError>
+        ensures unchanged { self.new ≡ self.old }
+        ensures succeeds { count ≡ 0 → IsOk result }
+    {
+        self.changes.reserve(count)?;
+        Ok(())
+    }
+
+    /// Logs one more change. On an error nothing has changed.
+    #[inline(always)]
+    pub fn push(&mut self, change: Change) -> Result<(), AllocError>
+        ensures ok { OnOk result (self.new ≡ appended self.old (change_value change ∷ [])) }
+        ensures err { OnErr result (self.new ≡ self.old) }
+    {
+        self.changes.push(change)?;
+        Ok(())
+    }
+
+    /// Logs more changes, which are moved in. On an error nothing has changed.
+    pub fn append(&mut self, mut changes: Vec<Change>) -> Result<(), AllocError>
+        ensures ok { OnOk result (self.new ≡ appended self.old (map change_value changes.items)) }
+        ensures err { OnErr result (self.new ≡ self.old) }
+        ensures succeeds { vec_len changes ≡ 0 → IsOk result }
+    {
+        self.changes.append(&mut changes)?;
+        Ok(())
+    }
+
+    /// The changes from a number on, where the log has them and they are at most so many.
+    pub fn due(&self, seq: SequenceNo, most: usize) -> Option<&[Change]>
+        requires { next_number self.now < 2 ^ 64 }
+        ensures some { IfSome result (λ changes. (is_known most self.now seq ≡ true) × (map change_value changes.now ≡ due self.now seq)) }
+        ensures none { IsNone result → is_known most self.now seq ≡ false }
+    {
+        if seq == SEQ_ZERO || seq < self.first || seq > self.next_number() {
+            return None;
+        }
+        let due = &self.changes[seq - self.first..];
+        if due.len() > most {
+            return None;
+        }
+        Some(due)
+    }
+
+    /// Forgets the changes before a number, where the log reaches it.
+    pub fn flush(&mut self, seq: SequenceNo)
+        requires { next_number self.old < 2 ^ 64 }
+        ensures { self.new ≡ flushed self.old seq }
+    {
+        if self.first <= seq && seq <= self.next_number() {
+            drop_first(&mut self.changes, seq - self.first);
+            self.first = seq;
+        }
+    }
+
+    /// Forgets all changes, and takes a new number, unless it is 0.
+    pub fn restart(&mut self)
+        requires { next_number self.old + 1 < 2 ^ 64 }
+        ensures { self.new ≡ restarted self.old }
+    {
+        let number = self.next_number();
+        self.changes.clear();
+        self.first = if number == SEQ_ZERO {
+            SEQ_ZERO
+        } else {
+            number + 1
+        };
+    }
+}
+
+fn drop_first(changes: &mut Vec<Change>, count: usize)
+    requires { count ≤ vec_len changes.old }
+    ensures { changes.new.items ≡ drop count changes.old.items }
+{
+    let _ = changes.drain(..count);
+}
+
+/// How many changes are worth sending where a screen of this size could be repainted, or the greatest number where that is less.
+pub fn worth(width: usize, height: usize) -> usize
+    requires width { width < 2 ^ 32 }
+    requires height { height < 2 ^ 32 }
+    ensures { result ≡ min (worth width height) (2 ^ 64 - 1) }
+{
+    let cells = width * height;
+    cells.saturating_add(cells / 5).saturating_add(3)
+}

@@ -1,0 +1,98 @@
+//! Texts: their graphemes, the cells that these print, and the runs of ASCII that they begin with.
+ghost use Rattle.std.specs.Prelude.{◌≡◌, ◌≤◌, true, [], ◌∷◌, length, take, IfOk};
+ghost use Rattle.std.specs.List.{list_all};
+ghost use Rattle.termwiz_text.specs.Plain.{is_plain};
+ghost use Rattle.unicode_segmentation.specs.Grapheme.{graphemes};
+ghost use Rattle.termwiz_cell.specs.CellValue.{measured};
+ghost use Rattle.termwiz_cell.specs.Width.{unversioned};
+ghost use Rattle.termwiz_cell.specs.Graphemes.{single};
+ghost use Rattle.termwiz_screen.specs.Measured.{IsMeasured};
+ghost use Rattle.termwiz_screen.specs.Print.{piece_of, printed_cell};
+ghost use Rattle.termwiz_screen.specs.Runs.{AreNarrow, IsMeasuredPiece, IsNarrowRun};
+
+use std::alloc::{AllocError, Global};
+use termwiz_cell::cell::{Cell, CellAttributes};
+use termwiz_cell::emoji::Widths;
+use termwiz_text::split_plain_run;
+
+/// What a grapheme prints: a line break, or a cell.
+#[derive(Drop, Debug)]
+pub enum Piece {
+    CarriageReturn,
+    LineFeed,
+    CarriageReturnLineFeed,
+    Cell(Cell),
+}
+
+/// The piece that a grapheme prints with a pen.
+#[inline(always)]
+pub fn printed_piece<W: Widths>(
+    alloc: Global,
+    widths: &W,
+    grapheme: &str,
+    pen: &CellAttributes,
+) -> Result<Piece, AllocError>
+    requires { graphemes true grapheme.now ≡ grapheme.now ∷ [] }
+    ensures piece { IfOk result (λ piece. piece ≡ piece_of (unversioned (W.width_of widths.now)) pen.now grapheme.now) }
+    ensures measured { IfOk result (IsMeasuredPiece (unversioned (W.width_of widths.now))) }
+{
+    Ok(match grapheme.as_bytes() {
+        [b'\r'] => Piece::CarriageReturn,
+        [b'\n'] => Piece::LineFeed,
+        [b'\r', b'\n'] => Piece::CarriageReturnLineFeed,
+        _ => Piece::Cell(printed_cell(alloc, widths, grapheme, pen)?),
+    })
+}
+
+// The cell of a grapheme.
+#[inline(always)]
+#[tactic(auto, using(termwiz_cell::proofs::Graphemes::single_same))]
+fn printed_cell<W: Widths>(
+    alloc: Global,
+    widths: &W,
+    grapheme: &str,
+    pen: &CellAttributes,
+) -> Result<Cell, AllocError>
+    requires { graphemes true grapheme.now ≡ grapheme.now ∷ [] }
+    ensures cell { IfOk result (λ cell. cell ≡ printed_cell (unversioned (W.width_of widths.now)) pen.now grapheme.now) }
+    ensures measured { IfOk result (IsMeasured (unversioned (W.width_of widths.now))) }
+{
+    let attrs = pen.clone()?;
+    let cell = Cell::new_grapheme(alloc, widths, grapheme, attrs, None)?;
+    Ok(cell)
+}
+
+/// Whether a text begins with printable ASCII. Where it does not, there is no run to look for.
+pub fn begins_plain(text: &str) -> bool {
+    matches!(text.as_bytes(), [b' '..=b'~', ..])
+}
+
+// How many characters of a run of ASCII, from its first one on, have at most one column each.
+fn narrow_len<W: Widths>(widths: &W, run: &str) -> usize
+    requires { list_all is_plain run.now ≡ true }
+    ensures within { result ≤ length run.now }
+    ensures narrow { AreNarrow (unversioned (W.width_of widths.now)) (take result run.now) }
+{
+    for k in 0..run.len() {
+        if widths.width(&run[k..k + 1], None) > 1 {
+            return k;
+        }
+    }
+    run.len()
+}
+
+/// The run of printable ASCII, each with at most one column, that the text begins with and that fits in this many columns, and what follows it.
+pub fn split_narrow_run<'a, W: Widths>(
+    widths: &W,
+    text: &'a str,
+    columns: usize,
+) -> (&'a str, &'a str)
+    ensures { IsNarrowRun (unversioned (W.width_of widths.now)) text.now columns result.0.now result.1.now }
+{
+    let (run, rest) = split_plain_run(text, columns);
+    let narrow = narrow_len(widths, run);
+    if narrow < run.len() {
+        return split_plain_run(text, narrow);
+    }
+    (run, rest)
+}

@@ -1,0 +1,338 @@
+//! The rows of a surface: lines that all have the number 0.
+ghost use Rattle.std.specs.Prelude.{◌≡◌, ◌+◌, ℕ, true, false, [], ◌∷◌, length, drop, ◌-◌, ◌<◌, ◌≤◌, slice_set, get_or, replicate, take, map, string_bytes, ◌++◌, IfOk, OnOk, OnErr};
+ghost use Rattle.std.specs.VecDeque.{deque_len, deque_capacity};
+ghost use Rattle.termwiz_cell.specs.CellValue.{blank};
+ghost use Rattle.std.specs.List.{list_all};
+ghost use Rattle.termwiz_line.specs.LineFlags.{no_flags};
+ghost use Rattle.termwiz_text.specs.Plain.{is_plain};
+ghost use Rattle.termwiz_cell.specs.Attributes.{needs_box};
+ghost use Rattle.termwiz_storage.specs.Stored.{fill, set_run, IsPruned};
+ghost use Rattle.termwiz_storage.specs.Halves.{resized};
+ghost use Rattle.termwiz_screen.specs.Chars.{row_chars, screen_chars};
+ghost use Rattle.termwiz_screen.specs.Kept.{with_line_attribute};
+ghost use Rattle.termwiz_screen.specs.ScreenValue.{cells_of, numberless};
+ghost use Rattle.termwiz_screen.specs.Screen.{row_at};
+ghost use Rattle.termwiz_screen.specs.Print.{scrolled};
+ghost use Rattle.termwiz_screen.specs.Rows.{painted_in, AreFilled, IsPartly, ArePartly, ArePartlyReset};
+ghost use Rattle.termwiz_screen.specs.Regions.{region_turned, region_up, region_down};
+ghost use Rattle.termwiz_screen.specs.Resized.{resized_stored, resized_flags};
+ghost use Rattle.termwiz_screen.specs.Sides.{row_flags, AreVectors, KeepsSide, KeepSides};
+
+use std::alloc::{AllocError, Global};
+use std::collections::VecDeque;
+use termwiz_cell::cell::{Cell, CellAttributes};
+use termwiz_cell::change::{LineAttribute, SEQ_ZERO};
+use termwiz_line::line::line::Line;
+
+fn fill_line(line: &mut Line, from: usize, to: usize, cell: &Cell) -> Result<(), AllocError>
+    requires { 0 < length line.old.cells }
+    ensures ok { OnOk result (IsPruned (fill (to - from) from cell.now line.old.cells) line.new.cells) }
+    ensures err { from ≤ to → OnErr result (IsPartly to cell.now line.old.cells line.new.cells) }
+    ensures side { KeepsSide line.old line.new }
+{
+    line.fill_range(from..to, cell, SEQ_ZERO)?;
+    Ok(())
+}
+
+fn push_chars(line: &Line, text: &mut String) -> Result<(), AllocError>
+    ensures { OnOk result (string_bytes text.new ≡ string_bytes text.old ++ row_chars line.now.cells) }
+{
+    for cell in line.visible_cells() {
+        text.push_str(cell.str())?;
+    }
+    text.push_str("\n")?;
+    Ok(())
+}
+
+/// Copies of the rows, cut or filled.
+pub fn resized_lines(
+    alloc: Global,
+    rows: &VecDeque<Line>,
+    width: usize,
+) -> Result<Vec<Line>, AllocError>
+    ensures { IfOk result (λ lines. lines.items ≡ map (λ r. numberless (resized width r)) (cells_of rows.now.items)) }
+{
+    let mut lines = Vec::with_capacity(alloc, rows.len())?;
+    for i in 0..rows.len() {
+        lines.push(rows[i].resized(width, SEQ_ZERO)?)?;
+    }
+    Ok(lines)
+}
+
+/// The texts of the rows' visible cells, with a newline behind each row.
+pub fn chars_of(alloc: Global, rows: &VecDeque<Line>) -> Result<String, AllocError>
+    ensures { IfOk result (λ text. string_bytes text ≡ screen_chars (cells_of rows.now.items)) }
+{
+    let mut text = String::new(alloc);
+    for i in 0..rows.len() {
+        push_chars(&rows[i], &mut text)?;
+    }
+    Ok(text)
+}
+
+// Adds rows of default blanks behind the others.
+fn add_blank_rows(
+    alloc: Global,
+    rows: &mut VecDeque<Line>,
+    width: usize,
+    count: usize,
+) -> Result<(), AllocError>
+    requires { deque_len rows.old + count ≤ deque_capacity rows.old }
+    ensures { OnOk result (rows.new.items ≡ rows.old.items ++ replicate count (numberless (replicate width blank))) }
+{
+    for _row in 0..count {
+        rows.push_back_reserved(Line::with_width(alloc, width, SEQ_ZERO)?);
+    }
+    Ok(())
+}
+
+/// Rows of default blanks.
+pub fn blank_rows(alloc: Global, width: usize, height: usize) -> Result<VecDeque<Line>, AllocError>
+    ensures cells { IfOk result (λ rows. cells_of rows.items ≡ replicate height (replicate width blank)) }
+    ensures flags { IfOk result (λ rows. row_flags rows.items ≡ replicate height no_flags) }
+    ensures vectors { IfOk result (λ rows. AreVectors rows.items) }
+{
+    let mut rows = VecDeque::with_capacity(alloc, height)?;
+    add_blank_rows(alloc, &mut rows, width, height)?;
+    Ok(rows)
+}
+
+/// Paints a cell in a row.
+pub fn paint_row(
+    rows: &mut VecDeque<Line>,
+    width: usize,
+    x: usize,
+    y: usize,
+    cell: Cell,
+) -> Result<(), AllocError>
+    requires { y < deque_len rows.old }
+    ensures ok { OnOk result (cells_of rows.new.items ≡ slice_set (cells_of rows.old.items) y (painted_in width x cell (row_at (cells_of rows.old.items) y))) }
+    ensures err { OnErr result (cells_of rows.new.items ≡ cells_of rows.old.items) }
+    ensures sides { KeepSides rows.old.items rows.new.items }
+{
+    // A wide cell in the last column is cut.
+    rows[y].set_cell_within(x, cell, width, SEQ_ZERO)?;
+    Ok(())
+}
+
+/// Paints a run of printable ASCII in a row, with a pen that takes no memory.
+pub fn paint_run(
+    rows: &mut VecDeque<Line>,
+    x: usize,
+    y: usize,
+    run: &str,
+    pen: &CellAttributes,
+) -> Result<(), AllocError>
+    requires inside { y < deque_len rows.old }
+    requires plain { list_all is_plain run.now ≡ true }
+    requires unboxed { needs_box pen.now ≡ false }
+    ensures ok { OnOk result (cells_of rows.new.items ≡ slice_set (cells_of rows.old.items) y (set_run x run.now pen.now (row_at (cells_of rows.old.items) y))) }
+    ensures err { OnErr result (cells_of rows.new.items ≡ cells_of rows.old.items) }
+    ensures sides { KeepSides rows.old.items rows.new.items }
+{
+    rows[y].set_run(x, run, pen, SEQ_ZERO)?;
+    Ok(())
+}
+
+/// Removes row 0, and adds a row of default blanks, which it becomes.
+pub fn scroll_rows(rows: &mut VecDeque<Line>, width: usize) -> Result<(), AllocError>
+    requires { 0 < deque_len rows.old }
+    ensures ok { OnOk result (cells_of rows.new.items ≡ scrolled width (cells_of rows.old.items)) }
+    ensures err { OnErr result (cells_of rows.new.items ≡ cells_of rows.old.items) }
+    ensures flags { OnOk result (row_flags rows.new.items ≡ drop 1 (row_flags rows.old.items) ++ no_flags ∷ []) }
+    ensures err_flags { OnErr result (row_flags rows.new.items ≡ row_flags rows.old.items) }
+    ensures vectors { AreVectors rows.old.items → AreVectors rows.new.items }
+{
+    rows[0].blank_out(width, SEQ_ZERO)?;
+    if let Some(row) = rows.pop_front() {
+        rows.push_back_reserved(row);
+    }
+    Ok(())
+}
+
+// Makes this many rows, from `first` on, rows of default blanks. On an error each row is as it was, or one of default blanks.
+fn blank_some(
+    rows: &mut VecDeque<Line>,
+    width: usize,
+    first: usize,
+    count: usize,
+) -> Result<(), AllocError>
+    requires { first + count ≤ deque_len rows.old }
+    ensures ok { OnOk result (rows.new.items ≡ take first rows.old.items ++ (replicate count (numberless (replicate width blank)) ++ drop (first + count) rows.old.items)) }
+    ensures err { OnErr result (ArePartlyReset (replicate width blank) (cells_of rows.old.items) (cells_of rows.new.items)) }
+    ensures err_flags { OnErr result (ArePartlyReset no_flags (row_flags rows.old.items) (row_flags rows.new.items)) }
+    ensures len { deque_len rows.new ≡ deque_len rows.old }
+    ensures vectors { AreVectors rows.old.items → AreVectors rows.new.items }
+{
+    for i in first..first + count {
+        rows[i].blank_out(width, SEQ_ZERO)?;
+    }
+    Ok(())
+}
+
+// Moves the first rows of a region behind its others.
+fn turn_region(rows: &mut VecDeque<Line>, first: usize, size: usize, count: usize)
+    requires inside { first + size ≤ deque_len rows.old }
+    requires within { count ≤ size }
+    ensures { rows.new.items ≡ region_turned rows.old.items first size count }
+{
+    // All rows are turned by moving the fewer of them.
+    if size == rows.len() {
+        rows.rotate_left(count);
+    } else {
+        rows.make_contiguous()[first..first + size].rotate_left(count);
+    }
+}
+
+/// Scrolls a region of rows up: its first `count` rows go, and as many rows of default blanks come below the others. On an error each row is as it was, or one of default blanks.
+pub fn scroll_region_up(
+    rows: &mut VecDeque<Line>,
+    width: usize,
+    first: usize,
+    size: usize,
+    count: usize,
+) -> Result<(), AllocError>
+    requires { first + size ≤ deque_len rows.old }
+    ensures ok { OnOk result (cells_of rows.new.items ≡ region_up (replicate width blank) (cells_of rows.old.items) first size count) }
+    ensures flags { OnOk result (row_flags rows.new.items ≡ region_up no_flags (row_flags rows.old.items) first size count) }
+    ensures err { OnErr result (ArePartlyReset (replicate width blank) (cells_of rows.old.items) (cells_of rows.new.items)) }
+    ensures err_flags { OnErr result (ArePartlyReset no_flags (row_flags rows.old.items) (row_flags rows.new.items)) }
+    ensures vectors { AreVectors rows.old.items → AreVectors rows.new.items }
+{
+    let gone = count.min(size);
+    blank_some(rows, width, first, gone)?;
+    turn_region(rows, first, size, gone);
+    Ok(())
+}
+
+/// Scrolls a region of rows down: its last `count` rows go, and as many rows of default blanks come above the others. On an error each row is as it was, or one of default blanks.
+pub fn scroll_region_down(
+    rows: &mut VecDeque<Line>,
+    width: usize,
+    first: usize,
+    size: usize,
+    count: usize,
+) -> Result<(), AllocError>
+    requires { first + size ≤ deque_len rows.old }
+    ensures ok { OnOk result (cells_of rows.new.items ≡ region_down (replicate width blank) (cells_of rows.old.items) first size count) }
+    ensures flags { OnOk result (row_flags rows.new.items ≡ region_down no_flags (row_flags rows.old.items) first size count) }
+    ensures err { OnErr result (ArePartlyReset (replicate width blank) (cells_of rows.old.items) (cells_of rows.new.items)) }
+    ensures err_flags { OnErr result (ArePartlyReset no_flags (row_flags rows.old.items) (row_flags rows.new.items)) }
+    ensures vectors { AreVectors rows.old.items → AreVectors rows.new.items }
+{
+    let gone = count.min(size);
+    let kept = size - gone;
+    blank_some(rows, width, first + kept, gone)?;
+    turn_region(rows, first, size, kept);
+    Ok(())
+}
+
+// A copy of a row with its flags, cut or filled.
+fn resized_row(row: &Line, width: usize) -> Result<Line, AllocError>
+    ensures cells { IfOk result (λ line. line.cells ≡ resized width row.now.cells) }
+    ensures side { IfOk result (λ line. KeepsSide row.now line) }
+{
+    let mut line = row.clone()?;
+    line.resize(width, SEQ_ZERO)?;
+    Ok(line)
+}
+
+// Copies of the first rows with their flags, cut or filled, with room for more up to the height.
+fn kept_rows(
+    alloc: Global,
+    rows: &VecDeque<Line>,
+    width: usize,
+    height: usize,
+) -> Result<VecDeque<Line>, AllocError>
+    ensures cells { IfOk result (λ kept. cells_of kept.items ≡ map (resized width) (take height (cells_of rows.now.items))) }
+    ensures flags { IfOk result (λ kept. row_flags kept.items ≡ take height (row_flags rows.now.items)) }
+    ensures vectors { IfOk result (λ kept. AreVectors rows.now.items → AreVectors kept.items) }
+    ensures room { IfOk result (λ kept. height ≤ deque_capacity kept) }
+{
+    let mut kept = VecDeque::with_capacity(alloc, height)?;
+    for i in 0..height.min(rows.len()) {
+        kept.push_back_reserved(resized_row(&rows[i], width)?);
+    }
+    Ok(kept)
+}
+
+/// Cuts or fills each row to the width, and their number to the height by rows of default blanks. On an error the rows are as before.
+pub fn resize_rows(
+    alloc: Global,
+    rows: &mut VecDeque<Line>,
+    width: usize,
+    height: usize,
+) -> Result<(), AllocError>
+    ensures ok { OnOk result (cells_of rows.new.items ≡ resized_stored width height (cells_of rows.old.items)) }
+    ensures flags { OnOk result (row_flags rows.new.items ≡ resized_flags height (row_flags rows.old.items)) }
+    ensures err { OnErr result (rows.new.items ≡ rows.old.items) }
+    ensures vectors { AreVectors rows.old.items → AreVectors rows.new.items }
+{
+    let mut fresh = kept_rows(alloc, rows, width, height)?;
+    let missing = height - fresh.len();
+    add_blank_rows(alloc, &mut fresh, width, missing)?;
+    *rows = fresh;
+    Ok(())
+}
+
+/// Fills one row from a column on, and prunes it.
+pub fn fill_row(
+    rows: &mut VecDeque<Line>,
+    width: usize,
+    x: usize,
+    y: usize,
+    cell: &Cell,
+) -> Result<(), AllocError>
+    requires inside { y < deque_len rows.old }
+    requires some { 0 < length (row_at (cells_of rows.old.items) y) }
+    ensures ok { OnOk result (AreFilled width x y (y + 1) cell.now (cells_of rows.old.items) (cells_of rows.new.items)) }
+    ensures err { x ≤ width → OnErr result (ArePartly width cell.now (cells_of rows.old.items) (cells_of rows.new.items)) }
+    ensures sides { KeepSides rows.old.items rows.new.items }
+{
+    fill_line(&mut rows[y], x, width, cell)?;
+    Ok(())
+}
+
+/// Fills one row from a column on, and all rows below it, and prunes them.
+pub fn fill_rows(
+    rows: &mut VecDeque<Line>,
+    width: usize,
+    x: usize,
+    y: usize,
+    cell: &Cell,
+) -> Result<(), AllocError>
+    requires inside { y < deque_len rows.old }
+    requires some { (j : ℕ) → j < deque_len rows.old → 0 < length (row_at (cells_of rows.old.items) j) }
+    ensures ok { OnOk result (AreFilled width x y (length (cells_of rows.old.items)) cell.now (cells_of rows.old.items) (cells_of rows.new.items)) }
+    ensures err { x ≤ width → OnErr result (ArePartly width cell.now (cells_of rows.old.items) (cells_of rows.new.items)) }
+    ensures sides { KeepSides rows.old.items rows.new.items }
+{
+    fill_row(rows, width, x, y, cell)?;
+    for j in y + 1..rows.len() {
+        fill_line(&mut rows[j], 0, width, cell)?;
+    }
+    Ok(())
+}
+
+/// Says how a row is shown.
+pub fn set_line_attribute(rows: &mut VecDeque<Line>, y: usize, attribute: LineAttribute)
+    requires { y < deque_len rows.old }
+    ensures cells { cells_of rows.new.items ≡ cells_of rows.old.items }
+    ensures flags { row_flags rows.new.items ≡ slice_set (row_flags rows.old.items) y (with_line_attribute attribute (get_or (row_flags rows.old.items) y no_flags)) }
+    ensures vectors { AreVectors rows.old.items → AreVectors rows.new.items }
+{
+    show_line(&mut rows[y], attribute);
+}
+
+fn show_line(line: &mut Line, attribute: LineAttribute)
+    ensures cells { line.new.cells ≡ line.old.cells }
+    ensures flags { line.new.flags ≡ with_line_attribute attribute line.old.flags }
+    ensures vector { line.new.is_vector ≡ line.old.is_vector }
+{
+    match attribute {
+        LineAttribute::DoubleHeightTopHalfLine => line.set_double_height_top(SEQ_ZERO),
+        LineAttribute::DoubleHeightBottomHalfLine => line.set_double_height_bottom(SEQ_ZERO),
+        LineAttribute::DoubleWidthLine => line.set_double_width(SEQ_ZERO),
+        LineAttribute::SingleWidthLine => line.set_single_width(SEQ_ZERO),
+    }
+}

@@ -1,5 +1,0 @@
-use Rattle.termwiz_surface.proofs.FewestPrints.{fewest_prints, fewest_narrow}
-use Rattle.termwiz_surface.proofs.laws.fewest_prints.Goals as goal
-
-pub returns : goal.returns
-returns c = record { thirds = fewest_prints; narrow = fewest_narrow }

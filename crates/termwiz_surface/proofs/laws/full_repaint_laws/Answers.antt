@@ -1,7 +1,0 @@
-use Rattle.termwiz_surface.proofs.FullRepaint.{full_repaint_gives}
-use Rattle.termwiz_surface.proofs.FullScreens.{full_steps, full-replayed, full-resized}
-use Rattle.termwiz_surface.proofs.RepaintLength.{full_repaint_short}
-use Rattle.termwiz_surface.proofs.laws.full_repaint_laws.Goals as goal
-
-pub returns : goal.returns
-returns c = record { step = full_steps; changes = full-replayed; resized = full-resized; gives = full_repaint_gives; short = λ t. full_repaint_short t }

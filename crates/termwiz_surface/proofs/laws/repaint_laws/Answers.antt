@@ -1,7 +1,0 @@
-use Rattle.termwiz_surface.proofs.RepaintScreen.{repaint_gives}
-use Rattle.termwiz_surface.proofs.RepaintLength.{repaint_short}
-use Rattle.termwiz_surface.proofs.LineEntries.{line_done}
-use Rattle.termwiz_surface.proofs.laws.repaint_laws.Goals as goal
-
-pub returns : goal.returns
-returns c = record { gives = repaint_gives; short = repaint_short; line = line_done }

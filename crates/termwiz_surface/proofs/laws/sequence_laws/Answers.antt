@@ -1,5 +1,0 @@
-use Rattle.termwiz_surface.proofs.CursorColumns.{texts_alike, moves_lead}
-use Rattle.termwiz_surface.proofs.laws.sequence_laws.Goals as goal
-
-pub returns : goal.returns
-returns c = record { texts = texts_alike; moves = moves_lead }

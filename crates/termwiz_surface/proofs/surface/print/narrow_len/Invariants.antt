@@ -1,7 +1,0 @@
-use Rattle.std.proofs.Common.{take}
-use Rattle.termwiz_cell.specs.Width.{unversioned}
-use Rattle.termwiz_surface.specs.Printing.{AreNarrow}
-use Rattle.termwiz_surface.proofs.surface.print.narrow_len.Given as goal
-
-abbrev pub invariant-loop-k : goal.invariant-loop-k
-invariant-loop-k g l = AreNarrow (unversioned (g.W.Widths.width_of l.widths)) (take l.k l.run)

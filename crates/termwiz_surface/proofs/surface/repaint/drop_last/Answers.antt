@@ -1,9 +1,0 @@
-use Rattle.std.proofs.Common.{vec_len, arith}
-use Rattle.termwiz_cell.specs.ChangeValue.{change_value}
-use Rattle.termwiz_surface.proofs.LastChanges.{front_popped}
-use Rattle.termwiz_surface.proofs.surface.repaint.drop_last.Goals as goal
-
-pub returns : goal.returns
-returns c =
-    let old = c.args.entries.now in
-    front_popped change_value old.items c.pop.new.self.items c.pop.result (vec_len old) (vec_len c.pop.new.self) c.pop.ensures.items (omega (arith, old.ok.0)) c.pop.ensures.cases

@@ -1,8 +1,0 @@
--- Where the writer of a diff has the last cell's end.
-use Rattle.std.specs.Prelude.{Option, Some, None}
-use Rattle.termwiz_surface.specs.Diff.{End}
-use Rattle.termwiz_surface.specs.declared.surface.diff.writer.End as code
-
-abbrev pub end_value : Option code.End → Option End
-end_value None = None
-end_value (Some e) = Some (record { x = e.x; y = e.y; pen = e.pen.now })

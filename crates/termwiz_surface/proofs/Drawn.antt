@@ -1,5 +1,5 @@
 -- What scrolling and putting a cell make of a surface.
-use Rattle.std.proofs.Common.{◌≡◌, ℕ, suc, ◌+◌, ◌-◌, ◌<◌, ◌≤◌, ◌^◌, inl, inr, true, min, max, List, [], ◌∷◌, ◌++◌, length, get_or, map, drop, set, replicate, refl, sym, ◌∙◌, ap, ap₂, subst, arith, length-append, length-drop}
+use Rattle.std.proofs.Common.{◌≡◌, ℕ, suc, ◌+◌, ◌-◌, ◌<◌, ◌≤◌, ◌^◌, inl, inr, true, min, max, List, [], ◌∷◌, ◌++◌, length, get_or, map, drop, set, replicate, sym, ◌∙◌, ap, ap₂, subst, arith, length-append, length-drop}
 use Rattle.std.specs.Prelude.{slice_set}
 use Rattle.std.proofs.lemmas.List.{map-append, get_or-map, map-set, length-set, get_or-set_same, get_or-set_other, get_or_append_left, get_or-append_right, length-replicate, drop-map, get_or-drop}
 use Rattle.std.proofs.lemmas.Bool.{cases_eq, cases_lt}

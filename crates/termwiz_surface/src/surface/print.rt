@@ -3,7 +3,6 @@ ghost use Rattle.std.specs.Prelude.{◌≡◌, ◌+◌, ◌<◌, ◌≤◌, true
 ghost use Rattle.std.specs.List.{list_all};
 ghost use Rattle.termwiz_text.specs.Plain.{is_plain};
 ghost use Rattle.unicode_segmentation.specs.Grapheme.{graphemes};
-ghost use Rattle.termwiz_cell.specs.CellValue.{measured};
 ghost use Rattle.termwiz_cell.specs.Width.{unversioned};
 ghost use Rattle.termwiz_cell.specs.Attributes.{needs_box};
 ghost use Rattle.termwiz_screen.specs.Print.{columns_left, down, down_kept, one_kept, print, print_kept, print_one, put, put_kept, wrapped, wrapped_kept};

@@ -1,5 +1,6 @@
 //! What is told of cells.
 use crate::fault::Fault;
+use crate::pens::pen;
 use crate::words::{first, number, sides, text, told};
 use std::alloc::Global;
 use termwiz_cell::cell::{Cell, CellAttributes};
@@ -11,6 +12,7 @@ pub fn answer(alloc: Global, words: &str) -> Result<String, Fault> {
         "show" => show(alloc, words),
         "form" => form(alloc, words),
         "same" => told(alloc, is_same(alloc, words)?),
+        "debug" => debug(alloc, words),
         _ => Err(Fault::Bad),
     }
 }
@@ -24,6 +26,14 @@ fn show(alloc: Global, words: &str) -> Result<String, Fault> {
 fn form(alloc: Global, words: &str) -> Result<String, Fault> {
     let form = cell(alloc, words)?.presentation(&UnicodeWidths);
     Ok(format!(in alloc; "{form:?}")?)
+}
+
+// What `{:?}` shows of a cell with attributes.
+fn debug(alloc: Global, words: &str) -> Result<String, Fault> {
+    let (word, pen_words) = sides(words)?;
+    let attrs = pen(alloc, pen_words)?;
+    let cell = Cell::new_grapheme(alloc, &UnicodeWidths, text(word), attrs, None)?;
+    Ok(format!(in alloc; "{cell:?}")?)
 }
 
 fn is_same(alloc: Global, words: &str) -> Result<bool, Fault> {

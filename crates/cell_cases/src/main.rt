@@ -20,7 +20,8 @@
 //!   `sgr`, `clear` and `default` put in its place its copy, its copy without the link, the
 //!   cleared one and the default one; `+` and an ATTRIBUTE applies a copy of that change.
 //! - `cell show CELL`: its text and columns, and whether it is blank; `cell form CELL`: how it is
-//!   shown; `cell same CELL | CELL`: whether they are equal. A CELL is `blank`, `default`, or a
+//!   shown; `cell same CELL | CELL`: whether they are equal; `cell debug TEXT | PEN`: what `{:?}`
+//!   shows of a cell of this text with these attributes. A CELL is `blank`, `default`, or a
 //!   TEXT after `grapheme`, `char` (of its first character), `one` (the same, where each text has
 //!   one column), or `0`, `1` or `2` (of so many columns); or `copy` and a CELL.
 //! - `change show CHANGE`: the text that it prints, if any; `change same CHANGE | CHANGE`: whether

@@ -3,8 +3,8 @@ ghost use Rattle.std.specs.Prelude.{IfOk};
 ghost use Rattle.termwiz_storage.specs.CellsLeft.{IsOfCell};
 
 use crate::fault::Fault;
-use crate::pens::{change_words, pen_words};
-use crate::{clusters, words};
+use crate::pens::{change_words, pen_words, text_lengths};
+use crate::{clicks, clusters, words};
 use std::alloc::Global;
 use std::borrow::CowStr;
 use termwiz_cell::cell::{Cell, CellAttributes};
@@ -19,15 +19,16 @@ pub fn answer(alloc: Global, line: &Line, words: &[&str]) -> Result<String, Faul
         ["pen", column] => pen(alloc, line, column),
         ["click", column] => click(alloc, line, column),
         ["changed", seqno] => changed(alloc, line, seqno),
-        _ => answer_of_two(alloc, line, words),
+        _ => other_answer(alloc, line, words),
     }
 }
 
-fn answer_of_two(alloc: Global, line: &Line, words: &[&str]) -> Result<String, Fault> {
+fn other_answer(alloc: Global, line: &Line, words: &[&str]) -> Result<String, Fault> {
     match words {
         ["columns", from, to] => columns(alloc, line, from, to),
         ["alike", column, other] => alike(alloc, line, column, other),
         ["copied", column, word] => copied(alloc, line, column, word),
+        ["turning-click", column] => clicks::turning(alloc, line, column),
         _ => Err(Fault::Bad),
     }
 }
@@ -60,6 +61,7 @@ fn reading(alloc: Global, line: &Line, name: &str) -> Result<String, Fault> {
         "size" => size(alloc, line),
         "bidi" => bidi(alloc, line),
         "changes" => changes(alloc, line),
+        "lengths" => lengths(alloc, line),
         _ => clusters::answer(alloc, line, name),
     }
 }
@@ -244,4 +246,10 @@ fn bidi(alloc: Global, line: &Line) -> Result<String, Fault> {
 fn changes(alloc: Global, line: &Line) -> Result<String, Fault> {
     let changes = line.changes(&CellAttributes::blank())?;
     change_words(alloc, changes.as_slice())
+}
+
+// How many bytes the texts of its changes have.
+fn lengths(alloc: Global, line: &Line) -> Result<String, Fault> {
+    let changes = line.changes(&CellAttributes::blank())?;
+    text_lengths(alloc, changes.as_slice())
 }

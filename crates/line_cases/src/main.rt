@@ -36,11 +36,15 @@
 //!   alike COLUMN COLUMN · copied COLUMN CELL      visible cells that are compared
 //!   text · columns FROM TO · len · number · changed SEQ · spaces · link · same LINE
 //!   size · bidi · marked · click COLUMN · changes
+//!   turning-click COLUMN          whether a click lies in its range, and this in the line, where
+//!                                 cells are of a word and of none by turns
+//!   lengths                       how many bytes the texts of the changes have
 //!   zones · fresh                                 the zones, and whether a copy has the same
 //!   clusters · cell-clusters · bytes · looks · cluster-copies
 #![tactic(auto)]
 
 mod asks;
+mod clicks;
 mod clusters;
 mod edits;
 mod fault;

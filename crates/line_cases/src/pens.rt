@@ -80,3 +80,15 @@ fn pen_word(alloc: Global, attrs: &CellAttributes) -> Result<String, Fault> {
     let words = pen_words(alloc, attrs)?;
     Ok(format!(in alloc; "pen {words}")?)
 }
+
+/// How many bytes each text has, with `|` behind it.
+pub fn text_lengths(alloc: Global, changes: &[Change]) -> Result<String, Fault> {
+    let mut told = String::new(alloc);
+    for change in changes {
+        if let Change::Text(text) = change {
+            let len = text.len();
+            write!(told, "{len}|")?;
+        }
+    }
+    Ok(told)
+}

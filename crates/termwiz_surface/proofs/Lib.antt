@@ -10,3 +10,6 @@ mod Viewing
 mod FollowedRuns
 mod Copying
 mod DiffSurfaces
+mod Remembering
+mod Accepting
+mod ManyRuns

@@ -17,9 +17,9 @@ use Rattle.termwiz_surface.specs.Adding.{Adds}
 use Rattle.termwiz_surface.specs.Copies.{AddsDiff, AddsNothing, IsDrawn, IsCopied}
 use Rattle.termwiz_screen.specs.Diff.{restoring}
 use Rattle.termwiz_screen.specs.Prints.{Print}
-use Rattle.termwiz_surface.specs.Following.{ViewerValue, blank_viewer}
+use Rattle.termwiz_surface.specs.Following.{blank_viewer}
 use Rattle.termwiz_screen.specs.Log.{next_number}
-use Rattle.termwiz_surface.specs.Schedule.{State, AllowsList, AllowsDiff, AllowsNothing, Allows, Runs, Ended, Next, outcome_of, state_of, first_state, blank_screen}
+use Rattle.termwiz_surface.specs.Schedule.{State, AllowsList, AllowsDiff, AllowsNothing, Allows, Runs, Ended, Next, outcome_of, Seen, state_of, state_beside, first_state, blank_screen}
 use Rattle.termwiz_surface.specs.declared.surface.SurfaceError.{SurfaceError}
 use Rattle.termwiz_surface.specs.declared.surface.SurfaceError.TheVariants.{ScrollRegion, Numbers, Memory}
 use Rattle.termwiz_surface.specs.declared.view.Event.{Event}
@@ -55,11 +55,11 @@ module _ {W : Type 0} where
   }
 
   -- a list is answered as the schedule says
-  pub Allows-list : (measure : List ℕ → ℕ) (old new : SurfaceValue W) (v : ViewerValue W) (changes : List ChangeValue) (result : Result ℕ SurfaceError)
-      → Adds measure old changes (next_number old.log - 1 + length changes) result new → AllowsList measure (state_of old v) changes (outcome_of result) (state_of new v)
+  pub Allows-list : (measure : List ℕ → ℕ) (old new : SurfaceValue W) (v : Seen) (changes : List ChangeValue) (result : Result ℕ SurfaceError)
+      → Adds measure old changes (next_number old.log - 1 + length changes) result new → AllowsList measure (state_beside old v) changes (outcome_of result) (state_beside new v)
   Allows-list measure old new v changes (Ok n) h = (h.0, h.1, h.2, record { screen = h.3.screen_is; kept = h.3.kept_is; log = h.3.log; viewer = record { given = refl; shown = refl; own = refl } })
-  Allows-list measure old new v changes (Err ScrollRegion) h = (h.0, ap (λ t. state_of t v) h.1)
-  Allows-list measure old new v changes (Err Numbers) h = (h.0, h.1, ap (λ t. state_of t v) h.2)
+  Allows-list measure old new v changes (Err ScrollRegion) h = (h.0, ap (λ t. state_beside t v) h.1)
+  Allows-list measure old new v changes (Err Numbers) h = (h.0, h.1, ap (λ t. state_beside t v) h.2)
   Allows-list measure old new v changes (Err Memory) h =
       let frame = h.3 in
       let sound = h.4 in
@@ -85,18 +85,18 @@ module _ {W : Type 0} where
         },
       )
 
-  module _ (measure_of : W → List ℕ → ℕ) (old new : SurfaceValue W) (v : ViewerValue W) (full : Bool) (result : Result ℕ SurfaceError) where
+  module _ (measure_of : W → List ℕ → ℕ) (old new : SurfaceValue W) (v : Seen) (full : Bool) (result : Result ℕ SurfaceError) where
     pub Allows-changes : (changes : Vec Change Global) → Adds (measure_of old.widths) old (map change_value changes.items) (next_number old.log - 1 + vec_len changes) result new
-        → Allows measure_of (measure_of old.widths) full (state_of old v) (Changes changes) (outcome_of result) (state_of new v)
+        → Allows measure_of (measure_of old.widths) full (state_beside old v) (Changes changes) (outcome_of result) (state_beside new v)
     Allows-changes changes h = Allows-list (measure_of old.widths) old new v (map change_value changes.items) result (Adds-values (measure_of old.widths) old new changes (map change_value changes.items) result refl h)
 
     Allows-diff : (Same : Type 0) (ps : List Print) (finish : List ChangeValue → List ChangeValue) → AddsDiff (measure_of old.widths) Same ps finish old result new ⊎ AddsNothing old result new
-        → let f = measure_of old.widths in AllowsDiff f Same ps finish (state_of old v) (outcome_of result) (state_of new v) ⊎ AllowsNothing (state_of old v) (outcome_of result) (state_of new v)
+        → let f = measure_of old.widths in AllowsDiff f Same ps finish (state_beside old v) (outcome_of result) (state_beside new v) ⊎ AllowsNothing (state_beside old v) (outcome_of result) (state_beside new v)
     Allows-diff Same ps finish (inl d) = inl (record { changes = d.changes; is_diff = d.is_diff; done = Allows-list (measure_of old.widths) old new v (finish d.changes) result d.done })
-    Allows-diff Same ps finish (inr d) = inr (record { refused = ap outcome_of d.refused; same = ap (λ t. state_of t v) d.same })
+    Allows-diff Same ps finish (inr d) = inr (record { refused = ap outcome_of d.refused; same = ap (λ t. state_beside t v) d.same })
 
-    pub Allows-drawn : (other : SurfaceValue W) (x y : ℕ) → IsDrawn measure_of old other x y result new → Allows measure_of (measure_of old.widths) full (state_of old v) (Draw other x y) (outcome_of result) (state_of new v)
+    pub Allows-drawn : (other : SurfaceValue W) (x y : ℕ) → IsDrawn measure_of old other x y result new → Allows measure_of (measure_of old.widths) full (state_beside old v) (Draw other x y) (outcome_of result) (state_beside new v)
     Allows-drawn other x y = Allows-diff _ _ (restoring old.x old.y old.pen)
 
-    pub Allows-copied : (from_x from_y w h x y : ℕ) → IsCopied measure_of old from_x from_y w h x y result new → Allows measure_of (measure_of old.widths) full (state_of old v) (Copy from_x from_y w h x y) (outcome_of result) (state_of new v)
+    pub Allows-copied : (from_x from_y w h x y : ℕ) → IsCopied measure_of old from_x from_y w h x y result new → Allows measure_of (measure_of old.widths) full (state_beside old v) (Copy from_x from_y w h x y) (outcome_of result) (state_beside new v)
     Allows-copied from_x from_y w h x y = Allows-diff _ _ (λ l. l)

@@ -6,6 +6,11 @@ pub mod Resizing
 pub mod Following
 pub mod FollowingLaws
 pub mod Copies
+pub mod History
+pub mod Answer
+pub mod HistoryLaws
+pub mod ManySchedule
+pub mod ManySteps
 pub use Rattle.termwiz_screen.specs.Screen
 pub use Rattle.termwiz_screen.specs.Place
 pub use Rattle.termwiz_screen.specs.Print

@@ -46,8 +46,21 @@ pub record State : Type 0 where
   pub shown : FullScreen
   pub own : ℕ
 
+-- what a viewer has: the number that it was last given, its full screen, and its own number
+pub record Seen : Type 0 where
+  pub given : ℕ
+  pub shown : FullScreen
+  pub own : ℕ
+
+abbrev pub seen_of : {W : Type 0} → ViewerValue W → Seen
+seen_of v = record { given = v.last; shown = full_of v.surface; own = next_number v.surface.log }
+
+-- a surface, and what a viewer has beside it
+abbrev pub state_beside : {W : Type 0} → SurfaceValue W → Seen → State
+state_beside s v = record { screen = screen_of s; kept = kept_of s; log = s.log; given = v.given; shown = v.shown; own = v.own }
+
 abbrev pub state_of : {W : Type 0} → SurfaceValue W → ViewerValue W → State
-state_of s v = record { screen = screen_of s; kept = kept_of s; log = s.log; given = v.last; shown = full_of v.surface; own = next_number v.surface.log }
+state_of s v = state_beside s (seen_of v)
 
 abbrev pub blank_screen : ℕ → ℕ → Screen
 blank_screen w h = record { width = w; height = h; rows = replicate h (replicate w blank); x = 0; y = 0; visibility = Visible; pen = default_attributes }

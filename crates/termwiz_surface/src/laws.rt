@@ -1,6 +1,9 @@
 //! Laws of the definitions that contracts cite, each on a function that does nothing.
 ghost use Rattle.termwiz_surface.specs.FollowingLaws.{ChangesLeadOn, FlushesKeepLeading, LeadsWhereItIs, RestartsKeepLeading, StreamsLeadOn};
+ghost use Rattle.termwiz_surface.specs.HistoryLaws.{AnswersStay, CarriedLead, ChangesGoOn, FlushesKeepPast, GivenCarry, NamedAreLed, NamesStay, NothingIsNamedAtFirst, NumberNamesPicture, RestartsGoOn};
+ghost use Rattle.termwiz_screen.specs.FullScreen.{FullScreen};
 ghost use Rattle.termwiz_screen.specs.Picture.{full_screens, screens};
+ghost use Rattle.termwiz_screen.specs.Screen.{Screen};
 
 pub use termwiz_screen::laws::{
     diff_laws, fewest_prints, full_repaint_laws, need_laws, repaint_laws, sequence_laws,
@@ -22,4 +25,32 @@ pub fn full_following_laws()
     ensures streams { StreamsLeadOn full_screens }
     ensures flushes { FlushesKeepLeading full_screens }
     ensures restarts { RestartsKeepLeading full_screens }
+{}
+
+/// Above 0 each number that a surface had names one screen, whatever happens to the surface; and an answer leads to the screen that its number names, whenever it is accepted.
+pub fn history_laws()
+    ensures first { NothingIsNamedAtFirst screens }
+    ensures number { NumberNamesPicture screens }
+    ensures led { NamedAreLed screens }
+    ensures changes { ChangesGoOn screens }
+    ensures flushes { FlushesKeepPast screens }
+    ensures restarts { RestartsGoOn screens }
+    ensures names { NamesStay Screen }
+    ensures answers { AnswersStay screens }
+    ensures given { GivenCarry screens }
+    ensures carried { CarriedLead screens }
+{}
+
+/// The same of the full screens of surfaces, and of the answers of full surfaces.
+pub fn full_history_laws()
+    ensures first { NothingIsNamedAtFirst full_screens }
+    ensures number { NumberNamesPicture full_screens }
+    ensures led { NamedAreLed full_screens }
+    ensures changes { ChangesGoOn full_screens }
+    ensures flushes { FlushesKeepPast full_screens }
+    ensures restarts { RestartsGoOn full_screens }
+    ensures names { NamesStay FullScreen }
+    ensures answers { AnswersStay full_screens }
+    ensures given { GivenCarry full_screens }
+    ensures carried { CarriedLead full_screens }
 {}

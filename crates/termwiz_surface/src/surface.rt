@@ -19,10 +19,12 @@ ghost use Rattle.termwiz_screen.specs.ScreenValue.{screen_value};
 ghost use Rattle.termwiz_surface.specs.SurfaceValue.{IsSound, full_of};
 ghost use Rattle.termwiz_surface.specs.Adding.{Adds, Makes, Refuses};
 ghost use Rattle.termwiz_surface.specs.Following.{Follows, ViewerValue};
+ghost use Rattle.termwiz_surface.specs.History.{KeepsNames};
 ghost use Rattle.termwiz_screen.specs.Log.{next_number};
 ghost use Rattle.termwiz_screen.specs.Printable.{HasSize, IsPrintable};
 ghost use Rattle.termwiz_screen.specs.FullScreen.{HasFullSize};
 
+mod answer;
 mod answers;
 mod copies;
 mod diff;
@@ -31,6 +33,7 @@ mod lines;
 mod print;
 mod resizing;
 
+pub use answer::Answer;
 use std::alloc::{AllocError, Global};
 use std::collections::VecDeque;
 use std::marker::Model;
@@ -504,6 +507,8 @@ impl<W: Widths> Surface<W> {
         ensures adds { Adds (unversioned (W.width_of self.old.widths)) self.old (change_value change ∷ []) (next_number self.old.log) result self.new }
         // Each viewer that follows the surface goes on to, also after an error.
         ensures followed { (v : ViewerValue W) → Follows (λ widths. unversioned (W.width_of widths)) v self.old → Follows (λ widths. unversioned (W.width_of widths)) v self.new }
+        // What its numbers named they name still, also after an error.
+        ensures remembered { KeepsNames (unversioned (W.width_of self.old.widths)) self.old self.new }
     {
         self.refuse(slice::from_ref(&change))?;
         let told = self.log.next_number();
@@ -521,6 +526,8 @@ impl<W: Widths> Surface<W> {
         ensures empty { vec_len changes ≡ 0 → IsOk result }
         // Each viewer that follows the surface goes on to, also after an error.
         ensures followed { (v : ViewerValue W) → Follows (λ widths. unversioned (W.width_of widths)) v self.old → Follows (λ widths. unversioned (W.width_of widths)) v self.new }
+        // What its numbers named they name still, also after an error.
+        ensures remembered { KeepsNames (unversioned (W.width_of self.old.widths)) self.old self.new }
     {
         self.refuse(changes.as_slice())?;
         let told = self.log.next_number().saturating_sub(1) + changes.len();

@@ -1,20 +1,24 @@
 //! Runs of events on a surface.
-ghost use Rattle.std.specs.Prelude.{◌≡◌, ◌^◌, ◌<◌, IfOk, OnOk, map};
+ghost use Rattle.std.specs.Prelude.{◌≡◌, ◌^◌, ◌<◌, IfOk, IsSome, OnOk, map};
+ghost use Rattle.std.specs.Option.{IfSome, IsNone};
 ghost use Rattle.std.specs.Cow.{cow_slice_items};
 ghost use Rattle.termwiz_cell.specs.ChangeValue.{change_value};
 ghost use Rattle.std.specs.List.{All};
 ghost use Rattle.termwiz_cell.specs.Width.{unversioned};
 ghost use Rattle.termwiz_surface.specs.Following.{Follows, ViewerValue};
-ghost use Rattle.termwiz_surface.specs.Schedule.{Allows, IsFullSchedule, IsInRange, IsSchedule, IsScheduleOf, outcome_of, state_of};
+ghost use Rattle.termwiz_surface.specs.History.{KeepsNames};
+ghost use Rattle.termwiz_surface.specs.Schedule.{Allows, IsFullSchedule, IsInRange, IsSchedule, IsScheduleOf, Seen, outcome_of, state_beside, state_of};
 
+mod many;
 mod viewer;
 
 use crate::surface::{FullScreen, Screen, Surface, SurfaceError};
+pub use many::{ManyEvent, ManyOutcome, run_many};
 use std::alloc::{AllocError, Global};
 use std::borrow::CowSlice;
 use termwiz_cell::change::{Change, SequenceNo};
 use termwiz_cell::emoji::Widths;
-pub use viewer::Viewer;
+pub use viewer::{AcceptError, Viewer};
 
 /// What happens to a surface.
 #[derive(Drop)]
@@ -131,27 +135,44 @@ fn serve<W: Widths>(
     ensures full { OnOk result (surface.new.full ≡ surface.old.full) }
     ensures follows { OnOk result (Follows (λ widths. unversioned (W.width_of widths)) viewer.new surface.new) }
 {
+    match act(alloc, surface, event) {
+        Some(outcome) => Ok(outcome),
+        None => follow(alloc, surface, viewer),
+    }
+}
+
+// Does one event of the surface's own: any but that its viewer follows.
+fn act<W: Widths>(alloc: Global, surface: &mut Surface<W>, event: Event<W>) -> Option<Outcome>
+    requires { IsInRange event }
+    ensures step { IfSome result (λ outcome. (v : Seen) → Allows (λ widths. unversioned (W.width_of widths)) (unversioned (W.width_of surface.old.widths)) surface.old.full (state_beside surface.old v) event outcome (state_beside surface.new v)) }
+    ensures widths { surface.new.widths ≡ surface.old.widths }
+    ensures full { surface.new.full ≡ surface.old.full }
+    ensures followed { (v : ViewerValue W) → Follows (λ widths. unversioned (W.width_of widths)) v surface.old → Follows (λ widths. unversioned (W.width_of widths)) v surface.new }
+    ensures remembered { KeepsNames (unversioned (W.width_of surface.old.widths)) surface.old surface.new }
+    ensures own { IsSome result → event ≡ Event.Follow → ⊥ }
+    ensures none { IsNone result → (event ≡ Event.Follow) × (surface.new ≡ surface.old) }
+{
     match event {
-        Event::Changes(changes) => Ok(answered(surface.add_changes(changes))),
-        Event::Draw(other, x, y) => Ok(answered(surface.draw_from_screen(&other, x, y))),
+        Event::Changes(changes) => Some(answered(surface.add_changes(changes))),
+        Event::Draw(other, x, y) => Some(answered(surface.draw_from_screen(&other, x, y))),
         Event::Copy(src_x, src_y, width, height, dest_x, dest_y) => {
             let answer = surface.copy_region(src_x, src_y, width, height, dest_x, dest_y);
-            Ok(answered(answer))
+            Some(answered(answer))
         }
         Event::Flush(seq) => {
             surface.flush_changes_older_than(seq);
-            Ok(Outcome::Done)
+            Some(Outcome::Done)
         }
         Event::Resize(width, height) => match surface.resize(width, height) {
-            Ok(()) => Ok(Outcome::Done),
-            Err(error) => Ok(Outcome::Refused(error)),
+            Ok(()) => Some(Outcome::Done),
+            Err(error) => Some(Outcome::Refused(error)),
         },
-        Event::Follow => follow(alloc, surface, viewer),
+        Event::Follow => None,
         Event::Show => match surface.screen_chars_to_string() {
-            Ok(text) => Ok(Outcome::Shown(text, surface.cursor_position())),
-            Err(_) => Ok(Outcome::Refused(SurfaceError::Memory)),
+            Ok(text) => Some(Outcome::Shown(text, surface.cursor_position())),
+            Err(_) => Some(Outcome::Refused(SurfaceError::Memory)),
         },
-        Event::Ask(seq) => Ok(ask(alloc, surface, seq)),
+        Event::Ask(seq) => Some(ask(alloc, surface, seq)),
     }
 }
 
@@ -178,7 +199,7 @@ fn follow<W: Widths>(
     match viewer.fetch(surface) {
         Ok((number, changes)) => {
             let told = copied(alloc, CowSlice::Borrowed(changes.as_slice()))?;
-            match viewer.accept(number, changes) {
+            match viewer.make(number, changes) {
                 Ok(number) => {
                     if surface.is_full() {
                         let shown = viewer.surface().full_screen()?;
@@ -199,7 +220,7 @@ fn follow<W: Widths>(
 
 // The changes from a number on, as a list of their own.
 fn ask<W: Widths>(alloc: Global, surface: &Surface<W>, seq: SequenceNo) -> Outcome
-    ensures { (viewer : ViewerValue W) → Allows (λ widths. unversioned (W.width_of widths)) (unversioned (W.width_of surface.now.widths)) surface.now.full (state_of surface.now viewer) (Event.Ask seq) result (state_of surface.now viewer) }
+    ensures { (v : Seen) → Allows (λ widths. unversioned (W.width_of widths)) (unversioned (W.width_of surface.now.widths)) surface.now.full (state_beside surface.now v) (Event.Ask seq) result (state_beside surface.now v) }
 {
     match surface.get_changes(seq) {
         Ok((number, changes)) => match copied(alloc, changes) {

@@ -9,6 +9,7 @@ pub mod one_by_one;
 pub mod prompt;
 pub mod remote;
 pub mod renderer;
+pub mod sharing;
 pub mod status;
 #[cfg(test)]
 mod tests;

@@ -6,6 +6,7 @@ ghost use Rattle.termwiz_cell.specs.Width.{unversioned};
 ghost use Rattle.termwiz_surface.specs.Adding.{with_log};
 ghost use Rattle.termwiz_surface.specs.Following.{Follows, ViewerValue};
 ghost use Rattle.termwiz_surface.specs.SurfaceValue.{screen_of, kept_of, full_of};
+ghost use Rattle.termwiz_surface.specs.History.{KeepsNames};
 ghost use Rattle.termwiz_screen.specs.FullScreen.{full_screen};
 ghost use Rattle.termwiz_screen.specs.Log.{due, flushed, is_known, next_number, worth};
 ghost use Rattle.termwiz_screen.specs.Printable.{HasSize};
@@ -39,6 +40,8 @@ impl<W: Widths> Surface<W> {
         ensures answers { (n most : ℕ) → seq ≤ n → (is_known most self.new.log n ≡ is_known most self.old.log n) × (due self.new.log n ≡ due self.old.log n) }
         // Each viewer that follows the surface goes on to.
         ensures followed { (v : ViewerValue W) → Follows (λ widths. unversioned (W.width_of widths)) v self.old → Follows (λ widths. unversioned (W.width_of widths)) v self.new }
+        // What its numbers named they name still.
+        ensures remembered { KeepsNames (unversioned (W.width_of self.old.widths)) self.old self.new }
     {
         self.log.flush(seq);
     }

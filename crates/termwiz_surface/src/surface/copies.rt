@@ -5,6 +5,7 @@ ghost use Rattle.termwiz_cell.specs.Width.{unversioned};
 ghost use Rattle.termwiz_surface.specs.Copies.{IsCopied, IsDrawn, copied_region, drawn_region};
 ghost use Rattle.termwiz_screen.specs.Diff.{restoring};
 ghost use Rattle.termwiz_screen.specs.DiffRegions.{CrossNone, HaveRegion};
+ghost use Rattle.termwiz_surface.specs.History.{KeepsNames};
 ghost use Rattle.termwiz_surface.specs.Following.{Follows, ViewerValue};
 ghost use Rattle.termwiz_surface.specs.SurfaceValue.{screen_of};
 ghost use Rattle.termwiz_surface.specs.declared.surface.SurfaceError.TheVariants.{ScrollRegion};
@@ -35,6 +36,8 @@ impl<W: Widths> Surface<W> {
         ensures no_scroll { result ≡ Err ScrollRegion → ⊥ }
         // Each viewer that follows the surface goes on to, also after an error, and whatever width value the drawn one has.
         ensures followed { (v : ViewerValue W) → Follows (λ widths. unversioned (W.width_of widths)) v self.old → Follows (λ widths. unversioned (W.width_of widths)) v self.new }
+        // What its numbers named they name still, also after an error.
+        ensures remembered { KeepsNames (unversioned (W.width_of self.old.widths)) self.old self.new }
     {
         let (width, height) = other.dimensions();
         let changes = self.diff_region(x, y, width, height, other, 0, 0)?;
@@ -62,6 +65,8 @@ impl<W: Widths> Surface<W> {
         ensures no_scroll { result ≡ Err ScrollRegion → ⊥ }
         // Each viewer that follows the surface goes on to, also after an error.
         ensures followed { (v : ViewerValue W) → Follows (λ widths. unversioned (W.width_of widths)) v self.old → Follows (λ widths. unversioned (W.width_of widths)) v self.new }
+        // What its numbers named they name still, also after an error.
+        ensures remembered { KeepsNames (unversioned (W.width_of self.old.widths)) self.old self.new }
     {
         let changes = self.diff_region(dest_x, dest_y, width, height, self, src_x, src_y)?;
         self.add_changes(changes)

@@ -1,18 +1,54 @@
 //! Viewers: surfaces that follow another one.
-ghost use Rattle.std.specs.Prelude.{◌≡◌, true, map, IfOk, OnOk, OnErr};
+ghost use Rattle.std.specs.Prelude.{◌≡◌, ℕ, ◌+◌, ◌<◌, ◌^◌, true, length, map, nat_lt, IfOk, OnOk, OnErr};
 ghost use Rattle.termwiz_cell.specs.ChangeValue.{change_value};
 ghost use Rattle.termwiz_cell.specs.Width.{unversioned};
+ghost use Rattle.termwiz_surface.specs.Adding.{Makes};
+ghost use Rattle.termwiz_surface.specs.Answer.{Carries, Declines, HasDropped, MayTake, Takes};
 ghost use Rattle.termwiz_surface.specs.Following.{blank_viewer, forgetful, Accepts, Fetches, Fits, Follows, FollowsTo};
-ghost use Rattle.termwiz_screen.specs.Log.{next_number};
+ghost use Rattle.termwiz_surface.specs.History.{Names};
+ghost use Rattle.termwiz_surface.specs.Resizing.{Resizes};
 ghost use Rattle.termwiz_surface.specs.SurfaceValue.{screen_of, full_of};
-ghost use Rattle.termwiz_screen.specs.FullScreen.{HasFullSize};
+ghost use Rattle.termwiz_screen.specs.FullScreen.{FullScreen, HasFullSize};
+ghost use Rattle.termwiz_screen.specs.Log.{next_number};
+ghost use Rattle.termwiz_screen.specs.Picture.{full_screens, screens};
+ghost use Rattle.termwiz_screen.specs.Screen.{Screen};
 
 use super::copied;
-use crate::surface::{Surface, SurfaceError};
+use crate::surface::{Answer, Surface, SurfaceError};
 use std::alloc::{AllocError, Global};
+use std::borrow::CowSlice;
 use std::marker::Model;
 use termwiz_cell::change::{Change, SEQ_ZERO, SequenceNo};
 use termwiz_cell::emoji::Widths;
+use thiserror::Error;
+
+/// Why a viewer doesn't accept an answer. The errors have numbers, and are told in this order.
+#[derive(Debug, Drop, Clone, Copy, PartialEq, Eq, Error)]
+pub enum AcceptError {
+    /// Error 1: the answer is for another size. Nothing has changed.
+    #[error("the answer is for another size")]
+    Size,
+    /// Error 2: the answer is no repaint, and the viewer's number isn't its base. Nothing has changed.
+    #[error("the answer is for another number")]
+    Stale,
+    /// Error 3: the numbers of the viewer's own surface would pass the greatest `usize`. The viewer shows what it showed, and has no number.
+    #[error("the numbers of changes are used up")]
+    Numbers,
+    /// Error 4: a growth was refused. The viewer may show anything, and has no number.
+    #[error("out of memory")]
+    Memory,
+}
+
+impl From<AllocError> for AcceptError {
+    ghost use Rattle.std.specs.Prelude.{◌≡◌};
+    ghost use Rattle.termwiz_surface.specs.declared.view.viewer.AcceptError.TheVariants.{Memory};
+
+    ghost from_gives = { λ _ error. error ≡ Memory };
+
+    fn from(_error: AllocError) -> AcceptError {
+        AcceptError::Memory
+    }
+}
 
 /// A surface that follows another one, its source: it shows what the source showed when it followed last.
 ///
@@ -92,7 +128,7 @@ impl<W: Widths> Viewer<W> {
     }
 
     /// Makes the changes, and takes the source's number, which is the answer. After an error the viewer has no number.
-    pub(crate) fn accept(
+    pub(crate) fn make(
         &mut self,
         number: SequenceNo,
         changes: Vec<Change>,
@@ -112,6 +148,83 @@ impl<W: Widths> Viewer<W> {
         self.last = SEQ_ZERO;
     }
 
+    // Tells why an answer is refused before anything is done.
+    fn decline(&self, answer: &Answer) -> Result<(), AcceptError>
+        ensures declines { Declines self.now answer.now result }
+        ensures sized { OnOk result (HasFullSize answer.now.width answer.now.height (full_of self.now.surface)) }
+    {
+        if self.surface.dimensions() != answer.size() {
+            return Err(AcceptError::Size);
+        }
+        if !answer.is_repaint() && self.last != answer.base() {
+            return Err(AcceptError::Stale);
+        }
+        Ok(())
+    }
+
+    // Whether the viewer's own surface has numbers for so many more changes.
+    fn has_numbers(&self, count: usize) -> bool
+        ensures { result ≡ nat_lt (next_number self.now.surface.log + count) (2 ^ 64) }
+    {
+        count <= usize::MAX - self.surface.current_seqno()
+    }
+
+    // Makes the changes of an answer that may be taken, and takes its number.
+    fn take(&mut self, answer: &Answer) -> Result<(), AllocError>
+        requires may { MayTake self.old answer.now }
+        requires numbers { next_number self.old.surface.log + length answer.now.changes < 2 ^ 64 }
+        ensures ok { OnOk result ((self.new.last ≡ answer.now.number) × Makes (unversioned (W.width_of self.old.surface.widths)) self.old.surface answer.now.changes self.new.surface) }
+        ensures err { OnErr result (HasDropped (unversioned (W.width_of self.old.surface.widths)) self.old self.new) }
+    {
+        self.last = SEQ_ZERO;
+        let changes = copied(self.alloc, CowSlice::Borrowed(answer.changes()))?;
+        if self.surface.add_changes(changes).is_err() {
+            return Err(AllocError);
+        }
+        self.last = answer.number();
+        Ok(())
+    }
+
+    /// Makes the changes of an answer, and takes its number, which is told: so the viewer shows what the surface showed when it gave the answer, whatever either has done since.
+    ///
+    /// `Size`: the answer is for another size. `Stale`: it is no repaint, and the viewer doesn't have the number that it leads from. After both nothing has changed. `Numbers`: the numbers of the viewer's own surface are used up; it shows what it showed. `Memory`: a growth was refused; it may show anything. After both the viewer has no number, so that it is to be answered by a repaint.
+    pub fn accept(&mut self, answer: &Answer) -> Result<SequenceNo, AcceptError>
+        ensures takes { Takes (unversioned (W.width_of self.old.surface.widths)) self.old answer.now result self.new }
+        // A viewer that shows what its number names has the screen that the answer was given for, and of a full surface the full screen,
+        ensures shows { (past : ℕ → Screen) (s : Screen) → Carries screens (unversioned (W.width_of self.old.surface.widths)) past answer.now s → Names past self.old.last (screen_of self.old.surface) → OnOk result (screen_of self.new.surface ≡ s) }
+        ensures shows_fully { (past : ℕ → FullScreen) (f : FullScreen) → Carries full_screens (unversioned (W.width_of self.old.surface.widths)) past answer.now f → Names past self.old.last (full_of self.old.surface) → OnOk result (full_of self.new.surface ≡ f) }
+        // and shows what its number names then, also after an error.
+        ensures names { (past : ℕ → Screen) (s : Screen) → Carries screens (unversioned (W.width_of self.old.surface.widths)) past answer.now s → Names past self.old.last (screen_of self.old.surface) → Names past self.new.last (screen_of self.new.surface) }
+        ensures names_fully { (past : ℕ → FullScreen) (f : FullScreen) → Carries full_screens (unversioned (W.width_of self.old.surface.widths)) past answer.now f → Names past self.old.last (full_of self.old.surface) → Names past self.new.last (full_of self.new.surface) }
+    {
+        self.decline(answer)?;
+        if !self.has_numbers(answer.changes().len()) {
+            self.forget();
+            return Err(AcceptError::Numbers);
+        }
+        self.take(answer)?;
+        Ok(answer.number())
+    }
+
+    /// Takes another size, as a surface does, and has no number then: so it is to be answered by a repaint of that size. After an error nothing has changed.
+    pub fn resize(&mut self, width: usize, height: usize) -> Result<(), SurfaceError>
+        requires some_column { 0 < width }
+        requires some_row { 0 < height }
+        requires fits { width < 2 ^ 32 }
+        requires fits_height { height < 2 ^ 32 }
+        ensures resizes { Resizes self.old.surface width height result self.new.surface }
+        ensures ok { OnOk result (self.new.last ≡ 0) }
+        ensures err { OnErr result (self.new ≡ self.old) }
+        // A viewer that shows what its number names does so still.
+        ensures names { (past : ℕ → Screen) → Names past self.old.last (screen_of self.old.surface) → Names past self.new.last (screen_of self.new.surface) }
+        ensures names_fully { (past : ℕ → FullScreen) → Names past self.old.last (full_of self.old.surface) → Names past self.new.last (full_of self.new.surface) }
+    {
+        self.surface.resize(width, height)?;
+        // What it shows now has no number.
+        self.last = SEQ_ZERO;
+        Ok(())
+    }
+
     /// Shows what the source shows now. The answer is the source's number.
     ///
     /// `Numbers`: the numbers of the viewer's own surface are used up. `Memory`: a growth was refused. After both the viewer may show anything, and has no number. Its width value stays, and the number of its own surface has grown by two at most. A viewer that followed the source follows it still: the next time that it succeeds it gets the whole screen, and shows it. `ScrollRegion` never comes.
@@ -126,7 +239,7 @@ impl<W: Widths> Viewer<W> {
         ensures failed { OnErr result (self.new.last ≡ 0) }
     {
         match self.fetch(source) {
-            Ok((number, changes)) => self.accept(number, changes),
+            Ok((number, changes)) => self.make(number, changes),
             Err(error) => {
                 self.forget();
                 Err(error)

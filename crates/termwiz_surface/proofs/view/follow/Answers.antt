@@ -7,31 +7,31 @@ use Rattle.termwiz_surface.proofs.FollowedRuns.{Allows-followed, Allows-followed
 use Rattle.termwiz_surface.proofs.Viewing.{FollowsTo-accepted, Follows-accepted}
 use Rattle.termwiz_surface.proofs.view.follow.Goals as goal
 
-pub returns-in_ok-screen-in-Ok-accept-clause-step : goal.returns-in_ok-screen-in-Ok-accept-clause-step
-returns-in_ok-screen-in-Ok-accept-clause-step g c =
+pub returns-in_ok-screen-in-Ok-make-clause-step : goal.returns-in_ok-screen-in-Ok-make-clause-step
+returns-in_ok-screen-in-Ok-make-clause-step g c =
     let got = c.in-Ok.ensures.fetches in
-    Allows-followed (λ widths. unversioned (g.W.Widths.width_of widths)) c.args.surface.now c.args.viewer.now c.requires c.fetch.new.self c.accept.new.self c.in-Ok.number (map change_value c.in-Ok.changes.items) got.0 got.1 c.in-Ok.ensures.sized got.2
-    c.in-Ok-accept.number c.in-Ok-accept.ensures (sym c.is_full.ensures ∙ c.if-is_full.false) c.in_ok-told-in-Ok.told c.in_ok-screen-in-Ok-accept.screen (c.in_ok-told-in-Ok.ensures ∙ ap (map change_value) c.as_slice.ensures.value) (c.in_ok-screen-in-Ok-accept.ensures.shown ∙ ap screen_of c.surface-in-Ok-accept.ensures)
+    Allows-followed (λ widths. unversioned (g.W.Widths.width_of widths)) c.args.surface.now c.args.viewer.now c.requires c.fetch.new.self c.make.new.self c.in-Ok.number (map change_value c.in-Ok.changes.items) got.0 got.1 c.in-Ok.ensures.sized got.2
+    c.in-Ok-make.number c.in-Ok-make.ensures (sym c.is_full.ensures ∙ c.if-is_full.false) c.in_ok-told-in-Ok.told c.in_ok-screen-in-Ok-make.screen (c.in_ok-told-in-Ok.ensures ∙ ap (map change_value) c.as_slice.ensures.value) (c.in_ok-screen-in-Ok-make.ensures.shown ∙ ap screen_of c.surface-in-Ok-make.ensures)
 
-pub returns-in_ok-screen-in-Ok-accept-clause-follows : goal.returns-in_ok-screen-in-Ok-accept-clause-follows
-returns-in_ok-screen-in-Ok-accept-clause-follows g c =
+pub returns-in_ok-screen-in-Ok-make-clause-follows : goal.returns-in_ok-screen-in-Ok-make-clause-follows
+returns-in_ok-screen-in-Ok-make-clause-follows g c =
     let got = c.in-Ok.ensures.fetches in
-    Follows-accepted (λ widths. unversioned (g.W.Widths.width_of widths)) c.args.surface.now c.args.viewer.now c.fetch.new.self c.accept.new.self c.in-Ok.number (map change_value c.in-Ok.changes.items) got.0 got.1 c.in-Ok.ensures.sized got.2 c.requires (Ok c.in-Ok-accept.number) c.in-Ok-accept.ensures
+    Follows-accepted (λ widths. unversioned (g.W.Widths.width_of widths)) c.args.surface.now c.args.viewer.now c.fetch.new.self c.make.new.self c.in-Ok.number (map change_value c.in-Ok.changes.items) got.0 got.1 c.in-Ok.ensures.sized got.2 c.requires (Ok c.in-Ok-make.number) c.in-Ok-make.ensures
 
 pub returns-then-is_full-clause-step : goal.returns-then-is_full-clause-step
 returns-then-is_full-clause-step g c =
     let got = c.in-Ok.ensures.fetches in
-    Allows-followed_full (λ widths. unversioned (g.W.Widths.width_of widths)) c.args.surface.now c.args.viewer.now c.requires c.fetch.new.self c.accept.new.self c.in-Ok.number (map change_value c.in-Ok.changes.items) got.0 got.1 c.in-Ok.ensures.sized got.2
-    c.in-Ok-accept.number c.in-Ok-accept.ensures (sym c.is_full.ensures ∙ c.if-is_full.true) c.in_ok-told-in-Ok.told c.in_ok-shown-in-Ok-accept.shown (c.in_ok-told-in-Ok.ensures ∙ ap (map change_value) c.as_slice.ensures.value) (c.in_ok-shown-in-Ok-accept.ensures ∙ ap full_of c.surface.ensures)
+    Allows-followed_full (λ widths. unversioned (g.W.Widths.width_of widths)) c.args.surface.now c.args.viewer.now c.requires c.fetch.new.self c.make.new.self c.in-Ok.number (map change_value c.in-Ok.changes.items) got.0 got.1 c.in-Ok.ensures.sized got.2
+    c.in-Ok-make.number c.in-Ok-make.ensures (sym c.is_full.ensures ∙ c.if-is_full.true) c.in_ok-told-in-Ok.told c.in_ok-shown-in-Ok-make.shown (c.in_ok-told-in-Ok.ensures ∙ ap (map change_value) c.as_slice.ensures.value) (c.in_ok-shown-in-Ok-make.ensures ∙ ap full_of c.surface.ensures)
 
 pub returns-then-is_full-clause-follows : goal.returns-then-is_full-clause-follows
 returns-then-is_full-clause-follows g c =
     let got = c.in-Ok.ensures.fetches in
-    Follows-accepted (λ widths. unversioned (g.W.Widths.width_of widths)) c.args.surface.now c.args.viewer.now c.fetch.new.self c.accept.new.self c.in-Ok.number (map change_value c.in-Ok.changes.items) got.0 got.1 c.in-Ok.ensures.sized got.2 c.requires (Ok c.in-Ok-accept.number) c.in-Ok-accept.ensures
+    Follows-accepted (λ widths. unversioned (g.W.Widths.width_of widths)) c.args.surface.now c.args.viewer.now c.fetch.new.self c.make.new.self c.in-Ok.number (map change_value c.in-Ok.changes.items) got.0 got.1 c.in-Ok.ensures.sized got.2 c.requires (Ok c.in-Ok-make.number) c.in-Ok-make.ensures
 
-pub returns-in-Err-accept-clause-step : goal.returns-in-Err-accept-clause-step
-returns-in-Err-accept-clause-step g c =
+pub returns-in-Err-make-clause-step : goal.returns-in-Err-make-clause-step
+returns-in-Err-make-clause-step g c =
     let f = λ (widths : _). unversioned (g.W.Widths.width_of widths) in
     let got = c.in-Ok.ensures.fetches in
-    Allows-lost f c.args.surface.now c.args.viewer.now c.requires c.accept.new.self c.in-Err-accept.error
-    (FollowsTo-accepted f c.args.surface.now c.args.viewer.now c.fetch.new.self c.accept.new.self c.in-Ok.number (map change_value c.in-Ok.changes.items) got.0 got.1 c.in-Ok.ensures.sized got.2 (Err c.in-Err-accept.error) c.in-Err-accept.ensures)
+    Allows-lost f c.args.surface.now c.args.viewer.now c.requires c.make.new.self c.in-Err-make.error
+    (FollowsTo-accepted f c.args.surface.now c.args.viewer.now c.fetch.new.self c.make.new.self c.in-Ok.number (map change_value c.in-Ok.changes.items) got.0 got.1 c.in-Ok.ensures.sized got.2 (Err c.in-Err-make.error) c.in-Err-make.ensures)

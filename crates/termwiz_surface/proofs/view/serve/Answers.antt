@@ -1,34 +1,5 @@
-use Rattle.std.proofs.Common.{map}
-use Rattle.termwiz_cell.specs.ChangeValue.{change_value}
-use Rattle.termwiz_cell.specs.Width.{unversioned}
-use Rattle.termwiz_surface.proofs.Following.{Follows-adds, Follows-diff}
-use Rattle.termwiz_surface.proofs.Running.{Allows-changes, Allows-drawn, Allows-copied}
+use Rattle.termwiz_surface.specs.Schedule.{seen_of}
 use Rattle.termwiz_surface.proofs.view.serve.Goals as goal
 
-pub returns-in-Changes-clause-step : goal.returns-in-Changes-clause-step
-returns-in-Changes-clause-step g c =
-    rw (c.in-Changes.is, c.answered.ensures)
-    (Allows-changes (λ widths. unversioned (g.W.Widths.width_of widths)) c.args.surface.now c.add_changes.new.self c.args.viewer.now c.args.surface.now.full c.add_changes.result c.in-Changes.changes c.add_changes.ensures.adds)
-
-pub returns-in-Changes-clause-follows : goal.returns-in-Changes-clause-follows
-returns-in-Changes-clause-follows g c =
-    Follows-adds (λ widths. unversioned (g.W.Widths.width_of widths)) c.args.viewer.now c.args.surface.now c.add_changes.new.self (map change_value c.in-Changes.changes.items) _ c.add_changes.result c.requires.follows c.add_changes.ensures.adds
-
-pub returns-in-Draw-clause-step : goal.returns-in-Draw-clause-step
-returns-in-Draw-clause-step g c =
-    rw (c.in-Draw.is, c.answered-in-Draw.ensures)
-    (Allows-drawn (λ widths. unversioned (g.W.Widths.width_of widths)) c.args.surface.now c.draw_from_screen.new.self c.args.viewer.now c.args.surface.now.full c.draw_from_screen.result c.in-Draw.other c.in-Draw.x c.in-Draw.y c.draw_from_screen.ensures.drawn)
-
-pub returns-in-Draw-clause-follows : goal.returns-in-Draw-clause-follows
-returns-in-Draw-clause-follows g c =
-    Follows-diff (λ widths. unversioned (g.W.Widths.width_of widths)) c.args.viewer.now c.args.surface.now c.draw_from_screen.new.self c.draw_from_screen.result c.requires.follows c.draw_from_screen.ensures.drawn
-
-pub returns-in-Copy-clause-step : goal.returns-in-Copy-clause-step
-returns-in-Copy-clause-step g c =
-    let at = c.in-Copy in
-    rw (c.in-Copy.is, c.answered-in-Copy.ensures)
-    (Allows-copied (λ widths. unversioned (g.W.Widths.width_of widths)) c.args.surface.now c.copy_region-answer.new.self c.args.viewer.now c.args.surface.now.full c.copy_region-answer.result at.src_x at.src_y at.width at.height at.dest_x at.dest_y c.copy_region-answer.ensures.copied)
-
-pub returns-in-Copy-clause-follows : goal.returns-in-Copy-clause-follows
-returns-in-Copy-clause-follows g c =
-    Follows-diff (λ widths. unversioned (g.W.Widths.width_of widths)) c.args.viewer.now c.args.surface.now c.copy_region-answer.new.self c.copy_region-answer.result c.requires.follows c.copy_region-answer.ensures.copied
+pub returns-in-Some-clause-step : goal.returns-in-Some-clause-step
+returns-in-Some-clause-step g c = c.in-Some.ensures.step (seen_of c.args.viewer.now)

@@ -2,6 +2,7 @@ use Rattle.std.proofs.Common.{arith}
 use Rattle.termwiz_surface.proofs.Drawn.{any_log}
 use Rattle.termwiz_screen.proofs.Logs.{flushed_number, flushed_alike}
 use Rattle.termwiz_screen.proofs.LogRegions.{regions-flushed}
+use Rattle.termwiz_surface.proofs.Remembering.{keeps_flushed}
 use Rattle.termwiz_surface.proofs.surface.Surface.flush_changes_older_than.Goals as goal
 
 pub invariant_of-self : goal.invariant_of-self
@@ -15,3 +16,7 @@ invariant_of-self g c =
 pub returns-clause-answers : goal.returns-clause-answers
 returns-clause-answers g c =
     λ n most from. rw (← c.self.view_is, c.flush.ensures) (flushed_alike c.self.inside.log c.args.seq n most from)
+
+pub returns-clause-remembered : goal.returns-clause-remembered
+returns-clause-remembered g c =
+    rw (← c.self.view_is, c.flush.ensures) (keeps_flushed _ _ c.args.seq)

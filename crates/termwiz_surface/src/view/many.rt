@@ -1,0 +1,169 @@
+//! Runs of events on one surface and several viewers.
+ghost use Rattle.std.specs.Prelude.{◌≡◌, ◌^◌, ◌<◌, IfOk, OnOk, List, map, replicate};
+ghost use Rattle.std.specs.List.{All};
+ghost use Rattle.termwiz_cell.specs.Width.{unversioned};
+ghost use Rattle.termwiz_surface.specs.Following.{blank_viewer};
+ghost use Rattle.termwiz_surface.specs.ManySchedule.{Held, IsManyInRange, IsManySchedule};
+ghost use Rattle.termwiz_surface.specs.ManySteps.{AnswersTo, DeliversTo, Remembers, ResizesAs, Serves};
+
+use super::{AcceptError, Event, Outcome, Viewer, act};
+use crate::surface::{Answer, Screen, Surface, SurfaceError};
+use std::alloc::{AllocError, Global};
+use termwiz_cell::change::SequenceNo;
+use termwiz_cell::emoji::Widths;
+
+/// What happens to a surface with several viewers, which are numbered from 0, as its answers are.
+#[derive(Drop)]
+pub enum ManyEvent<W: Widths> {
+    /// This happens to the surface. No viewer follows it (`Follow`).
+    On(Event<W>),
+    /// The surface gives an answer for this viewer's number, and it is kept.
+    AnswerFor(usize),
+    /// This viewer is given that answer.
+    Deliver(usize, usize),
+    /// This viewer takes this width and height.
+    ResizeViewer(usize, usize, usize),
+}
+
+/// What came of such an event.
+#[derive(Drop)]
+pub enum ManyOutcome {
+    /// What came of an event on the surface.
+    Of(Outcome),
+    /// The answer is kept under this number.
+    Kept(usize),
+    /// The viewer accepted the answer: its number now, and what it shows.
+    Accepted(SequenceNo, Screen),
+    /// The viewer didn't accept it.
+    NotAccepted(AcceptError),
+    /// The viewer took the size.
+    Done,
+    /// The answer, or the viewer's size, was refused.
+    Refused(SurfaceError),
+    /// There is no such viewer, or no such answer.
+    NoSuch,
+}
+
+/// Runs the events on one blank surface, of this width in columns and this height in rows, and so many blank viewers of it, and gives one outcome for each. A refused event is an outcome, and the run goes on. It fails where there is no memory for the surface, a viewer, the lists of answers and outcomes, or what is told of a viewer that accepted.
+pub fn run_many<W: Widths>(
+    alloc: Global,
+    widths: W,
+    width: usize,
+    height: usize,
+    viewers: usize,
+    events: Vec<ManyEvent<W>>,
+) -> Result<Vec<ManyOutcome>, AllocError>
+    requires some_column { 0 < width }
+    requires some_row { 0 < height }
+    requires fits { width < 2 ^ 32 }
+    requires fits_height { height < 2 ^ 32 }
+    requires sizes { All IsManyInRange events.items }
+    ensures { IfOk result (λ outcomes. IsManySchedule (λ widths. unversioned (W.width_of widths)) (unversioned (W.width_of widths)) width height viewers events.items outcomes.items) }
+{
+    let mut surface = Surface::new(alloc, width, height, widths)?;
+    let mut seats = blank_viewers(alloc, &surface, viewers)?;
+    let mut answers = Vec::new(alloc);
+    let mut outcomes = Vec::new(alloc);
+    for event in events {
+        outcomes.push(serve(alloc, &mut surface, &mut seats, &mut answers, event)?)?;
+    }
+    Ok(outcomes)
+}
+
+// So many viewers of a surface, each blank.
+fn blank_viewers<W: Widths>(
+    alloc: Global,
+    surface: &Surface<W>,
+    count: usize,
+) -> Result<Vec<Viewer<W>>, AllocError>
+    ensures { IfOk result (λ viewers. viewers.items ≡ replicate count (blank_viewer surface.now)) }
+{
+    let mut viewers = Vec::new(alloc);
+    for _ in 0..count {
+        viewers.push(Viewer::new(alloc, surface)?)?;
+    }
+    Ok(viewers)
+}
+
+// Does one event.
+fn serve<W: Widths>(
+    alloc: Global,
+    surface: &mut Surface<W>,
+    viewers: &mut Vec<Viewer<W>>,
+    answers: &mut Vec<Answer>,
+    event: ManyEvent<W>,
+) -> Result<ManyOutcome, AllocError>
+    requires { IsManyInRange event }
+    ensures serves { IfOk result (λ outcome. (held : List Held) → Remembers (λ widths. unversioned (W.width_of widths)) surface.old viewers.old.items answers.old.items held → Serves (λ widths. unversioned (W.width_of widths)) surface.old viewers.old.items held event outcome surface.new viewers.new.items answers.new.items) }
+    ensures widths { surface.new.widths ≡ surface.old.widths }
+{
+    match event {
+        ManyEvent::On(event) => match act(alloc, surface, event) {
+            Some(outcome) => Ok(ManyOutcome::Of(outcome)),
+            None => Ok(ManyOutcome::NoSuch),
+        },
+        ManyEvent::AnswerFor(v) => {
+            if v >= viewers.len() {
+                return Ok(ManyOutcome::NoSuch);
+            }
+            answer(surface, viewers[v].last(), answers)
+        }
+        ManyEvent::Deliver(v, k) => {
+            if v >= viewers.len() || k >= answers.len() {
+                return Ok(ManyOutcome::NoSuch);
+            }
+            deliver(&mut viewers[v], &answers[k])
+        }
+        ManyEvent::ResizeViewer(v, width, height) => {
+            if v >= viewers.len() {
+                return Ok(ManyOutcome::NoSuch);
+            }
+            Ok(resize(&mut viewers[v], width, height))
+        }
+    }
+}
+
+// The surface's answer for a number is kept.
+fn answer<W: Widths>(
+    surface: &Surface<W>,
+    seq: SequenceNo,
+    answers: &mut Vec<Answer>,
+) -> Result<ManyOutcome, AllocError>
+    ensures { IfOk result (λ outcome. AnswersTo (unversioned (W.width_of surface.now.widths)) surface.now seq answers.old.items outcome answers.new.items) }
+{
+    match surface.answer(seq) {
+        Ok(answer) => {
+            let number = answers.len();
+            answers.push(answer)?;
+            Ok(ManyOutcome::Kept(number))
+        }
+        Err(_) => Ok(ManyOutcome::Refused(SurfaceError::Memory)),
+    }
+}
+
+// A viewer is given an answer, and what it shows then is told.
+fn deliver<W: Widths>(viewer: &mut Viewer<W>, answer: &Answer) -> Result<ManyOutcome, AllocError>
+    ensures { IfOk result (λ outcome. DeliversTo (λ widths. unversioned (W.width_of widths)) viewer.old answer.now outcome viewer.new) }
+{
+    match viewer.accept(answer) {
+        Ok(number) => {
+            let screen = viewer.surface().screen()?;
+            Ok(ManyOutcome::Accepted(number, screen))
+        }
+        Err(error) => Ok(ManyOutcome::NotAccepted(error)),
+    }
+}
+
+// A viewer takes another size.
+fn resize<W: Widths>(viewer: &mut Viewer<W>, width: usize, height: usize) -> ManyOutcome
+    requires some_column { 0 < width }
+    requires some_row { 0 < height }
+    requires fits { width < 2 ^ 32 }
+    requires fits_height { height < 2 ^ 32 }
+    ensures { ResizesAs viewer.old width height result viewer.new }
+{
+    match viewer.resize(width, height) {
+        Ok(()) => ManyOutcome::Done,
+        Err(error) => ManyOutcome::Refused(error),
+    }
+}

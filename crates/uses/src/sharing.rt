@@ -1,0 +1,64 @@
+//! A screen that is shared: its answers are carried off, and may be delivered late, repeatedly, in any order, or never.
+ghost use Rattle.std.specs.Prelude.{◌≡◌, ℕ, true, All, OnOk};
+ghost use Rattle.termwiz_cell.specs.Width.{unversioned};
+ghost use Rattle.termwiz_surface.specs.FullScreen.{FullScreen};
+ghost use Rattle.termwiz_surface.specs.History.{IsPast, KeepsNames, Names};
+ghost use Rattle.termwiz_surface.specs.Log.{is_known};
+ghost use Rattle.termwiz_surface.specs.Picture.{full_screens, screens};
+ghost use Rattle.termwiz_surface.specs.Screen.{Screen};
+ghost use Rattle.termwiz_surface.specs.SurfaceValue.{full_of, screen_of};
+
+use termwiz_cell::change::{Change, SequenceNo};
+use termwiz_cell::emoji::Widths;
+use termwiz_surface::surface::Surface;
+use termwiz_surface::view::{AcceptError, Viewer};
+
+/// Takes an answer for a viewer along while the surface goes on, and delivers it then: the viewer has the screen that the surface had when it gave the answer.
+///
+/// Here `past` is what the surface's numbers named so far. Whatever is answered, the viewer shows what its number names.
+pub fn deliver_late<W: Widths>(
+    surface: &mut Surface<W>,
+    viewer: &mut Viewer<W>,
+    change: Change,
+) -> Result<SequenceNo, AcceptError>
+    ghost past: { ℕ → Screen }
+    requires one_measure { unversioned (W.width_of viewer.old.surface.widths) ≡ unversioned (W.width_of surface.old.widths) }
+    requires is_past { IsPast screens (unversioned (W.width_of surface.old.widths)) past (screen_of surface.old) surface.old.log }
+    requires names { Names past viewer.old.last (screen_of viewer.old.surface) }
+    ensures shows { OnOk result (screen_of viewer.new.surface ≡ screen_of surface.old) }
+    ensures names { Names past viewer.new.last (screen_of viewer.new.surface) }
+{
+    let answer = surface.answer(viewer.last())?;
+    let _ = surface.add_change(change);
+    viewer.accept(&answer)
+}
+
+/// The same of a full surface: the viewer has its full screen then.
+pub fn deliver_late_fully<W: Widths>(
+    surface: &mut Surface<W>,
+    viewer: &mut Viewer<W>,
+    change: Change,
+) -> Result<SequenceNo, AcceptError>
+    ghost past: { ℕ → FullScreen }
+    requires is_full { surface.old.full ≡ true }
+    requires one_measure { unversioned (W.width_of viewer.old.surface.widths) ≡ unversioned (W.width_of surface.old.widths) }
+    requires is_past { IsPast full_screens (unversioned (W.width_of surface.old.widths)) past (full_of surface.old) surface.old.log }
+    requires names { Names past viewer.old.last (full_of viewer.old.surface) }
+    ensures shows { OnOk result (full_of viewer.new.surface ≡ full_of surface.old) }
+    ensures names { Names past viewer.new.last (full_of viewer.new.surface) }
+{
+    let answer = surface.answer(viewer.last())?;
+    let _ = surface.add_change(change);
+    viewer.accept(&answer)
+}
+
+/// Forgets the changes that every viewer has, by the numbers that the viewers told last: each of these is answered as before, and the answers that are on their way lead where they led.
+pub fn forget_delivered<W: Widths>(surface: &mut Surface<W>, told: &[SequenceNo])
+    ensures answers { All (λ n. (most : ℕ) → is_known most surface.new.log n ≡ is_known most surface.old.log n) told.now }
+    ensures unchanged { screen_of surface.new ≡ screen_of surface.old }
+    ensures remembered { KeepsNames (unversioned (W.width_of surface.old.widths)) surface.old surface.new }
+{
+    if let Some(least) = told.iter().copied().min() {
+        surface.flush_changes_older_than(least);
+    }
+}

@@ -16,7 +16,9 @@
 //! - `made [TEXT]` tells the changes of a script as they are printed below the number 7, and
 //!   `events` lists the events of the input.
 //! - `answered N`, `refused WHY`, `shown X Y` with the input as rows, and `asked N` with what each
-//!   `change WORDS` before it added: tells an outcome as it is printed.
+//!   `change WORDS` before it added: tells an outcome as it is printed. `unaccepted WHY` tells so
+//!   why a viewer doesn't accept an answer, and `unanswered WHY` why there is none, or why a viewer
+//!   doesn't take a size.
 #![tactic(auto)]
 
 mod changes;

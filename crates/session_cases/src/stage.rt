@@ -2,13 +2,13 @@
 use crate::changes::{change, given};
 use crate::channels::Sink;
 use crate::fault::Fault;
-use crate::shown::{listed, made, printed, refusal};
+use crate::shown::{accept_error, listed, made, printed, printed_many, surface_error};
 use crate::trial::Trial;
 use std::alloc::Global;
 use std::io::ErrorKind;
 use std::mem;
 use termwiz_cell::change::Change;
-use termwiz_surface::view::Outcome;
+use termwiz_surface::view::{ManyOutcome, Outcome};
 
 /// The session of a case, the changes for an outcome, and what was told so far.
 #[derive(Drop)]
@@ -120,6 +120,14 @@ impl Stage {
             ["shown", x, y] => self.tell_shown(x, y),
             ["change", words @ ..] => self.add_change(words),
             ["asked", number] => self.tell_asked(number),
+            _ => self.outcome_of_many(words),
+        }
+    }
+
+    fn outcome_of_many(&mut self, words: &[&str]) -> Result<(), Fault> {
+        match words {
+            ["unaccepted", word] => self.tell_unaccepted(word),
+            ["unanswered", word] => self.tell_unanswered(word),
             _ => Err(Fault::Bad),
         }
     }
@@ -234,8 +242,23 @@ impl Stage {
     }
 
     fn tell_refused(&mut self, word: &str) -> Result<(), Fault> {
-        let outcome = refusal(word)?;
-        self.tell_outcome(&outcome)
+        let error = surface_error(word)?;
+        self.tell_outcome(&Outcome::Refused(error))
+    }
+
+    fn tell_unaccepted(&mut self, word: &str) -> Result<(), Fault> {
+        let error = accept_error(word)?;
+        self.tell_outcome_of_many(&ManyOutcome::NotAccepted(error))
+    }
+
+    fn tell_unanswered(&mut self, word: &str) -> Result<(), Fault> {
+        let error = surface_error(word)?;
+        self.tell_outcome_of_many(&ManyOutcome::Refused(error))
+    }
+
+    fn tell_outcome_of_many(&mut self, outcome: &ManyOutcome) -> Result<(), Fault> {
+        let told = printed_many(self.alloc, outcome)?;
+        self.tell_text("  ", told.as_str())
     }
 
     /// Tells the lines of the input as rows.

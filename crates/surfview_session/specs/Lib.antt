@@ -1,3 +1,4 @@
+pub mod Events
 pub mod Number
 pub mod Run
 pub mod Size

@@ -2,5 +2,6 @@
 #![tactic(auto)]
 
 pub mod printed;
+mod run;
 pub mod script;
 pub mod session;

@@ -7,7 +7,7 @@ use termwiz_cell::change::{Change, CursorVisibility, Position, SequenceNo};
 use termwiz_cell::color::ColorAttribute;
 use termwiz_line::line::line::Line;
 use termwiz_surface::surface::{Screen, SurfaceError};
-use termwiz_surface::view::Outcome;
+use termwiz_surface::view::{AcceptError, ManyOutcome, Outcome};
 
 /// An outcome as the lines that are printed for it, of which there may be none.
 #[derive(Drop)]
@@ -19,9 +19,27 @@ impl Display for Printed<'_> {
             Outcome::Answered(_) | Outcome::Done => Ok(()),
             Outcome::Refused(error) => write_refusal(f, *error),
             Outcome::Shown(rows, cursor) => write_shown(f, rows.as_str(), *cursor),
-            Outcome::Followed(seq, _, screen) => write_followed(f, *seq, screen),
-            Outcome::FollowedFull(seq, _, shown) => write_followed(f, *seq, &shown.screen),
+            Outcome::Followed(seq, _, screen) => write_viewed(f, "viewer", *seq, screen),
+            Outcome::FollowedFull(seq, _, shown) => write_viewed(f, "viewer", *seq, &shown.screen),
             Outcome::Asked(seq, changes) => write_asked(f, *seq, changes.as_slice()),
+        }
+    }
+}
+
+/// An outcome among several viewers as the lines that are printed for it.
+#[derive(Drop)]
+pub struct PrintedMany<'a>(pub &'a ManyOutcome);
+
+impl Display for PrintedMany<'_> {
+    fn fmt<W: fmt::Write>(&self, f: &mut Formatter<W>) -> fmt::Result {
+        match self.0 {
+            ManyOutcome::Of(outcome) => write!(f, "{}", Printed(outcome)),
+            ManyOutcome::Kept(number) => writeln!(f, "answer {number}"),
+            ManyOutcome::Accepted(seq, screen) => write_viewed(f, "accepted", *seq, screen),
+            ManyOutcome::NotAccepted(error) => write_accept_error(f, *error),
+            ManyOutcome::Done => Ok(()),
+            ManyOutcome::Refused(error) => write_refusal(f, *error),
+            ManyOutcome::NoSuch => f.write_str("no such\n"),
         }
     }
 }
@@ -31,6 +49,15 @@ fn write_refusal<W: fmt::Write>(f: &mut Formatter<W>, error: SurfaceError) -> fm
         SurfaceError::ScrollRegion => f.write_str("refused: scroll region\n"),
         SurfaceError::Numbers => f.write_str("refused: numbers\n"),
         SurfaceError::Memory => f.write_str("refused: memory\n"),
+    }
+}
+
+fn write_accept_error<W: fmt::Write>(f: &mut Formatter<W>, error: AcceptError) -> fmt::Result {
+    match error {
+        AcceptError::Size => f.write_str("refused: size\n"),
+        AcceptError::Stale => f.write_str("refused: stale\n"),
+        AcceptError::Numbers => f.write_str("refused: numbers\n"),
+        AcceptError::Memory => f.write_str("refused: memory\n"),
     }
 }
 
@@ -50,12 +77,14 @@ fn write_shown<W: fmt::Write>(
     write_cursor(f, cursor)
 }
 
-fn write_followed<W: fmt::Write>(
+/// Writes a word and a viewer's number, and then what the viewer shows.
+fn write_viewed<W: fmt::Write>(
     f: &mut Formatter<W>,
+    word: &str,
     seq: SequenceNo,
     screen: &Screen,
 ) -> fmt::Result {
-    writeln!(f, "viewer {seq}")?;
+    writeln!(f, "{word} {seq}")?;
     for row in &screen.rows {
         writeln!(f, "|{}|", PrintedRow(row))?;
     }

@@ -1,7 +1,9 @@
 //! Scripts: one command a line, each of which is an event.
 ghost use Rattle.std.specs.Prelude.{◌≤◌, length, IfOk, IfSome};
 ghost use Rattle.std.specs.List.{All};
+ghost use Rattle.termwiz_surface.specs.ManySchedule.{IsManyInRange};
 ghost use Rattle.termwiz_surface.specs.Schedule.{IsInRange};
+ghost use Rattle.surfview_session.specs.Events.{AreInRange};
 ghost use Rattle.surfview_session.specs.Size.{IsSize};
 ghost use Rattle.std.specs.Option.{SomeIff};
 ghost use Rattle.surfview_session.specs.Number.{IsNumber, value_of};
@@ -11,10 +13,19 @@ use termwiz_cell::cell::{CellAttributes, Intensity, Underline};
 use termwiz_cell::change::{Change, Position};
 use termwiz_cell::color::{ColorAttribute, RgbColor};
 use termwiz_cell::emoji::UnicodeWidths;
-use termwiz_surface::view::Event;
+use termwiz_surface::view::{Event, ManyEvent};
 
 /// The greatest width and height, in columns and rows.
 const MAX_SIZE: u32 = 1000;
+
+/// What a script says.
+#[derive(Drop)]
+pub enum Events {
+    /// The events of a surface with one viewer.
+    OfOne(Vec<Event<UnicodeWidths>>),
+    /// Those of a surface with several viewers, where a line names one of them.
+    OfMany(Vec<ManyEvent<UnicodeWidths>>),
+}
 
 /// Why a script has no events.
 #[derive(Clone, Copy, PartialEq, Eq, Debug)]
@@ -52,20 +63,118 @@ impl LineError {
     }
 }
 
-/// The events of a script. Empty lines and lines that begin with `#` are skipped.
+/// What a line of a script can say.
+trait Command: Drop {
+    /// Whether the sizes in it are such as a surface may have.
+    ghost is_in_range: { Self → Type 0 };
+
+    /// The command of a line. Its words are parted by exactly one space.
+    fn of_line(alloc: Global, line: &str) -> Result<Self, LineError>
+        ensures { IfOk result is_in_range };
+}
+
+impl Command for Event<UnicodeWidths> {
+    ghost is_in_range = { IsInRange };
+
+    fn of_line(alloc: Global, line: &str) -> Result<Event<UnicodeWidths>, LineError> {
+        event(alloc, line)
+    }
+}
+
+impl Command for ManyEvent<UnicodeWidths> {
+    ghost is_in_range = { IsManyInRange };
+
+    fn of_line(alloc: Global, line: &str) -> Result<ManyEvent<UnicodeWidths>, LineError> {
+        if names_viewer(line) {
+            return viewer_event(alloc, line);
+        }
+        let event = event(alloc, line)?;
+        Ok(ManyEvent::On(event))
+    }
+}
+
+/// Reads the events of a script: for several viewers where one of its commands names a viewer.
 ///
-/// Lines end with LF. The error names the first line that is no command.
-pub fn events(alloc: Global, script: &str) -> Result<Vec<Event<UnicodeWidths>>, ScriptError>
-    ensures { IfOk result (λ events. All IsInRange events.items) }
+/// Lines end with LF. Empty lines and lines that begin with `#` are skipped. The error names the
+/// first line that is no command.
+pub fn read(alloc: Global, script: &str) -> Result<Events, ScriptError>
+    ensures { IfOk result AreInRange }
 {
-    let mut events = Vec::new(alloc);
+    if script.split('\n').any(|line| names_viewer(line)) {
+        let events = commands(alloc, script)?;
+        return Ok(Events::OfMany(events));
+    }
+    let events = commands(alloc, script)?;
+    Ok(Events::OfOne(events))
+}
+
+/// The commands of a script's lines.
+fn commands<C: Command>(alloc: Global, script: &str) -> Result<Vec<C>, ScriptError>
+    ensures { IfOk result (λ commands. All C.is_in_range commands.items) }
+{
+    let mut commands = Vec::new(alloc);
     for (index, line) in script.split('\n').enumerate() {
         if !line.is_empty() && !line.starts_with('#') {
-            let event = event(alloc, line).map_err(|error| error.at(index + 1))?;
-            events.push(event).map_err(|_| ScriptError::Memory)?;
+            let command = C::of_line(alloc, line).map_err(|error| error.at(index + 1))?;
+            commands.push(command).map_err(|_| ScriptError::Memory)?;
         }
     }
-    Ok(events)
+    Ok(commands)
+}
+
+/// Whether the first word of a line is that of a command that names a viewer.
+fn names_viewer(line: &str) -> bool {
+    matches!(line.split(' ').next(), Some("answer" | "deliver" | "size"))
+}
+
+/// The event of a line that names a viewer.
+fn viewer_event(alloc: Global, line: &str) -> Result<ManyEvent<UnicodeWidths>, LineError>
+    ensures { IfOk result IsManyInRange }
+{
+    let words: Vec<&str> = line.split(' ').collect(alloc)?;
+    viewer_event_of(words.as_slice())
+}
+
+/// The event of a line's words, of which the second one names a viewer.
+fn viewer_event_of(words: &[&str]) -> Result<ManyEvent<UnicodeWidths>, LineError>
+    ensures { IfOk result IsManyInRange }
+{
+    match words {
+        ["answer", viewer] => answer(viewer),
+        ["deliver", viewer, answer] => deliver(viewer, answer),
+        ["size", viewer, width, height] => resize_viewer(viewer, width, height),
+        _ => Err(LineError::BadCommand),
+    }
+}
+
+/// The event of an answer for a viewer.
+fn answer(viewer: &str) -> Result<ManyEvent<UnicodeWidths>, LineError>
+    ensures { IfOk result IsManyInRange }
+{
+    Ok(ManyEvent::AnswerFor(given(viewer)?))
+}
+
+/// The event of a viewer's being given an answer.
+fn deliver(viewer: &str, answer: &str) -> Result<ManyEvent<UnicodeWidths>, LineError>
+    ensures { IfOk result IsManyInRange }
+{
+    let viewer = given(viewer)?;
+    let answer = given(answer)?;
+    Ok(ManyEvent::Deliver(viewer, answer))
+}
+
+/// The event of a viewer's taking another size.
+fn resize_viewer(
+    viewer: &str,
+    width: &str,
+    height: &str,
+) -> Result<ManyEvent<UnicodeWidths>, LineError>
+    ensures { IfOk result IsManyInRange }
+{
+    let viewer = given(viewer)?;
+    let width = given_size(width)?;
+    let height = given_size(height)?;
+    Ok(ManyEvent::ResizeViewer(viewer, width, height))
 }
 
 /// The event of a line. Its words are parted by exactly one space.
@@ -176,8 +285,8 @@ fn scroll_down(first: &str, size: &str, count: &str) -> Result<Change, LineError
 fn resize(width: &str, height: &str) -> Result<Event<UnicodeWidths>, LineError>
     ensures { IfOk result (λ event. IsInRange event) }
 {
-    let width = size(width).ok_or(LineError::BadCommand)?;
-    let height = size(height).ok_or(LineError::BadCommand)?;
+    let width = given_size(width)?;
+    let height = given_size(height)?;
     Ok(Event::Resize(width, height))
 }
 
@@ -199,6 +308,13 @@ fn ask(seq: &str) -> Result<Event<UnicodeWidths>, LineError>
 fn given(word: &str) -> Result<usize, LineError> {
     let number = number(word).ok_or(LineError::BadCommand)?;
     Ok(number as usize)
+}
+
+/// The width or the height that a word of a command gives.
+fn given_size(word: &str) -> Result<usize, LineError>
+    ensures { IfOk result (λ size. (1 ≤ size) × (size ≤ 1000)) }
+{
+    size(word).ok_or(LineError::BadCommand)
 }
 
 /// The pen that the words, of which there is at least one, make of the default one in turn.

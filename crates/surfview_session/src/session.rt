@@ -1,17 +1,17 @@
 //! One run of the program: from its words and its input to what it prints and its exit status.
-ghost use Rattle.std.specs.Prelude.{◌≡◌, ◌≤◌, ◌⊎◌, ◌↔◌, IfOk, IfSome, IfErr, IsSome, IsErr};
-ghost use Rattle.std.specs.List.{All};
+ghost use Rattle.std.specs.Prelude.{◌≡◌, ◌⊎◌, ◌↔◌, IfOk, IfSome, IfErr, IsSome, IsErr};
+ghost use Rattle.surfview_session.specs.Events.{AreInRange};
 ghost use Rattle.surfview_session.specs.Run.{IsRun};
 ghost use Rattle.surfview_session.specs.Size.{AreSizes, GiveSizes};
-ghost use Rattle.termwiz_surface.specs.Schedule.{IsInRange};
 ghost use Rattle.surfview_session.specs.Status.{status_of};
 
-use crate::printed::Printed;
-use crate::script::{self, ScriptError, size};
+use crate::printed::{Printed, PrintedMany};
+use crate::run::{Outcomes, run};
+use crate::script::{self, Events, ScriptError, size};
 use std::alloc::{AllocError, Global};
+use std::fmt::Display;
 use std::io::{ErrorKind, Read, Write};
-use termwiz_cell::emoji::UnicodeWidths;
-use termwiz_surface::view::{self, Event, Outcome};
+use termwiz_surface::view::{ManyOutcome, Outcome};
 
 /// Why a session ends before all is done.
 #[derive(Clone, Copy, PartialEq, Eq, Debug)]
@@ -100,7 +100,7 @@ pub fn session<R: Read, O: Write, E: Write>(
     ensures usage { AreSizes args.now ⊎ ((input.new ≡ input.old) × (out.new ≡ out.old)) }
 {
     match outcomes(alloc, args, input) {
-        Ok(outcomes) => match print(alloc, outcomes.as_slice(), out) {
+        Ok(outcomes) => match print(alloc, &outcomes, out) {
             Ok(()) => 0,
             Err(error) => error.report(err),
         },
@@ -113,13 +113,13 @@ fn outcomes<R: Read>(
     alloc: Global,
     args: &[String],
     input: &mut R,
-) -> Result<Vec<Outcome>, SessionError>
+) -> Result<Outcomes, SessionError>
     ensures usage { AreSizes args.now ⊎ (IsErr result × (input.new ≡ input.old)) }
-    ensures run { IfOk result (λ outcomes. IsRun args.now outcomes.items) }
+    ensures run { IfOk result (λ outcomes. IsRun args.now outcomes) }
 {
     let (width, height) = dimensions(args).ok_or(SessionError::Usage)?;
     let events = events(alloc, input)?;
-    let outcomes = view::run(alloc, UnicodeWidths, width, height, events)?;
+    let outcomes = run(alloc, width, height, events)?;
     Ok(outcomes)
 }
 
@@ -135,12 +135,12 @@ fn dimensions(args: &[String]) -> Option<(usize, usize)>
 }
 
 /// The events of the script that `input` holds.
-fn events<R: Read>(alloc: Global, input: &mut R) -> Result<Vec<Event<UnicodeWidths>>, SessionError>
-    ensures { IfOk result (λ events. All IsInRange events.items) }
+fn events<R: Read>(alloc: Global, input: &mut R) -> Result<Events, SessionError>
+    ensures { IfOk result AreInRange }
 {
     let bytes = bytes(alloc, input)?;
     let script = str::from_utf8(bytes.as_slice()).map_err(|_| SessionError::Unreadable)?;
-    let events = script::events(alloc, script)?;
+    let events = script::read(alloc, script)?;
     Ok(events)
 }
 
@@ -157,13 +157,51 @@ fn bytes<R: Read>(alloc: Global, input: &mut R) -> Result<Vec<u8>, SessionError>
 }
 
 /// Prints each outcome in turn.
-fn print<O: Write>(alloc: Global, outcomes: &[Outcome], out: &mut O) -> Result<(), SessionError>
+fn print<O: Write>(alloc: Global, outcomes: &Outcomes, out: &mut O) -> Result<(), SessionError>
+    ensures { IfErr result (λ error. status_of error ≡ 3) }
+{
+    match outcomes {
+        Outcomes::OfOne(outcomes) => print_each(alloc, outcomes.as_slice(), out)?,
+        Outcomes::OfMany(outcomes) => print_each_of_many(alloc, outcomes.as_slice(), out)?,
+    }
+    out.flush().map_err(|_| SessionError::Write)
+}
+
+fn print_each<O: Write>(
+    alloc: Global,
+    outcomes: &[Outcome],
+    out: &mut O,
+) -> Result<(), SessionError>
     ensures { IfErr result (λ error. status_of error ≡ 3) }
 {
     for outcome in outcomes {
-        let text = format!(in alloc; "{}", Printed(outcome))?;
-        out.write_all(text.as_bytes())
-            .map_err(|_| SessionError::Write)?;
+        write(alloc, Printed(outcome), out)?;
     }
-    out.flush().map_err(|_| SessionError::Write)
+    Ok(())
+}
+
+fn print_each_of_many<O: Write>(
+    alloc: Global,
+    outcomes: &[ManyOutcome],
+    out: &mut O,
+) -> Result<(), SessionError>
+    ensures { IfErr result (λ error. status_of error ≡ 3) }
+{
+    for outcome in outcomes {
+        write(alloc, PrintedMany(outcome), out)?;
+    }
+    Ok(())
+}
+
+/// Writes the lines of an outcome at once.
+fn write<L: Display + Drop, O: Write>(
+    alloc: Global,
+    lines: L,
+    out: &mut O,
+) -> Result<(), SessionError>
+    ensures { IfErr result (λ error. status_of error ≡ 3) }
+{
+    let text = format!(in alloc; "{lines}")?;
+    out.write_all(text.as_bytes())
+        .map_err(|_| SessionError::Write)
 }

@@ -2,6 +2,7 @@
 //! The program keeps no time: measure it from outside, at two counts, and take the difference.
 #![tactic(auto)]
 
+mod answers;
 mod attributes;
 mod diffs;
 mod drawn;

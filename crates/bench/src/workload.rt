@@ -1,5 +1,5 @@
 //! What is measured, by its name.
-use crate::{attributes, diffs, lines, printing, sizes, viewers};
+use crate::{answers, attributes, diffs, lines, printing, sizes, viewers};
 use std::alloc::Global;
 use termwiz_surface::surface::SurfaceError;
 
@@ -36,6 +36,14 @@ pub enum Workload {
     FollowRepaint,
     /// A viewer of a full surface of the same that follows by a repaint.
     FollowFullRepaint,
+    /// An answer of ten changes that are due on 80x24, which are cloned.
+    AnswerDelta,
+    /// An answer that is a repaint of a coloured 80x24.
+    AnswerRepaint,
+    /// A viewer of an 80x24 that accepts a delta of one line, whose printing and answer count too.
+    AcceptDelta,
+    /// A line on 80x24 that a hundred viewers accept, each of which is answered.
+    HundredViewers,
     /// A 200x60 that is made an 80x24 and a 200x60 again.
     Resize,
     /// Making an 80x24.
@@ -56,7 +64,7 @@ pub enum Workload {
     Equality,
 }
 
-static NAMES: [(&str, Workload); 24] = [
+static NAMES: [(&str, Workload); 28] = [
     ("plain", Workload::Plain),
     ("colours", Workload::Colours),
     ("kana", Workload::Kana),
@@ -72,6 +80,10 @@ static NAMES: [(&str, Workload); 24] = [
     ("follow-delta", Workload::FollowDelta),
     ("follow-repaint", Workload::FollowRepaint),
     ("follow-full-repaint", Workload::FollowFullRepaint),
+    ("answer-delta", Workload::AnswerDelta),
+    ("answer-repaint", Workload::AnswerRepaint),
+    ("accept-delta", Workload::AcceptDelta),
+    ("hundred-viewers", Workload::HundredViewers),
     ("resize", Workload::Resize),
     ("new", Workload::New),
     ("line-clone", Workload::LineClone),
@@ -112,6 +124,10 @@ pub fn run(alloc: Global, workload: Workload, count: u32) -> Result<usize, Surfa
         Workload::FollowDelta => viewers::followed_by_deltas(alloc, count),
         Workload::FollowRepaint => viewers::followed_by_repaints(alloc, count),
         Workload::FollowFullRepaint => viewers::followed_by_full_repaints(alloc, count),
+        Workload::AnswerDelta => answers::due(alloc, count),
+        Workload::AnswerRepaint => answers::repainted(alloc, count),
+        Workload::AcceptDelta => answers::accepted(alloc, count),
+        Workload::HundredViewers => answers::accepted_by_hundred(alloc, count),
         Workload::Resize => sizes::resized(alloc, count),
         Workload::New => sizes::made(alloc, count),
         Workload::LineClone => lines::cloned(alloc, count),

@@ -87,7 +87,7 @@ impl From<AllocError> for SurfaceError {
 ///
 /// Changes go in, one by `add_change` or several as one list by `add_changes`: texts, pens, clears, moves and scrolls. The surface makes them in order, and logs them by their numbers. Beside its screen it keeps a title, the cursor's shape and colour, and how large each line is shown; of the colour `full_screen` alone tells.
 ///
-/// A stream of changes comes out: `get_changes` lends a viewer the changes since the number that it was last given, and answers with a repaint, which brings any screen of this size to this one, where the log no longer has them or they are too many. `flush_changes_older_than` forgets the changes that all viewers have: without it the log grows with each change. `screen` copies what the surface shows, and `full_screen` what it keeps beside it too.
+/// A stream of changes comes out: `get_changes` lends a viewer the changes since the number that it was last given, and answers with a repaint, which brings any screen of this size to this one, where the log no longer has them or they are too many. `flush_changes_older_than` forgets the changes that all viewers have: without it the log grows with each change. `answer` gives what `get_changes` lends as a value that can be carried off. `screen` copies what the surface shows, and `full_screen` what it keeps beside it too.
 ///
 /// A surface that `new_full` makes is a full one: its repaints bring all of that as well, so that its viewers have it whatever they missed. Those of another one bring the screen, and leave some of the rest.
 ///

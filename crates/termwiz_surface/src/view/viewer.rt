@@ -1,4 +1,4 @@
-//! Viewers: surfaces that follow another one.
+//! Viewers: surfaces that follow another one, or accept its answers.
 ghost use Rattle.std.specs.Prelude.{◌≡◌, ℕ, ◌+◌, ◌<◌, ◌^◌, true, length, map, nat_lt, IfOk, OnOk, OnErr};
 ghost use Rattle.termwiz_cell.specs.ChangeValue.{change_value};
 ghost use Rattle.termwiz_cell.specs.Width.{unversioned};
@@ -54,6 +54,8 @@ impl From<AllocError> for AcceptError {
 ///
 /// `follow` asks the source for what changed since the number that it gave last, and makes those changes. So a viewer gets a few changes where few were made, and the whole screen where the source no longer knows them; and where the source has another size, the viewer takes it first. From a full source it also has all that is kept beside the screen. A viewer's own surface logs what it made, so that viewers can follow a viewer. Nothing flushes that log: it grows with each change, and only another size, or a list that found no memory, empties it.
 ///
+/// Where the source is far away, the viewer's number goes to it, and what `Surface::answer` gives for that comes back: `accept` makes it, however late, and refuses what doesn't lead on from what the viewer shows.
+///
 /// A viewer is for one source: it keeps that one's number and width value. For another source make a new viewer.
 #[derive(Drop)]
 pub struct Viewer<W: Widths> {
@@ -92,7 +94,7 @@ impl<W: Widths> Viewer<W> {
         &self.surface
     }
 
-    /// The source's number when the viewer followed last, or 0 where it never did or that failed.
+    /// The number that the viewer was last given: the source's when it followed last, or that of the answer that it accepted last. It is 0 where there is none yet, and after a failure or another size.
     pub fn last(&self) -> SequenceNo
         ensures { result ≡ self.now.last }
     {

@@ -1,5 +1,5 @@
 -- A text behind another one: where no grapheme runs over the seam.
-use Rattle.std.proofs.Common.{◌≡◌, ◌≢◌, ℕ, suc, ◌-◌, true, List, [], ◌∷◌, ◌++◌, map, length, Some, refl, sym, ap, ap₂, subst, ◌∙◌, arith}
+use Rattle.std.proofs.Common.{◌≡◌, ◌≢◌, ℕ, suc, ◌-◌, true, false, List, [], ◌∷◌, ◌++◌, map, length, Some, refl, sym, ap, ap₂, subst, ◌∙◌, arith}
 use Rattle.std.specs.Prelude.{slice_get, ◌↔◌, encode_utf8_all}
 use Rattle.std.proofs.lemmas.List.{map-append}
 use Rattle.std.proofs.lemmas.Str.{chars-append, chars-nil}
@@ -7,7 +7,7 @@ use Rattle.std.specs.Str.{chars, IsUtf8}
 use Rattle.unicode_segmentation.specs.Grapheme.{graphemes}
 use Rattle.unicode_segmentation.specs.Segments.{cut, segments}
 use Rattle.unicode_segmentation.proofs.TextLemmas.{IsUtf8-before}
-use Rattle.termwiz_text.specs.Plain.{is_plain}
+use Rattle.termwiz_text.specs.Plain.{is_one_plain, is_plain, is_plain_last}
 use Rattle.termwiz_text.proofs.Boundaries.{breaks}
 use Rattle.termwiz_text.proofs.Pieces.{onto, cut_one, cut_seam, graphemes_front}
 use Rattle.termwiz_text.proofs.Plain.{plain_breaks, plain_unmarked, chars_plain, utf8_one, encode_one}
@@ -72,3 +72,30 @@ seam_plain b text p q u last one hp hq =
     ∙ ap (map encode_utf8_all) (cut_seam [] (chars b) (q ∷ []) some ends ∙ ap (λ ps. cut breaks [] (chars b) [] ++ ps) (cut_one (onto (chars b) []) q))
     ∙ map-append encode_utf8_all (cut breaks [] (chars b) []) ((q ∷ []) ∷ [])
     ∙ ap (λ t. map encode_utf8_all (cut breaks [] (chars b) []) ++ t ∷ []) (encode_one q hq ∙ sym one)
+
+-- a text that ends in printable ASCII
+pub one_plain_last : (front more : List ℕ) → is_one_plain more ≡ true → is_plain_last (front ++ more) ≡ true
+unfolding is_plain_last
+one_plain_last front [] h = absurd cc
+one_plain_last front (q ∷ (r ∷ more)) h = absurd cc
+one_plain_last [] (q ∷ []) h = h
+one_plain_last (x ∷ []) (q ∷ []) h = h
+one_plain_last (x ∷ (y ∷ b)) (q ∷ []) h = one_plain_last (y ∷ b) (q ∷ []) h
+
+pub none_plain_last : is_plain_last [] ≡ false
+unfolding is_plain_last
+none_plain_last = refl
+
+last_plain : (b : List ℕ) → is_plain_last b ≡ true → (p : ℕ) × ((slice_get b (length b - 1) ≡ Some p) × (is_plain p ≡ true))
+unfolding is_plain_last
+last_plain [] h = absurd cc
+last_plain (p ∷ []) h = (p, (refl, h))
+last_plain (x ∷ (y ∷ b)) h =
+    let rest = last_plain (y ∷ b) h in
+    let less : length (x ∷ (y ∷ b)) - 1 ≡ suc (length (y ∷ b) - 1) = omega arith in
+    (rest.0, (ap (slice_get (x ∷ (y ∷ b))) less ∙ rest.1.0, rest.1.1))
+
+pub seam_behind : (b : List ℕ) (q : ℕ) → IsUtf8 b → is_plain_last b ≡ true → is_plain q ≡ true → graphemes true (b ++ q ∷ []) ≡ graphemes true b ++ (q ∷ []) ∷ []
+seam_behind b q u last plain =
+    let found = last_plain b last in
+    seam_plain b (q ∷ []) found.0 q u found.1.0 refl found.1.1 plain

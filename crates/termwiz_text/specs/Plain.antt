@@ -22,6 +22,12 @@ abbrev pub is_one_plain : List ℕ → Bool
 is_one_plain (c ∷ []) = is_plain c
 is_one_plain _ = false
 
+-- the text's last byte is printable ASCII
+unfoldable pub is_plain_last : List ℕ → Bool
+is_plain_last [] = false
+is_plain_last (c ∷ []) = is_plain c
+is_plain_last (c ∷ (d ∷ cs)) = is_plain_last (d ∷ cs)
+
 -- the text is a run of printable ASCII within the limit, and the rest, and both are cut apart
 pub record IsPlainRun (text : List ℕ) (limit : ℕ) (run rest : List ℕ) : Type 0 where
   pub whole : run ++ rest ≡ text

@@ -1,9 +1,10 @@
 //! A text that grows by one grapheme at a time.
 ghost use Rattle.std.specs.Prelude.{◌≡◌, ◌↔◌, ◌++◌, ◌∷◌, [], List, ℕ, true, IsTrue, ◌<◌, IfSome, OnSome, IfOk, OnOk, OnErr, string_bytes, if◌then◌else◌};
 ghost use Rattle.termwiz_text.specs.CutAt.{IsCutAt};
+ghost use Rattle.termwiz_text.specs.Plain.{is_plain_last, is_plain};
 ghost use Rattle.unicode_segmentation.specs.Grapheme.{graphemes};
 
-use super::{both_plain, is_last_grapheme};
+use super::{is_last_grapheme, is_one_plain, is_plain};
 use std::alloc::{AllocError, Global};
 use std::marker::Model;
 
@@ -13,46 +14,36 @@ pub struct JoinedText {
     text: String,
     // the byte at which the text that was joined last begins
     last: usize,
+    // whether the last byte is known to be printable ASCII
+    ends_plain: bool,
 }
 
 impl Model for JoinedText {
+    ghost use Rattle.std.specs.Prelude.{◌≡◌, true, List, ℕ, string_bytes};
+    ghost use Rattle.termwiz_text.specs.CutAt.{IsCutAt};
+    ghost use Rattle.termwiz_text.specs.Plain.{is_plain_last};
+
     ghost Value = { List ℕ };
 
     ghost view = { λ joined. string_bytes joined.text };
 
-    ghost invariant = { λ joined. IsCutAt (string_bytes joined.text) joined.last };
+    ghost invariant = { λ joined. IsCutAt (string_bytes joined.text) joined.last × (joined.ends_plain ≡ true → is_plain_last (string_bytes joined.text) ≡ true) };
 }
 
-// Appends a text, exactly where it is then the last grapheme, behind those that there were. Says whether it did.
+// The only byte of a text that is printable ASCII.
 #[inline(always)]
-fn join_behind(text: &mut String, last: usize, more: &str) -> Result<bool, AllocError>
-    requires { IsCutAt (string_bytes text.old) last }
-    ensures joins { IfOk result (λ joined. IsTrue joined ↔ (graphemes true (string_bytes text.old ++ more.now) ≡ graphemes true (string_bytes text.old) ++ more.now ∷ [])) }
-    ensures text { IfOk result (λ joined. string_bytes text.new ≡ (if joined then string_bytes text.old ++ more.now else string_bytes text.old)) }
-    ensures err { OnErr result (string_bytes text.new ≡ string_bytes text.old) }
-{
-    if let Some(byte) = plain_behind(text.as_str(), more) {
-        text.push(byte as char)?;
-        return Ok(true);
-    }
-    join_by_cut(text, last, more)
-}
-
-// The only byte of a text that is printable ASCII behind printable ASCII.
-#[inline(always)]
-fn plain_behind(before: &str, text: &str) -> Option<u8>
+fn only_plain(text: &str) -> Option<u8>
     ensures ascii { IfSome result (λ byte. byte < 128) }
+    ensures plain { IfSome result (λ byte. is_plain byte ≡ true) }
     ensures only { IfSome result (λ byte. text.now ≡ byte ∷ []) }
-    ensures joins { OnSome result (graphemes true (before.now ++ text.now) ≡ graphemes true before.now ++ text.now ∷ []) }
 {
     match text.as_bytes() {
-        [only] if both_plain(before, text) && only.is_ascii() => Some(*only),
+        [only] if is_plain(*only) && only.is_ascii() => Some(*only),
         _ => None,
     }
 }
 
-// What `join_behind` does, for any text: what stands from `last` on is cut. It stands apart, so that the way of printable ASCII is short.
-#[inline(never)]
+// Appends a text, exactly where it is then the last grapheme, behind those that there were. Says whether it did. What stands from `last` on is cut.
 fn join_by_cut(text: &mut String, last: usize, more: &str) -> Result<bool, AllocError>
     requires { IsCutAt (string_bytes text.old) last }
     ensures joins { IfOk result (λ joined. IsTrue joined ↔ (graphemes true (string_bytes text.old ++ more.now) ≡ graphemes true (string_bytes text.old) ++ more.now ∷ [])) }
@@ -78,6 +69,7 @@ impl JoinedText {
         JoinedText {
             text: String::new(alloc),
             last: 0,
+            ends_plain: false,
         }
     }
 
@@ -86,8 +78,10 @@ impl JoinedText {
         ensures { OnOk result (self.new ≡ first.now) }
     {
         self.last = 0;
+        self.ends_plain = false;
         self.text.clear();
         self.text.push_str(first)?;
+        self.ends_plain = is_one_plain(first);
         Ok(())
     }
 
@@ -96,7 +90,11 @@ impl JoinedText {
         ensures { IfOk result (λ joined. joined ≡ first.now) }
     {
         let text = String::from_str(alloc, first)?;
-        Ok(JoinedText { text, last: 0 })
+        Ok(JoinedText {
+            text,
+            last: 0,
+            ends_plain: is_one_plain(first),
+        })
     }
 
     /// Appends a text, exactly where it is then the last grapheme, and those before it are as they were. Says whether it did: the empty text and one of several graphemes are never joined. Where it was not joined, and on an error, the text so far stays.
@@ -108,10 +106,43 @@ impl JoinedText {
         ensures text { IfOk result (λ joined. self.new ≡ (if joined then self.old ++ more.now else self.old)) }
         ensures err { OnErr result (self.new ≡ self.old) }
     {
+        if self.ends_plain {
+            if let Some(byte) = only_plain(more) {
+                self.push_plain(byte)?;
+                return Ok(true);
+            }
+        }
+        self.join_other(more)
+    }
+
+    // Appends a character of printable ASCII behind printable ASCII.
+    #[inline(always)]
+    fn push_plain(&mut self, byte: u8) -> Result<(), AllocError>
+        requires ascii { byte < 128 }
+        requires plain { is_plain byte ≡ true }
+        requires behind { is_plain_last self.old ≡ true }
+        ensures joins { graphemes true (self.old ++ byte ∷ []) ≡ graphemes true self.old ++ (byte ∷ []) ∷ [] }
+        ensures ok { OnOk result (self.new ≡ self.old ++ byte ∷ []) }
+        ensures err { OnErr result (self.new ≡ self.old) }
+    {
         let seam = self.text.as_str().len();
-        let joined = join_behind(&mut self.text, self.last, more)?;
+        self.text.push(byte as char)?;
+        self.last = seam;
+        Ok(())
+    }
+
+    // The same as `join`, for any text. It stands apart, so that the way of printable ASCII is short.
+    #[inline(never)]
+    fn join_other(&mut self, more: &str) -> Result<bool, AllocError>
+        ensures joins { IfOk result (λ joined. IsTrue joined ↔ (graphemes true (self.old ++ more.now) ≡ graphemes true self.old ++ more.now ∷ [])) }
+        ensures text { IfOk result (λ joined. self.new ≡ (if joined then self.old ++ more.now else self.old)) }
+        ensures err { OnErr result (self.new ≡ self.old) }
+    {
+        let seam = self.text.as_str().len();
+        let joined = join_by_cut(&mut self.text, self.last, more)?;
         if joined {
             self.last = seam;
+            self.ends_plain = is_one_plain(more);
         }
         Ok(joined)
     }

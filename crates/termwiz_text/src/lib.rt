@@ -142,20 +142,6 @@ pub fn split_plain_run(text: &str, limit: usize) -> (&str, &str)
     text.split_at(count_unmarked(text.as_bytes(), limit))
 }
 
-// Whether both are printable ASCII at the seam, and the text is one such character.
-#[inline(always)]
-fn both_plain(before: &str, text: &str) -> bool
-    ensures { IsTrue result → graphemes true (before.now ++ text.now) ≡ graphemes true before.now ++ text.now ∷ [] }
-{
-    let Some(last) = before.as_bytes().last() else {
-        return false;
-    };
-    match text.as_bytes() {
-        [only] => is_plain(*last) && is_plain(*only),
-        _ => false,
-    }
-}
-
 // Whether the last grapheme of the whole is the text at its end.
 fn is_last_grapheme(whole: &str, text: &str) -> bool
     ensures { (front : List ℕ) → whole.now ≡ front ++ text.now → (IsTrue result ↔ (graphemes true whole.now ≡ graphemes true front ++ text.now ∷ [])) }

@@ -1,7 +1,7 @@
 //! Changes that no script makes, by their words.
 use crate::fault::Fault;
 use std::alloc::Global;
-use termwiz_cell::cell::{AttributeChange, Intensity};
+use termwiz_cell::cell::{AttributeChange, CellAttributes, Intensity, Underline};
 use termwiz_cell::change::{Change, CursorShape, CursorVisibility, LineAttribute, Position};
 use termwiz_cell::color::{ColorAttribute, RgbColor};
 
@@ -23,6 +23,7 @@ fn rarer(words: &[&str]) -> Result<Change, Fault> {
         ["shape", "bar"] => Ok(Change::CursorShape(CursorShape::SteadyBar)),
         ["row", "double"] => Ok(Change::LineAttribute(LineAttribute::DoubleWidthLine)),
         ["set", "bold"] => Ok(bold()),
+        ["pen", "double"] => Ok(underlined_twice()),
         _ => Err(Fault::Bad),
     }
 }
@@ -34,6 +35,12 @@ fn red() -> ColorAttribute {
 
 fn bold() -> Change {
     Change::Attribute(AttributeChange::Intensity(Intensity::Bold))
+}
+
+fn underlined_twice() -> Change {
+    let mut pen = CellAttributes::blank();
+    pen.set_underline(Underline::Double);
+    Change::AllAttributes(pen)
 }
 
 fn titled(alloc: Global, title: &str) -> Result<Change, Fault> {

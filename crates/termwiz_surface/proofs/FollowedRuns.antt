@@ -1,28 +1,28 @@
 -- A viewer that follows does what the schedule says.
-use Rattle.std.proofs.Common.{◌≡◌, inl, inr, ℕ, ◌+◌, ◌≤◌, ◌^◌, true, false, List, length, refl, sym, ap, ◌∙◌, subst, arith, length-append}
+use Rattle.std.proofs.Common.{◌≡◌, inl, inr, ℕ, ◌+◌, ◌<◌, ◌≤◌, ◌^◌, true, false, List, length, refl, sym, ap, ◌∙◌, subst, arith, length-append}
 use Rattle.std.specs.Prelude.{Vec, Ok, Err, map, ◌==◌, ◌⊎◌}
 use Rattle.std.specs.declared.alloc.Global.{Global}
 use Rattle.std.proofs.lemmas.Bool.{true≢false, cases_Bool, eq-eqb, eqb-true}
 use Rattle.termwiz_cell.specs.ChangeValue.{ChangeValue, change_value}
 use Rattle.termwiz_cell.specs.declared.change.Change.{Change}
-use Rattle.termwiz_surface.specs.Following.{ViewerValue, Follows, FollowsTo, Accepts, IsFitted, IsAnswer, IsLost, HasNoRoom, has_size_of, asks_with}
+use Rattle.termwiz_surface_core.specs.Following.{ViewerValue, Follows, FollowsTo, Accepts, IsFitted, IsAnswer, IsLost, HasNoRoom, HasRoom, has_size_of, asks_with, number_in_size}
 use Rattle.termwiz_screen.specs.Log.{next_number, due, is_known, worth, restarted}
 use Rattle.termwiz_screen.specs.FullScreen.{FullScreen, HasFullSize}
-use Rattle.termwiz_surface.specs.SurfaceValue.{SurfaceValue, screen_of, full_of}
+use Rattle.termwiz_surface_core.specs.SurfaceValue.{SurfaceValue, screen_of, full_of}
 use Rattle.termwiz_screen.specs.FullScreenValue.{full_value}
 use Rattle.termwiz_screen.specs.Picture.{Pictures, screens, full_screens, played}
 use Rattle.termwiz_screen.specs.Stream.{Brings}
 use Rattle.termwiz_screen.specs.declared.full.FullScreen as full_code
 use Rattle.termwiz_screen.specs.Printable.{HasSize}
-use Rattle.termwiz_surface.specs.Schedule.{Allows, CatchesUp, Loses, most_due, state_of}
+use Rattle.termwiz_surface.specs.Schedule.{Allows, CatchesUp, Loses, most_due, least_due, own_in_size, state_of}
 use Rattle.termwiz_screen.specs.Screen.{Screen}
 use Rattle.termwiz_screen.specs.ScreenValue.{screen_value}
-use Rattle.termwiz_surface.specs.declared.surface.SurfaceError.{SurfaceError}
-use Rattle.termwiz_surface.specs.declared.surface.SurfaceError.TheVariants.{ScrollRegion, Numbers, Memory}
+use Rattle.termwiz_surface_core.specs.declared.surface.SurfaceError.{SurfaceError}
+use Rattle.termwiz_surface_core.specs.declared.surface.SurfaceError.TheVariants.{ScrollRegion, Numbers, Memory}
 use Rattle.termwiz_screen.specs.declared.screen.Screen as code
 use Rattle.termwiz_surface.specs.declared.view.Event.TheVariants.{Follow}
 use Rattle.termwiz_surface.specs.declared.view.Outcome.TheVariants.{Followed, FollowedFull, Refused}
-use Rattle.termwiz_surface.proofs.Following.{known_tells, caught_up, fully_caught_up, fitted_last}
+use Rattle.termwiz_surface_core.proofs.Following.{known_tells, caught_up, fully_caught_up, fitted_last}
 use Rattle.termwiz_surface.proofs.Viewing.{accepted_shows, accepted_shows_fully}
 
 module _ {W : Type 0} (f : W → List ℕ → ℕ) (s : SurfaceValue W) (old : ViewerValue W) (follows : Follows f old s) where
@@ -36,14 +36,38 @@ module _ {W : Type 0} (f : W → List ℕ → ℕ) (s : SurfaceValue W) (old : V
         absurd (true≢false (sym (rw (eq-eqb _ _ led.0, eq-eqb _ _ led.1) refl) ∙ other))
   ]
 
-  -- so whatever it asks with, as many changes are due at most
-  room : HasNoRoom old s → 2 ^ 64 ≤ next_number old.surface.log + 1 + most_due s.full (state_of s old)
-  room h = elim (cases_Bool (has_size_of old s)) [
-    | inl same ↦ elim (cases_Bool (is_known (worth s.width s.height) s.log old.last)) [
-      | inl is_so ↦ rw is_so (omega (arith, h.no_room, (rw same at h.known) is_so))
-      | inr not_so ↦ rw not_so (omega (arith, h.no_room, (rw same at h.repaint) not_so))
+  own_is : own_in_size (state_of s old) ≡ number_in_size old s
+  own_is = elim (cases_Bool (has_size_of old s)) [
+    | inl same ↦ rw same refl
+    | inr other ↦ elim (cases_Bool (next_number old.surface.log == 0)) [
+      | inl z ↦ rw (other, z) (omega arith)
+      | inr z ↦ rw (other, z) (omega arith)
     ]
-    | inr other ↦ rw (other_unknown other) (omega (arith, h.no_room, (rw other at h.repaint) refl))
+  ]
+
+  asks : has_size_of old s ≡ true → asks_with old s ≡ old.last
+  asks same = rw same refl
+
+  -- so whatever it asks with, as many changes are due at most
+  no_room : HasNoRoom old s → 2 ^ 64 ≤ own_in_size (state_of s old) + most_due s.full (state_of s old)
+  no_room h = elim (cases_Bool (has_size_of old s)) [
+    | inl same ↦ elim (cases_Bool (is_known (worth s.width s.height) s.log old.last)) [
+      | inl is_so ↦ rw is_so (omega (arith, own_is, h.no_room, (rw same at h.known) is_so))
+      | inr not_so ↦ rw not_so (omega (arith, own_is, h.no_room, (rw same at h.repaint) not_so))
+    ]
+    | inr other ↦ rw (other_unknown other) (omega (arith, own_is, h.no_room, (rw other at h.repaint) refl))
+  ]
+
+  -- and as many at least
+  room : HasRoom old s → own_in_size (state_of s old) + least_due (state_of s old) < 2 ^ 64
+  room h = elim (cases_Bool (is_known (worth s.width s.height) s.log old.last)) [
+    | inr not_so ↦ rw not_so (omega (arith, own_is, h.size))
+    | inl is_so ↦ elim (cases_Bool (has_size_of old s)) [
+      | inr other ↦ absurd (true≢false (sym is_so ∙ other_unknown other))
+      | inl same ↦
+          let due_fits = subst (λ (n : ℕ). is_known (worth s.width s.height) s.log n ≡ true → number_in_size old s + length (due s.log n) < 2 ^ 64) (asks same) h.known in
+          rw is_so (omega (arith, own_is, due_fits is_so))
+    ]
   ]
 
   lost : (new : ViewerValue W) → IsLost old new → Loses (state_of s old) (state_of s new)
@@ -51,8 +75,8 @@ module _ {W : Type 0} (f : W → List ℕ → ℕ) (s : SurfaceValue W) (old : V
 
   pub Allows-lost : (new : ViewerValue W) (e : SurfaceError) → FollowsTo f s old (Err e) new → Allows f (f s.widths) s.full (state_of s old) Follow (Refused e) (state_of s new)
   Allows-lost new ScrollRegion h = h
-  Allows-lost new Numbers h = (lost new h.0, room h.1)
-  Allows-lost new Memory h = lost new h
+  Allows-lost new Numbers h = (lost new h.0, no_room h.1)
+  Allows-lost new Memory h = (lost new h.0, room h.1)
 
   module _ (mid new : ViewerValue W) (n : ℕ) (cs : List ChangeValue) (number : n ≡ next_number s.log) (fitted : IsFitted old s mid) (size : HasFullSize s.width s.height (full_of mid.surface)) (answer : IsAnswer (f s.widths) s mid.last cs) (k : ℕ) (accepted : Accepts (f mid.surface.widths) mid n cs (Ok k) new) where
     asked : asks_with old s ≡ mid.last

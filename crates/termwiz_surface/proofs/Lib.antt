@@ -1,15 +1,5 @@
-mod Drawn
-mod Printing
-mod Changed
-mod SoundRepaint
 mod Running
-mod Settled
-mod ResizedSize
-mod Following
 mod Viewing
 mod FollowedRuns
-mod Copying
-mod DiffSurfaces
-mod Remembering
 mod Accepting
 mod ManyRuns

@@ -3,17 +3,17 @@ use Rattle.std.proofs.Common.{◌≡◌, ℕ, ◌+◌, ◌<◌, ◌≤◌, inl, 
 use Rattle.std.specs.Prelude.{get_or, set}
 use Rattle.std.proofs.lemmas.List.{length-map, length-replicate, get_or-map, get_or-replicate, get_or_default, map-append, map-set}
 use Rattle.std.proofs.lemmas.List.Elements.{All-push, All-set}
-use Rattle.termwiz_surface.specs.Answer.{AnswerValue, Carries}
-use Rattle.termwiz_surface.specs.Following.{ViewerValue, blank_viewer}
-use Rattle.termwiz_surface.specs.History.{Names, IsPast, KeepsNames}
+use Rattle.termwiz_surface_core.specs.Answer.{AnswerValue, Carries}
+use Rattle.termwiz_surface_core.specs.Following.{ViewerValue, blank_viewer}
+use Rattle.termwiz_surface_core.specs.History.{Names, IsPast, KeepsNames}
 use Rattle.termwiz_screen.specs.Log.{next_number}
 use Rattle.termwiz_screen.specs.Picture.{screens}
 use Rattle.termwiz_surface.specs.ManySchedule.{Held, ManyState, ViewerState, viewer_state, IsAt, Turns, Receives, Delivers, TakesSizeAs, TakesOwnSize, AllowsMany, RunsMany, Ended, Next, first_many}
 use Rattle.termwiz_surface.specs.ManySteps.{many_state, IsNamed, IsHeld, Remembers, AnswersTo, TakesAs, DeliversTo, ResizesAs, Serves}
 use Rattle.termwiz_surface.specs.Schedule.{Seen, Allows, state_beside}
 use Rattle.termwiz_screen.specs.Screen.{Screen}
-use Rattle.termwiz_surface.specs.SurfaceValue.{SurfaceValue, screen_of, kept_of}
-use Rattle.termwiz_surface.specs.declared.surface.SurfaceError.TheVariants as refused
+use Rattle.termwiz_surface_core.specs.SurfaceValue.{SurfaceValue, screen_of, kept_of}
+use Rattle.termwiz_surface_core.specs.declared.surface.SurfaceError.TheVariants as refused
 use Rattle.termwiz_surface.specs.declared.view.Event.{Event}
 use Rattle.termwiz_surface.specs.declared.view.Event.TheVariants as event
 use Rattle.termwiz_surface.specs.declared.view.Outcome.{Outcome}
@@ -25,7 +25,7 @@ use Rattle.termwiz_surface.specs.declared.view.viewer.AcceptError.TheVariants.{S
 use Rattle.termwiz_screen.proofs.Logs.{restarted_number}
 use Rattle.termwiz_screen.proofs.Regions.{map-replicate}
 use Rattle.termwiz_surface.proofs.Running.{blank_surface, state_of-blank}
-use Rattle.termwiz_surface.proofs.Remembering.{past-first, names-stay, answers-stay, given-carries}
+use Rattle.termwiz_surface_core.proofs.Remembering.{past-first, names-stay, answers-stay, given-carries}
 
 pub RunsMany-push : {W : Type 0} {measure_of : W → List ℕ → ℕ} {measure : List ℕ → ℕ} {a b : ManyState} {events : List (ManyEvent W)} {outcomes : List ManyOutcome} (e : ManyEvent W) (outcome : ManyOutcome) (c : ManyState)
     → RunsMany measure_of measure a events outcomes b → AllowsMany measure_of measure b e outcome c → RunsMany measure_of measure a (events ++ e ∷ []) (outcomes ++ outcome ∷ []) c

@@ -12,23 +12,23 @@ use Rattle.termwiz_screen.specs.FullScreen.{line_attribute}
 use Rattle.termwiz_cell.specs.declared.color.ColorAttribute.TheVariants.{Default}
 use Rattle.termwiz_line.specs.LineFlags.{no_flags}
 use Rattle.termwiz_line.specs.Row.{row_of}
-use Rattle.termwiz_surface.specs.SurfaceValue.{SurfaceValue}
-use Rattle.termwiz_surface.specs.Adding.{Adds}
-use Rattle.termwiz_surface.specs.Copies.{AddsDiff, AddsNothing, IsDrawn, IsCopied}
+use Rattle.termwiz_surface_core.specs.SurfaceValue.{SurfaceValue}
+use Rattle.termwiz_surface_core.specs.Adding.{Adds}
+use Rattle.termwiz_surface_core.specs.Copies.{AddsDiff, AddsNothing, IsDrawn, IsCopied}
 use Rattle.termwiz_screen.specs.Diff.{restoring}
 use Rattle.termwiz_screen.specs.Prints.{Print}
-use Rattle.termwiz_surface.specs.Following.{blank_viewer}
+use Rattle.termwiz_surface_core.specs.Following.{blank_viewer}
 use Rattle.termwiz_screen.specs.Log.{next_number}
 use Rattle.termwiz_surface.specs.Schedule.{State, AllowsList, AllowsDiff, AllowsNothing, Allows, Runs, Ended, Next, outcome_of, Seen, state_of, state_beside, first_state, blank_screen}
-use Rattle.termwiz_surface.specs.declared.surface.SurfaceError.{SurfaceError}
-use Rattle.termwiz_surface.specs.declared.surface.SurfaceError.TheVariants.{ScrollRegion, Numbers, Memory}
+use Rattle.termwiz_surface_core.specs.declared.surface.SurfaceError.{SurfaceError}
+use Rattle.termwiz_surface_core.specs.declared.surface.SurfaceError.TheVariants.{ScrollRegion, Numbers, Memory}
 use Rattle.termwiz_surface.specs.declared.view.Event.{Event}
 use Rattle.termwiz_surface.specs.declared.view.Event.TheVariants.{Changes, Draw, Copy}
 use Rattle.termwiz_surface.specs.declared.view.Outcome.{Outcome}
 use Rattle.termwiz_line.proofs.StoredRows.{row_blank}
-use Rattle.termwiz_surface.proofs.Copying.{Adds-values}
+use Rattle.termwiz_surface_core.proofs.Copying.{Adds-values}
 use Rattle.termwiz_screen.proofs.Regions.{map-replicate}
-use Rattle.termwiz_surface.proofs.SoundRepaint.{sound_has_size, sound_is_printable}
+use Rattle.termwiz_surface_core.proofs.SoundRepaint.{sound_has_size, sound_is_printable}
 use Rattle.std.proofs.lemmas.List.{length-replicate}
 
 pub Runs-push : {W : Type 0} {measure_of : W → List ℕ → ℕ} {measure : List ℕ → ℕ} {full : Bool} {a b : State} {events : List (Event W)} {outcomes : List Outcome} (event : Event W) (outcome : Outcome) (c : State)

@@ -1,17 +1,18 @@
 -- What asking and applying make of a viewer is what following may make of it.
-use Rattle.std.proofs.Common.{◌≡◌, ℕ, ◌+◌, ◌≤◌, ◌^◌, inl, inr, true, List, length, refl, sym, ap, ◌∙◌, arith}
+use Rattle.std.proofs.Common.{◌≡◌, ℕ, ◌+◌, ◌<◌, ◌≤◌, ◌^◌, inl, inr, true, List, length, refl, sym, ap, ◌∙◌, arith}
 use Rattle.std.specs.Prelude.{Result, Ok, Err, OnOk}
 use Rattle.std.proofs.lemmas.Bool.{true≢false}
+use Rattle.std.proofs.lemmas.Bool.Decides.{nat_tests}
 use Rattle.termwiz_cell.specs.ChangeValue.{ChangeValue}
-use Rattle.termwiz_surface.specs.Following.{ViewerValue, Follows, forgetful, IsFitted, IsAnswer, Fetches, Accepts, IsLost, HasNoRoom, FollowsTo}
+use Rattle.termwiz_surface_core.specs.Following.{ViewerValue, Follows, forgetful, Fits, IsFitted, IsAnswer, Fetches, Accepts, IsLost, HasNoRoom, HasRoom, FollowsTo}
 use Rattle.termwiz_screen.specs.Log.{next_number}
-use Rattle.termwiz_surface.specs.Adding.{Makes}
+use Rattle.termwiz_surface_core.specs.Adding.{Makes}
 use Rattle.termwiz_screen.specs.FullScreen.{HasFullSize, full_replay}
-use Rattle.termwiz_surface.specs.SurfaceValue.{SurfaceValue, screen_of, full_of}
+use Rattle.termwiz_surface_core.specs.SurfaceValue.{SurfaceValue, screen_of, full_of}
 use Rattle.termwiz_screen.specs.Step.{replay, regions_fit}
-use Rattle.termwiz_surface.specs.declared.surface.SurfaceError.{SurfaceError}
-use Rattle.termwiz_surface.specs.declared.surface.SurfaceError.TheVariants.{ScrollRegion, Numbers, Memory}
-use Rattle.termwiz_surface.proofs.Following.{Follows-none, Follows-same, Follows-fitted, caught_up, fully_caught_up, full-made, fitted_widths, fitted_full, fitted_height, fitted_number, fitted_last}
+use Rattle.termwiz_surface_core.specs.declared.surface.SurfaceError.{SurfaceError}
+use Rattle.termwiz_surface_core.specs.declared.surface.SurfaceError.TheVariants.{ScrollRegion, Numbers, Memory}
+use Rattle.termwiz_surface_core.proofs.Following.{Follows-none, Follows-same, Follows-fitted, caught_up, fully_caught_up, full-made, fitted_widths, fitted_full, fitted_height, fitted_number, fitted_last, fitted_room}
 use Rattle.termwiz_screen.proofs.Logs.{restarted_number}
 
 module _ {W : Type 0} where
@@ -22,6 +23,11 @@ module _ {W : Type 0} where
   lost_forgetful : (old new : ViewerValue W) → new ≡ forgetful old → IsLost old new
   lost_forgetful old new e = lost_alike old old new refl refl (omega arith) (ap (λ (v : ViewerValue W). v.last) e) (ap (λ (v : ViewerValue W). v.surface) e)
 
+  -- a viewer that has taken the surface's size, and then no number
+  lost_fitted : (s : SurfaceValue W) (old mid new : ViewerValue W) → IsFitted old s mid → new ≡ forgetful mid → IsLost old new
+  lost_fitted s old mid new h e =
+      lost_alike old mid new (fitted_widths old s mid h) (fitted_full old s mid h) (fitted_number old s mid h) (ap (λ (v : ViewerValue W). v.last) e) (ap (λ (v : ViewerValue W). v.surface) e)
+
   -- the changes that are asked for have no room
   no_room : (measure : List ℕ → ℕ) (s : SurfaceValue W) (old mid : ViewerValue W) (cs : List ChangeValue) → IsFitted old s mid → IsAnswer measure s mid.last cs → 2 ^ 64 ≤ next_number mid.surface.log + length cs → HasNoRoom old s
   no_room measure s old mid cs fitted answer past =
@@ -30,8 +36,37 @@ module _ {W : Type 0} where
         count = length cs;
         known = rw asked (λ k. ap length (answer.stream.known k));
         repaint = rw asked (λ k. answer.short k);
-        no_room = omega (arith, past, fitted_number old s mid fitted);
+        no_room = omega (arith, past, fitted_room old s mid fitted);
       }
+
+  -- they have room
+  has_room : (measure : List ℕ → ℕ) (s : SurfaceValue W) (old mid : ViewerValue W) (cs : List ChangeValue) → IsFitted old s mid → IsAnswer measure s mid.last cs → next_number mid.surface.log + length cs < 2 ^ 64 → HasRoom old s
+  has_room measure s old mid cs fitted answer fits =
+      let asked = fitted_last old s mid fitted in
+      record {
+        size = omega (arith, fits, fitted_room old s mid fitted);
+        known = rw asked (λ k. omega (arith, fits, fitted_room old s mid fitted, ap length (answer.stream.known k)));
+      }
+
+  -- another size has none, so nothing is asked for
+  pub Fetches-unfitted : (measure : List ℕ → ℕ) (s : SurfaceValue W) (old new : ViewerValue W) (e : SurfaceError) → Fits old s (Err e) new → Fetches measure s old (Err e) new
+  Fetches-unfitted measure s old new ScrollRegion h = h
+  Fetches-unfitted measure s old new Numbers h = (
+    inl h,
+    record {
+      count = 0;
+      known = rw h.0 (λ k. absurd (true≢false (sym k)));
+      repaint = λ k. omega arith;
+      no_room = rw h.0 (grind (arith, nat_tests, h.1.0));
+    },
+  )
+  Fetches-unfitted measure s old new Memory h = (
+    inl h,
+    record {
+      size = rw h.0 (omega (arith, h.1.0, restarted_number old.surface.log));
+      known = rw h.0 (λ k. absurd (true≢false (sym k)));
+    },
+  )
 
   -- what was asked for is not taken
   pub FollowsTo-refused : (f : W → List ℕ → ℕ) (measure : List ℕ → ℕ) (s : SurfaceValue W) (old mid new : ViewerValue W) (n : ℕ) (cs : List ChangeValue) (e : SurfaceError)
@@ -42,34 +77,26 @@ module _ {W : Type 0} where
       (lost_alike old mid new (fitted_widths old s mid fitted) (fitted_full old s mid fitted) (fitted_number old s mid fitted) h.0 h.1.2, no_room (f s.widths) s old mid cs fitted answer h.1.1)
   FollowsTo-refused f measure s old mid new n cs Memory fitted answer h =
       let frame = h.1.3 in
-      record {
+      (record {
         last = h.0;
         widths = frame.widths ∙ fitted_widths old s mid fitted;
         full = frame.full ∙ fitted_full old s mid fitted;
         number = omega (arith, ap next_number frame.log, restarted_number mid.surface.log, fitted_number old s mid fitted);
-      }
+      }, has_room (f s.widths) s old mid cs fitted answer h.1.1)
 
   -- nothing is got
   pub FollowsTo-missed : (f : W → List ℕ → ℕ) (measure : List ℕ → ℕ) (s : SurfaceValue W) (old mid new : ViewerValue W) (e : SurfaceError) → Fetches measure s old (Err e) mid → new ≡ forgetful mid → FollowsTo f s old (Err e) new
   FollowsTo-missed f measure s old mid new ScrollRegion h e = h
-  FollowsTo-missed f measure s old mid new Numbers h e = (
-    lost_forgetful old new (e ∙ ap forgetful h.2),
-    record {
-      count = 0;
-      known = rw h.0 (λ k. absurd (true≢false (sym k)));
-      repaint = λ k. omega arith;
-      no_room = omega (arith, h.1);
-    },
-  )
-  FollowsTo-missed f measure s old mid new Memory (inl h) e = lost_forgetful old new (e ∙ ap forgetful h.1)
-  FollowsTo-missed f measure s old mid new Memory (inr h) e =
-      lost_alike old mid new (fitted_widths old s mid h) (fitted_full old s mid h) (fitted_number old s mid h) (ap (λ (v : ViewerValue W). v.last) e) (ap (λ (v : ViewerValue W). v.surface) e)
+  FollowsTo-missed f measure s old mid new Numbers (inl h, r) e = (lost_forgetful old new (e ∙ ap forgetful h.1.1), r)
+  FollowsTo-missed f measure s old mid new Numbers (inr h, r) e = (lost_fitted s old mid new h e, r)
+  FollowsTo-missed f measure s old mid new Memory (inl h, r) e = (lost_forgetful old new (e ∙ ap forgetful h.1.1), r)
+  FollowsTo-missed f measure s old mid new Memory (inr h, r) e = (lost_fitted s old mid new h e, r)
 
   -- after each error the viewer has no number
   pub FollowsTo-lost : (f : W → List ℕ → ℕ) (s : SurfaceValue W) (old new : ViewerValue W) (e : SurfaceError) → FollowsTo f s old (Err e) new → IsLost old new
   FollowsTo-lost f s old new ScrollRegion h = absurd h
   FollowsTo-lost f s old new Numbers h = h.0
-  FollowsTo-lost f s old new Memory h = h
+  FollowsTo-lost f s old new Memory h = h.0
 
   pub Follows-lost : (f : W → List ℕ → ℕ) (s : SurfaceValue W) (old new : ViewerValue W) → Follows f old s → IsLost old new → Follows f new s
   Follows-lost f s old new h l = Follows-none f new s (ap f l.widths ∙ h.one_measure) l.last

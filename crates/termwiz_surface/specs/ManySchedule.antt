@@ -1,17 +1,17 @@
 -- Which outcomes a list of events may have on one surface and several viewers, whose answers are kept, and delivered late, repeatedly, in any order, or never.
 use Rattle.std.specs.Bool.{⊤}
 use Rattle.std.specs.Prelude.{◌≡◌, ◌⊎◌, true, false, if◌then◌else◌, ◌==◌, ℕ, ◌+◌, ◌<◌, ◌≤◌, ◌^◌, List, [], ◌∷◌, ◌++◌, length, get_or, set, replicate}
-use Rattle.termwiz_surface.specs.Answer.{AnswerValue, IsGiven, suits, is_stale}
+use Rattle.termwiz_surface_core.specs.Answer.{AnswerValue, IsGiven, suits, is_stale}
 use Rattle.termwiz_screen.specs.Kept.{Kept}
-use Rattle.termwiz_surface.specs.Following.{ViewerValue}
+use Rattle.termwiz_surface_core.specs.Following.{ViewerValue}
 use Rattle.termwiz_screen.specs.Log.{LogValue, next_number}
 use Rattle.termwiz_screen.specs.Picture.{screens}
 use Rattle.termwiz_screen.specs.Resized.{resized_screen}
 use Rattle.termwiz_surface.specs.Schedule.{State, Seen, Allows, IsInRange, first_state, blank_screen}
 use Rattle.termwiz_screen.specs.Screen.{Screen}
 use Rattle.termwiz_screen.specs.ScreenValue.{screen_value}
-use Rattle.termwiz_surface.specs.SurfaceValue.{screen_of}
-use Rattle.termwiz_surface.specs.declared.surface.SurfaceError.TheVariants as refused
+use Rattle.termwiz_surface_core.specs.SurfaceValue.{screen_of}
+use Rattle.termwiz_surface_core.specs.declared.surface.SurfaceError.TheVariants as refused
 use Rattle.termwiz_surface.specs.declared.view.Event.{Event}
 use Rattle.termwiz_surface.specs.declared.view.Event.TheVariants as event
 use Rattle.termwiz_surface.specs.declared.view.Outcome.{Outcome}

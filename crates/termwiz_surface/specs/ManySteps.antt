@@ -1,17 +1,18 @@
 -- What one event makes of a surface, its viewers and the answers that are kept.
 use Rattle.std.specs.Prelude.{◌≡◌, ℕ, ◌≤◌, false, List, [], ◌∷◌, ◌++◌, length, map, Ok, Err}
 use Rattle.std.specs.List.{All}
-use Rattle.termwiz_surface.specs.Answer.{AnswerValue, IsGiven, Carries, Takes}
-use Rattle.termwiz_surface.specs.Following.{ViewerValue}
-use Rattle.termwiz_surface.specs.History.{Names, IsPast}
+use Rattle.termwiz_surface.specs.Accepting.{Takes}
+use Rattle.termwiz_surface_core.specs.Answer.{AnswerValue, IsGiven, Carries}
+use Rattle.termwiz_surface_core.specs.Following.{ViewerValue}
+use Rattle.termwiz_surface_core.specs.History.{Names, IsPast}
 use Rattle.termwiz_screen.specs.Log.{next_number}
 use Rattle.termwiz_surface.specs.ManySchedule.{Held, ManyState, AllowsMany, viewer_state}
 use Rattle.termwiz_screen.specs.Picture.{screens}
-use Rattle.termwiz_surface.specs.Resizing.{Resizes}
+use Rattle.termwiz_surface_core.specs.Resizing.{Resizes}
 use Rattle.termwiz_screen.specs.Screen.{Screen}
 use Rattle.termwiz_screen.specs.ScreenValue.{screen_value}
-use Rattle.termwiz_surface.specs.SurfaceValue.{SurfaceValue, screen_of, kept_of}
-use Rattle.termwiz_surface.specs.declared.surface.SurfaceError.TheVariants as refused
+use Rattle.termwiz_surface_core.specs.SurfaceValue.{SurfaceValue, screen_of, kept_of}
+use Rattle.termwiz_surface_core.specs.declared.surface.SurfaceError.TheVariants as refused
 use Rattle.termwiz_surface.specs.declared.view.many.ManyEvent.{ManyEvent}
 use Rattle.termwiz_surface.specs.declared.view.many.ManyOutcome.{ManyOutcome}
 use Rattle.termwiz_surface.specs.declared.view.many.ManyOutcome.TheVariants.{Kept, Accepted, NotAccepted, Done, Refused}

@@ -1,6 +1,6 @@
 -- Which outcomes a list of events may have: a state, what each event may answer and leave, and whole runs.
 use Rattle.std.specs.Bool.{⊤}
-use Rattle.std.specs.Prelude.{◌≡◌, ◌⊎◌, Bool, true, false, if◌then◌else◌, ℕ, ◌+◌, ◌-◌, ◌^◌, ◌<◌, ◌≤◌, List, [], ◌∷◌, length, map, replicate, string_bytes, None, Result, Ok, Err}
+use Rattle.std.specs.Prelude.{◌≡◌, ◌⊎◌, Bool, true, false, if◌then◌else◌, ◌&&◌, ◌==◌, ℕ, ◌+◌, ◌-◌, ◌^◌, ◌<◌, ◌≤◌, List, [], ◌∷◌, length, map, replicate, string_bytes, None, Result, Ok, Err}
 use Rattle.termwiz_cell.specs.Attributes.{default_attributes}
 use Rattle.termwiz_cell.specs.CellValue.{CellValue, blank}
 use Rattle.termwiz_cell.specs.ChangeValue.{ChangeValue, change_value}
@@ -12,25 +12,25 @@ use Rattle.termwiz_screen.specs.Log.{LogValue, next_number, due, is_known, worth
 use Rattle.termwiz_screen.specs.Resized.{resized_screen, resized_kept}
 use Rattle.termwiz_screen.specs.Stream.{IsStream, IsFullStream, most_entries}
 use Rattle.termwiz_screen.specs.FullScreen.{FullScreen, full_screen}
-use Rattle.termwiz_surface.specs.SurfaceValue.{SurfaceValue, screen_of, kept_of, full_of}
+use Rattle.termwiz_surface_core.specs.SurfaceValue.{SurfaceValue, screen_of, kept_of, full_of}
 use Rattle.termwiz_screen.specs.FullScreenValue.{full_value}
 use Rattle.termwiz_screen.specs.Picture.{Pictures, screens, full_screens, played}
 use Rattle.termwiz_cell.specs.declared.change.CursorShape.TheVariants as shapes
 use Rattle.termwiz_cell.specs.declared.change.LineAttribute.TheVariants.{SingleWidthLine}
 use Rattle.termwiz_screen.specs.Printable.{HasSize, IsPrintable}
 use Rattle.termwiz_screen.specs.ShownChars.{shown_chars}
-use Rattle.termwiz_surface.specs.Following.{ViewerValue}
+use Rattle.termwiz_surface_core.specs.Following.{ViewerValue}
 use Rattle.termwiz_screen.specs.ScreenValue.{screen_value}
 use Rattle.termwiz_screen.specs.Measured.{IsStored}
 use Rattle.termwiz_screen.specs.Prints.{Print}
 use Rattle.termwiz_screen.specs.Diff.{need, restoring}
 use Rattle.termwiz_screen.specs.DiffLists.{IsDiff}
-use Rattle.termwiz_surface.specs.Copies.{drawn_region, copied_region}
+use Rattle.termwiz_surface_core.specs.Copies.{drawn_region, copied_region}
 use Rattle.termwiz_screen.specs.Kept.{Kept}
 use Rattle.termwiz_line.specs.LineFlags.{no_flags}
 use Rattle.termwiz_cell.specs.declared.color.ColorAttribute.TheVariants.{Default}
-use Rattle.termwiz_surface.specs.declared.surface.SurfaceError.{SurfaceError}
-use Rattle.termwiz_surface.specs.declared.surface.SurfaceError.TheVariants.{ScrollRegion, Numbers, Memory}
+use Rattle.termwiz_surface_core.specs.declared.surface.SurfaceError.{SurfaceError}
+use Rattle.termwiz_surface_core.specs.declared.surface.SurfaceError.TheVariants.{ScrollRegion, Numbers, Memory}
 use Rattle.termwiz_surface.specs.declared.view.Event.{Event}
 use Rattle.termwiz_surface.specs.declared.view.Event.TheVariants.{Changes, Draw, Copy, Flush, Resize, Follow, Show, Ask}
 use Rattle.termwiz_surface.specs.declared.view.Outcome.{Outcome}
@@ -145,6 +145,14 @@ pub record Loses (old new : State) : Type 0 where
 abbrev pub most_due : Bool → State → ℕ
 most_due full s = if is_known (worth s.screen.width s.screen.height) s.log s.given then length (due s.log s.given) else most_entries full s.screen.width s.screen.height
 
+-- and at least
+abbrev pub least_due : State → ℕ
+least_due s = if is_known (worth s.screen.width s.screen.height) s.log s.given then length (due s.log s.given) else 0
+
+-- the viewer's own number once it has the surface's size
+abbrev pub own_in_size : State → ℕ
+own_in_size s = if (s.shown.screen.width == s.screen.width) && (s.shown.screen.height == s.screen.height) then s.own else (if s.own == 0 then 0 else s.own + 1)
+
 -- what adding a list of changes answered, as an outcome
 abbrev pub outcome_of : Result ℕ SurfaceError → Outcome
 outcome_of (Ok n) = Answered n
@@ -192,8 +200,8 @@ Allows measure_of measure full old Follow (Followed n changes screen) new =
     (full ≡ false) × (n ≡ next_number old.log) × CatchesUp screens measure (map change_value changes.items) (screen_value screen) old new
 Allows measure_of measure full old Follow (FollowedFull n changes picture) new =
     (full ≡ true) × (n ≡ next_number old.log) × CatchesUp full_screens measure (map change_value changes.items) (full_value picture) old new
-Allows measure_of measure full old Follow (Refused Numbers) new = Loses old new × (2 ^ 64 ≤ old.own + 1 + most_due full old)
-Allows measure_of measure full old Follow (Refused Memory) new = Loses old new
+Allows measure_of measure full old Follow (Refused Numbers) new = Loses old new × (2 ^ 64 ≤ own_in_size old + most_due full old)
+Allows measure_of measure full old Follow (Refused Memory) new = Loses old new × (own_in_size old + least_due old < 2 ^ 64)
 -- no other outcome comes
 Allows measure_of measure full old _ _ new = ⊥
 

@@ -1,6 +1,7 @@
-//! Surfaces: screens that are changed by lists of changes.
+//! Surfaces, the viewers that follow them or accept their answers, and runs of events.
 #![tactic(auto)]
 
 pub mod laws;
-pub mod surface;
 pub mod view;
+
+pub use termwiz_surface_core::surface;

@@ -5,13 +5,11 @@ pub mod comparison;
 pub mod follower;
 pub mod last_row;
 pub mod lines;
+pub mod mirror;
 pub mod one_by_one;
 pub mod prompt;
 pub mod remote;
 pub mod renderer;
 pub mod sharing;
 pub mod status;
-#[cfg(test)]
-mod tests;
-pub mod viewer;
 pub mod window;

@@ -9,7 +9,7 @@ use termwiz_cell::emoji::Widths;
 use termwiz_surface::surface::{Surface, SurfaceError};
 use termwiz_surface::view::Viewer;
 
-/// Shows on its one viewer what the surface shows, and lets the surface forget the changes that the viewer has.
+/// Shows on its one viewer what the surface shows, and lets both forget the changes that they have in common.
 /// After an error the viewer may show anything, and the next turn shows the whole screen.
 pub fn refresh<W: Widths>(
     surface: &mut Surface<W>,
@@ -24,6 +24,7 @@ pub fn refresh<W: Widths>(
 {
     viewer.follow(surface)?;
     surface.flush_changes_older_than(viewer.last());
+    viewer.flush_changes_older_than(viewer.surface().current_seqno());
     Ok(())
 }
 

@@ -1,16 +1,18 @@
 //! A screen that is shared: its answers are carried off, and may be delivered late, repeatedly, in any order, or never.
-ghost use Rattle.std.specs.Prelude.{◌≡◌, ℕ, true, All, OnOk};
+ghost use Rattle.std.specs.Prelude.{◌≡◌, ℕ, ◌≤◌, true, false, All, OnOk};
 ghost use Rattle.termwiz_cell.specs.Width.{unversioned};
+ghost use Rattle.termwiz_surface.specs.Following.{Follows};
 ghost use Rattle.termwiz_surface.specs.FullScreen.{FullScreen};
 ghost use Rattle.termwiz_surface.specs.History.{IsPast, KeepsNames, Names};
-ghost use Rattle.termwiz_surface.specs.Log.{is_known};
+ghost use Rattle.termwiz_surface.specs.Log.{is_known, next_number};
 ghost use Rattle.termwiz_surface.specs.Picture.{full_screens, screens};
 ghost use Rattle.termwiz_surface.specs.Screen.{Screen};
 ghost use Rattle.termwiz_surface.specs.SurfaceValue.{full_of, screen_of};
 
 use termwiz_cell::change::{Change, SequenceNo};
 use termwiz_cell::emoji::Widths;
-use termwiz_surface::surface::Surface;
+use termwiz_surface::laws::history_laws;
+use termwiz_surface::surface::{Surface, SurfaceError};
 use termwiz_surface::view::{AcceptError, Viewer};
 
 /// Takes an answer for a viewer along while the surface goes on, and delivers it then: the viewer has the screen that the surface had when it gave the answer.
@@ -61,4 +63,24 @@ pub fn forget_delivered<W: Widths>(surface: &mut Surface<W>, told: &[SequenceNo]
     if let Some(least) = told.iter().copied().min() {
         surface.flush_changes_older_than(least);
     }
+}
+
+/// Lets a viewer that accepted answers follow the surface itself, once it can reach it: it has the surface's screen then. It follows the surface from now on, and may accept later answers too.
+pub fn reconnect<W: Widths>(
+    surface: &Surface<W>,
+    viewer: &mut Viewer<W>,
+) -> Result<SequenceNo, SurfaceError>
+    ghost past: { ℕ → Screen }
+    requires is_plain { surface.now.full ≡ false }
+    requires one_measure { unversioned (W.width_of viewer.old.surface.widths) ≡ unversioned (W.width_of surface.now.widths) }
+    requires is_past { IsPast screens (unversioned (W.width_of surface.now.widths)) past (screen_of surface.now) surface.now.log }
+    requires not_ahead { viewer.old.last ≤ next_number surface.now.log }
+    requires names { Names past viewer.old.last (screen_of viewer.old.surface) }
+    ensures shows { OnOk result (screen_of viewer.new.surface ≡ screen_of surface.now) }
+    ensures follows { Follows (λ widths. unversioned (W.width_of widths)) viewer.new surface.now }
+    ensures names { OnOk result (Names past viewer.new.last (screen_of viewer.new.surface)) }
+{
+    // What its number names leads it on, as whoever follows is led.
+    history_laws();
+    viewer.follow(surface)
 }

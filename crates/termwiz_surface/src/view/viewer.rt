@@ -2,14 +2,15 @@
 ghost use Rattle.std.specs.Prelude.{◌≡◌, ℕ, ◌+◌, ◌<◌, ◌^◌, true, length, map, nat_lt, IfOk, OnOk, OnErr};
 ghost use Rattle.termwiz_cell.specs.ChangeValue.{change_value};
 ghost use Rattle.termwiz_cell.specs.Width.{unversioned};
-ghost use Rattle.termwiz_surface.specs.Adding.{Makes};
-ghost use Rattle.termwiz_surface.specs.Answer.{Carries, Declines, HasDropped, MayTake, Takes};
-ghost use Rattle.termwiz_surface.specs.Following.{blank_viewer, forgetful, Accepts, Fetches, Fits, Follows, FollowsTo};
-ghost use Rattle.termwiz_surface.specs.History.{Names};
-ghost use Rattle.termwiz_surface.specs.Resizing.{Resizes};
-ghost use Rattle.termwiz_surface.specs.SurfaceValue.{screen_of, full_of};
+ghost use Rattle.termwiz_surface_core.specs.Adding.{Makes, with_log};
+ghost use Rattle.termwiz_surface.specs.Accepting.{Declines, HasDropped, MayTake, Takes};
+ghost use Rattle.termwiz_surface_core.specs.Answer.{Carries};
+ghost use Rattle.termwiz_surface_core.specs.Following.{blank_viewer, forgetful, Accepts, Fetches, Fits, Follows, FollowsTo};
+ghost use Rattle.termwiz_surface_core.specs.History.{Names};
+ghost use Rattle.termwiz_surface_core.specs.Resizing.{Resizes};
+ghost use Rattle.termwiz_surface_core.specs.SurfaceValue.{SurfaceValue, screen_of, full_of};
 ghost use Rattle.termwiz_screen.specs.FullScreen.{FullScreen, HasFullSize};
-ghost use Rattle.termwiz_screen.specs.Log.{next_number};
+ghost use Rattle.termwiz_screen.specs.Log.{flushed, next_number};
 ghost use Rattle.termwiz_screen.specs.Picture.{full_screens, screens};
 ghost use Rattle.termwiz_screen.specs.Screen.{Screen};
 
@@ -52,7 +53,7 @@ impl From<AllocError> for AcceptError {
 
 /// A surface that follows another one, its source: it shows what the source showed when it followed last.
 ///
-/// `follow` asks the source for what changed since the number that it gave last, and makes those changes. So a viewer gets a few changes where few were made, and the whole screen where the source no longer knows them; and where the source has another size, the viewer takes it first. From a full source it also has all that is kept beside the screen. A viewer's own surface logs what it made, so that viewers can follow a viewer. Nothing flushes that log: it grows with each change, and only another size, or a list that found no memory, empties it.
+/// `follow` asks the source for what changed since the number that it gave last, and makes those changes. So a viewer gets a few changes where few were made, and the whole screen where the source no longer knows them; and where the source has another size, the viewer takes it first. From a full source it also has all that is kept beside the screen. A viewer's own surface logs what it made, so that viewers can follow a viewer. That log grows with each change, until `flush_changes_older_than` forgets some; another size, or a list that found no memory, empties it.
 ///
 /// Where the source is far away, the viewer's number goes to it, and what `Surface::answer` gives for that comes back: `accept` makes it, however late, and refuses what doesn't lead on from what the viewer shows.
 ///
@@ -65,7 +66,7 @@ pub struct Viewer<W: Widths> {
 }
 
 impl<W: Widths> Model for Viewer<W> {
-    ghost use Rattle.termwiz_surface.specs.Following.{ViewerValue};
+    ghost use Rattle.termwiz_surface_core.specs.Following.{ViewerValue};
 
     ghost Value = { ViewerValue W };
 
@@ -105,6 +106,7 @@ impl<W: Widths> Viewer<W> {
     fn fit(&mut self, source: &Surface<W>) -> Result<(), SurfaceError>
         ensures fits { Fits self.old source.now result self.new }
         ensures sized { OnOk result (HasFullSize source.now.width source.now.height (full_of self.new.surface)) }
+        ensures numbered { OnOk result (next_number self.new.surface.log < 2 ^ 64) }
     {
         let (width, height) = source.dimensions();
         let (own_width, own_height) = self.surface.dimensions();
@@ -125,6 +127,9 @@ impl<W: Widths> Viewer<W> {
     {
         self.fit(source)?;
         let (number, changes) = source.get_changes(self.last)?;
+        if !self.has_numbers(changes.len()) {
+            return Err(SurfaceError::Numbers);
+        }
         let changes = copied(self.alloc, changes)?;
         Ok((number, changes))
     }
@@ -225,6 +230,18 @@ impl<W: Widths> Viewer<W> {
         // What it shows now has no number.
         self.last = SEQ_ZERO;
         Ok(())
+    }
+
+    /// Forgets the changes before this number of the viewer's own surface, as `Surface::flush_changes_older_than` does there. What the viewer shows, its last number and whom it follows stay.
+    ///
+    /// A viewer whose own surface nobody follows can forget all that it made: `viewer.flush_changes_older_than(viewer.surface().current_seqno())`.
+    pub fn flush_changes_older_than(&mut self, seq: SequenceNo)
+        ensures flushes { self.new.surface ≡ with_log self.old.surface (flushed self.old.surface.log seq) }
+        ensures last { self.new.last ≡ self.old.last }
+        // It follows each surface that it followed.
+        ensures follows { (s : SurfaceValue W) → Follows (λ widths. unversioned (W.width_of widths)) self.old s → Follows (λ widths. unversioned (W.width_of widths)) self.new s }
+    {
+        self.surface.flush_changes_older_than(seq);
     }
 
     /// Shows what the source shows now. The answer is the source's number.

@@ -2,7 +2,7 @@ use Rattle.std.proofs.Common.{map, sym, ap, ◌∙◌}
 use Rattle.std.specs.Prelude.{Ok, Err}
 use Rattle.termwiz_cell.specs.ChangeValue.{change_value}
 use Rattle.termwiz_cell.specs.Width.{unversioned}
-use Rattle.termwiz_surface.specs.SurfaceValue.{screen_of, full_of}
+use Rattle.termwiz_surface_core.specs.SurfaceValue.{screen_of, full_of}
 use Rattle.termwiz_surface.proofs.FollowedRuns.{Allows-followed, Allows-followed_full, Allows-lost}
 use Rattle.termwiz_surface.proofs.Viewing.{FollowsTo-accepted, Follows-accepted}
 use Rattle.termwiz_surface.proofs.view.follow.Goals as goal

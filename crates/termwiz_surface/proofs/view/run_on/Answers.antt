@@ -3,7 +3,7 @@ use Rattle.std.proofs.lemmas.Iterator.Consumers.{YieldsList-end}
 use Rattle.std.proofs.lemmas.Iterator.Adapters.{YieldsList-from_vec}
 use Rattle.std.proofs.lemmas.List.{map-id}
 use Rattle.termwiz_surface.specs.Schedule.{first_state, state_of, Ended}
-use Rattle.termwiz_surface.proofs.Following.{Follows-same}
+use Rattle.termwiz_surface_core.proofs.Following.{Follows-same}
 use Rattle.termwiz_surface.proofs.Running.{Runs-push, state_of-blank}
 use Rattle.termwiz_surface.proofs.view.run_on.Goals as goal
 

@@ -1,6 +1,6 @@
 use Rattle.std.proofs.Common.{◌≡◌}
 use Rattle.termwiz_cell.specs.Width.{unversioned}
-use Rattle.termwiz_surface.specs.Following.{Follows}
+use Rattle.termwiz_surface_core.specs.Following.{Follows}
 use Rattle.termwiz_surface.specs.Schedule.{Runs, first_state, state_of}
 use Rattle.termwiz_surface.proofs.view.run_on.Given as goal
 

@@ -1,0 +1,540 @@
+//! Surfaces.
+ghost use Rattle.std.specs.Prelude.{◌≡◌, true, ◌+◌, ◌-◌, ◌*◌, ◌<◌, ◌≤◌, ◌^◌, List, [], ◌∷◌, length, map, vec_len, replicate, string_bytes, slice_set, get_or, None, false, IsOk, IfOk, OnOk, OnErr};
+ghost use Rattle.termwiz_cell.specs.Attributes.{default_attributes, with_background};
+ghost use Rattle.termwiz_cell.specs.CellValue.{blank};
+ghost use Rattle.termwiz_cell.specs.Width.{unversioned};
+ghost use Rattle.termwiz_cell.specs.declared.change.CursorVisibility.TheVariants.{Visible};
+ghost use Rattle.termwiz_screen.specs.Clear.{clear_eol, clear_eos, clear_screen, eol_lengths, eos_lengths, screen_lengths};
+ghost use Rattle.termwiz_screen.specs.Place.{placed};
+ghost use Rattle.termwiz_screen.specs.Step.{step, step_kept, replay, replay_kept, region_fits, regions_fit};
+ghost use Rattle.termwiz_screen.specs.Regions.{region_up, region_down};
+ghost use Rattle.termwiz_screen.specs.Kept.{with_line_attribute};
+ghost use Rattle.termwiz_line.specs.LineFlags.{no_flags};
+ghost use Rattle.termwiz_cell.specs.declared.color.ColorAttribute.TheVariants.{Default};
+ghost use Rattle.termwiz_cell.specs.AttributeChangeValue.{attribute_change_value, with_attribute};
+ghost use Rattle.termwiz_cell.specs.ChangeValue.{change_value};
+ghost use Rattle.std.specs.List.{All};
+ghost use Rattle.termwiz_screen.specs.ShownChars.{shown_chars};
+ghost use Rattle.termwiz_screen.specs.ScreenValue.{screen_value};
+ghost use Rattle.termwiz_surface_core.specs.SurfaceValue.{IsSound, full_of};
+ghost use Rattle.termwiz_surface_core.specs.Adding.{Adds, Makes, Refuses};
+ghost use Rattle.termwiz_surface_core.specs.Following.{Follows, ViewerValue};
+ghost use Rattle.termwiz_surface_core.specs.History.{KeepsNames};
+ghost use Rattle.termwiz_screen.specs.Log.{next_number};
+ghost use Rattle.termwiz_screen.specs.Printable.{HasSize, IsPrintable};
+ghost use Rattle.termwiz_screen.specs.FullScreen.{HasFullSize};
+
+mod answer;
+mod answers;
+mod copies;
+mod diff;
+mod full;
+mod lines;
+mod print;
+mod resizing;
+
+pub use answer::Answer;
+use std::alloc::{AllocError, Global};
+use std::collections::VecDeque;
+use std::marker::Model;
+use std::slice;
+use termwiz_cell::cell::{AttributeChange, CellAttributes};
+use termwiz_cell::change::{
+    Change, CursorShape, CursorVisibility, LineAttribute, Position, SequenceNo,
+};
+use termwiz_cell::color::ColorAttribute;
+use termwiz_cell::emoji::Widths;
+use termwiz_line::line::line::Line;
+pub use termwiz_screen::full::FullScreen;
+use termwiz_screen::log::Log;
+use termwiz_screen::pen::{background_only, blank_with};
+use termwiz_screen::place::{column_at, row_at};
+use termwiz_screen::region::regions_fit;
+use termwiz_screen::rows::{
+    blank_rows, chars_of, fill_row, fill_rows, resized_lines, scroll_region_down, scroll_region_up,
+    set_line_attribute,
+};
+pub use termwiz_screen::screen::Screen;
+use thiserror::Error;
+
+/// Why a list of changes, or another size, is refused. The errors have numbers, and are told in this order.
+#[derive(Debug, Drop, Clone, Copy, PartialEq, Eq, Error)]
+pub enum SurfaceError {
+    /// Error 1: the region of a scroll goes past the last row. Nothing has changed.
+    #[error("a scroll region goes past the last row")]
+    ScrollRegion,
+    /// Error 2: the numbers of the changes would pass the greatest `usize`. Nothing has changed; of a viewer that was to follow `Viewer::follow` tells.
+    #[error("the numbers of changes are used up")]
+    Numbers,
+    /// Error 3: a growth was refused. After a list of changes, that of a draw or a copy too, the surface keeps its size and the form of its rows, and its log is empty under a new number, or 0 where that was 0.
+    /// Where there was no memory for the list of a draw or a copy, or for another size, nothing has changed. Of a viewer that was to follow `Viewer::follow` tells.
+    #[error("out of memory")]
+    Memory,
+}
+
+impl From<AllocError> for SurfaceError {
+    ghost use Rattle.std.specs.Prelude.{◌≡◌};
+    ghost use Rattle.termwiz_surface_core.specs.declared.surface.SurfaceError.TheVariants.{Memory};
+
+    ghost from_gives = { λ _ error. error ≡ Memory };
+
+    fn from(_error: AllocError) -> SurfaceError {
+        SurfaceError::Memory
+    }
+}
+
+/// What a terminal's screen holds, with no terminal behind it: rows of cells, a cursor, whether it is shown, and the pen, which is the attributes of coming text.
+///
+/// Changes go in, one by `add_change` or several as one list by `add_changes`: texts, pens, clears, moves and scrolls. The surface makes them in order, and logs them by their numbers. Beside its screen it keeps a title, the cursor's shape and colour, and how large each line is shown; of the colour `full_screen` alone tells.
+///
+/// A stream of changes comes out: `get_changes` lends a viewer the changes since the number that it was last given, and answers with a repaint, which brings any screen of this size to this one, where the log no longer has them or they are too many. `flush_changes_older_than` forgets the changes that all viewers have: without it the log grows with each change. `answer` gives what `get_changes` lends as a value that can be carried off. `screen` copies what the surface shows, and `full_screen` what it keeps beside it too.
+///
+/// A surface that `new_full` makes is a full one: its repaints bring all of that as well, so that its viewers have it whatever they missed. Those of another one bring the screen, and leave some of the rest.
+///
+/// A viewer is whoever applies that stream: one that writes to a terminal, one at the other end of a connection, or a second surface. It has to measure texts as this surface does, by the width value that it was made with.
+///
+/// A program may draw the parts of a picture on surfaces of their own, each of which knows nothing of the others, and show a surface that is made of them: `draw_from_screen` draws one surface on another, and `copy_region` copies a region within one.
+#[derive(Drop)]
+pub struct Surface<W: Widths> {
+    widths: W,
+    alloc: Global,
+    width: usize,
+    height: usize,
+    rows: VecDeque<Line>,
+    x: usize,
+    y: usize,
+    visibility: CursorVisibility,
+    pen: CellAttributes,
+    title: String,
+    shape: Option<CursorShape>,
+    color: ColorAttribute,
+    full: bool,
+    log: Log,
+}
+
+impl<W: Widths> Model for Surface<W> {
+    ghost use Rattle.termwiz_cell.specs.Width.{unversioned};
+    ghost use Rattle.std.specs.Prelude.{string_bytes};
+    ghost use Rattle.termwiz_screen.specs.ScreenValue.{cells_of};
+    ghost use Rattle.termwiz_screen.specs.Sides.{row_flags, AreVectors};
+    ghost use Rattle.termwiz_surface_core.specs.SurfaceValue.{SurfaceValue, IsSound};
+
+    ghost Value = { SurfaceValue W };
+
+    ghost view = { λ s. record { widths = s.widths; width = s.width; height = s.height; lines = cells_of s.rows.items; flags = row_flags s.rows.items; x = s.x; y = s.y; visibility = s.visibility; pen = s.pen; title = string_bytes s.title; shape = s.shape; color = s.color; full = s.full; log = s.log } };
+
+    ghost invariant = { λ s. IsSound (unversioned (W.width_of s.widths)) (record { widths = s.widths; width = s.width; height = s.height; lines = cells_of s.rows.items; flags = row_flags s.rows.items; x = s.x; y = s.y; visibility = s.visibility; pen = s.pen; title = string_bytes s.title; shape = s.shape; color = s.color; full = s.full; log = s.log }) × AreVectors s.rows.items };
+}
+
+/// A copy has the same screen, stored rows, title, cursor's shape and colour, log and number.
+impl<W: Widths> Clone for Surface<W> {
+    ghost is_clone = { λ a b. b ≡ a };
+
+    fn clone(&self) -> Result<Surface<W>, AllocError> {
+        let rows = self.rows.clone()?;
+        let pen = self.pen.clone()?;
+        let title = self.title.clone()?;
+        let log = self.log.clone()?;
+        Ok(Surface {
+            widths: self.widths,
+            alloc: self.alloc,
+            width: self.width,
+            height: self.height,
+            rows,
+            x: self.x,
+            y: self.y,
+            visibility: self.visibility,
+            pen,
+            title,
+            shape: self.shape,
+            color: self.color,
+            full: self.full,
+            log,
+        })
+    }
+}
+
+impl<W: Widths> Surface<W> {
+    ghost use Rattle.termwiz_surface_core.specs.SurfaceValue.{SurfaceValue, IsSound, screen_of, lengths_of, kept_of, SameFrame, Draws};
+
+    /// A surface of this width in columns and this height in rows: default blanks, with the cursor home and shown, default attributes as pen and the number 0.
+    pub fn new(
+        alloc: Global,
+        width: usize,
+        height: usize,
+        widths: W,
+    ) -> Result<Surface<W>, AllocError>
+        requires some_column { 0 < width }
+        requires some_row { 0 < height }
+        requires fits { width < 2 ^ 32 }
+        requires fits_height { height < 2 ^ 32 }
+        ensures { IfOk result (λ s. s ≡ record { widths = widths; width = width; height = height; lines = replicate height (replicate width blank); flags = replicate height no_flags; x = 0; y = 0; visibility = Visible; pen = default_attributes; title = []; shape = None; color = Default; full = false; log = record { first = 0; changes = [] } }) }
+    {
+        Surface::blank(alloc, width, height, widths, false)
+    }
+
+    /// A surface as `new` makes it, whose repaints carry all that is kept beside the screen too: the title, the cursor's shape and colour, and how each row is shown. A viewer of it shows all of this, as `full_screen` tells.
+    pub fn new_full(
+        alloc: Global,
+        width: usize,
+        height: usize,
+        widths: W,
+    ) -> Result<Surface<W>, AllocError>
+        requires some_column { 0 < width }
+        requires some_row { 0 < height }
+        requires fits { width < 2 ^ 32 }
+        requires fits_height { height < 2 ^ 32 }
+        ensures { IfOk result (λ s. s ≡ record { widths = widths; width = width; height = height; lines = replicate height (replicate width blank); flags = replicate height no_flags; x = 0; y = 0; visibility = Visible; pen = default_attributes; title = []; shape = None; color = Default; full = true; log = record { first = 0; changes = [] } }) }
+    {
+        Surface::blank(alloc, width, height, widths, true)
+    }
+
+    /// A blank surface, whose repaints are full ones or not.
+    pub fn blank(
+        alloc: Global,
+        width: usize,
+        height: usize,
+        widths: W,
+        full: bool,
+    ) -> Result<Surface<W>, AllocError>
+        requires some_column { 0 < width }
+        requires some_row { 0 < height }
+        requires fits { width < 2 ^ 32 }
+        requires fits_height { height < 2 ^ 32 }
+        ensures { IfOk result (λ s. s ≡ record { widths = widths; width = width; height = height; lines = replicate height (replicate width blank); flags = replicate height no_flags; x = 0; y = 0; visibility = Visible; pen = default_attributes; title = []; shape = None; color = Default; full = full; log = record { first = 0; changes = [] } }) }
+    {
+        let rows = blank_rows(alloc, width, height)?;
+        Ok(Surface {
+            widths,
+            alloc,
+            width,
+            height,
+            rows,
+            x: 0,
+            y: 0,
+            visibility: CursorVisibility::Visible,
+            pen: CellAttributes::blank(),
+            title: String::new(alloc),
+            shape: None,
+            color: ColorAttribute::Default,
+            full,
+            log: Log::new(alloc),
+        })
+    }
+
+    /// The width in columns and the height in rows.
+    pub fn dimensions(&self) -> (usize, usize)
+        ensures width { result.0 ≡ self.now.width }
+        ensures height { result.1 ≡ self.now.height }
+        // Every surface has its form.
+        ensures sound { IsSound (unversioned (W.width_of self.now.widths)) self.now }
+        // Its screen has its size, so repaints can be replayed on it.
+        ensures sized { HasSize self.now.width self.now.height (screen_of self.now) }
+        // So has its full screen.
+        ensures fully_sized { HasFullSize self.now.width self.now.height (full_of self.now) }
+        // Each row of the screen has a half behind each wide cell, and each visible cell is one grapheme with the width that is measured for it.
+        ensures printable { IsPrintable (unversioned (W.width_of self.now.widths)) (screen_of self.now) }
+    {
+        (self.width, self.height)
+    }
+
+    /// The width value, by which texts are measured.
+    pub fn widths(&self) -> W
+        ensures { result ≡ self.now.widths }
+    {
+        self.widths
+    }
+
+    /// Whether its repaints carry all that is kept beside the screen.
+    pub fn is_full(&self) -> bool
+        ensures { result ≡ self.now.full }
+    {
+        self.full
+    }
+
+    /// The cursor's column and row, from 0. The column is the width where a wrap is pending.
+    pub fn cursor_position(&self) -> (usize, usize)
+        ensures column { result.0 ≡ self.now.x }
+        ensures row { result.1 ≡ self.now.y }
+    {
+        (self.x, self.y)
+    }
+
+    /// Whether the cursor is shown.
+    pub fn cursor_visibility(&self) -> CursorVisibility
+        ensures { result ≡ self.now.visibility }
+    {
+        self.visibility
+    }
+
+    /// The title, which is empty at first.
+    pub fn title(&self) -> &str
+        ensures { result.now ≡ self.now.title }
+    {
+        self.title.as_str()
+    }
+
+    /// The cursor's shape, where one was set.
+    pub fn cursor_shape(&self) -> Option<CursorShape>
+        ensures { result ≡ self.now.shape }
+    {
+        self.shape
+    }
+
+    /// The number of the coming change, which is what a viewer that has all changes was last given.
+    pub fn current_seqno(&self) -> SequenceNo
+        ensures value { result ≡ next_number self.now.log }
+        ensures fits { result < 2 ^ 64 }
+    {
+        self.log.next_number()
+    }
+
+    /// The texts of each row's visible cells within its stored length, with a newline behind each row.
+    pub fn screen_chars_to_string(&self) -> Result<String, AllocError>
+        ensures { IfOk result (λ text. string_bytes text ≡ shown_chars (screen_of self.now).rows (lengths_of self.now)) }
+    {
+        chars_of(self.alloc, &self.rows)
+    }
+
+    /// A copy of what the surface shows: each row is cut or filled to the width with default blanks, and has the number 0 and no flags.
+    pub fn screen(&self) -> Result<Screen, AllocError>
+        ensures shown { IfOk result (λ screen. screen_value screen ≡ screen_of self.now) }
+        ensures numbers { IfOk result (λ screen. All (λ line. line.seqno ≡ 0) screen.rows.items) }
+        ensures flags { IfOk result (λ screen. All (λ line. line.flags ≡ no_flags) screen.rows.items) }
+    {
+        let rows = resized_lines(self.alloc, &self.rows, self.width)?;
+        let pen = self.pen.clone()?;
+        Ok(Screen {
+            width: self.width,
+            height: self.height,
+            rows,
+            cursor: (self.x, self.y),
+            visibility: self.visibility,
+            pen,
+        })
+    }
+
+    // Clears from the cursor to the end of its row, with a pen of this background from then on. The clears stand apart, so that the way of a text is short.
+    #[inline(never)]
+    fn clear_to_end_of_line(&mut self, color: &ColorAttribute) -> Result<(), AllocError>
+        ensures ok { OnOk result (let s = screen_of self.old in Draws self.old (clear_eol s (with_background color.now)) (record (kept_of self.old) { lengths = eol_lengths s (with_background color.now) (lengths_of self.old) }) self.new) }
+        ensures err { OnErr result (SameFrame self.old self.new) }
+    {
+        let pen = background_only(self.alloc, *color)?;
+        let cleared = blank_with(&pen)?;
+        fill_row(&mut self.rows, self.width, self.x, self.y, &cleared)?;
+        self.pen = pen;
+        Ok(())
+    }
+
+    // Clears from the cursor to the end of the screen.
+    #[inline(never)]
+    fn clear_to_end_of_screen(&mut self, color: &ColorAttribute) -> Result<(), AllocError>
+        ensures ok { OnOk result (let s = screen_of self.old in Draws self.old (clear_eos s (with_background color.now)) (record (kept_of self.old) { lengths = eos_lengths s (with_background color.now) (lengths_of self.old) }) self.new) }
+        ensures err { OnErr result (SameFrame self.old self.new) }
+    {
+        let pen = background_only(self.alloc, *color)?;
+        let cleared = blank_with(&pen)?;
+        fill_rows(&mut self.rows, self.width, self.x, self.y, &cleared)?;
+        self.pen = pen;
+        Ok(())
+    }
+
+    // Clears all rows, and takes the cursor home.
+    #[inline(never)]
+    fn clear_screen(&mut self, color: &ColorAttribute) -> Result<(), AllocError>
+        ensures ok { OnOk result (let s = screen_of self.old in Draws self.old (clear_screen s (with_background color.now)) (record (kept_of self.old) { lengths = screen_lengths s (with_background color.now) (lengths_of self.old) }) self.new) }
+        ensures err { OnErr result (SameFrame self.old self.new) }
+    {
+        let pen = background_only(self.alloc, *color)?;
+        let cleared = blank_with(&pen)?;
+        fill_rows(&mut self.rows, self.width, 0, 0, &cleared)?;
+        self.pen = pen;
+        self.x = 0;
+        self.y = 0;
+        Ok(())
+    }
+
+    #[inline(never)]
+    fn change_pen(&mut self, change: &AttributeChange) -> Result<(), AllocError>
+        ensures ok { OnOk result (Draws self.old (record (screen_of self.old) { pen = with_attribute self.old.pen (attribute_change_value change.now) }) (kept_of self.old) self.new) }
+        ensures err { OnErr result (self.new ≡ self.old) }
+    {
+        self.pen.apply_change(self.alloc, change)?;
+        Ok(())
+    }
+
+    fn place_cursor(&mut self, x: Position, y: Position)
+        ensures { Draws self.old (placed (screen_of self.old) x y) (kept_of self.old) self.new }
+    {
+        self.x = column_at(x, self.x, self.width);
+        self.y = row_at(y, self.y, self.height);
+    }
+
+    // Scrolls rows up inside a region. The cursor stays.
+    fn scroll_region_up(
+        &mut self,
+        first: usize,
+        size: usize,
+        count: usize,
+    ) -> Result<(), AllocError>
+        requires { first + size ≤ self.old.height }
+        ensures ok { OnOk result (let s = screen_of self.old in let k = kept_of self.old in Draws self.old (record s { rows = region_up (replicate s.width blank) s.rows first size count }) (record k { lengths = region_up s.width k.lengths first size count; flags = region_up no_flags k.flags first size count }) self.new) }
+        ensures err { OnErr result (SameFrame self.old self.new) }
+    {
+        scroll_region_up(&mut self.rows, self.width, first, size, count)?;
+        Ok(())
+    }
+
+    // Scrolls rows down inside a region. The cursor stays.
+    fn scroll_region_down(
+        &mut self,
+        first: usize,
+        size: usize,
+        count: usize,
+    ) -> Result<(), AllocError>
+        requires { first + size ≤ self.old.height }
+        ensures ok { OnOk result (let s = screen_of self.old in let k = kept_of self.old in Draws self.old (record s { rows = region_down (replicate s.width blank) s.rows first size count }) (record k { lengths = region_down s.width k.lengths first size count; flags = region_down no_flags k.flags first size count }) self.new) }
+        ensures err { OnErr result (SameFrame self.old self.new) }
+    {
+        scroll_region_down(&mut self.rows, self.width, first, size, count)?;
+        Ok(())
+    }
+
+    // Says how the cursor's row is shown.
+    fn set_line_attribute(&mut self, attribute: LineAttribute)
+        ensures { let k = kept_of self.old in Draws self.old (screen_of self.old) (record k { flags = slice_set k.flags self.old.y (with_line_attribute attribute (get_or k.flags self.old.y no_flags)) }) self.new }
+    {
+        set_line_attribute(&mut self.rows, self.y, attribute);
+    }
+
+    #[inline(never)]
+    fn set_title(&mut self, title: &str) -> Result<(), AllocError>
+        ensures ok { OnOk result (Draws self.old (screen_of self.old) (record (kept_of self.old) { title = title.now }) self.new) }
+        ensures err { OnErr result (self.new ≡ self.old) }
+    {
+        self.title = String::from_str(self.alloc, title)?;
+        Ok(())
+    }
+
+    fn apply(&mut self, change: &Change) -> Result<(), AllocError>
+        requires { region_fits self.old.height (change_value change.now) ≡ true }
+        ensures ok { OnOk result (let f = unversioned (W.width_of self.old.widths) in let s = screen_of self.old in Draws self.old (step f s (change_value change.now)) (step_kept f s (kept_of self.old) (change_value change.now)) self.new) }
+        ensures err { OnErr result (SameFrame self.old self.new) }
+    {
+        match change {
+            Change::Attribute(change) => self.change_pen(change)?,
+            Change::AllAttributes(attrs) => self.pen = attrs.clone()?,
+            Change::Text(text) => self.print_text(text.as_str())?,
+            Change::ClearScreen(color) => self.clear_screen(color)?,
+            Change::ClearToEndOfLine(color) => self.clear_to_end_of_line(color)?,
+            Change::ClearToEndOfScreen(color) => self.clear_to_end_of_screen(color)?,
+            Change::CursorPosition { x, y } => self.place_cursor(*x, *y),
+            Change::CursorColor(color) => self.color = *color,
+            Change::CursorShape(shape) => self.shape = Some(*shape),
+            Change::CursorVisibility(visibility) => self.visibility = *visibility,
+            Change::ScrollRegionUp {
+                first_row,
+                region_size,
+                scroll_count,
+            } => self.scroll_region_up(*first_row, *region_size, *scroll_count)?,
+            Change::ScrollRegionDown {
+                first_row,
+                region_size,
+                scroll_count,
+            } => self.scroll_region_down(*first_row, *region_size, *scroll_count)?,
+            Change::Title(title) => self.set_title(title.as_str())?,
+            Change::LineAttribute(attribute) => self.set_line_attribute(*attribute),
+        }
+        Ok(())
+    }
+
+    fn apply_all(&mut self, changes: &[Change]) -> Result<(), AllocError>
+        requires { regions_fit self.old.height (map change_value changes.now) ≡ true }
+        ensures ok { OnOk result (let f = unversioned (W.width_of self.old.widths) in let s = screen_of self.old in Draws self.old (replay f s (map change_value changes.now)) (replay_kept f s (kept_of self.old) (map change_value changes.now)) self.new) }
+        ensures err { OnErr result (SameFrame self.old self.new) }
+        ensures empty { OnErr result (0 < length changes.now) }
+    {
+        for change in changes {
+            self.apply(change)?;
+        }
+        Ok(())
+    }
+
+    // Tells why a list of changes is refused before any is made.
+    fn refuse(&self, changes: &[Change]) -> Result<(), SurfaceError>
+        ensures { Refuses self.now (map change_value changes.now) result }
+    {
+        if !regions_fit(changes, self.height) {
+            return Err(SurfaceError::ScrollRegion);
+        }
+        if !self.log.has_numbers(changes.len()) {
+            return Err(SurfaceError::Numbers);
+        }
+        Ok(())
+    }
+
+    // Makes a change and logs it.
+    fn make_one(&mut self, change: Change) -> Result<(), AllocError>
+        requires fits { region_fits self.old.height (change_value change) ≡ true }
+        requires numbers { next_number self.old.log + 1 < 2 ^ 64 }
+        ensures ok { OnOk result (Makes (unversioned (W.width_of self.old.widths)) self.old (change_value change ∷ []) self.new) }
+        ensures err { OnErr result (SameFrame self.old self.new) }
+    {
+        self.log.reserve(1)?;
+        self.apply(&change)?;
+        self.log.push(change)?;
+        Ok(())
+    }
+
+    // Makes the changes and logs them.
+    fn make_all(&mut self, changes: Vec<Change>) -> Result<(), AllocError>
+        requires fits { regions_fit self.old.height (map change_value changes.items) ≡ true }
+        requires numbers { next_number self.old.log + vec_len changes < 2 ^ 64 }
+        ensures ok { OnOk result (Makes (unversioned (W.width_of self.old.widths)) self.old (map change_value changes.items) self.new) }
+        ensures err { OnErr result (SameFrame self.old self.new) }
+        ensures some { OnErr result (0 < vec_len changes) }
+    {
+        self.log.reserve(changes.len())?;
+        self.apply_all(changes.as_slice())?;
+        self.log.append(changes)?;
+        Ok(())
+    }
+
+    /// Makes one change. The answer is its number.
+    /// `ScrollRegion`, `Numbers`: nothing has changed. `Memory`: it may have been made in part; the size and the form of the rows stay, the cursor is inside, and the log is empty under a number that is greater by one, or 0 where it was 0.
+    pub fn add_change(&mut self, change: Change) -> Result<SequenceNo, SurfaceError>
+        ensures adds { Adds (unversioned (W.width_of self.old.widths)) self.old (change_value change ∷ []) (next_number self.old.log) result self.new }
+        // Each viewer that follows the surface goes on to, also after an error.
+        ensures followed { (v : ViewerValue W) → Follows (λ widths. unversioned (W.width_of widths)) v self.old → Follows (λ widths. unversioned (W.width_of widths)) v self.new }
+        // What its numbers named they name still, also after an error.
+        ensures remembered { KeepsNames (unversioned (W.width_of self.old.widths)) self.old self.new }
+    {
+        self.refuse(slice::from_ref(&change))?;
+        let told = self.log.next_number();
+        if self.make_one(change).is_err() {
+            self.log.restart();
+            return Err(SurfaceError::Memory);
+        }
+        Ok(told)
+    }
+
+    /// Makes the changes in order. The answer is the number before them, less one unless it is 0, plus how many they are: where there are some that is the number of the last, or one more where the number before was 0.
+    /// `ScrollRegion`, `Numbers`: nothing has changed. `Memory`: some may have been made, and the last of those in part; the size and the form of the rows stay, the cursor is inside, and the log is empty under a number that is greater by one, or 0 where it was 0.
+    pub fn add_changes(&mut self, changes: Vec<Change>) -> Result<SequenceNo, SurfaceError>
+        ensures adds { Adds (unversioned (W.width_of self.old.widths)) self.old (map change_value changes.items) (next_number self.old.log - 1 + vec_len changes) result self.new }
+        ensures empty { vec_len changes ≡ 0 → IsOk result }
+        // Each viewer that follows the surface goes on to, also after an error.
+        ensures followed { (v : ViewerValue W) → Follows (λ widths. unversioned (W.width_of widths)) v self.old → Follows (λ widths. unversioned (W.width_of widths)) v self.new }
+        // What its numbers named they name still, also after an error.
+        ensures remembered { KeepsNames (unversioned (W.width_of self.old.widths)) self.old self.new }
+    {
+        self.refuse(changes.as_slice())?;
+        let told = self.log.next_number().saturating_sub(1) + changes.len();
+        if self.make_all(changes).is_err() {
+            self.log.restart();
+            return Err(SurfaceError::Memory);
+        }
+        Ok(told)
+    }
+}

@@ -1,0 +1,93 @@
+//! Drawing a surface on another one, and copying a region of a surface within it.
+ghost use Rattle.std.specs.Prelude.{◌≡◌, map, Err, IfOk, OnOk};
+ghost use Rattle.termwiz_cell.specs.ChangeValue.{change_value};
+ghost use Rattle.termwiz_cell.specs.Width.{unversioned};
+ghost use Rattle.termwiz_surface_core.specs.Copies.{IsCopied, IsDrawn, copied_region, drawn_region};
+ghost use Rattle.termwiz_screen.specs.Diff.{restoring};
+ghost use Rattle.termwiz_screen.specs.DiffRegions.{CrossNone, HaveRegion};
+ghost use Rattle.termwiz_surface_core.specs.History.{KeepsNames};
+ghost use Rattle.termwiz_surface_core.specs.Following.{Follows, ViewerValue};
+ghost use Rattle.termwiz_surface_core.specs.SurfaceValue.{screen_of};
+ghost use Rattle.termwiz_surface_core.specs.declared.surface.SurfaceError.TheVariants.{ScrollRegion};
+
+use super::{Surface, SurfaceError};
+use std::alloc::AllocError;
+use termwiz_cell::cell::CellAttributes;
+use termwiz_cell::change::{Change, Position, SequenceNo};
+use termwiz_cell::emoji::Widths;
+
+impl<W: Widths> Surface<W> {
+    /// Draws what another surface shows on this one, from this column and row on, counted from 0. What doesn't fit is left out: where the place lies outside, that is all of it. Cells that this surface shows there already are not printed again.
+    ///
+    /// Where anything is printed, the last two changes set back the cursor and the pen, so they are as before, a pending wrap too. Where both surfaces measure texts alike and no wide grapheme of either crosses an edge of its region, this one's shows then what the other's does, and all else stays. What crosses an edge is printed whole.
+    ///
+    /// The changes are made and logged as one list, and the answer is that of `add_changes`. `Numbers`: nothing has changed. `Memory`: either there was none for the list, and nothing has changed, or the surface is as after `add_changes`. `ScrollRegion` never comes.
+    pub fn draw_from_screen(
+        &mut self,
+        other: &Surface<W>,
+        x: usize,
+        y: usize,
+    ) -> Result<SequenceNo, SurfaceError>
+        ensures drawn { IsDrawn (λ widths. unversioned (W.width_of widths)) self.old other.now x y result self.new }
+        // All but the rows is as before.
+        ensures restores { OnOk result (screen_of self.new ≡ record (screen_of self.old) { rows = (screen_of self.new).rows }) }
+        // For two surfaces of one width function: the other's rows, where no wide grapheme crosses an edge.
+        ensures region { OnOk result (let a = screen_of self.old in let b = screen_of other.now in let r = drawn_region a b x y in unversioned (W.width_of self.old.widths) ≡ unversioned (W.width_of other.now.widths) → CrossNone a.width b.width a.rows b.rows r → HaveRegion a.width (screen_of self.new).rows a.rows b.rows r) }
+        ensures no_scroll { result ≡ Err ScrollRegion → ⊥ }
+        // Each viewer that follows the surface goes on to, also after an error, and whatever width value the drawn one has.
+        ensures followed { (v : ViewerValue W) → Follows (λ widths. unversioned (W.width_of widths)) v self.old → Follows (λ widths. unversioned (W.width_of widths)) v self.new }
+        // What its numbers named they name still, also after an error.
+        ensures remembered { KeepsNames (unversioned (W.width_of self.old.widths)) self.old self.new }
+    {
+        let (width, height) = other.dimensions();
+        let changes = self.diff_region(x, y, width, height, other, 0, 0)?;
+        let changes = restored(changes, (self.x, self.y), &self.pen)?;
+        self.add_changes(changes)
+    }
+
+    /// Copies what a region shows, of this column, row, width and height, to the region of this size from another column and row on, all counted from 0. The regions may overlap: what is copied is what was shown before. Both are cut to what fits in the surface; where one begins outside, nothing is copied. Cells that are shown there already are not printed again.
+    ///
+    /// Where no wide grapheme crosses an edge of either region, the second one shows then what the first did, and all else stays. What crosses an edge is printed whole.
+    ///
+    /// The changes are made and logged as one list, and the answer is that of `add_changes`. `Numbers`: nothing has changed. `Memory`: either there was none for the list, and nothing has changed, or the surface is as after `add_changes`. `ScrollRegion` never comes.
+    pub fn copy_region(
+        &mut self,
+        src_x: usize,
+        src_y: usize,
+        width: usize,
+        height: usize,
+        dest_x: usize,
+        dest_y: usize,
+    ) -> Result<SequenceNo, SurfaceError>
+        ensures copied { IsCopied (λ widths. unversioned (W.width_of widths)) self.old src_x src_y width height dest_x dest_y result self.new }
+        // What the region showed before, overlapping or not, where no wide grapheme crosses an edge.
+        ensures region { OnOk result (let a = screen_of self.old in let r = copied_region a src_x src_y width height dest_x dest_y in CrossNone a.width a.width a.rows a.rows r → HaveRegion a.width (screen_of self.new).rows a.rows a.rows r) }
+        ensures no_scroll { result ≡ Err ScrollRegion → ⊥ }
+        // Each viewer that follows the surface goes on to, also after an error.
+        ensures followed { (v : ViewerValue W) → Follows (λ widths. unversioned (W.width_of widths)) v self.old → Follows (λ widths. unversioned (W.width_of widths)) v self.new }
+        // What its numbers named they name still, also after an error.
+        ensures remembered { KeepsNames (unversioned (W.width_of self.old.widths)) self.old self.new }
+    {
+        let changes = self.diff_region(dest_x, dest_y, width, height, self, src_x, src_y)?;
+        self.add_changes(changes)
+    }
+}
+
+// The changes, and where there are any the cursor and the pen behind them.
+fn restored(
+    mut changes: Vec<Change>,
+    cursor: (usize, usize),
+    pen: &CellAttributes,
+) -> Result<Vec<Change>, AllocError>
+    ensures { IfOk result (λ l. map change_value l.items ≡ restoring cursor.0 cursor.1 pen.now (map change_value changes.items)) }
+{
+    if changes.is_empty() {
+        return Ok(changes);
+    }
+    changes.push(Change::CursorPosition {
+        x: Position::Absolute(cursor.0),
+        y: Position::Absolute(cursor.1),
+    })?;
+    changes.push(Change::AllAttributes(pen.clone()?))?;
+    Ok(changes)
+}

@@ -1,0 +1,60 @@
+//! The rows of a surface, lent as lines or as cells.
+ghost use Rattle.std.specs.Prelude.{◌≡◌, true, map, IfOk};
+ghost use Rattle.termwiz_screen.specs.ScreenValue.{cells_of};
+ghost use Rattle.termwiz_screen.specs.Sides.{row_flags, AreVectors};
+
+use super::Surface;
+use std::alloc::{AllocError, Global};
+use std::collections::VecDeque;
+use termwiz_cell::cell::Cell;
+use termwiz_cell::emoji::Widths;
+use termwiz_line::line::line::Line;
+
+impl<W: Widths> Surface<W> {
+    /// The rows from the top, as they are stored: a row may be shorter than the surface is wide, and shows default blanks behind its cells. What has changed `get_changes` tells, and not the numbers of these lines, of which nothing is promised.
+    pub fn screen_lines(&self) -> Result<Vec<&Line>, AllocError>
+        ensures cells { IfOk result (λ lines. map (λ l. l.now.cells) lines.items ≡ self.now.lines) }
+        ensures flags { IfOk result (λ lines. map (λ l. l.now.flags) lines.items ≡ self.now.flags) }
+    {
+        lent_lines(self.alloc, &self.rows)
+    }
+
+    /// The stored cells of each row from the top, which may be fewer than the surface's columns.
+    pub fn screen_cells(&self) -> Result<Vec<&[Cell]>, AllocError>
+        ensures { IfOk result (λ rows. map (λ r. r.now) rows.items ≡ self.now.lines) }
+    {
+        lent_cells(self.alloc, &self.rows)
+    }
+}
+
+fn lent_lines(alloc: Global, rows: &VecDeque<Line>) -> Result<Vec<&Line>, AllocError>
+    ensures cells { IfOk result (λ lines. map (λ l. l.now.cells) lines.items ≡ cells_of rows.now.items) }
+    ensures flags { IfOk result (λ lines. map (λ l. l.now.flags) lines.items ≡ row_flags rows.now.items) }
+{
+    let mut lines = Vec::with_capacity(alloc, rows.len())?;
+    for i in 0..rows.len() {
+        lines.push(&rows[i])?;
+    }
+    Ok(lines)
+}
+
+fn lent_cells(alloc: Global, rows: &VecDeque<Line>) -> Result<Vec<&[Cell]>, AllocError>
+    requires { AreVectors rows.now.items }
+    ensures { IfOk result (λ lent. map (λ r. r.now) lent.items ≡ cells_of rows.now.items) }
+{
+    let mut lent = Vec::with_capacity(alloc, rows.len())?;
+    for i in 0..rows.len() {
+        lent.push(cells_in(&rows[i]))?;
+    }
+    Ok(lent)
+}
+
+fn cells_in(row: &Line) -> &[Cell]
+    requires { row.now.is_vector ≡ true }
+    ensures { result.now ≡ row.now.cells }
+{
+    match row.stored_cells() {
+        Some(cells) => cells,
+        None => unreachable!(),
+    }
+}

@@ -1,0 +1,154 @@
+//! How a surface prints texts.
+ghost use Rattle.std.specs.Prelude.{◌≡◌, ◌+◌, ◌<◌, ◌≤◌, true, false, [], ◌∷◌, length, map, IfOk, OnOk, OnErr};
+ghost use Rattle.std.specs.List.{list_all};
+ghost use Rattle.termwiz_text.specs.Plain.{is_plain};
+ghost use Rattle.unicode_segmentation.specs.Grapheme.{graphemes};
+ghost use Rattle.termwiz_cell.specs.Width.{unversioned};
+ghost use Rattle.termwiz_cell.specs.Attributes.{needs_box};
+ghost use Rattle.termwiz_screen.specs.Print.{columns_left, down, down_kept, one_kept, print, print_kept, print_one, put, put_kept, wrapped, wrapped_kept};
+ghost use Rattle.termwiz_surface_core.specs.SurfaceValue.{Draws, SameFrame, kept_of, screen_of};
+ghost use Rattle.termwiz_screen.specs.Measured.{IsMeasured};
+ghost use Rattle.termwiz_screen.specs.Runs.{AreNarrow};
+ghost use Rattle.termwiz_surface_core.specs.Printing.{Prints, PrintsSome};
+
+use super::Surface;
+use std::alloc::AllocError;
+use termwiz_cell::cell::Cell;
+use termwiz_cell::emoji::Widths;
+use termwiz_screen::print::{Piece, begins_plain, printed_piece, split_narrow_run};
+use termwiz_screen::rows::{paint_row, paint_run, scroll_rows};
+use termwiz_text::split_first_grapheme;
+
+impl<W: Widths> Surface<W> {
+    fn line_feed(&mut self) -> Result<(), AllocError>
+        ensures ok { OnOk result (Draws self.old (down (screen_of self.old)) (down_kept (screen_of self.old) (kept_of self.old)) self.new) }
+        ensures err { OnErr result (self.new ≡ self.old) }
+    {
+        if self.y + 1 < self.height {
+            self.y += 1;
+            return Ok(());
+        }
+        scroll_rows(&mut self.rows, self.width)?;
+        Ok(())
+    }
+
+    #[inline(always)]
+    fn put(&mut self, cell: Cell) -> Result<(), AllocError>
+        requires inside { self.old.x < self.old.width }
+        requires measured { IsMeasured (unversioned (W.width_of self.old.widths)) cell }
+        ensures ok { OnOk result (let s = screen_of self.old in Draws self.old (put s cell) (put_kept s cell (kept_of self.old)) self.new) }
+        ensures err { OnErr result (self.new ≡ self.old) }
+    {
+        let end = self.x + cell.width();
+        paint_row(&mut self.rows, self.width, self.x, self.y, cell)?;
+        self.x = end.min(self.width);
+        Ok(())
+    }
+
+    // Goes to the next row, where a wrap is pending.
+    fn wrap(&mut self) -> Result<(), AllocError>
+        ensures ok { OnOk result (Draws self.old (wrapped (screen_of self.old)) (wrapped_kept (screen_of self.old) (kept_of self.old)) self.new) }
+        ensures inside { OnOk result (self.new.x < self.new.width) }
+        ensures err { OnErr result (self.new ≡ self.old) }
+    {
+        if self.x >= self.width {
+            self.line_feed()?;
+            self.x = 0;
+        }
+        Ok(())
+    }
+
+    fn print_one(&mut self, grapheme: &str) -> Result<(), AllocError>
+        requires { graphemes true grapheme.now ≡ grapheme.now ∷ [] }
+        ensures ok { OnOk result (let f = unversioned (W.width_of self.old.widths) in let s = screen_of self.old in Draws self.old (print_one f s grapheme.now) (one_kept f s grapheme.now (kept_of self.old)) self.new) }
+        ensures err { OnErr result (SameFrame self.old self.new) }
+    {
+        match printed_piece(self.alloc, &self.widths, grapheme, &self.pen)? {
+            Piece::CarriageReturn => self.x = 0,
+            Piece::LineFeed => self.line_feed()?,
+            Piece::CarriageReturnLineFeed => {
+                self.line_feed()?;
+                self.x = 0;
+            }
+            Piece::Cell(cell) => {
+                self.wrap()?;
+                self.put(cell)?;
+            }
+        }
+        Ok(())
+    }
+
+    // How many characters a run may have: what fits in the row in which the first one comes, and none where the pen takes memory.
+    fn run_limit(&self) -> usize
+        ensures fits { result ≤ columns_left (screen_of self.now) }
+        ensures unboxed { 0 < result → needs_box self.now.pen ≡ false }
+    {
+        if self.pen.unboxed_copy().is_none() {
+            0
+        } else if self.x < self.width {
+            self.width - self.x
+        } else {
+            self.width
+        }
+    }
+
+    // Prints a run of ASCII in the cursor's row.
+    fn put_run(&mut self, run: &str) -> Result<(), AllocError>
+        requires plain { list_all is_plain run.now ≡ true }
+        requires narrow { AreNarrow (unversioned (W.width_of self.old.widths)) run.now }
+        requires unboxed { needs_box self.old.pen ≡ false }
+        requires fits { self.old.x + length run.now ≤ self.old.width }
+        ensures ok { OnOk result (Prints (unversioned (W.width_of self.old.widths)) self.old (map (λ c. c ∷ []) run.now) self.new) }
+        ensures err { OnErr result (self.new ≡ self.old) }
+    {
+        paint_run(&mut self.rows, self.x, self.y, run, &self.pen)?;
+        self.x += run.len();
+        Ok(())
+    }
+
+    // Prints a run of ASCII in the row in which its first character comes.
+    fn print_run(&mut self, run: &str) -> Result<(), AllocError>
+        requires some { 0 < length run.now }
+        requires plain { list_all is_plain run.now ≡ true }
+        requires narrow { AreNarrow (unversioned (W.width_of self.old.widths)) run.now }
+        requires unboxed { needs_box self.old.pen ≡ false }
+        requires fits { length run.now ≤ columns_left (screen_of self.old) }
+        ensures ok { OnOk result (Prints (unversioned (W.width_of self.old.widths)) self.old (map (λ c. c ∷ []) run.now) self.new) }
+        ensures err { OnErr result (SameFrame self.old self.new) }
+    {
+        self.wrap()?;
+        self.put_run(run)?;
+        Ok(())
+    }
+
+    // Prints the run of ASCII that the text begins with, or else its first grapheme, and gives what is left.
+    fn print_first<'a>(&mut self, text: &'a str) -> Result<&'a str, AllocError>
+        requires { 0 < length text.now }
+        ensures ok { IfOk result (λ rest. PrintsSome (unversioned (W.width_of self.old.widths)) self.old text.now rest.now self.new) }
+        ensures err { OnErr result (SameFrame self.old self.new) }
+    {
+        if begins_plain(text) {
+            let (run, rest) = split_narrow_run(&self.widths, text, self.run_limit());
+            if !run.is_empty() {
+                self.print_run(run)?;
+                return Ok(rest);
+            }
+        }
+        let Some((grapheme, rest)) = split_first_grapheme(text) else {
+            unreachable!();
+        };
+        self.print_one(grapheme)?;
+        Ok(rest)
+    }
+
+    pub(super) fn print_text(&mut self, text: &str) -> Result<(), AllocError>
+        ensures ok { OnOk result (let f = unversioned (W.width_of self.old.widths) in let s = screen_of self.old in Draws self.old (print f s text.now) (print_kept f s text.now (kept_of self.old)) self.new) }
+        ensures err { OnErr result (SameFrame self.old self.new) }
+    {
+        let mut rest = text;
+        'pieces: while !rest.is_empty() {
+            rest = self.print_first(rest)?;
+        }
+        Ok(())
+    }
+}

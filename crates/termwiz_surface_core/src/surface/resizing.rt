@@ -1,0 +1,53 @@
+//! Surfaces that take another size.
+ghost use Rattle.std.specs.Prelude.{◌≡◌, ◌+◌, ◌<◌, ◌^◌, OnOk, OnErr};
+ghost use Rattle.termwiz_cell.specs.Width.{unversioned};
+ghost use Rattle.termwiz_surface_core.specs.Following.{Follows, ViewerValue};
+ghost use Rattle.termwiz_surface_core.specs.History.{KeepsNames};
+ghost use Rattle.termwiz_screen.specs.Log.{next_number};
+ghost use Rattle.termwiz_surface_core.specs.Resizing.{HasResized, Resizes};
+
+use super::{Surface, SurfaceError};
+use std::alloc::AllocError;
+use termwiz_cell::emoji::Widths;
+use termwiz_screen::rows::resize_rows;
+
+impl<W: Widths> Surface<W> {
+    /// Takes another size, in columns and rows. Each row is cut, or filled with default blanks; rows go at the bottom, or default ones come there. The cursor stays where it is on the surface still, and else, from a pending wrap too, goes to the last column or row.
+    /// The log is emptied and a number is taken, unless the number is 0: so every viewer is answered by a repaint.
+    /// `Numbers`: the number is the greatest. `Memory`: a growth was refused. After both nothing has changed.
+    pub fn resize(&mut self, width: usize, height: usize) -> Result<(), SurfaceError>
+        requires some_column { 0 < width }
+        requires some_row { 0 < height }
+        requires fits { width < 2 ^ 32 }
+        requires fits_height { height < 2 ^ 32 }
+        ensures resizes { Resizes self.old width height result self.new }
+        // Each viewer that follows the surface goes on to, also after an error.
+        ensures followed { (v : ViewerValue W) → Follows (λ widths. unversioned (W.width_of widths)) v self.old → Follows (λ widths. unversioned (W.width_of widths)) v self.new }
+        // What its numbers named they name still, also after an error.
+        ensures remembered { KeepsNames (unversioned (W.width_of self.old.widths)) self.old self.new }
+    {
+        if !self.log.has_numbers(1) {
+            return Err(SurfaceError::Numbers);
+        }
+        self.change_size(width, height)?;
+        Ok(())
+    }
+
+    fn change_size(&mut self, width: usize, height: usize) -> Result<(), AllocError>
+        requires some_column { 0 < width }
+        requires some_row { 0 < height }
+        requires fits { width < 2 ^ 32 }
+        requires fits_height { height < 2 ^ 32 }
+        requires number { next_number self.old.log + 1 < 2 ^ 64 }
+        ensures ok { OnOk result (HasResized self.old width height self.new) }
+        ensures err { OnErr result (self.new ≡ self.old) }
+    {
+        resize_rows(self.alloc, &mut self.rows, width, height)?;
+        self.width = width;
+        self.height = height;
+        self.x = self.x.min(width - 1);
+        self.y = self.y.min(height - 1);
+        self.log.restart();
+        Ok(())
+    }
+}

@@ -4,7 +4,7 @@ use Rattle.std.specs.Prelude.{Result, Ok, Err, OnOk}
 use Rattle.std.proofs.lemmas.Bool.{true≢false}
 use Rattle.std.proofs.lemmas.Bool.Decides.{nat_tests}
 use Rattle.termwiz_cell.specs.ChangeValue.{ChangeValue}
-use Rattle.termwiz_surface_core.specs.Following.{ViewerValue, Follows, forgetful, Fits, IsFitted, IsAnswer, Fetches, Accepts, IsLost, HasNoRoom, HasRoom, FollowsTo}
+use Rattle.termwiz_surface_core.specs.Following.{ViewerValue, Follows, forgetful, Fits, IsFitted, IsAnswer, Fetches, Keeps, Accepts, IsLost, HasNoRoom, HasRoom, FollowsTo}
 use Rattle.termwiz_screen.specs.Log.{next_number}
 use Rattle.termwiz_surface_core.specs.Adding.{Makes}
 use Rattle.termwiz_screen.specs.FullScreen.{HasFullSize, full_replay}
@@ -57,16 +57,22 @@ module _ {W : Type 0} where
       count = 0;
       known = rw h.0 (λ k. absurd (true≢false (sym k)));
       repaint = λ k. omega arith;
-      no_room = rw h.0 (grind (arith, nat_tests, h.1.0));
+      no_room = rw h.0 (grind (arith, nat_tests, h.1));
     },
   )
   Fetches-unfitted measure s old new Memory h = (
     inl h,
     record {
-      size = rw h.0 (omega (arith, h.1.0, restarted_number old.surface.log));
+      size = rw h.0 (omega (arith, h.1, restarted_number old.surface.log));
       known = rw h.0 (λ k. absurd (true≢false (sym k)));
     },
   )
+
+  -- the answer isn't kept
+  pub Fetches-unkept : (measure : List ℕ → ℕ) (s : SurfaceValue W) (old mid : ViewerValue W) (cs : List ChangeValue) (e : SurfaceError) → IsFitted old s mid → IsAnswer measure s mid.last cs → Keeps mid cs (Err e) → Fetches measure s old (Err e) mid
+  Fetches-unkept measure s old mid cs ScrollRegion fitted answer h = h
+  Fetches-unkept measure s old mid cs Numbers fitted answer h = (inr fitted, no_room measure s old mid cs fitted answer h)
+  Fetches-unkept measure s old mid cs Memory fitted answer h = (inr fitted, has_room measure s old mid cs fitted answer h)
 
   -- what was asked for is not taken
   pub FollowsTo-refused : (f : W → List ℕ → ℕ) (measure : List ℕ → ℕ) (s : SurfaceValue W) (old mid new : ViewerValue W) (n : ℕ) (cs : List ChangeValue) (e : SurfaceError)
@@ -87,9 +93,9 @@ module _ {W : Type 0} where
   -- nothing is got
   pub FollowsTo-missed : (f : W → List ℕ → ℕ) (measure : List ℕ → ℕ) (s : SurfaceValue W) (old mid new : ViewerValue W) (e : SurfaceError) → Fetches measure s old (Err e) mid → new ≡ forgetful mid → FollowsTo f s old (Err e) new
   FollowsTo-missed f measure s old mid new ScrollRegion h e = h
-  FollowsTo-missed f measure s old mid new Numbers (inl h, r) e = (lost_forgetful old new (e ∙ ap forgetful h.1.1), r)
+  FollowsTo-missed f measure s old mid new Numbers (inl h, r) e = (lost_forgetful old new (e ∙ ap forgetful h.2), r)
   FollowsTo-missed f measure s old mid new Numbers (inr h, r) e = (lost_fitted s old mid new h e, r)
-  FollowsTo-missed f measure s old mid new Memory (inl h, r) e = (lost_forgetful old new (e ∙ ap forgetful h.1.1), r)
+  FollowsTo-missed f measure s old mid new Memory (inl h, r) e = (lost_forgetful old new (e ∙ ap forgetful h.2), r)
   FollowsTo-missed f measure s old mid new Memory (inr h, r) e = (lost_fitted s old mid new h e, r)
 
   -- after each error the viewer has no number

@@ -109,6 +109,13 @@ module _ {W : Type 0} where
   Fetches measure s old (Err Memory) new = (Fits old s (Err Memory) new ⊎ IsFitted old s new) × HasRoom old s
   Fetches measure s old (Err ScrollRegion) new = ⊥
 
+  -- these changes are kept as a list, where the viewer's own number has room for them
+  abbrev pub Keeps : ViewerValue W → List ChangeValue → Result (Vec Change Global) SurfaceError → Type 0
+  Keeps v changes (Ok list) = map change_value list.items ≡ changes
+  Keeps v changes (Err Numbers) = 2 ^ 64 ≤ next_number v.surface.log + length changes
+  Keeps v changes (Err Memory) = next_number v.surface.log + length changes < 2 ^ 64
+  Keeps v changes (Err ScrollRegion) = ⊥
+
   -- changes are made, and the number is taken and told; where they are refused, none is
   abbrev pub Accepts : (List ℕ → ℕ) → ViewerValue W → ℕ → List ChangeValue → Result ℕ SurfaceError → ViewerValue W → Type 0
   Accepts measure old n changes (Ok k) new = (k ≡ n) × (new.last ≡ n) × Makes measure old.surface changes new.surface

@@ -5,7 +5,7 @@ ghost use Rattle.termwiz_cell.specs.Width.{unversioned};
 ghost use Rattle.termwiz_surface_core.specs.Adding.{Makes, with_log};
 ghost use Rattle.termwiz_surface.specs.Accepting.{Declines, HasDropped, MayTake, Takes};
 ghost use Rattle.termwiz_surface_core.specs.Answer.{Carries};
-ghost use Rattle.termwiz_surface_core.specs.Following.{blank_viewer, forgetful, Accepts, Fetches, Fits, Follows, FollowsTo};
+ghost use Rattle.termwiz_surface_core.specs.Following.{blank_viewer, forgetful, Accepts, Fetches, Fits, Follows, FollowsTo, Keeps};
 ghost use Rattle.termwiz_surface_core.specs.History.{Names};
 ghost use Rattle.termwiz_surface_core.specs.Resizing.{Resizes};
 ghost use Rattle.termwiz_surface_core.specs.SurfaceValue.{SurfaceValue, screen_of, full_of};
@@ -13,6 +13,7 @@ ghost use Rattle.termwiz_screen.specs.FullScreen.{FullScreen, HasFullSize};
 ghost use Rattle.termwiz_screen.specs.Log.{flushed, next_number};
 ghost use Rattle.termwiz_screen.specs.Picture.{full_screens, screens};
 ghost use Rattle.termwiz_screen.specs.Screen.{Screen};
+ghost use Rattle.termwiz_screen.specs.Stream.{stream_of};
 
 use super::copied;
 use crate::surface::{Answer, Surface, SurfaceError};
@@ -127,11 +128,19 @@ impl<W: Widths> Viewer<W> {
     {
         self.fit(source)?;
         let (number, changes) = source.get_changes(self.last)?;
+        let changes = self.keep(changes)?;
+        Ok((number, changes))
+    }
+
+    // The changes as a list, where the viewer's own surface has numbers for them.
+    fn keep(&self, changes: CowSlice<'_, Change>) -> Result<Vec<Change>, SurfaceError>
+        ensures { Keeps self.now (stream_of changes.entry) result }
+    {
         if !self.has_numbers(changes.len()) {
             return Err(SurfaceError::Numbers);
         }
         let changes = copied(self.alloc, changes)?;
-        Ok((number, changes))
+        Ok(changes)
     }
 
     /// Makes the changes, and takes the source's number, which is the answer. After an error the viewer has no number.

@@ -4,7 +4,7 @@ use Rattle.termwiz_cell.specs.ChangeValue.{change_value}
 use Rattle.termwiz_cell.specs.Width.{unversioned}
 use Rattle.termwiz_surface_core.specs.SurfaceValue.{screen_of, full_of}
 use Rattle.termwiz_surface.proofs.FollowedRuns.{Allows-followed, Allows-followed_full, Allows-lost}
-use Rattle.termwiz_surface.proofs.Viewing.{FollowsTo-accepted, Follows-accepted}
+use Rattle.termwiz_surface.proofs.Viewing.{FollowsTo-accepted, FollowsTo-missed, Follows-accepted}
 use Rattle.termwiz_surface.proofs.view.follow.Goals as goal
 
 pub returns-in_ok-screen-in-Ok-make-clause-step : goal.returns-in_ok-screen-in-Ok-make-clause-step
@@ -35,3 +35,9 @@ returns-in-Err-make-clause-step g c =
     let got = c.in-Ok.ensures.fetches in
     Allows-lost f c.args.surface.now c.args.viewer.now c.requires c.make.new.self c.in-Err-make.error
     (FollowsTo-accepted f c.args.surface.now c.args.viewer.now c.fetch.new.self c.make.new.self c.in-Ok.number (map change_value c.in-Ok.changes.items) got.0 got.1 c.in-Ok.ensures.sized got.2 (Err c.in-Err-make.error) c.in-Err-make.ensures)
+
+pub returns-in-Err-clause-step : goal.returns-in-Err-clause-step
+returns-in-Err-clause-step g c =
+    let f = λ (widths : _). unversioned (g.W.Widths.width_of widths) in
+    Allows-lost f c.args.surface.now c.args.viewer.now c.requires c.forget.new.self c.in-Err.error
+    (FollowsTo-missed f (f c.args.surface.now.widths) c.args.surface.now c.args.viewer.now c.fetch.new.self c.forget.new.self c.in-Err.error c.in-Err.ensures.fetches c.forget.ensures)

@@ -1,13 +1,34 @@
-use Rattle.std.proofs.Common.{◌≡◌, true, map, sym, ap, ◌∙◌, subst}
-use Rattle.termwiz_cell.specs.ChangeValue.{change_value}
+use Rattle.std.proofs.Common.{◌≡◌, ℕ, true, List, refl, sym, ap, ◌∙◌, subst, arith}
 use Rattle.termwiz_cell.specs.Width.{unversioned}
-use Rattle.termwiz_surface.specs.Following.{ViewerValue}
+use Rattle.termwiz_surface.specs.Following.{Follows, ViewerValue}
 use Rattle.termwiz_surface.specs.Printable.{HasSize}
 use Rattle.termwiz_surface.specs.Step.{replay}
 use Rattle.termwiz_surface.specs.Stream.{IsStream, IsFullStream, stream_of}
 use Rattle.termwiz_surface.specs.FullScreen.{full_screen, full_replay, HasFullSize}
 use Rattle.termwiz_surface.specs.SurfaceValue.{SurfaceValue, screen_of, kept_of, full_of}
 use Rattle.uses.proofs.follower.Follower.catch_up.Goals as goal
+
+module _ {W : Type 0} where
+  -- whatever is shown, a follower with no number follows
+  unnumbered : (f : W → List ℕ → ℕ) (v : ViewerValue W) (s : SurfaceValue W) → f v.surface.widths ≡ f s.widths → v.last ≡ 0 → Follows f v s
+  unnumbered f v s one none = record {
+    one_measure = one;
+    leads = record { not_ahead = omega (arith, none); leads = λ some le. absurd (some none) };
+    full = λ full. record { not_ahead = omega (arith, none); leads = λ some le. absurd (some none) };
+  }
+
+pub returns-in_err-copied-clause-follows : goal.returns-in_err-copied-clause-follows
+returns-in_err-copied-clause-follows g c =
+    let f = λ (widths : g.row.W.Denot). unversioned (g.W.Widths.width_of widths) in
+    unnumbered f _ c.args.surface.now (ap (λ (u : ViewerValue _). f u.surface.widths) c.self.view_is ∙ c.requires.follows.one_measure) refl
+
+pub returns-in_err-add_changes-clause-follows : goal.returns-in_err-add_changes-clause-follows
+returns-in_err-add_changes-clause-follows g c =
+    let f = λ (widths : g.row.W.Denot). unversioned (g.W.Widths.width_of widths) in
+    -- whoever followed what was shown follows it after the refused list, so its width value is as it was
+    let other : ViewerValue _ = record { surface = c.self.inside.shown; last = 0 } in
+    let stay = c.in_err-add_changes.ensures.followed other (unnumbered f other c.self.inside.shown refl refl) in
+    unnumbered f _ c.args.surface.now (sym stay.one_measure ∙ ap (λ (u : ViewerValue _). f u.surface.widths) c.self.view_is ∙ c.requires.follows.one_measure) refl
 
 pub returns-clause-shown : goal.returns-clause-shown
 returns-clause-shown g c =

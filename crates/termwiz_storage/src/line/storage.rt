@@ -1,5 +1,5 @@
 //! Where a line keeps its cells, and all that edits them.
-ghost use Rattle.std.specs.Prelude.{◌≡◌, ◌-◌, ◌<◌, ◌≤◌, ◌∷◌, [], ◌↔◌, drop, false, true, length, option_map, replicate, take, IsTrue, IsOk, IfOk, OnOk, OnErr, Some, None, if◌then◌else◌};
+ghost use Rattle.std.specs.Prelude.{◌≡◌, ◌≢◌, ◌-◌, ◌<◌, ◌≤◌, ◌∷◌, [], ◌↔◌, drop, false, true, length, option_map, replicate, take, IsTrue, IsOk, IfOk, OnOk, OnErr, Some, None, if◌then◌else◌};
 ghost use Rattle.std.specs.Borrow.{sem};
 ghost use Rattle.std.specs.Cmp.{decided, on_equiv, on_per, partial_equiv_from_equiv};
 ghost use Rattle.std.specs.List.{list_all, list_any};
@@ -114,6 +114,7 @@ impl CellStorage {
         ensures err { OnErr result (cells_of self.new ≡ cells_of self.old) }
         ensures vector { is_vector self.old ≡ true → is_vector self.new ≡ true }
         ensures appended { is_vector self.old ≡ false → i ≡ length (cells_of self.old) → OnOk result (is_vector self.new ≡ false) }
+        ensures made { i ≢ length (cells_of self.old) → OnOk result (is_vector self.new ≡ true) }
     {
         if let CellStorage::Cluster(line) = self {
             if line.len() == i {
@@ -132,6 +133,7 @@ impl CellStorage {
         ensures ok { OnOk result (cells_of self.new ≡ take len (set_cell i cell (cells_of self.old))) }
         ensures err { OnErr result (cells_of self.new ≡ cells_of self.old) }
         ensures vector { is_vector self.old ≡ true → is_vector self.new ≡ true }
+        ensures made { OnOk result (is_vector self.new ≡ true) }
     {
         match self {
             CellStorage::V(storage) => storage.set_cell_within(i, cell, len)?,
@@ -146,6 +148,7 @@ impl CellStorage {
         ensures ok { OnOk result (cells_of self.new ≡ take len (set_cell i cell (cells_of self.old))) }
         ensures err { OnErr result (cells_of self.new ≡ cells_of self.old) }
         ensures vector { is_vector self.old ≡ true → is_vector self.new ≡ true }
+        ensures made { OnOk result (is_vector self.new ≡ true) }
     {
         self.coerce_vec()?.set_cell_within(i, cell, len)?;
         Ok(())
@@ -160,6 +163,7 @@ impl CellStorage {
         ensures ok { OnOk result (cells_of self.new ≡ set_run i run.now attrs.now (cells_of self.old)) }
         ensures err { OnErr result (cells_of self.new ≡ cells_of self.old) }
         ensures vector { is_vector self.old ≡ true → is_vector self.new ≡ true }
+        ensures made { OnOk result (is_vector self.new ≡ true) }
     {
         match self {
             CellStorage::V(storage) => storage.set_run(i, run, attrs)?,
@@ -174,6 +178,7 @@ impl CellStorage {
         ensures ok { OnOk result (cells_of self.new ≡ fill (to - from) from blank (cells_of self.old)) }
         ensures err { OnErr result (cells_of self.new ≡ cells_of self.old) }
         ensures vector { is_vector self.old ≡ true → is_vector self.new ≡ true }
+        ensures made { OnOk result (is_vector self.new ≡ true) }
     {
         self.coerce_vec()?.set_blanks(from, to)?;
         Ok(())
@@ -201,6 +206,7 @@ impl CellStorage {
         ensures err { OnErr result (cells_of self.new ≡ cells_of self.old) }
         ensures succeeds { is_vector self.old ≡ true → len ≤ length (cells_of self.old) → IsOk result }
         ensures vector { is_vector self.old ≡ true → is_vector self.new ≡ true }
+        ensures made { OnOk result (is_vector self.new ≡ true) }
     {
         self.coerce_vec()?.resize(len)?;
         Ok(())
@@ -212,6 +218,7 @@ impl CellStorage {
         ensures err { OnErr result (cells_of self.new ≡ cells_of self.old) }
         ensures succeeds { is_vector self.old ≡ true → IsOk result }
         ensures vector { is_vector self.old ≡ true → is_vector self.new ≡ true }
+        ensures made { OnOk result (is_vector self.new ≡ true) }
     {
         self.coerce_vec()?.truncate(len);
         Ok(())
@@ -223,7 +230,7 @@ impl CellStorage {
         ensures ok { OnOk result (cells_of self.new ≡ set_last_wrapped wrapped (cells_of self.old)) }
         ensures err { OnErr result (cells_of self.new ≡ cells_of self.old) }
         ensures succeeds { is_vector self.old ≡ true → 0 < length (cells_of self.old) → IsOk result }
-        ensures vector { is_vector self.old ≡ true → is_vector self.new ≡ true }
+        ensures form { is_vector self.new ≡ is_vector self.old }
     {
         match self {
             CellStorage::V(storage) => storage.set_last_wrapped(wrapped)?,

@@ -47,6 +47,7 @@ impl CellStorage {
         ensures err { OnErr result (cells_of self.new ≡ cells_of self.old) }
         ensures succeeds { is_vector self.old ≡ true → IsOk result }
         ensures vector { is_vector self.old ≡ true → is_vector self.new ≡ true }
+        ensures made { OnOk result (is_vector self.new ≡ true) }
     {
         self.coerce_vec()?.remove_cell(x);
         Ok(())
@@ -59,6 +60,7 @@ impl CellStorage {
         ensures err { OnErr result (cells_of self.new ≡ cells_of self.old) }
         ensures succeeds { is_vector self.old ≡ true → IsOk result }
         ensures vector { is_vector self.old ≡ true → is_vector self.new ≡ true }
+        ensures made { OnOk result (is_vector self.new ≡ true) }
     {
         self.coerce_vec()?.erase_cell(x);
         Ok(())
@@ -76,6 +78,7 @@ impl CellStorage {
         ensures ok { OnOk result (cells_of self.new ≡ erased_within x margin attrs (cells_of self.old)) }
         ensures err { OnErr result (cells_of self.new ≡ cells_of self.old) }
         ensures vector { is_vector self.old ≡ true → is_vector self.new ≡ true }
+        ensures made { OnOk result (is_vector self.new ≡ true) }
     {
         self.coerce_vec()?.erase_cell_with_margin(x, margin, attrs)?;
         Ok(())
@@ -89,6 +92,7 @@ impl CellStorage {
         ensures ok { OnOk result (cells_of self.new ≡ inserted x cell margin (cells_of self.old)) }
         ensures err { OnErr result (cells_of self.new ≡ cells_of self.old) }
         ensures vector { is_vector self.old ≡ true → is_vector self.new ≡ true }
+        ensures made { OnOk result (is_vector self.new ≡ true) }
     {
         self.coerce_vec()?.insert_cell(x, cell, margin)?;
         Ok(())
@@ -100,6 +104,7 @@ impl CellStorage {
         ensures rest { IfOk result (λ rest. cells_of rest ≡ drop at (cells_of self.old)) }
         ensures err { OnErr result (cells_of self.new ≡ cells_of self.old) }
         ensures vector { is_vector self.old ≡ true → is_vector self.new ≡ true }
+        ensures made { OnOk result (is_vector self.new ≡ true) }
         ensures rest_vector { IfOk result (λ rest. is_vector rest ≡ true) }
     {
         let rest = self.coerce_vec()?.split_off(at)?;
@@ -111,6 +116,7 @@ impl CellStorage {
         ensures ok { OnOk result (cells_of self.new ≡ cells_of self.old ++ with_halves (visible (cells_of other.now))) }
         ensures err { OnErr result (cells_of self.new ≡ cells_of self.old) }
         ensures vector { is_vector self.old ≡ true → is_vector self.new ≡ true }
+        ensures made { OnOk result (is_vector self.new ≡ true) }
     {
         let storage = self.coerce_vec()?;
         match other {

@@ -1,11 +1,13 @@
 -- Filling a line column by column.
-use Rattle.std.proofs.Common.{◌≡◌, ℕ, true, zero, suc, ◌+◌, ◌-◌, ◌≤◌, max, inl, inr, List, refl, sym, ◌∙◌, ap, subst, arith, OnErr, Result, Ok, Err}
+use Rattle.std.proofs.Common.{◌≡◌, ◌≢◌, ℕ, true, false, zero, suc, ◌+◌, ◌-◌, ◌<◌, ◌≤◌, max, inl, inr, List, length, refl, sym, ◌∙◌, ap, subst, arith, OnErr, OnOk, Result, Ok, Err}
 use Rattle.std.specs.Prelude.{nat_lt}
 use Rattle.std.proofs.lemmas.Bool.{cases_lt, lt-ltb, le-ltb}
-use Rattle.termwiz_cell.specs.CellValue.{CellValue}
+use Rattle.termwiz_cell.specs.CellValue.{CellValue, columns, is_wide}
 use Rattle.termwiz_storage.specs.Stored.{fill, set_cell}
+use Rattle.termwiz_storage.proofs.Fill.{length-fill}
+use Rattle.termwiz_storage.proofs.Widths.{columns-narrow, columns-wide}
 use Rattle.termwiz_line.specs.LineValue.{LineValue, IsEdited, IsUnchanged}
-use Rattle.termwiz_line.specs.Filled.{Fills, taken, IsPartlyFilled}
+use Rattle.termwiz_line.specs.Filled.{Fills, taken, AppendsTo, IsPartlyFilled, SetsElsewhere}
 
 -- one more column
 pub fill-more : (n x : ℕ) (c : CellValue) (cs : List CellValue) → fill (suc n) x c cs ≡ set_cell (x + n) c (fill n x c cs)
@@ -45,3 +47,70 @@ partly_filled {n} l h = record { count = n; within = l; fills = h }
 pub on_err : {T E P : Type 0} (r : Result T E) → P → OnErr r P
 on_err (Ok x) p = tt
 on_err (Err e) p = p
+
+pub on_ok_both : {T E P Q S : Type 0} (r : Result T E) → (P → Q → S) → OnOk r P → OnOk r Q → OnOk r S
+on_ok_both (Ok x) f p q = f p q
+on_ok_both (Err e) f p q = tt
+
+-- ---- the form that is left
+
+-- narrow cells behind the last one end where they were set
+length-appended : (n from : ℕ) (c : CellValue) (cs : List CellValue) → from ≡ length cs → is_wide c ≡ false → from + n ≡ length (fill n from c cs)
+length-appended zero from c cs e w = let same : from + 0 ≡ from = omega arith in same ∙ e
+length-appended (suc n) from c cs e w =
+    let one : columns c ≡ 1 = columns-narrow c w in
+    let l : length (fill (suc n) from c cs) ≡ max (length cs) (from + n + columns c) = length-fill n from c cs in
+    omega arith
+
+-- the half of a wide cell stands in the next column
+longer-wide : (from : ℕ) (c : CellValue) (cs : List CellValue) → is_wide c ≡ true → suc from < length (fill 1 from c cs)
+longer-wide from c cs w =
+    let two : columns c ≡ 2 = columns-wide c w in
+    let l : length (fill 1 from c cs) ≡ max (length cs) (from + 0 + columns c) = length-fill 0 from c cs in
+    omega arith
+
+-- the form of a line in which n columns were set, from a column on
+pub record HasForm (old : LineValue) (n from : ℕ) (c : CellValue) (now : LineValue) : Type 0 where
+  pub text : old.is_vector ≡ false → from ≡ length old.cells → is_wide c ≡ false → now.is_vector ≡ false
+  pub elsewhere : 0 < n → from ≢ length old.cells → now.is_vector ≡ true
+  pub wide : 1 < n → is_wide c ≡ true → now.is_vector ≡ true
+
+pub HasForm-none : {n from : ℕ} (c : CellValue) (old : LineValue) → n ≡ 0 → HasForm old n from c old
+HasForm-none c old e = record { text = λ t p w. t; elsewhere = λ l p. absurd (omega arith); wide = λ l w. absurd (omega arith) }
+
+pub HasForm-more : {n m from i seqno : ℕ} {c d : CellValue} {old now new : LineValue} → m ≡ suc n → i ≡ from + n → d ≡ c → Fills old n from c seqno now → HasForm old n from c now
+    → IsEdited now (set_cell i d now.cells) seqno new → (now.is_vector ≡ false → i ≡ length now.cells → new.is_vector ≡ false) → (i ≢ length now.cells → new.is_vector ≡ true)
+    → HasForm old m from c new
+HasForm-more {n} {m} {from} {i} {seqno} {c} {d} {old} {now} {new} e f same_cell fills h t appended made = record {
+  text = λ v p w. appended (h.text v p w) (f ∙ length-appended n from c old.cells p w ∙ sym (ap length fills.cells));
+  elsewhere = λ l p. elim (cases_lt 0 n) [
+    | inl some ↦ t.vector (h.elsewhere some p)
+    | inr none ↦ made (λ q. p (first-is none q))
+  ];
+  wide = λ l w. elim (cases_lt 1 n) [
+    | inl some ↦ t.vector (h.wide some w)
+    | inr one ↦ made (λ q. second-is one l w q)
+  ];
+}
+  where
+    first-is : n ≤ 0 → i ≡ length now.cells → from ≡ length old.cells
+    first-is none q =
+        let z : n ≡ 0 = omega arith in
+        let same : length now.cells ≡ length old.cells = ap length (fills.cells ∙ ap (λ k. fill k from c old.cells) z) in
+        omega arith
+
+    second-is : n ≤ 1 → 1 < m → is_wide c ≡ true → i ≡ length now.cells → ⊥
+    second-is one l w q =
+        let z : n ≡ 1 = omega arith in
+        let same : length now.cells ≡ length (fill 1 from c old.cells) = ap length (fills.cells ∙ ap (λ k. fill k from c old.cells) z) in
+        let long : suc from < length (fill 1 from c old.cells) = longer-wide from c old.cells w in
+        absurd (omega arith)
+
+pub HasForm-appended : {n a b : ℕ} {c : CellValue} {old new : LineValue} → HasForm old n a c new → AppendsTo old a b c → new.is_vector ≡ false
+HasForm-appended h p = h.text p.text p.at_end p.narrow
+
+pub HasForm-elsewhere : {n a b : ℕ} {c : CellValue} {old new : LineValue} → n ≡ b - a → HasForm old n a c new → SetsElsewhere old a b c → new.is_vector ≡ true
+HasForm-elsewhere e h p = elim p.place [
+  | inl first ↦ let l : _ < _ = first.0 in h.elsewhere (omega arith) first.1
+  | inr second ↦ let l : _ < _ = second.0 in h.wide (omega arith) second.1
+]

@@ -1,11 +1,16 @@
 -- Cells that are set one behind another.
-use Rattle.std.proofs.Common.{◌≡◌, ℕ, ◌+◌, suc, max, true, List, [], ◌∷◌, ◌++◌, length, refl, sym, ◌∙◌, ap, subst, arith, append-nil, append_assoc}
+use Rattle.std.proofs.Common.{◌≡◌, ◌≢◌, ◌⊎◌, inl, inr, ℕ, ◌+◌, suc, max, true, false, List, [], ◌∷◌, ◌++◌, length, refl, sym, ◌∙◌, ap, subst, arith, append-nil, append_assoc}
 use Rattle.std.specs.Prelude.{nat_lt}
 use Rattle.std.proofs.lemmas.Bool.{lt-ltb}
 use Rattle.std.proofs.lemmas.List.{length-append}
+use Rattle.std.specs.List.{concat}
+use Rattle.std.specs.Str.{IsUtf8}
+use Rattle.unicode_segmentation.specs.Grapheme.{graphemes, is_grapheme_break}
+use Rattle.unicode_segmentation.proofs.SegmentsLemmas.{concat-segments}
 use Rattle.termwiz_cell.specs.CellValue.{CellValue, columns}
 use Rattle.termwiz_storage.specs.Edits.{with_half, with_halves}
 use Rattle.termwiz_storage.specs.Stored.{set_cell}
+use Rattle.termwiz_storage.proofs.SetCell.{length-set_cell}
 use Rattle.termwiz_line.specs.Filled.{taken}
 use Rattle.termwiz_line.specs.LineValue.{LineValue, IsEdited, IsUnchanged}
 use Rattle.termwiz_line.specs.Texts.{IsPartlyOverlaid, Overlays, overlaid, placed}
@@ -70,3 +75,40 @@ overlaying-partly {old} {now} {new} {all} {left} {seqno} h t = record {
 
 pub overlaying-all : {old now : LineValue} {all : List (ℕ × CellValue)} {seqno : ℕ} → IsOverlaying old all [] seqno now → Overlays old all seqno now
 overlaying-all {old} {now} {all} {seqno} h = subst (λ ps. Overlays old ps seqno now) (sym (append-nil h.set) ∙ h.whole) h.overlays
+
+-- ---- the form that is left
+
+-- the form of a line over which graphemes are laid from a column on, of which some are left
+pub record IsLaid (old : LineValue) (start column : ℕ) (all left : List (List ℕ)) (now : LineValue) : Type 0 where
+  pub text : old.is_vector ≡ false → start ≡ length old.cells → now.is_vector ≡ false
+  pub at_end : start ≡ length old.cells → column ≡ length now.cells
+  pub elsewhere : start ≢ length old.cells → ((left ≡ all) × (column ≢ length now.cells)) ⊎ (now.is_vector ≡ true)
+
+pub IsLaid-none : (old : LineValue) (start : ℕ) (all left : List (List ℕ)) → left ≡ all → IsLaid old start start all left old
+IsLaid-none old start all left e = record { text = λ v p. v; at_end = λ p. p; elsewhere = λ p. inl (e, p) }
+
+pub IsLaid-more : {old now new : LineValue} {start column end seqno : ℕ} {all left rest : List (List ℕ)} (c : CellValue)
+    → end ≡ column + columns c → IsLaid old start column all left now → IsEdited now (set_cell column c now.cells) seqno new
+    → (now.is_vector ≡ false → column ≡ length now.cells → new.is_vector ≡ false) → (column ≢ length now.cells → new.is_vector ≡ true)
+    → IsLaid old start end all rest new
+IsLaid-more {old} {now} {new} {start} {column} {end} c e h t appended made = record {
+  text = λ v p. appended (h.text v p) (h.at_end p);
+  at_end = λ p.
+      let here : column ≡ length now.cells = h.at_end p in
+      let l : length new.cells ≡ max (length now.cells) (column + columns c) = ap length t.cells_are ∙ length-set_cell column c now.cells in
+      omega arith;
+  elsewhere = λ p. elim (h.elsewhere p) [
+    | inl first ↦ inr (made first.1)
+    | inr v ↦ inr (t.vector v)
+  ];
+}
+
+pub IsLaid-all : {old now : LineValue} {start column : ℕ} {all left : List (List ℕ)} → left ≡ [] → all ≢ [] → IsLaid old start column all left now → start ≢ length old.cells → now.is_vector ≡ true
+IsLaid-all e some h p = elim (h.elsewhere p) [
+  | inl first ↦ absurd (some (sym first.0 ∙ e))
+  | inr v ↦ v
+]
+
+-- a text that isn't empty has graphemes
+pub graphemes-some : (text : List ℕ) → IsUtf8 text → text ≢ [] → graphemes true text ≢ []
+graphemes-some text u some e = some (sym (concat-segments (is_grapheme_break true) text u) ∙ ap concat e)

@@ -1,9 +1,11 @@
 -- Pruning is not seen.
-use Rattle.std.proofs.Common.{◌≡◌, ℕ, zero, suc, ◌≤◌, inl, inr, List, [], ◌∷◌, length, get_or, take, Some, None, sym, ◌∙◌, ap, arith}
+use Rattle.std.proofs.Common.{◌≡◌, ◌≢◌, ℕ, zero, suc, ◌+◌, ◌-◌, ◌<◌, ◌≤◌, max, false, inl, inr, List, [], ◌∷◌, length, get_or, take, Some, None, sym, ◌∙◌, ap, arith}
 use Rattle.std.proofs.lemmas.Bool.{cases_lt}
 use Rattle.std.proofs.lemmas.List.{get_or-take, get_or_past, length-take}
-use Rattle.termwiz_cell.specs.CellValue.{CellValue, blank}
+use Rattle.termwiz_cell.specs.CellValue.{CellValue, blank, columns, is_wide}
+use Rattle.termwiz_storage.specs.FilledAs.{IsFilledAs}
 use Rattle.termwiz_storage.specs.Stored.{cell_at, visible, stored, IsPruned}
+use Rattle.termwiz_storage.proofs.Widths.{columns-narrow}
 use Rattle.termwiz_line.proofs.Columns.{columns_from, cell_at-columns_0}
 
 columns-stored : (k : ℕ) (cs : List CellValue) (x : ℕ) (e : CellValue) → get_or (columns_from k cs) x None ≡ Some e → stored cs x ≡ e
@@ -31,3 +33,22 @@ stored-pruned old new p x = elim (cases_lt 0 p.kept) [
         ]
   ]
 ]
+
+-- a last cell that isn't a default blank stays
+pub length-pruned : (n : ℕ) (old new : List CellValue) → length old ≡ suc n → stored old n ≢ blank → IsPruned old new → length new ≡ length old
+length-pruned n old new e used p = elim (cases_lt p.kept (length old)) [
+  | inl l ↦ absurd (used (visible-stored old n blank (p.is_kept.blank_after n (omega arith) (omega arith))))
+  | inr g ↦ elim (cases_lt 0 p.kept) [
+    | inr z ↦ ap length (p.nothing_left (omega arith))
+    | inl pos ↦ ap length (p.cut pos) ∙ rw length-take (omega arith)
+  ]
+]
+
+-- so does that of narrow cells behind the last one
+pub length-pruned_fill : (a b : ℕ) (c : CellValue) (old full new : List CellValue) → a < b → a ≡ length old → is_wide c ≡ false → c ≢ blank
+    → IsFilledAs a b c old full → IsPruned full new → length new ≡ length full
+length-pruned_fill a b c old full new l e narrow used f p =
+    let one : columns c ≡ 1 = columns-narrow c narrow in
+    let len : length full ≡ max (length old) (b - 1 + columns c) = f.len in
+    let last : suc (b - 1) ≡ b = omega arith in
+    length-pruned (b - 1) full new (omega arith) (λ s. used (sym (f.last (b - 1) last) ∙ s)) p

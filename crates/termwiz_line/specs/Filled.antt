@@ -1,6 +1,6 @@
 -- What filling columns of a line leaves.
-use Rattle.std.specs.Prelude.{◌≡◌, ℕ, ◌-◌, ◌<◌, ◌≤◌, nat_lt, max, true, [], if◌then◌else◌}
-use Rattle.termwiz_cell.specs.CellValue.{CellValue, blank}
+use Rattle.std.specs.Prelude.{◌≡◌, ◌≢◌, ◌⊎◌, ℕ, suc, ◌-◌, ◌<◌, ◌≤◌, nat_lt, max, true, false, [], length, if◌then◌else◌}
+use Rattle.termwiz_cell.specs.CellValue.{CellValue, blank, is_wide}
 use Rattle.termwiz_storage.specs.Stored.{fill}
 use Rattle.termwiz_storage.specs.FilledAs.{IsFilledAs}
 use Rattle.termwiz_line.specs.LineValue.{LineValue, Prunes}
@@ -33,3 +33,16 @@ pub record IsPartlyFilled (old : LineValue) (a b : ℕ) (c : CellValue) (seqno :
   pub count : ℕ
   pub within : count ≤ b - a
   pub fills : Fills old count a c seqno new
+
+-- filling the columns from a to b - 1 appends narrow cells that aren't default blanks to a text
+pub record AppendsTo (old : LineValue) (a b : ℕ) (c : CellValue) : Type 0 where
+  pub text : old.is_vector ≡ false
+  pub at_end : a ≡ length old.cells
+  pub some : a < b
+  pub narrow : is_wide c ≡ false
+  pub used : c ≢ blank
+
+-- filling the columns from a to b - 1 with a cell that isn't a default blank sets one elsewhere than behind the last: the first, or the second of wide ones
+pub record SetsElsewhere (old : LineValue) (a b : ℕ) (c : CellValue) : Type 0 where
+  pub used : c ≢ blank
+  pub place : ((a < b) × (a ≢ length old.cells)) ⊎ ((suc a < b) × (is_wide c ≡ true))

@@ -142,6 +142,7 @@ impl Line {
         ensures ok { OnOk result (IsEdited self.old (resized width self.old.cells) seqno self.new) }
         ensures err { OnErr result (IsUnchanged self.old self.new) }
         ensures succeeds { self.old.is_vector ≡ true → width ≤ length self.old.cells → IsOk result }
+        ensures made { OnOk result (self.new.is_vector ≡ true) }
     {
         drop_zones(&mut self.zones);
         self.storage.resize(width)?;

@@ -1,5 +1,5 @@
 //! Edits of a line's cells.
-ghost use Rattle.std.specs.Prelude.{◌≡◌, ◌≤◌, ◌-◌, ◌↔◌, ◌++◌, [], true, false, max, take, drop, replicate, IsTrue, IsOk, IfOk, OnOk, OnErr, length};
+ghost use Rattle.std.specs.Prelude.{◌≡◌, ◌≢◌, ◌<◌, ◌≤◌, ◌-◌, ◌↔◌, ◌++◌, [], true, false, max, take, drop, replicate, IsTrue, IsOk, IfOk, OnOk, OnErr, length};
 ghost use Rattle.std.specs.Borrow.{sem};
 ghost use Rattle.std.specs.List.{list_all};
 ghost use Rattle.termwiz_text.specs.Plain.{is_plain};
@@ -7,7 +7,7 @@ ghost use Rattle.termwiz_cell.specs.Attributes.{needs_box};
 ghost use Rattle.termwiz_cell.specs.CellValue.{blank, blank_of, cell_of};
 ghost use Rattle.termwiz_storage.specs.Stored.{set_cell, set_run, visible};
 ghost use Rattle.termwiz_storage.specs.Edits.{columns_between, erased, erased_within, inserted, removed, with_halves};
-ghost use Rattle.termwiz_line.specs.Filled.{Fills, IsFilled, IsPartlyFilled};
+ghost use Rattle.termwiz_line.specs.Filled.{AppendsTo, Fills, IsFilled, IsPartlyFilled, SetsElsewhere};
 ghost use Rattle.termwiz_line.specs.Lending.{LendsLine};
 ghost use Rattle.termwiz_line.specs.LineEdits.{HasCells, IsEditedAt, IsTakenFrom};
 ghost use Rattle.termwiz_line.specs.LineFlags.{no_flags};
@@ -47,6 +47,7 @@ impl Line {
         ensures ok { OnOk result (IsEdited self.old (set_cell i cell self.old.cells) seqno self.new) }
         ensures err { OnErr result (IsUnchanged self.old self.new) }
         ensures appended { self.old.is_vector ≡ false → i ≡ length self.old.cells → OnOk result (self.new.is_vector ≡ false) }
+        ensures made { i ≢ length self.old.cells → OnOk result (self.new.is_vector ≡ true) }
     {
         drop_zones(&mut self.zones);
         self.storage.set_cell(i, cell)?;
@@ -68,6 +69,7 @@ impl Line {
         ensures ok { OnOk result (IsEdited self.old (set_cell i (cell_of text.now width attrs) self.old.cells) seqno self.new) }
         ensures err { OnErr result (IsUnchanged self.old self.new) }
         ensures appended { self.old.is_vector ≡ false → i ≡ length self.old.cells → OnOk result (self.new.is_vector ≡ false) }
+        ensures made { i ≢ length self.old.cells → OnOk result (self.new.is_vector ≡ true) }
     {
         let cell = Cell::new_grapheme_with_width(self.alloc, text, width, attrs)?;
         self.set_cell(i, cell, seqno)?;
@@ -86,6 +88,7 @@ impl Line {
     ) -> Result<(), AllocError>
         ensures ok { OnOk result (IsEdited self.old (take width (set_cell i cell self.old.cells)) seqno self.new) }
         ensures err { OnErr result (IsUnchanged self.old self.new) }
+        ensures made { OnOk result (self.new.is_vector ≡ true) }
     {
         drop_zones(&mut self.zones);
         self.storage.set_cell_within(i, cell, width)?;
@@ -106,6 +109,7 @@ impl Line {
         requires unboxed { needs_box attrs.now ≡ false }
         ensures ok { OnOk result (IsEdited self.old (set_run i run.now attrs.now self.old.cells) seqno self.new) }
         ensures err { OnErr result (IsUnchanged self.old self.new) }
+        ensures made { OnOk result (self.new.is_vector ≡ true) }
     {
         drop_zones(&mut self.zones);
         self.storage.set_run(i, run, attrs)?;
@@ -119,6 +123,8 @@ impl Line {
         ensures ok { OnOk result (Prunes self.old seqno self.new) }
         ensures err { OnErr result (IsUnchanged self.old self.new) }
         ensures succeeds { self.old.is_vector ≡ true → IsOk result }
+        ensures made { OnOk result (length self.new.cells < length self.old.cells → self.new.is_vector ≡ true) }
+        ensures form { OnOk result (length self.new.cells ≡ length self.old.cells → self.new.is_vector ≡ self.old.is_vector) }
     {
         let kept = self.storage.kept_len();
         if kept > 0 && kept < self.len() {
@@ -133,6 +139,7 @@ impl Line {
     fn set_blanks(&mut self, from: usize, to: usize, seqno: SequenceNo) -> Result<(), AllocError>
         ensures ok { OnOk result (Fills self.old (to - from) from blank seqno self.new) }
         ensures err { OnErr result (IsUnchanged self.old self.new) }
+        ensures made { OnOk result (self.new.is_vector ≡ true) }
     {
         drop_zones(&mut self.zones);
         self.storage.set_blanks(from, to)?;
@@ -152,6 +159,9 @@ impl Line {
     ) -> Result<(), AllocError>
         ensures ok { OnOk result (Fills self.old (to - from) from cell.now seqno self.new) }
         ensures err { OnErr result (IsPartlyFilled self.old from to cell.now seqno self.new) }
+        ensures appended { AppendsTo self.old from to cell.now → OnOk result (self.new.is_vector ≡ false) }
+        ensures made { cell.now ≡ blank → OnOk result (self.new.is_vector ≡ true) }
+        ensures elsewhere { SetsElsewhere self.old from to cell.now → OnOk result (self.new.is_vector ≡ true) }
     {
         if cell.is_blank() {
             self.set_blanks(from, to, seqno)?;
@@ -181,6 +191,9 @@ impl Line {
     ) -> Result<(), AllocError>
         ensures ok { OnOk result (IsFilled self.old range.start range.end cell.now seqno self.new) }
         ensures err { OnErr result (IsPartlyFilled self.old range.start range.end cell.now seqno self.new) }
+        ensures appended { AppendsTo self.old range.start range.end cell.now → OnOk result (self.new.is_vector ≡ false) }
+        ensures made { cell.now ≡ blank → self.old.cells ≢ [] → OnOk result (self.new.is_vector ≡ true) }
+        ensures elsewhere { SetsElsewhere self.old range.start range.end cell.now → OnOk result (self.new.is_vector ≡ true) }
     {
         if self.stays_empty(cell) {
             return Ok(());
@@ -205,6 +218,7 @@ impl Line {
         requires { 1 ≤ right_margin }
         ensures ok { OnOk result (IsEdited self.old (inserted x cell right_margin self.old.cells) seqno self.new) }
         ensures err { OnErr result (IsUnchanged self.old self.new) }
+        ensures made { OnOk result (self.new.is_vector ≡ true) }
     {
         drop_zones(&mut self.zones);
         self.storage.insert_cell(x, cell, right_margin)?;
@@ -218,6 +232,7 @@ impl Line {
         ensures ok { OnOk result (IsEditedAt x self.old (erased x self.old.cells) seqno self.new) }
         ensures err { OnErr result (IsUnchanged self.old self.new) }
         ensures succeeds { self.old.is_vector ≡ true → IsOk result }
+        ensures made { x < length self.old.cells → OnOk result (self.new.is_vector ≡ true) }
     {
         if x < self.len() {
             drop_zones(&mut self.zones);
@@ -233,6 +248,7 @@ impl Line {
         ensures ok { OnOk result (IsEditedAt x self.old (removed x self.old.cells) seqno self.new) }
         ensures err { OnErr result (IsUnchanged self.old self.new) }
         ensures succeeds { self.old.is_vector ≡ true → IsOk result }
+        ensures made { x < length self.old.cells → OnOk result (self.new.is_vector ≡ true) }
     {
         if x < self.len() {
             drop_zones(&mut self.zones);
@@ -258,6 +274,7 @@ impl Line {
         requires { 1 ≤ right_margin }
         ensures ok { OnOk result (IsEdited self.old (erased_within x right_margin blank_attr self.old.cells) seqno self.new) }
         ensures err { OnErr result (IsUnchanged self.old self.new) }
+        ensures made { OnOk result (self.new.is_vector ≡ true) }
     {
         drop_zones(&mut self.zones);
         self.storage
@@ -272,6 +289,8 @@ impl Line {
         ensures kept { OnOk result (HasCells self.old (take i self.old.cells) self.new) }
         ensures rest { IfOk result (λ rest. IsTakenFrom self.old (drop i self.old.cells) seqno rest) }
         ensures err { OnErr result (IsUnchanged self.old self.new) }
+        ensures made { OnOk result (self.new.is_vector ≡ true) }
+        ensures rest_vector { IfOk result (λ rest. rest.is_vector ≡ true) }
     {
         drop_zones(&mut self.zones);
         let storage = self.storage.split_off(i)?;
@@ -285,6 +304,7 @@ impl Line {
     pub fn append_line(&mut self, other: Line, seqno: SequenceNo) -> Result<(), AllocError>
         ensures ok { OnOk result (IsEdited self.old (self.old.cells ++ with_halves (visible other.cells)) seqno self.new) }
         ensures err { OnErr result (IsUnchanged self.old self.new) }
+        ensures made { OnOk result (self.new.is_vector ≡ true) }
     {
         drop_zones(&mut self.zones);
         self.storage.append_visible(&other.storage)?;

@@ -24,6 +24,7 @@ impl Line {
         ensures marked { OnOk result (last_is_wrapped (visible self.new.cells) ≡ wrapped) }
         ensures err { OnErr result (IsUnchanged self.old self.new) }
         ensures succeeds { self.old.is_vector ≡ true → 0 < length self.old.cells → IsOk result }
+        ensures form { self.new.is_vector ≡ self.old.is_vector }
     {
         drop_zones(&mut self.zones);
         self.storage.set_last_wrapped(wrapped)?;

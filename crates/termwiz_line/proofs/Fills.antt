@@ -1,13 +1,13 @@
 -- Filling a line column by column.
-use Rattle.std.proofs.Common.{◌≡◌, ◌≢◌, ℕ, true, false, zero, suc, ◌+◌, ◌-◌, ◌<◌, ◌≤◌, max, inl, inr, List, length, refl, sym, ◌∙◌, ap, subst, arith, OnErr, OnOk, Result, Ok, Err}
+use Rattle.std.proofs.Common.{◌≡◌, ◌≢◌, ℕ, true, false, zero, suc, ◌+◌, ◌-◌, ◌<◌, ◌≤◌, max, inl, inr, List, length, refl, sym, ◌∙◌, ap, subst, arith, OnErr, Result, Ok, Err}
 use Rattle.std.specs.Prelude.{nat_lt}
 use Rattle.std.proofs.lemmas.Bool.{cases_lt, lt-ltb, le-ltb}
-use Rattle.termwiz_cell.specs.CellValue.{CellValue, columns, is_wide}
+use Rattle.termwiz_cell.specs.CellValue.{CellValue, blank, columns, is_wide}
 use Rattle.termwiz_storage.specs.Stored.{fill, set_cell}
 use Rattle.termwiz_storage.proofs.Fill.{length-fill}
 use Rattle.termwiz_storage.proofs.Widths.{columns-narrow, columns-wide}
 use Rattle.termwiz_line.specs.LineValue.{LineValue, IsEdited, IsUnchanged}
-use Rattle.termwiz_line.specs.Filled.{Fills, taken, AppendsTo, IsPartlyFilled, SetsElsewhere}
+use Rattle.termwiz_line.specs.Filled.{Fills, taken, AppendsCells, FillsElsewhere, IsPartlyFilled}
 
 -- one more column
 pub fill-more : (n x : ℕ) (c : CellValue) (cs : List CellValue) → fill (suc n) x c cs ≡ set_cell (x + n) c (fill n x c cs)
@@ -47,10 +47,6 @@ partly_filled {n} l h = record { count = n; within = l; fills = h }
 pub on_err : {T E P : Type 0} (r : Result T E) → P → OnErr r P
 on_err (Ok x) p = tt
 on_err (Err e) p = p
-
-pub on_ok_both : {T E P Q S : Type 0} (r : Result T E) → (P → Q → S) → OnOk r P → OnOk r Q → OnOk r S
-on_ok_both (Ok x) f p q = f p q
-on_ok_both (Err e) f p q = tt
 
 -- ---- the form that is left
 
@@ -106,11 +102,12 @@ HasForm-more {n} {m} {from} {i} {seqno} {c} {d} {old} {now} {new} e f same_cell 
         let long : suc from < length (fill 1 from c old.cells) = longer-wide from c old.cells w in
         absurd (omega arith)
 
-pub HasForm-appended : {n a b : ℕ} {c : CellValue} {old new : LineValue} → HasForm old n a c new → AppendsTo old a b c → new.is_vector ≡ false
-HasForm-appended h p = h.text p.text p.at_end p.narrow
+pub HasForm-appended : {n a b : ℕ} {c : CellValue} {old new : LineValue} → HasForm old n a c new → AppendsCells old a b c new
+HasForm-appended h = λ t e l w u. h.text t e w
 
-pub HasForm-elsewhere : {n a b : ℕ} {c : CellValue} {old new : LineValue} → n ≡ b - a → HasForm old n a c new → SetsElsewhere old a b c → new.is_vector ≡ true
-HasForm-elsewhere e h p = elim p.place [
-  | inl first ↦ let l : _ < _ = first.0 in h.elsewhere (omega arith) first.1
-  | inr second ↦ let l : _ < _ = second.0 in h.wide (omega arith) second.1
-]
+pub HasForm-elsewhere : {n a b : ℕ} {c : CellValue} {old new : LineValue} → n ≡ b - a → c ≢ blank → HasForm old n a c new → FillsElsewhere old a b c new
+HasForm-elsewhere e u h = record {
+  blanks = λ z s. absurd (u z);
+  first = λ u' l p. h.elsewhere (omega arith) p;
+  second = λ u' l w. h.wide (omega arith) w;
+}

@@ -1,5 +1,5 @@
 -- What filling columns of a line leaves.
-use Rattle.std.specs.Prelude.{◌≡◌, ◌≢◌, ◌⊎◌, ℕ, suc, ◌-◌, ◌<◌, ◌≤◌, nat_lt, max, true, false, [], length, if◌then◌else◌}
+use Rattle.std.specs.Prelude.{◌≡◌, ◌≢◌, ℕ, suc, ◌-◌, ◌<◌, ◌≤◌, nat_lt, max, true, false, [], length, if◌then◌else◌}
 use Rattle.termwiz_cell.specs.CellValue.{CellValue, blank, is_wide}
 use Rattle.termwiz_storage.specs.Stored.{fill}
 use Rattle.termwiz_storage.specs.FilledAs.{IsFilledAs}
@@ -34,15 +34,15 @@ pub record IsPartlyFilled (old : LineValue) (a b : ℕ) (c : CellValue) (seqno :
   pub within : count ≤ b - a
   pub fills : Fills old count a c seqno new
 
--- filling the columns from a to b - 1 appends narrow cells that aren't default blanks to a text
-pub record AppendsTo (old : LineValue) (a b : ℕ) (c : CellValue) : Type 0 where
-  pub text : old.is_vector ≡ false
-  pub at_end : a ≡ length old.cells
-  pub some : a < b
-  pub narrow : is_wide c ≡ false
-  pub used : c ≢ blank
+-- narrow cells that aren't default blanks, set in the columns from a to b - 1, right behind the last cell of a text, are appended to the text
+abbrev pub AppendsCells : LineValue → ℕ → ℕ → CellValue → LineValue → Type 0
+AppendsCells old a b c new = old.is_vector ≡ false → a ≡ length old.cells → a < b → is_wide c ≡ false → c ≢ blank → new.is_vector ≡ false
 
--- filling the columns from a to b - 1 with a cell that isn't a default blank sets one elsewhere than behind the last: the first, or the second of wide ones
-pub record SetsElsewhere (old : LineValue) (a b : ℕ) (c : CellValue) : Type 0 where
-  pub used : c ≢ blank
-  pub place : ((a < b) × (a ≢ length old.cells)) ⊎ ((suc a < b) × (is_wide c ≡ true))
+-- a fill of the columns from a to b - 1 makes a vector, where its cell is
+pub record FillsElsewhere (old : LineValue) (a b : ℕ) (c : CellValue) (new : LineValue) : Type 0 where
+  -- a default blank, also in no column
+  pub blanks : c ≡ blank → old.cells ≢ [] → new.is_vector ≡ true
+  -- another one, where the first isn't set right behind the last cell
+  pub first : c ≢ blank → a < b → a ≢ length old.cells → new.is_vector ≡ true
+  -- a wide one, where there is a second
+  pub second : c ≢ blank → suc a < b → is_wide c ≡ true → new.is_vector ≡ true

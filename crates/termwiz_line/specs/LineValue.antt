@@ -1,5 +1,5 @@
 -- A line, as contracts see it: its stored cells, its number, its flags, and whether the cells are stored as a vector.
-use Rattle.std.specs.Prelude.{◌≡◌, ℕ, ◌<◌, max, Bool, true, List, length}
+use Rattle.std.specs.Prelude.{◌≡◌, ◌≢◌, ℕ, ◌<◌, max, Bool, true, false, List, length}
 use Rattle.termwiz_cell.specs.CellValue.{CellValue}
 use Rattle.termwiz_storage.specs.Stored.{IsPruned}
 use Rattle.termwiz_line.specs.LineFlags.{LineFlags}
@@ -24,10 +24,20 @@ pub record IsEdited (old : LineValue) (cells : List CellValue) (seqno : ℕ) (ne
   pub flags : new.flags ≡ old.flags
   pub vector : old.is_vector ≡ true → new.is_vector ≡ true
 
--- trailing default blanks are cut, unless that leaves nothing; the line takes the number where that changes it; its flags stay, and a vector stays one
+-- a cell that is set at column x, right behind the last one of a text, is appended to the text
+abbrev pub AppendsAt : ℕ → LineValue → LineValue → Type 0
+AppendsAt x old new = old.is_vector ≡ false → x ≡ length old.cells → new.is_vector ≡ false
+
+-- one that is set at a column x elsewhere makes a vector
+abbrev pub EditsElsewhere : ℕ → LineValue → LineValue → Type 0
+EditsElsewhere x old new = x ≢ length old.cells → new.is_vector ≡ true
+
+-- trailing default blanks are cut, unless that leaves nothing; where that changes the line it takes the number and is a vector, and otherwise it keeps its form; its flags stay
 pub record Prunes (old : LineValue) (seqno : ℕ) (new : LineValue) : Type 0 where
   pub cells : IsPruned old.cells new.cells
   pub shorter : length new.cells < length old.cells → new.seqno ≡ max old.seqno seqno
   pub as_long : length new.cells ≡ length old.cells → new.seqno ≡ old.seqno
+  pub made : length new.cells < length old.cells → new.is_vector ≡ true
+  pub form : length new.cells ≡ length old.cells → new.is_vector ≡ old.is_vector
   pub flags : new.flags ≡ old.flags
   pub vector : old.is_vector ≡ true → new.is_vector ≡ true

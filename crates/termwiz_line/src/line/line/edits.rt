@@ -1,5 +1,5 @@
 //! Edits of a line's cells.
-ghost use Rattle.std.specs.Prelude.{◌≡◌, ◌≢◌, ◌<◌, ◌≤◌, ◌-◌, ◌↔◌, ◌++◌, [], true, false, max, take, drop, replicate, IsTrue, IsOk, IfOk, OnOk, OnErr, length};
+ghost use Rattle.std.specs.Prelude.{◌≡◌, ◌<◌, ◌≤◌, ◌-◌, ◌↔◌, ◌++◌, [], true, false, max, take, drop, replicate, IsTrue, IsOk, IfOk, OnOk, OnErr, length};
 ghost use Rattle.std.specs.Borrow.{sem};
 ghost use Rattle.std.specs.List.{list_all};
 ghost use Rattle.termwiz_text.specs.Plain.{is_plain};
@@ -7,11 +7,11 @@ ghost use Rattle.termwiz_cell.specs.Attributes.{needs_box};
 ghost use Rattle.termwiz_cell.specs.CellValue.{blank, blank_of, cell_of};
 ghost use Rattle.termwiz_storage.specs.Stored.{set_cell, set_run, visible};
 ghost use Rattle.termwiz_storage.specs.Edits.{columns_between, erased, erased_within, inserted, removed, with_halves};
-ghost use Rattle.termwiz_line.specs.Filled.{AppendsTo, Fills, IsFilled, IsPartlyFilled, SetsElsewhere};
+ghost use Rattle.termwiz_line.specs.Filled.{AppendsCells, Fills, FillsElsewhere, IsFilled, IsPartlyFilled};
 ghost use Rattle.termwiz_line.specs.Lending.{LendsLine};
 ghost use Rattle.termwiz_line.specs.LineEdits.{HasCells, IsEditedAt, IsTakenFrom};
 ghost use Rattle.termwiz_line.specs.LineFlags.{no_flags};
-ghost use Rattle.termwiz_line.specs.LineValue.{IsEdited, IsUnchanged, Prunes};
+ghost use Rattle.termwiz_line.specs.LineValue.{AppendsAt, EditsElsewhere, IsEdited, IsUnchanged, Prunes};
 
 use crate::line::line::Line;
 use crate::line::line::zones::drop_zones;
@@ -46,8 +46,8 @@ impl Line {
     pub fn set_cell(&mut self, i: usize, cell: Cell, seqno: SequenceNo) -> Result<(), AllocError>
         ensures ok { OnOk result (IsEdited self.old (set_cell i cell self.old.cells) seqno self.new) }
         ensures err { OnErr result (IsUnchanged self.old self.new) }
-        ensures appended { self.old.is_vector ≡ false → i ≡ length self.old.cells → OnOk result (self.new.is_vector ≡ false) }
-        ensures made { i ≢ length self.old.cells → OnOk result (self.new.is_vector ≡ true) }
+        ensures appended { OnOk result (AppendsAt i self.old self.new) }
+        ensures made { OnOk result (EditsElsewhere i self.old self.new) }
     {
         drop_zones(&mut self.zones);
         self.storage.set_cell(i, cell)?;
@@ -68,8 +68,8 @@ impl Line {
         requires { width ≤ 2 }
         ensures ok { OnOk result (IsEdited self.old (set_cell i (cell_of text.now width attrs) self.old.cells) seqno self.new) }
         ensures err { OnErr result (IsUnchanged self.old self.new) }
-        ensures appended { self.old.is_vector ≡ false → i ≡ length self.old.cells → OnOk result (self.new.is_vector ≡ false) }
-        ensures made { i ≢ length self.old.cells → OnOk result (self.new.is_vector ≡ true) }
+        ensures appended { OnOk result (AppendsAt i self.old self.new) }
+        ensures made { OnOk result (EditsElsewhere i self.old self.new) }
     {
         let cell = Cell::new_grapheme_with_width(self.alloc, text, width, attrs)?;
         self.set_cell(i, cell, seqno)?;
@@ -123,8 +123,6 @@ impl Line {
         ensures ok { OnOk result (Prunes self.old seqno self.new) }
         ensures err { OnErr result (IsUnchanged self.old self.new) }
         ensures succeeds { self.old.is_vector ≡ true → IsOk result }
-        ensures made { OnOk result (length self.new.cells < length self.old.cells → self.new.is_vector ≡ true) }
-        ensures form { OnOk result (length self.new.cells ≡ length self.old.cells → self.new.is_vector ≡ self.old.is_vector) }
     {
         let kept = self.storage.kept_len();
         if kept > 0 && kept < self.len() {
@@ -159,9 +157,8 @@ impl Line {
     ) -> Result<(), AllocError>
         ensures ok { OnOk result (Fills self.old (to - from) from cell.now seqno self.new) }
         ensures err { OnErr result (IsPartlyFilled self.old from to cell.now seqno self.new) }
-        ensures appended { AppendsTo self.old from to cell.now → OnOk result (self.new.is_vector ≡ false) }
-        ensures made { cell.now ≡ blank → OnOk result (self.new.is_vector ≡ true) }
-        ensures elsewhere { SetsElsewhere self.old from to cell.now → OnOk result (self.new.is_vector ≡ true) }
+        ensures appended { OnOk result (AppendsCells self.old from to cell.now self.new) }
+        ensures made { OnOk result (FillsElsewhere self.old from to cell.now self.new) }
     {
         if cell.is_blank() {
             self.set_blanks(from, to, seqno)?;
@@ -191,9 +188,8 @@ impl Line {
     ) -> Result<(), AllocError>
         ensures ok { OnOk result (IsFilled self.old range.start range.end cell.now seqno self.new) }
         ensures err { OnErr result (IsPartlyFilled self.old range.start range.end cell.now seqno self.new) }
-        ensures appended { AppendsTo self.old range.start range.end cell.now → OnOk result (self.new.is_vector ≡ false) }
-        ensures made { cell.now ≡ blank → self.old.cells ≢ [] → OnOk result (self.new.is_vector ≡ true) }
-        ensures elsewhere { SetsElsewhere self.old range.start range.end cell.now → OnOk result (self.new.is_vector ≡ true) }
+        ensures appended { OnOk result (AppendsCells self.old range.start range.end cell.now self.new) }
+        ensures made { OnOk result (FillsElsewhere self.old range.start range.end cell.now self.new) }
     {
         if self.stays_empty(cell) {
             return Ok(());

@@ -1,5 +1,5 @@
 //! Lines of texts, and the texts of a line.
-ghost use Rattle.std.specs.Prelude.{◌≡◌, ◌≢◌, ◌+◌, ◌↔◌, ◌++◌, [], false, true, IfOk, IfSome, IsTrue, OnErr, OnOk, length, option_map, string_bytes, IsOkAnd};
+ghost use Rattle.std.specs.Prelude.{◌≡◌, ◌≢◌, ◌+◌, ◌↔◌, ◌++◌, [], false, true, IfOk, IfSome, IsTrue, OnErr, OnOk, option_map, string_bytes, IsOkAnd};
 ghost use Rattle.std.specs.Cow.{cow_str_bytes, IsBorrowedStr};
 ghost use Rattle.std.specs.List.{All, list_any};
 ghost use Rattle.termwiz_cell.specs.Attributes.{default_attributes};
@@ -10,6 +10,7 @@ ghost use Rattle.termwiz_storage.specs.CellsLeft.{IsOfCell, cells_left};
 ghost use Rattle.termwiz_storage.specs.Stored.{cell_at, is_linked, visible};
 ghost use Rattle.termwiz_line.specs.LineEdits.{IsMade};
 ghost use Rattle.termwiz_line.specs.LineFlags.{no_flags};
+ghost use Rattle.termwiz_line.specs.LineValue.{AppendsAt, EditsElsewhere};
 ghost use Rattle.termwiz_line.specs.Texts.{IsPartlyOverlaid, Overlays, cells_of_text, placed, stored_text, text_within, texts_of, texts_between, wrapped_text};
 
 use super::Line;
@@ -87,8 +88,8 @@ impl Line {
     ) -> Result<(), AllocError>
         ensures ok { OnOk result (Overlays self.old (placed start (cells_of_text (unversioned (W.width_of widths.now)) attr.now text.now)) seqno self.new) }
         ensures err { OnErr result (IsPartlyOverlaid self.old (placed start (cells_of_text (unversioned (W.width_of widths.now)) attr.now text.now)) seqno self.new) }
-        ensures appended { self.old.is_vector ≡ false → start ≡ length self.old.cells → OnOk result (self.new.is_vector ≡ false) }
-        ensures made { text.now ≢ [] → start ≢ length self.old.cells → OnOk result (self.new.is_vector ≡ true) }
+        ensures appended { OnOk result (AppendsAt start self.old self.new) }
+        ensures made { text.now ≢ [] → OnOk result (EditsElsewhere start self.old self.new) }
     {
         let mut column = start;
         for grapheme in Graphemes::new(text) {

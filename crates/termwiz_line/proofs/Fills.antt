@@ -7,7 +7,7 @@ use Rattle.termwiz_storage.specs.Stored.{fill, set_cell}
 use Rattle.termwiz_storage.proofs.Fill.{length-fill}
 use Rattle.termwiz_storage.proofs.Widths.{columns-narrow, columns-wide}
 use Rattle.termwiz_line.specs.LineValue.{LineValue, IsEdited, IsUnchanged}
-use Rattle.termwiz_line.specs.Filled.{Fills, taken, AppendsCells, FillsElsewhere, IsPartlyFilled}
+use Rattle.termwiz_line.specs.Filled.{Fills, taken, AppendsCells, MakesVector, IsPartlyFilled}
 
 -- one more column
 pub fill-more : (n x : ℕ) (c : CellValue) (cs : List CellValue) → fill (suc n) x c cs ≡ set_cell (x + n) c (fill n x c cs)
@@ -105,7 +105,7 @@ HasForm-more {n} {m} {from} {i} {seqno} {c} {d} {old} {now} {new} e f same_cell 
 pub HasForm-appended : {n a b : ℕ} {c : CellValue} {old new : LineValue} → HasForm old n a c new → AppendsCells old a b c new
 HasForm-appended h = λ t e l w u. h.text t e w
 
-pub HasForm-elsewhere : {n a b : ℕ} {c : CellValue} {old new : LineValue} → n ≡ b - a → c ≢ blank → HasForm old n a c new → FillsElsewhere old a b c new
+pub HasForm-elsewhere : {n a b : ℕ} {c : CellValue} {old new : LineValue} → n ≡ b - a → c ≢ blank → HasForm old n a c new → MakesVector old a b c new
 HasForm-elsewhere e u h = record {
   blanks = λ z s. absurd (u z);
   first = λ u' l p. h.elsewhere (omega arith) p;

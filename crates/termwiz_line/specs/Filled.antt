@@ -38,11 +38,11 @@ pub record IsPartlyFilled (old : LineValue) (a b : ℕ) (c : CellValue) (seqno :
 abbrev pub AppendsCells : LineValue → ℕ → ℕ → CellValue → LineValue → Type 0
 AppendsCells old a b c new = old.is_vector ≡ false → a ≡ length old.cells → a < b → is_wide c ≡ false → c ≢ blank → new.is_vector ≡ false
 
--- a fill of the columns from a to b - 1 makes a vector, where its cell is
-pub record FillsElsewhere (old : LineValue) (a b : ℕ) (c : CellValue) (new : LineValue) : Type 0 where
-  -- a default blank, also in no column
+-- what is set in the columns from a to b - 1 makes a vector, where it is
+pub record MakesVector (old : LineValue) (a b : ℕ) (c : CellValue) (new : LineValue) : Type 0 where
+  -- default blanks, also in no column
   pub blanks : c ≡ blank → old.cells ≢ [] → new.is_vector ≡ true
-  -- another one, where the first isn't set right behind the last cell
+  -- other cells, the first of them elsewhere than right behind the last cell
   pub first : c ≢ blank → a < b → a ≢ length old.cells → new.is_vector ≡ true
-  -- a wide one, where there is a second
+  -- other cells, wide and more than one
   pub second : c ≢ blank → suc a < b → is_wide c ≡ true → new.is_vector ≡ true

@@ -7,7 +7,7 @@ ghost use Rattle.termwiz_cell.specs.Attributes.{needs_box};
 ghost use Rattle.termwiz_cell.specs.CellValue.{blank, blank_of, cell_of};
 ghost use Rattle.termwiz_storage.specs.Stored.{set_cell, set_run, visible};
 ghost use Rattle.termwiz_storage.specs.Edits.{columns_between, erased, erased_within, inserted, removed, with_halves};
-ghost use Rattle.termwiz_line.specs.Filled.{AppendsCells, Fills, FillsElsewhere, IsFilled, IsPartlyFilled};
+ghost use Rattle.termwiz_line.specs.Filled.{AppendsCells, Fills, MakesVector, IsFilled, IsPartlyFilled};
 ghost use Rattle.termwiz_line.specs.Lending.{LendsLine};
 ghost use Rattle.termwiz_line.specs.LineEdits.{HasCells, IsEditedAt, IsTakenFrom};
 ghost use Rattle.termwiz_line.specs.LineFlags.{no_flags};
@@ -158,7 +158,7 @@ impl Line {
         ensures ok { OnOk result (Fills self.old (to - from) from cell.now seqno self.new) }
         ensures err { OnErr result (IsPartlyFilled self.old from to cell.now seqno self.new) }
         ensures appended { OnOk result (AppendsCells self.old from to cell.now self.new) }
-        ensures made { OnOk result (FillsElsewhere self.old from to cell.now self.new) }
+        ensures made { OnOk result (MakesVector self.old from to cell.now self.new) }
     {
         if cell.is_blank() {
             self.set_blanks(from, to, seqno)?;
@@ -189,7 +189,7 @@ impl Line {
         ensures ok { OnOk result (IsFilled self.old range.start range.end cell.now seqno self.new) }
         ensures err { OnErr result (IsPartlyFilled self.old range.start range.end cell.now seqno self.new) }
         ensures appended { OnOk result (AppendsCells self.old range.start range.end cell.now self.new) }
-        ensures made { OnOk result (FillsElsewhere self.old range.start range.end cell.now self.new) }
+        ensures made { OnOk result (MakesVector self.old range.start range.end cell.now self.new) }
     {
         if self.stays_empty(cell) {
             return Ok(());

@@ -177,10 +177,10 @@ fn going_on(alloc: Global) -> Result<Line, AllocError> {
     Line::from_text_with_wrapped_last_col(alloc, "aかb", &attrs, NUMBER, &UnicodeWidths)
 }
 
-// Letters, and a wide cell far behind.
+// Letters, and a wide cell at the end.
 fn long(alloc: Global) -> Result<Line, AllocError> {
     let mut line = copies(alloc, Piece::Letter, 70_000)?;
-    line.set_cell(65_535, Piece::Wide.cell(alloc)?, NUMBER)?;
+    line.set_cell(69_998, Piece::Wide.cell(alloc)?, NUMBER)?;
     Ok(line)
 }
 

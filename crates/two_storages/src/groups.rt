@@ -6,10 +6,15 @@ use crate::lists::Lists;
 use crate::longer::LONGER;
 use crate::pair::Pair;
 use crate::tables::{
-    EDITS, FEW_EDITS, FEW_WHOLES, MAIN_EDITS, MAIN_WHOLES, WHOLES, all_columns, asks, columns,
-    edits, picked,
+    EDITS, FEW_EDITS, FEW_WHOLES, MAIN_EDITS, WHOLES, all_columns, asks, columns, edits, picked,
 };
 use std::alloc::Global;
+
+// The greatest column at which longer lists ask.
+const FAR: usize = 11;
+
+// Columns at which longer lists edit.
+static NEAR_COLUMNS: [usize; 6] = [0, 1, 2, 3, 4, 5];
 
 // Columns of a long line.
 static FAR_COLUMNS: [usize; 7] = [0, 65_534, 65_535, 65_536, 69_999, 70_000, usize::MAX];
@@ -117,9 +122,9 @@ impl Run {
 
     fn two_calls_on(&mut self, beginning: Beginning) -> Result<(), Fault> {
         let begun = self.begin(beginning)?;
-        let columns = columns(self.alloc, begun.len())?;
-        let firsts = edits(self.alloc, columns.as_slice(), &MAIN_EDITS, &MAIN_WHOLES)?;
-        let lasts = edits(self.alloc, columns.as_slice(), &MAIN_EDITS, &WHOLES)?;
+        let columns = all_columns(self.alloc, begun.len())?;
+        let firsts = edits(self.alloc, columns.as_slice(), &MAIN_EDITS, &WHOLES)?;
+        let lasts = edits(self.alloc, columns.as_slice(), &EDITS, &WHOLES)?;
         let asks = asks(self.alloc, columns.as_slice())?;
         self.lists.two(&begun, firsts.as_slice(), lasts.as_slice(), asks.as_slice())
     }
@@ -148,12 +153,12 @@ impl Run {
 
     fn more_calls_on(&mut self, beginning: Beginning) -> Result<(), Fault> {
         let begun = self.begin(beginning)?;
-        let columns = columns(self.alloc, begun.len())?;
+        let columns = columns(self.alloc, FAR)?;
         let asks = asks(self.alloc, columns.as_slice())?;
         for list in &LONGER {
             self.lists.long(&begun, list, asks.as_slice())?;
         }
-        let edits = edits(self.alloc, columns.as_slice(), &MAIN_EDITS, &WHOLES)?;
+        let edits = edits(self.alloc, &NEAR_COLUMNS, &MAIN_EDITS, &WHOLES)?;
         self.picked_calls(&begun, edits.as_slice(), asks.as_slice())
     }
 

@@ -1,17 +1,20 @@
 //! Compares a line that stores its cells as a vector with one that stores them as one text wherever
 //! it can: every call of a line answers both alike.
 //!
-//! Lists of calls run on both, and the second one is compressed before the first call and after
-//! each. Then length, number, flags and visible cells are compared, `==` is asked, and what the
-//! call answers is compared. No list has a call behind a question, which changes nothing. Columns
-//! are those of the line that a list begins with, two behind it, and the greatest.
+//! A list of calls runs on both, and the second line is compressed before the first call and after
+//! each. Then forms, length, number, flags and visible cells are compared, `==` is asked, and what
+//! each call answers is compared, whichever calls stood before it. A question changes nothing, so
+//! no list has a call behind one.
 //!
-//! - one call: each call on each beginning
-//! - two calls: an edit, and an edit or any question behind it, with the cells that change most
-//! - three calls: two edits of a few, and one of these or any question
-//! - more calls: longer lists, with all questions after each edit
+//! - one call: each call with each cell, at all columns, two behind the line and the greatest, on
+//!   each beginning; a few of them on a line of 70,000 cells
+//! - two calls: an edit with the cells that change most, and any call behind it, at these columns,
+//!   on each beginning
+//! - three calls: two edits of a few, and one of these or any question, on three beginnings
+//! - more calls: longer lists, with all questions after each edit, on each beginning
 //!
-//! The first list that tells the lines apart ends the program.
+//! It tells how many lists each group has. The first list that tells the lines apart ends it, and
+//! is told in their place: `Differs(Walk) on Wide after At(1, Erase)`.
 #![tactic(auto)]
 
 mod answers;

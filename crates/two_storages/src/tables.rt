@@ -95,12 +95,14 @@ pub static MAIN_EDITS: [Edit; 25] = [
 ];
 
 /// The edits at a column that change most.
-pub static FEW_EDITS: [Edit; 6] = [
+pub static FEW_EDITS: [Edit; 8] = [
     Edit::Set(Piece::Wide),
     Edit::Insert(Piece::Letter, 4),
     Edit::Fill(Piece::Space),
     Edit::Erase,
+    Edit::Remove,
     Edit::Resize,
+    Edit::Split,
     Edit::Write(Piece::Wide),
 ];
 
@@ -134,19 +136,6 @@ pub static WHOLES: [Whole; 25] = [
 ];
 
 /// The edits of a whole line that change most.
-pub static MAIN_WHOLES: [Whole; 9] = [
-    Whole::Prune,
-    Whole::Append("か b"),
-    Whole::AppendOther,
-    Whole::Mark(true),
-    Whole::Mark(false),
-    Whole::DoubleHeightTop,
-    Whole::Direction(Direction::RightToLeft, true),
-    Whole::Zones,
-    Whole::Lend,
-];
-
-/// A few of them.
 pub static FEW_WHOLES: [Whole; 3] = [Whole::Prune, Whole::AppendOther, Whole::Mark(true)];
 
 static ASKS_AT: [AskAt; 10] = [

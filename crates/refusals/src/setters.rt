@@ -1,0 +1,87 @@
+//! Setters of attributes that take no memory yet.
+use crate::given::{bold, shared_link, true_color};
+use crate::stop::{Stop, holds, refused};
+use std::alloc::Global;
+use std::rc::Rc;
+use termwiz_cell::cell::{AttributeChange, CellAttributes};
+use termwiz_cell::hyperlink::Hyperlink;
+
+/// A call that gives attributes a box.
+#[derive(Clone, Copy)]
+enum Setter {
+    Foreground,
+    Background,
+    UnderlineColor,
+    Hyperlink,
+    ForegroundChange,
+    BackgroundChange,
+    HyperlinkChange,
+}
+
+const SETTERS: [Setter; 7] = [
+    Setter::Foreground,
+    Setter::Background,
+    Setter::UnderlineColor,
+    Setter::Hyperlink,
+    Setter::ForegroundChange,
+    Setter::BackgroundChange,
+    Setter::HyperlinkChange,
+];
+
+fn name(setter: Setter) -> &'static str {
+    match setter {
+        Setter::Foreground => "set_foreground",
+        Setter::Background => "set_background",
+        Setter::UnderlineColor => "set_underline_color",
+        Setter::Hyperlink => "set_hyperlink",
+        Setter::ForegroundChange => "apply_change of a foreground",
+        Setter::BackgroundChange => "apply_change of a background",
+        Setter::HyperlinkChange => "apply_change of a link",
+    }
+}
+
+pub fn play(alloc: Global) -> Result<(), Stop> {
+    for setter in SETTERS {
+        tried(alloc, setter)?;
+    }
+    Ok(())
+}
+
+fn tried(alloc: Global, setter: Setter) -> Result<(), Stop> {
+    let link = shared_link(alloc)?;
+    let mut attrs = bold();
+    if is_set(alloc, setter, &mut attrs, link) {
+        return holds(name(setter), has(setter, &attrs));
+    }
+    let stood = attrs == bold();
+    let again = is_set(alloc, setter, &mut attrs, shared_link(alloc)?);
+    refused(name(setter), stood && again && has(setter, &attrs))
+}
+
+fn is_set(alloc: Global, setter: Setter, attrs: &mut CellAttributes, link: Rc<Hyperlink>) -> bool {
+    match setter {
+        Setter::Foreground => attrs.set_foreground(alloc, true_color()).is_ok(),
+        Setter::Background => attrs.set_background(alloc, true_color()).is_ok(),
+        Setter::UnderlineColor => attrs.set_underline_color(alloc, true_color()).is_ok(),
+        Setter::Hyperlink => attrs.set_hyperlink(alloc, Some(link)).is_ok(),
+        _ => attrs.apply_change(alloc, &change(setter, link)).is_ok(),
+    }
+}
+
+fn change(setter: Setter, link: Rc<Hyperlink>) -> AttributeChange {
+    match setter {
+        Setter::ForegroundChange => AttributeChange::Foreground(true_color()),
+        Setter::BackgroundChange => AttributeChange::Background(true_color()),
+        _ => AttributeChange::Hyperlink(Some(link)),
+    }
+}
+
+// Whether the attributes have what the setter gives.
+fn has(setter: Setter, attrs: &CellAttributes) -> bool {
+    match setter {
+        Setter::Foreground | Setter::ForegroundChange => attrs.foreground() == true_color(),
+        Setter::Background | Setter::BackgroundChange => attrs.background() == true_color(),
+        Setter::UnderlineColor => attrs.underline_color() == true_color(),
+        Setter::Hyperlink | Setter::HyperlinkChange => attrs.hyperlink().is_some(),
+    }
+}

@@ -1,0 +1,169 @@
+//! Surfaces that are changed, and followed by a viewer.
+use crate::given::colored_pen;
+use crate::scene::{
+    Before, Kind, Scene, Shown, catches_up, frame_of, is_after_refused_list, is_as_before,
+    new_scene, shows_same, sprite, stand, texts,
+};
+use crate::stop::{Stop, holds, made, refused};
+use std::alloc::Global;
+use termwiz_cell::change::{Change, SequenceNo};
+use termwiz_surface::surface::SurfaceError;
+
+/// A call on a surface or its viewer.
+#[derive(Clone, Copy)]
+enum Turn {
+    Print,
+    Follow,
+    Scroll,
+    Draw,
+    Copy,
+    Resize,
+    Ask,
+    Read,
+}
+
+// One behind another.
+const TURNS: [Turn; 9] = [
+    Turn::Print,
+    Turn::Follow,
+    Turn::Scroll,
+    Turn::Draw,
+    Turn::Copy,
+    Turn::Resize,
+    Turn::Follow,
+    Turn::Ask,
+    Turn::Read,
+];
+
+/// Makes one call behind another on a surface of this kind. After a refused one the others go on.
+pub fn play(alloc: Global, kind: Kind) -> Result<(), Stop> {
+    let mut scene = new_scene(alloc, kind)?;
+    play_turns(alloc, &mut scene, &TURNS)
+}
+
+/// Makes each call on a new surface of this kind, at number 0.
+pub fn play_first(alloc: Global, kind: Kind) -> Result<(), Stop> {
+    for turn in TURNS {
+        let mut scene = new_scene(alloc, kind)?;
+        play_turns(alloc, &mut scene, &[turn])?;
+    }
+    Ok(())
+}
+
+fn play_turns(alloc: Global, scene: &mut Scene, turns: &[Turn]) -> Result<(), Stop> {
+    let mut met = Ok(());
+    for turn in turns {
+        met = later(met, take(alloc, scene, *turn));
+    }
+    later(met, followed(scene))
+}
+
+// What two calls come to, one behind another: what is wrong, or else the later refusal.
+fn later(first: Result<(), Stop>, second: Result<(), Stop>) -> Result<(), Stop> {
+    match (first, second) {
+        (Err(Stop::Wrong(call)), _) => Err(Stop::Wrong(call)),
+        (first, Ok(())) => first,
+        (_, second) => second,
+    }
+}
+
+fn take(alloc: Global, scene: &mut Scene, turn: Turn) -> Result<(), Stop> {
+    match turn {
+        Turn::Print => added("add_changes of texts", texts(alloc, scene.kind)?, scene),
+        Turn::Scroll => added("add_changes of a scroll", scroll(alloc)?, scene),
+        Turn::Follow => followed(scene),
+        Turn::Draw => drawn(sprite(alloc)?, scene),
+        Turn::Copy => copied(scene),
+        Turn::Resize => resized(scene),
+        Turn::Ask => asked(&scene.surface),
+        Turn::Read => read(&scene.surface),
+    }
+}
+
+// A scroll, and a pen in a true colour.
+fn scroll(alloc: Global) -> Result<Vec<Change>, Stop> {
+    let mut changes = Vec::new(alloc);
+    changes.push(Change::ScrollRegionUp {
+        first_row: 0,
+        region_size: 2,
+        scroll_count: 1,
+    })?;
+    changes.push(colored_pen())?;
+    Ok(changes)
+}
+
+fn added(call: &'static str, changes: Vec<Change>, scene: &mut Scene) -> Result<(), Stop> {
+    let before = frame_of(&scene.surface);
+    match scene.surface.add_changes(changes) {
+        Ok(_) => Ok(()),
+        Err(SurfaceError::Memory) => {
+            let stood = is_after_refused_list(&scene.surface, before);
+            refused(call, stood && catches_up(scene))
+        }
+        Err(_) => Err(Stop::Wrong(call)),
+    }
+}
+
+fn followed(scene: &mut Scene) -> Result<(), Stop> {
+    match scene.viewer.follow(&scene.surface) {
+        Ok(_) => holds("follow", made("screen", shows_same(scene))?),
+        Err(SurfaceError::Memory) => {
+            let stood = scene.viewer.last() == 0;
+            refused("follow", stood && catches_up(scene))
+        }
+        Err(_) => Err(Stop::Wrong("follow")),
+    }
+}
+
+fn drawn(sprite: Shown, scene: &mut Scene) -> Result<(), Stop> {
+    let before = stand(&scene.surface)?;
+    let answer = scene.surface.draw_from_screen(&sprite, 1, 0);
+    copied_to("draw_from_screen", answer, &before, scene)
+}
+
+fn copied(scene: &mut Scene) -> Result<(), Stop> {
+    let before = stand(&scene.surface)?;
+    let answer = scene.surface.copy_region(0, 0, 2, 1, 1, 1);
+    copied_to("copy_region", answer, &before, scene)
+}
+
+// After a refusal either nothing has changed, or the surface stands as after a list.
+fn copied_to(
+    call: &'static str,
+    answer: Result<SequenceNo, SurfaceError>,
+    before: &Before,
+    scene: &mut Scene,
+) -> Result<(), Stop> {
+    match answer {
+        Ok(_) => Ok(()),
+        Err(SurfaceError::Memory) => {
+            let stood = is_as_before(&scene.surface, before)
+                || is_after_refused_list(&scene.surface, before.frame);
+            refused(call, stood && catches_up(scene))
+        }
+        Err(_) => Err(Stop::Wrong(call)),
+    }
+}
+
+fn resized(scene: &mut Scene) -> Result<(), Stop> {
+    let before = stand(&scene.surface)?;
+    match scene.surface.resize(4, 2) {
+        Ok(()) => Ok(()),
+        Err(SurfaceError::Memory) => {
+            let stood = is_as_before(&scene.surface, &before);
+            let again = scene.surface.resize(4, 2).is_ok();
+            refused("resize", stood && again && catches_up(scene))
+        }
+        Err(_) => Err(Stop::Wrong("resize")),
+    }
+}
+
+fn asked(surface: &Shown) -> Result<(), Stop> {
+    let (number, _) = made("get_changes", surface.get_changes(1))?;
+    holds("get_changes", number == surface.current_seqno())
+}
+
+fn read(surface: &Shown) -> Result<(), Stop> {
+    let text = made("screen_chars_to_string", surface.screen_chars_to_string())?;
+    holds("screen_chars_to_string", !text.is_empty())
+}

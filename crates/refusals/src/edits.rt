@@ -178,21 +178,22 @@ fn stands(alloc: Global, form: Form, edit: Edit, edited: &Line) -> Result<bool, 
     let before = line(alloc, form)?;
     match edit {
         Edit::FillRange | Edit::Overlay => is_same_before(edited, &before, 2),
-        Edit::AppendLine => is_same_before(edited, &before, before.len()),
         _ => Ok(*edited == before),
     }
 }
 
-// Whether the edit can be made now, and gives what it gives on a new line. Of a line that was
-// appended to, some cells may stand twice.
+// Whether the edit can be made now, and gives what it gives on a new line.
 fn goes_on(alloc: Global, form: Form, edit: Edit, edited: Line) -> Result<bool, AllocError> {
     let mut edited = edited;
     let again = is_edited(&mut edited, edit, made_gift(alloc)?);
-    match edit {
-        Edit::AppendLine => Ok(again),
-        _ => {
-            let mut wanted = line(alloc, form)?;
-            Ok(again && is_edited(&mut wanted, edit, made_gift(alloc)?) && edited == wanted)
-        }
-    }
+    let wanted = wanted(alloc, form, edit)?;
+    Ok(again && edited == wanted)
+}
+
+// What the edit makes of a new line.
+fn wanted(alloc: Global, form: Form, edit: Edit) -> Result<Line, AllocError> {
+    let mut line = line(alloc, form)?;
+    let gift = made_gift(alloc)?;
+    let _ = is_edited(&mut line, edit, gift);
+    Ok(line)
 }

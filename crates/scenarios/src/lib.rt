@@ -14,8 +14,6 @@ mod diff_tables;
 #[cfg(test)]
 mod full_runs;
 #[cfg(test)]
-mod late;
-#[cfg(test)]
 mod runs;
 #[cfg(test)]
 mod runs_of_text;

@@ -14,6 +14,4 @@ mod links;
 #[cfg(test)]
 mod loans;
 #[cfg(test)]
-mod refusals;
-#[cfg(test)]
 mod widths;

@@ -139,7 +139,7 @@ fn has_new_number(surface: &Shown, before: SequenceNo) -> bool {
     if before == 0 {
         number == 0
     } else {
-        number - 1 == before
+        number > before && number - before == 1
     }
 }
 

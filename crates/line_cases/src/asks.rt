@@ -2,9 +2,10 @@
 ghost use Rattle.std.specs.Prelude.{IfOk};
 ghost use Rattle.termwiz_storage.specs.CellsLeft.{IsOfCell};
 
-use crate::fault::Fault;
 use crate::pens::{change_words, pen_words, text_lengths};
 use crate::{clicks, clusters, words};
+use case_words::fault::Fault;
+use case_words::words::{given, push_barred, told_number, told_truth};
 use std::alloc::Global;
 use std::borrow::CowStr;
 use termwiz_cell::cell::{Cell, CellAttributes};
@@ -15,20 +16,34 @@ use termwiz_storage::line::cellref::CellRef;
 pub fn answer(alloc: Global, line: &Line, words: &[&str]) -> Result<String, Fault> {
     match words {
         [name] => named(alloc, line, name),
-        ["cell", column] => cell(alloc, line, column),
-        ["pen", column] => pen(alloc, line, column),
-        ["click", column] => click(alloc, line, column),
-        ["changed", seqno] => changed(alloc, line, seqno),
-        _ => other_answer(alloc, line, words),
+        [name, number] => by_number(alloc, line, name, given(number)?),
+        ["copied", column, word] => copied(alloc, line, given(column)?, word),
+        [name, first, second] => by_two(alloc, line, name, given(first)?, given(second)?),
+        _ => Err(Fault::Bad),
     }
 }
 
-fn other_answer(alloc: Global, line: &Line, words: &[&str]) -> Result<String, Fault> {
-    match words {
-        ["columns", from, to] => columns(alloc, line, from, to),
-        ["alike", column, other] => alike(alloc, line, column, other),
-        ["copied", column, word] => copied(alloc, line, column, word),
-        ["turning-click", column] => clicks::turning(alloc, line, column),
+fn by_number(alloc: Global, line: &Line, name: &str, number: usize) -> Result<String, Fault> {
+    match name {
+        "cell" => cell(alloc, line, number),
+        "pen" => pen(alloc, line, number),
+        "click" => click(alloc, line, number),
+        "turning-click" => clicks::turning(alloc, line, number),
+        "changed" => told_truth(alloc, line.changed_since(number)),
+        _ => Err(Fault::Bad),
+    }
+}
+
+fn by_two(
+    alloc: Global,
+    line: &Line,
+    name: &str,
+    first: usize,
+    second: usize,
+) -> Result<String, Fault> {
+    match name {
+        "columns" => columns(alloc, line, first, second),
+        "alike" => alike(alloc, line, first, second),
         _ => Err(Fault::Bad),
     }
 }
@@ -46,11 +61,11 @@ fn named(alloc: Global, line: &Line, name: &str) -> Result<String, Fault> {
 
 fn value(alloc: Global, line: &Line, name: &str) -> Result<String, Fault> {
     match name {
-        "len" => number(alloc, line.len()),
-        "number" => number(alloc, line.current_seqno()),
-        "spaces" => truth(alloc, line.is_whitespace()),
-        "link" => truth(alloc, line.has_hyperlink()),
-        "marked" => truth(alloc, line.last_cell_was_wrapped()),
+        "len" => told_number(alloc, line.len()),
+        "number" => told_number(alloc, line.current_seqno()),
+        "spaces" => told_truth(alloc, line.is_whitespace()),
+        "link" => told_truth(alloc, line.has_hyperlink()),
+        "marked" => told_truth(alloc, line.last_cell_was_wrapped()),
         _ => reading(alloc, line, name),
     }
 }
@@ -64,14 +79,6 @@ fn reading(alloc: Global, line: &Line, name: &str) -> Result<String, Fault> {
         "lengths" => lengths(alloc, line),
         _ => clusters::answer(alloc, line, name),
     }
-}
-
-fn number(alloc: Global, number: usize) -> Result<String, Fault> {
-    Ok(format!(in alloc; "{number}")?)
-}
-
-fn truth(alloc: Global, truth: bool) -> Result<String, Fault> {
-    Ok(format!(in alloc; "{truth}")?)
 }
 
 fn stored(alloc: Global, line: &Line) -> Result<String, Fault> {
@@ -95,8 +102,7 @@ fn texts(alloc: Global, cells: &[Cell]) -> Result<String, Fault> {
 pub fn texts_apart(alloc: Global, cells: &[Cell]) -> Result<String, Fault> {
     let mut told = String::new(alloc);
     for cell in cells {
-        let text = cell.str();
-        write!(told, "{text}|")?;
+        push_barred(&mut told, cell.str())?;
     }
     Ok(told)
 }
@@ -106,16 +112,15 @@ fn pens(alloc: Global, line: &Line) -> Result<String, Fault> {
     let mut told = String::new(alloc);
     for cell in line.stored_cells().ok_or(Fault::Bad)? {
         let words = pen_words(alloc, cell.attrs())?;
-        told.push_str(words.as_str())?;
-        told.push('|')?;
+        push_barred(&mut told, words.as_str())?;
     }
     Ok(told)
 }
 
 // The pen of the stored cell at a column.
-fn pen(alloc: Global, line: &Line, column: &str) -> Result<String, Fault> {
+fn pen(alloc: Global, line: &Line, column: usize) -> Result<String, Fault> {
     let cells = line.stored_cells().ok_or(Fault::Bad)?;
-    let cell = cells.get(words::given(column)?).ok_or(Fault::Bad)?;
+    let cell = cells.get(column).ok_or(Fault::Bad)?;
     pen_words(alloc, cell.attrs())
 }
 
@@ -145,7 +150,7 @@ fn visible(alloc: Global, line: &Line) -> Result<String, Fault> {
     let mut told = String::new(alloc);
     for cell in line.visible_cells() {
         let word = cell_words(alloc, cell)?;
-        write!(told, "{word}|")?;
+        push_barred(&mut told, word.as_str())?;
     }
     Ok(told)
 }
@@ -163,22 +168,22 @@ fn place_words(alloc: Global, cell: CellRef<'_>) -> Result<String, Fault> {
     Ok(format!(in alloc; "{text} at {column}, width {width}")?)
 }
 
-fn cell(alloc: Global, line: &Line, column: &str) -> Result<String, Fault> {
-    match line.get_cell(words::given(column)?) {
+fn cell(alloc: Global, line: &Line, column: usize) -> Result<String, Fault> {
+    match line.get_cell(column) {
         Some(cell) => cell_words(alloc, cell),
         None => Ok(String::from_str(alloc, "none")?),
     }
 }
 
 // Whether the visible cells at two columns show the same.
-fn alike(alloc: Global, line: &Line, column: &str, other: &str) -> Result<String, Fault> {
+fn alike(alloc: Global, line: &Line, column: usize, other: usize) -> Result<String, Fault> {
     let (cell, other) = (visible_at(line, column)?, visible_at(line, other)?);
-    truth(alloc, cell.same_contents(&other))
+    told_truth(alloc, cell.same_contents(&other))
 }
 
 // Whether the copy of a visible cell is this cell, whether the visible one is its copy, and whether
 // it is blank.
-fn copied(alloc: Global, line: &Line, column: &str, word: &str) -> Result<String, Fault> {
+fn copied(alloc: Global, line: &Line, column: usize, word: &str) -> Result<String, Fault> {
     let visible = visible_at(line, column)?;
     copy_words(alloc, visible, &words::cell(alloc, word)?)
 }
@@ -192,10 +197,10 @@ fn copy_words(alloc: Global, visible: CellRef<'_>, cell: &Cell) -> Result<String
     Ok(format!(in alloc; "equal {equal}, back {back}, blank {blank}")?)
 }
 
-fn visible_at<'a>(line: &'a Line, column: &str) -> Result<CellRef<'a>, Fault>
+fn visible_at(line: &Line, column: usize) -> Result<CellRef<'_>, Fault>
     ensures { IfOk result IsOfCell }
 {
-    line.get_cell(words::given(column)?).ok_or(Fault::Bad)
+    line.get_cell(column).ok_or(Fault::Bad)
 }
 
 fn text(alloc: Global, line: &Line) -> Result<String, Fault> {
@@ -205,17 +210,12 @@ fn text(alloc: Global, line: &Line) -> Result<String, Fault> {
     }
 }
 
-fn columns(alloc: Global, line: &Line, from: &str, to: &str) -> Result<String, Fault> {
-    let text = line.columns_as_str(words::given(from)?..words::given(to)?)?;
+fn columns(alloc: Global, line: &Line, from: usize, to: usize) -> Result<String, Fault> {
+    let text = line.columns_as_str(from..to)?;
     Ok(format!(in alloc; "|{text}|")?)
 }
 
-fn changed(alloc: Global, line: &Line, seqno: &str) -> Result<String, Fault> {
-    truth(alloc, line.changed_since(words::given(seqno)?))
-}
-
-fn click(alloc: Global, line: &Line, column: &str) -> Result<String, Fault> {
-    let column = words::given(column)?;
+fn click(alloc: Global, line: &Line, column: usize) -> Result<String, Fault> {
     let range = line.compute_double_click_range(column, |text| text != " ");
     Ok(format!(in alloc; "{range:?}")?)
 }
@@ -231,8 +231,7 @@ fn size(alloc: Global, line: &Line) -> Result<String, Fault> {
     let mut told = String::new(alloc);
     for (holds, name) in sizes {
         if holds {
-            told.push_str(name)?;
-            told.push('|')?;
+            push_barred(&mut told, name)?;
         }
     }
     Ok(told)

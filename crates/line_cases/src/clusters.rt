@@ -1,6 +1,7 @@
 //! What is told of a line's clusters.
-use crate::fault::Fault;
 use crate::pens::pen_words;
+use case_words::fault::Fault;
+use case_words::words::push_barred;
 use std::alloc::Global;
 use termwiz_cell::emoji::UnicodeWidths;
 use termwiz_line::cellcluster::CellCluster;
@@ -68,13 +69,21 @@ fn copies(alloc: Global, clusters: &[CellCluster]) -> Result<String, Fault> {
     let mut told = String::new(alloc);
     for cluster in clusters {
         let same = is_copied(alloc, cluster)?;
-        write!(told, "{same}|")?;
+        push_barred(&mut told, if same { "true" } else { "false" })?;
     }
     Ok(told)
 }
 
 fn is_copied(alloc: Global, cluster: &CellCluster) -> Result<bool, Fault> {
     let copy = cluster.clone()?;
-    let told = cells_of_bytes(alloc, &copy)?;
-    Ok(told.as_str() == cells_of_bytes(alloc, cluster)?.as_str())
+    have_same_bytes(alloc, &copy, cluster)
+}
+
+fn have_same_bytes(
+    alloc: Global,
+    cluster: &CellCluster,
+    other: &CellCluster,
+) -> Result<bool, Fault> {
+    let told = cells_of_bytes(alloc, cluster)?;
+    Ok(told.as_str() == cells_of_bytes(alloc, other)?.as_str())
 }

@@ -47,7 +47,6 @@ mod asks;
 mod clicks;
 mod clusters;
 mod edits;
-mod fault;
 mod makes;
 mod pens;
 mod stage;

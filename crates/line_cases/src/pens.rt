@@ -1,6 +1,7 @@
 //! What is told of attributes and of changes.
-use crate::fault::Fault;
 use crate::words::pen;
+use case_words::fault::Fault;
+use case_words::words::push_barred;
 use std::alloc::Global;
 use termwiz_cell::cell::{CellAttributes, SemanticType};
 use termwiz_cell::change::Change;
@@ -62,8 +63,7 @@ pub fn change_words(alloc: Global, changes: &[Change]) -> Result<String, Fault> 
     let mut told = String::new(alloc);
     for change in changes {
         let word = change_word(alloc, change)?;
-        told.push_str(word.as_str())?;
-        told.push('|')?;
+        push_barred(&mut told, word.as_str())?;
     }
     Ok(told)
 }

@@ -1,9 +1,9 @@
 //! The lines of a case, and what the script does with them.
 use crate::asks::{answer, shown, texts_apart};
 use crate::edits::edit;
-use crate::fault::Fault;
 use crate::makes::make;
-use crate::words::given;
+use case_words::fault::Fault;
+use case_words::words::{given, pair, told_truth};
 use std::alloc::{AllocError, Global};
 use std::mem;
 use termwiz_cell::cell::Cell;
@@ -127,13 +127,13 @@ impl Stage {
     }
 
     fn add_part(&mut self, from: &str, to: &str) -> Result<(), Fault> {
-        let (from, to) = (given(from)?, given(to)?);
+        let (from, to) = pair(from, to)?;
         let part = self.own()?.columns_as_line(from..to)?;
         self.add(part)
     }
 
     fn split(&mut self, column: &str, seqno: &str) -> Result<(), Fault> {
-        let (column, seqno) = (given(column)?, given(seqno)?);
+        let (column, seqno) = pair(column, seqno)?;
         let rest = self.own_mut()?.split_off(column, seqno)?;
         self.add(rest)
     }
@@ -156,7 +156,7 @@ impl Stage {
 
     // Tells the pieces into which the line is wrapped.
     fn wrap(&mut self, width: &str, seqno: &str) -> Result<(), Fault> {
-        let (width, seqno) = (given(width)?, given(seqno)?);
+        let (width, seqno) = pair(width, seqno)?;
         let empty = Line::new(self.alloc, seqno);
         let line = mem::replace(self.own_mut()?, empty);
         for piece in line.wrap(width, seqno)? {
@@ -200,7 +200,7 @@ impl Stage {
 
     fn same(&self, number: &str) -> Result<String, Fault> {
         let same = *self.own()? == *self.other(number)?;
-        Ok(format!(in self.alloc; "{same}")?)
+        told_truth(self.alloc, same)
     }
 
     fn zones(&mut self) -> Result<String, Fault> {
@@ -215,7 +215,7 @@ impl Stage {
     // Whether the zones are those of a copy, which keeps none.
     fn fresh(&mut self) -> Result<String, Fault> {
         let fresh = has_own_zones(self.own_mut()?)?;
-        Ok(format!(in self.alloc; "{fresh}")?)
+        told_truth(self.alloc, fresh)
     }
 
     // The texts of the cells that are lent for writing.

@@ -1,8 +1,8 @@
-//! Why a line cannot be played.
+//! Why a line can't be played.
 use std::alloc::{AllocError, AllocFailed};
 
-/// Why a line cannot be played.
-#[derive(Clone, Copy, PartialEq, Eq, Debug)]
+/// Why a line can't be played.
+#[derive(Clone, Copy)]
 pub enum Fault {
     /// It is no command, or names nothing that stands.
     Bad,
@@ -12,7 +12,7 @@ pub enum Fault {
 
 impl From<AllocError> for Fault {
     ghost use Rattle.std.specs.Prelude.{◌≡◌};
-    ghost use Rattle.line_cases.specs.declared.fault.Fault.TheVariants.{Memory};
+    ghost use Rattle.case_words.specs.declared.fault.Fault.TheVariants.{Memory};
 
     ghost from_gives = { λ _ error. error ≡ Memory };
 
@@ -23,7 +23,7 @@ impl From<AllocError> for Fault {
 
 impl<T: Drop> From<AllocFailed<T>> for Fault {
     ghost use Rattle.std.specs.Prelude.{◌≡◌};
-    ghost use Rattle.line_cases.specs.declared.fault.Fault.TheVariants.{Memory};
+    ghost use Rattle.case_words.specs.declared.fault.Fault.TheVariants.{Memory};
 
     ghost from_gives = { λ _ error. error ≡ Memory };
 

@@ -1,0 +1,113 @@
+//! Attributes by their words.
+use crate::attributes::{attribute, link};
+use crate::fault::Fault;
+use crate::words::{color, named};
+use std::alloc::{AllocError, Global};
+use termwiz_cell::cell::{
+    Blink, CellAttributes, Intensity, SemanticType, Underline, VerticalAlign,
+};
+use termwiz_cell::color::ColorAttribute;
+
+const SEMANTIC_TYPES: [(&str, SemanticType); 3] = [
+    ("output", SemanticType::Output),
+    ("input", SemanticType::Input),
+    ("prompt", SemanticType::Prompt),
+];
+
+/// The semantic type of this name.
+pub fn semantic_type(word: &str) -> Result<SemanticType, Fault> {
+    named(&SEMANTIC_TYPES, word)
+}
+
+/// What the words make of blank attributes, with `between` between them.
+/// `half`, `rapid`, `curly`, `sub`, `italic`, `reverse`, `strike`, `invisible`, `wrapped`,
+/// `overline`, `link`, a semantic type, `fg=C`, `bg=C` and `line=C` set one; `copy`, `sgr`, `clear`
+/// and `default` put in its place its copy, its copy without the link, the cleared one and the
+/// default one; `+` and an attribute applies a copy of that change.
+pub fn pen(alloc: Global, words: &str, between: char) -> Result<CellAttributes, Fault> {
+    let mut pen = CellAttributes::blank();
+    for word in words.split(between) {
+        put(alloc, &mut pen, word)?;
+    }
+    Ok(pen)
+}
+
+fn put(alloc: Global, pen: &mut CellAttributes, word: &str) -> Result<(), Fault> {
+    if let Some(change) = word.strip_prefix('+') {
+        return apply(alloc, pen, change);
+    }
+    match word.split_once('=') {
+        Some((name, value)) => set_color(alloc, pen, name, color(value)?),
+        None => replace(alloc, pen, word),
+    }
+}
+
+fn apply(alloc: Global, pen: &mut CellAttributes, word: &str) -> Result<(), Fault> {
+    let change = attribute(alloc, word)?.clone()?;
+    pen.apply_change(alloc, &change)?;
+    Ok(())
+}
+
+fn set_color(
+    alloc: Global,
+    pen: &mut CellAttributes,
+    name: &str,
+    color: ColorAttribute,
+) -> Result<(), Fault> {
+    match name {
+        "fg" => pen.set_foreground(alloc, color)?,
+        "bg" => pen.set_background(alloc, color)?,
+        "line" => pen.set_underline_color(alloc, color)?,
+        _ => return Err(Fault::Bad),
+    };
+    Ok(())
+}
+
+fn replace(alloc: Global, pen: &mut CellAttributes, word: &str) -> Result<(), Fault> {
+    match word {
+        "copy" => put_made(pen.clone(), pen),
+        "sgr" => put_made(pen.clone_sgr_only(alloc), pen),
+        "default" => put_made(Ok(CellAttributes::default()), pen),
+        "clear" => Ok(pen.clear()),
+        "link" => set_link(alloc, pen),
+        _ => set_style(pen, word),
+    }
+}
+
+fn put_made(
+    made: Result<CellAttributes, AllocError>,
+    pen: &mut CellAttributes,
+) -> Result<(), Fault> {
+    *pen = made?;
+    Ok(())
+}
+
+fn set_link(alloc: Global, pen: &mut CellAttributes) -> Result<(), Fault> {
+    let link = link(alloc)?;
+    pen.set_hyperlink(alloc, Some(link))?;
+    Ok(())
+}
+
+fn set_style(pen: &mut CellAttributes, word: &str) -> Result<(), Fault> {
+    match word {
+        "half" => pen.set_intensity(Intensity::Half),
+        "rapid" => pen.set_blink(Blink::Rapid),
+        "curly" => pen.set_underline(Underline::Curly),
+        "sub" => pen.set_vertical_align(VerticalAlign::SubScript),
+        _ => return set_flag(pen, word),
+    };
+    Ok(())
+}
+
+fn set_flag(pen: &mut CellAttributes, word: &str) -> Result<(), Fault> {
+    match word {
+        "italic" => pen.set_italic(true),
+        "reverse" => pen.set_reverse(true),
+        "strike" => pen.set_strikethrough(true),
+        "invisible" => pen.set_invisible(true),
+        "wrapped" => pen.set_wrapped(true),
+        "overline" => pen.set_overline(true),
+        _ => pen.set_semantic_type(semantic_type(word)?),
+    };
+    Ok(())
+}

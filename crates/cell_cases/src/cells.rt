@@ -1,7 +1,8 @@
 //! What is told of cells.
-use crate::fault::Fault;
 use crate::pens::pen;
-use crate::words::{first, number, sides, text, told};
+use crate::words::text;
+use case_words::fault::Fault;
+use case_words::words::{first, given, sides, told_truth};
 use std::alloc::Global;
 use termwiz_cell::cell::{Cell, CellAttributes};
 use termwiz_cell::emoji::{OneColumn, UnicodeWidths, Widths};
@@ -11,7 +12,7 @@ pub fn answer(alloc: Global, words: &str) -> Result<String, Fault> {
     match what {
         "show" => show(alloc, words),
         "form" => form(alloc, words),
-        "same" => told(alloc, is_same(alloc, words)?),
+        "same" => told_truth(alloc, is_same(alloc, words)?),
         "debug" => debug(alloc, words),
         _ => Err(Fault::Bad),
     }
@@ -19,6 +20,10 @@ pub fn answer(alloc: Global, words: &str) -> Result<String, Fault> {
 
 fn show(alloc: Global, words: &str) -> Result<String, Fault> {
     let cell = cell(alloc, words)?;
+    shown(alloc, &cell)
+}
+
+fn shown(alloc: Global, cell: &Cell) -> Result<String, Fault> {
     let (text, width, blank) = (cell.str(), cell.width(), cell.is_blank());
     Ok(format!(in alloc; "\"{text}\", columns {width}, blank {blank}")?)
 }
@@ -79,7 +84,7 @@ fn of_char<W: Widths>(alloc: Global, text: &str, widths: &W) -> Result<Cell, Fau
 }
 
 fn of_width(alloc: Global, text: &str, width: &str) -> Result<Cell, Fault> {
-    let width = number(width)?.min(2);
+    let width = given(width)?.min(2);
     let attrs = CellAttributes::blank();
     Ok(Cell::new_grapheme_with_width(alloc, text, width, attrs)?)
 }

@@ -1,9 +1,10 @@
 //! What is told of changes.
-use crate::attributes::attribute;
-use crate::fault::Fault;
 use crate::pens::pen;
-use crate::shapes::{line_attribute, shape};
-use crate::words::{color, first, number, sides, text, told};
+use crate::words::text;
+use case_words::attributes::attribute;
+use case_words::fault::Fault;
+use case_words::shapes::{line_attribute, shape};
+use case_words::words::{color, first, given, sides, told_truth};
 use std::alloc::Global;
 use termwiz_cell::change::{Change, CursorVisibility, Position, SEQ_ZERO};
 
@@ -11,14 +12,18 @@ pub fn answer(alloc: Global, words: &str) -> Result<String, Fault> {
     let (what, words) = first(words)?;
     match what {
         "show" => show(alloc, words),
-        "same" => told(alloc, is_same(alloc, words)?),
-        "blinks" => told(alloc, shape(words)?.is_blinking()),
+        "same" => told_truth(alloc, is_same(alloc, words)?),
+        "blinks" => told_truth(alloc, shape(words)?.is_blinking()),
         _ => Err(Fault::Bad),
     }
 }
 
 fn show(alloc: Global, words: &str) -> Result<String, Fault> {
     let change = change(alloc, words)?;
+    shown(alloc, &change)
+}
+
+fn shown(alloc: Global, change: &Change) -> Result<String, Fault> {
     let text = if change.is_text() {
         Some(change.text())
     } else {
@@ -91,7 +96,7 @@ fn of_name(kind: &str, word: &str) -> Result<Change, Fault> {
 fn numbers(words: &str) -> Result<(usize, usize, usize), Fault> {
     let (first_row, words) = first(words)?;
     let (size, count) = first(words)?;
-    Ok((number(first_row)?, number(size)?, number(count)?))
+    Ok((given(first_row)?, given(size)?, given(count)?))
 }
 
 fn scroll(way: &str, numbers: (usize, usize, usize)) -> Result<Change, Fault> {

@@ -1,6 +1,6 @@
 //! What is told of colours.
-use crate::fault::Fault;
 use crate::words::text;
+use case_words::fault::Fault;
 use std::alloc::Global;
 use termwiz_cell::color::RgbColor;
 
@@ -12,8 +12,12 @@ pub fn answer(alloc: Global, word: &str) -> Result<String, Fault> {
 }
 
 fn show(alloc: Global, color: RgbColor) -> Result<String, Fault> {
-    let parts = color.to_tuple_rgb8();
     let short = color.to_rgb_string(alloc)?;
     let long = color.to_x11_16bit_rgb_string(alloc)?;
+    shown(alloc, color, short.as_str(), long.as_str())
+}
+
+fn shown(alloc: Global, color: RgbColor, short: &str, long: &str) -> Result<String, Fault> {
+    let parts = color.to_tuple_rgb8();
     Ok(format!(in alloc; "{parts:?}, {short}, {long}")?)
 }

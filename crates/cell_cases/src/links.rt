@@ -1,6 +1,6 @@
 //! What is told of links.
-use crate::fault::Fault;
-use crate::words::{first, sides};
+use case_words::fault::Fault;
+use case_words::words::{first, sides};
 use std::alloc::Global;
 use std::collections::BTreeMap;
 use termwiz_cell::hyperlink::Hyperlink;
@@ -17,7 +17,10 @@ pub fn answer(alloc: Global, words: &str) -> Result<String, Fault> {
 
 /// The link of a sequence's parts, or why it is none.
 fn read(alloc: Global, words: &str) -> Result<String, Fault> {
-    let parts: Vec<&[u8]> = words.split(';').map(part).collect(alloc)?;
+    let mut parts = Vec::new(alloc);
+    for word in words.split(';') {
+        parts.push(part(word))?;
+    }
     match Hyperlink::parse(alloc, parts.as_slice()) {
         Ok(Some(link)) => show(alloc, &link),
         Ok(None) => Ok("none".to_owned(alloc)?),
@@ -45,10 +48,15 @@ fn show(alloc: Global, link: &Hyperlink) -> Result<String, Fault> {
 
 fn same(alloc: Global, words: &str) -> Result<String, Fault> {
     let (one, other) = sides(words)?;
+    let (same, params) = are_same(alloc, one, other)?;
+    Ok(format!(in alloc; "{same}, params {params}")?)
+}
+
+// Whether two links are equal, and whether their params are.
+fn are_same(alloc: Global, one: &str, other: &str) -> Result<(bool, bool), Fault> {
     let one = link(alloc, one)?;
     let other = link(alloc, other)?;
-    let (same, params) = (one == other, one.params() == other.params());
-    Ok(format!(in alloc; "{same}, params {params}")?)
+    Ok((one == other, one.params() == other.params()))
 }
 
 fn link(alloc: Global, words: &str) -> Result<Hyperlink, Fault> {
@@ -84,8 +92,17 @@ fn with_params(alloc: Global, words: &str) -> Result<Hyperlink, Fault> {
 fn params(alloc: Global, pairs: &str) -> Result<BTreeMap<String, String>, Fault> {
     let mut params = BTreeMap::new(alloc);
     for pair in pairs.split(':') {
-        let (key, value) = pair.split_once('=').ok_or(Fault::Bad)?;
-        params.insert(key.to_owned(alloc)?, value.to_owned(alloc)?)?;
+        add_param(alloc, &mut params, pair)?;
     }
     Ok(params)
+}
+
+fn add_param(
+    alloc: Global,
+    params: &mut BTreeMap<String, String>,
+    pair: &str,
+) -> Result<(), Fault> {
+    let (key, value) = pair.split_once('=').ok_or(Fault::Bad)?;
+    params.insert(key.to_owned(alloc)?, value.to_owned(alloc)?)?;
+    Ok(())
 }

@@ -39,14 +39,11 @@
 //!   character is shown alone; `white TEXT`: whether it is white space, and its first character.
 #![tactic(auto)]
 
-mod attributes;
 mod cells;
 mod changes;
 mod colors;
-mod fault;
 mod links;
 mod pens;
-mod shapes;
 mod stage;
 mod widths;
 mod words;

@@ -1,12 +1,9 @@
 //! What is told of attributes.
-use crate::attributes::{attribute, link};
-use crate::fault::Fault;
-use crate::words::{color, first, sides};
-use std::alloc::{AllocError, Global};
-use termwiz_cell::cell::{
-    Blink, CellAttributes, Intensity, SemanticType, Underline, VerticalAlign,
-};
-use termwiz_cell::color::ColorAttribute;
+use case_words::fault::Fault;
+use case_words::pens;
+use case_words::words::{first, sides};
+use std::alloc::Global;
+use termwiz_cell::cell::CellAttributes;
 
 pub fn answer(alloc: Global, words: &str) -> Result<String, Fault> {
     let (what, words) = first(words)?;
@@ -19,103 +16,28 @@ pub fn answer(alloc: Global, words: &str) -> Result<String, Fault> {
 
 fn show(alloc: Global, words: &str) -> Result<String, Fault> {
     let pen = pen(alloc, words)?;
+    shown(alloc, &pen)
+}
+
+fn shown(alloc: Global, pen: &CellAttributes) -> Result<String, Fault> {
     let blank = pen.is_blank();
     Ok(format!(in alloc; "{pen:?}, blank {blank}")?)
 }
 
 fn same(alloc: Global, words: &str) -> Result<String, Fault> {
     let (one, other) = sides(words)?;
+    let (same, bits) = are_same(alloc, one, other)?;
+    Ok(format!(in alloc; "{same}, bits {bits}")?)
+}
+
+// Whether two pens are equal, and whether all but their colours and links are.
+fn are_same(alloc: Global, one: &str, other: &str) -> Result<(bool, bool), Fault> {
     let one = pen(alloc, one)?;
     let other = pen(alloc, other)?;
-    let (same, bits) = (one == other, one.attribute_bits_equal(&other));
-    Ok(format!(in alloc; "{same}, bits {bits}")?)
+    Ok((one == other, one.attribute_bits_equal(&other)))
 }
 
 /// What the words make of blank attributes.
 pub fn pen(alloc: Global, words: &str) -> Result<CellAttributes, Fault> {
-    let mut pen = CellAttributes::blank();
-    for word in words.split(' ') {
-        put(alloc, &mut pen, word)?;
-    }
-    Ok(pen)
-}
-
-fn put(alloc: Global, pen: &mut CellAttributes, word: &str) -> Result<(), Fault> {
-    if let Some(change) = word.strip_prefix('+') {
-        return apply(alloc, pen, change);
-    }
-    match word.split_once('=') {
-        Some((name, value)) => set_color(alloc, pen, name, color(value)?),
-        None => replace(alloc, pen, word),
-    }
-}
-
-fn apply(alloc: Global, pen: &mut CellAttributes, word: &str) -> Result<(), Fault> {
-    let change = attribute(alloc, word)?.clone()?;
-    pen.apply_change(alloc, &change)?;
-    Ok(())
-}
-
-fn set_color(
-    alloc: Global,
-    pen: &mut CellAttributes,
-    name: &str,
-    color: ColorAttribute,
-) -> Result<(), Fault> {
-    match name {
-        "fg" => pen.set_foreground(alloc, color)?,
-        "bg" => pen.set_background(alloc, color)?,
-        "line" => pen.set_underline_color(alloc, color)?,
-        _ => return Err(Fault::Bad),
-    };
-    Ok(())
-}
-
-fn replace(alloc: Global, pen: &mut CellAttributes, word: &str) -> Result<(), Fault> {
-    match word {
-        "copy" => put_made(pen.clone(), pen),
-        "sgr" => put_made(pen.clone_sgr_only(alloc), pen),
-        "default" => put_made(Ok(CellAttributes::default()), pen),
-        "clear" => Ok(pen.clear()),
-        "link" => set_link(alloc, pen),
-        _ => set_style(pen, word),
-    }
-}
-
-fn put_made(
-    made: Result<CellAttributes, AllocError>,
-    pen: &mut CellAttributes,
-) -> Result<(), Fault> {
-    *pen = made?;
-    Ok(())
-}
-
-fn set_link(alloc: Global, pen: &mut CellAttributes) -> Result<(), Fault> {
-    let link = link(alloc)?;
-    pen.set_hyperlink(alloc, Some(link))?;
-    Ok(())
-}
-
-fn set_style(pen: &mut CellAttributes, word: &str) -> Result<(), Fault> {
-    match word {
-        "half" => pen.set_intensity(Intensity::Half),
-        "rapid" => pen.set_blink(Blink::Rapid),
-        "curly" => pen.set_underline(Underline::Curly),
-        "prompt" => pen.set_semantic_type(SemanticType::Prompt),
-        "sub" => pen.set_vertical_align(VerticalAlign::SubScript),
-        _ => return set_flag(pen, word),
-    };
-    Ok(())
-}
-
-fn set_flag(pen: &mut CellAttributes, word: &str) -> Result<(), Fault> {
-    match word {
-        "reverse" => pen.set_reverse(true),
-        "strike" => pen.set_strikethrough(true),
-        "invisible" => pen.set_invisible(true),
-        "wrapped" => pen.set_wrapped(true),
-        "overline" => pen.set_overline(true),
-        _ => return Err(Fault::Bad),
-    };
-    Ok(())
+    pens::pen(alloc, words, ' ')
 }

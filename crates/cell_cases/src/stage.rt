@@ -1,6 +1,6 @@
 //! Lines, and what is told of each.
-use crate::fault::Fault;
 use crate::{cells, changes, colors, links, pens, widths};
+use case_words::fault::Fault;
 use std::alloc::Global;
 
 /// What was told so far.

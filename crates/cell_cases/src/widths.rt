@@ -1,6 +1,7 @@
 //! What is told of widths, forms and white space.
-use crate::fault::Fault;
-use crate::words::{first, text};
+use crate::words::text;
+use case_words::fault::Fault;
+use case_words::words::first;
 use std::alloc::Global;
 use termwiz_cell::emoji::{
     LATEST_UNICODE_VERSION, OneColumn, Presentation, UnicodeWidths, grapheme_column_width,

@@ -1,40 +1,8 @@
-//! Values by their words.
-use crate::fault::Fault;
-use std::alloc::Global;
-use termwiz_cell::color::{ColorAttribute, RgbColor};
-
-/// The two sides of a question that compares.
-pub fn sides(words: &str) -> Result<(&str, &str), Fault> {
-    words.split_once(" | ").ok_or(Fault::Bad)
-}
-
-/// The first word, and what follows it.
-pub fn first(words: &str) -> Result<(&str, &str), Fault> {
-    words.split_once(' ').ok_or(Fault::Bad)
-}
-
-/// The number that a word writes.
-pub fn number(word: &str) -> Result<usize, Fault> {
-    word.parse().map_err(|_| Fault::Bad)
-}
-
-/// The colour that a word names.
-pub fn color(word: &str) -> Result<ColorAttribute, Fault> {
-    match word {
-        "default" => Ok(ColorAttribute::Default),
-        "true" => Ok(ColorAttribute::TrueColorWithPaletteFallback(RgbColor::default(), 7)),
-        _ => palette_color(word),
-    }
-}
-
-fn palette_color(word: &str) -> Result<ColorAttribute, Fault> {
-    let index = word.parse().map_err(|_| Fault::Bad)?;
-    Ok(ColorAttribute::PaletteIndex(index))
-}
+//! Texts by their words.
 
 /// The text between quotes. The pictures of control characters stand for these, in the texts here.
 pub fn text(word: &str) -> &str {
-    match word.trim_matches('"') {
+    match unquoted(word) {
         "␊" => "\n",
         "␍" => "\r",
         "␉" => "\t",
@@ -44,7 +12,7 @@ pub fn text(word: &str) -> &str {
     }
 }
 
-/// The word of an answer.
-pub fn told(alloc: Global, answer: bool) -> Result<String, Fault> {
-    Ok(format!(in alloc; "{answer}")?)
+fn unquoted(word: &str) -> &str {
+    let word = word.strip_prefix('"').unwrap_or(word);
+    word.strip_suffix('"').unwrap_or(word)
 }

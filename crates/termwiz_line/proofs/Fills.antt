@@ -7,7 +7,7 @@ use Rattle.termwiz_storage.specs.Stored.{fill, set_cell}
 use Rattle.termwiz_storage.proofs.Fill.{length-fill}
 use Rattle.termwiz_storage.proofs.Widths.{columns-narrow, columns-wide}
 use Rattle.termwiz_line.specs.LineValue.{LineValue, IsEdited, IsUnchanged}
-use Rattle.termwiz_line.specs.Filled.{Fills, taken, AppendsCells, MakesVector, IsPartlyFilled}
+use Rattle.termwiz_line.specs.Filled.{AppendsCells, Fills, IsPartlyFilled, MakesVector, taken}
 
 -- one more column
 pub fill-more : (n x : ℕ) (c : CellValue) (cs : List CellValue) → fill (suc n) x c cs ≡ set_cell (x + n) c (fill n x c cs)

@@ -7,7 +7,7 @@ ghost use Rattle.termwiz_cell.specs.Attributes.{needs_box};
 ghost use Rattle.termwiz_cell.specs.CellValue.{blank, blank_of, cell_of};
 ghost use Rattle.termwiz_storage.specs.Stored.{set_cell, set_run, visible};
 ghost use Rattle.termwiz_storage.specs.Edits.{columns_between, erased, erased_within, inserted, removed, with_halves};
-ghost use Rattle.termwiz_line.specs.Filled.{AppendsCells, Fills, MakesVector, IsFilled, IsPartlyFilled};
+ghost use Rattle.termwiz_line.specs.Filled.{AppendsCells, Fills, IsFilled, IsPartlyFilled, MakesVector};
 ghost use Rattle.termwiz_line.specs.Lending.{LendsLine};
 ghost use Rattle.termwiz_line.specs.LineEdits.{HasCells, IsEditedAt, IsTakenFrom};
 ghost use Rattle.termwiz_line.specs.LineFlags.{no_flags};

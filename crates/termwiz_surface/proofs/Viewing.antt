@@ -82,13 +82,15 @@ module _ {W : Type 0} where
   FollowsTo-refused f measure s old mid new n cs Numbers fitted answer h =
       (lost_alike old mid new (fitted_widths old s mid fitted) (fitted_full old s mid fitted) (fitted_number old s mid fitted) h.0 h.1.2, no_room (f s.widths) s old mid cs fitted answer h.1.1)
   FollowsTo-refused f measure s old mid new n cs Memory fitted answer h =
-      let frame = h.1.3 in
-      (record {
-        last = h.0;
-        widths = frame.widths ∙ fitted_widths old s mid fitted;
-        full = frame.full ∙ fitted_full old s mid fitted;
-        number = omega (arith, ap next_number frame.log, restarted_number mid.surface.log, fitted_number old s mid fitted);
-      }, has_room (f s.widths) s old mid cs fitted answer h.1.1)
+      let frame = h.1.3 in (
+        record {
+          last = h.0;
+          widths = frame.widths ∙ fitted_widths old s mid fitted;
+          full = frame.full ∙ fitted_full old s mid fitted;
+          number = omega (arith, ap next_number frame.log, restarted_number mid.surface.log, fitted_number old s mid fitted);
+        },
+        has_room (f s.widths) s old mid cs fitted answer h.1.1,
+      )
 
   -- nothing is got
   pub FollowsTo-missed : (f : W → List ℕ → ℕ) (measure : List ℕ → ℕ) (s : SurfaceValue W) (old mid new : ViewerValue W) (e : SurfaceError) → Fetches measure s old (Err e) mid → new ≡ forgetful mid → FollowsTo f s old (Err e) new

@@ -1,4 +1,5 @@
-//! Worked examples across the crates, as tests, and what they share.
+//! Tests of what no worked case tells, of all crates, and what they share. They stand in one crate,
+//! since a crate with tests is checked twice.
 #![tactic(auto)]
 
 #[cfg(test)]
@@ -7,6 +8,7 @@ mod callers;
 mod canvas;
 #[cfg(test)]
 mod carried;
+mod cells;
 #[cfg(test)]
 mod copies;
 #[cfg(test)]
@@ -14,10 +16,14 @@ mod diff_tables;
 #[cfg(test)]
 mod full_runs;
 #[cfg(test)]
+mod lines;
+#[cfg(test)]
 mod runs;
 #[cfg(test)]
 mod runs_of_text;
 #[cfg(test)]
 mod steps;
+#[cfg(test)]
+mod texts_cut;
 #[cfg(test)]
 mod widths;

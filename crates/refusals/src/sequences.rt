@@ -18,7 +18,7 @@ fn sequence(alloc: Global) -> ChangeSequence<UnicodeWidths> {
 // Whether the cursor and the rows of a sequence to which nothing was added are told.
 fn is_new(sequence: &ChangeSequence<UnicodeWidths>) -> bool {
     let (x, y) = sequence.current_cursor_position();
-    x == 0 && y == 0 && sequence.render_height() == 1
+    x == 0 && y == 0 && sequence.render_height() == 0
 }
 
 fn added(alloc: Global) -> Result<(), Stop> {

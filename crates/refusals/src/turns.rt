@@ -147,11 +147,11 @@ fn copied_to(
 
 fn resized(scene: &mut Scene) -> Result<(), Stop> {
     let before = stand(&scene.surface)?;
-    match scene.surface.resize(4, 2) {
+    match scene.surface.resize(2, 3) {
         Ok(()) => Ok(()),
         Err(SurfaceError::Memory) => {
             let stood = is_as_before(&scene.surface, &before);
-            let again = scene.surface.resize(4, 2).is_ok();
+            let again = scene.surface.resize(2, 3).is_ok();
             refused("resize", stood && again && catches_up(scene))
         }
         Err(_) => Err(Stop::Wrong("resize")),

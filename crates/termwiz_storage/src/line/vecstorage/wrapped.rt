@@ -32,15 +32,18 @@ impl VecStorage {
         self.used = self.cells.len();
     }
 
-    // Whether the cell before column i hides it.
+    // Whether the cell before column i hides it. Of wide cells in a row the first hides the next,
+    // which then hides none, and so on in turn.
     fn is_hidden(&self, i: usize) -> bool
         requires { i ≤ length self.now }
         ensures value { result ≡ hides self.now i }
         ensures some { IsTrue result → 0 < i }
     {
         let mut hidden = false;
-        for k in 0..i {
-            hidden = self.cells[k].width() > 1 && !hidden;
+        let mut first = i;
+        while first > 0 && self.cells[first - 1].width() > 1 {
+            hidden = !hidden;
+            first -= 1;
         }
         hidden
     }

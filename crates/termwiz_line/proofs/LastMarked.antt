@@ -6,6 +6,7 @@ use Rattle.termwiz_cell.specs.CellValue.{CellValue, columns}
 use Rattle.termwiz_storage.specs.Stored.{visible, visible_from, padded}
 use Rattle.termwiz_storage.specs.Wrapped.{last_index, with_wrapped, wrapped_from, set_last_wrapped}
 use Rattle.termwiz_storage.proofs.Halves.{length-padded}
+use Rattle.termwiz_storage.proofs.LastCell.{last_index-cons, walk_none}
 use Rattle.termwiz_line.specs.Wrapped.{last_is_wrapped}
 
 -- there is a last cell, and b tells whether it is marked
@@ -18,17 +19,6 @@ last_is b [] h = elim h [ ]
 last_is b (p ∷ []) (here e) = e
 last_is b (p ∷ []) (later h) = elim h [ ]
 last_is b (p ∷ (q ∷ qs)) (later h) = last_is b (q ∷ qs) h
-
-walk_none : (i s : ℕ) (cs : List CellValue) → length cs ≤ s → visible_from i s cs ≡ []
-walk_none i s [] l = refl
-walk_none i zero (c ∷ cs) l = absurd (omega arith)
-walk_none i (suc s) (c ∷ cs) l = walk_none (i + 1) s cs (omega arith)
-
--- the last index is that of the rest, where there is a rest
-last_index-cons : (i s : ℕ) (p : ℕ × CellValue) (cs : List CellValue) → s < length cs → last_index (p ∷ visible_from i s cs) ≡ last_index (visible_from i s cs)
-last_index-cons i s p [] l = absurd (omega arith)
-last_index-cons i zero p (c ∷ cs) l = refl
-last_index-cons i (suc s) p (c ∷ cs) l = last_index-cons (i + 1) s p cs (omega arith)
 
 all_marked : (b : Bool) (i s : ℕ) (cs : List CellValue) → s < length cs → EndsMarked b (visible_from i s (map (with_wrapped b) cs))
 all_marked b i s [] l = absurd (omega arith)

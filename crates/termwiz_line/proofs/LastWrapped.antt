@@ -1,17 +1,20 @@
--- The mark of the last of visible cells, read from the left.
-use Rattle.std.proofs.Common.{◌≡◌, ℕ, Bool, false, List, [], ◌∷◌, refl}
+-- The mark of the last of visible cells, read from its attributes.
+use Rattle.std.proofs.Common.{◌≡◌, ℕ, Bool, false, List, [], ◌∷◌, Option, Some, None, refl, sym}
+use Rattle.std.specs.Prelude.{option_map}
+use Rattle.std.specs.List.{last_or}
+use Rattle.termwiz_cell.specs.Attributes.{Attributes}
 use Rattle.termwiz_cell.specs.CellValue.{CellValue}
+use Rattle.termwiz_storage.specs.LastCell.{last_attrs}
 use Rattle.termwiz_line.specs.Wrapped.{last_is_wrapped}
 
--- whether the last cell is wrapped, or b where there is none
-abbrev pub wrapped_after : Bool → List (ℕ × CellValue) → Bool
-wrapped_after b [] = b
-wrapped_after b (c ∷ cs) = wrapped_after c.1.attrs.wrapped cs
+abbrev pub is_marked : Option Attributes → Bool
+is_marked None = false
+is_marked (Some a) = a.wrapped
 
-cons : (b : Bool) (c : ℕ × CellValue) (cs : List (ℕ × CellValue)) → wrapped_after b (c ∷ cs) ≡ last_is_wrapped (c ∷ cs)
-cons b c [] = refl
-cons b c (d ∷ ds) = cons c.1.attrs.wrapped d ds
+behind : (p : ℕ × CellValue) (ps : List (ℕ × CellValue)) → last_is_wrapped (p ∷ ps) ≡ is_marked (option_map (λ q. q.1.attrs) (last_or (Some p) ps))
+behind p [] = refl
+behind p (q ∷ qs) = behind q qs
 
-pub wrapped_after-false : (cs : List (ℕ × CellValue)) → wrapped_after false cs ≡ last_is_wrapped cs
-wrapped_after-false [] = refl
-wrapped_after-false (c ∷ cs) = cons false c cs
+pub is_marked-last : (ps : List (ℕ × CellValue)) → is_marked (last_attrs ps) ≡ last_is_wrapped ps
+is_marked-last [] = refl
+is_marked-last (p ∷ ps) = sym (behind p ps)

@@ -47,6 +47,9 @@ last_shown i (suc (suc n)) (c ∷ d ∷ x ∷ xs) e = elim (cases_Bool (is_wide 
   | inr w ↦ behind_narrow i (suc n) c d (x ∷ xs) w (last_shown (i + 1) (suc n) (d ∷ x ∷ xs) (omega arith))
 ]
 
+pub last_index-is : (last : ℕ) (cs : List CellValue) → length cs ≡ last + 1 → last_index (visible cs) + cond (hides cs last) 1 0 ≡ last
+last_index-is last cs e = omega (arith, last_shown 0 last cs (omega (arith, e)))
+
 -- ---- the mark at one place, and at two
 
 one_place : (b : Bool) (n : ℕ) (cs : List CellValue) → length cs ≡ suc n → wrapped_from b n cs ≡ set cs n (with_wrapped b (stored cs n))

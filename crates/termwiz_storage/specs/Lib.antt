@@ -3,6 +3,7 @@ pub mod Used
 pub mod Halves
 pub mod Edits
 pub mod Wrapped
+pub mod LastCell
 pub mod FilledAs
 pub mod CellLists
 pub mod CellRef

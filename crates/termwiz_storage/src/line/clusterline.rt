@@ -8,6 +8,8 @@ ghost use Rattle.termwiz_storage.specs.CellsLeft.{IsOfCell, YieldsCell};
 ghost use Rattle.termwiz_storage.specs.Clustered.{IsWhole, cell_len};
 ghost use Rattle.termwiz_storage.specs.Edits.{with_half};
 ghost use Rattle.std.specs.List.{list_any};
+ghost use Rattle.std.specs.Option.{option_copied};
+ghost use Rattle.termwiz_storage.specs.LastCell.{last_attrs};
 ghost use Rattle.termwiz_storage.specs.Stored.{is_linked, visible, IsKept};
 ghost use Rattle.termwiz_storage.specs.Wrapped.{set_last_wrapped, with_wrapped};
 
@@ -88,6 +90,14 @@ impl ClusteredLine {
         ensures { IsTrue result ↔ (self.now ≡ []) }
     {
         self.len == 0
+    }
+
+    /// The attributes of the last visible cell, where there is one.
+    pub(super) fn last_attrs(&self) -> Option<&CellAttributes>
+        ensures { option_copied result ≡ last_attrs (visible self.now) }
+    {
+        let run = self.attrs.last()?;
+        Some(&run.attrs)
     }
 
     /// How many cells are left without the visible default blanks that end the list.

@@ -3,6 +3,7 @@ ghost use Rattle.std.specs.Prelude.{◌≡◌, ◌≢◌, ◌-◌, ◌<◌, ◌�
 ghost use Rattle.std.specs.Borrow.{sem};
 ghost use Rattle.std.specs.Cmp.{decided, on_equiv, on_per, partial_equiv_from_equiv};
 ghost use Rattle.std.specs.List.{list_all, list_any};
+ghost use Rattle.std.specs.Option.{option_copied};
 ghost use Rattle.termwiz_text.specs.Plain.{is_plain};
 ghost use Rattle.termwiz_cell.specs.Attributes.{needs_box};
 ghost use Rattle.termwiz_cell.specs.CellValue.{blank};
@@ -16,6 +17,7 @@ ghost use Rattle.termwiz_storage.specs.Halves.{resized};
 ghost use Rattle.termwiz_storage.specs.Storage.{cells_of, is_vector, same_cells};
 ghost use Rattle.termwiz_storage.specs.Stored.{is_linked};
 ghost use Rattle.termwiz_storage.specs.Lending.{LendsVector};
+ghost use Rattle.termwiz_storage.specs.LastCell.{last_attrs};
 ghost use Rattle.termwiz_storage.specs.Wrapped.{set_last_wrapped};
 
 mod edits;
@@ -246,6 +248,16 @@ impl CellStorage {
         match self {
             CellStorage::V(storage) => storage.kept_len(),
             CellStorage::Cluster(line) => line.kept_len(),
+        }
+    }
+
+    /// The attributes of the last visible cell, where there is one.
+    pub fn last_attrs(&self) -> Option<&CellAttributes>
+        ensures { option_copied result ≡ last_attrs (visible (cells_of self.now)) }
+    {
+        match self {
+            CellStorage::V(storage) => storage.last_attrs(),
+            CellStorage::Cluster(line) => line.last_attrs(),
         }
     }
 

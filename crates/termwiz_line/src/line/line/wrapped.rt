@@ -1,6 +1,5 @@
 //! The mark of a line whose text goes on in the next one.
 ghost use Rattle.std.specs.Prelude.{◌≡◌, ◌<◌, IsOk, OnErr, OnOk, length, true};
-ghost use Rattle.termwiz_storage.specs.CellsLeft.{cells_left};
 ghost use Rattle.termwiz_storage.specs.Stored.{visible};
 ghost use Rattle.termwiz_storage.specs.Wrapped.{set_last_wrapped};
 ghost use Rattle.termwiz_line.specs.LineValue.{IsEdited, IsUnchanged};
@@ -10,7 +9,6 @@ use super::Line;
 use super::zones::drop_zones;
 use std::alloc::AllocError;
 use termwiz_cell::change::SequenceNo;
-use termwiz_storage::line::cellref::VisibleCellIter;
 
 impl Line {
     /// Marks the last visible cell, and the stored cell that it hides, as wrapped, or not. An empty line first gets a default blank.
@@ -36,16 +34,9 @@ impl Line {
     pub fn last_cell_was_wrapped(&self) -> bool
         ensures { result ≡ last_is_wrapped (visible self.now.cells) }
     {
-        is_last_wrapped(self.visible_cells())
+        match self.storage.last_attrs() {
+            Some(attrs) => attrs.wrapped(),
+            None => false,
+        }
     }
-}
-
-fn is_last_wrapped(cells: VisibleCellIter<'_>) -> bool
-    ensures { result ≡ last_is_wrapped (cells_left cells.entry) }
-{
-    let mut is_wrapped = false;
-    for cell in cells {
-        is_wrapped = cell.attrs().wrapped();
-    }
-    is_wrapped
 }

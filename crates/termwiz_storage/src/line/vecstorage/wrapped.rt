@@ -1,7 +1,9 @@
 //! The mark of the last visible cell, behind which the text goes on in the next line.
 ghost use Rattle.std.specs.Prelude.{◌≡◌, ◌<◌, ◌≤◌, IsTrue, OnErr, OnOk, IsOk, length, slice_set, vec_len};
-ghost use Rattle.termwiz_storage.specs.Stored.{hides, stored};
-ghost use Rattle.termwiz_storage.specs.Wrapped.{set_last_wrapped, with_wrapped, wrapped_last};
+ghost use Rattle.std.specs.Option.{option_copied};
+ghost use Rattle.termwiz_storage.specs.LastCell.{last_attrs};
+ghost use Rattle.termwiz_storage.specs.Stored.{hides, stored, visible};
+ghost use Rattle.termwiz_storage.specs.Wrapped.{last_index, set_last_wrapped, with_wrapped, wrapped_last};
 
 use super::VecStorage;
 use std::alloc::AllocError;
@@ -30,6 +32,26 @@ impl VecStorage {
         }
         put_wrapped(&mut self.cells, last, wrapped);
         self.used = self.cells.len();
+    }
+
+    /// The attributes of the last visible cell, where there is one.
+    pub(crate) fn last_attrs(&self) -> Option<&CellAttributes>
+        ensures { option_copied result ≡ last_attrs (visible self.now) }
+    {
+        if self.cells.is_empty() {
+            return None;
+        }
+        Some(self.cells[self.last_shown()].attrs())
+    }
+
+    // The column of the last visible cell.
+    fn last_shown(&self) -> usize
+        requires { 0 < length self.now }
+        ensures value { result ≡ last_index (visible self.now) }
+        ensures within { result < length self.now }
+    {
+        let last = self.cells.len() - 1;
+        if self.is_hidden(last) { last - 1 } else { last }
     }
 
     // Whether the cell before column i hides it. Of wide cells in a row the first hides the next,

@@ -2,15 +2,17 @@
 use Rattle.std.proofs.Common.{◌≡◌, ℕ, zero, suc, ◌+◌, ◌<◌, ◌≤◌, List, [], ◌∷◌, ◌++◌, Option, Some, None, length, drop, map, ◌-◌, replicate, refl, sym, ap, ◌∙◌, inl, inr, arith}
 use Rattle.std.specs.Prelude.{option_map}
 use Rattle.std.specs.List.{last_or, slice_get}
-use Rattle.std.proofs.lemmas.Bool.{cases_lt}
-use Rattle.termwiz_cell.specs.Attributes.{Attributes}
-use Rattle.termwiz_cell.specs.CellValue.{CellValue, columns}
+use Rattle.std.proofs.lemmas.Bool.{cases_lt, eq-eqb, ne_eqb}
+use Rattle.std.proofs.lemmas.Option.{same_Some}
+use Rattle.termwiz_cell.specs.Attributes.{Attributes, default_attributes}
+use Rattle.termwiz_cell.specs.CellValue.{CellValue, blank, columns}
 use Rattle.termwiz_storage.specs.declared.line.clusterline.runs.AttrsRun.{AttrsRun}
 use Rattle.termwiz_storage.specs.declared.line.clusterline.runs.Shape.{Shape}
 use Rattle.termwiz_storage.specs.CellRuns.{attrs_of}
+use Rattle.termwiz_storage.specs.CellTexts.{texts_of}
 use Rattle.termwiz_storage.specs.Clustered.{cell_len, cells_from, first_cell, shown_cells}
 use Rattle.termwiz_storage.specs.LastCell.{last_attrs}
-use Rattle.termwiz_storage.specs.Stored.{stored, visible, visible_from}
+use Rattle.termwiz_storage.specs.Stored.{cell_at, stored, visible, visible_from, IsKept}
 use Rattle.termwiz_storage.specs.Wrapped.{last_index}
 use Rattle.termwiz_storage.proofs.Clustered.{visible-cells_from}
 
@@ -110,3 +112,47 @@ pub last_attrs-stored : (cs : List CellValue) → 0 < length cs → last_attrs (
 last_attrs-stored cs l =
     let k : ℕ = last_index (visible cs) in
     attrs-cell (last_or None (visible cs)) (stored cs k) (last_stored None 0 0 k cs l (omega arith))
+
+-- ---- a list that doesn't end with a default blank
+
+-- the visible cell in the last column is the last one
+at_end : (o : Option (ℕ × CellValue)) (i s n : ℕ) (cs : List CellValue) (c : CellValue) → length cs ≡ suc n → cell_at (visible_from i s cs) (i + n) ≡ Some c → last_cell o (visible_from i s cs) ≡ Some c
+at_end o i s n [] c e h = absurd (omega arith)
+at_end o i zero zero (x ∷ []) c e h = rw (eq-eqb i (i + 0) (omega arith)) at h
+at_end o i zero (suc n) (x ∷ []) c e h = absurd (omega arith)
+at_end o i zero zero (x ∷ y ∷ ys) c e h = absurd (omega arith)
+at_end o i zero (suc n) (x ∷ y ∷ ys) c e h =
+    let behind : cell_at (visible_from (i + 1) (columns x - 1) (y ∷ ys)) (i + suc n) ≡ Some c = rw (ne_eqb i (i + suc n) (omega arith)) at h in
+    let k : i + suc n ≡ i + 1 + n = omega arith in
+    at_end (Some (i, x)) (i + 1) (columns x - 1) n (y ∷ ys) c (omega arith) (rw k at behind)
+at_end o i (suc s) zero (x ∷ []) c e h = cc
+at_end o i (suc s) (suc n) (x ∷ []) c e h = absurd (omega arith)
+at_end o i (suc s) zero (x ∷ y ∷ ys) c e h = absurd (omega arith)
+at_end o i (suc s) (suc n) (x ∷ y ∷ ys) c e h =
+    let k : i + suc n ≡ i + 1 + n = omega arith in
+    at_end o (i + 1) s n (y ∷ ys) c (omega arith) (rw k at h)
+
+IsKept-whole : (cs : List CellValue) → (last_cell None (visible cs) ≡ Some blank → ⊥) → IsKept cs (length cs)
+IsKept-whole cs h = record {
+  within = omega arith;
+  blank_after = λ x l b. absurd (omega arith);
+  least = λ j f. elim (cases_lt j (length cs)) [
+    | inr g ↦ g
+    | inl g ↦
+        let n : ℕ = length cs - 1 in
+        let k : 0 + n ≡ n = omega arith in
+        absurd (h (at_end None 0 0 n cs blank (omega arith) (rw k (f n (omega arith) (omega arith)))))
+  ];
+}
+
+text-blank : (b : Option ℕ) (o : Option (ℕ × CellValue)) (ps : List (ℕ × CellValue)) → (option_map (λ p. p.1) o ≡ Some blank → b ≡ Some 32) → last_cell o ps ≡ Some blank → last_or b (texts_of ps) ≡ Some 32
+text-blank b o [] f h = f h
+text-blank b o (p ∷ ps) f h =
+    last_or-append b p.1.text (texts_of ps)
+    ∙ text-blank (last_or b p.1.text) (Some p) ps (λ e. ap (λ (c : CellValue). last_or b c.text) (same_Some p.1 blank e)) h
+
+pub IsKept-attrs : (cs : List CellValue) → (last_attrs (visible cs) ≡ Some default_attributes → ⊥) → IsKept cs (length cs)
+IsKept-attrs cs n = IsKept-whole cs (λ h. n (attrs-cell (last_or None (visible cs)) blank h))
+
+pub IsKept-text : (cs : List CellValue) → (last_or None (texts_of (visible cs)) ≡ Some 32 → ⊥) → IsKept cs (length cs)
+IsKept-text cs n = IsKept-whole cs (λ h. n (text-blank None None (visible cs) (λ e. cc) h))

@@ -1,5 +1,5 @@
 //! Cells stored as one text.
-ghost use Rattle.std.specs.Prelude.{◌≡◌, ◌+◌, ◌++◌, ◌∷◌, ◌^◌, ◌<◌, ◌≤◌, ◌↔◌, [], IfOk, IfSome, IsSome, IsTrue, OnErr, OnOk, length, true, string_bytes, string_capacity, string_len};
+ghost use Rattle.std.specs.Prelude.{◌≡◌, ◌+◌, ◌++◌, ◌∷◌, ◌^◌, ◌<◌, ◌≤◌, ◌↔◌, [], IfOk, IfSome, IsSome, IsTrue, None, OnErr, OnOk, Some, length, true, string_bytes, string_capacity, string_len};
 ghost use Rattle.std.specs.Iterator.{item_count};
 ghost use Rattle.termwiz_cell.specs.CellValue.{blank, cell_of, clean, half};
 ghost use Rattle.termwiz_storage.specs.CellRef.{indexed_cell, ref_cell};
@@ -7,8 +7,9 @@ ghost use Rattle.termwiz_storage.specs.CellTexts.{texts_of};
 ghost use Rattle.termwiz_storage.specs.CellsLeft.{IsOfCell, YieldsCell};
 ghost use Rattle.termwiz_storage.specs.Clustered.{IsWhole, cell_len};
 ghost use Rattle.termwiz_storage.specs.Edits.{with_half};
-ghost use Rattle.std.specs.List.{list_any};
+ghost use Rattle.std.specs.List.{last_or, list_any};
 ghost use Rattle.std.specs.Option.{option_copied};
+ghost use Rattle.termwiz_cell.specs.Attributes.{default_attributes};
 ghost use Rattle.termwiz_storage.specs.LastCell.{last_attrs};
 ghost use Rattle.termwiz_storage.specs.Stored.{is_linked, visible, IsKept};
 ghost use Rattle.termwiz_storage.specs.Wrapped.{set_last_wrapped, with_wrapped};
@@ -102,6 +103,36 @@ impl ClusteredLine {
 
     /// How many cells are left without the visible default blanks that end the list.
     pub(super) fn kept_len(&self) -> usize
+        ensures { IsKept self.now result }
+    {
+        if self.ends_default() && self.ends_with_space() {
+            return self.walked_len();
+        }
+        self.len
+    }
+
+    // Whether the last visible cell has default attributes.
+    fn ends_default(&self) -> bool
+        ensures { IsTrue result ↔ (last_attrs (visible self.now) ≡ Some default_attributes) }
+    {
+        match self.last_attrs() {
+            Some(attrs) => attrs.is_blank(),
+            None => false,
+        }
+    }
+
+    // Whether the text ends with a space.
+    fn ends_with_space(&self) -> bool
+        ensures { IsTrue result ↔ (last_or None (texts_of (visible self.now)) ≡ Some 32) }
+    {
+        match self.text().as_bytes().last() {
+            Some(byte) => *byte == b' ',
+            None => false,
+        }
+    }
+
+    // The column behind the last visible cell that is no default blank.
+    fn walked_len(&self) -> usize
         ensures { IsKept self.now result }
     {
         let mut kept = 0;

@@ -1,6 +1,6 @@
 use Rattle.std.proofs.Common.{◌≡◌, ℕ, ◌-◌, ◌^◌, min}
 use Rattle.termwiz_storage.proofs.Kept.{EndsAt}
-use Rattle.termwiz_storage.proofs.line.clusterline.ClusteredLine.kept_len.Given as goal
+use Rattle.termwiz_storage.proofs.line.clusterline.ClusteredLine.walked_len.Given as goal
 
 abbrev pub invariant-loop-cell : goal.invariant-loop-cell
 invariant-loop-cell l = record {

@@ -1,5 +1,5 @@
 //! Cells.
-ghost use Rattle.std.specs.Prelude.{◌≡◌, ◌↔◌, ◌≤◌, true, false, IsTrue, IfOk, IsOk, length, encode_utf8, unwrap_or};
+ghost use Rattle.std.specs.Prelude.{◌≡◌, ◌↔◌, ◌≤◌, true, false, IsTrue, IfOk, IfSome, IsOk, length, encode_utf8, unwrap_or};
 ghost use Rattle.std.specs.Borrow.{sem};
 ghost use Rattle.std.specs.Cmp.{decided, partial_equiv_from_equiv};
 ghost use Rattle.termwiz_cell.specs.CellValue.{space, blank, blank_of, plain_cell, clean, cell_of, measured, columns, cell_eq, cell_eq-Decides};
@@ -201,7 +201,33 @@ impl Clone for Cell {
 
     ghost is_infallible = { λ cell. (length cell.text ≤ 7) × (needs_box cell.attrs ≡ false) };
 
+    // A cell that takes no memory is copied without a call.
+    #[inline(always)]
     fn clone(&self) -> Result<Cell, AllocError> {
+        match self.short_copy() {
+            Some(copy) => Ok(copy),
+            None => self.copied(),
+        }
+    }
+}
+
+impl Cell {
+    // A copy, where that takes no memory.
+    #[inline(always)]
+    fn short_copy(&self) -> Option<Cell>
+        ensures { IfSome result (λ copy. copy ≡ self.now) }
+    {
+        let text = self.text.short_copy()?;
+        let attrs = self.attrs.unboxed_copy()?;
+        Some(Cell { text, attrs })
+    }
+
+    // A copy, whether that takes memory or not.
+    #[inline(never)]
+    fn copied(&self) -> Result<Cell, AllocError>
+        ensures copy { IfOk result (λ copy. copy ≡ self.now) }
+        ensures short { length self.now.text ≤ 7 → needs_box self.now.attrs ≡ false → IsOk result }
+    {
         let text = self.text.copied()?;
         let attrs = self.attrs.clone()?;
         Ok(Cell { text, attrs })

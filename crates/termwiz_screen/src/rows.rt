@@ -232,9 +232,7 @@ fn resized_row(row: &Line, width: usize) -> Result<Line, AllocError>
     ensures cells { IfOk result (λ line. line.cells ≡ resized width row.now.cells) }
     ensures side { IfOk result (λ line. KeepsSide row.now line) }
 {
-    let mut line = row.clone()?;
-    line.resize(width, SEQ_ZERO)?;
-    Ok(line)
+    row.resized_clone(width)
 }
 
 // Copies of the first rows with their flags, cut or filled, with room for more up to the height.

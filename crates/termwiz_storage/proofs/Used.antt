@@ -1,7 +1,7 @@
 -- Up to which column cells were used, once they are edited.
-use Rattle.std.proofs.Common.{◌≡◌, ◌≢◌, ℕ, ◌+◌, ◌-◌, ◌<◌, ◌≤◌, inl, inr, min, max, List, length, set, replicate, refl, sym, ◌∙◌, ap, arith, length-append, suc}
+use Rattle.std.proofs.Common.{◌≡◌, ◌≢◌, ℕ, ◌+◌, ◌-◌, ◌<◌, ◌≤◌, inl, inr, min, max, List, length, take, set, replicate, refl, sym, ◌∙◌, ap, arith, length-append, suc}
 use Rattle.std.proofs.lemmas.Bool.{cases_Bool, cases_lt, cases_eq}
-use Rattle.std.proofs.lemmas.List.{get_or_past, get_or-set_other, length-replicate, ext_get_or, get_or-replicate, length-set, get_or-set_same}
+use Rattle.std.proofs.lemmas.List.{get_or_past, get_or-take, length-take, get_or-set_other, length-replicate, ext_get_or, get_or-replicate, length-set, get_or-set_same}
 use Rattle.termwiz_cell.specs.CellValue.{CellValue, blank, half, is_wide, columns}
 use Rattle.termwiz_storage.specs.Stored.{stored, padded, torn, fill}
 use Rattle.termwiz_storage.specs.Used.{IsUsedTo, IsBlanked}
@@ -86,3 +86,14 @@ fill-blanked a b cs new l p =
         | inr o ↦ let q : x + 1 ≢ a = omega arith in p.behind x o ∙ torn_else a pad x q ∙ stored-padded b cs x ∙ sym (f.above x (omega arith))
       ]
     ]))
+
+-- a copy of the cells that were used, up to some length, and default blanks behind them
+pub used-first : (v u have len : ℕ) (cs : List CellValue) → IsUsedTo v cs → have ≡ min len (length cs) → u ≡ min have v → padded have (take u cs) ≡ take len cs
+used-first v u have len cs h e f =
+    let lu : length (take u cs) ≡ min u (length cs) = length-take u cs in
+    let ll : length (take len cs) ≡ min len (length cs) = length-take len cs in
+    let lp : length (padded have (take u cs)) ≡ length (take u cs) + (have - length (take u cs)) = length-append (take u cs) (replicate (have - length (take u cs)) blank) ∙ ap (λ (k : ℕ). length (take u cs) + k) (length-replicate (have - length (take u cs)) blank) in
+    ext_get_or blank (padded have (take u cs)) (take len cs) (omega arith) (λ j l. stored-padded have (take u cs) j ∙ elim (cases_lt j u) [
+      | inl m ↦ get_or-take u cs j blank m ∙ sym (get_or-take len cs j blank (omega arith))
+      | inr m ↦ get_or_past (take u cs) j blank (omega arith) ∙ sym (get_or-take len cs j blank (omega arith) ∙ h.rest j (omega arith))
+    ])

@@ -1,5 +1,5 @@
 //! The text of a cell, and whether it takes two columns.
-ghost use Rattle.std.specs.Prelude.{◌≡◌, ◌↔◌, ◌≤◌, ◌&&◌, ◌∷◌, [], length, true, false, IsTrue, IfOk, IsOk, bytes_eq, string_bytes};
+ghost use Rattle.std.specs.Prelude.{◌≡◌, ◌↔◌, ◌≤◌, ◌&&◌, ◌∷◌, [], length, true, false, IsTrue, IfOk, IsOk, IfSome, bytes_eq, string_bytes};
 ghost use Rattle.std.specs.Bool.{beq};
 ghost use Rattle.termwiz_cell.specs.CellLayout.{text_in, wide_in, IsStored};
 ghost use Rattle.termwiz_cell.specs.CellValue.{clean, space};
@@ -140,6 +140,21 @@ impl CellText {
             (CellText::Wide(_), CellText::Narrow(_)) => false,
             (CellText::Long(_), _) => false,
             (_, CellText::Long(_)) => false,
+        }
+    }
+
+    /// A copy, where the text stands in the value itself, and else `None`.
+    #[inline(always)]
+    pub(super) fn short_copy(&self) -> Option<CellText>
+        requires { IsStored self.now }
+        ensures text { IfSome result (λ copy. text_in copy ≡ text_in self.now) }
+        ensures wide { IfSome result (λ copy. wide_in copy ≡ wide_in self.now) }
+        ensures stored { IfSome result (λ copy. IsStored copy) }
+    {
+        match self {
+            CellText::Narrow(short) => Some(CellText::Narrow(*short)),
+            CellText::Wide(short) => Some(CellText::Wide(*short)),
+            CellText::Long(_) => None,
         }
     }
 

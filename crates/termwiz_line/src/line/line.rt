@@ -154,9 +154,18 @@ impl Line {
     pub fn resized(&self, width: usize, seqno: SequenceNo) -> Result<Line, AllocError>
         ensures { IfOk result (λ line. line ≡ record { cells = resized width self.now.cells; seqno = seqno; flags = no_flags; is_vector = true }) }
     {
-        let mut storage = CellStorage::V(self.storage.to_vec()?);
-        storage.resize(width)?;
+        let storage = self.storage.resized_copy(width)?;
         Ok(Line::of(self.alloc, storage, seqno))
+    }
+
+    /// A copy that is stored as a vector, with number and flags, cut to this many columns, or grown to them as by `resize`.
+    pub fn resized_clone(&self, width: usize) -> Result<Line, AllocError>
+        ensures { IfOk result (λ line. line ≡ record self.now { cells = resized width self.now.cells; is_vector = true }) }
+    {
+        let storage = self.storage.resized_copy(width)?;
+        let mut line = Line::of(self.alloc, storage, self.seqno);
+        line.bits = self.bits;
+        Ok(line)
     }
 
     /// Stores the cells as one text, which mostly takes far less memory than a vector: for what is kept of rows that have scrolled away. Cells, number and flags stay.

@@ -271,13 +271,21 @@ impl CellStorage {
         }
     }
 
-    /// A copy of the cells in a vector.
-    pub fn to_vec(&self) -> Result<VecStorage, AllocError>
-        ensures { IfOk result (λ copy. copy ≡ cells_of self.now) }
+    /// A copy of the cells in a vector, cut to this many cells, or grown to them as by `resize`.
+    pub fn resized_copy(&self, len: usize) -> Result<CellStorage, AllocError>
+        ensures cells { IfOk result (λ copy. cells_of copy ≡ resized len (cells_of self.now)) }
+        ensures vector { IfOk result (λ copy. is_vector copy ≡ true) }
     {
         match self {
-            CellStorage::V(storage) => storage.clone(),
-            CellStorage::Cluster(line) => expanded(line),
+            CellStorage::V(storage) => {
+                let copy = storage.resized_copy(len)?;
+                Ok(CellStorage::V(copy))
+            }
+            CellStorage::Cluster(line) => {
+                let mut copy = expanded(line)?;
+                copy.resize(len)?;
+                Ok(CellStorage::V(copy))
+            }
         }
     }
 

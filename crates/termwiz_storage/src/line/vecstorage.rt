@@ -344,6 +344,26 @@ impl VecStorage {
         Ok(())
     }
 
+    /// A copy, cut to this many cells, or grown to them as by `resize`. No cell that is cut is cloned.
+    pub(crate) fn resized_copy(&self, len: usize) -> Result<VecStorage, AllocError>
+        ensures { IfOk result (λ copy. copy ≡ resized len self.now) }
+    {
+        let mut copy = self.first_cells(len)?;
+        copy.resize(len)?;
+        Ok(copy)
+    }
+
+    // A copy, cut to at most this many cells, for which there is room. Default blanks at the end are not cloned.
+    fn first_cells(&self, len: usize) -> Result<VecStorage, AllocError>
+        ensures { IfOk result (λ copy. copy ≡ take len self.now) }
+    {
+        let have = len.min(self.cells.len());
+        let used = have.min(self.used);
+        let mut cells = copied_cells(self.allocator(), &self.cells[..used], len)?;
+        pad_cells(&mut cells, have)?;
+        Ok(VecStorage { cells, used })
+    }
+
     /// How many cells are left without the visible default blanks that end the list.
     pub(crate) fn kept_len(&self) -> usize
         ensures { IsKept self.now result }
@@ -423,10 +443,19 @@ fn pad_cells(cells: &mut Vec<Cell>, len: usize) -> Result<(), AllocError>
     if have < len {
         cells.reserve(len - have)?;
         for _ in have..len {
-            cells.push(Cell::blank())?;
+            cells.push_reserved(Cell::blank());
         }
     }
     Ok(())
+}
+
+// Copies of cells, with room for so many.
+fn copied_cells(alloc: Global, cells: &[Cell], room: usize) -> Result<Vec<Cell>, AllocError>
+    ensures { IfOk result (λ copy. copy.items ≡ cells.now) }
+{
+    let mut copy = Vec::with_capacity(alloc, room)?;
+    VecCloneMethods::extend_from_slice(&mut copy, cells)?;
+    Ok(copy)
 }
 
 // The cells of the run come to the columns from i on.
@@ -513,11 +542,7 @@ impl Clone for VecStorage {
     ghost is_clone = { λ a b. b ≡ a };
 
     fn clone(&self) -> Result<VecStorage, AllocError> {
-        let cells = self.cells.clone()?;
-        Ok(VecStorage {
-            cells,
-            used: self.used,
-        })
+        self.first_cells(self.cells.len())
     }
 }
 

@@ -7,9 +7,9 @@ pub loop-preserved : goal.loop-preserved
 loop-preserved c =
     let e : c.loop.counter + 1 - c.len-have.result ≡ c.loop.counter - c.len-have.result + 1 = omega arith in
     record {
-      items = rw (e, ← replicate_more, ← append_assoc) (rw (c.in_ok-push.ensures.items, c.blank.ensures, c.loop.invariant.items) refl);
-      room = omega (arith, c.in_ok-push.ensures.len, c.in_ok-push.ensures.capacity);
-      capacity = omega (arith, c.in_ok-push.ensures.capacity);
+      items = rw (e, ← replicate_more, ← append_assoc) (rw (c.push_reserved.ensures.items, c.blank.ensures, c.loop.invariant.items) refl);
+      room = omega (arith, c.push_reserved.ensures.len, c.push_reserved.ensures.capacity);
+      capacity = omega (arith, c.push_reserved.ensures.capacity);
     }
 
 pub returns-after-loop-clause-ok : goal.returns-after-loop-clause-ok

@@ -1,22 +1,22 @@
--- Runs that grow by a cell, and copies of runs.
+-- Runs that grow, and copies of runs.
 use Rattle.std.proofs.Common.{◌≡◌, ℕ, zero, suc, ◌+◌, List, [], ◌∷◌, ◌++◌, replicate, set, length, get_or, refl, ap, ap₂, sym, ◌∙◌, append_assoc, arith}
-use Rattle.std.proofs.lemmas.List.{replicate_more, append-nil}
+use Rattle.std.proofs.lemmas.List.{replicate-append-replicate, append-nil}
 use Rattle.std.specs.List.{flat_map, AllZip}
 use Rattle.termwiz_cell.specs.Attributes.{Attributes}
 use Rattle.termwiz_storage.specs.declared.line.clusterline.runs.AttrsRun.{AttrsRun}
 use Rattle.termwiz_storage.specs.CellRuns.{attrs_of, same_run}
 
--- a run at the end that is one longer is one more value
-pub longer_last : {R X : Type 0} (n : R → ℕ) (v : R → X) (rs : List R) (i : ℕ) (r d : R) → length rs ≡ i + 1 → v r ≡ v (get_or rs i d) → n r ≡ n (get_or rs i d) + 1 → flat_map (λ r. replicate (n r) (v r)) (set rs i r) ≡ flat_map (λ r. replicate (n r) (v r)) rs ++ v r ∷ []
-longer_last n v [] i r d l e f = absurd (omega arith)
-longer_last {R} {X} n v (x ∷ []) zero r d l e f =
-    let more : replicate (n r) (v r) ≡ replicate (n x) (v x) ++ v r ∷ [] = rw (f, e) (sym (replicate_more (n x) (v x))) in
-    append-nil (replicate (n r) (v r)) ∙ more ∙ ap (λ (z : List X). z ++ v r ∷ []) (sym (append-nil (replicate (n x) (v x))))
-longer_last n v (x ∷ y ∷ rs) zero r d l e f = absurd (omega arith)
-longer_last n v (x ∷ []) (suc i) r d l e f = absurd (omega arith)
-longer_last {R} {X} n v (x ∷ y ∷ rs) (suc i) r d l e f =
-    ap (λ (z : List X). replicate (n x) (v x) ++ z) (longer_last n v (y ∷ rs) i r d (omega arith) e f)
-    ∙ sym (append_assoc (replicate (n x) (v x)) (flat_map (λ (r : R). replicate (n r) (v r)) (y ∷ rs)) (v r ∷ []))
+-- a run at the end that is longer is more values
+pub longer_last : {R X : Type 0} (n : R → ℕ) (v : R → X) (rs : List R) (i m : ℕ) (r d : R) → length rs ≡ i + 1 → v r ≡ v (get_or rs i d) → n r ≡ n (get_or rs i d) + m → flat_map (λ r. replicate (n r) (v r)) (set rs i r) ≡ flat_map (λ r. replicate (n r) (v r)) rs ++ replicate m (v r)
+longer_last n v [] i m r d l e f = absurd (omega arith)
+longer_last {R} {X} n v (x ∷ []) zero m r d l e f =
+    let more : replicate (n r) (v r) ≡ replicate (n x) (v x) ++ replicate m (v r) = rw (f, e) (sym (replicate-append-replicate (n x) m (v x))) in
+    append-nil (replicate (n r) (v r)) ∙ more ∙ ap (λ (z : List X). z ++ replicate m (v r)) (sym (append-nil (replicate (n x) (v x))))
+longer_last n v (x ∷ y ∷ rs) zero m r d l e f = absurd (omega arith)
+longer_last n v (x ∷ []) (suc i) m r d l e f = absurd (omega arith)
+longer_last {R} {X} n v (x ∷ y ∷ rs) (suc i) m r d l e f =
+    ap (λ (z : List X). replicate (n x) (v x) ++ z) (longer_last n v (y ∷ rs) i m r d (omega arith) e f)
+    ∙ sym (append_assoc (replicate (n x) (v x)) (flat_map (λ (r : R). replicate (n r) (v r)) (y ∷ rs)) (replicate m (v r)))
 
 -- the last of a list
 pub last_read : {X : Type 0} (front : List X) (x d : X) (i : ℕ) → length front ≡ i → get_or (front ++ x ∷ []) i d ≡ x

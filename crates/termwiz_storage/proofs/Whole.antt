@@ -1,5 +1,5 @@
 -- Lists in which each wide cell is followed by its half: they are their visible cells with their halves.
-use Rattle.std.proofs.Common.{◌≡◌, ℕ, zero, suc, ◌+◌, ◌-◌, ◌<◌, List, [], ◌∷◌, ◌++◌, length, true, false, refl, ap, ap₂, sym, ◌∙◌, arith, subst, inl, inr}
+use Rattle.std.proofs.Common.{◌≡◌, ℕ, zero, suc, ◌+◌, ◌-◌, ◌<◌, ◌≤◌, List, [], ◌∷◌, ◌++◌, length, get_or, drop, true, false, refl, ap, ap₂, sym, ◌∙◌, arith, subst, inl, inr}
 use Rattle.std.proofs.lemmas.Bool.{cases_Bool, cond-true, cond-false}
 use Rattle.termwiz_cell.specs.CellValue.{CellValue, half, is_wide, columns}
 use Rattle.termwiz_storage.specs.Clustered.{IsWhole}
@@ -14,7 +14,7 @@ with_half-wide c w = cond-true (is_wide c) (c ∷ half c ∷ []) (c ∷ []) w
 with_half-narrow : (c : CellValue) → is_wide c ≡ false → with_half c ≡ c ∷ []
 with_half-narrow c w = cond-false (is_wide c) (c ∷ half c ∷ []) (c ∷ []) w
 
-behind_narrow : (c : CellValue) (cs : List CellValue) → is_wide c ≡ false → IsWhole (c ∷ cs) → IsWhole cs
+pub behind_narrow : (c : CellValue) (cs : List CellValue) → is_wide c ≡ false → IsWhole (c ∷ cs) → IsWhole cs
 behind_narrow c cs w h = record {
   halves = λ k l e. h.halves (suc k) (omega arith) (hides-behind_narrow c cs (suc k) w ∙ e);
   complete = sym (hides-behind_narrow c cs (length cs) w) ∙ h.complete;
@@ -81,3 +81,42 @@ whole-with_halves (p ∷ ps) = elim (cases_Bool (is_wide p.1)) [
 
 pub whole-from : (cs : List CellValue) → with_halves (visible cs) ≡ cs → IsWhole cs
 whole-from cs e = subst IsWhole e (whole-with_halves (visible cs))
+
+-- what a list that isn't empty begins with, and what is left behind it
+pub record BeginsWhole (cs : List CellValue) (c : CellValue) : Type 0 where
+  pub fits : columns c ≤ length cs
+  pub some : 0 < columns c
+  pub same : with_half c ++ drop (columns c) cs ≡ cs
+  pub whole : IsWhole (drop (columns c) cs)
+
+begins_narrow : (c : CellValue) (cs : List CellValue) → is_wide c ≡ false → IsWhole (c ∷ cs) → BeginsWhole (c ∷ cs) c
+begins_narrow c cs w h =
+    let one : columns c ≡ 1 = columns-narrow c w in
+    record {
+      fits = omega arith;
+      some = omega arith;
+      same = rw (with_half-narrow c w, one) refl;
+      whole = rw one (behind_narrow c cs w h);
+    }
+
+begins_wide : (c d : CellValue) (cs : List CellValue) → is_wide c ≡ true → IsWhole (c ∷ d ∷ cs) → BeginsWhole (c ∷ d ∷ cs) c
+begins_wide c d cs w h =
+    let two : columns c ≡ 2 = columns-wide c w in
+    let own : d ≡ half c = h.halves 0 (omega arith) (lacks_half c w) in
+    record {
+      fits = omega arith;
+      some = omega arith;
+      same = rw (with_half-wide c w, two, ← own) refl;
+      whole = rw two (behind_wide c d cs w h);
+    }
+
+pub begins-whole : (cs : List CellValue) (c : CellValue) → 0 < length cs → c ≡ get_or cs 0 c → IsWhole cs → BeginsWhole cs c
+begins-whole [] c l e h = absurd (omega arith)
+begins-whole (x ∷ []) c l e h = elim (cases_Bool (is_wide x)) [
+  | inr w ↦ subst (BeginsWhole (x ∷ [])) (sym e) (begins_narrow x [] w h)
+  | inl w ↦ let no : true ≡ false = sym (lacks_half x w) ∙ h.complete in cc
+]
+begins-whole (x ∷ y ∷ cs) c l e h = elim (cases_Bool (is_wide x)) [
+  | inr w ↦ subst (BeginsWhole (x ∷ y ∷ cs)) (sym e) (begins_narrow x (y ∷ cs) w h)
+  | inl w ↦ subst (BeginsWhole (x ∷ y ∷ cs)) (sym e) (begins_wide x y cs w h)
+]

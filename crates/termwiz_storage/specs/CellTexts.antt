@@ -1,8 +1,12 @@
--- The texts of visible cells.
+-- The texts of cells.
 use Rattle.std.specs.Prelude.{ℕ, List}
 use Rattle.std.specs.List.{flat_map}
 use Rattle.termwiz_cell.specs.CellValue.{CellValue}
 
--- one after another
+-- those of visible cells with their columns, one after another
 abbrev pub texts_of : List (ℕ × CellValue) → List ℕ
 texts_of cells = flat_map (λ p. p.1.text) cells
+
+-- the same of cells
+abbrev pub cell_texts : List CellValue → List ℕ
+cell_texts cells = flat_map (λ c. c.text) cells

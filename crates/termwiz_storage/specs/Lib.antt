@@ -13,3 +13,4 @@ pub mod Lending
 pub mod CellTexts
 pub mod CellRuns
 pub mod Clustered
+pub mod PlainCells

@@ -1,29 +1,33 @@
 //! Cells stored as one text.
-ghost use Rattle.std.specs.Prelude.{◌≡◌, ◌+◌, ◌++◌, ◌∷◌, ◌^◌, ◌<◌, ◌≤◌, ◌↔◌, [], IfOk, IfSome, IsSome, IsTrue, None, OnErr, OnOk, Some, length, true, string_bytes, string_capacity, string_len};
+ghost use Rattle.std.specs.Prelude.{◌≡◌, ◌+◌, ◌++◌, ◌∷◌, ◌^◌, ◌<◌, ◌≤◌, ◌↔◌, [], true, false};
+ghost use Rattle.std.specs.Prelude.{IfOk, IfSome, IsSome, IsTrue, None, OnErr, OnOk, Some};
+ghost use Rattle.std.specs.Prelude.{length, min, take, string_bytes, string_capacity, string_len};
 ghost use Rattle.std.specs.Iterator.{item_count};
-ghost use Rattle.termwiz_cell.specs.CellValue.{blank, cell_of, clean, half};
-ghost use Rattle.termwiz_storage.specs.CellRef.{indexed_cell, ref_cell};
-ghost use Rattle.termwiz_storage.specs.CellTexts.{texts_of};
-ghost use Rattle.termwiz_storage.specs.CellsLeft.{IsOfCell, YieldsCell};
+ghost use Rattle.termwiz_cell.specs.CellValue.{blank, clean, half};
+ghost use Rattle.termwiz_storage.specs.CellRef.{indexed_cell};
+ghost use Rattle.termwiz_storage.specs.CellTexts.{cell_texts, texts_of};
+ghost use Rattle.termwiz_storage.specs.CellsLeft.{YieldsCell};
 ghost use Rattle.termwiz_storage.specs.Clustered.{IsWhole, cell_len};
 ghost use Rattle.termwiz_storage.specs.Edits.{with_half};
-ghost use Rattle.std.specs.List.{last_or, list_any};
+ghost use Rattle.std.specs.List.{last_or, list_all, list_any};
 ghost use Rattle.std.specs.Option.{option_copied};
 ghost use Rattle.termwiz_cell.specs.Attributes.{default_attributes};
 ghost use Rattle.termwiz_storage.specs.LastCell.{last_attrs};
-ghost use Rattle.termwiz_storage.specs.Stored.{is_linked, visible, IsKept};
+ghost use Rattle.termwiz_storage.specs.PlainCells.{is_plain_with};
+ghost use Rattle.termwiz_storage.specs.Stored.{is_linked, stored, visible, IsKept};
 ghost use Rattle.termwiz_storage.specs.Wrapped.{set_last_wrapped, with_wrapped};
 
 mod run_lists;
 mod runs;
 
 use crate::line::cellref::CellRef;
-use crate::line::vecstorage::{VecStorageIter, hides_next, push_with_half, set_wrapped};
+use crate::line::vecstorage::{hides_next, push_with_half, set_wrapped};
 use run_lists::{AttrsIter, ShapeIter, push_attrs, push_shape, wrap_last};
 use runs::{AttrsRun, Shape, ShapeRun};
 use std::alloc::{AllocError, Global};
 use std::marker::Model;
 use termwiz_cell::cell::{Cell, CellAttributes};
+use termwiz_text::is_one_plain;
 
 /// The cells of a line as one text, with what tells each cell's part of it, and runs of equal attributes. Where cells in a row are alike it takes far less memory than a vector of cells.
 ///
@@ -71,8 +75,11 @@ impl ClusteredLine {
             return Ok(None);
         }
         let mut line = ClusteredLine::new(alloc);
-        for cell in VecStorageIter::new(cells) {
-            line.append_shown(cell)?;
+        // Most cells have one byte.
+        line.text.reserve(cells.len())?;
+        let mut rest = cells;
+        'runs: while !rest.is_empty() {
+            rest = line.append_first(rest)?;
         }
         line.shrink_to_fit();
         Ok(Some(line))
@@ -167,22 +174,6 @@ impl ClusteredLine {
         self.attrs.shrink_to_fit();
     }
 
-    /// Appends the cell of a text of this width, at most 2 columns, and the half of a wide one. A width of 0 counts as 1. On an error nothing changed.
-    pub fn append_grapheme(
-        &mut self,
-        text: &str,
-        width: usize,
-        attrs: CellAttributes,
-    ) -> Result<(), AllocError>
-        requires { width ≤ 2 }
-        ensures ok { OnOk result (self.new ≡ self.old ++ with_half (cell_of text.now width attrs)) }
-        ensures err { OnErr result (self.new ≡ self.old) }
-    {
-        let cell = Cell::new_grapheme_with_width(*self.text.allocator(), text, width, attrs)?;
-        self.append(&cell)?;
-        Ok(())
-    }
-
     /// Appends a cell, and the half of a wide one. On an error nothing changed.
     pub fn append(&mut self, cell: &Cell) -> Result<(), AllocError>
         ensures ok { OnOk result (self.new ≡ self.old ++ with_half cell.now) }
@@ -192,13 +183,43 @@ impl ClusteredLine {
         Ok(())
     }
 
-    // Appends a cell that a walk gave, and the half of a wide one.
-    fn append_shown(&mut self, cell: CellRef<'_>) -> Result<(), AllocError>
-        requires { IsOfCell cell }
-        ensures ok { OnOk result (self.new ≡ self.old ++ with_half (ref_cell cell.entry)) }
+    // Appends the first cells, a run of plain ones or one cell with its half, and gives what is left.
+    fn append_first<'a>(&mut self, cells: &'a [Cell]) -> Result<&'a [Cell], AllocError>
+        requires some { 0 < length cells.now }
+        requires whole { IsWhole cells.now }
+        ensures same { IfOk result (λ rest. self.new ++ rest.now ≡ self.old ++ cells.now) }
+        ensures whole { IfOk result (λ rest. IsWhole rest.now) }
+        ensures shorter { IfOk result (λ rest. length rest.now < length cells.now) }
+    {
+        let first = &cells[0];
+        let len = run_len(cells, first.attrs());
+        if len > 0 {
+            self.append_run(&cells[..len], first.attrs())?;
+            return Ok(&cells[len..]);
+        }
+        self.append(first)?;
+        Ok(&cells[first.width()..])
+    }
+
+    // Appends plain cells with these attributes, 65,535 at most. What can fail comes first.
+    fn append_run(&mut self, cells: &[Cell], attrs: &CellAttributes) -> Result<(), AllocError>
+        requires some { 0 < length cells.now }
+        requires few { length cells.now ≤ 65535 }
+        requires plain { list_all (is_plain_with attrs.now) cells.now ≡ true }
+        ensures ok { OnOk result (self.new ≡ self.old ++ cells.now) }
         ensures err { OnErr result (self.new ≡ self.old) }
     {
-        self.append_clean(cell.str(), cell.width() > 1, cell.attrs())?;
+        let count = cells.len();
+        if count > usize::MAX - self.len {
+            return Err(AllocError);
+        }
+        let len = self.len + count;
+        self.shapes.reserve(1)?;
+        self.text.reserve(count)?;
+        push_attrs(&mut self.attrs, attrs, count as u16)?;
+        push_shape(&mut self.shapes, one_char(false), count as u16);
+        push_texts(&mut self.text, cells);
+        self.len = len;
         Ok(())
     }
 
@@ -220,8 +241,8 @@ impl ClusteredLine {
         let len = self.len + width;
         self.shapes.reserve(1)?;
         self.text.reserve(text.len())?;
-        push_attrs(&mut self.attrs, attrs)?;
-        push_shape(&mut self.shapes, shape_of(text, wide));
+        push_attrs(&mut self.attrs, attrs, 1)?;
+        push_shape(&mut self.shapes, shape_of(text, wide), 1);
         push_text(&mut self.text, text);
         self.len = len;
         Ok(())
@@ -302,12 +323,47 @@ fn is_half_of(cell: &Cell, wide: &Cell) -> bool
     cell.width() == 1 && matches!(cell.str().as_bytes(), b" ") && *cell.attrs() == *wide.attrs()
 }
 
-// Appends to a text, for which there is room.
+// How many of the first cells, 65,535 at most, are plain ones with these attributes.
+fn run_len(cells: &[Cell], attrs: &CellAttributes) -> usize
+    ensures within { result ≤ min 65535 (length cells.now) }
+    ensures plain { list_all (is_plain_with attrs.now) (take result cells.now) ≡ true }
+    ensures longest { result < min 65535 (length cells.now) → is_plain_with attrs.now (stored cells.now result) ≡ false }
+{
+    let end = cells.len().min(u16::MAX as usize);
+    for i in 0..end {
+        if !is_plain_with(&cells[i], attrs) {
+            return i;
+        }
+    }
+    end
+}
+
+fn is_plain_with(cell: &Cell, attrs: &CellAttributes) -> bool
+    ensures { result ≡ is_plain_with attrs.now cell.now }
+{
+    cell.width() == 1 && is_one_plain(cell.str()) && *cell.attrs() == *attrs
+}
+
+// Appends the texts of cells, for which there is room.
+fn push_texts(text: &mut String, cells: &[Cell])
+    requires { string_len text.old + length (cell_texts cells.now) ≤ string_capacity text.old }
+    ensures { string_bytes text.new ≡ string_bytes text.old ++ cell_texts cells.now }
+{
+    for cell in cells {
+        push_text(text, cell.str());
+    }
+}
+
+// Appends to a text, for which there is room. A text of one byte takes no call.
 fn push_text(text: &mut String, more: &str)
     requires { string_len text.old + length more.now ≤ string_capacity text.old }
-    ensures { string_bytes text.new ≡ string_bytes text.old ++ more.now }
+    ensures bytes { string_bytes text.new ≡ string_bytes text.old ++ more.now }
+    ensures capacity { string_capacity text.old ≤ string_capacity text.new }
 {
-    text.push_str(more).unwrap();
+    match more.as_bytes() {
+        [byte] if *byte < 128 => text.push(*byte as char).unwrap(),
+        _ => text.push_str(more).unwrap(),
+    }
 }
 
 // How many bytes of a text its first cell takes.
@@ -325,17 +381,24 @@ fn cell_len(shape: Shape, text: &str) -> usize
     }
 }
 
+// The shape of a cell of one character.
+fn one_char(wide: bool) -> Shape
+    ensures { result ≡ record { bytes = 0; one_char = true; wide = wide } }
+{
+    Shape {
+        bytes: 0,
+        one_char: true,
+        wide,
+    }
+}
+
 // The shape of a cell of this text.
 fn shape_of(text: &str, wide: bool) -> Shape
     requires { length text.now < 2 ^ 32 }
     ensures len { cell_len result text.now ≡ length text.now }
     ensures wide { result.wide ≡ wide }
 {
-    let one_char = Shape {
-        bytes: 0,
-        one_char: true,
-        wide,
-    };
+    let one_char = one_char(wide);
     if cell_len(one_char, text) == text.len() {
         one_char
     } else {

@@ -23,10 +23,10 @@ impl Clone for AttrsRun {
     }
 }
 
-/// One more cell of this shape, for which there is room.
-pub(super) fn push_shape(runs: &mut Vec<ShapeRun>, shape: Shape)
+/// So many more cells of this shape, in the last run or in a new one, for which there is room.
+pub(super) fn push_shape(runs: &mut Vec<ShapeRun>, shape: Shape, cells: u16)
     requires { vec_len runs.old < vec_capacity runs.old }
-    ensures { shapes_of runs.new.items ≡ shapes_of runs.old.items ++ shape ∷ [] }
+    ensures { shapes_of runs.new.items ≡ shapes_of runs.old.items ++ replicate cells shape }
 {
     let count = runs.len();
     if count > 0 {
@@ -34,13 +34,13 @@ pub(super) fn push_shape(runs: &mut Vec<ShapeRun>, shape: Shape)
         if last.bytes == shape.bytes
             && last.one_char == shape.one_char
             && last.wide == shape.wide
-            && last.cells < u16::MAX
+            && cells <= u16::MAX - last.cells
         {
-            runs[count - 1] = run_of(shape, last.cells + 1);
+            runs[count - 1] = run_of(shape, last.cells + cells);
             return;
         }
     }
-    runs.push(run_of(shape, 1)).unwrap();
+    runs.push(run_of(shape, cells)).unwrap();
 }
 
 fn run_of(shape: Shape, cells: u16) -> ShapeRun
@@ -54,18 +54,23 @@ fn run_of(shape: Shape, cells: u16) -> ShapeRun
     }
 }
 
-/// One more cell with these attributes. On an error nothing changed.
-pub(super) fn push_attrs(runs: &mut Vec<AttrsRun>, attrs: &CellAttributes) -> Result<(), AllocError>
-    ensures ok { OnOk result (attrs_of runs.new.items ≡ attrs_of runs.old.items ++ attrs.now ∷ []) }
+/// So many more cells with these attributes, in the last run or in a new one. On an error nothing changed.
+pub(super) fn push_attrs(
+    runs: &mut Vec<AttrsRun>,
+    attrs: &CellAttributes,
+    cells: u16,
+) -> Result<(), AllocError>
+    requires { 0 < cells }
+    ensures ok { OnOk result (attrs_of runs.new.items ≡ attrs_of runs.old.items ++ replicate cells attrs.now) }
     ensures err { OnErr result (runs.new.items ≡ runs.old.items) }
 {
     let count = runs.len();
-    if count > 0 && runs[count - 1].cells < u16::MAX && runs[count - 1].attrs == *attrs {
-        runs[count - 1].cells += 1;
+    if count > 0 && cells <= u16::MAX - runs[count - 1].cells && runs[count - 1].attrs == *attrs {
+        runs[count - 1].cells += cells;
         return Ok(());
     }
     let attrs = attrs.clone()?;
-    runs.push(AttrsRun { attrs, cells: 1 })?;
+    runs.push(AttrsRun { attrs, cells })?;
     Ok(())
 }
 

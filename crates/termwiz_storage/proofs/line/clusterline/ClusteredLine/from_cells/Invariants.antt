@@ -1,11 +1,13 @@
-use Rattle.std.proofs.Common.{◌≡◌, ◌++◌}
-use Rattle.termwiz_storage.specs.Edits.{with_halves}
+use Rattle.std.proofs.Common.{◌≡◌, ◌++◌, length}
+use Rattle.termwiz_storage.specs.Clustered.{IsWhole}
 use Rattle.termwiz_storage.proofs.line.clusterline.ClusteredLine.from_cells.Given as goal
 
--- what is left to append leads to all visible cells
-abbrev pub invariant-loop-cell : goal.invariant-loop-cell
-invariant-loop-cell l = record {
-  can : (goal.iterator-loop-cell).can_next l.cell-iterator;
-  finite : (goal.iterator-loop-cell).is_finite l.cell-iterator;
-  same : l.line ++ with_halves l.cell-iterator ≡ with_halves l.initial.cell-iterator;
+-- what is appended and what is left are all cells
+abbrev pub invariant-runs : goal.invariant-runs
+invariant-runs l = record {
+  same : l.line ++ l.rest ≡ l.cells;
+  whole : IsWhole l.rest;
 }
+
+abbrev pub decreases-runs : goal.decreases-runs
+decreases-runs l = length l.rest

@@ -8,11 +8,11 @@ pub returns-then-eq-clause-ok : goal.returns-then-eq-clause-ok
 returns-then-eq-clause-ok c =
     let i : ℕ = c.len-count.result - 1 in
     let last : AttrsRun = c.index_mut.result.now in
-    let read : AttrsRun = c.index-then-index-lt65535.result.now in
-    let read_is : last ≡ read = c.index_mut.ensures.value ∙ get_or_default c.args.runs.now.items i last read (omega arith) ∙ sym c.index-then-index-lt65535.ensures in
+    let read : AttrsRun = c.index-then-cells-index.result.now in
+    let read_is : last ≡ read = c.index_mut.ensures.value ∙ get_or_default c.args.runs.now.items i last read (omega arith) ∙ sym c.index-then-cells-index.ensures in
     let same : last.attrs ≡ c.args.attrs.now = ap (λ (r : AttrsRun). r.attrs) read_is ∙ c.eq.ensures.same.0 c.if-eq.true in
     rw (← same)
-    (longer_last (λ (r : AttrsRun). r.cells) (λ (r : AttrsRun). r.attrs) c.args.runs.now.items i _ last
+    (longer_last (λ (r : AttrsRun). r.cells) (λ (r : AttrsRun). r.attrs) c.args.runs.now.items i c.args.cells _ last
     (omega arith)
     (ap (λ (r : AttrsRun). r.attrs) c.index_mut.ensures.value)
-    (ap (λ (r : AttrsRun). r.cells + 1) c.index_mut.ensures.value))
+    (ap (λ (r : AttrsRun). r.cells + c.args.cells) c.index_mut.ensures.value))

@@ -1,0 +1,95 @@
+-- Plain cells, and what is left behind the first cells of a list.
+use Rattle.std.proofs.Common.{◌≡◌, ℕ, zero, suc, ◌+◌, ◌<◌, ◌≤◌, ◌^◌, List, [], ◌∷◌, ◌++◌, length, get_or, take, drop, replicate, Bool, true, false, not, ◌&&◌, refl, ap, ap₂, sym, ◌∙◌, append_assoc, add-zero, arith}
+use Rattle.std.specs.List.{list_all}
+use Rattle.std.proofs.lemmas.List.{append-nil}
+use Rattle.std.specs.Prelude.{nat_le, nat_lt}
+use Rattle.std.proofs.lemmas.Bool.{and_parts, not-true, lt-ltb, leb-true}
+use Rattle.std.proofs.lemmas.Bool.Decides.{nat_tests}
+use Rattle.termwiz_text.specs.Plain.{is_plain, is_one_plain}
+use Rattle.termwiz_text.proofs.Plain.{utf8_one}
+use Rattle.termwiz_cell.specs.Attributes.{Attributes, attributes_eq, attributes_eq-Decides}
+use Rattle.termwiz_cell.specs.CellValue.{CellValue, clean, is_control, is_wide, plain_cell}
+use Rattle.termwiz_storage.specs.declared.line.clusterline.runs.Shape.{Shape}
+use Rattle.termwiz_storage.specs.CellTexts.{cell_texts}
+use Rattle.termwiz_storage.specs.Clustered.{cell_len, cells_from, IsSound, IsWhole}
+use Rattle.termwiz_storage.specs.PlainCells.{is_plain_with}
+use Rattle.termwiz_storage.proofs.Clustered.{IsSound-push, cells_from-push}
+use Rattle.termwiz_storage.proofs.Whole.{behind_narrow}
+
+-- the shape of a plain cell
+abbrev pub plain_shape : Shape
+plain_shape = record { bytes = 0; one_char = true; wide = false }
+
+one_plain : (t : List ℕ) → is_one_plain t ≡ true → (b : ℕ) × (t ≡ b ∷ []) × (is_plain b ≡ true)
+one_plain [] h = cc
+one_plain (b ∷ []) h = (b, refl, h)
+one_plain (b ∷ (d ∷ t)) h = cc
+
+plain_is : (a : Attributes) (c : CellValue) → is_plain_with a c ≡ true → (b : ℕ) × (c ≡ plain_cell b a) × (is_plain b ≡ true)
+plain_is a c h =
+    let parts = and_parts (not (is_wide c)) (is_one_plain c.text && attributes_eq c.attrs a) h in
+    let rest = and_parts (is_one_plain c.text) (attributes_eq c.attrs a) parts.1 in
+    let text = one_plain c.text rest.0 in
+    let narrow : c.wide ≡ false = not-true c.wide parts.0 in
+    let attrs : c.attrs ≡ a = (attributes_eq-Decides c.attrs a).0 rest.1 in
+    (text.0, (λ i. record { text = text.1 i; wide = narrow i; attrs = attrs i }), text.2)
+
+clean_plain : (b : ℕ) → is_plain b ≡ true → clean (b ∷ []) ≡ b ∷ []
+clean_plain b h =
+    let parts = and_parts (nat_le 0x20 b) (nat_le b 0x7E) h in
+    let low : 32 ≤ b = leb-true 32 b parts.0 in
+    let high : b ≤ 126 = leb-true b 126 parts.1 in
+    let no : is_control b ≡ false = grind (arith, nat_tests) in
+    rw no refl
+
+len_plain : (b : ℕ) → is_plain b ≡ true → cell_len plain_shape (b ∷ []) ≡ 1
+len_plain b h =
+    let high : b ≤ 126 = leb-true b 126 (and_parts (nat_le 0x20 b) (nat_le b 0x7E) h).1 in
+    let low : nat_lt b 128 ≡ true = lt-ltb b 128 (omega arith) in
+    rw low refl
+
+-- a text with one more run
+pub record HasRun (t : List ℕ) (ss : List Shape) (ps : List Attributes) (m : ℕ) (a : Attributes) (cs old : List CellValue) : Type 0 where
+  pub sound : IsSound (t ++ cell_texts cs) (ss ++ replicate (length cs) plain_shape) (ps ++ replicate (length cs) a) m
+  pub cells : cells_from (t ++ cell_texts cs) (ss ++ replicate (length cs) plain_shape) (ps ++ replicate (length cs) a) ≡ old ++ cs
+
+pub has_run : (cs : List CellValue) (t : List ℕ) (ss : List Shape) (ps : List Attributes) (n m : ℕ) (a : Attributes) (old : List CellValue) → list_all (is_plain_with a) cs ≡ true → IsSound t ss ps n → cells_from t ss ps ≡ old → m ≡ n + length cs → m < 2 ^ 64 → HasRun t ss ps m a cs old
+has_run [] t ss ps n m a old p h e k l = record {
+  sound = rw (append-nil t, append-nil ss, append-nil ps, k, add-zero) h;
+  cells = rw (append-nil t, append-nil ss, append-nil ps, append-nil old) e;
+}
+has_run (c ∷ cs) t ss ps n m a old p h e k l =
+    let parts = and_parts (is_plain_with a c) (list_all (is_plain_with a) cs) p in
+    let own = plain_is a c parts.0 in
+    let b : ℕ = own.0 in
+    let text : c.text ≡ b ∷ [] = ap (λ (c : CellValue). c.text) own.1 in
+    let len = len_plain b own.2 in
+    let sound : IsSound (t ++ b ∷ []) (ss ++ plain_shape ∷ []) (ps ++ a ∷ []) (n + 1) = IsSound-push t (b ∷ []) ss plain_shape ps a n (n + 1) (utf8_one b own.2) (clean_plain b own.2) h len refl (omega arith) in
+    let cells : cells_from (t ++ b ∷ []) (ss ++ plain_shape ∷ []) (ps ++ a ∷ []) ≡ old ++ c ∷ [] = cells_from-push t (b ∷ []) ss plain_shape ps a h.cuts h.aligned len ∙ ap₂ (λ (x : List CellValue) (y : CellValue). x ++ y ∷ []) e (sym own.1) in
+    let more : HasRun (t ++ b ∷ []) (ss ++ plain_shape ∷ []) (ps ++ a ∷ []) m a cs (old ++ c ∷ []) = has_run cs (t ++ b ∷ []) (ss ++ plain_shape ∷ []) (ps ++ a ∷ []) (n + 1) m a (old ++ c ∷ []) parts.1 sound cells (omega arith) l in
+    let texts : (t ++ b ∷ []) ++ cell_texts cs ≡ t ++ cell_texts (c ∷ cs) = append_assoc t (b ∷ []) (cell_texts cs) ∙ ap (λ (z : List ℕ). t ++ (z ++ cell_texts cs)) (sym text) in
+    let shapes : (ss ++ plain_shape ∷ []) ++ replicate (length cs) plain_shape ≡ ss ++ replicate (length (c ∷ cs)) plain_shape = append_assoc ss (plain_shape ∷ []) (replicate (length cs) plain_shape) in
+    let attrs : (ps ++ a ∷ []) ++ replicate (length cs) a ≡ ps ++ replicate (length (c ∷ cs)) a = append_assoc ps (a ∷ []) (replicate (length cs) a) in
+    record {
+      sound = rw (← texts, ← shapes, ← attrs) more.sound;
+      cells = rw (← texts, ← shapes, ← attrs) (more.cells ∙ append_assoc old (c ∷ []) cs);
+    }
+
+-- what is left behind plain cells
+pub whole_behind : (n : ℕ) (cs : List CellValue) (a : Attributes) → list_all (is_plain_with a) (take n cs) ≡ true → IsWhole cs → IsWhole (drop n cs)
+whole_behind zero cs a p h = h
+whole_behind (suc n) [] a p h = h
+whole_behind (suc n) (c ∷ cs) a p h =
+    let parts = and_parts (is_plain_with a c) (list_all (is_plain_with a) (take n cs)) p in
+    let narrow : is_wide c ≡ false = ap (λ (c : CellValue). c.wide) (plain_is a c parts.0).1 in
+    whole_behind n cs a parts.1 (behind_narrow c cs narrow h)
+
+-- each has one byte
+pub length-plain_texts : (cs : List CellValue) (a : Attributes) → list_all (is_plain_with a) cs ≡ true → length (cell_texts cs) ≡ length cs
+length-plain_texts [] a p = refl
+length-plain_texts (c ∷ cs) a p =
+    let parts = and_parts (is_plain_with a c) (list_all (is_plain_with a) cs) p in
+    let own = plain_is a c parts.0 in
+    let text : c.text ≡ own.0 ∷ [] = ap (λ (c : CellValue). c.text) own.1 in
+    let more : length (cell_texts cs) ≡ length cs = length-plain_texts cs a parts.1 in
+    rw text (ap suc more)

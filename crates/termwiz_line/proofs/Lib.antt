@@ -34,3 +34,4 @@ pub mod WordOrSpaces
 pub mod Nested
 pub mod Clustering
 pub mod ClustersAreOne
+pub mod ClustersJoin

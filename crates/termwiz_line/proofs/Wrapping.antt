@@ -8,7 +8,7 @@ use Rattle.termwiz_line.specs.LineValue.{LineValue}
 use Rattle.termwiz_line.specs.Wraps.{columns_of, FitsOrAlone, line_of, new_line, mark_last, marked, AreLinesOf}
 use Rattle.termwiz_line.proofs.Cuts.{AreClosed, IsUnderWay, under_way-start, under_way-grows, under_way-ends, under_way-done}
 
-columns_of-append : (p q : List (ℕ × CellValue)) → columns_of (p ++ q) ≡ columns_of p + columns_of q
+pub columns_of-append : (p q : List (ℕ × CellValue)) → columns_of (p ++ q) ≡ columns_of p + columns_of q
 columns_of-append [] q = omega arith
 columns_of-append (c ∷ cs) q = omega (arith, columns_of-append cs q)
 

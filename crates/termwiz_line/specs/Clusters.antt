@@ -1,5 +1,5 @@
 -- Shaper clusters: the visible cells are cut where their look changes, and each piece into words and spaces.
-use Rattle.std.specs.Prelude.{◌≡◌, ◌≢◌, ℕ, ◌+◌, List, [], ◌∷◌, ◌++◌, map, length, replicate, Option, unwrap_or, false}
+use Rattle.std.specs.Prelude.{◌≡◌, ◌≢◌, ℕ, ◌+◌, List, [], ◌∷◌, ◌++◌, map, sum_by, length, replicate, Option, unwrap_or, false}
 use Rattle.std.specs.List.{All, flat_map}
 use Rattle.termwiz_cell.specs.Attributes.{Attributes, default_attributes}
 use Rattle.termwiz_cell.specs.CellValue.{CellValue, columns}
@@ -7,7 +7,7 @@ use Rattle.termwiz_cell.specs.declared.emoji.Presentation.{Presentation}
 use Rattle.termwiz_cell.specs.declared.emoji.Presentation.TheVariants.{Text}
 use Rattle.termwiz_line.specs.declared.line.bidi.Direction.{Direction}
 use Rattle.termwiz_line.specs.declared.line.bidi.Direction.TheVariants.{LeftToRight}
-use Rattle.termwiz_line.specs.Pieces.{IsCut, AreEqualBy}
+use Rattle.termwiz_line.specs.Pieces.{IsCut, AreEqualBy, joined}
 use Rattle.termwiz_line.specs.Texts.{texts_of}
 use Rattle.termwiz_line.specs.Wraps.{IsSpace, columns_of}
 use Rattle.termwiz_line.specs.Zones.{first_index}
@@ -82,3 +82,9 @@ pub record AreClusters (shown : List ℕ → Presentation × Option Presentation
   pub runs_are : IsCut (AreEqualBy (look_of shown)) cells runs
   pub parts_are : AreCutInto IsWordOrSpaces runs parts
   pub clusters_are : clusters ≡ map (cluster_of shown) parts
+
+-- the clusters, one behind another, have the texts, the columns and the bytes of these visible cells
+pub record JoinTo (cells : List (ℕ × CellValue)) (clusters : List ClusterValue) : Type 0 where
+  pub texts : joined (map (λ k. k.text) clusters) ≡ texts_of cells
+  pub widths : sum_by (λ k. k.width) clusters ≡ columns_of cells
+  pub bytes : joined (map (λ k. k.cells_of_bytes) clusters) ≡ cells_of_bytes cells

@@ -2,7 +2,7 @@
 use Rattle.std.specs.Prelude.{◌≡◌, ℕ, ◌+◌, ◌<◌, List, ◌∷◌, ◌++◌, Option, get_or, length, map}
 use Rattle.termwiz_cell.specs.CellValue.{CellValue, columns}
 use Rattle.termwiz_cell.specs.declared.emoji.Presentation.{Presentation}
-use Rattle.termwiz_line.specs.Clusters.{AreClusters, ClusterValue, cells_of_bytes}
+use Rattle.termwiz_line.specs.Clusters.{AreClusters, ClusterValue, JoinTo, cells_of_bytes}
 use Rattle.termwiz_line.specs.Texts.{texts_of}
 use Rattle.termwiz_line.specs.declared.line.line.zones.ZoneRange.{ZoneRange}
 use Rattle.termwiz_line.specs.LineEq.{line_contents}
@@ -25,6 +25,10 @@ WrapsAreAlike = (width seqno : ℕ) (one other : LineValue) (a b : List LineValu
 -- visible cells have one list of clusters
 abbrev pub ClustersAreOne : Type 0
 ClustersAreOne = (shown : List ℕ → Presentation × Option Presentation) (cells : List (ℕ × CellValue)) (a b : List ClusterValue) → AreClusters shown cells a → AreClusters shown cells b → a ≡ b
+
+-- the clusters of visible cells join to them
+abbrev pub ClustersJoin : Type 0
+ClustersJoin = (shown : List ℕ → Presentation × Option Presentation) (cells : List (ℕ × CellValue)) (clusters : List ClusterValue) → AreClusters shown cells clusters → JoinTo cells clusters
 
 -- each byte of a cell's text tells the column and the width of that cell
 abbrev pub BytesTellTheirCells : Type 0

@@ -1,5 +1,6 @@
 //! What rows, edits and cuts are: laws of the definitions that the contracts cite, each on a function that does nothing.
-ghost use Rattle.termwiz_line.specs.CutLaws.{BytesTellTheirCells, ClustersAreOne, WrapsAreAlike, WrapsAreOne, ZonesAreOne};
+ghost use Rattle.termwiz_line.specs.CutLaws.{BytesTellTheirCells, ClustersAreOne, ClustersJoin};
+ghost use Rattle.termwiz_line.specs.CutLaws.{WrapsAreAlike, WrapsAreOne, ZonesAreOne};
 ghost use Rattle.termwiz_line.specs.EditLaws.{AllColumnsShow, StoredAgainShows};
 ghost use Rattle.termwiz_line.specs.StorageLaws.{EqualInAnyForm, WholeIsVisible};
 ghost use Rattle.termwiz_line.specs.RowLaws.{PaintPaints, ClearClears, ClearPast, VisibleFixesRow, CellsHaveRow, VisibleFixesRowOf, WalkGrows, ResizedIsRow, SetCellPaints, PruningKeepsRow};
@@ -36,9 +37,12 @@ pub fn cut_laws()
     ensures alike { WrapsAreAlike }
 {}
 
-/// The clusters of a line follow from its cells, whichever form stores them, and each byte of a cell's text tells the column and the width of that cell.
+/// The clusters of a line follow from its cells, whichever form stores them. Their texts, one
+/// behind another, are the texts of the visible cells, and their widths together are the columns
+/// of these. Each byte of a cell's text tells the column and the width of that cell.
 pub fn cluster_laws()
     ensures one { ClustersAreOne }
+    ensures joined { ClustersJoin }
     ensures bytes { BytesTellTheirCells }
 {}
 

@@ -55,6 +55,36 @@ fn widths(line: &Line, count: u32) -> usize {
     columns
 }
 
+pub fn got(alloc: Global, count: u32) -> Result<usize, SurfaceError> {
+    let mut line = coloured(alloc)?;
+    line.compress_for_scrollback()?;
+    Ok(widths_at(&line, 119, count))
+}
+
+// The width of the cell at a column, which is asked for so often.
+fn widths_at(line: &Line, column: usize, count: u32) -> usize {
+    let mut columns = 0usize;
+    for _ in 0..count {
+        columns = columns.wrapping_add(line.get_cell(column).map_or(0, |cell| cell.width()));
+    }
+    columns
+}
+
+pub fn asked_for_mark(alloc: Global, count: u32) -> Result<usize, SurfaceError> {
+    let mut line = coloured(alloc)?;
+    line.compress_for_scrollback()?;
+    Ok(marks(&line, count))
+}
+
+// How often the line's text goes on, as it is asked for so often.
+fn marks(line: &Line, count: u32) -> usize {
+    let mut marks = 0usize;
+    for _ in 0..count {
+        marks = marks.wrapping_add(usize::from(line.last_cell_was_wrapped()));
+    }
+    marks
+}
+
 pub fn appended(alloc: Global, count: u32) -> Result<usize, SurfaceError> {
     let mut line = Line::new(alloc, SEQ_ZERO);
     let mut columns = 0usize;

@@ -1,6 +1,8 @@
 //! Workloads that print on an 80x24.
-use crate::drawn::{SHORT, add_colours, add_text, blank};
+use crate::drawn::{SHORT, add_colours, add_text, add_texts, blank};
 use std::alloc::Global;
+use termwiz_cell::change::{Change, Position};
+use termwiz_cell::color::ColorAttribute;
 use termwiz_cell::emoji::UnicodeWidths;
 use termwiz_surface::surface::{Surface, SurfaceError};
 
@@ -72,4 +74,54 @@ fn print_and_flush(
         }
     }
     Ok(surface.current_seqno())
+}
+
+// How many changes a slow viewer lacks.
+const BEHIND: usize = 8_000;
+
+pub fn flushed_behind(alloc: Global, count: u32) -> Result<usize, SurfaceError> {
+    let mut surface = blank(alloc)?;
+    add_texts(alloc, &mut surface, SHORT, BEHIND)?;
+    print_and_flush_behind(alloc, &mut surface, count)
+}
+
+fn print_and_flush_behind(
+    alloc: Global,
+    surface: &mut Surface<UnicodeWidths>,
+    count: u32,
+) -> Result<usize, SurfaceError> {
+    for _ in 0..count {
+        add_text(alloc, surface, SHORT)?;
+        surface.flush_changes_older_than(surface.current_seqno().saturating_sub(BEHIND));
+    }
+    Ok(surface.current_seqno())
+}
+
+pub fn erased_wide(alloc: Global, count: u32) -> Result<usize, SurfaceError> {
+    let mut surface = blank(alloc)?;
+    add_text(alloc, &mut surface, KANA)?;
+    erase_wide(alloc, &mut surface, count)
+}
+
+// Clears the last column of a row, which a wide grapheme takes, and prints one there again.
+fn erase_wide(
+    alloc: Global,
+    surface: &mut Surface<UnicodeWidths>,
+    count: u32,
+) -> Result<usize, SurfaceError> {
+    for _ in 0..count {
+        move_to(surface, 79)?;
+        surface.add_change(Change::ClearToEndOfLine(ColorAttribute::Default))?;
+        move_to(surface, 78)?;
+        add_text(alloc, surface, "わ")?;
+    }
+    Ok(surface.current_seqno())
+}
+
+fn move_to(surface: &mut Surface<UnicodeWidths>, x: usize) -> Result<(), SurfaceError> {
+    surface.add_change(Change::CursorPosition {
+        x: Position::Absolute(x),
+        y: Position::Absolute(0),
+    })?;
+    Ok(())
 }

@@ -17,6 +17,22 @@ fn resize(surface: &mut Surface<UnicodeWidths>, count: u32) -> Result<usize, Sur
     Ok(surface.current_seqno())
 }
 
+pub fn resized_by_a_row(alloc: Global, count: u32) -> Result<usize, SurfaceError> {
+    let mut surface = coloured(alloc, 200, 60)?;
+    resize_by_a_row(&mut surface, count)
+}
+
+fn resize_by_a_row(
+    surface: &mut Surface<UnicodeWidths>,
+    count: u32,
+) -> Result<usize, SurfaceError> {
+    for _ in 0..count {
+        surface.resize(200, 59)?;
+        surface.resize(200, 60)?;
+    }
+    Ok(surface.current_seqno())
+}
+
 pub fn made(alloc: Global, count: u32) -> Result<usize, SurfaceError> {
     let mut columns = 0usize;
     for _ in 0..count {

@@ -89,6 +89,26 @@ fn follow_delta(
     Ok(())
 }
 
+pub fn refreshed(alloc: Global, count: u32) -> Result<usize, SurfaceError> {
+    let mut surface = blank(alloc)?;
+    let mut viewer = Viewer::new(alloc, &surface)?;
+    refresh_lines(alloc, &mut surface, &mut viewer, count)
+}
+
+fn refresh_lines(
+    alloc: Global,
+    surface: &mut Surface<UnicodeWidths>,
+    viewer: &mut Viewer<UnicodeWidths>,
+    count: u32,
+) -> Result<usize, SurfaceError> {
+    for _ in 0..count {
+        follow_delta(alloc, surface, viewer)?;
+        surface.flush_changes_older_than(viewer.last());
+        viewer.flush_changes_older_than(viewer.surface().current_seqno());
+    }
+    Ok(viewer.last())
+}
+
 pub fn followed_by_repaints(alloc: Global, count: u32) -> Result<usize, SurfaceError> {
     let mut surface = coloured(alloc, 80, 24)?;
     view_repaints(alloc, &mut surface, count)

@@ -16,6 +16,10 @@ pub enum Workload {
     Scroll,
     /// The same, where the log is flushed every 64 changes.
     Log,
+    /// The same, where the log is flushed each time, and 8,000 changes are kept.
+    FlushBehind,
+    /// A row that ends in a wide character, whose last column is cleared, and which is printed again.
+    EraseWide,
     /// Ten changes that are due on 80x24.
     Delta,
     /// A repaint of a coloured 80x24.
@@ -32,6 +36,8 @@ pub enum Workload {
     DiffAll,
     /// A viewer of an 80x24 that follows by a delta of one line, whose printing counts too.
     FollowDelta,
+    /// The same, where both logs are flushed each time.
+    ViewerMemory,
     /// A viewer of a coloured 80x24 that follows by a repaint.
     FollowRepaint,
     /// A viewer of a full surface of the same that follows by a repaint.
@@ -46,6 +52,8 @@ pub enum Workload {
     HundredViewers,
     /// A 200x60 that is made an 80x24 and a 200x60 again.
     Resize,
+    /// A 200x60 that loses its last row and gets one again.
+    ResizeOneRow,
     /// Making an 80x24.
     New,
     /// A clone of a line of 120 columns with a colour for every 8, each cell in a place of its own.
@@ -54,6 +62,10 @@ pub enum Workload {
     Compress,
     /// A walk over such a line that is stored as one text.
     Walk,
+    /// The last cell of such a line, which is asked for by its column.
+    GetCell,
+    /// Whether such a line goes on, which is asked for.
+    Wrapped,
     /// A character that is set at the end of a line of up to 120 columns, stored as one text.
     Append,
     /// A setter of an attribute.
@@ -64,12 +76,14 @@ pub enum Workload {
     Equality,
 }
 
-static NAMES: [(&str, Workload); 28] = [
+static NAMES: [(&str, Workload); 34] = [
     ("plain", Workload::Plain),
     ("colours", Workload::Colours),
     ("kana", Workload::Kana),
     ("scroll", Workload::Scroll),
     ("log", Workload::Log),
+    ("flush-behind", Workload::FlushBehind),
+    ("erase-wide", Workload::EraseWide),
     ("delta", Workload::Delta),
     ("repaint", Workload::Repaint),
     ("large-repaint", Workload::LargeRepaint),
@@ -78,6 +92,7 @@ static NAMES: [(&str, Workload); 28] = [
     ("diff-5", Workload::DiffSome),
     ("diff-100", Workload::DiffAll),
     ("follow-delta", Workload::FollowDelta),
+    ("viewer-memory", Workload::ViewerMemory),
     ("follow-repaint", Workload::FollowRepaint),
     ("follow-full-repaint", Workload::FollowFullRepaint),
     ("answer-delta", Workload::AnswerDelta),
@@ -85,10 +100,13 @@ static NAMES: [(&str, Workload); 28] = [
     ("accept-delta", Workload::AcceptDelta),
     ("hundred-viewers", Workload::HundredViewers),
     ("resize", Workload::Resize),
+    ("resize-one-row", Workload::ResizeOneRow),
     ("new", Workload::New),
     ("line-clone", Workload::LineClone),
     ("compress", Workload::Compress),
     ("walk", Workload::Walk),
+    ("get-cell", Workload::GetCell),
+    ("wrapped", Workload::Wrapped),
     ("append", Workload::Append),
     ("setter", Workload::Setter),
     ("clone", Workload::Clone),
@@ -114,6 +132,8 @@ pub fn run(alloc: Global, workload: Workload, count: u32) -> Result<usize, Surfa
         Workload::Kana => printing::kana(alloc, count),
         Workload::Scroll => printing::scrolled(alloc, count),
         Workload::Log => printing::flushed(alloc, count),
+        Workload::FlushBehind => printing::flushed_behind(alloc, count),
+        Workload::EraseWide => printing::erased_wide(alloc, count),
         Workload::Delta => viewers::due(alloc, count),
         Workload::Repaint => viewers::repainted(alloc, 80, 24, count),
         Workload::LargeRepaint => viewers::repainted(alloc, 200, 60, count),
@@ -122,6 +142,7 @@ pub fn run(alloc: Global, workload: Workload, count: u32) -> Result<usize, Surfa
         Workload::DiffSome => diffs::some(alloc, count),
         Workload::DiffAll => diffs::all(alloc, count),
         Workload::FollowDelta => viewers::followed_by_deltas(alloc, count),
+        Workload::ViewerMemory => viewers::refreshed(alloc, count),
         Workload::FollowRepaint => viewers::followed_by_repaints(alloc, count),
         Workload::FollowFullRepaint => viewers::followed_by_full_repaints(alloc, count),
         Workload::AnswerDelta => answers::due(alloc, count),
@@ -129,10 +150,13 @@ pub fn run(alloc: Global, workload: Workload, count: u32) -> Result<usize, Surfa
         Workload::AcceptDelta => answers::accepted(alloc, count),
         Workload::HundredViewers => answers::accepted_by_hundred(alloc, count),
         Workload::Resize => sizes::resized(alloc, count),
+        Workload::ResizeOneRow => sizes::resized_by_a_row(alloc, count),
         Workload::New => sizes::made(alloc, count),
         Workload::LineClone => lines::cloned(alloc, count),
         Workload::Compress => lines::compressed(alloc, count),
         Workload::Walk => lines::walked(alloc, count),
+        Workload::GetCell => lines::got(alloc, count),
+        Workload::Wrapped => lines::asked_for_mark(alloc, count),
         Workload::Append => lines::appended(alloc, count),
         Workload::Setter => attributes::set(count),
         Workload::Clone => attributes::cloned(count),

@@ -4,6 +4,9 @@ ghost use Rattle.std.specs.Option.{IsNone, IfSome};
 ghost use Rattle.termwiz_cell.specs.ChangeValue.{change_value};
 ghost use Rattle.termwiz_screen.specs.Log.{appended, due, flushed, is_known, next_number, restarted, worth};
 
+mod backlog;
+
+use backlog::Backlog;
 use std::alloc::{AllocError, Global};
 use std::marker::Model;
 use termwiz_cell::change::{Change, SEQ_ZERO, SequenceNo};
@@ -12,17 +15,15 @@ use termwiz_cell::change::{Change, SEQ_ZERO, SequenceNo};
 #[derive(Drop)]
 pub struct Log {
     first: SequenceNo,
-    changes: Vec<Change>,
+    changes: Backlog,
 }
 
 impl Model for Log {
-    ghost use Rattle.std.specs.Prelude.{map};
-    ghost use Rattle.termwiz_cell.specs.ChangeValue.{change_value};
     ghost use Rattle.termwiz_screen.specs.Log.{LogValue};
 
     ghost Value = { LogValue };
 
-    ghost view = { λ l. record { first = l.first; changes = map change_value l.changes.items } };
+    ghost view = { λ l. record { first = l.first; changes = l.changes } };
 }
 
 impl Clone for Log {
@@ -44,7 +45,7 @@ impl Log {
     {
         Log {
             first: SEQ_ZERO,
-            changes: Vec::new(alloc),
+            changes: Backlog::new(alloc),
         }
     }
 
@@ -87,12 +88,12 @@ impl Log {
     }
 
     /// Logs more changes, which are moved in. On an error nothing has changed.
-    pub fn append(&mut self, mut changes: Vec<Change>) -> Result<(), AllocError>
+    pub fn append(&mut self, changes: Vec<Change>) -> Result<(), AllocError>
         ensures ok { OnOk result (self.new ≡ appended self.old (map change_value changes.items)) }
         ensures err { OnErr result (self.new ≡ self.old) }
         ensures succeeds { vec_len changes ≡ 0 → IsOk result }
     {
-        self.changes.append(&mut changes)?;
+        self.changes.append(changes)?;
         Ok(())
     }
 
@@ -105,7 +106,7 @@ impl Log {
         if seq == SEQ_ZERO || seq < self.first || seq > self.next_number() {
             return None;
         }
-        let due = &self.changes[seq - self.first..];
+        let due = &self.changes.as_slice()[seq - self.first..];
         if due.len() > most {
             return None;
         }
@@ -118,7 +119,7 @@ impl Log {
         ensures { self.new ≡ flushed self.old seq }
     {
         if self.first <= seq && seq <= self.next_number() {
-            drop_first(&mut self.changes, seq - self.first);
+            self.changes.forget(seq - self.first);
             self.first = seq;
         }
     }
@@ -136,13 +137,6 @@ impl Log {
             number + 1
         };
     }
-}
-
-fn drop_first(changes: &mut Vec<Change>, count: usize)
-    requires { count ≤ vec_len changes.old }
-    ensures { changes.new.items ≡ drop count changes.old.items }
-{
-    let _ = changes.drain(..count);
 }
 
 /// How many changes are worth sending where a screen of this size could be repainted, or the greatest number where that is less.

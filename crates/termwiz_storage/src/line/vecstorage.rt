@@ -349,8 +349,9 @@ impl VecStorage {
         ensures { IsKept self.now result }
     {
         let end = self.filled_len();
-        if self.is_wide_before(end) {
-            return self.walked_len(end);
+        // A default blank right behind a wide cell is hidden.
+        if end < self.cells.len() && self.is_hidden(end) {
+            return end + 1;
         }
         end
     }
@@ -384,21 +385,6 @@ impl VecStorage {
             end -= 1;
         }
         end
-    }
-
-    // The column behind the last visible cell that is no default blank, where all stored ones from `end` on are default blanks.
-    fn walked_len(&self, end: usize) -> usize
-        requires within { end ≤ length self.now }
-        requires rest { IsUsedTo end self.now }
-        ensures { IsKept self.now result }
-    {
-        let mut kept = 0;
-        for cell in VecStorageIter::new(&self.cells[..end]) {
-            if !cell.is_blank() {
-                kept = cell.cell_index().saturating_add(cell.width());
-            }
-        }
-        kept.min(self.cells.len())
     }
 }
 

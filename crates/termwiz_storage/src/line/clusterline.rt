@@ -1,12 +1,13 @@
 //! Cells stored as one text.
 ghost use Rattle.std.specs.Prelude.{◌≡◌, ◌+◌, ◌++◌, ◌∷◌, ◌^◌, ◌<◌, ◌≤◌, ◌↔◌, [], true, false};
 ghost use Rattle.std.specs.Prelude.{IfOk, IfSome, IsSome, IsTrue, None, OnErr, OnOk, Some};
-ghost use Rattle.std.specs.Prelude.{length, min, take, string_bytes, string_capacity, string_len};
+ghost use Rattle.std.specs.Prelude.{length, min, take, option_map};
+ghost use Rattle.std.specs.Prelude.{string_bytes, string_capacity, string_len};
 ghost use Rattle.std.specs.Iterator.{item_count};
 ghost use Rattle.termwiz_cell.specs.CellValue.{blank, clean, half};
-ghost use Rattle.termwiz_storage.specs.CellRef.{indexed_cell};
+ghost use Rattle.termwiz_storage.specs.CellRef.{indexed_cell, ref_cell, ref_index};
 ghost use Rattle.termwiz_storage.specs.CellTexts.{cell_texts, texts_of};
-ghost use Rattle.termwiz_storage.specs.CellsLeft.{YieldsCell};
+ghost use Rattle.termwiz_storage.specs.CellsLeft.{IsOfCell, YieldsCell};
 ghost use Rattle.termwiz_storage.specs.Clustered.{IsWhole, cell_len};
 ghost use Rattle.termwiz_storage.specs.Edits.{with_half};
 ghost use Rattle.std.specs.List.{last_or, list_all, list_any};
@@ -14,7 +15,7 @@ ghost use Rattle.std.specs.Option.{option_copied};
 ghost use Rattle.termwiz_cell.specs.Attributes.{default_attributes};
 ghost use Rattle.termwiz_storage.specs.LastCell.{last_attrs};
 ghost use Rattle.termwiz_storage.specs.PlainCells.{is_plain_with};
-ghost use Rattle.termwiz_storage.specs.Stored.{is_linked, stored, visible, IsKept};
+ghost use Rattle.termwiz_storage.specs.Stored.{cell_at, is_linked, stored, visible, IsKept};
 ghost use Rattle.termwiz_storage.specs.Wrapped.{set_last_wrapped, with_wrapped};
 
 mod run_lists;
@@ -149,6 +150,20 @@ impl ClusteredLine {
             }
         }
         kept.min(self.len)
+    }
+
+    /// The visible cell that begins at a column.
+    pub(super) fn get_cell(&self, i: usize) -> Option<CellRef<'_>>
+        ensures cell { option_map ref_cell result ≡ cell_at (visible self.now) i }
+        ensures index { IfSome result (λ cell. ref_index cell ≡ i) }
+        ensures told { IfSome result IsOfCell }
+    {
+        for cell in self.iter() {
+            if cell.cell_index() == i {
+                return Some(cell);
+            }
+        }
+        None
     }
 
     /// Whether a stored cell has a link.

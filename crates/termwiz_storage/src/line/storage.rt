@@ -1,5 +1,5 @@
 //! Where a line keeps its cells, and all that edits them.
-ghost use Rattle.std.specs.Prelude.{◌≡◌, ◌≢◌, ◌-◌, ◌<◌, ◌≤◌, ◌∷◌, [], ◌↔◌, drop, false, true, length, option_map, replicate, take, IsTrue, IsOk, IfOk, OnOk, OnErr, Some, None, if◌then◌else◌};
+ghost use Rattle.std.specs.Prelude.{◌≡◌, ◌≢◌, ◌-◌, ◌<◌, ◌≤◌, ◌∷◌, [], ◌↔◌, drop, false, true, length, option_map, replicate, take, IsTrue, IsOk, IfOk, IfSome, OnOk, OnErr, Some, None, if◌then◌else◌};
 ghost use Rattle.std.specs.Borrow.{sem};
 ghost use Rattle.std.specs.Cmp.{decided, on_equiv, on_per, partial_equiv_from_equiv};
 ghost use Rattle.std.specs.List.{list_all, list_any};
@@ -8,11 +8,11 @@ ghost use Rattle.termwiz_text.specs.Plain.{is_plain};
 ghost use Rattle.termwiz_cell.specs.Attributes.{needs_box};
 ghost use Rattle.termwiz_cell.specs.CellValue.{blank};
 ghost use Rattle.termwiz_storage.specs.CellLists.{cells_eq, cells_eq-Decides};
-ghost use Rattle.termwiz_storage.specs.CellRef.{indexed_cell};
+ghost use Rattle.termwiz_storage.specs.CellRef.{indexed_cell, ref_cell, ref_index};
 ghost use Rattle.termwiz_storage.specs.CellTexts.{texts_of};
 ghost use Rattle.termwiz_storage.specs.CellsLeft.{cells_left, IsOfCell};
 ghost use Rattle.termwiz_storage.specs.Clustered.{IsWhole};
-ghost use Rattle.termwiz_storage.specs.Stored.{visible, fill, set_cell, set_run, IsKept};
+ghost use Rattle.termwiz_storage.specs.Stored.{cell_at, visible, fill, set_cell, set_run, IsKept};
 ghost use Rattle.termwiz_storage.specs.Halves.{resized};
 ghost use Rattle.termwiz_storage.specs.Storage.{cells_of, is_vector, same_cells};
 ghost use Rattle.termwiz_storage.specs.Stored.{is_linked};
@@ -258,6 +258,18 @@ impl CellStorage {
         match self {
             CellStorage::V(storage) => storage.last_attrs(),
             CellStorage::Cluster(line) => line.last_attrs(),
+        }
+    }
+
+    /// The visible cell that begins at a column.
+    pub fn get_cell(&self, i: usize) -> Option<CellRef<'_>>
+        ensures cell { option_map ref_cell result ≡ cell_at (visible (cells_of self.now)) i }
+        ensures index { IfSome result (λ cell. ref_index cell ≡ i) }
+        ensures told { IfSome result IsOfCell }
+    {
+        match self {
+            CellStorage::V(storage) => storage.get_cell(i),
+            CellStorage::Cluster(line) => line.get_cell(i),
         }
     }
 

@@ -1,13 +1,14 @@
 //! Cells stored one by one.
-ghost use Rattle.std.specs.Prelude.{◌≡◌, [], false, true, ◌+◌, ◌-◌, ◌<◌, ◌≤◌, ◌↔◌, ◌&&◌, nat_lt, IsTrue, OnErr, OnOk, IsOk, IfOk, length, take, replicate, slice_set, vec_capacity, vec_len};
+ghost use Rattle.std.specs.Prelude.{◌≡◌, [], false, true, ◌+◌, ◌-◌, ◌<◌, ◌≤◌, ◌↔◌, ◌&&◌, nat_lt, IsTrue, OnErr, OnOk, IsOk, IfOk, IfSome, length, option_map, take, replicate, slice_set, vec_capacity, vec_len};
 ghost use Rattle.std.specs.Cmp.{decided, partial_equiv_from_equiv};
 ghost use Rattle.std.specs.Iterator.{item_count};
 ghost use Rattle.std.specs.List.{list_all, list_any};
 ghost use Rattle.termwiz_text.specs.Plain.{is_plain};
 ghost use Rattle.termwiz_cell.specs.Attributes.{needs_box};
 ghost use Rattle.termwiz_cell.specs.CellValue.{blank, half, is_wide};
-ghost use Rattle.termwiz_storage.specs.CellsLeft.{YieldsCell};
-ghost use Rattle.termwiz_storage.specs.Stored.{fill, hides, is_linked, padded, put_run, stored, set_cell, set_run, torn, visible, IsKept};
+ghost use Rattle.termwiz_storage.specs.CellsLeft.{IsOfCell, YieldsCell};
+ghost use Rattle.termwiz_storage.specs.CellRef.{ref_cell, ref_index};
+ghost use Rattle.termwiz_storage.specs.Stored.{cell_at, fill, hides, is_linked, padded, put_run, stored, set_cell, set_run, torn, visible, IsKept};
 ghost use Rattle.termwiz_storage.specs.Halves.{resized};
 ghost use Rattle.termwiz_storage.specs.Used.{IsBlanked, IsFilledTo, IsUsedTo};
 ghost use Rattle.termwiz_storage.specs.CellLists.{cells_eq, cells_eq-Decides};
@@ -369,10 +370,29 @@ impl VecStorage {
         ensures { IsKept self.now result }
     {
         let end = self.filled_len();
-        if self.is_wide_before(end) {
-            return self.walked_len(end);
+        // A default blank right behind a wide cell is hidden.
+        if end < self.cells.len() && self.is_hidden(end) {
+            return end + 1;
         }
         end
+    }
+
+    /// The visible cell that begins at a column.
+    pub(crate) fn get_cell(&self, i: usize) -> Option<CellRef<'_>>
+        ensures cell { option_map ref_cell result ≡ cell_at (visible self.now) i }
+        ensures index { IfSome result (λ cell. ref_index cell ≡ i) }
+        ensures told { IfSome result IsOfCell }
+    {
+        if i >= self.cells.len() || self.is_hidden(i) {
+            return None;
+        }
+        let cell = &self.cells[i];
+        // A cell's text is clean, which its reader knows.
+        let _text = cell.str();
+        Some(CellRef::CellRef {
+            cell_index: i,
+            cell,
+        })
     }
 
     /// Whether a stored cell has a link.
@@ -404,21 +424,6 @@ impl VecStorage {
             end -= 1;
         }
         end
-    }
-
-    // The column behind the last visible cell that is no default blank, where all stored ones from `end` on are default blanks.
-    fn walked_len(&self, end: usize) -> usize
-        requires within { end ≤ length self.now }
-        requires rest { IsUsedTo end self.now }
-        ensures { IsKept self.now result }
-    {
-        let mut kept = 0;
-        for cell in VecStorageIter::new(&self.cells[..end]) {
-            if !cell.is_blank() {
-                kept = cell.cell_index().saturating_add(cell.width());
-            }
-        }
-        kept.min(self.cells.len())
     }
 }
 

@@ -130,12 +130,7 @@ impl Line {
         ensures index { IfSome result (λ cell. ref_index cell ≡ cell_index) }
         ensures told { IfSome result IsOfCell }
     {
-        for cell in self.visible_cells() {
-            if cell.cell_index() == cell_index {
-                return Some(cell);
-            }
-        }
-        None
+        self.storage.get_cell(cell_index)
     }
 
     /// Whether a stored cell has a link.

@@ -56,7 +56,7 @@ impl VecStorage {
 
     // Whether the cell before column i hides it. Of wide cells in a row the first hides the next,
     // which then hides none, and so on in turn.
-    fn is_hidden(&self, i: usize) -> bool
+    pub(super) fn is_hidden(&self, i: usize) -> bool
         requires { i ≤ length self.now }
         ensures value { result ≡ hides self.now i }
         ensures some { IsTrue result → 0 < i }

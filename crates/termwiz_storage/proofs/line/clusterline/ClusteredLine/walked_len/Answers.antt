@@ -1,21 +1,19 @@
-use Rattle.std.proofs.Common.{◌≡◌, ℕ, ◌+◌, List, length, take, min, arith, refl, sym, ◌∙◌, ap, subst, rules}
+use Rattle.std.proofs.Common.{◌≡◌, ℕ, ◌+◌, List, length, min, arith, refl, sym, ◌∙◌, ap, subst, rules}
 use Rattle.std.proofs.lemmas.Bool.{iff_false}
-use Rattle.std.proofs.lemmas.List.{take_all}
 use Rattle.termwiz_cell.specs.CellValue.{CellValue, blank, columns}
 use Rattle.termwiz_storage.specs.Stored.{visible, IsKept}
 use Rattle.termwiz_storage.specs.CellRef.{indexed_cell}
 use Rattle.termwiz_storage.proofs.CellRefs.{ref_cell-is, contents-is}
-use Rattle.termwiz_storage.proofs.Kept.{EndsAt, blank_cell, other_cell, nothing, IsKept-used}
-use Rattle.termwiz_storage.proofs.Used.{used-all}
+use Rattle.termwiz_storage.proofs.Kept.{EndsAt, blank_cell, other_cell, nothing, IsKept-ends}
 use Rattle.termwiz_storage.proofs.line.clusterline.ClusteredLine.walked_len.Goals as goal
 
 pub returns : goal.returns
 returns c =
     let h = c.loop-cell.invariant.end_is in
     let cs : List CellValue = c.args.self.now in
-    let walk : c.into_iter-cell-iterator.result ≡ visible (take (length cs) cs) = c.into_iter-cell-iterator.ensures.into_iter_gives ∙ c.iter-cell-items.ensures ∙ ap visible (sym (take_all (length cs) cs (omega arith))) in
+    let walk : c.into_iter-cell-iterator.result ≡ visible cs = c.into_iter-cell-iterator.ensures.into_iter_gives ∙ c.iter-cell-items.ensures in
     let end : EndsAt 0 c.into_iter-cell-iterator.result h.0 = h.2 h.0 (subst (λ (z : List (ℕ × CellValue)). EndsAt h.0 z h.0) (sym c.in-None.ensures.steps.0) nothing) in
-    let kept : IsKept cs (min h.0 (length cs)) = IsKept-used (length cs) cs h.0 (used-all cs) (subst (λ (z : List (ℕ × CellValue)). EndsAt 0 z h.0) walk end) in
+    let kept : IsKept cs (min h.0 (length cs)) = IsKept-ends cs h.0 (subst (λ (z : List (ℕ × CellValue)). EndsAt 0 z h.0) walk end) in
     let len : c.self.inside.len ≡ length cs = c.self.invariant.len ∙ ap length c.self.view_is in
     let n : c.min.result ≡ min h.0 (length cs) = omega (arith, h.1, c.self.invariant.fits) in
     rw n kept

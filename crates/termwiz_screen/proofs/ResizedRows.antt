@@ -1,5 +1,5 @@
 -- Rows in another size.
-use Rattle.std.proofs.Common.{◌≡◌, ℕ, zero, suc, ◌-◌, ◌<◌, ◌≤◌, min, inl, inr, List, [], ◌∷◌, ◌++◌, length, take, get_or, map, replicate, refl, sym, ◌∙◌, ap, ap₂, subst, arith, length-append, length-take}
+use Rattle.std.proofs.Common.{◌≡◌, ℕ, zero, suc, true, ◌-◌, ◌<◌, ◌≤◌, min, inl, inr, List, [], ◌∷◌, ◌++◌, length, take, get_or, map, replicate, refl, sym, ◌∙◌, ap, ap₂, subst, arith, length-append, length-take}
 use Rattle.std.specs.List.{All}
 use Rattle.std.proofs.lemmas.Bool.{cases_Bool, cases_lt}
 use Rattle.std.proofs.lemmas.List.{ext_get_or, get_or-map, get_or_past, get_or-replicate, length-map, length-replicate, map-append, take-map, take_all}
@@ -14,10 +14,10 @@ use Rattle.termwiz_line.specs.Row.{IsRow, row_of, settled_at}
 use Rattle.termwiz_line.proofs.Resized.{resized_is_row}
 use Rattle.termwiz_line.proofs.RowOf.{length-row_of, row_of_at, row_of_row}
 use Rattle.termwiz_line.proofs.StoredRows.{row_stored, row_ext, row_alike, row_blank}
-use Rattle.termwiz_screen.specs.Resized.{resized_rows, resized_stored, resized_flags}
+use Rattle.termwiz_screen.specs.Resized.{in_width, resized_rows, resized_stored, resized_flags}
 use Rattle.termwiz_screen.specs.Screen.{row_at}
 use Rattle.termwiz_screen.specs.ScreenValue.{cells_of, numberless}
-use Rattle.termwiz_screen.specs.Sides.{row_flags}
+use Rattle.termwiz_screen.specs.Sides.{row_flags, AreVectors}
 use Rattle.termwiz_screen.specs.Measured.{IsMeasured, IsStored}
 use Rattle.termwiz_screen.proofs.Regions.{map-replicate}
 use Rattle.termwiz_screen.proofs.Stored.{IsLawful, IsMeasured-blank, IsStored-blank, halved}
@@ -27,6 +27,10 @@ take_upto n h xs e = elim (cases_lt h (length xs)) [
   | inl l ↦ let same : n ≡ h = omega arith in ap (λ k. take k xs) same
   | inr g ↦ take_all n xs (omega arith) ∙ sym (take_all h xs g)
 ]
+
+map-map : {X Y Z : Type 0} (g : Y → Z) (k : X → Y) (xs : List X) → map g (map k xs) ≡ map (λ x. g (k x)) xs
+map-map g k [] = refl
+map-map g k (x ∷ xs) = ap (λ t. g (k x) ∷ t) (map-map g k xs)
 
 -- default rows come behind the rows that were kept
 module _ (w h count : ℕ) (xs ys new : List LineValue) (c : count ≡ h - length ys) (is : new ≡ ys ++ replicate count (numberless (replicate w blank))) where
@@ -43,6 +47,22 @@ module _ (w h count : ℕ) (xs ys new : List LineValue) (c : count ≡ h - lengt
       let left : count ≡ h - length (row_flags xs) = omega arith in
       ap row_flags is ∙ map-append (λ (l : LineValue). l.flags) ys (replicate count (numberless (replicate w blank)))
       ∙ ap₂ (λ u v. u ++ v) e (map-replicate (λ (l : LineValue). l.flags) count (numberless (replicate w blank)) ∙ ap (λ k. replicate k no_flags) left)
+
+-- each of the first rows is cut in place or gives way to its copy
+module _ (w h : ℕ) (xs : List LineValue) where
+  pub cells-in_width : cells_of (map (in_width w) (take h xs)) ≡ map (resized w) (take h (cells_of xs))
+  cells-in_width = map-map (λ (l : LineValue). l.cells) (in_width w) (take h xs) ∙ sym (map-map (resized w) (λ (l : LineValue). l.cells) (take h xs)) ∙ ap (map (resized w)) (sym (take-map (λ (l : LineValue). l.cells) h xs))
+
+  pub flags-in_width : row_flags (map (in_width w) (take h xs)) ≡ take h (row_flags xs)
+  flags-in_width = map-map (λ (l : LineValue). l.flags) (in_width w) (take h xs) ∙ sym (take-map (λ (l : LineValue). l.flags) h xs)
+
+  -- with default rows behind them all are vectors
+  pub vectors-in_width : (count : ℕ) → AreVectors (map (in_width w) (take h xs) ++ replicate count (numberless (replicate w blank)))
+  vectors-in_width count = record {
+    each = All-append (λ (l : LineValue). l.is_vector ≡ true) (map (in_width w) (take h xs)) (replicate count (numberless (replicate w blank)))
+        (All-map (λ (l : LineValue). l.is_vector ≡ true) (in_width w) (take h xs) (All-from_get_or (λ (l : LineValue). true ≡ true) (take h xs) (numberless []) (λ i l. refl)))
+        (All-replicate (λ (l : LineValue). l.is_vector ≡ true) count (numberless (replicate w blank)) refl);
+  }
 
 -- a stored row of width v in another width
 module _ (f : List ℕ → ℕ) (v w : ℕ) (cs : List CellValue) (lawful : IsLawful f) (s : IsStored f v cs) where
@@ -96,10 +116,6 @@ map-same : (P : List CellValue → Type 0) (g k : List CellValue → List CellVa
 map-same P g k xs h a = ext_get_or [] (map g xs) (map k xs) (length-map xs g ∙ sym (length-map xs k)) (λ i l.
     let m : i < length xs = omega (arith, length-map xs g) in
     get_or-map g xs i [] [] m ∙ h (get_or xs i []) (All-get_or P xs i [] m a) ∙ sym (get_or-map k xs i [] [] m))
-
-map-map : (g k : List CellValue → List CellValue) (xs : List (List CellValue)) → map g (map k xs) ≡ map (λ x. g (k x)) xs
-map-map g k [] = refl
-map-map g k (x ∷ xs) = ap (λ t. g (k x) ∷ t) (map-map g k xs)
 
 pub length-resized_stored : (w h : ℕ) (rows : List (List CellValue)) → length (resized_stored w h rows) ≡ h
 length-resized_stored w h rows = simp (length-append, length-map, length-take, length-replicate) (omega arith)

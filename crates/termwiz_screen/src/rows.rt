@@ -15,7 +15,7 @@ ghost use Rattle.termwiz_screen.specs.Screen.{row_at};
 ghost use Rattle.termwiz_screen.specs.Print.{scrolled};
 ghost use Rattle.termwiz_screen.specs.Rows.{painted_in, AreFilled, IsPartly, ArePartly, ArePartlyReset};
 ghost use Rattle.termwiz_screen.specs.Regions.{region_turned, region_up, region_down};
-ghost use Rattle.termwiz_screen.specs.Resized.{resized_stored, resized_flags};
+ghost use Rattle.termwiz_screen.specs.Resized.{copy_in, cuts_in_place, in_width, resized_stored, resized_flags};
 ghost use Rattle.termwiz_screen.specs.Sides.{row_flags, AreVectors, KeepsSide, KeepSides};
 
 use std::alloc::{AllocError, Global};
@@ -227,31 +227,63 @@ pub fn scroll_region_down(
     Ok(())
 }
 
-// A copy of a row with its flags, cut or filled.
-fn resized_row(row: &Line, width: usize) -> Result<Line, AllocError>
-    ensures cells { IfOk result (λ line. line.cells ≡ resized width row.now.cells) }
-    ensures side { IfOk result (λ line. KeepsSide row.now line) }
+// Whether a row can be cut to the width in place, for which it needs no memory.
+fn can_be_cut(row: &Line, width: usize) -> bool
+    ensures { result ≡ cuts_in_place width row.now }
 {
-    row.resized_clone(width)
+    row.stored_cells().is_some() && width <= row.len()
 }
 
-// Copies of the first rows with their flags, cut or filled, with room for more up to the height.
-fn kept_rows(
+// The row in the width, where it can't be cut in place.
+fn grown_copy(row: &Line, width: usize) -> Result<Option<Line>, AllocError>
+    ensures { IfOk result (λ copy. copy ≡ copy_in width row.now) }
+{
+    if can_be_cut(row, width) {
+        return Ok(None);
+    }
+    let copy = row.resized_clone(width)?;
+    Ok(Some(copy))
+}
+
+// The same for each of the first rows.
+fn grown_copies(
     alloc: Global,
     rows: &VecDeque<Line>,
     width: usize,
     height: usize,
-) -> Result<VecDeque<Line>, AllocError>
-    ensures cells { IfOk result (λ kept. cells_of kept.items ≡ map (resized width) (take height (cells_of rows.now.items))) }
-    ensures flags { IfOk result (λ kept. row_flags kept.items ≡ take height (row_flags rows.now.items)) }
-    ensures vectors { IfOk result (λ kept. AreVectors rows.now.items → AreVectors kept.items) }
-    ensures room { IfOk result (λ kept. height ≤ deque_capacity kept) }
+) -> Result<VecDeque<Option<Line>>, AllocError>
+    ensures { IfOk result (λ copies. copies.items ≡ map (copy_in width) (take height rows.now.items)) }
 {
-    let mut kept = VecDeque::with_capacity(alloc, height)?;
-    for i in 0..height.min(rows.len()) {
-        kept.push_back_reserved(resized_row(&rows[i], width)?);
+    let end = height.min(rows.len());
+    let mut copies = VecDeque::with_capacity(alloc, end)?;
+    for i in 0..end {
+        copies.push_back_reserved(grown_copy(&rows[i], width)?);
     }
-    Ok(kept)
+    Ok(copies)
+}
+
+// Cuts a row in place, or puts its copy there.
+fn put_width(row: &mut Line, copy: Option<Line>, width: usize)
+    requires { copy ≡ copy_in width row.old }
+    ensures { row.new ≡ in_width width row.old }
+{
+    match copy {
+        Some(copy) => *row = copy,
+        None => row.resize(width, SEQ_ZERO).unwrap(),
+    }
+}
+
+// The same for each row.
+fn put_widths(rows: &mut VecDeque<Line>, copies: VecDeque<Option<Line>>, width: usize)
+    requires { copies.items ≡ map (copy_in width) rows.old.items }
+    ensures rows { rows.new.items ≡ map (in_width width) rows.old.items }
+    ensures room { deque_capacity rows.new ≡ deque_capacity rows.old }
+{
+    let mut copies = copies;
+    for i in 0..rows.len() {
+        let copy = copies.pop_front().unwrap();
+        put_width(&mut rows[i], copy, width);
+    }
 }
 
 /// Cuts or fills each row to the width, and their number to the height by rows of default blanks. On an error the rows are as before.
@@ -266,10 +298,15 @@ pub fn resize_rows(
     ensures err { OnErr result (rows.new.items ≡ rows.old.items) }
     ensures vectors { AreVectors rows.old.items → AreVectors rows.new.items }
 {
-    let mut fresh = kept_rows(alloc, rows, width, height)?;
-    let missing = height - fresh.len();
-    add_blank_rows(alloc, &mut fresh, width, missing)?;
-    *rows = fresh;
+    // All that can fail comes before the first row is changed.
+    let copies = grown_copies(alloc, rows, width, height)?;
+    let missing = height - copies.len();
+    let mut below = VecDeque::with_capacity(alloc, missing)?;
+    add_blank_rows(alloc, &mut below, width, missing)?;
+    rows.reserve(missing)?;
+    rows.truncate(height);
+    put_widths(rows, copies, width);
+    rows.append(&mut below).unwrap();
     Ok(())
 }
 

@@ -1,7 +1,7 @@
 -- Runs that grow, and copies of runs.
-use Rattle.std.proofs.Common.{◌≡◌, ℕ, zero, suc, ◌+◌, List, [], ◌∷◌, ◌++◌, replicate, set, length, get_or, refl, ap, ap₂, sym, ◌∙◌, append_assoc, arith}
-use Rattle.std.proofs.lemmas.List.{replicate-append-replicate, append-nil}
-use Rattle.std.specs.List.{flat_map, AllZip}
+use Rattle.std.proofs.Common.{◌≡◌, ℕ, zero, suc, ◌+◌, ◌-◌, ◌<◌, ◌≤◌, List, [], ◌∷◌, ◌++◌, Some, replicate, set, length, get_or, drop, refl, ap, ap₂, sym, ◌∙◌, append_assoc, arith}
+use Rattle.std.proofs.lemmas.List.{replicate-append-replicate, append-nil, at_drop_more, replicate_more}
+use Rattle.std.specs.List.{flat_map, slice_get, AllZip}
 use Rattle.termwiz_cell.specs.Attributes.{Attributes}
 use Rattle.termwiz_storage.specs.declared.line.clusterline.runs.AttrsRun.{AttrsRun}
 use Rattle.termwiz_storage.specs.CellRuns.{attrs_of, same_run}
@@ -31,3 +31,18 @@ attrs_of-copied [] (q ∷ qs) h = absurd h
 attrs_of-copied (r ∷ rs) [] h = absurd h
 attrs_of-copied (r ∷ rs) (q ∷ qs) h =
     ap₂ (λ (xs ys : List Attributes). xs ++ ys) (ap₂ (λ (n : ℕ) (a : Attributes). replicate n a) h.0.1 h.0.0) (attrs_of-copied rs qs h.1)
+
+-- a value in a run, and behind it
+pub get_in_run : {X : Type 0} (n k : ℕ) (x : X) (ys : List X) → k < n → slice_get (replicate n x ++ ys) k ≡ Some x
+get_in_run zero k x ys l = absurd (omega arith)
+get_in_run (suc n) zero x ys l = refl
+get_in_run (suc n) (suc k) x ys l = get_in_run n k x ys (omega arith)
+
+pub get_behind_run : {X : Type 0} (n k : ℕ) (x : X) (ys : List X) → n ≤ k → slice_get (replicate n x ++ ys) k ≡ slice_get ys (k - n)
+get_behind_run zero k x ys l = let e : k ≡ k - 0 = omega arith in ap (slice_get ys) e
+get_behind_run (suc n) zero x ys l = absurd (omega arith)
+get_behind_run (suc n) (suc k) x ys l = let e : k - n ≡ suc k - suc n = omega arith in get_behind_run n k x ys (omega arith) ∙ ap (slice_get ys) e
+
+-- the runs from one on
+pub attrs_of-drop : (rs : List AttrsRun) (i : ℕ) (r : AttrsRun) → i < length rs → r ≡ get_or rs i r → attrs_of (drop i rs) ≡ replicate r.cells r.attrs ++ attrs_of (drop (i + 1) rs)
+attrs_of-drop rs i r l e = at_drop_more attrs_of rs i r l ∙ ap (λ (q : AttrsRun). attrs_of (q ∷ drop (i + 1) rs)) (sym e)

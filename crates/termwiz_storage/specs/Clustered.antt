@@ -4,13 +4,19 @@ use Rattle.std.specs.Str.{IsCharBoundary}
 use Rattle.termwiz_cell.specs.Attributes.{Attributes}
 use Rattle.termwiz_cell.specs.CellValue.{CellValue, clean, columns, half}
 use Rattle.termwiz_storage.specs.declared.line.clusterline.runs.Shape.{Shape}
+use Rattle.termwiz_storage.specs.CellTexts.{texts_of}
 use Rattle.termwiz_storage.specs.Edits.{with_half}
-use Rattle.termwiz_storage.specs.Stored.{hides, stored}
+use Rattle.termwiz_storage.specs.Stored.{hides, stored, visible}
 
 -- each hidden cell is a blank with the attributes of the cell that hides it, and no visible wide cell lacks its half
 pub record IsWhole (cs : List CellValue) : Type 0 where
   pub halves : (k : ℕ) → suc k < length cs → hides cs (suc k) ≡ true → stored cs (suc k) ≡ half (stored cs k)
   pub complete : hides cs (length cs) ≡ false
+
+-- each cell takes one column, and one byte
+pub record HasByteCells (cs : List CellValue) : Type 0 where
+  pub columns : length (visible cs) ≡ length cs
+  pub bytes : length (texts_of (visible cs)) ≡ length cs
 
 -- how many bytes a character has, by its first one
 abbrev pub char_len : ℕ → ℕ

@@ -8,7 +8,7 @@ ghost use Rattle.termwiz_cell.specs.CellValue.{blank, clean, half};
 ghost use Rattle.termwiz_storage.specs.CellRef.{indexed_cell, ref_cell, ref_index};
 ghost use Rattle.termwiz_storage.specs.CellTexts.{cell_texts, texts_of};
 ghost use Rattle.termwiz_storage.specs.CellsLeft.{IsOfCell, YieldsCell};
-ghost use Rattle.termwiz_storage.specs.Clustered.{IsWhole, cell_len};
+ghost use Rattle.termwiz_storage.specs.Clustered.{HasByteCells, IsWhole, cell_len};
 ghost use Rattle.termwiz_storage.specs.Edits.{with_half};
 ghost use Rattle.std.specs.List.{last_or, list_all, list_any};
 ghost use Rattle.std.specs.Option.{option_copied};
@@ -23,7 +23,7 @@ mod runs;
 
 use crate::line::cellref::CellRef;
 use crate::line::vecstorage::{hides_next, push_with_half, set_wrapped};
-use run_lists::{AttrsIter, ShapeIter, push_attrs, push_shape, wrap_last};
+use run_lists::{AttrsIter, ShapeIter, attrs_at, cell_count, push_attrs, push_shape, wrap_last};
 use runs::{AttrsRun, Shape, ShapeRun};
 use std::alloc::{AllocError, Global};
 use std::marker::Model;
@@ -154,6 +154,33 @@ impl ClusteredLine {
 
     /// The visible cell that begins at a column.
     pub(super) fn get_cell(&self, i: usize) -> Option<CellRef<'_>>
+        ensures cell { option_map ref_cell result ≡ cell_at (visible self.now) i }
+        ensures index { IfSome result (λ cell. ref_index cell ≡ i) }
+        ensures told { IfSome result IsOfCell }
+    {
+        if !self.has_byte_cells() {
+            return self.walked_cell(i);
+        }
+        let attrs = attrs_at(&self.attrs, i)?;
+        let (_, rest) = self.text.as_str().split_at(i);
+        let (text, _) = rest.split_at(1);
+        Some(CellRef::ClusterRef {
+            cell_index: i,
+            text,
+            width: 1,
+            attrs,
+        })
+    }
+
+    // Whether each cell takes one byte of the text, and one column.
+    fn has_byte_cells(&self) -> bool
+        ensures { IsTrue result ↔ HasByteCells self.now }
+    {
+        self.text().len() == self.len && cell_count(&self.shapes) == self.len
+    }
+
+    // The visible cell that begins at a column, which a walk meets.
+    fn walked_cell(&self, i: usize) -> Option<CellRef<'_>>
         ensures cell { option_map ref_cell result ≡ cell_at (visible self.now) i }
         ensures index { IfSome result (λ cell. ref_index cell ≡ i) }
         ensures told { IfSome result IsOfCell }

@@ -1,5 +1,7 @@
-//! Lists of runs: a cell more, and a walk over the cells.
-ghost use Rattle.std.specs.Prelude.{◌≡◌, ◌<◌, ◌≤◌, ◌+◌, ◌++◌, ◌∷◌, [], IfOk, MatchOption, OnErr, OnOk, replicate, vec_capacity, vec_len};
+//! Lists of runs: a cell more, how many there are, a look at one, and a walk over all.
+ghost use Rattle.std.specs.Prelude.{◌≡◌, ◌<◌, ◌≤◌, ◌+◌, ◌^◌, ◌++◌, ◌∷◌, [], IfOk, MatchOption, OnErr, OnOk, length, replicate, vec_capacity, vec_len};
+ghost use Rattle.std.specs.List.{slice_get};
+ghost use Rattle.std.specs.Option.{option_copied};
 ghost use Rattle.termwiz_storage.specs.CellRuns.{attrs_of, map_last, marked, shapes_of};
 
 use crate::line::clusterline::runs::{AttrsRun, Shape, ShapeRun};
@@ -111,6 +113,33 @@ fn marked_copy(attrs: &CellAttributes, wrapped: bool) -> Result<CellAttributes, 
     let mut copy = attrs.clone()?;
     set_wrapped(&mut copy, wrapped);
     Ok(copy)
+}
+
+/// How many cells there are.
+pub(super) fn cell_count(runs: &[ShapeRun]) -> usize
+    requires { length (shapes_of runs.now) < 2 ^ 64 }
+    ensures { result ≡ length (shapes_of runs.now) }
+{
+    let mut count = 0;
+    for run in runs {
+        count += run.cells as usize;
+    }
+    count
+}
+
+/// The attributes of the cell before which there are so many, where there is one.
+pub(super) fn attrs_at(runs: &[AttrsRun], i: usize) -> Option<&CellAttributes>
+    ensures { option_copied result ≡ slice_get (attrs_of runs.now) i }
+{
+    let mut left = i;
+    for run in runs {
+        let cells = run.cells as usize;
+        if left < cells {
+            return Some(&run.attrs);
+        }
+        left -= cells;
+    }
+    None
 }
 
 /// The shapes of the cells that a walk over runs has left.

@@ -447,11 +447,27 @@ fn pad_cells(cells: &mut Vec<Cell>, len: usize) -> Result<(), AllocError>
     let have = cells.len();
     if have < len {
         cells.reserve(len - have)?;
-        for _ in have..len {
-            cells.push_reserved(Cell::blank());
-        }
+        // A list of the function's own is filled faster than one behind a reference.
+        let none = Vec::new(*cells.allocator());
+        let own = mem::replace(cells, none);
+        *cells = with_blanks(own, len);
     }
     Ok(())
+}
+
+// Pads with default blanks, for which there is room.
+fn with_blanks(cells: Vec<Cell>, len: usize) -> Vec<Cell>
+    requires longer { vec_len cells ≤ len }
+    requires room { len ≤ vec_capacity cells }
+    ensures items { result.items ≡ padded len cells.items }
+    ensures capacity { vec_capacity result ≡ vec_capacity cells }
+{
+    let have = cells.len();
+    let mut cells = cells;
+    for _ in have..len {
+        cells.push_reserved(Cell::blank());
+    }
+    cells
 }
 
 // Copies of cells, with room for so many.

@@ -1,5 +1,5 @@
 -- Runs of cells that are alike, written out: one value for each cell.
-use Rattle.std.specs.Prelude.{◌≡◌, ℕ, Bool, List, [], ◌∷◌, Option, Some, None, replicate}
+use Rattle.std.specs.Prelude.{◌≡◌, ℕ, Bool, List, [], ◌∷◌, ◌++◌, Option, Some, None, replicate}
 use Rattle.std.specs.Borrow.{Bor}
 use Rattle.std.specs.List.{flat_map}
 use Rattle.termwiz_cell.specs.Attributes.{Attributes}
@@ -16,6 +16,10 @@ shapes_of rs = flat_map (λ r. replicate r.cells (shape_in r)) rs
 
 abbrev pub attrs_of : List AttrsRun → List Attributes
 attrs_of rs = flat_map (λ r. replicate r.cells r.attrs) rs
+
+-- runs that have n more cells, with these attributes
+abbrev pub AddsAttrs : List AttrsRun → ℕ → Attributes → List AttrsRun → Type 0
+AddsAttrs old n a new = attrs_of new ≡ attrs_of old ++ replicate n a
 
 -- runs of as many cells with the same attributes
 abbrev pub same_run : AttrsRun → AttrsRun → Type 0

@@ -1,5 +1,5 @@
 -- The texts of cells.
-use Rattle.std.specs.Prelude.{ℕ, List}
+use Rattle.std.specs.Prelude.{ℕ, List, take}
 use Rattle.std.specs.List.{flat_map}
 use Rattle.termwiz_cell.specs.CellValue.{CellValue}
 
@@ -7,6 +7,10 @@ use Rattle.termwiz_cell.specs.CellValue.{CellValue}
 abbrev pub texts_of : List (ℕ × CellValue) → List ℕ
 texts_of cells = flat_map (λ p. p.1.text) cells
 
--- the same of cells
+-- those of cells
 abbrev pub cell_texts : List CellValue → List ℕ
 cell_texts cells = flat_map (λ c. c.text) cells
+
+-- those of the first n cells
+abbrev pub first_texts : ℕ → List CellValue → List ℕ
+first_texts n cells = cell_texts (take n cells)

@@ -1,21 +1,21 @@
 //! Cells stored as one text.
-ghost use Rattle.std.specs.Prelude.{◌≡◌, ◌+◌, ◌++◌, ◌∷◌, ◌^◌, ◌<◌, ◌≤◌, ◌↔◌, [], true, false};
+ghost use Rattle.std.specs.Prelude.{◌≡◌, ◌+◌, ◌++◌, ◌∷◌, ◌^◌, ◌<◌, ◌≤◌, ◌↔◌, [], true};
 ghost use Rattle.std.specs.Prelude.{IfOk, IfSome, IsSome, IsTrue, None, OnErr, OnOk, Some};
-ghost use Rattle.std.specs.Prelude.{length, min, take, option_map};
+ghost use Rattle.std.specs.Prelude.{length, take, option_map};
 ghost use Rattle.std.specs.Prelude.{string_bytes, string_capacity, string_len};
 ghost use Rattle.std.specs.Iterator.{item_count};
+ghost use Rattle.std.specs.List.{last_or, list_any};
+ghost use Rattle.std.specs.Option.{option_copied};
+ghost use Rattle.termwiz_cell.specs.Attributes.{default_attributes};
 ghost use Rattle.termwiz_cell.specs.CellValue.{blank, clean, half};
 ghost use Rattle.termwiz_storage.specs.CellRef.{indexed_cell, ref_cell, ref_index};
-ghost use Rattle.termwiz_storage.specs.CellTexts.{cell_texts, texts_of};
+ghost use Rattle.termwiz_storage.specs.CellTexts.{first_texts, texts_of};
 ghost use Rattle.termwiz_storage.specs.CellsLeft.{IsOfCell, YieldsCell};
 ghost use Rattle.termwiz_storage.specs.Clustered.{HasByteCells, IsWhole, cell_len};
 ghost use Rattle.termwiz_storage.specs.Edits.{with_half};
-ghost use Rattle.std.specs.List.{last_or, list_all, list_any};
-ghost use Rattle.std.specs.Option.{option_copied};
-ghost use Rattle.termwiz_cell.specs.Attributes.{default_attributes};
 ghost use Rattle.termwiz_storage.specs.LastCell.{last_attrs};
-ghost use Rattle.termwiz_storage.specs.PlainCells.{is_plain_with};
-ghost use Rattle.termwiz_storage.specs.Stored.{cell_at, is_linked, stored, visible, IsKept};
+ghost use Rattle.termwiz_storage.specs.PlainCells.{is_plain_with, ArePlain};
+ghost use Rattle.termwiz_storage.specs.Stored.{cell_at, is_linked, visible, IsKept};
 ghost use Rattle.termwiz_storage.specs.Wrapped.{set_last_wrapped, with_wrapped};
 
 mod run_lists;
@@ -76,7 +76,7 @@ impl ClusteredLine {
             return Ok(None);
         }
         let mut line = ClusteredLine::new(alloc);
-        // Most cells have one byte.
+        // Each visible cell has a byte at least.
         line.text.reserve(cells.len())?;
         let mut rest = cells;
         'runs: while !rest.is_empty() {
@@ -225,7 +225,7 @@ impl ClusteredLine {
         Ok(())
     }
 
-    // Appends the first cells, a run of plain ones or one cell with its half, and gives what is left.
+    // Appends a run of plain cells, or else one cell and its half, and gives what is left.
     fn append_first<'a>(&mut self, cells: &'a [Cell]) -> Result<&'a [Cell], AllocError>
         requires some { 0 < length cells.now }
         requires whole { IsWhole cells.now }
@@ -234,35 +234,45 @@ impl ClusteredLine {
         ensures shorter { IfOk result (λ rest. length rest.now < length cells.now) }
     {
         let first = &cells[0];
-        let len = run_len(cells, first.attrs());
-        if len > 0 {
-            self.append_run(&cells[..len], first.attrs())?;
-            return Ok(&cells[len..]);
+        let count = self.append_run(cells, first.attrs())?;
+        if count > 0 {
+            return Ok(&cells[count..]);
         }
         self.append(first)?;
         Ok(&cells[first.width()..])
     }
 
-    // Appends plain cells with these attributes, 65,535 at most. What can fail comes first.
-    fn append_run(&mut self, cells: &[Cell], attrs: &CellAttributes) -> Result<(), AllocError>
-        requires some { 0 < length cells.now }
-        requires few { length cells.now ≤ 65535 }
-        requires plain { list_all (is_plain_with attrs.now) cells.now ≡ true }
-        ensures ok { OnOk result (self.new ≡ self.old ++ cells.now) }
+    // Appends the first cells as far as they are plain and have these attributes, 65,535 at most,
+    // and tells how many these are.
+    fn append_run(&mut self, cells: &[Cell], attrs: &CellAttributes) -> Result<usize, AllocError>
+        requires { 0 < length cells.now }
+        ensures within { IfOk result (λ count. count ≤ length cells.now) }
+        ensures plain { IfOk result (λ count. ArePlain attrs.now (take count cells.now)) }
+        ensures ok { IfOk result (λ count. self.new ≡ self.old ++ take count cells.now) }
         ensures err { OnErr result (self.new ≡ self.old) }
     {
-        let count = cells.len();
-        if count > usize::MAX - self.len {
-            return Err(AllocError);
+        if cells[0].width() > 1 {
+            return Ok(0);
         }
-        let len = self.len + count;
+        let most = cells
+            .len()
+            .min(u16::MAX as usize)
+            .min(usize::MAX - self.len);
         self.shapes.reserve(1)?;
-        self.text.reserve(count)?;
-        push_attrs(&mut self.attrs, attrs, count as u16)?;
+        self.text.reserve(most)?;
+        let end = self.text.len();
+        let count = push_plain(&mut self.text, &cells[..most], attrs);
+        if count == 0 {
+            return Ok(0);
+        }
+        if let Err(error) = push_attrs(&mut self.attrs, attrs, count as u16) {
+            // The texts are taken back.
+            self.text.truncate(end);
+            return Err(error);
+        }
         push_shape(&mut self.shapes, one_char(false), count as u16);
-        push_texts(&mut self.text, cells);
-        self.len = len;
-        Ok(())
+        self.len += count;
+        Ok(count)
     }
 
     // What can fail comes first, so that an error leaves the line as it was.
@@ -365,42 +375,40 @@ fn is_half_of(cell: &Cell, wide: &Cell) -> bool
     cell.width() == 1 && matches!(cell.str().as_bytes(), b" ") && *cell.attrs() == *wide.attrs()
 }
 
-// How many of the first cells, 65,535 at most, are plain ones with these attributes.
-fn run_len(cells: &[Cell], attrs: &CellAttributes) -> usize
-    ensures within { result ≤ min 65535 (length cells.now) }
-    ensures plain { list_all (is_plain_with attrs.now) (take result cells.now) ≡ true }
-    ensures longest { result < min 65535 (length cells.now) → is_plain_with attrs.now (stored cells.now result) ≡ false }
+// Appends the texts of the first cells, as far as they are plain and have these attributes, and
+// tells how many these are. There is room for all.
+fn push_plain(text: &mut String, cells: &[Cell], attrs: &CellAttributes) -> usize
+    requires { string_len text.old + length cells.now ≤ string_capacity text.old }
+    ensures within { result ≤ length cells.now }
+    ensures plain { ArePlain attrs.now (take result cells.now) }
+    ensures bytes { string_bytes text.new ≡ string_bytes text.old ++ first_texts result cells.now }
 {
-    let end = cells.len().min(u16::MAX as usize);
-    for i in 0..end {
-        if !is_plain_with(&cells[i], attrs) {
+    for i in 0..cells.len() {
+        let Some(byte) = plain_byte(&cells[i], attrs) else {
             return i;
-        }
+        };
+        text.push(byte as char).unwrap();
     }
-    end
+    cells.len()
 }
 
-fn is_plain_with(cell: &Cell, attrs: &CellAttributes) -> bool
-    ensures { result ≡ is_plain_with attrs.now cell.now }
+// The character of a plain cell with these attributes.
+fn plain_byte(cell: &Cell, attrs: &CellAttributes) -> Option<u8>
+    ensures plain { IsSome result ↔ (is_plain_with attrs.now cell.now ≡ true) }
+    ensures text { IfSome result (λ byte. cell.now.text ≡ byte ∷ []) }
+    ensures ascii { IfSome result (λ byte. byte < 128) }
 {
-    cell.width() == 1 && is_one_plain(cell.str()) && *cell.attrs() == *attrs
-}
-
-// Appends the texts of cells, for which there is room.
-fn push_texts(text: &mut String, cells: &[Cell])
-    requires { string_len text.old + length (cell_texts cells.now) ≤ string_capacity text.old }
-    ensures { string_bytes text.new ≡ string_bytes text.old ++ cell_texts cells.now }
-{
-    for cell in cells {
-        push_text(text, cell.str());
+    let text = cell.str();
+    if cell.width() == 1 && is_one_plain(text) && *cell.attrs() == *attrs {
+        return Some(text.as_bytes()[0]);
     }
+    None
 }
 
-// Appends to a text, for which there is room. A text of one byte takes no call.
+// Appends to a text, for which there is room. A character of ASCII takes no call.
 fn push_text(text: &mut String, more: &str)
     requires { string_len text.old + length more.now ≤ string_capacity text.old }
-    ensures bytes { string_bytes text.new ≡ string_bytes text.old ++ more.now }
-    ensures capacity { string_capacity text.old ≤ string_capacity text.new }
+    ensures { string_bytes text.new ≡ string_bytes text.old ++ more.now }
 {
     match more.as_bytes() {
         [byte] if *byte < 128 => text.push(*byte as char).unwrap(),

@@ -1,8 +1,10 @@
 //! Lists of runs: a cell more, how many there are, a look at one, and a walk over all.
-ghost use Rattle.std.specs.Prelude.{◌≡◌, ◌<◌, ◌≤◌, ◌+◌, ◌^◌, ◌++◌, ◌∷◌, [], IfOk, MatchOption, OnErr, OnOk, length, replicate, vec_capacity, vec_len};
+ghost use Rattle.std.specs.Prelude.{◌≡◌, ◌<◌, ◌≤◌, ◌+◌, ◌^◌, ◌++◌, ◌∷◌, []};
+ghost use Rattle.std.specs.Prelude.{IfOk, MatchOption, OnErr, OnOk, length, replicate};
+ghost use Rattle.std.specs.Prelude.{vec_capacity, vec_len};
 ghost use Rattle.std.specs.List.{slice_get};
 ghost use Rattle.std.specs.Option.{option_copied};
-ghost use Rattle.termwiz_storage.specs.CellRuns.{attrs_of, map_last, marked, shapes_of};
+ghost use Rattle.termwiz_storage.specs.CellRuns.{AddsAttrs, attrs_of, map_last, marked, shapes_of};
 
 use crate::line::clusterline::runs::{AttrsRun, Shape, ShapeRun};
 use crate::line::vecstorage::set_wrapped;
@@ -25,7 +27,7 @@ impl Clone for AttrsRun {
     }
 }
 
-/// So many more cells of this shape, in the last run or in a new one, for which there is room.
+/// So many more cells of this shape, where there is room for one more run.
 pub(super) fn push_shape(runs: &mut Vec<ShapeRun>, shape: Shape, cells: u16)
     requires { vec_len runs.old < vec_capacity runs.old }
     ensures { shapes_of runs.new.items ≡ shapes_of runs.old.items ++ replicate cells shape }
@@ -56,14 +58,15 @@ fn run_of(shape: Shape, cells: u16) -> ShapeRun
     }
 }
 
-/// So many more cells with these attributes, in the last run or in a new one. On an error nothing changed.
+/// So many more cells with these attributes, one at least. On an error nothing changed.
+#[inline(always)]
 pub(super) fn push_attrs(
     runs: &mut Vec<AttrsRun>,
     attrs: &CellAttributes,
     cells: u16,
 ) -> Result<(), AllocError>
     requires { 0 < cells }
-    ensures ok { OnOk result (attrs_of runs.new.items ≡ attrs_of runs.old.items ++ replicate cells attrs.now) }
+    ensures ok { OnOk result (AddsAttrs runs.old.items cells attrs.now runs.new.items) }
     ensures err { OnErr result (runs.new.items ≡ runs.old.items) }
 {
     let count = runs.len();
@@ -202,7 +205,7 @@ impl<'a> Model for AttrsIter<'a> {
     ghost use Rattle.std.specs.Prelude.{List, ◌≡◌, ◌++◌, None};
     ghost use Rattle.std.specs.Slice.Iter.{iter_rest};
     ghost use Rattle.termwiz_cell.specs.Attributes.{Attributes};
-    ghost use Rattle.termwiz_storage.specs.CellRuns.{attrs_of, same_attrs};
+    ghost use Rattle.termwiz_storage.specs.CellRuns.{AddsAttrs, attrs_of, same_attrs};
 
     ghost Value = { List Attributes };
 

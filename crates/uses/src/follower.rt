@@ -1,15 +1,18 @@
 //! A follower of one's own, which is sent what changed since it asked last.
 ghost use Rattle.std.specs.Prelude.{◌≡◌, [], ◌∷◌, IfOk, OnErr, OnOk};
-ghost use Rattle.termwiz_cell.specs.ChangeValue.{change_value};
-ghost use Rattle.termwiz_cell.specs.Width.{unversioned};
-ghost use Rattle.termwiz_surface.specs.Following.{Follows};
-ghost use Rattle.termwiz_surface.specs.Step.{replay};
-ghost use Rattle.termwiz_surface.specs.SurfaceValue.{screen_of};
+ghost use Rattle.termwiz_surface.specs.{
+  Follows,
+  ViewerValue,
+  change_value,
+  replay,
+  screen_of,
+  unversioned,
+};
 
 use std::alloc::{AllocError, Global};
 use std::marker::Model;
-use termwiz_cell::change::{Change, SEQ_ZERO, SequenceNo};
-use termwiz_cell::emoji::Widths;
+use termwiz_surface::change::{Change, SEQ_ZERO, SequenceNo};
+use termwiz_surface::emoji::Widths;
 use termwiz_surface::laws::{following_laws, full_following_laws, full_repaint_laws};
 use termwiz_surface::surface::{Surface, SurfaceError};
 use termwiz_surface::view::copied;
@@ -23,8 +26,6 @@ pub struct Follower<W: Widths> {
 }
 
 impl<W: Widths> Model for Follower<W> {
-    ghost use Rattle.termwiz_surface.specs.Following.{ViewerValue};
-
     ghost Value = { ViewerValue W };
 
     ghost view = { λ f. record { surface = f.shown; last = f.last } };

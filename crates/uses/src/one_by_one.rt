@@ -1,12 +1,9 @@
 //! Changes that are made one at a time, as they come.
 ghost use Rattle.std.specs.Prelude.{◌≡◌, OnOk, map};
-ghost use Rattle.termwiz_cell.specs.ChangeValue.{change_value};
-ghost use Rattle.termwiz_cell.specs.Width.{unversioned};
-ghost use Rattle.termwiz_surface.specs.Step.{replay};
-ghost use Rattle.termwiz_surface.specs.SurfaceValue.{screen_of};
+ghost use Rattle.termwiz_surface.specs.{change_value, replay, screen_of, unversioned};
 
-use termwiz_cell::change::Change;
-use termwiz_cell::emoji::Widths;
+use termwiz_surface::change::Change;
+use termwiz_surface::emoji::Widths;
 use termwiz_surface::surface::{Surface, SurfaceError};
 
 /// Makes the changes, each by itself. The screen is the same as if they were one list.

@@ -1,15 +1,18 @@
 //! A remote terminal, to which a session's title and its headings of double width go as its rows do.
 ghost use Rattle.std.specs.Prelude.{◌≡◌, IfOk, OnOk, get_or, map, true};
-ghost use Rattle.termwiz_cell.specs.ChangeValue.{change_value};
-ghost use Rattle.termwiz_cell.specs.Width.{unversioned};
-ghost use Rattle.termwiz_cell.specs.declared.change.LineAttribute.TheVariants.{DoubleWidthLine, SingleWidthLine};
-ghost use Rattle.termwiz_surface.specs.Following.{Follows};
-ghost use Rattle.termwiz_surface.specs.SurfaceValue.{full_of};
+ghost use Rattle.termwiz_surface.specs.{
+  DoubleWidthLine,
+  Follows,
+  SingleWidthLine,
+  change_value,
+  full_of,
+  unversioned,
+};
 ghost use Rattle.uses.specs.Headings.{heading_changes};
 
 use std::alloc::{AllocError, Global};
-use termwiz_cell::change::{Change, LineAttribute};
-use termwiz_cell::emoji::Widths;
+use termwiz_surface::change::{Change, LineAttribute};
+use termwiz_surface::emoji::Widths;
 use termwiz_surface::surface::{Surface, SurfaceError};
 use termwiz_surface::view::Viewer;
 

@@ -1,11 +1,8 @@
 //! A renderer: what it does in each turn of its loop.
 ghost use Rattle.std.specs.Prelude.{◌≡◌, All, OnOk};
-ghost use Rattle.termwiz_cell.specs.Width.{unversioned};
-ghost use Rattle.termwiz_surface.specs.Following.{Follows};
-ghost use Rattle.termwiz_surface.specs.Log.{flushed, next_number};
-ghost use Rattle.termwiz_surface.specs.SurfaceValue.{screen_of};
+ghost use Rattle.termwiz_surface.specs.{Follows, flushed, next_number, screen_of, unversioned};
 
-use termwiz_cell::emoji::Widths;
+use termwiz_surface::emoji::Widths;
 use termwiz_surface::surface::{Surface, SurfaceError};
 use termwiz_surface::view::Viewer;
 

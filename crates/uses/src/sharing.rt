@@ -1,16 +1,23 @@
 //! A screen that is shared: its answers are carried off, and may be delivered late, repeatedly, in any order, or never.
 ghost use Rattle.std.specs.Prelude.{◌≡◌, ℕ, ◌≤◌, true, false, All, OnOk};
-ghost use Rattle.termwiz_cell.specs.Width.{unversioned};
-ghost use Rattle.termwiz_surface.specs.Following.{Follows};
-ghost use Rattle.termwiz_surface.specs.FullScreen.{FullScreen};
-ghost use Rattle.termwiz_surface.specs.History.{IsPast, KeepsNames, Names};
-ghost use Rattle.termwiz_surface.specs.Log.{is_known, next_number};
-ghost use Rattle.termwiz_surface.specs.Picture.{full_screens, screens};
-ghost use Rattle.termwiz_surface.specs.Screen.{Screen};
-ghost use Rattle.termwiz_surface.specs.SurfaceValue.{full_of, screen_of};
+ghost use Rattle.termwiz_surface.specs.{
+  Follows,
+  FullScreen,
+  IsPast,
+  KeepsNames,
+  Names,
+  Screen,
+  full_of,
+  full_screens,
+  is_known,
+  next_number,
+  screen_of,
+  screens,
+  unversioned,
+};
 
-use termwiz_cell::change::{Change, SequenceNo};
-use termwiz_cell::emoji::Widths;
+use termwiz_surface::change::{Change, SequenceNo};
+use termwiz_surface::emoji::Widths;
 use termwiz_surface::laws::history_laws;
 use termwiz_surface::surface::{Surface, SurfaceError};
 use termwiz_surface::view::{AcceptError, Viewer};

@@ -1,17 +1,20 @@
 //! A status line: the last row of a surface, drawn as one list of changes.
 ghost use Rattle.std.specs.Prelude.{◌≡◌, ◌+◌, IfOk, OnOk, map};
-ghost use Rattle.termwiz_cell.specs.ChangeValue.{change_value};
-ghost use Rattle.termwiz_cell.specs.Width.{unversioned};
-ghost use Rattle.termwiz_surface.specs.Log.{appended, next_number};
-ghost use Rattle.termwiz_surface.specs.Step.{replay};
-ghost use Rattle.termwiz_surface.specs.SurfaceValue.{screen_of};
+ghost use Rattle.termwiz_surface.specs.{
+  appended,
+  change_value,
+  next_number,
+  replay,
+  screen_of,
+  unversioned,
+};
 ghost use Rattle.uses.specs.Status.{status_line};
 
 use std::alloc::{AllocError, Global};
-use termwiz_cell::cell::CellAttributes;
-use termwiz_cell::change::{Change, Position};
-use termwiz_cell::color::ColorAttribute;
-use termwiz_cell::emoji::Widths;
+use termwiz_surface::cell::CellAttributes;
+use termwiz_surface::change::{Change, Position};
+use termwiz_surface::color::ColorAttribute;
+use termwiz_surface::emoji::Widths;
 use termwiz_surface::surface::{Surface, SurfaceError};
 
 /// Clears the last row with a background, and prints a text there with a pen.

@@ -1,12 +1,15 @@
 //! A window of widgets, and a viewer that shows it.
 ghost use Rattle.std.specs.Prelude.{◌≡◌, OnOk};
-ghost use Rattle.termwiz_cell.specs.Width.{unversioned};
-ghost use Rattle.termwiz_surface.specs.Copies.{drawn_region};
-ghost use Rattle.termwiz_surface.specs.DiffRegions.{CrossNone, HaveRegion};
-ghost use Rattle.termwiz_surface.specs.Following.{Follows};
-ghost use Rattle.termwiz_surface.specs.SurfaceValue.{screen_of};
+ghost use Rattle.termwiz_surface.specs.{
+  CrossNone,
+  Follows,
+  HaveRegion,
+  drawn_region,
+  screen_of,
+  unversioned,
+};
 
-use termwiz_cell::emoji::Widths;
+use termwiz_surface::emoji::Widths;
 use termwiz_surface::surface::{Surface, SurfaceError};
 use termwiz_surface::view::Viewer;
 

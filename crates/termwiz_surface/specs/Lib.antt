@@ -92,7 +92,8 @@ pub use Rattle.termwiz_cell.specs.CellValue.{CellValue, blank, blank_of}
 pub use Rattle.termwiz_cell.specs.Attributes.{Attributes, default_attributes, with_background}
 pub use Rattle.termwiz_cell.specs.ChangeValue.{ChangeValue, change_value}
 pub use Rattle.termwiz_cell.specs.Sequence.{SequenceValue, added, all_added, move_by}
-pub use Rattle.termwiz_cell.specs.Width.{unversioned}
+pub use Rattle.termwiz_cell.specs.Measure.{measure}
+pub use Rattle.termwiz_cell.specs.Width.{unversioned, unicode_columns}
 pub use Rattle.termwiz_cell.specs.declared.color.ColorAttribute.{ColorAttribute}
 pub use Rattle.termwiz_cell.specs.declared.change.Position.TheVariants.{Relative, Absolute, EndRelative}
 pub use Rattle.termwiz_cell.specs.declared.change.LineAttribute.TheVariants.{DoubleHeightTopHalfLine, DoubleHeightBottomHalfLine, DoubleWidthLine, SingleWidthLine}

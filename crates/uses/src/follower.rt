@@ -4,9 +4,9 @@ ghost use Rattle.termwiz_surface.specs.{
   Follows,
   ViewerValue,
   change_value,
+  measure,
   replay,
   screen_of,
-  unversioned,
 };
 
 use std::alloc::{AllocError, Global};
@@ -37,7 +37,7 @@ impl<W: Widths> Follower<W> {
         requires { widths ≡ surface.now.widths }
         ensures width { IfOk result (λ follower. follower.surface.width ≡ surface.now.width) }
         ensures height { IfOk result (λ follower. follower.surface.height ≡ surface.now.height) }
-        ensures follows { IfOk result (λ follower. Follows (λ widths. unversioned (W.width_of widths)) follower surface.now) }
+        ensures follows { IfOk result (λ follower. Follows (measure W.width_of) follower surface.now) }
     {
         let (width, height) = surface.dimensions();
         let shown = Surface::new(alloc, width, height, widths)?;
@@ -60,10 +60,10 @@ impl<W: Widths> Follower<W> {
     pub fn catch_up(&mut self, surface: &Surface<W>) -> Result<(), SurfaceError>
         requires same_width { self.old.surface.width ≡ surface.now.width }
         requires same_height { self.old.surface.height ≡ surface.now.height }
-        requires follows { Follows (λ widths. unversioned (W.width_of widths)) self.old surface.now }
+        requires follows { Follows (measure W.width_of) self.old surface.now }
         ensures shown { OnOk result (screen_of self.new.surface ≡ screen_of surface.now) }
         // It can catch up again, after an error too.
-        ensures follows { Follows (λ widths. unversioned (W.width_of widths)) self.new surface.now }
+        ensures follows { Follows (measure W.width_of) self.new surface.now }
         ensures failed { OnErr result (self.new.last ≡ 0) }
         ensures width { self.new.surface.width ≡ self.old.surface.width }
         ensures height { self.new.surface.height ≡ self.old.surface.height }
@@ -92,10 +92,10 @@ pub fn make_and_show<W: Widths>(
 ) -> Result<(), SurfaceError>
     requires same_width { follower.old.surface.width ≡ surface.old.width }
     requires same_height { follower.old.surface.height ≡ surface.old.height }
-    requires follows { Follows (λ widths. unversioned (W.width_of widths)) follower.old surface.old }
-    ensures made { OnOk result (screen_of surface.new ≡ replay (unversioned (W.width_of surface.old.widths)) (screen_of surface.old) (change_value change ∷ [])) }
+    requires follows { Follows (measure W.width_of) follower.old surface.old }
+    ensures made { OnOk result (screen_of surface.new ≡ replay (measure W.width_of surface.old.widths) (screen_of surface.old) (change_value change ∷ [])) }
     ensures shown { OnOk result (screen_of follower.new.surface ≡ screen_of surface.new) }
-    ensures follows { Follows (λ widths. unversioned (W.width_of widths)) follower.new surface.new }
+    ensures follows { Follows (measure W.width_of) follower.new surface.new }
     ensures width { follower.new.surface.width ≡ surface.new.width }
     ensures height { follower.new.surface.height ≡ surface.new.height }
 {

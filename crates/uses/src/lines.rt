@@ -4,9 +4,9 @@ ghost use Rattle.termwiz_surface.specs.{
   IsLower,
   IsUpper,
   default_attributes,
+  measure,
   no_flags,
   stored_text,
-  unversioned,
   visible,
   with_sizes,
 };
@@ -25,7 +25,7 @@ pub fn heading<W: Widths>(
     seqno: SequenceNo,
     widths: &W,
 ) -> Result<Line, AllocError>
-    ensures text { IfOk result (λ line. line.cells ≡ stored_text (unversioned (W.width_of widths.now)) default_attributes text.now) }
+    ensures text { IfOk result (λ line. line.cells ≡ stored_text (measure W.width_of widths.now) default_attributes text.now) }
     ensures wide { IfOk result (λ line. line.flags ≡ with_sizes true false false no_flags) }
     ensures numbered { IfOk result (λ line. line.seqno ≡ seqno) }
 {

@@ -3,10 +3,10 @@ ghost use Rattle.std.specs.Prelude.{◌≡◌, ◌+◌, IfOk, OnOk, map};
 ghost use Rattle.termwiz_surface.specs.{
   appended,
   change_value,
+  measure,
   next_number,
   replay,
   screen_of,
-  unversioned,
 };
 ghost use Rattle.uses.specs.Status.{status_line};
 
@@ -26,7 +26,7 @@ pub fn draw_status<W: Widths>(
     pen: CellAttributes,
     text: &str,
 ) -> Result<(), SurfaceError>
-    ensures ok { OnOk result (screen_of surface.new ≡ replay (unversioned (W.width_of surface.old.widths)) (screen_of surface.old) (status_line background pen text.now)) }
+    ensures ok { OnOk result (screen_of surface.new ≡ replay (measure W.width_of surface.old.widths) (screen_of surface.old) (status_line background pen text.now)) }
     ensures log { OnOk result (surface.new.log ≡ appended surface.old.log (status_line background pen text.now)) }
     ensures numbers { OnOk result (next_number surface.new.log ≡ next_number surface.old.log + 4) }
     ensures width { surface.new.width ≡ surface.old.width }

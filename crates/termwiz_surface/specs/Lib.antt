@@ -42,11 +42,11 @@ pub use Rattle.termwiz_screen.specs.Fewest
 pub use Rattle.termwiz_screen.specs.SequenceLaws
 pub use Rattle.termwiz_cell.specs.ChangeValue
 -- what callers cite, by its name alone: surfaces, viewers and answers,
-pub use Rattle.termwiz_surface_core.specs.SurfaceValue.{SurfaceValue, screen_of, kept_of, full_of, IsSound, SameFrame}
+pub use Rattle.termwiz_surface_core.specs.SurfaceValue.{SurfaceValue, blank_surface, screen_of, kept_of, full_of, IsSound, SameFrame}
 pub use Rattle.termwiz_surface_core.specs.Adding.{Adds, Makes, with_log}
 pub use Rattle.termwiz_surface_core.specs.Resizing.{HasResized, Resizes}
 pub use Rattle.termwiz_surface_core.specs.Copies.{IsDrawn, IsCopied, drawn_region, copied_region}
-pub use Rattle.termwiz_surface_core.specs.Following.{ViewerValue, Follows, FollowsTo, Leads, FullLeads, blank_viewer}
+pub use Rattle.termwiz_surface_core.specs.Following.{ViewerValue, Follows, FollowsTo, KeepsViewers, Leads, FullLeads, blank_viewer}
 pub use Rattle.termwiz_surface_core.specs.History.{Names, IsPast, KeepsNames}
 pub use Rattle.termwiz_surface_core.specs.Answer.{AnswerValue, IsGiven, Carries}
 pub use Rattle.termwiz_surface.specs.Accepting.{Takes}

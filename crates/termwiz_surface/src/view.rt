@@ -5,7 +5,7 @@ ghost use Rattle.std.specs.Cow.{cow_slice_items};
 ghost use Rattle.termwiz_cell.specs.ChangeValue.{change_value};
 ghost use Rattle.std.specs.List.{All};
 ghost use Rattle.termwiz_cell.specs.Measure.{measure};
-ghost use Rattle.termwiz_surface_core.specs.Following.{Follows, ViewerValue};
+ghost use Rattle.termwiz_surface_core.specs.Following.{Follows, KeepsViewers};
 ghost use Rattle.termwiz_surface_core.specs.History.{KeepsNames};
 ghost use Rattle.termwiz_surface.specs.Schedule.{Allows, IsFullSchedule, IsInRange, IsSchedule, IsScheduleOf, Seen, outcome_of, state_beside, state_of};
 
@@ -147,7 +147,7 @@ fn act<W: Widths>(alloc: Global, surface: &mut Surface<W>, event: Event<W>) -> O
     ensures step { IfSome result (λ outcome. (v : Seen) → Allows (measure W.width_of) (measure W.width_of surface.old.widths) surface.old.full (state_beside surface.old v) event outcome (state_beside surface.new v)) }
     ensures widths { surface.new.widths ≡ surface.old.widths }
     ensures full { surface.new.full ≡ surface.old.full }
-    ensures followed { (v : ViewerValue W) → Follows (measure W.width_of) v surface.old → Follows (measure W.width_of) v surface.new }
+    ensures followed { KeepsViewers (measure W.width_of) surface.old surface.new }
     ensures remembered { KeepsNames (measure W.width_of surface.old.widths) surface.old surface.new }
     ensures own { IsSome result → event ≡ Event.Follow → ⊥ }
     ensures none { IsNone result → (event ≡ Event.Follow) × (surface.new ≡ surface.old) }

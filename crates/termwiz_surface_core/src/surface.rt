@@ -18,7 +18,7 @@ ghost use Rattle.termwiz_screen.specs.ShownChars.{shown_chars};
 ghost use Rattle.termwiz_screen.specs.ScreenValue.{screen_value};
 ghost use Rattle.termwiz_surface_core.specs.SurfaceValue.{IsSound, full_of};
 ghost use Rattle.termwiz_surface_core.specs.Adding.{Adds, Makes, Refuses};
-ghost use Rattle.termwiz_surface_core.specs.Following.{Follows, ViewerValue};
+ghost use Rattle.termwiz_surface_core.specs.Following.{KeepsViewers};
 ghost use Rattle.termwiz_surface_core.specs.History.{KeepsNames};
 ghost use Rattle.termwiz_screen.specs.Log.{next_number};
 ghost use Rattle.termwiz_screen.specs.Printable.{HasSize, IsPrintable};
@@ -121,9 +121,24 @@ impl<W: Widths> Model for Surface<W> {
 
     ghost Value = { SurfaceValue W };
 
-    ghost view = { λ s. record { widths = s.widths; width = s.width; height = s.height; lines = cells_of s.rows.items; flags = row_flags s.rows.items; x = s.x; y = s.y; visibility = s.visibility; pen = s.pen; title = string_bytes s.title; shape = s.shape; color = s.color; full = s.full; log = s.log } };
+    ghost view = { λ s. record {
+      widths = s.widths;
+      width = s.width;
+      height = s.height;
+      lines = cells_of s.rows.items;
+      flags = row_flags s.rows.items;
+      x = s.x;
+      y = s.y;
+      visibility = s.visibility;
+      pen = s.pen;
+      title = string_bytes s.title;
+      shape = s.shape;
+      color = s.color;
+      full = s.full;
+      log = s.log;
+    } };
 
-    ghost invariant = { λ s. IsSound (measure W.width_of s.widths) (record { widths = s.widths; width = s.width; height = s.height; lines = cells_of s.rows.items; flags = row_flags s.rows.items; x = s.x; y = s.y; visibility = s.visibility; pen = s.pen; title = string_bytes s.title; shape = s.shape; color = s.color; full = s.full; log = s.log }) × AreVectors s.rows.items };
+    ghost invariant = { λ s. IsSound (measure W.width_of s.widths) (view s) × AreVectors s.rows.items };
 }
 
 /// A copy has the same screen, stored rows, title, cursor's shape and colour, log and number.
@@ -155,7 +170,7 @@ impl<W: Widths> Clone for Surface<W> {
 }
 
 impl<W: Widths> Surface<W> {
-    ghost use Rattle.termwiz_surface_core.specs.SurfaceValue.{SurfaceValue, IsSound, screen_of, lengths_of, kept_of, SameFrame, Draws};
+    ghost use Rattle.termwiz_surface_core.specs.SurfaceValue.{SurfaceValue, IsSound, blank_surface, screen_of, lengths_of, kept_of, SameFrame, Draws};
 
     /// A surface of this width in columns and this height in rows: default blanks, with the cursor home and shown, default attributes as pen and the number 0.
     pub fn new(
@@ -168,7 +183,7 @@ impl<W: Widths> Surface<W> {
         requires some_row { 0 < height }
         requires fits { width < 2 ^ 32 }
         requires fits_height { height < 2 ^ 32 }
-        ensures { IfOk result (λ s. s ≡ record { widths = widths; width = width; height = height; lines = replicate height (replicate width blank); flags = replicate height no_flags; x = 0; y = 0; visibility = Visible; pen = default_attributes; title = []; shape = None; color = Default; full = false; log = record { first = 0; changes = [] } }) }
+        ensures { IfOk result (λ s. s ≡ blank_surface widths width height false) }
     {
         Surface::blank(alloc, width, height, widths, false)
     }
@@ -184,7 +199,7 @@ impl<W: Widths> Surface<W> {
         requires some_row { 0 < height }
         requires fits { width < 2 ^ 32 }
         requires fits_height { height < 2 ^ 32 }
-        ensures { IfOk result (λ s. s ≡ record { widths = widths; width = width; height = height; lines = replicate height (replicate width blank); flags = replicate height no_flags; x = 0; y = 0; visibility = Visible; pen = default_attributes; title = []; shape = None; color = Default; full = true; log = record { first = 0; changes = [] } }) }
+        ensures { IfOk result (λ s. s ≡ blank_surface widths width height true) }
     {
         Surface::blank(alloc, width, height, widths, true)
     }
@@ -201,7 +216,7 @@ impl<W: Widths> Surface<W> {
         requires some_row { 0 < height }
         requires fits { width < 2 ^ 32 }
         requires fits_height { height < 2 ^ 32 }
-        ensures { IfOk result (λ s. s ≡ record { widths = widths; width = width; height = height; lines = replicate height (replicate width blank); flags = replicate height no_flags; x = 0; y = 0; visibility = Visible; pen = default_attributes; title = []; shape = None; color = Default; full = full; log = record { first = 0; changes = [] } }) }
+        ensures { IfOk result (λ s. s ≡ blank_surface widths width height full) }
     {
         let rows = blank_rows(alloc, width, height)?;
         Ok(Surface {
@@ -506,7 +521,7 @@ impl<W: Widths> Surface<W> {
     pub fn add_change(&mut self, change: Change) -> Result<SequenceNo, SurfaceError>
         ensures adds { Adds (measure W.width_of self.old.widths) self.old (change_value change ∷ []) (next_number self.old.log) result self.new }
         // Each viewer that follows the surface goes on to, also after an error.
-        ensures followed { (v : ViewerValue W) → Follows (measure W.width_of) v self.old → Follows (measure W.width_of) v self.new }
+        ensures followed { KeepsViewers (measure W.width_of) self.old self.new }
         // What its numbers named they name still, also after an error.
         ensures remembered { KeepsNames (measure W.width_of self.old.widths) self.old self.new }
     {
@@ -525,7 +540,7 @@ impl<W: Widths> Surface<W> {
         ensures adds { Adds (measure W.width_of self.old.widths) self.old (map change_value changes.items) (next_number self.old.log - 1 + vec_len changes) result self.new }
         ensures empty { vec_len changes ≡ 0 → IsOk result }
         // Each viewer that follows the surface goes on to, also after an error.
-        ensures followed { (v : ViewerValue W) → Follows (measure W.width_of) v self.old → Follows (measure W.width_of) v self.new }
+        ensures followed { KeepsViewers (measure W.width_of) self.old self.new }
         // What its numbers named they name still, also after an error.
         ensures remembered { KeepsNames (measure W.width_of self.old.widths) self.old self.new }
     {

@@ -4,7 +4,7 @@ ghost use Rattle.std.specs.Prelude.{◌≡◌, ℕ, ◌≤◌, true, false, not,
 ghost use Rattle.termwiz_cell.specs.ChangeValue.{change_value};
 ghost use Rattle.termwiz_cell.specs.Measure.{measure};
 ghost use Rattle.termwiz_surface_core.specs.Adding.{with_log};
-ghost use Rattle.termwiz_surface_core.specs.Following.{Follows, ViewerValue};
+ghost use Rattle.termwiz_surface_core.specs.Following.{KeepsViewers};
 ghost use Rattle.termwiz_surface_core.specs.SurfaceValue.{screen_of, kept_of, full_of};
 ghost use Rattle.termwiz_surface_core.specs.History.{KeepsNames};
 ghost use Rattle.termwiz_screen.specs.FullScreen.{full_screen};
@@ -39,7 +39,7 @@ impl<W: Widths> Surface<W> {
         // The answer for this number, and for each greater one, is as it was.
         ensures answers { (n most : ℕ) → seq ≤ n → (is_known most self.new.log n ≡ is_known most self.old.log n) × (due self.new.log n ≡ due self.old.log n) }
         // Each viewer that follows the surface goes on to.
-        ensures followed { (v : ViewerValue W) → Follows (measure W.width_of) v self.old → Follows (measure W.width_of) v self.new }
+        ensures followed { KeepsViewers (measure W.width_of) self.old self.new }
         // What its numbers named they name still.
         ensures remembered { KeepsNames (measure W.width_of self.old.widths) self.old self.new }
     {

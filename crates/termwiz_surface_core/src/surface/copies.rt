@@ -6,7 +6,7 @@ ghost use Rattle.termwiz_surface_core.specs.Copies.{IsCopied, IsDrawn, copied_re
 ghost use Rattle.termwiz_screen.specs.Diff.{restoring};
 ghost use Rattle.termwiz_screen.specs.DiffRegions.{CrossNone, HaveRegion};
 ghost use Rattle.termwiz_surface_core.specs.History.{KeepsNames};
-ghost use Rattle.termwiz_surface_core.specs.Following.{Follows, ViewerValue};
+ghost use Rattle.termwiz_surface_core.specs.Following.{KeepsViewers};
 ghost use Rattle.termwiz_surface_core.specs.SurfaceValue.{screen_of};
 ghost use Rattle.termwiz_surface_core.specs.declared.surface.SurfaceError.TheVariants.{ScrollRegion};
 
@@ -35,7 +35,7 @@ impl<W: Widths> Surface<W> {
         ensures region { OnOk result (let a = screen_of self.old in let b = screen_of other.now in let r = drawn_region a b x y in measure W.width_of self.old.widths ≡ measure W.width_of other.now.widths → CrossNone a.width b.width a.rows b.rows r → HaveRegion a.width (screen_of self.new).rows a.rows b.rows r) }
         ensures no_scroll { result ≡ Err ScrollRegion → ⊥ }
         // Each viewer that follows the surface goes on to, also after an error, and whatever width value the drawn one has.
-        ensures followed { (v : ViewerValue W) → Follows (measure W.width_of) v self.old → Follows (measure W.width_of) v self.new }
+        ensures followed { KeepsViewers (measure W.width_of) self.old self.new }
         // What its numbers named they name still, also after an error.
         ensures remembered { KeepsNames (measure W.width_of self.old.widths) self.old self.new }
     {
@@ -64,7 +64,7 @@ impl<W: Widths> Surface<W> {
         ensures region { OnOk result (let a = screen_of self.old in let r = copied_region a src_x src_y width height dest_x dest_y in CrossNone a.width a.width a.rows a.rows r → HaveRegion a.width (screen_of self.new).rows a.rows a.rows r) }
         ensures no_scroll { result ≡ Err ScrollRegion → ⊥ }
         // Each viewer that follows the surface goes on to, also after an error.
-        ensures followed { (v : ViewerValue W) → Follows (measure W.width_of) v self.old → Follows (measure W.width_of) v self.new }
+        ensures followed { KeepsViewers (measure W.width_of) self.old self.new }
         // What its numbers named they name still, also after an error.
         ensures remembered { KeepsNames (measure W.width_of self.old.widths) self.old self.new }
     {

@@ -8,6 +8,7 @@ pub mod LinkParse
 pub mod Attributes
 pub mod AttributesLayout
 pub mod Width
+pub mod Measure
 pub mod WidthLaws
 pub mod CellValue
 pub mod CellLayout

@@ -40,3 +40,60 @@ pub use Rattle.termwiz_screen.specs.DiffLists
 pub use Rattle.termwiz_screen.specs.DiffLaws
 pub use Rattle.termwiz_screen.specs.Fewest
 pub use Rattle.termwiz_screen.specs.SequenceLaws
+pub use Rattle.termwiz_cell.specs.ChangeValue
+-- what callers cite, by its name alone: surfaces, viewers and answers,
+pub use Rattle.termwiz_surface_core.specs.SurfaceValue.{SurfaceValue, blank_surface, screen_of, kept_of, full_of, IsSound, SameFrame}
+pub use Rattle.termwiz_surface_core.specs.Adding.{Adds, Makes, with_log}
+pub use Rattle.termwiz_surface_core.specs.Resizing.{HasResized, Resizes}
+pub use Rattle.termwiz_surface_core.specs.Copies.{IsDrawn, IsCopied, drawn_region, copied_region}
+pub use Rattle.termwiz_surface_core.specs.Following.{ViewerValue, Follows, FollowsTo, KeepsViewers, Leads, FullLeads, blank_viewer}
+pub use Rattle.termwiz_surface_core.specs.History.{Names, IsPast, KeepsNames}
+pub use Rattle.termwiz_surface_core.specs.Answer.{AnswerValue, IsGiven, Carries}
+pub use Rattle.termwiz_surface.specs.Accepting.{Takes}
+pub use Rattle.termwiz_surface.specs.Schedule.{IsSchedule, IsFullSchedule}
+pub use Rattle.termwiz_surface.specs.ManySchedule.{IsManySchedule}
+-- screens, steps, logs, streams and diffs,
+pub use Rattle.termwiz_screen.specs.Screen.{Screen, row_at}
+pub use Rattle.termwiz_screen.specs.ScreenValue.{screen_value}
+pub use Rattle.termwiz_screen.specs.Kept.{Kept, with_line_attribute}
+pub use Rattle.termwiz_screen.specs.FullScreen.{FullScreen, full_screen, full_replay, line_attribute, HasFullSize}
+pub use Rattle.termwiz_screen.specs.FullScreenValue.{full_value}
+pub use Rattle.termwiz_screen.specs.Picture.{screens, full_screens}
+pub use Rattle.termwiz_screen.specs.Step.{step, step_kept, replay, replay_kept, regions_fit}
+pub use Rattle.termwiz_screen.specs.Resized.{resized_screen, resized_kept}
+pub use Rattle.termwiz_screen.specs.Log.{LogValue, next_number, due, worth, is_known, appended, flushed, restarted}
+pub use Rattle.termwiz_screen.specs.Stream.{IsStream, IsFullStream, Lends, most_entries, stream_of}
+pub use Rattle.termwiz_screen.specs.Repaint.{repaint_in}
+pub use Rattle.termwiz_screen.specs.Printable.{HasSize, IsPrintable, ArePrintable}
+pub use Rattle.termwiz_screen.specs.ShownChars.{shown_chars}
+pub use Rattle.termwiz_screen.specs.Prints.{printed}
+pub use Rattle.termwiz_screen.specs.Diff.{diff, need, whole}
+pub use Rattle.termwiz_screen.specs.DiffLists.{IsDiff}
+pub use Rattle.termwiz_screen.specs.DiffRegions.{CrossNone, HaveRegion}
+-- lines and stored cells,
+pub use Rattle.termwiz_line.specs.LineValue.{LineValue, IsEdited, IsUnchanged, Prunes}
+pub use Rattle.termwiz_line.specs.LineFlags.{LineFlags, no_flags, with_sizes}
+pub use Rattle.termwiz_line.specs.LineEdits.{HasCells, IsEditedAt, IsMade, IsTakenFrom}
+pub use Rattle.termwiz_line.specs.Filled.{IsFilled, IsPartlyFilled}
+pub use Rattle.termwiz_line.specs.Texts.{stored_text, wrapped_text, placed, cells_of_text, texts_between, Overlays, IsPartlyOverlaid}
+pub use Rattle.termwiz_line.specs.Lending.{KeepsLine}
+pub use Rattle.termwiz_line.specs.Clicks.{AnswersAs, IsLower, IsUpper}
+pub use Rattle.termwiz_line.specs.Wraps.{IsWrapped, FitsWidth}
+pub use Rattle.termwiz_line.specs.Zones.{AreZones}
+pub use Rattle.termwiz_line.specs.Clusters.{AreClusters}
+pub use Rattle.termwiz_line.specs.Row.{IsRow, row_of, clear}
+pub use Rattle.termwiz_line.specs.RowLaws.{CellsHaveRow, ClearClears}
+pub use Rattle.termwiz_storage.specs.Stored.{stored, visible, set_cell, set_run}
+pub use Rattle.termwiz_storage.specs.Halves.{resized}
+pub use Rattle.termwiz_storage.specs.CellTexts.{texts_of}
+pub use Rattle.termwiz_storage.specs.Edits.{inserted, erased, erased_within, removed, with_halves, columns_between}
+-- cells, changes, and how wide texts are
+pub use Rattle.termwiz_cell.specs.CellValue.{CellValue, blank, blank_of}
+pub use Rattle.termwiz_cell.specs.Attributes.{Attributes, default_attributes, with_background}
+pub use Rattle.termwiz_cell.specs.ChangeValue.{ChangeValue, change_value}
+pub use Rattle.termwiz_cell.specs.Sequence.{SequenceValue, added, all_added, move_by}
+pub use Rattle.termwiz_cell.specs.Measure.{measure}
+pub use Rattle.termwiz_cell.specs.Width.{unversioned, unicode_columns}
+pub use Rattle.termwiz_cell.specs.declared.color.ColorAttribute.{ColorAttribute}
+pub use Rattle.termwiz_cell.specs.declared.change.Position.TheVariants.{Relative, Absolute, EndRelative}
+pub use Rattle.termwiz_cell.specs.declared.change.LineAttribute.TheVariants.{DoubleHeightTopHalfLine, DoubleHeightBottomHalfLine, DoubleWidthLine, SingleWidthLine}

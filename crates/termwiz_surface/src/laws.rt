@@ -5,6 +5,9 @@ ghost use Rattle.termwiz_screen.specs.FullScreen.{FullScreen};
 ghost use Rattle.termwiz_screen.specs.Picture.{full_screens, screens};
 ghost use Rattle.termwiz_screen.specs.Screen.{Screen};
 
+pub use termwiz_line::laws::{
+    cluster_laws, cut_laws, edit_laws, row_laws, storage_laws, stored_row_laws,
+};
 pub use termwiz_screen::laws::{
     diff_laws, fewest_prints, full_repaint_laws, need_laws, repaint_laws, sequence_laws,
 };

@@ -4,8 +4,8 @@ ghost use Rattle.std.specs.Option.{IfSome, IsNone};
 ghost use Rattle.std.specs.Cow.{cow_slice_items};
 ghost use Rattle.termwiz_cell.specs.ChangeValue.{change_value};
 ghost use Rattle.std.specs.List.{All};
-ghost use Rattle.termwiz_cell.specs.Width.{unversioned};
-ghost use Rattle.termwiz_surface_core.specs.Following.{Follows, ViewerValue};
+ghost use Rattle.termwiz_cell.specs.Measure.{measure};
+ghost use Rattle.termwiz_surface_core.specs.Following.{Follows, KeepsViewers};
 ghost use Rattle.termwiz_surface_core.specs.History.{KeepsNames};
 ghost use Rattle.termwiz_surface.specs.Schedule.{Allows, IsFullSchedule, IsInRange, IsSchedule, IsScheduleOf, Seen, outcome_of, state_beside, state_of};
 
@@ -73,7 +73,7 @@ pub fn run<W: Widths>(
     requires fits { width < 2 ^ 32 }
     requires fits_height { height < 2 ^ 32 }
     requires sizes { All IsInRange events.items }
-    ensures { IfOk result (λ outcomes. IsSchedule (λ widths. unversioned (W.width_of widths)) (unversioned (W.width_of widths)) width height events.items outcomes.items) }
+    ensures { IfOk result (λ outcomes. IsSchedule (measure W.width_of) (measure W.width_of widths) width height events.items outcomes.items) }
 {
     run_on(alloc, widths, width, height, false, events)
 }
@@ -91,7 +91,7 @@ pub fn run_full<W: Widths>(
     requires fits { width < 2 ^ 32 }
     requires fits_height { height < 2 ^ 32 }
     requires sizes { All IsInRange events.items }
-    ensures { IfOk result (λ outcomes. IsFullSchedule (λ widths. unversioned (W.width_of widths)) (unversioned (W.width_of widths)) width height events.items outcomes.items) }
+    ensures { IfOk result (λ outcomes. IsFullSchedule (measure W.width_of) (measure W.width_of widths) width height events.items outcomes.items) }
 {
     run_on(alloc, widths, width, height, true, events)
 }
@@ -110,7 +110,7 @@ fn run_on<W: Widths>(
     requires fits { width < 2 ^ 32 }
     requires fits_height { height < 2 ^ 32 }
     requires sizes { All IsInRange events.items }
-    ensures { IfOk result (λ outcomes. IsScheduleOf full (λ widths. unversioned (W.width_of widths)) (unversioned (W.width_of widths)) width height events.items outcomes.items) }
+    ensures { IfOk result (λ outcomes. IsScheduleOf full (measure W.width_of) (measure W.width_of widths) width height events.items outcomes.items) }
 {
     let mut surface = Surface::blank(alloc, width, height, widths, full)?;
     let mut viewer = Viewer::new(alloc, &surface)?;
@@ -129,11 +129,11 @@ fn serve<W: Widths>(
     event: Event<W>,
 ) -> Result<Outcome, AllocError>
     requires range { IsInRange event }
-    requires follows { Follows (λ widths. unversioned (W.width_of widths)) viewer.old surface.old }
-    ensures step { IfOk result (λ outcome. Allows (λ widths. unversioned (W.width_of widths)) (unversioned (W.width_of surface.old.widths)) surface.old.full (state_of surface.old viewer.old) event outcome (state_of surface.new viewer.new)) }
+    requires follows { Follows (measure W.width_of) viewer.old surface.old }
+    ensures step { IfOk result (λ outcome. Allows (measure W.width_of) (measure W.width_of surface.old.widths) surface.old.full (state_of surface.old viewer.old) event outcome (state_of surface.new viewer.new)) }
     ensures widths { OnOk result (surface.new.widths ≡ surface.old.widths) }
     ensures full { OnOk result (surface.new.full ≡ surface.old.full) }
-    ensures follows { OnOk result (Follows (λ widths. unversioned (W.width_of widths)) viewer.new surface.new) }
+    ensures follows { OnOk result (Follows (measure W.width_of) viewer.new surface.new) }
 {
     match act(alloc, surface, event) {
         Some(outcome) => Ok(outcome),
@@ -144,11 +144,11 @@ fn serve<W: Widths>(
 // Does one event of the surface's own: any but that its viewer follows.
 fn act<W: Widths>(alloc: Global, surface: &mut Surface<W>, event: Event<W>) -> Option<Outcome>
     requires { IsInRange event }
-    ensures step { IfSome result (λ outcome. (v : Seen) → Allows (λ widths. unversioned (W.width_of widths)) (unversioned (W.width_of surface.old.widths)) surface.old.full (state_beside surface.old v) event outcome (state_beside surface.new v)) }
+    ensures step { IfSome result (λ outcome. (v : Seen) → Allows (measure W.width_of) (measure W.width_of surface.old.widths) surface.old.full (state_beside surface.old v) event outcome (state_beside surface.new v)) }
     ensures widths { surface.new.widths ≡ surface.old.widths }
     ensures full { surface.new.full ≡ surface.old.full }
-    ensures followed { (v : ViewerValue W) → Follows (λ widths. unversioned (W.width_of widths)) v surface.old → Follows (λ widths. unversioned (W.width_of widths)) v surface.new }
-    ensures remembered { KeepsNames (unversioned (W.width_of surface.old.widths)) surface.old surface.new }
+    ensures followed { KeepsViewers (measure W.width_of) surface.old surface.new }
+    ensures remembered { KeepsNames (measure W.width_of surface.old.widths) surface.old surface.new }
     ensures own { IsSome result → event ≡ Event.Follow → ⊥ }
     ensures none { IsNone result → (event ≡ Event.Follow) × (surface.new ≡ surface.old) }
 {
@@ -192,9 +192,9 @@ fn follow<W: Widths>(
     surface: &Surface<W>,
     viewer: &mut Viewer<W>,
 ) -> Result<Outcome, AllocError>
-    requires { Follows (λ widths. unversioned (W.width_of widths)) viewer.old surface.now }
-    ensures step { IfOk result (λ outcome. Allows (λ widths. unversioned (W.width_of widths)) (unversioned (W.width_of surface.now.widths)) surface.now.full (state_of surface.now viewer.old) Event.Follow outcome (state_of surface.now viewer.new)) }
-    ensures follows { OnOk result (Follows (λ widths. unversioned (W.width_of widths)) viewer.new surface.now) }
+    requires { Follows (measure W.width_of) viewer.old surface.now }
+    ensures step { IfOk result (λ outcome. Allows (measure W.width_of) (measure W.width_of surface.now.widths) surface.now.full (state_of surface.now viewer.old) Event.Follow outcome (state_of surface.now viewer.new)) }
+    ensures follows { OnOk result (Follows (measure W.width_of) viewer.new surface.now) }
 {
     match viewer.fetch(surface) {
         Ok((number, changes)) => {
@@ -220,7 +220,7 @@ fn follow<W: Widths>(
 
 // The changes from a number on, as a list of their own.
 fn ask<W: Widths>(alloc: Global, surface: &Surface<W>, seq: SequenceNo) -> Outcome
-    ensures { (v : Seen) → Allows (λ widths. unversioned (W.width_of widths)) (unversioned (W.width_of surface.now.widths)) surface.now.full (state_beside surface.now v) (Event.Ask seq) result (state_beside surface.now v) }
+    ensures { (v : Seen) → Allows (measure W.width_of) (measure W.width_of surface.now.widths) surface.now.full (state_beside surface.now v) (Event.Ask seq) result (state_beside surface.now v) }
 {
     match surface.get_changes(seq) {
         Ok((number, changes)) => match copied(alloc, changes) {

@@ -1,13 +1,8 @@
 -- Viewers: a surface that follows another one, by what its viewer was last given.
-use Rattle.std.specs.Prelude.{◌≡◌, ℕ, ◌+◌, ◌<◌, ◌≤◌, ◌^◌, Bool, true, false, ◌&&◌, ◌==◌, ◌⊎◌, List, [], length, map, replicate, None, Result, Ok, Err, Vec, if◌then◌else◌}
+use Rattle.std.specs.Prelude.{◌≡◌, ℕ, ◌+◌, ◌<◌, ◌≤◌, ◌^◌, Bool, true, false, ◌&&◌, ◌==◌, ◌⊎◌, List, length, map, Result, Ok, Err, Vec, if◌then◌else◌}
 use Rattle.std.specs.declared.alloc.Global.{Global}
-use Rattle.termwiz_cell.specs.Attributes.{default_attributes}
-use Rattle.termwiz_cell.specs.CellValue.{blank}
 use Rattle.termwiz_cell.specs.ChangeValue.{ChangeValue, change_value}
 use Rattle.termwiz_cell.specs.declared.change.Change.{Change}
-use Rattle.termwiz_cell.specs.declared.change.CursorVisibility.TheVariants.{Visible}
-use Rattle.termwiz_cell.specs.declared.color.ColorAttribute.TheVariants.{Default}
-use Rattle.termwiz_line.specs.LineFlags.{no_flags}
 use Rattle.termwiz_surface_core.specs.Adding.{Adds, Makes}
 use Rattle.termwiz_screen.specs.Log.{LogValue, next_number, due, is_known, worth, restarted}
 use Rattle.termwiz_surface_core.specs.Resizing.{HasResized}
@@ -15,7 +10,7 @@ use Rattle.termwiz_screen.specs.Screen.{Screen}
 use Rattle.termwiz_screen.specs.Step.{regions_fit}
 use Rattle.termwiz_screen.specs.Stream.{IsStream, IsFullStream, most_entries}
 use Rattle.termwiz_screen.specs.FullScreen.{FullScreen}
-use Rattle.termwiz_surface_core.specs.SurfaceValue.{SurfaceValue, screen_of, full_of}
+use Rattle.termwiz_surface_core.specs.SurfaceValue.{SurfaceValue, blank_surface, screen_of, full_of}
 use Rattle.termwiz_screen.specs.Picture.{Pictures, screens, full_screens, played}
 use Rattle.termwiz_surface_core.specs.declared.surface.SurfaceError.{SurfaceError}
 use Rattle.termwiz_surface_core.specs.declared.surface.SurfaceError.TheVariants.{ScrollRegion, Numbers, Memory}
@@ -45,12 +40,13 @@ module _ {W : Type 0} where
     pub leads : Leads (measure_of s.widths) (screen_of v.surface) v.last (screen_of s) s.log
     pub full : s.full ≡ true → FullLeads (measure_of s.widths) (full_of v.surface) v.last (full_of s) s.log
 
+  -- each viewer that followed the surface as it was goes on to follow it
+  abbrev pub KeepsViewers : (W → List ℕ → ℕ) → SurfaceValue W → SurfaceValue W → Type 0
+  KeepsViewers measure_of old new = (v : ViewerValue W) → Follows measure_of v old → Follows measure_of v new
+
   -- a viewer with a blank surface of that size, width value and kind, and no number
   abbrev pub blank_viewer : SurfaceValue W → ViewerValue W
-  blank_viewer s = record {
-    surface = record { widths = s.widths; width = s.width; height = s.height; lines = replicate s.height (replicate s.width blank); flags = replicate s.height no_flags; x = 0; y = 0; visibility = Visible; pen = default_attributes; title = []; shape = None; color = Default; full = s.full; log = record { first = 0; changes = [] } };
-    last = 0;
-  }
+  blank_viewer s = record { surface = blank_surface s.widths s.width s.height s.full; last = 0 }
 
   -- the viewer has the surface's size
   abbrev pub has_size_of : ViewerValue W → SurfaceValue W → Bool

@@ -1,12 +1,14 @@
 -- What contracts see of a surface, and the form that it keeps.
-use Rattle.std.specs.Prelude.{◌≡◌, ℕ, ◌<◌, ◌≤◌, ◌^◌, Bool, true, Option, List, map, length}
-use Rattle.termwiz_cell.specs.Attributes.{Attributes}
-use Rattle.termwiz_cell.specs.CellValue.{CellValue}
+use Rattle.std.specs.Prelude.{◌≡◌, ℕ, ◌<◌, ◌≤◌, ◌^◌, Bool, true, Option, None, List, [], map, length, replicate}
+use Rattle.termwiz_cell.specs.Attributes.{Attributes, default_attributes}
+use Rattle.termwiz_cell.specs.CellValue.{CellValue, blank}
 use Rattle.termwiz_cell.specs.declared.change.CursorVisibility.{CursorVisibility}
+use Rattle.termwiz_cell.specs.declared.change.CursorVisibility.TheVariants.{Visible}
 use Rattle.termwiz_line.specs.Row.{row_of}
 use Rattle.termwiz_cell.specs.declared.color.ColorAttribute.{ColorAttribute}
+use Rattle.termwiz_cell.specs.declared.color.ColorAttribute.TheVariants.{Default}
 use Rattle.termwiz_cell.specs.declared.change.CursorShape.{CursorShape}
-use Rattle.termwiz_line.specs.LineFlags.{LineFlags}
+use Rattle.termwiz_line.specs.LineFlags.{LineFlags, no_flags}
 use Rattle.termwiz_screen.specs.FullScreen.{FullScreen, full_screen}
 use Rattle.termwiz_screen.specs.Kept.{Kept}
 use Rattle.termwiz_screen.specs.Log.{LogValue, next_number}
@@ -34,6 +36,25 @@ pub record SurfaceValue (W : Type 0) : Type 0 where
   pub log : LogValue
 
 module _ {W : Type 0} where
+  -- a surface of this size before any change: default blanks, with the cursor home and shown, default attributes as pen and the number 0; its repaints are full ones or not
+  abbrev pub blank_surface : W → ℕ → ℕ → Bool → SurfaceValue W
+  blank_surface widths width height full = record {
+    widths = widths;
+    width = width;
+    height = height;
+    lines = replicate height (replicate width blank);
+    flags = replicate height no_flags;
+    x = 0;
+    y = 0;
+    visibility = Visible;
+    pen = default_attributes;
+    title = [];
+    shape = None;
+    color = Default;
+    full = full;
+    log = record { first = 0; changes = [] };
+  }
+
   abbrev pub screen_of : SurfaceValue W → Screen
   screen_of s = record { width = s.width; height = s.height; rows = map (row_of s.width) s.lines; x = s.x; y = s.y; visibility = s.visibility; pen = s.pen }
 

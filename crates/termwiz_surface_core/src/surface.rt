@@ -2,7 +2,7 @@
 ghost use Rattle.std.specs.Prelude.{◌≡◌, true, ◌+◌, ◌-◌, ◌*◌, ◌<◌, ◌≤◌, ◌^◌, List, [], ◌∷◌, length, map, vec_len, replicate, string_bytes, slice_set, get_or, None, false, IsOk, IfOk, OnOk, OnErr};
 ghost use Rattle.termwiz_cell.specs.Attributes.{default_attributes, with_background};
 ghost use Rattle.termwiz_cell.specs.CellValue.{blank};
-ghost use Rattle.termwiz_cell.specs.Width.{unversioned};
+ghost use Rattle.termwiz_cell.specs.Measure.{measure};
 ghost use Rattle.termwiz_cell.specs.declared.change.CursorVisibility.TheVariants.{Visible};
 ghost use Rattle.termwiz_screen.specs.Clear.{clear_eol, clear_eos, clear_screen, eol_lengths, eos_lengths, screen_lengths};
 ghost use Rattle.termwiz_screen.specs.Place.{placed};
@@ -18,7 +18,7 @@ ghost use Rattle.termwiz_screen.specs.ShownChars.{shown_chars};
 ghost use Rattle.termwiz_screen.specs.ScreenValue.{screen_value};
 ghost use Rattle.termwiz_surface_core.specs.SurfaceValue.{IsSound, full_of};
 ghost use Rattle.termwiz_surface_core.specs.Adding.{Adds, Makes, Refuses};
-ghost use Rattle.termwiz_surface_core.specs.Following.{Follows, ViewerValue};
+ghost use Rattle.termwiz_surface_core.specs.Following.{KeepsViewers};
 ghost use Rattle.termwiz_surface_core.specs.History.{KeepsNames};
 ghost use Rattle.termwiz_screen.specs.Log.{next_number};
 ghost use Rattle.termwiz_screen.specs.Printable.{HasSize, IsPrintable};
@@ -113,7 +113,7 @@ pub struct Surface<W: Widths> {
 }
 
 impl<W: Widths> Model for Surface<W> {
-    ghost use Rattle.termwiz_cell.specs.Width.{unversioned};
+    ghost use Rattle.termwiz_cell.specs.Measure.{measure};
     ghost use Rattle.std.specs.Prelude.{string_bytes};
     ghost use Rattle.termwiz_screen.specs.ScreenValue.{cells_of};
     ghost use Rattle.termwiz_screen.specs.Sides.{row_flags, AreVectors};
@@ -121,9 +121,24 @@ impl<W: Widths> Model for Surface<W> {
 
     ghost Value = { SurfaceValue W };
 
-    ghost view = { λ s. record { widths = s.widths; width = s.width; height = s.height; lines = cells_of s.rows.items; flags = row_flags s.rows.items; x = s.x; y = s.y; visibility = s.visibility; pen = s.pen; title = string_bytes s.title; shape = s.shape; color = s.color; full = s.full; log = s.log } };
+    ghost view = { λ s. record {
+      widths = s.widths;
+      width = s.width;
+      height = s.height;
+      lines = cells_of s.rows.items;
+      flags = row_flags s.rows.items;
+      x = s.x;
+      y = s.y;
+      visibility = s.visibility;
+      pen = s.pen;
+      title = string_bytes s.title;
+      shape = s.shape;
+      color = s.color;
+      full = s.full;
+      log = s.log;
+    } };
 
-    ghost invariant = { λ s. IsSound (unversioned (W.width_of s.widths)) (record { widths = s.widths; width = s.width; height = s.height; lines = cells_of s.rows.items; flags = row_flags s.rows.items; x = s.x; y = s.y; visibility = s.visibility; pen = s.pen; title = string_bytes s.title; shape = s.shape; color = s.color; full = s.full; log = s.log }) × AreVectors s.rows.items };
+    ghost invariant = { λ s. IsSound (measure W.width_of s.widths) (view s) × AreVectors s.rows.items };
 }
 
 /// A copy has the same screen, stored rows, title, cursor's shape and colour, log and number.
@@ -155,7 +170,7 @@ impl<W: Widths> Clone for Surface<W> {
 }
 
 impl<W: Widths> Surface<W> {
-    ghost use Rattle.termwiz_surface_core.specs.SurfaceValue.{SurfaceValue, IsSound, screen_of, lengths_of, kept_of, SameFrame, Draws};
+    ghost use Rattle.termwiz_surface_core.specs.SurfaceValue.{SurfaceValue, IsSound, blank_surface, screen_of, lengths_of, kept_of, SameFrame, Draws};
 
     /// A surface of this width in columns and this height in rows: default blanks, with the cursor home and shown, default attributes as pen and the number 0.
     pub fn new(
@@ -168,7 +183,7 @@ impl<W: Widths> Surface<W> {
         requires some_row { 0 < height }
         requires fits { width < 2 ^ 32 }
         requires fits_height { height < 2 ^ 32 }
-        ensures { IfOk result (λ s. s ≡ record { widths = widths; width = width; height = height; lines = replicate height (replicate width blank); flags = replicate height no_flags; x = 0; y = 0; visibility = Visible; pen = default_attributes; title = []; shape = None; color = Default; full = false; log = record { first = 0; changes = [] } }) }
+        ensures { IfOk result (λ s. s ≡ blank_surface widths width height false) }
     {
         Surface::blank(alloc, width, height, widths, false)
     }
@@ -184,7 +199,7 @@ impl<W: Widths> Surface<W> {
         requires some_row { 0 < height }
         requires fits { width < 2 ^ 32 }
         requires fits_height { height < 2 ^ 32 }
-        ensures { IfOk result (λ s. s ≡ record { widths = widths; width = width; height = height; lines = replicate height (replicate width blank); flags = replicate height no_flags; x = 0; y = 0; visibility = Visible; pen = default_attributes; title = []; shape = None; color = Default; full = true; log = record { first = 0; changes = [] } }) }
+        ensures { IfOk result (λ s. s ≡ blank_surface widths width height true) }
     {
         Surface::blank(alloc, width, height, widths, true)
     }
@@ -201,7 +216,7 @@ impl<W: Widths> Surface<W> {
         requires some_row { 0 < height }
         requires fits { width < 2 ^ 32 }
         requires fits_height { height < 2 ^ 32 }
-        ensures { IfOk result (λ s. s ≡ record { widths = widths; width = width; height = height; lines = replicate height (replicate width blank); flags = replicate height no_flags; x = 0; y = 0; visibility = Visible; pen = default_attributes; title = []; shape = None; color = Default; full = full; log = record { first = 0; changes = [] } }) }
+        ensures { IfOk result (λ s. s ≡ blank_surface widths width height full) }
     {
         let rows = blank_rows(alloc, width, height)?;
         Ok(Surface {
@@ -227,13 +242,13 @@ impl<W: Widths> Surface<W> {
         ensures width { result.0 ≡ self.now.width }
         ensures height { result.1 ≡ self.now.height }
         // Every surface has its form.
-        ensures sound { IsSound (unversioned (W.width_of self.now.widths)) self.now }
+        ensures sound { IsSound (measure W.width_of self.now.widths) self.now }
         // Its screen has its size, so repaints can be replayed on it.
         ensures sized { HasSize self.now.width self.now.height (screen_of self.now) }
         // So has its full screen.
         ensures fully_sized { HasFullSize self.now.width self.now.height (full_of self.now) }
         // Each row of the screen has a half behind each wide cell, and each visible cell is one grapheme with the width that is measured for it.
-        ensures printable { IsPrintable (unversioned (W.width_of self.now.widths)) (screen_of self.now) }
+        ensures printable { IsPrintable (measure W.width_of self.now.widths) (screen_of self.now) }
     {
         (self.width, self.height)
     }
@@ -419,7 +434,7 @@ impl<W: Widths> Surface<W> {
 
     fn apply(&mut self, change: &Change) -> Result<(), AllocError>
         requires { region_fits self.old.height (change_value change.now) ≡ true }
-        ensures ok { OnOk result (let f = unversioned (W.width_of self.old.widths) in let s = screen_of self.old in Draws self.old (step f s (change_value change.now)) (step_kept f s (kept_of self.old) (change_value change.now)) self.new) }
+        ensures ok { OnOk result (let f = measure W.width_of self.old.widths in let s = screen_of self.old in Draws self.old (step f s (change_value change.now)) (step_kept f s (kept_of self.old) (change_value change.now)) self.new) }
         ensures err { OnErr result (SameFrame self.old self.new) }
     {
         match change {
@@ -451,7 +466,7 @@ impl<W: Widths> Surface<W> {
 
     fn apply_all(&mut self, changes: &[Change]) -> Result<(), AllocError>
         requires { regions_fit self.old.height (map change_value changes.now) ≡ true }
-        ensures ok { OnOk result (let f = unversioned (W.width_of self.old.widths) in let s = screen_of self.old in Draws self.old (replay f s (map change_value changes.now)) (replay_kept f s (kept_of self.old) (map change_value changes.now)) self.new) }
+        ensures ok { OnOk result (let f = measure W.width_of self.old.widths in let s = screen_of self.old in Draws self.old (replay f s (map change_value changes.now)) (replay_kept f s (kept_of self.old) (map change_value changes.now)) self.new) }
         ensures err { OnErr result (SameFrame self.old self.new) }
         ensures empty { OnErr result (0 < length changes.now) }
     {
@@ -478,7 +493,7 @@ impl<W: Widths> Surface<W> {
     fn make_one(&mut self, change: Change) -> Result<(), AllocError>
         requires fits { region_fits self.old.height (change_value change) ≡ true }
         requires numbers { next_number self.old.log + 1 < 2 ^ 64 }
-        ensures ok { OnOk result (Makes (unversioned (W.width_of self.old.widths)) self.old (change_value change ∷ []) self.new) }
+        ensures ok { OnOk result (Makes (measure W.width_of self.old.widths) self.old (change_value change ∷ []) self.new) }
         ensures err { OnErr result (SameFrame self.old self.new) }
     {
         self.log.reserve(1)?;
@@ -491,7 +506,7 @@ impl<W: Widths> Surface<W> {
     fn make_all(&mut self, changes: Vec<Change>) -> Result<(), AllocError>
         requires fits { regions_fit self.old.height (map change_value changes.items) ≡ true }
         requires numbers { next_number self.old.log + vec_len changes < 2 ^ 64 }
-        ensures ok { OnOk result (Makes (unversioned (W.width_of self.old.widths)) self.old (map change_value changes.items) self.new) }
+        ensures ok { OnOk result (Makes (measure W.width_of self.old.widths) self.old (map change_value changes.items) self.new) }
         ensures err { OnErr result (SameFrame self.old self.new) }
         ensures some { OnErr result (0 < vec_len changes) }
     {
@@ -504,11 +519,11 @@ impl<W: Widths> Surface<W> {
     /// Makes one change. The answer is its number.
     /// `ScrollRegion`, `Numbers`: nothing has changed. `Memory`: it may have been made in part; the size and the form of the rows stay, the cursor is inside, and the log is empty under a number that is greater by one, or 0 where it was 0.
     pub fn add_change(&mut self, change: Change) -> Result<SequenceNo, SurfaceError>
-        ensures adds { Adds (unversioned (W.width_of self.old.widths)) self.old (change_value change ∷ []) (next_number self.old.log) result self.new }
+        ensures adds { Adds (measure W.width_of self.old.widths) self.old (change_value change ∷ []) (next_number self.old.log) result self.new }
         // Each viewer that follows the surface goes on to, also after an error.
-        ensures followed { (v : ViewerValue W) → Follows (λ widths. unversioned (W.width_of widths)) v self.old → Follows (λ widths. unversioned (W.width_of widths)) v self.new }
+        ensures followed { KeepsViewers (measure W.width_of) self.old self.new }
         // What its numbers named they name still, also after an error.
-        ensures remembered { KeepsNames (unversioned (W.width_of self.old.widths)) self.old self.new }
+        ensures remembered { KeepsNames (measure W.width_of self.old.widths) self.old self.new }
     {
         self.refuse(slice::from_ref(&change))?;
         let told = self.log.next_number();
@@ -522,12 +537,12 @@ impl<W: Widths> Surface<W> {
     /// Makes the changes in order. The answer is the number before them, less one unless it is 0, plus how many they are: where there are some that is the number of the last, or one more where the number before was 0.
     /// `ScrollRegion`, `Numbers`: nothing has changed. `Memory`: some may have been made, and the last of those in part; the size and the form of the rows stay, the cursor is inside, and the log is empty under a number that is greater by one, or 0 where it was 0.
     pub fn add_changes(&mut self, changes: Vec<Change>) -> Result<SequenceNo, SurfaceError>
-        ensures adds { Adds (unversioned (W.width_of self.old.widths)) self.old (map change_value changes.items) (next_number self.old.log - 1 + vec_len changes) result self.new }
+        ensures adds { Adds (measure W.width_of self.old.widths) self.old (map change_value changes.items) (next_number self.old.log - 1 + vec_len changes) result self.new }
         ensures empty { vec_len changes ≡ 0 → IsOk result }
         // Each viewer that follows the surface goes on to, also after an error.
-        ensures followed { (v : ViewerValue W) → Follows (λ widths. unversioned (W.width_of widths)) v self.old → Follows (λ widths. unversioned (W.width_of widths)) v self.new }
+        ensures followed { KeepsViewers (measure W.width_of) self.old self.new }
         // What its numbers named they name still, also after an error.
-        ensures remembered { KeepsNames (unversioned (W.width_of self.old.widths)) self.old self.new }
+        ensures remembered { KeepsNames (measure W.width_of self.old.widths) self.old self.new }
     {
         self.refuse(changes.as_slice())?;
         let told = self.log.next_number().saturating_sub(1) + changes.len();

@@ -1,15 +1,7 @@
 -- The last row once it is cleared.
 use Rattle.std.proofs.Common.{◌≡◌, ℕ, ◌-◌, ◌<◌, ◌≤◌, min, set, List, [], length, inl, refl, sym, ap, subst, ◌∙◌, arith, le-leb}
 use Rattle.std.proofs.lemmas.List.{get_or-map, get_or-set_same, length-map}
-use Rattle.termwiz_cell.specs.Attributes.{with_background}
-use Rattle.termwiz_cell.specs.CellValue.{blank_of}
-use Rattle.termwiz_cell.specs.declared.color.ColorAttribute.{ColorAttribute}
-use Rattle.termwiz_storage.specs.Stored.{stored}
-use Rattle.termwiz_line.specs.Row.{IsRow, row_of, clear}
-use Rattle.termwiz_line.specs.RowLaws.{CellsHaveRow, ClearClears}
-use Rattle.termwiz_surface.specs.Screen.{Screen, row_at}
-use Rattle.termwiz_surface.specs.Step.{replay}
-use Rattle.termwiz_surface.specs.SurfaceValue.{SurfaceValue, IsSound, screen_of}
+use Rattle.termwiz_surface.specs.{CellsHaveRow, ClearClears, ColorAttribute, IsRow, IsSound, Screen, SurfaceValue, blank_of, clear, replay, row_at, row_of, screen_of, stored, with_background}
 use Rattle.uses.specs.LastRow.{last_row_cleared}
 
 -- the last row is cleared from its first column on

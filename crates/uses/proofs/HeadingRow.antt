@@ -1,14 +1,8 @@
 -- The row behind whose heading the cursor stands is shown twice as wide.
 use Rattle.std.proofs.Common.{◌≡◌, ◌<◌, ℕ, List, map, set, get_or, length, arith, sym, ap, ◌∙◌, subst}
 use Rattle.std.proofs.lemmas.List.{get_or-set_same, length-map, length-set, map-set}
-use Rattle.termwiz_cell.specs.ChangeValue as change
-use Rattle.termwiz_cell.specs.declared.change.LineAttribute.TheVariants.{DoubleWidthLine, SingleWidthLine}
-use Rattle.termwiz_line.specs.LineFlags.{LineFlags, no_flags}
-use Rattle.termwiz_surface.specs.FullScreen.{line_attribute}
-use Rattle.termwiz_surface.specs.SurfaceValue.{SurfaceValue, screen_of, kept_of, full_of, IsSound}
-use Rattle.termwiz_surface.specs.Kept.{Kept, with_line_attribute}
-use Rattle.termwiz_surface.specs.Screen.{Screen}
-use Rattle.termwiz_surface.specs.Step.{step, step_kept, replay, replay_kept}
+use Rattle.termwiz_surface.specs.ChangeValue as change
+use Rattle.termwiz_surface.specs.{DoubleWidthLine, IsSound, Kept, LineFlags, Screen, SingleWidthLine, SurfaceValue, full_of, kept_of, line_attribute, no_flags, replay, replay_kept, screen_of, step, step_kept, with_line_attribute}
 use Rattle.uses.specs.Headings.{heading_changes}
 
 -- a row whose flags were set so is shown so

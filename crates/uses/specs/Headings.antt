@@ -1,8 +1,7 @@
 -- The changes of a heading.
 use Rattle.std.specs.Prelude.{ℕ, List, [], ◌∷◌}
-use Rattle.termwiz_cell.specs.ChangeValue as change
-use Rattle.termwiz_cell.specs.ChangeValue.{ChangeValue}
-use Rattle.termwiz_cell.specs.declared.change.LineAttribute.TheVariants.{DoubleWidthLine}
+use Rattle.termwiz_surface.specs.ChangeValue as change
+use Rattle.termwiz_surface.specs.{ChangeValue, DoubleWidthLine}
 
 -- the text is printed, its row is shown twice as wide, and it becomes the title too
 abbrev pub heading_changes : List ℕ → List ChangeValue

@@ -1,9 +1,7 @@
 -- The changes that clear the last row.
 use Rattle.std.specs.Prelude.{List, [], ◌∷◌}
-use Rattle.termwiz_cell.specs.ChangeValue as change
-use Rattle.termwiz_cell.specs.ChangeValue.{ChangeValue}
-use Rattle.termwiz_cell.specs.declared.change.Position.TheVariants.{Absolute, EndRelative}
-use Rattle.termwiz_cell.specs.declared.color.ColorAttribute.{ColorAttribute}
+use Rattle.termwiz_surface.specs.ChangeValue as change
+use Rattle.termwiz_surface.specs.{Absolute, ChangeValue, ColorAttribute, EndRelative}
 
 -- with this background, from its first column on
 abbrev pub last_row_cleared : ColorAttribute → List ChangeValue

@@ -1,10 +1,7 @@
 -- The changes of a status line.
 use Rattle.std.specs.Prelude.{ℕ, List, [], ◌∷◌}
-use Rattle.termwiz_cell.specs.Attributes.{Attributes}
-use Rattle.termwiz_cell.specs.ChangeValue as change
-use Rattle.termwiz_cell.specs.ChangeValue.{ChangeValue}
-use Rattle.termwiz_cell.specs.declared.change.Position.TheVariants.{Absolute, EndRelative}
-use Rattle.termwiz_cell.specs.declared.color.ColorAttribute.{ColorAttribute}
+use Rattle.termwiz_surface.specs.{Absolute, Attributes, ChangeValue, ColorAttribute, EndRelative}
+use Rattle.termwiz_surface.specs.ChangeValue as change
 
 -- the last row is cleared with this background, and the text is printed there with this pen
 abbrev pub status_line : ColorAttribute → Attributes → List ℕ → List ChangeValue

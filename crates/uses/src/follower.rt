@@ -1,15 +1,18 @@
 //! A follower of one's own, which is sent what changed since it asked last.
 ghost use Rattle.std.specs.Prelude.{◌≡◌, [], ◌∷◌, IfOk, OnErr, OnOk};
-ghost use Rattle.termwiz_cell.specs.ChangeValue.{change_value};
-ghost use Rattle.termwiz_cell.specs.Width.{unversioned};
-ghost use Rattle.termwiz_surface.specs.Following.{Follows};
-ghost use Rattle.termwiz_surface.specs.Step.{replay};
-ghost use Rattle.termwiz_surface.specs.SurfaceValue.{screen_of};
+ghost use Rattle.termwiz_surface.specs.{
+  Follows,
+  ViewerValue,
+  change_value,
+  measure,
+  replay,
+  screen_of,
+};
 
 use std::alloc::{AllocError, Global};
 use std::marker::Model;
-use termwiz_cell::change::{Change, SEQ_ZERO, SequenceNo};
-use termwiz_cell::emoji::Widths;
+use termwiz_surface::change::{Change, SEQ_ZERO, SequenceNo};
+use termwiz_surface::emoji::Widths;
 use termwiz_surface::laws::{following_laws, full_following_laws, full_repaint_laws};
 use termwiz_surface::surface::{Surface, SurfaceError};
 use termwiz_surface::view::copied;
@@ -23,8 +26,6 @@ pub struct Follower<W: Widths> {
 }
 
 impl<W: Widths> Model for Follower<W> {
-    ghost use Rattle.termwiz_surface.specs.Following.{ViewerValue};
-
     ghost Value = { ViewerValue W };
 
     ghost view = { λ f. record { surface = f.shown; last = f.last } };
@@ -36,7 +37,7 @@ impl<W: Widths> Follower<W> {
         requires { widths ≡ surface.now.widths }
         ensures width { IfOk result (λ follower. follower.surface.width ≡ surface.now.width) }
         ensures height { IfOk result (λ follower. follower.surface.height ≡ surface.now.height) }
-        ensures follows { IfOk result (λ follower. Follows (λ widths. unversioned (W.width_of widths)) follower surface.now) }
+        ensures follows { IfOk result (λ follower. Follows (measure W.width_of) follower surface.now) }
     {
         let (width, height) = surface.dimensions();
         let shown = Surface::new(alloc, width, height, widths)?;
@@ -59,10 +60,10 @@ impl<W: Widths> Follower<W> {
     pub fn catch_up(&mut self, surface: &Surface<W>) -> Result<(), SurfaceError>
         requires same_width { self.old.surface.width ≡ surface.now.width }
         requires same_height { self.old.surface.height ≡ surface.now.height }
-        requires follows { Follows (λ widths. unversioned (W.width_of widths)) self.old surface.now }
+        requires follows { Follows (measure W.width_of) self.old surface.now }
         ensures shown { OnOk result (screen_of self.new.surface ≡ screen_of surface.now) }
         // It can catch up again, after an error too.
-        ensures follows { Follows (λ widths. unversioned (W.width_of widths)) self.new surface.now }
+        ensures follows { Follows (measure W.width_of) self.new surface.now }
         ensures failed { OnErr result (self.new.last ≡ 0) }
         ensures width { self.new.surface.width ≡ self.old.surface.width }
         ensures height { self.new.surface.height ≡ self.old.surface.height }
@@ -91,10 +92,10 @@ pub fn make_and_show<W: Widths>(
 ) -> Result<(), SurfaceError>
     requires same_width { follower.old.surface.width ≡ surface.old.width }
     requires same_height { follower.old.surface.height ≡ surface.old.height }
-    requires follows { Follows (λ widths. unversioned (W.width_of widths)) follower.old surface.old }
-    ensures made { OnOk result (screen_of surface.new ≡ replay (unversioned (W.width_of surface.old.widths)) (screen_of surface.old) (change_value change ∷ [])) }
+    requires follows { Follows (measure W.width_of) follower.old surface.old }
+    ensures made { OnOk result (screen_of surface.new ≡ replay (measure W.width_of surface.old.widths) (screen_of surface.old) (change_value change ∷ [])) }
     ensures shown { OnOk result (screen_of follower.new.surface ≡ screen_of surface.new) }
-    ensures follows { Follows (λ widths. unversioned (W.width_of widths)) follower.new surface.new }
+    ensures follows { Follows (measure W.width_of) follower.new surface.new }
     ensures width { follower.new.surface.width ≡ surface.new.width }
     ensures height { follower.new.surface.height ≡ surface.new.height }
 {

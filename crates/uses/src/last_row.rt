@@ -1,18 +1,20 @@
 //! The last row, cleared: what a reader wants of it in words, by the laws of rows.
 ghost use Rattle.std.specs.Prelude.{◌≡◌, ℕ, ◌-◌, ◌<◌, IfOk, OnOk, map};
-ghost use Rattle.termwiz_cell.specs.Attributes.{with_background};
-ghost use Rattle.termwiz_cell.specs.CellValue.{blank_of};
-ghost use Rattle.termwiz_cell.specs.ChangeValue.{change_value};
-ghost use Rattle.termwiz_storage.specs.Stored.{stored};
-ghost use Rattle.termwiz_surface.specs.Screen.{row_at};
-ghost use Rattle.termwiz_surface.specs.SurfaceValue.{screen_of};
+ghost use Rattle.termwiz_surface.specs.{
+  blank_of,
+  change_value,
+  row_at,
+  screen_of,
+  stored,
+  with_background,
+};
 ghost use Rattle.uses.specs.LastRow.{last_row_cleared};
 
 use std::alloc::{AllocError, Global};
-use termwiz_cell::change::{Change, Position};
-use termwiz_cell::color::ColorAttribute;
-use termwiz_cell::emoji::Widths;
-use termwiz_line::laws::{row_laws, stored_row_laws};
+use termwiz_surface::change::{Change, Position};
+use termwiz_surface::color::ColorAttribute;
+use termwiz_surface::emoji::Widths;
+use termwiz_surface::laws::{row_laws, stored_row_laws};
 use termwiz_surface::surface::{Surface, SurfaceError};
 
 /// Clears the last row with a background. The rows above stay.

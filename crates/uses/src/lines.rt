@@ -1,18 +1,22 @@
 //! Lines by themselves: a heading, and the word under a pointer.
 ghost use Rattle.std.specs.Prelude.{◌≡◌, ◌<◌, ◌≤◌, IfOk, false, length, true};
-ghost use Rattle.termwiz_cell.specs.Attributes.{default_attributes};
-ghost use Rattle.termwiz_cell.specs.Width.{unversioned};
-ghost use Rattle.termwiz_storage.specs.Stored.{visible};
-ghost use Rattle.termwiz_line.specs.Clicks.{IsLower, IsUpper};
-ghost use Rattle.termwiz_line.specs.LineFlags.{no_flags, with_sizes};
-ghost use Rattle.termwiz_line.specs.Texts.{stored_text};
+ghost use Rattle.termwiz_surface.specs.{
+  IsLower,
+  IsUpper,
+  default_attributes,
+  measure,
+  no_flags,
+  stored_text,
+  visible,
+  with_sizes,
+};
 ghost use Rattle.uses.specs.Words.{is_in_word};
 
 use std::alloc::{AllocError, Global};
 use std::ops::Range;
-use termwiz_cell::change::SequenceNo;
-use termwiz_cell::emoji::Widths;
-use termwiz_line::line::line::{DoubleClickRange, Line};
+use termwiz_surface::change::SequenceNo;
+use termwiz_surface::emoji::Widths;
+use termwiz_surface::line::line::{DoubleClickRange, Line};
 
 /// A line of a text that is shown twice as wide, with a number.
 pub fn heading<W: Widths>(
@@ -21,7 +25,7 @@ pub fn heading<W: Widths>(
     seqno: SequenceNo,
     widths: &W,
 ) -> Result<Line, AllocError>
-    ensures text { IfOk result (λ line. line.cells ≡ stored_text (unversioned (W.width_of widths.now)) default_attributes text.now) }
+    ensures text { IfOk result (λ line. line.cells ≡ stored_text (measure W.width_of widths.now) default_attributes text.now) }
     ensures wide { IfOk result (λ line. line.flags ≡ with_sizes true false false no_flags) }
     ensures numbered { IfOk result (λ line. line.seqno ≡ seqno) }
 {

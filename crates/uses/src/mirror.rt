@@ -1,10 +1,10 @@
 //! A viewer of one's own, which mirrors a surface by repaints.
 ghost use Rattle.std.specs.Prelude.{◌≡◌, IfOk, OnOk};
-ghost use Rattle.termwiz_surface.specs.SurfaceValue.{screen_of};
+ghost use Rattle.termwiz_surface.specs.{SurfaceValue, screen_of};
 
 use std::alloc::{AllocError, Global};
 use std::marker::Model;
-use termwiz_cell::emoji::Widths;
+use termwiz_surface::emoji::Widths;
 use termwiz_surface::surface::{Surface, SurfaceError};
 
 /// A copy of what a surface showed when the mirror last caught up with it.
@@ -15,8 +15,6 @@ pub struct Mirror<W: Widths> {
 }
 
 impl<W: Widths> Model for Mirror<W> {
-    ghost use Rattle.termwiz_surface.specs.SurfaceValue.{SurfaceValue};
-
     ghost Value = { SurfaceValue W };
 
     ghost view = { λ v. v.shown };

@@ -1,12 +1,9 @@
 //! Changes that are made one at a time, as they come.
 ghost use Rattle.std.specs.Prelude.{◌≡◌, OnOk, map};
-ghost use Rattle.termwiz_cell.specs.ChangeValue.{change_value};
-ghost use Rattle.termwiz_cell.specs.Width.{unversioned};
-ghost use Rattle.termwiz_surface.specs.Step.{replay};
-ghost use Rattle.termwiz_surface.specs.SurfaceValue.{screen_of};
+ghost use Rattle.termwiz_surface.specs.{change_value, measure, replay, screen_of};
 
-use termwiz_cell::change::Change;
-use termwiz_cell::emoji::Widths;
+use termwiz_surface::change::Change;
+use termwiz_surface::emoji::Widths;
 use termwiz_surface::surface::{Surface, SurfaceError};
 
 /// Makes the changes, each by itself. The screen is the same as if they were one list.
@@ -15,7 +12,7 @@ pub fn make_one_by_one<W: Widths>(
     surface: &mut Surface<W>,
     changes: Vec<Change>,
 ) -> Result<(), SurfaceError>
-    ensures ok { OnOk result (screen_of surface.new ≡ replay (unversioned (W.width_of surface.old.widths)) (screen_of surface.old) (map change_value changes.items)) }
+    ensures ok { OnOk result (screen_of surface.new ≡ replay (measure W.width_of surface.old.widths) (screen_of surface.old) (map change_value changes.items)) }
     ensures width { surface.new.width ≡ surface.old.width }
     ensures height { surface.new.height ≡ surface.old.height }
 {

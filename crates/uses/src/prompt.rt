@@ -1,11 +1,11 @@
 //! The prompt of a line editor: a line to edit and a hint below it.
 ghost use Rattle.std.specs.Prelude.{◌≡◌, pos, ◌<◌, OnOk};
-ghost use Rattle.termwiz_cell.specs.Width.{unversioned};
+ghost use Rattle.termwiz_surface.specs.{measure};
 ghost use Rattle.uses.specs.Prompt.{prompted};
 
 use std::alloc::Global;
-use termwiz_cell::change::{Change, ChangeSequence, SequenceError};
-use termwiz_cell::emoji::Widths;
+use termwiz_surface::change::{Change, ChangeSequence, SequenceError};
+use termwiz_surface::emoji::Widths;
 use termwiz_surface::laws::sequence_laws;
 
 /// Prints a line and a hint below it, and takes the cursor back to a column of the row where the sequence began.
@@ -18,7 +18,7 @@ pub fn show_prompt<W: Widths>(
     column: usize,
 ) -> Result<(), SequenceError>
     requires { column < sequence.old.columns }
-    ensures added { OnOk result (sequence.new ≡ prompted (unversioned (W.width_of sequence.old.widths)) sequence.old line.now hint.now column) }
+    ensures added { OnOk result (sequence.new ≡ prompted (measure W.width_of sequence.old.widths) sequence.old line.now hint.now column) }
     // However long both are, and wherever the cursor was.
     ensures shown { OnOk result (sequence.new.cursor ≡ (column, pos 0)) }
     // So the next prompt can be shown, after an error too.

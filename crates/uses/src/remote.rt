@@ -1,15 +1,18 @@
 //! A remote terminal, to which a session's title and its headings of double width go as its rows do.
 ghost use Rattle.std.specs.Prelude.{◌≡◌, IfOk, OnOk, get_or, map, true};
-ghost use Rattle.termwiz_cell.specs.ChangeValue.{change_value};
-ghost use Rattle.termwiz_cell.specs.Width.{unversioned};
-ghost use Rattle.termwiz_cell.specs.declared.change.LineAttribute.TheVariants.{DoubleWidthLine, SingleWidthLine};
-ghost use Rattle.termwiz_surface.specs.Following.{Follows};
-ghost use Rattle.termwiz_surface.specs.SurfaceValue.{full_of};
+ghost use Rattle.termwiz_surface.specs.{
+  DoubleWidthLine,
+  Follows,
+  SingleWidthLine,
+  change_value,
+  full_of,
+  measure,
+};
 ghost use Rattle.uses.specs.Headings.{heading_changes};
 
 use std::alloc::{AllocError, Global};
-use termwiz_cell::change::{Change, LineAttribute};
-use termwiz_cell::emoji::Widths;
+use termwiz_surface::change::{Change, LineAttribute};
+use termwiz_surface::emoji::Widths;
 use termwiz_surface::surface::{Surface, SurfaceError};
 use termwiz_surface::view::Viewer;
 
@@ -22,14 +25,14 @@ pub fn show_heading<W: Widths>(
     remote: &mut Viewer<W>,
 ) -> Result<(), SurfaceError>
     requires full { session.old.full ≡ true }
-    requires follows { Follows (λ widths. unversioned (W.width_of widths)) remote.old session.old }
+    requires follows { Follows (measure W.width_of) remote.old session.old }
     // The remote terminal has the session's screen, title, cursor's shape and colour, and sizes of rows.
     ensures shown { OnOk result (full_of remote.new.surface ≡ full_of session.new) }
     // The heading is its title, and the row behind whose heading the cursor stands is shown twice as wide.
     ensures title { OnOk result (remote.new.surface.title ≡ heading.now) }
     ensures wide { OnOk result (let shown = full_of remote.new.surface in get_or shown.lines shown.screen.y SingleWidthLine ≡ DoubleWidthLine) }
     // The next call can rely on it again, after an error too.
-    ensures follows { Follows (λ widths. unversioned (W.width_of widths)) remote.new session.new }
+    ensures follows { Follows (measure W.width_of) remote.new session.new }
     ensures full { session.new.full ≡ true }
 {
     let changes = changes_of(alloc, heading)?;

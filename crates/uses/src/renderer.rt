@@ -1,11 +1,8 @@
 //! A renderer: what it does in each turn of its loop.
 ghost use Rattle.std.specs.Prelude.{◌≡◌, All, OnOk};
-ghost use Rattle.termwiz_cell.specs.Width.{unversioned};
-ghost use Rattle.termwiz_surface.specs.Following.{Follows};
-ghost use Rattle.termwiz_surface.specs.Log.{flushed, next_number};
-ghost use Rattle.termwiz_surface.specs.SurfaceValue.{screen_of};
+ghost use Rattle.termwiz_surface.specs.{Follows, flushed, measure, next_number, screen_of};
 
-use termwiz_cell::emoji::Widths;
+use termwiz_surface::emoji::Widths;
 use termwiz_surface::surface::{Surface, SurfaceError};
 use termwiz_surface::view::Viewer;
 
@@ -15,12 +12,12 @@ pub fn refresh<W: Widths>(
     surface: &mut Surface<W>,
     viewer: &mut Viewer<W>,
 ) -> Result<(), SurfaceError>
-    requires { Follows (λ widths. unversioned (W.width_of widths)) viewer.old surface.old }
+    requires { Follows (measure W.width_of) viewer.old surface.old }
     ensures shown { OnOk result (screen_of viewer.new.surface ≡ screen_of surface.new) }
     ensures forgets { OnOk result (surface.new.log ≡ flushed surface.old.log viewer.new.last) }
     ensures unchanged { screen_of surface.new ≡ screen_of surface.old }
     // The next turn can rely on it again, after an error too.
-    ensures follows { Follows (λ widths. unversioned (W.width_of widths)) viewer.new surface.new }
+    ensures follows { Follows (measure W.width_of) viewer.new surface.new }
 {
     viewer.follow(surface)?;
     surface.flush_changes_older_than(viewer.last());
@@ -34,14 +31,14 @@ pub fn refresh_all<W: Widths>(
     surface: &mut Surface<W>,
     viewers: &mut [Viewer<W>],
 ) -> Result<(), SurfaceError>
-    requires { All (λ v. Follows (λ widths. unversioned (W.width_of widths)) v surface.old) viewers.old }
+    requires { All (λ v. Follows (measure W.width_of) v surface.old) viewers.old }
     ensures shown { OnOk result (All (λ v. screen_of v.surface ≡ screen_of surface.new) viewers.new) }
     // Each has the number up to which the log is flushed.
     ensures numbered { OnOk result (All (λ v. v.last ≡ next_number surface.old.log) viewers.new) }
     ensures forgets { OnOk result (surface.new.log ≡ flushed surface.old.log (next_number surface.old.log)) }
     ensures unchanged { screen_of surface.new ≡ screen_of surface.old }
     // The next turn can rely on it again, after an error too.
-    ensures follows { All (λ v. Follows (λ widths. unversioned (W.width_of widths)) v surface.new) viewers.new }
+    ensures follows { All (λ v. Follows (measure W.width_of) v surface.new) viewers.new }
 {
     for each in viewers.iter_mut() {
         each.follow(surface)?;

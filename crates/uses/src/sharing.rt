@@ -1,16 +1,23 @@
 //! A screen that is shared: its answers are carried off, and may be delivered late, repeatedly, in any order, or never.
 ghost use Rattle.std.specs.Prelude.{◌≡◌, ℕ, ◌≤◌, true, false, All, OnOk};
-ghost use Rattle.termwiz_cell.specs.Width.{unversioned};
-ghost use Rattle.termwiz_surface.specs.Following.{Follows};
-ghost use Rattle.termwiz_surface.specs.FullScreen.{FullScreen};
-ghost use Rattle.termwiz_surface.specs.History.{IsPast, KeepsNames, Names};
-ghost use Rattle.termwiz_surface.specs.Log.{is_known, next_number};
-ghost use Rattle.termwiz_surface.specs.Picture.{full_screens, screens};
-ghost use Rattle.termwiz_surface.specs.Screen.{Screen};
-ghost use Rattle.termwiz_surface.specs.SurfaceValue.{full_of, screen_of};
+ghost use Rattle.termwiz_surface.specs.{
+  Follows,
+  FullScreen,
+  IsPast,
+  KeepsNames,
+  Names,
+  Screen,
+  full_of,
+  full_screens,
+  is_known,
+  measure,
+  next_number,
+  screen_of,
+  screens,
+};
 
-use termwiz_cell::change::{Change, SequenceNo};
-use termwiz_cell::emoji::Widths;
+use termwiz_surface::change::{Change, SequenceNo};
+use termwiz_surface::emoji::Widths;
 use termwiz_surface::laws::history_laws;
 use termwiz_surface::surface::{Surface, SurfaceError};
 use termwiz_surface::view::{AcceptError, Viewer};
@@ -24,8 +31,8 @@ pub fn deliver_late<W: Widths>(
     change: Change,
 ) -> Result<SequenceNo, AcceptError>
     ghost past: { ℕ → Screen }
-    requires one_measure { unversioned (W.width_of viewer.old.surface.widths) ≡ unversioned (W.width_of surface.old.widths) }
-    requires is_past { IsPast screens (unversioned (W.width_of surface.old.widths)) past (screen_of surface.old) surface.old.log }
+    requires one_measure { measure W.width_of viewer.old.surface.widths ≡ measure W.width_of surface.old.widths }
+    requires is_past { IsPast screens (measure W.width_of surface.old.widths) past (screen_of surface.old) surface.old.log }
     requires names { Names past viewer.old.last (screen_of viewer.old.surface) }
     ensures shows { OnOk result (screen_of viewer.new.surface ≡ screen_of surface.old) }
     ensures names { Names past viewer.new.last (screen_of viewer.new.surface) }
@@ -43,8 +50,8 @@ pub fn deliver_late_fully<W: Widths>(
 ) -> Result<SequenceNo, AcceptError>
     ghost past: { ℕ → FullScreen }
     requires is_full { surface.old.full ≡ true }
-    requires one_measure { unversioned (W.width_of viewer.old.surface.widths) ≡ unversioned (W.width_of surface.old.widths) }
-    requires is_past { IsPast full_screens (unversioned (W.width_of surface.old.widths)) past (full_of surface.old) surface.old.log }
+    requires one_measure { measure W.width_of viewer.old.surface.widths ≡ measure W.width_of surface.old.widths }
+    requires is_past { IsPast full_screens (measure W.width_of surface.old.widths) past (full_of surface.old) surface.old.log }
     requires names { Names past viewer.old.last (full_of viewer.old.surface) }
     ensures shows { OnOk result (full_of viewer.new.surface ≡ full_of surface.old) }
     ensures names { Names past viewer.new.last (full_of viewer.new.surface) }
@@ -58,7 +65,7 @@ pub fn deliver_late_fully<W: Widths>(
 pub fn forget_delivered<W: Widths>(surface: &mut Surface<W>, told: &[SequenceNo])
     ensures answers { All (λ n. (most : ℕ) → is_known most surface.new.log n ≡ is_known most surface.old.log n) told.now }
     ensures unchanged { screen_of surface.new ≡ screen_of surface.old }
-    ensures remembered { KeepsNames (unversioned (W.width_of surface.old.widths)) surface.old surface.new }
+    ensures remembered { KeepsNames (measure W.width_of surface.old.widths) surface.old surface.new }
 {
     if let Some(least) = told.iter().copied().min() {
         surface.flush_changes_older_than(least);
@@ -72,12 +79,12 @@ pub fn reconnect<W: Widths>(
 ) -> Result<SequenceNo, SurfaceError>
     ghost past: { ℕ → Screen }
     requires is_plain { surface.now.full ≡ false }
-    requires one_measure { unversioned (W.width_of viewer.old.surface.widths) ≡ unversioned (W.width_of surface.now.widths) }
-    requires is_past { IsPast screens (unversioned (W.width_of surface.now.widths)) past (screen_of surface.now) surface.now.log }
+    requires one_measure { measure W.width_of viewer.old.surface.widths ≡ measure W.width_of surface.now.widths }
+    requires is_past { IsPast screens (measure W.width_of surface.now.widths) past (screen_of surface.now) surface.now.log }
     requires not_ahead { viewer.old.last ≤ next_number surface.now.log }
     requires names { Names past viewer.old.last (screen_of viewer.old.surface) }
     ensures shows { OnOk result (screen_of viewer.new.surface ≡ screen_of surface.now) }
-    ensures follows { Follows (λ widths. unversioned (W.width_of widths)) viewer.new surface.now }
+    ensures follows { Follows (measure W.width_of) viewer.new surface.now }
     ensures names { OnOk result (Names past viewer.new.last (screen_of viewer.new.surface)) }
 {
     // What its number names leads it on, as whoever follows is led.

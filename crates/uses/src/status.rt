@@ -1,17 +1,20 @@
 //! A status line: the last row of a surface, drawn as one list of changes.
 ghost use Rattle.std.specs.Prelude.{◌≡◌, ◌+◌, IfOk, OnOk, map};
-ghost use Rattle.termwiz_cell.specs.ChangeValue.{change_value};
-ghost use Rattle.termwiz_cell.specs.Width.{unversioned};
-ghost use Rattle.termwiz_surface.specs.Log.{appended, next_number};
-ghost use Rattle.termwiz_surface.specs.Step.{replay};
-ghost use Rattle.termwiz_surface.specs.SurfaceValue.{screen_of};
+ghost use Rattle.termwiz_surface.specs.{
+  appended,
+  change_value,
+  measure,
+  next_number,
+  replay,
+  screen_of,
+};
 ghost use Rattle.uses.specs.Status.{status_line};
 
 use std::alloc::{AllocError, Global};
-use termwiz_cell::cell::CellAttributes;
-use termwiz_cell::change::{Change, Position};
-use termwiz_cell::color::ColorAttribute;
-use termwiz_cell::emoji::Widths;
+use termwiz_surface::cell::CellAttributes;
+use termwiz_surface::change::{Change, Position};
+use termwiz_surface::color::ColorAttribute;
+use termwiz_surface::emoji::Widths;
 use termwiz_surface::surface::{Surface, SurfaceError};
 
 /// Clears the last row with a background, and prints a text there with a pen.
@@ -23,7 +26,7 @@ pub fn draw_status<W: Widths>(
     pen: CellAttributes,
     text: &str,
 ) -> Result<(), SurfaceError>
-    ensures ok { OnOk result (screen_of surface.new ≡ replay (unversioned (W.width_of surface.old.widths)) (screen_of surface.old) (status_line background pen text.now)) }
+    ensures ok { OnOk result (screen_of surface.new ≡ replay (measure W.width_of surface.old.widths) (screen_of surface.old) (status_line background pen text.now)) }
     ensures log { OnOk result (surface.new.log ≡ appended surface.old.log (status_line background pen text.now)) }
     ensures numbers { OnOk result (next_number surface.new.log ≡ next_number surface.old.log + 4) }
     ensures width { surface.new.width ≡ surface.old.width }

@@ -1,12 +1,15 @@
 //! A window of widgets, and a viewer that shows it.
 ghost use Rattle.std.specs.Prelude.{◌≡◌, OnOk};
-ghost use Rattle.termwiz_cell.specs.Width.{unversioned};
-ghost use Rattle.termwiz_surface.specs.Copies.{drawn_region};
-ghost use Rattle.termwiz_surface.specs.DiffRegions.{CrossNone, HaveRegion};
-ghost use Rattle.termwiz_surface.specs.Following.{Follows};
-ghost use Rattle.termwiz_surface.specs.SurfaceValue.{screen_of};
+ghost use Rattle.termwiz_surface.specs.{
+  CrossNone,
+  Follows,
+  HaveRegion,
+  drawn_region,
+  measure,
+  screen_of,
+};
 
-use termwiz_cell::emoji::Widths;
+use termwiz_surface::emoji::Widths;
 use termwiz_surface::surface::{Surface, SurfaceError};
 use termwiz_surface::view::Viewer;
 
@@ -19,12 +22,12 @@ pub fn show_widget<W: Widths>(
     y: usize,
     viewer: &mut Viewer<W>,
 ) -> Result<(), SurfaceError>
-    requires { Follows (λ widths. unversioned (W.width_of widths)) viewer.old window.old }
+    requires { Follows (measure W.width_of) viewer.old window.old }
     // The viewer shows the window, whose cursor and pen are as they were.
     ensures shown { OnOk result (screen_of viewer.new.surface ≡ record (screen_of window.old) { rows = (screen_of window.new).rows }) }
     // It shows the widget there, where both measure texts alike and no wide grapheme crosses an edge, and elsewhere what it showed.
-    ensures widget { OnOk result (let a = screen_of window.old in let b = screen_of widget.now in let r = drawn_region a b x y in unversioned (W.width_of window.old.widths) ≡ unversioned (W.width_of widget.now.widths) → CrossNone a.width b.width a.rows b.rows r → HaveRegion a.width (screen_of viewer.new.surface).rows a.rows b.rows r) }
-    ensures follows { Follows (λ widths. unversioned (W.width_of widths)) viewer.new window.new }
+    ensures widget { OnOk result (let a = screen_of window.old in let b = screen_of widget.now in let r = drawn_region a b x y in measure W.width_of window.old.widths ≡ measure W.width_of widget.now.widths → CrossNone a.width b.width a.rows b.rows r → HaveRegion a.width (screen_of viewer.new.surface).rows a.rows b.rows r) }
+    ensures follows { Follows (measure W.width_of) viewer.new window.new }
 {
     window.draw_from_screen(widget, x, y)?;
     viewer.follow(window)?;

@@ -1,7 +1,7 @@
 //! Runs of events on one surface and several viewers.
 ghost use Rattle.std.specs.Prelude.{◌≡◌, ◌^◌, ◌<◌, IfOk, OnOk, List, map, replicate};
 ghost use Rattle.std.specs.List.{All};
-ghost use Rattle.termwiz_cell.specs.Width.{unversioned};
+ghost use Rattle.termwiz_cell.specs.Measure.{measure};
 ghost use Rattle.termwiz_surface_core.specs.Following.{blank_viewer};
 ghost use Rattle.termwiz_surface.specs.ManySchedule.{Held, IsManyInRange, IsManySchedule};
 ghost use Rattle.termwiz_surface.specs.ManySteps.{AnswersTo, DeliversTo, Remembers, ResizesAs, Serves};
@@ -58,7 +58,7 @@ pub fn run_many<W: Widths>(
     requires fits { width < 2 ^ 32 }
     requires fits_height { height < 2 ^ 32 }
     requires sizes { All IsManyInRange events.items }
-    ensures { IfOk result (λ outcomes. IsManySchedule (λ widths. unversioned (W.width_of widths)) (unversioned (W.width_of widths)) width height viewers events.items outcomes.items) }
+    ensures { IfOk result (λ outcomes. IsManySchedule (measure W.width_of) (measure W.width_of widths) width height viewers events.items outcomes.items) }
 {
     let mut surface = Surface::new(alloc, width, height, widths)?;
     let mut seats = blank_viewers(alloc, &surface, viewers)?;
@@ -94,7 +94,7 @@ fn serve<W: Widths>(
     event: ManyEvent<W>,
 ) -> Result<ManyOutcome, AllocError>
     requires { IsManyInRange event }
-    ensures serves { IfOk result (λ outcome. (held : List Held) → Remembers (λ widths. unversioned (W.width_of widths)) surface.old viewers.old.items answers.old.items held → Serves (λ widths. unversioned (W.width_of widths)) surface.old viewers.old.items held event outcome surface.new viewers.new.items answers.new.items) }
+    ensures serves { IfOk result (λ outcome. (held : List Held) → Remembers (measure W.width_of) surface.old viewers.old.items answers.old.items held → Serves (measure W.width_of) surface.old viewers.old.items held event outcome surface.new viewers.new.items answers.new.items) }
     ensures widths { surface.new.widths ≡ surface.old.widths }
 {
     match event {
@@ -129,7 +129,7 @@ fn answer<W: Widths>(
     seq: SequenceNo,
     answers: &mut Vec<Answer>,
 ) -> Result<ManyOutcome, AllocError>
-    ensures { IfOk result (λ outcome. AnswersTo (unversioned (W.width_of surface.now.widths)) surface.now seq answers.old.items outcome answers.new.items) }
+    ensures { IfOk result (λ outcome. AnswersTo (measure W.width_of surface.now.widths) surface.now seq answers.old.items outcome answers.new.items) }
 {
     match surface.answer(seq) {
         Ok(answer) => {
@@ -143,7 +143,7 @@ fn answer<W: Widths>(
 
 // A viewer is given an answer, and what it shows then is told.
 fn deliver<W: Widths>(viewer: &mut Viewer<W>, answer: &Answer) -> Result<ManyOutcome, AllocError>
-    ensures { IfOk result (λ outcome. DeliversTo (λ widths. unversioned (W.width_of widths)) viewer.old answer.now outcome viewer.new) }
+    ensures { IfOk result (λ outcome. DeliversTo (measure W.width_of) viewer.old answer.now outcome viewer.new) }
 {
     match viewer.accept(answer) {
         Ok(number) => {

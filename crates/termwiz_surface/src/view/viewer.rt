@@ -1,7 +1,7 @@
 //! Viewers: surfaces that follow another one, or accept its answers.
 ghost use Rattle.std.specs.Prelude.{◌≡◌, ℕ, ◌+◌, ◌<◌, ◌^◌, true, length, map, nat_lt, IfOk, OnOk, OnErr};
 ghost use Rattle.termwiz_cell.specs.ChangeValue.{change_value};
-ghost use Rattle.termwiz_cell.specs.Width.{unversioned};
+ghost use Rattle.termwiz_cell.specs.Measure.{measure};
 ghost use Rattle.termwiz_surface_core.specs.Adding.{Makes, with_log};
 ghost use Rattle.termwiz_surface.specs.Accepting.{Declines, HasDropped, MayTake, Takes};
 ghost use Rattle.termwiz_surface_core.specs.Answer.{Carries};
@@ -78,7 +78,7 @@ impl<W: Widths> Viewer<W> {
     /// A viewer that shows a blank surface of the source's size, width value and kind, and was given no number.
     pub fn new(alloc: Global, source: &Surface<W>) -> Result<Viewer<W>, AllocError>
         ensures blank { IfOk result (λ viewer. viewer ≡ blank_viewer source.now) }
-        ensures follows { IfOk result (λ viewer. Follows (λ widths. unversioned (W.width_of widths)) viewer source.now) }
+        ensures follows { IfOk result (λ viewer. Follows (measure W.width_of) viewer source.now) }
     {
         let (width, height) = source.dimensions();
         let surface = Surface::blank(alloc, width, height, source.widths(), source.is_full())?;
@@ -123,7 +123,7 @@ impl<W: Widths> Viewer<W> {
         &mut self,
         source: &Surface<W>,
     ) -> Result<(SequenceNo, Vec<Change>), SurfaceError>
-        ensures fetches { Fetches (unversioned (W.width_of source.now.widths)) source.now self.old result self.new }
+        ensures fetches { Fetches (measure W.width_of source.now.widths) source.now self.old result self.new }
         ensures sized { OnOk result (HasFullSize source.now.width source.now.height (full_of self.new.surface)) }
     {
         self.fit(source)?;
@@ -149,7 +149,7 @@ impl<W: Widths> Viewer<W> {
         number: SequenceNo,
         changes: Vec<Change>,
     ) -> Result<SequenceNo, SurfaceError>
-        ensures { Accepts (unversioned (W.width_of self.old.surface.widths)) self.old number (map change_value changes.items) result self.new }
+        ensures { Accepts (measure W.width_of self.old.surface.widths) self.old number (map change_value changes.items) result self.new }
     {
         self.last = SEQ_ZERO;
         self.surface.add_changes(changes)?;
@@ -189,8 +189,8 @@ impl<W: Widths> Viewer<W> {
     fn take(&mut self, answer: &Answer) -> Result<(), AllocError>
         requires may { MayTake self.old answer.now }
         requires numbers { next_number self.old.surface.log + length answer.now.changes < 2 ^ 64 }
-        ensures ok { OnOk result ((self.new.last ≡ answer.now.number) × Makes (unversioned (W.width_of self.old.surface.widths)) self.old.surface answer.now.changes self.new.surface) }
-        ensures err { OnErr result (HasDropped (unversioned (W.width_of self.old.surface.widths)) self.old self.new) }
+        ensures ok { OnOk result ((self.new.last ≡ answer.now.number) × Makes (measure W.width_of self.old.surface.widths) self.old.surface answer.now.changes self.new.surface) }
+        ensures err { OnErr result (HasDropped (measure W.width_of self.old.surface.widths) self.old self.new) }
     {
         self.last = SEQ_ZERO;
         let changes = copied(self.alloc, CowSlice::Borrowed(answer.changes()))?;
@@ -205,13 +205,13 @@ impl<W: Widths> Viewer<W> {
     ///
     /// `Size`: the answer is for another size. `Stale`: it is no repaint, and the viewer doesn't have the number that it leads from. After both nothing has changed. `Numbers`: the numbers of the viewer's own surface are used up; it shows what it showed. `Memory`: a growth was refused; it may show anything. After both the viewer has no number, so that it is to be answered by a repaint.
     pub fn accept(&mut self, answer: &Answer) -> Result<SequenceNo, AcceptError>
-        ensures takes { Takes (unversioned (W.width_of self.old.surface.widths)) self.old answer.now result self.new }
+        ensures takes { Takes (measure W.width_of self.old.surface.widths) self.old answer.now result self.new }
         // A viewer that shows what its number names has the screen that the answer was given for, and of a full surface the full screen,
-        ensures shows { (past : ℕ → Screen) (s : Screen) → Carries screens (unversioned (W.width_of self.old.surface.widths)) past answer.now s → Names past self.old.last (screen_of self.old.surface) → OnOk result (screen_of self.new.surface ≡ s) }
-        ensures shows_fully { (past : ℕ → FullScreen) (f : FullScreen) → Carries full_screens (unversioned (W.width_of self.old.surface.widths)) past answer.now f → Names past self.old.last (full_of self.old.surface) → OnOk result (full_of self.new.surface ≡ f) }
+        ensures shows { (past : ℕ → Screen) (s : Screen) → Carries screens (measure W.width_of self.old.surface.widths) past answer.now s → Names past self.old.last (screen_of self.old.surface) → OnOk result (screen_of self.new.surface ≡ s) }
+        ensures shows_fully { (past : ℕ → FullScreen) (f : FullScreen) → Carries full_screens (measure W.width_of self.old.surface.widths) past answer.now f → Names past self.old.last (full_of self.old.surface) → OnOk result (full_of self.new.surface ≡ f) }
         // and shows what its number names then, also after an error.
-        ensures names { (past : ℕ → Screen) (s : Screen) → Carries screens (unversioned (W.width_of self.old.surface.widths)) past answer.now s → Names past self.old.last (screen_of self.old.surface) → Names past self.new.last (screen_of self.new.surface) }
-        ensures names_fully { (past : ℕ → FullScreen) (f : FullScreen) → Carries full_screens (unversioned (W.width_of self.old.surface.widths)) past answer.now f → Names past self.old.last (full_of self.old.surface) → Names past self.new.last (full_of self.new.surface) }
+        ensures names { (past : ℕ → Screen) (s : Screen) → Carries screens (measure W.width_of self.old.surface.widths) past answer.now s → Names past self.old.last (screen_of self.old.surface) → Names past self.new.last (screen_of self.new.surface) }
+        ensures names_fully { (past : ℕ → FullScreen) (f : FullScreen) → Carries full_screens (measure W.width_of self.old.surface.widths) past answer.now f → Names past self.old.last (full_of self.old.surface) → Names past self.new.last (full_of self.new.surface) }
     {
         self.decline(answer)?;
         if !self.has_numbers(answer.changes().len()) {
@@ -248,7 +248,7 @@ impl<W: Widths> Viewer<W> {
         ensures flushes { self.new.surface ≡ with_log self.old.surface (flushed self.old.surface.log seq) }
         ensures last { self.new.last ≡ self.old.last }
         // It follows each surface that it followed.
-        ensures follows { (s : SurfaceValue W) → Follows (λ widths. unversioned (W.width_of widths)) self.old s → Follows (λ widths. unversioned (W.width_of widths)) self.new s }
+        ensures follows { (s : SurfaceValue W) → Follows (measure W.width_of) self.old s → Follows (measure W.width_of) self.new s }
     {
         self.surface.flush_changes_older_than(seq);
     }
@@ -257,13 +257,13 @@ impl<W: Widths> Viewer<W> {
     ///
     /// `Numbers`: the numbers of the viewer's own surface are used up. `Memory`: a growth was refused. After both the viewer may show anything, and has no number. Its width value stays, and the number of its own surface has grown by two at most. A viewer that followed the source follows it still: the next time that it succeeds it gets the whole screen, and shows it. `ScrollRegion` never comes.
     pub fn follow(&mut self, source: &Surface<W>) -> Result<SequenceNo, SurfaceError>
-        ensures steps { FollowsTo (λ widths. unversioned (W.width_of widths)) source.now self.old result self.new }
+        ensures steps { FollowsTo (measure W.width_of) source.now self.old result self.new }
         // A viewer that follows the source shows its screen after each success,
-        ensures caught_up { Follows (λ widths. unversioned (W.width_of widths)) self.old source.now → OnOk result ((screen_of self.new.surface ≡ screen_of source.now) × (self.new.last ≡ next_number source.now.log)) }
+        ensures caught_up { Follows (measure W.width_of) self.old source.now → OnOk result ((screen_of self.new.surface ≡ screen_of source.now) × (self.new.last ≡ next_number source.now.log)) }
         // and that of a full source its full screen,
-        ensures fully_caught_up { Follows (λ widths. unversioned (W.width_of widths)) self.old source.now → source.now.full ≡ true → OnOk result (full_of self.new.surface ≡ full_of source.now) }
+        ensures fully_caught_up { Follows (measure W.width_of) self.old source.now → source.now.full ≡ true → OnOk result (full_of self.new.surface ≡ full_of source.now) }
         // and follows it also after a failure.
-        ensures follows { Follows (λ widths. unversioned (W.width_of widths)) self.old source.now → Follows (λ widths. unversioned (W.width_of widths)) self.new source.now }
+        ensures follows { Follows (measure W.width_of) self.old source.now → Follows (measure W.width_of) self.new source.now }
         ensures failed { OnErr result (self.new.last ≡ 0) }
     {
         match self.fetch(source) {

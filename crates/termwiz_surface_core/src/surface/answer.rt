@@ -2,7 +2,7 @@
 ghost use Rattle.std.specs.Prelude.{◌≡◌, ℕ, ◌≤◌, true, false, length, map, IfOk};
 ghost use Rattle.std.specs.Cow.{IsBorrowedSlice, IsOwnedSlice};
 ghost use Rattle.termwiz_cell.specs.ChangeValue.{change_value};
-ghost use Rattle.termwiz_cell.specs.Width.{unversioned};
+ghost use Rattle.termwiz_cell.specs.Measure.{measure};
 ghost use Rattle.termwiz_surface_core.specs.Answer.{Carries, IsGiven};
 ghost use Rattle.termwiz_screen.specs.FullScreen.{FullScreen};
 ghost use Rattle.termwiz_surface_core.specs.SurfaceValue.{full_of, kept_of, screen_of};
@@ -90,11 +90,11 @@ impl<W: Widths> Surface<W> {
     ///
     /// Whoever accepts it has the screen that this surface has now, and one of a full surface gives its full screen, to a plain viewer too.
     pub fn answer(&self, seq: SequenceNo) -> Result<Answer, AllocError>
-        ensures given { IfOk result (λ answer. IsGiven screens (unversioned (W.width_of self.now.widths)) (screen_of self.now) self.now.log seq answer) }
-        ensures given_fully { self.now.full ≡ true → IfOk result (λ answer. IsGiven full_screens (unversioned (W.width_of self.now.widths)) (full_of self.now) self.now.log seq answer) }
+        ensures given { IfOk result (λ answer. IsGiven screens (measure W.width_of self.now.widths) (screen_of self.now) self.now.log seq answer) }
+        ensures given_fully { self.now.full ≡ true → IfOk result (λ answer. IsGiven full_screens (measure W.width_of self.now.widths) (full_of self.now) self.now.log seq answer) }
         // Whatever the surface's numbers named so far, the answer leads to the screen that it has now, and that of a full surface to its full screen.
-        ensures carries { (past : ℕ → Screen) → IsPast screens (unversioned (W.width_of self.now.widths)) past (screen_of self.now) self.now.log → IfOk result (λ answer. Carries screens (unversioned (W.width_of self.now.widths)) past answer (screen_of self.now)) }
-        ensures carries_fully { self.now.full ≡ true → (past : ℕ → FullScreen) → IsPast full_screens (unversioned (W.width_of self.now.widths)) past (full_of self.now) self.now.log → IfOk result (λ answer. Carries full_screens (unversioned (W.width_of self.now.widths)) past answer (full_of self.now)) }
+        ensures carries { (past : ℕ → Screen) → IsPast screens (measure W.width_of self.now.widths) past (screen_of self.now) self.now.log → IfOk result (λ answer. Carries screens (measure W.width_of self.now.widths) past answer (screen_of self.now)) }
+        ensures carries_fully { self.now.full ≡ true → (past : ℕ → FullScreen) → IsPast full_screens (measure W.width_of self.now.widths) past (full_of self.now) self.now.log → IfOk result (λ answer. Carries full_screens (measure W.width_of self.now.widths) past answer (full_of self.now)) }
         // A repaint's entries are the defined ones.
         ensures entries { is_known (worth self.now.width self.now.height) self.now.log seq ≡ false → IfOk result (λ answer. answer.changes ≡ repaint_in self.now.full (screen_of self.now) (kept_of self.now)) }
         ensures short { is_known (worth self.now.width self.now.height) self.now.log seq ≡ false → IfOk result (λ answer. length answer.changes ≤ most_entries self.now.full self.now.width self.now.height) }

@@ -2,9 +2,9 @@
 ghost use Rattle.std.specs.Cow.{IsOwnedSlice};
 ghost use Rattle.std.specs.Prelude.{◌≡◌, ℕ, ◌≤◌, true, false, not, ◌==◌, map, length, IfOk, IsOkAnd};
 ghost use Rattle.termwiz_cell.specs.ChangeValue.{change_value};
-ghost use Rattle.termwiz_cell.specs.Width.{unversioned};
+ghost use Rattle.termwiz_cell.specs.Measure.{measure};
 ghost use Rattle.termwiz_surface_core.specs.Adding.{with_log};
-ghost use Rattle.termwiz_surface_core.specs.Following.{Follows, ViewerValue};
+ghost use Rattle.termwiz_surface_core.specs.Following.{KeepsViewers};
 ghost use Rattle.termwiz_surface_core.specs.SurfaceValue.{screen_of, kept_of, full_of};
 ghost use Rattle.termwiz_surface_core.specs.History.{KeepsNames};
 ghost use Rattle.termwiz_screen.specs.FullScreen.{full_screen};
@@ -39,9 +39,9 @@ impl<W: Widths> Surface<W> {
         // The answer for this number, and for each greater one, is as it was.
         ensures answers { (n most : ℕ) → seq ≤ n → (is_known most self.new.log n ≡ is_known most self.old.log n) × (due self.new.log n ≡ due self.old.log n) }
         // Each viewer that follows the surface goes on to.
-        ensures followed { (v : ViewerValue W) → Follows (λ widths. unversioned (W.width_of widths)) v self.old → Follows (λ widths. unversioned (W.width_of widths)) v self.new }
+        ensures followed { KeepsViewers (measure W.width_of) self.old self.new }
         // What its numbers named they name still.
-        ensures remembered { KeepsNames (unversioned (W.width_of self.old.widths)) self.old self.new }
+        ensures remembered { KeepsNames (measure W.width_of self.old.widths) self.old self.new }
     {
         self.log.flush(seq);
     }
@@ -59,7 +59,7 @@ impl<W: Widths> Surface<W> {
         ensures number { IfOk result (λ answer. answer.0 ≡ next_number self.now.log) }
         ensures due { is_known (worth self.now.width self.now.height) self.now.log seq ≡ true → IsOkAnd result (λ answer. Lends answer.1 (due self.now.log seq)) }
         // Replayed on any screen of that size, whatever it shows, a repaint gives this one: rows, cursor, visibility and pen.
-        ensures repaint { is_known (worth self.now.width self.now.height) self.now.log seq ≡ false → IfOk result (λ answer. (s : Screen) → HasSize self.now.width self.now.height s → replay (unversioned (W.width_of self.now.widths)) s (stream_of answer.1) ≡ screen_of self.now) }
+        ensures repaint { is_known (worth self.now.width self.now.height) self.now.log seq ≡ false → IfOk result (λ answer. (s : Screen) → HasSize self.now.width self.now.height s → replay (measure W.width_of self.now.widths) s (stream_of answer.1) ≡ screen_of self.now) }
         // Its entries are the defined ones, the title and the cursor's shape among them.
         ensures entries { is_known (worth self.now.width self.now.height) self.now.log seq ≡ false → IfOk result (λ answer. stream_of answer.1 ≡ repaint_in self.now.full (screen_of self.now) (kept_of self.now)) }
         ensures short { is_known (worth self.now.width self.now.height) self.now.log seq ≡ false → IfOk result (λ answer. length (stream_of answer.1) ≤ most_entries self.now.full self.now.width self.now.height) }
@@ -67,9 +67,9 @@ impl<W: Widths> Surface<W> {
         ensures regions { IfOk result (λ answer. regions_fit self.now.height (stream_of answer.1) ≡ true) }
         ensures owned { is_known (worth self.now.width self.now.height) self.now.log seq ≡ false → IfOk result (λ answer. IsOwnedSlice answer.1) }
         // Both kinds of answer in one: what leads on a viewer that is led, by `following_laws`.
-        ensures stream { IfOk result (λ answer. IsStream (unversioned (W.width_of self.now.widths)) (screen_of self.now) self.now.log seq (stream_of answer.1)) }
+        ensures stream { IfOk result (λ answer. IsStream (measure W.width_of self.now.widths) (screen_of self.now) self.now.log seq (stream_of answer.1)) }
         // Of a full surface, what leads a viewer on to its full screen.
-        ensures full { self.now.full ≡ true → IfOk result (λ answer. IsFullStream (unversioned (W.width_of self.now.widths)) (full_of self.now) self.now.log seq (stream_of answer.1)) }
+        ensures full { self.now.full ≡ true → IfOk result (λ answer. IsFullStream (measure W.width_of self.now.widths) (full_of self.now) self.now.log seq (stream_of answer.1)) }
     {
         let number = self.log.next_number();
         match self.log.due(seq, worth(self.width, self.height)) {

@@ -1,12 +1,12 @@
 //! Drawing a surface on another one, and copying a region of a surface within it.
 ghost use Rattle.std.specs.Prelude.{◌≡◌, map, Err, IfOk, OnOk};
 ghost use Rattle.termwiz_cell.specs.ChangeValue.{change_value};
-ghost use Rattle.termwiz_cell.specs.Width.{unversioned};
+ghost use Rattle.termwiz_cell.specs.Measure.{measure};
 ghost use Rattle.termwiz_surface_core.specs.Copies.{IsCopied, IsDrawn, copied_region, drawn_region};
 ghost use Rattle.termwiz_screen.specs.Diff.{restoring};
 ghost use Rattle.termwiz_screen.specs.DiffRegions.{CrossNone, HaveRegion};
 ghost use Rattle.termwiz_surface_core.specs.History.{KeepsNames};
-ghost use Rattle.termwiz_surface_core.specs.Following.{Follows, ViewerValue};
+ghost use Rattle.termwiz_surface_core.specs.Following.{KeepsViewers};
 ghost use Rattle.termwiz_surface_core.specs.SurfaceValue.{screen_of};
 ghost use Rattle.termwiz_surface_core.specs.declared.surface.SurfaceError.TheVariants.{ScrollRegion};
 
@@ -28,16 +28,16 @@ impl<W: Widths> Surface<W> {
         x: usize,
         y: usize,
     ) -> Result<SequenceNo, SurfaceError>
-        ensures drawn { IsDrawn (λ widths. unversioned (W.width_of widths)) self.old other.now x y result self.new }
+        ensures drawn { IsDrawn (measure W.width_of) self.old other.now x y result self.new }
         // All but the rows is as before.
         ensures restores { OnOk result (screen_of self.new ≡ record (screen_of self.old) { rows = (screen_of self.new).rows }) }
         // For two surfaces of one width function: the other's rows, where no wide grapheme crosses an edge.
-        ensures region { OnOk result (let a = screen_of self.old in let b = screen_of other.now in let r = drawn_region a b x y in unversioned (W.width_of self.old.widths) ≡ unversioned (W.width_of other.now.widths) → CrossNone a.width b.width a.rows b.rows r → HaveRegion a.width (screen_of self.new).rows a.rows b.rows r) }
+        ensures region { OnOk result (let a = screen_of self.old in let b = screen_of other.now in let r = drawn_region a b x y in measure W.width_of self.old.widths ≡ measure W.width_of other.now.widths → CrossNone a.width b.width a.rows b.rows r → HaveRegion a.width (screen_of self.new).rows a.rows b.rows r) }
         ensures no_scroll { result ≡ Err ScrollRegion → ⊥ }
         // Each viewer that follows the surface goes on to, also after an error, and whatever width value the drawn one has.
-        ensures followed { (v : ViewerValue W) → Follows (λ widths. unversioned (W.width_of widths)) v self.old → Follows (λ widths. unversioned (W.width_of widths)) v self.new }
+        ensures followed { KeepsViewers (measure W.width_of) self.old self.new }
         // What its numbers named they name still, also after an error.
-        ensures remembered { KeepsNames (unversioned (W.width_of self.old.widths)) self.old self.new }
+        ensures remembered { KeepsNames (measure W.width_of self.old.widths) self.old self.new }
     {
         let (width, height) = other.dimensions();
         let changes = self.diff_region(x, y, width, height, other, 0, 0)?;
@@ -59,14 +59,14 @@ impl<W: Widths> Surface<W> {
         dest_x: usize,
         dest_y: usize,
     ) -> Result<SequenceNo, SurfaceError>
-        ensures copied { IsCopied (λ widths. unversioned (W.width_of widths)) self.old src_x src_y width height dest_x dest_y result self.new }
+        ensures copied { IsCopied (measure W.width_of) self.old src_x src_y width height dest_x dest_y result self.new }
         // What the region showed before, overlapping or not, where no wide grapheme crosses an edge.
         ensures region { OnOk result (let a = screen_of self.old in let r = copied_region a src_x src_y width height dest_x dest_y in CrossNone a.width a.width a.rows a.rows r → HaveRegion a.width (screen_of self.new).rows a.rows a.rows r) }
         ensures no_scroll { result ≡ Err ScrollRegion → ⊥ }
         // Each viewer that follows the surface goes on to, also after an error.
-        ensures followed { (v : ViewerValue W) → Follows (λ widths. unversioned (W.width_of widths)) v self.old → Follows (λ widths. unversioned (W.width_of widths)) v self.new }
+        ensures followed { KeepsViewers (measure W.width_of) self.old self.new }
         // What its numbers named they name still, also after an error.
-        ensures remembered { KeepsNames (unversioned (W.width_of self.old.widths)) self.old self.new }
+        ensures remembered { KeepsNames (measure W.width_of self.old.widths) self.old self.new }
     {
         let changes = self.diff_region(dest_x, dest_y, width, height, self, src_x, src_y)?;
         self.add_changes(changes)

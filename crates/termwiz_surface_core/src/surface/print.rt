@@ -3,7 +3,7 @@ ghost use Rattle.std.specs.Prelude.{◌≡◌, ◌+◌, ◌<◌, ◌≤◌, true
 ghost use Rattle.std.specs.List.{list_all};
 ghost use Rattle.termwiz_text.specs.Plain.{is_plain};
 ghost use Rattle.unicode_segmentation.specs.Grapheme.{graphemes};
-ghost use Rattle.termwiz_cell.specs.Width.{unversioned};
+ghost use Rattle.termwiz_cell.specs.Measure.{measure};
 ghost use Rattle.termwiz_cell.specs.Attributes.{needs_box};
 ghost use Rattle.termwiz_screen.specs.Print.{columns_left, down, down_kept, one_kept, print, print_kept, print_one, put, put_kept, wrapped, wrapped_kept};
 ghost use Rattle.termwiz_surface_core.specs.SurfaceValue.{Draws, SameFrame, kept_of, screen_of};
@@ -35,7 +35,7 @@ impl<W: Widths> Surface<W> {
     #[inline(always)]
     fn put(&mut self, cell: Cell) -> Result<(), AllocError>
         requires inside { self.old.x < self.old.width }
-        requires measured { IsMeasured (unversioned (W.width_of self.old.widths)) cell }
+        requires measured { IsMeasured (measure W.width_of self.old.widths) cell }
         ensures ok { OnOk result (let s = screen_of self.old in Draws self.old (put s cell) (put_kept s cell (kept_of self.old)) self.new) }
         ensures err { OnErr result (self.new ≡ self.old) }
     {
@@ -60,7 +60,7 @@ impl<W: Widths> Surface<W> {
 
     fn print_one(&mut self, grapheme: &str) -> Result<(), AllocError>
         requires { graphemes true grapheme.now ≡ grapheme.now ∷ [] }
-        ensures ok { OnOk result (let f = unversioned (W.width_of self.old.widths) in let s = screen_of self.old in Draws self.old (print_one f s grapheme.now) (one_kept f s grapheme.now (kept_of self.old)) self.new) }
+        ensures ok { OnOk result (let f = measure W.width_of self.old.widths in let s = screen_of self.old in Draws self.old (print_one f s grapheme.now) (one_kept f s grapheme.now (kept_of self.old)) self.new) }
         ensures err { OnErr result (SameFrame self.old self.new) }
     {
         match printed_piece(self.alloc, &self.widths, grapheme, &self.pen)? {
@@ -95,10 +95,10 @@ impl<W: Widths> Surface<W> {
     // Prints a run of ASCII in the cursor's row.
     fn put_run(&mut self, run: &str) -> Result<(), AllocError>
         requires plain { list_all is_plain run.now ≡ true }
-        requires narrow { AreNarrow (unversioned (W.width_of self.old.widths)) run.now }
+        requires narrow { AreNarrow (measure W.width_of self.old.widths) run.now }
         requires unboxed { needs_box self.old.pen ≡ false }
         requires fits { self.old.x + length run.now ≤ self.old.width }
-        ensures ok { OnOk result (Prints (unversioned (W.width_of self.old.widths)) self.old (map (λ c. c ∷ []) run.now) self.new) }
+        ensures ok { OnOk result (Prints (measure W.width_of self.old.widths) self.old (map (λ c. c ∷ []) run.now) self.new) }
         ensures err { OnErr result (self.new ≡ self.old) }
     {
         paint_run(&mut self.rows, self.x, self.y, run, &self.pen)?;
@@ -110,10 +110,10 @@ impl<W: Widths> Surface<W> {
     fn print_run(&mut self, run: &str) -> Result<(), AllocError>
         requires some { 0 < length run.now }
         requires plain { list_all is_plain run.now ≡ true }
-        requires narrow { AreNarrow (unversioned (W.width_of self.old.widths)) run.now }
+        requires narrow { AreNarrow (measure W.width_of self.old.widths) run.now }
         requires unboxed { needs_box self.old.pen ≡ false }
         requires fits { length run.now ≤ columns_left (screen_of self.old) }
-        ensures ok { OnOk result (Prints (unversioned (W.width_of self.old.widths)) self.old (map (λ c. c ∷ []) run.now) self.new) }
+        ensures ok { OnOk result (Prints (measure W.width_of self.old.widths) self.old (map (λ c. c ∷ []) run.now) self.new) }
         ensures err { OnErr result (SameFrame self.old self.new) }
     {
         self.wrap()?;
@@ -124,7 +124,7 @@ impl<W: Widths> Surface<W> {
     // Prints the run of ASCII that the text begins with, or else its first grapheme, and gives what is left.
     fn print_first<'a>(&mut self, text: &'a str) -> Result<&'a str, AllocError>
         requires { 0 < length text.now }
-        ensures ok { IfOk result (λ rest. PrintsSome (unversioned (W.width_of self.old.widths)) self.old text.now rest.now self.new) }
+        ensures ok { IfOk result (λ rest. PrintsSome (measure W.width_of self.old.widths) self.old text.now rest.now self.new) }
         ensures err { OnErr result (SameFrame self.old self.new) }
     {
         if begins_plain(text) {
@@ -142,7 +142,7 @@ impl<W: Widths> Surface<W> {
     }
 
     pub(super) fn print_text(&mut self, text: &str) -> Result<(), AllocError>
-        ensures ok { OnOk result (let f = unversioned (W.width_of self.old.widths) in let s = screen_of self.old in Draws self.old (print f s text.now) (print_kept f s text.now (kept_of self.old)) self.new) }
+        ensures ok { OnOk result (let f = measure W.width_of self.old.widths in let s = screen_of self.old in Draws self.old (print f s text.now) (print_kept f s text.now (kept_of self.old)) self.new) }
         ensures err { OnErr result (SameFrame self.old self.new) }
     {
         let mut rest = text;

@@ -1,7 +1,7 @@
 //! Surfaces that take another size.
 ghost use Rattle.std.specs.Prelude.{◌≡◌, ◌+◌, ◌<◌, ◌^◌, OnOk, OnErr};
-ghost use Rattle.termwiz_cell.specs.Width.{unversioned};
-ghost use Rattle.termwiz_surface_core.specs.Following.{Follows, ViewerValue};
+ghost use Rattle.termwiz_cell.specs.Measure.{measure};
+ghost use Rattle.termwiz_surface_core.specs.Following.{KeepsViewers};
 ghost use Rattle.termwiz_surface_core.specs.History.{KeepsNames};
 ghost use Rattle.termwiz_screen.specs.Log.{next_number};
 ghost use Rattle.termwiz_surface_core.specs.Resizing.{HasResized, Resizes};
@@ -22,9 +22,9 @@ impl<W: Widths> Surface<W> {
         requires fits_height { height < 2 ^ 32 }
         ensures resizes { Resizes self.old width height result self.new }
         // Each viewer that follows the surface goes on to, also after an error.
-        ensures followed { (v : ViewerValue W) → Follows (λ widths. unversioned (W.width_of widths)) v self.old → Follows (λ widths. unversioned (W.width_of widths)) v self.new }
+        ensures followed { KeepsViewers (measure W.width_of) self.old self.new }
         // What its numbers named they name still, also after an error.
-        ensures remembered { KeepsNames (unversioned (W.width_of self.old.widths)) self.old self.new }
+        ensures remembered { KeepsNames (measure W.width_of self.old.widths) self.old self.new }
     {
         if !self.log.has_numbers(1) {
             return Err(SurfaceError::Numbers);

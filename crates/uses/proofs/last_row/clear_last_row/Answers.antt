@@ -1,7 +1,5 @@
 use Rattle.std.proofs.Common.{ap, ◌∙◌}
-use Rattle.termwiz_cell.specs.Width.{unversioned}
-use Rattle.termwiz_surface.specs.Step.{replay}
-use Rattle.termwiz_surface.specs.SurfaceValue.{screen_of}
+use Rattle.termwiz_surface.specs.{replay, screen_of, unversioned}
 use Rattle.uses.proofs.ClearedRow.{last_row_is_blank}
 use Rattle.uses.proofs.last_row.clear_last_row.Goals as goal
 

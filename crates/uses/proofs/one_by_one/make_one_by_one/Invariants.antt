@@ -1,8 +1,5 @@
 use Rattle.std.proofs.Common.{◌≡◌, map}
-use Rattle.termwiz_cell.specs.ChangeValue.{change_value}
-use Rattle.termwiz_cell.specs.Width.{unversioned}
-use Rattle.termwiz_surface.specs.Step.{replay}
-use Rattle.termwiz_surface.specs.SurfaceValue.{screen_of}
+use Rattle.termwiz_surface.specs.{change_value, replay, screen_of, unversioned}
 use Rattle.uses.proofs.one_by_one.make_one_by_one.Given as goal
 
 -- the changes so far are made, and the size and the width value stay

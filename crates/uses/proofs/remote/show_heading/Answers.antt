@@ -1,10 +1,5 @@
 use Rattle.std.proofs.Common.{◌≡◌, get_or, sym, ap, ◌∙◌, subst}
-use Rattle.termwiz_cell.specs.Width.{unversioned}
-use Rattle.termwiz_cell.specs.declared.change.LineAttribute.TheVariants.{DoubleWidthLine, SingleWidthLine}
-use Rattle.termwiz_surface.specs.FullScreen.{FullScreen}
-use Rattle.termwiz_surface.specs.Kept.{Kept}
-use Rattle.termwiz_surface.specs.Step.{replay, replay_kept}
-use Rattle.termwiz_surface.specs.SurfaceValue.{screen_of, kept_of}
+use Rattle.termwiz_surface.specs.{DoubleWidthLine, FullScreen, Kept, SingleWidthLine, kept_of, replay, replay_kept, screen_of, unversioned}
 use Rattle.uses.proofs.HeadingRow.{row_is_wide}
 use Rattle.uses.proofs.remote.show_heading.Goals as goal
 

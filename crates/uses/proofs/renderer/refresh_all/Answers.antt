@@ -1,9 +1,6 @@
 use Rattle.std.proofs.Common.{◌≡◌, ◌<◌, length, arith}
 use Rattle.std.proofs.lemmas.List.Elements.{All-set, AllWithin-more_set}
-use Rattle.termwiz_cell.specs.Width.{unversioned}
-use Rattle.termwiz_surface.specs.Following.{Follows}
-use Rattle.termwiz_surface.specs.Log.{next_number}
-use Rattle.termwiz_surface.specs.SurfaceValue.{screen_of}
+use Rattle.termwiz_surface.specs.{Follows, next_number, screen_of, unversioned}
 use Rattle.uses.proofs.renderer.refresh_all.Goals as goal
 
 pub loop-each-preserved : goal.loop-each-preserved

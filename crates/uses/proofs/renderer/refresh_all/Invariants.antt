@@ -1,9 +1,6 @@
 use Rattle.std.proofs.Common.{◌≡◌, All}
 use Rattle.std.specs.List.{AllWithin}
-use Rattle.termwiz_cell.specs.Width.{unversioned}
-use Rattle.termwiz_surface.specs.Following.{Follows}
-use Rattle.termwiz_surface.specs.Log.{next_number}
-use Rattle.termwiz_surface.specs.SurfaceValue.{screen_of}
+use Rattle.termwiz_surface.specs.{Follows, next_number, screen_of, unversioned}
 use Rattle.uses.proofs.renderer.refresh_all.Given as goal
 
 -- the viewers so far show the screen and have its number, and all of them follow the surface

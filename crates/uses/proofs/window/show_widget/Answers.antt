@@ -1,8 +1,5 @@
 use Rattle.std.proofs.Common.{sym, subst}
-use Rattle.termwiz_surface.specs.DiffRegions.{HaveRegion}
-use Rattle.termwiz_surface.specs.Copies.{drawn_region}
-use Rattle.termwiz_surface.specs.Screen.{Screen}
-use Rattle.termwiz_surface.specs.SurfaceValue.{screen_of}
+use Rattle.termwiz_surface.specs.{HaveRegion, Screen, drawn_region, screen_of}
 use Rattle.uses.proofs.window.show_widget.Goals as goal
 
 pub returns-clause-widget : goal.returns-clause-widget

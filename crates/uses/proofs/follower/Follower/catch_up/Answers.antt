@@ -1,11 +1,5 @@
 use Rattle.std.proofs.Common.{◌≡◌, ℕ, true, List, refl, sym, ap, ◌∙◌, subst, arith}
-use Rattle.termwiz_cell.specs.Width.{unversioned}
-use Rattle.termwiz_surface.specs.Following.{Follows, ViewerValue}
-use Rattle.termwiz_surface.specs.Printable.{HasSize}
-use Rattle.termwiz_surface.specs.Step.{replay}
-use Rattle.termwiz_surface.specs.Stream.{IsStream, IsFullStream, stream_of}
-use Rattle.termwiz_surface.specs.FullScreen.{full_screen, full_replay, HasFullSize}
-use Rattle.termwiz_surface.specs.SurfaceValue.{SurfaceValue, screen_of, kept_of, full_of}
+use Rattle.termwiz_surface.specs.{Follows, HasFullSize, HasSize, IsFullStream, IsStream, SurfaceValue, ViewerValue, full_of, full_replay, full_screen, kept_of, replay, screen_of, stream_of, unversioned}
 use Rattle.uses.proofs.follower.Follower.catch_up.Goals as goal
 
 module _ {W : Type 0} where

@@ -7,7 +7,8 @@ ghost use Rattle.std.specs.List.{All};
 ghost use Rattle.termwiz_cell.specs.Measure.{measure};
 ghost use Rattle.termwiz_surface_core.specs.Following.{Follows, KeepsViewers};
 ghost use Rattle.termwiz_surface_core.specs.History.{KeepsNames};
-ghost use Rattle.termwiz_surface.specs.Schedule.{Allows, IsFullSchedule, IsInRange, IsSchedule, IsScheduleOf, Seen, outcome_of, state_beside, state_of};
+ghost use Rattle.termwiz_surface_core.specs.SurfaceValue.{SurfaceValue};
+ghost use Rattle.termwiz_surface.specs.Schedule.{Allows, IsFullSchedule, IsInRange, IsSchedule, IsScheduleOf, Seen, outcome_of, seen_of, state_beside, state_of};
 
 mod many;
 mod viewer;
@@ -137,8 +138,20 @@ fn serve<W: Widths>(
 {
     match act(alloc, surface, event) {
         Some(outcome) => Ok(outcome),
-        None => follow(alloc, surface, viewer),
+        None => {
+            let outcome = follow(alloc, surface, viewer)?;
+            forget_made(viewer);
+            Ok(outcome)
+        }
     }
+}
+
+// The viewer forgets the changes that it made, since nobody follows it.
+fn forget_made<W: Widths>(viewer: &mut Viewer<W>)
+    ensures seen { seen_of viewer.new ≡ seen_of viewer.old }
+    ensures follows { (s : SurfaceValue W) → Follows (measure W.width_of) viewer.old s → Follows (measure W.width_of) viewer.new s }
+{
+    viewer.flush_changes_older_than(viewer.surface().current_seqno());
 }
 
 // Does one event of the surface's own: any but that its viewer follows.

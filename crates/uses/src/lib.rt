@@ -10,6 +10,7 @@ pub mod one_by_one;
 pub mod prompt;
 pub mod remote;
 pub mod renderer;
+pub mod shaper;
 pub mod sharing;
 pub mod status;
 pub mod window;

@@ -1,20 +1,15 @@
 //! What a shaper is given of a line.
 ghost use Rattle.std.specs.Prelude.{◌≡◌, IfOk, string_bytes};
-ghost use Rattle.termwiz_line.specs.Texts.{texts_of};
-ghost use Rattle.termwiz_storage.specs.Stored.{visible};
+ghost use Rattle.termwiz_surface.specs.{texts_of, visible};
 
 use std::alloc::{AllocError, Global};
-use termwiz_cell::emoji::Widths;
-use termwiz_line::laws::cluster_laws;
-use termwiz_line::line::line::Line;
+use termwiz_surface::emoji::Widths;
+use termwiz_surface::laws::cluster_laws;
+use termwiz_surface::line::line::Line;
 
 /// The texts that a shaper is given for a line, cluster by cluster: together they are the text
 /// that the line shows, so no glyph is lost and none comes twice.
-pub fn shaped_text<W: Widths>(
-    alloc: Global,
-    line: &Line,
-    widths: &W,
-) -> Result<String, AllocError>
+pub fn shaped_text<W: Widths>(alloc: Global, line: &Line, widths: &W) -> Result<String, AllocError>
     ensures { IfOk result (λ text. string_bytes text ≡ texts_of (visible line.now.cells)) }
 {
     // The clusters of visible cells join to them.

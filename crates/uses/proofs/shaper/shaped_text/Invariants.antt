@@ -1,5 +1,5 @@
 use Rattle.std.proofs.Common.{◌≡◌, map, string_bytes}
-use Rattle.termwiz_line.specs.Pieces.{joined}
+use Rattle.termwiz_surface.specs.{joined}
 use Rattle.uses.proofs.shaper.shaped_text.Given as goal
 
 -- the text has those of the clusters so far

@@ -1,7 +1,7 @@
 //! Lists of runs: a cell more, how many there are, a look at one, and a walk over all.
 ghost use Rattle.std.specs.Prelude.{◌≡◌, ◌<◌, ◌≤◌, ◌+◌, ◌^◌, ◌++◌, ◌∷◌, [], IfOk, MatchOption, OnErr, OnOk, length, replicate, vec_capacity, vec_len};
-ghost use Rattle.std.specs.List.{slice_get};
-ghost use Rattle.std.specs.Option.{option_copied};
+ghost use Rattle.std.specs.List.{list_any, slice_get};
+ghost use Rattle.std.specs.Option.{is_some, option_copied};
 ghost use Rattle.termwiz_storage.specs.CellRuns.{attrs_of, map_last, marked, shapes_of};
 
 use crate::line::clusterline::runs::{AttrsRun, Shape, ShapeRun};
@@ -135,6 +135,18 @@ pub(super) fn attrs_at(runs: &[AttrsRun], i: usize) -> Option<&CellAttributes>
         left -= cells;
     }
     None
+}
+
+/// Whether a cell has a link.
+pub(super) fn has_link(runs: &[AttrsRun]) -> bool
+    ensures { result ≡ list_any (λ a. is_some a.hyperlink) (attrs_of runs.now) }
+{
+    for run in runs {
+        if run.attrs.hyperlink().is_some() {
+            return true;
+        }
+    }
+    false
 }
 
 /// The shapes of the cells that a walk over runs has left.

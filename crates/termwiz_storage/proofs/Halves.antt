@@ -1,7 +1,7 @@
 -- The halves of wide cells: room for one, what is left of one, and the one that a list lacks.
-use Rattle.std.proofs.Common.{[], ◌∷◌, ◌++◌, length, take, length-append, length-set, le-leb, ◌≡◌, ℕ, ◌+◌, ◌-◌, ◌<◌, ◌≤◌, inl, inr, true, false, ◌&&◌, List, set, refl, sym, ◌∙◌, arith, zero, suc}
+use Rattle.std.proofs.Common.{[], ◌∷◌, ◌++◌, length, take, length-append, length-set, le-leb, ◌≡◌, ℕ, ◌+◌, ◌-◌, ◌<◌, ◌≤◌, inl, inr, true, false, ◌&&◌, List, set, refl, sym, ◌∙◌, arith}
 use Rattle.std.specs.Prelude.{nat_lt}
-use Rattle.std.proofs.lemmas.Bool.{cases_Bool, lt-ltb, lt-leb}
+use Rattle.std.proofs.lemmas.Bool.{cases_Bool, lt-leb}
 use Rattle.std.proofs.lemmas.List.{append-nil, length-replicate, take_all}
 use Rattle.termwiz_cell.specs.CellValue.{CellValue, half, is_wide, columns}
 use Rattle.termwiz_storage.proofs.Widths.{columns-narrow, columns-wide}
@@ -45,15 +45,6 @@ resized-grown k cs ds l e = rw (e, lt-leb k (length cs) l) refl
 
 pub resized-cut : (k : ℕ) (cs : List CellValue) → k ≤ length cs → take k cs ≡ resized k cs
 resized-cut k cs l = rw (le-leb k (length cs) l) refl
-
--- a list that ends in a narrow cell lacks no half
-pub hides-narrow : (cs : List CellValue) (n : ℕ) → (nat_lt 0 n && is_wide (stored cs (n - 1))) ≡ false → hides cs n ≡ false
-hides-narrow cs zero h = refl
-hides-narrow cs (suc k) h =
-    let some : nat_lt 0 (suc k) ≡ true = lt-ltb 0 (suc k) (omega arith) in
-    let back : suc k - 1 ≡ k = omega arith in
-    let narrow : is_wide (stored cs k) ≡ false = rw (some, back) at h in
-    rw narrow refl
 
 -- a list that is short enough is not cut
 pub take_whole : (n : ℕ) (cs : List CellValue) → length cs ≤ n → cs ≡ take n cs

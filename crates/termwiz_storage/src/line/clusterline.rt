@@ -23,7 +23,9 @@ mod runs;
 
 use crate::line::cellref::CellRef;
 use crate::line::vecstorage::{hides_next, push_with_half, set_wrapped};
-use run_lists::{AttrsIter, ShapeIter, attrs_at, cell_count, push_attrs, push_shape, wrap_last};
+use run_lists::{
+    AttrsIter, ShapeIter, attrs_at, cell_count, has_link, push_attrs, push_shape, wrap_last,
+};
 use runs::{AttrsRun, Shape, ShapeRun};
 use std::alloc::{AllocError, Global};
 use std::marker::Model;
@@ -197,14 +199,7 @@ impl ClusteredLine {
     pub(super) fn has_hyperlink(&self) -> bool
         ensures { result ≡ list_any is_linked self.now }
     {
-        // No wide cell lacks its half, which the reader of the length knows.
-        let _len = self.len();
-        for cell in self.iter() {
-            if cell.attrs().hyperlink().is_some() {
-                return true;
-            }
-        }
-        false
+        has_link(&self.attrs)
     }
 
     // Gives back the memory that is kept for more cells.

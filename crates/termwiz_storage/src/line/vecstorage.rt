@@ -1,5 +1,5 @@
 //! Cells stored one by one.
-ghost use Rattle.std.specs.Prelude.{◌≡◌, [], false, true, ◌+◌, ◌-◌, ◌<◌, ◌≤◌, ◌↔◌, ◌&&◌, nat_lt, IsTrue, OnErr, OnOk, IsOk, IfOk, IfSome, length, option_map, take, replicate, slice_set, vec_capacity, vec_len};
+ghost use Rattle.std.specs.Prelude.{◌≡◌, [], false, true, ◌+◌, ◌-◌, ◌<◌, ◌≤◌, ◌↔◌, IsTrue, OnErr, OnOk, IsOk, IfOk, IfSome, length, option_map, take, replicate, slice_set, vec_capacity, vec_len};
 ghost use Rattle.std.specs.Cmp.{decided, partial_equiv_from_equiv};
 ghost use Rattle.std.specs.Iterator.{item_count};
 ghost use Rattle.std.specs.List.{list_all, list_any};
@@ -307,20 +307,7 @@ impl VecStorage {
     fn lacks_half(&self) -> bool
         ensures { result ≡ hides self.now (length self.now) }
     {
-        if self.is_wide_before(self.cells.len()) {
-            return self.walk_ends_hidden();
-        }
-        false
-    }
-
-    fn walk_ends_hidden(&self) -> bool
-        ensures { result ≡ hides self.now (length self.now) }
-    {
-        let mut hidden = false;
-        for cell in &self.cells {
-            hidden = cell.width() > 1 && !hidden;
-        }
-        hidden
+        self.is_hidden(self.cells.len())
     }
 
     /// Cuts the list to this many cells, or grows it by default blanks. Where it grows and its last visible cell is wide and lacks its half, the half comes first.
@@ -405,14 +392,6 @@ impl VecStorage {
             }
         }
         false
-    }
-
-    // Whether a wide cell stands before column i.
-    fn is_wide_before(&self, i: usize) -> bool
-        requires { i ≤ length self.now }
-        ensures { result ≡ (nat_lt 0 i && is_wide (stored self.now (i - 1))) }
-    {
-        i > 0 && self.cells[i - 1].width() > 1
     }
 
     // The column behind the last stored cell that is no default blank.

@@ -2,8 +2,8 @@
 ghost use Rattle.std.specs.Prelude.{◌≡◌, ◌<◌, ◌≤◌, ◌+◌, ◌^◌, ◌++◌, ◌∷◌, []};
 ghost use Rattle.std.specs.Prelude.{IfOk, MatchOption, OnErr, OnOk, length, replicate};
 ghost use Rattle.std.specs.Prelude.{vec_capacity, vec_len};
-ghost use Rattle.std.specs.List.{slice_get};
-ghost use Rattle.std.specs.Option.{option_copied};
+ghost use Rattle.std.specs.List.{list_any, slice_get};
+ghost use Rattle.std.specs.Option.{is_some, option_copied};
 ghost use Rattle.termwiz_storage.specs.CellRuns.{AddsAttrs, attrs_of, map_last, marked, shapes_of};
 
 use crate::line::clusterline::runs::{AttrsRun, Shape, ShapeRun};
@@ -143,6 +143,18 @@ pub(super) fn attrs_at(runs: &[AttrsRun], i: usize) -> Option<&CellAttributes>
         left -= cells;
     }
     None
+}
+
+/// Whether a cell has a link.
+pub(super) fn has_link(runs: &[AttrsRun]) -> bool
+    ensures { result ≡ list_any (λ a. is_some a.hyperlink) (attrs_of runs.now) }
+{
+    for run in runs {
+        if run.attrs.hyperlink().is_some() {
+            return true;
+        }
+    }
+    false
 }
 
 /// The shapes of the cells that a walk over runs has left.

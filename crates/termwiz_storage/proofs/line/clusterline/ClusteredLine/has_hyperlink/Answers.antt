@@ -1,23 +1,14 @@
-use Rattle.std.proofs.Common.{◌≡◌, ◌∙◌, Bool, true, sym, ap, rules}
+use Rattle.std.proofs.Common.{◌∙◌, List, string_bytes, ap}
 use Rattle.std.specs.List.{list_any}
-use Rattle.std.specs.Prelude.{◌||◌}
-use Rattle.termwiz_storage.specs.CellRef.{ref_cell}
-use Rattle.termwiz_storage.specs.Stored.{is_linked}
-use Rattle.termwiz_storage.proofs.Linked.{linked-visible, shown_linked}
+use Rattle.std.specs.Option.{is_some}
+use Rattle.termwiz_storage.specs.declared.line.clusterline.runs.AttrsRun.{AttrsRun}
+use Rattle.termwiz_storage.specs.CellRuns.{attrs_of, shapes_of}
+use Rattle.termwiz_storage.proofs.Linked.{linked-attrs}
 use Rattle.termwiz_storage.proofs.line.clusterline.ClusteredLine.has_hyperlink.Goals as goal
-
-pub returns-then-is_some : goal.returns-then-is_some
-returns-then-is_some c =
-    let linked : is_linked (ref_cell c.in-Some.cell) ≡ true = search rules in
-    sym (ap (λ (b : Bool). b || list_any shown_linked c.next.new.self) linked)
-    ∙ sym (ap (list_any shown_linked) c.in-Some.ensures.steps.0)
-    ∙ c.loop-cell.invariant.same
-    ∙ ap (list_any shown_linked) (c.into_iter-cell-iterator.ensures.into_iter_gives ∙ c.iter-cell-items.ensures)
-    ∙ linked-visible c.args.self.now c.len-len.ensures.whole
 
 pub returns : goal.returns
 returns c =
-    sym (ap (list_any shown_linked) c.in-None.ensures.steps.0)
-    ∙ c.loop-cell.invariant.same
-    ∙ ap (list_any shown_linked) (c.into_iter-cell-iterator.ensures.into_iter_gives ∙ c.iter-cell-items.ensures)
-    ∙ linked-visible c.args.self.now c.len-len.ensures.whole
+    let s = c.self.inside in
+    c.has_link.ensures
+    ∙ ap (λ (rs : List AttrsRun). list_any (λ a. is_some a.hyperlink) (attrs_of rs)) c.deref.ensures.value
+    ∙ linked-attrs c.args.self.now (string_bytes s.text) (shapes_of s.shapes.items) (attrs_of s.attrs.items) c.self.view_is c.self.invariant.aligned

@@ -7,6 +7,7 @@ pub mod Wraps
 pub mod LineFlags
 pub mod Directions
 pub mod LineValue
+pub mod InWidth
 pub mod LineEdits
 pub mod EditLaws
 pub mod Lending

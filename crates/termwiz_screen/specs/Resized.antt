@@ -1,8 +1,9 @@
 -- What another size makes of rows, of a screen, and of what is kept beside it.
-use Rattle.std.specs.Prelude.{ℕ, ◌-◌, Bool, true, ◌&&◌, nat_le, List, ◌++◌, map, take, length, replicate, pos, Option, Some, None, if◌then◌else◌}
+use Rattle.std.specs.Prelude.{ℕ, ◌-◌, Bool, ◌&&◌, nat_le, List, ◌++◌, map, take, length, replicate, pos, Option, Some, None, if◌then◌else◌}
 use Rattle.termwiz_cell.specs.CellValue.{CellValue, blank}
 use Rattle.termwiz_storage.specs.Halves.{resized}
 use Rattle.termwiz_line.specs.LineFlags.{LineFlags, no_flags}
+use Rattle.termwiz_line.specs.InWidth.{in_width}
 use Rattle.termwiz_line.specs.LineValue.{LineValue}
 use Rattle.termwiz_line.specs.Row.{row_of}
 use Rattle.termwiz_screen.specs.Kept.{Kept}
@@ -20,10 +21,6 @@ resized_stored w h rows = map (resized w) (take h rows) ++ replicate (h - length
 -- the flags of the first h rows, and none below
 abbrev pub resized_flags : ℕ → List LineFlags → List LineFlags
 resized_flags h flags = take h flags ++ replicate (h - length flags) no_flags
-
--- a line of another width, with its number and flags
-abbrev pub in_width : ℕ → LineValue → LineValue
-in_width w l = record l { cells = resized w l.cells; is_vector = true }
 
 -- a vector of as many cells or more is cut in place
 abbrev pub cuts_in_place : ℕ → LineValue → Bool

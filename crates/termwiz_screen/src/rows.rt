@@ -3,6 +3,7 @@ ghost use Rattle.std.specs.Prelude.{◌≡◌, ◌+◌, ℕ, true, false, [], �
 ghost use Rattle.std.specs.VecDeque.{deque_len, deque_capacity};
 ghost use Rattle.termwiz_cell.specs.CellValue.{blank};
 ghost use Rattle.std.specs.List.{list_all};
+ghost use Rattle.termwiz_line.specs.InWidth.{in_width};
 ghost use Rattle.termwiz_line.specs.LineFlags.{no_flags};
 ghost use Rattle.termwiz_text.specs.Plain.{is_plain};
 ghost use Rattle.termwiz_cell.specs.Attributes.{needs_box};
@@ -15,7 +16,8 @@ ghost use Rattle.termwiz_screen.specs.Screen.{row_at};
 ghost use Rattle.termwiz_screen.specs.Print.{scrolled};
 ghost use Rattle.termwiz_screen.specs.Rows.{painted_in, AreFilled, IsPartly, ArePartly, ArePartlyReset};
 ghost use Rattle.termwiz_screen.specs.Regions.{region_turned, region_up, region_down};
-ghost use Rattle.termwiz_screen.specs.Resized.{copy_in, cuts_in_place, in_width, resized_stored, resized_flags};
+ghost use Rattle.termwiz_screen.specs.Resized.{copy_in, cuts_in_place};
+ghost use Rattle.termwiz_screen.specs.Resized.{resized_stored, resized_flags};
 ghost use Rattle.termwiz_screen.specs.Sides.{row_flags, AreVectors, KeepsSide, KeepSides};
 
 use std::alloc::{AllocError, Global};
@@ -252,7 +254,7 @@ fn grown_copies(
     width: usize,
     height: usize,
 ) -> Result<VecDeque<Option<Line>>, AllocError>
-    ensures { IfOk result (λ copies. copies.items ≡ map (copy_in width) (take height rows.now.items)) }
+    ensures { IfOk result (λ made. made.items ≡ map (copy_in width) (take height rows.now.items)) }
 {
     let end = height.min(rows.len());
     let mut copies = VecDeque::with_capacity(alloc, end)?;

@@ -9,6 +9,7 @@ ghost use Rattle.termwiz_storage.specs.Clustered.{IsWhole};
 ghost use Rattle.termwiz_storage.specs.CellsLeft.{cells_left};
 ghost use Rattle.termwiz_storage.specs.Storage.{cells_of, is_vector};
 ghost use Rattle.termwiz_line.specs.LineFlags.{no_flags};
+ghost use Rattle.termwiz_line.specs.InWidth.{in_width};
 ghost use Rattle.termwiz_line.specs.LineValue.{IsEdited, IsUnchanged};
 ghost use Rattle.termwiz_cell.specs.ChangeValue.{change_value};
 ghost use Rattle.termwiz_line.specs.Clusters.{AreClusters};
@@ -158,9 +159,9 @@ impl Line {
         Ok(Line::of(self.alloc, storage, seqno))
     }
 
-    /// A copy that is stored as a vector, with number and flags, cut to this many columns, or grown to them as by `resize`.
+    /// A copy that is stored as a vector, with number and flags, and then resized as by `resize`.
     pub fn resized_clone(&self, width: usize) -> Result<Line, AllocError>
-        ensures { IfOk result (λ line. line ≡ record self.now { cells = resized width self.now.cells; is_vector = true }) }
+        ensures { IfOk result (λ line. line ≡ in_width width self.now) }
     {
         let storage = self.storage.resized_copy(width)?;
         let mut line = Line::of(self.alloc, storage, self.seqno);

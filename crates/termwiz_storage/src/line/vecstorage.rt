@@ -332,7 +332,7 @@ impl VecStorage {
         Ok(())
     }
 
-    /// A copy, cut to this many cells, or grown to them as by `resize`. No cell that is cut is cloned.
+    /// A copy, cut to this many cells, or grown to them as by `resize`.
     pub(crate) fn resized_copy(&self, len: usize) -> Result<VecStorage, AllocError>
         ensures { IfOk result (λ copy. copy ≡ resized len self.now) }
     {
@@ -341,7 +341,7 @@ impl VecStorage {
         Ok(copy)
     }
 
-    // A copy, cut to at most this many cells, for which there is room. Default blanks at the end are not cloned.
+    // A copy of at most this many cells, with room for as many. Blanks at the end aren't cloned.
     fn first_cells(&self, len: usize) -> Result<VecStorage, AllocError>
         ensures { IfOk result (λ copy. copy ≡ take len self.now) }
     {

@@ -1,7 +1,8 @@
 use Rattle.std.proofs.Common.{◌<◌, length, drop, map, slice_set, ◌∙◌, ap, arith}
 use Rattle.std.proofs.lemmas.List.{drop-map, drop-drop}
 use Rattle.std.proofs.lemmas.List.Edits.{map_over_more}
-use Rattle.termwiz_screen.specs.Resized.{copy_in, in_width}
+use Rattle.termwiz_line.specs.InWidth.{in_width}
+use Rattle.termwiz_screen.specs.Resized.{copy_in}
 use Rattle.termwiz_screen.proofs.rows.put_widths.Goals as goal
 
 pub loop-i-preserved : goal.loop-i-preserved

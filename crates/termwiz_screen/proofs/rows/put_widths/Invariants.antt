@@ -1,6 +1,7 @@
 use Rattle.std.proofs.Common.{◌≡◌, ◌++◌, map, take, drop}
 use Rattle.std.specs.VecDeque.{deque_len, deque_capacity}
-use Rattle.termwiz_screen.specs.Resized.{copy_in, in_width}
+use Rattle.termwiz_line.specs.InWidth.{in_width}
+use Rattle.termwiz_screen.specs.Resized.{copy_in}
 use Rattle.termwiz_screen.proofs.rows.put_widths.Given as goal
 
 abbrev pub invariant-loop-i : goal.invariant-loop-i

@@ -2,7 +2,8 @@ use Rattle.std.proofs.Common.{◌≡◌, ◌-◌, ◌++◌, ◌∙◌, List, len
 use Rattle.std.proofs.lemmas.List.{length-map}
 use Rattle.termwiz_cell.specs.CellValue.{blank}
 use Rattle.termwiz_line.specs.LineValue.{LineValue}
-use Rattle.termwiz_screen.specs.Resized.{copy_in, in_width}
+use Rattle.termwiz_line.specs.InWidth.{in_width}
+use Rattle.termwiz_screen.specs.Resized.{copy_in}
 use Rattle.termwiz_screen.specs.ScreenValue.{numberless}
 use Rattle.termwiz_screen.proofs.ResizedRows.{added-cells, added-flags, cells-in_width, flags-in_width, vectors-in_width}
 use Rattle.termwiz_screen.proofs.rows.resize_rows.Goals as goal

@@ -1,4 +1,4 @@
--- Plain cells, and what is left behind the first cells of a list.
+-- Runs of plain cells: what they make of a text, and what is left behind them.
 use Rattle.std.proofs.Common.{◌≡◌, ℕ, zero, suc, ◌+◌, ◌<◌, ◌≤◌, ◌^◌, List, [], ◌∷◌, ◌++◌, length, take, drop, replicate, true, false, not, ◌&&◌, refl, ap, ap₂, sym, subst, ◌∙◌, append_assoc, add-zero, arith}
 use Rattle.std.specs.List.{list_all}
 use Rattle.std.proofs.lemmas.List.{append-nil}
@@ -92,9 +92,6 @@ whole_behind (suc n) (c ∷ cs) a p h =
     whole_behind n cs a parts.1 (behind_narrow c cs narrow h)
 
 -- each has one byte
-pub length-plain_text : (a : Attributes) (c : CellValue) → is_plain_with a c ≡ true → length c.text ≡ 1
-length-plain_text a c p = ap (λ (c : CellValue). length c.text) (plain_is a c p).1
-
 pub length-plain_texts : (cs : List CellValue) (a : Attributes) → ArePlain a cs → length (cell_texts cs) ≡ length cs
 length-plain_texts [] a p = refl
 length-plain_texts (c ∷ cs) a p =
@@ -104,7 +101,7 @@ length-plain_texts (c ∷ cs) a p =
     let more : length (cell_texts cs) ≡ length cs = length-plain_texts cs a parts.1 in
     rw text (ap suc more)
 
-pub utf8_plain_texts : (cs : List CellValue) (a : Attributes) → ArePlain a cs → IsUtf8 (cell_texts cs)
+utf8_plain_texts : (cs : List CellValue) (a : Attributes) → ArePlain a cs → IsUtf8 (cell_texts cs)
 utf8_plain_texts [] a p = IsUtf8-nil
 utf8_plain_texts (c ∷ cs) a p =
     let parts = and_parts (is_plain_with a c) (list_all (is_plain_with a) cs) p in

@@ -6,3 +6,6 @@ pub mod Following
 pub mod Copies
 pub mod History
 pub mod Answer
+pub mod Asking
+pub mod Diffs
+pub mod Carried

@@ -1,16 +1,18 @@
 //! Surfaces.
-ghost use Rattle.std.specs.Prelude.{◌≡◌, true, ◌+◌, ◌-◌, ◌*◌, ◌<◌, ◌≤◌, ◌^◌, List, [], ◌∷◌, length, map, vec_len, replicate, string_bytes, slice_set, get_or, None, false, IsOk, IfOk, OnOk, OnErr};
-ghost use Rattle.termwiz_cell.specs.Attributes.{default_attributes, with_background};
+ghost use Rattle.std.specs.Prelude.{◌≡◌, true, ◌+◌, ◌-◌, ◌<◌, ◌≤◌, ◌^◌, [], ◌∷◌, length, map};
+ghost use Rattle.std.specs.Prelude.{vec_len, replicate, string_bytes, slice_set, get_or};
+ghost use Rattle.std.specs.Prelude.{false, IsOk, IfOk, OnOk, OnErr};
+ghost use Rattle.termwiz_cell.specs.Attributes.{with_background};
 ghost use Rattle.termwiz_cell.specs.CellValue.{blank};
 ghost use Rattle.termwiz_cell.specs.Measure.{measure};
-ghost use Rattle.termwiz_cell.specs.declared.change.CursorVisibility.TheVariants.{Visible};
-ghost use Rattle.termwiz_screen.specs.Clear.{clear_eol, clear_eos, clear_screen, eol_lengths, eos_lengths, screen_lengths};
+ghost use Rattle.termwiz_screen.specs.Clear.{clear_eol, clear_eos, clear_screen, eol_lengths};
+ghost use Rattle.termwiz_screen.specs.Clear.{eos_lengths, screen_lengths};
 ghost use Rattle.termwiz_screen.specs.Place.{placed};
-ghost use Rattle.termwiz_screen.specs.Step.{step, step_kept, replay, replay_kept, region_fits, regions_fit};
+ghost use Rattle.termwiz_screen.specs.Step.{step, step_kept, replay, replay_kept, region_fits};
+ghost use Rattle.termwiz_screen.specs.Step.{regions_fit};
 ghost use Rattle.termwiz_screen.specs.Regions.{region_up, region_down};
 ghost use Rattle.termwiz_screen.specs.Kept.{with_line_attribute};
 ghost use Rattle.termwiz_line.specs.LineFlags.{no_flags};
-ghost use Rattle.termwiz_cell.specs.declared.color.ColorAttribute.TheVariants.{Default};
 ghost use Rattle.termwiz_cell.specs.AttributeChangeValue.{attribute_change_value, with_attribute};
 ghost use Rattle.termwiz_cell.specs.ChangeValue.{change_value};
 ghost use Rattle.std.specs.List.{All};
@@ -57,17 +59,22 @@ use termwiz_screen::rows::{
 pub use termwiz_screen::screen::Screen;
 use thiserror::Error;
 
-/// Why a list of changes, or another size, is refused. The errors have numbers, and are told in this order.
+/// Why a list of changes, or another size, is refused. The errors have numbers, and are told in
+/// this order.
 #[derive(Debug, Drop, Clone, Copy, PartialEq, Eq, Error)]
 pub enum SurfaceError {
     /// Error 1: the region of a scroll goes past the last row. Nothing has changed.
     #[error("a scroll region goes past the last row")]
     ScrollRegion,
-    /// Error 2: the numbers of the changes would pass the greatest `usize`. Nothing has changed; of a viewer that was to follow `Viewer::follow` tells.
+    /// Error 2: the numbers of the changes would pass the greatest `usize`. Nothing has changed; of
+    /// a viewer that was to follow `Viewer::follow` tells.
     #[error("the numbers of changes are used up")]
     Numbers,
-    /// Error 3: a growth was refused. After a list of changes, that of a draw or a copy too, the surface keeps its size and the form of its rows, and its log is empty under a new number, or 0 where that was 0.
-    /// Where there was no memory for the list of a draw or a copy, or for another size, nothing has changed. Of a viewer that was to follow `Viewer::follow` tells.
+    /// Error 3: a growth was refused. After a list of changes, that of a draw or a copy too, the
+    /// surface keeps its size and the form of its rows, and its log is empty under a new number, or
+    /// 0 where that was 0.
+    /// Where there was no memory for the list of a draw or a copy, or for another size, nothing has
+    /// changed. Of a viewer that was to follow `Viewer::follow` tells.
     #[error("out of memory")]
     Memory,
 }
@@ -83,17 +90,32 @@ impl From<AllocError> for SurfaceError {
     }
 }
 
-/// What a terminal's screen holds, with no terminal behind it: rows of cells, a cursor, whether it is shown, and the pen, which is the attributes of coming text.
+/// What a terminal's screen holds, with no terminal behind it: rows of cells, a cursor, whether it
+/// is shown, and the pen, which is the attributes of coming text.
 ///
-/// Changes go in, one by `add_change` or several as one list by `add_changes`: texts, pens, clears, moves and scrolls. The surface makes them in order, and logs them by their numbers. Beside its screen it keeps a title, the cursor's shape and colour, and how large each line is shown; of the colour `full_screen` alone tells.
+/// Changes go in, one by `add_change` or several as one list by `add_changes`: texts, pens, clears,
+/// moves and scrolls. The surface makes them in order, and logs them by their numbers. Beside its
+/// screen it keeps a title, the cursor's shape and colour, and how large each line is shown; of the
+/// colour `full_screen` alone tells.
 ///
-/// A stream of changes comes out: `get_changes` lends a viewer the changes since the number that it was last given, and answers with a repaint, which brings any screen of this size to this one, where the log no longer has them or they are too many. `flush_changes_older_than` forgets the changes that all viewers have: without it the log grows with each change. `answer` gives what `get_changes` lends as a value that can be carried off. `screen` copies what the surface shows, and `full_screen` what it keeps beside it too.
+/// A stream of changes comes out: `get_changes` lends a viewer the changes since the number that it
+/// was last given, and answers with a repaint, which brings any screen of this size to this one,
+/// where the log no longer has them or they are too many. `flush_changes_older_than` forgets the
+/// changes that all viewers have: without it the log grows with each change. `answer` gives what
+/// `get_changes` lends as a value that can be carried off. `screen` copies what the surface shows,
+/// and `full_screen` what it keeps beside it too.
 ///
-/// A surface that `new_full` makes is a full one: its repaints bring all of that as well, so that its viewers have it whatever they missed. Those of another one bring the screen, and leave some of the rest.
+/// A surface that `new_full` makes is a full one: its repaints bring all of that as well, so that
+/// its viewers have it whatever they missed. Those of another one bring the screen, and leave some
+/// of the rest.
 ///
-/// A viewer is whoever applies that stream: one that writes to a terminal, one at the other end of a connection, or a second surface. It has to measure texts as this surface does, by the width value that it was made with.
+/// A viewer is whoever applies that stream: one that writes to a terminal, one at the other end of
+/// a connection, or a second surface. It has to measure texts as this surface does, by the width
+/// value that it was made with.
 ///
-/// A program may draw the parts of a picture on surfaces of their own, each of which knows nothing of the others, and show a surface that is made of them: `draw_from_screen` draws one surface on another, and `copy_region` copies a region within one.
+/// A program may draw the parts of a picture on surfaces of their own, each of which knows nothing
+/// of the others, and show a surface that is made of them: `draw_from_screen` draws one surface on
+/// another, and `copy_region` copies a region within one.
 #[derive(Drop)]
 pub struct Surface<W: Widths> {
     widths: W,
@@ -138,7 +160,8 @@ impl<W: Widths> Model for Surface<W> {
       log = s.log;
     } };
 
-    ghost invariant = { λ s. IsSound (measure W.width_of s.widths) (view s) × AreVectors s.rows.items };
+    ghost invariant = { λ s.
+        IsSound (measure W.width_of s.widths) (view s) × AreVectors s.rows.items };
 }
 
 /// A copy has the same screen, stored rows, title, cursor's shape and colour, log and number.
@@ -170,9 +193,12 @@ impl<W: Widths> Clone for Surface<W> {
 }
 
 impl<W: Widths> Surface<W> {
-    ghost use Rattle.termwiz_surface_core.specs.SurfaceValue.{SurfaceValue, IsSound, blank_surface, screen_of, lengths_of, kept_of, SameFrame, Draws};
+    ghost use Rattle.termwiz_surface_core.specs.SurfaceValue.{SurfaceValue, IsSound, blank_surface};
+    ghost use Rattle.termwiz_surface_core.specs.SurfaceValue.{screen_of, lengths_of, kept_of};
+    ghost use Rattle.termwiz_surface_core.specs.SurfaceValue.{SameFrame, Draws};
 
-    /// A surface of this width in columns and this height in rows: default blanks, with the cursor home and shown, default attributes as pen and the number 0.
+    /// A surface of this width in columns and this height in rows: default blanks, with the cursor
+    /// home and shown, default attributes as pen and the number 0.
     pub fn new(
         alloc: Global,
         width: usize,
@@ -188,7 +214,9 @@ impl<W: Widths> Surface<W> {
         Surface::blank(alloc, width, height, widths, false)
     }
 
-    /// A surface as `new` makes it, whose repaints carry all that is kept beside the screen too: the title, the cursor's shape and colour, and how each row is shown. A viewer of it shows all of this, as `full_screen` tells.
+    /// A surface as `new` makes it, whose repaints carry all that is kept beside the screen too:
+    /// the title, the cursor's shape and colour, and how each row is shown. A viewer of it shows
+    /// all of this, as `full_screen` tells.
     pub fn new_full(
         alloc: Global,
         width: usize,
@@ -247,7 +275,8 @@ impl<W: Widths> Surface<W> {
         ensures sized { HasSize self.now.width self.now.height (screen_of self.now) }
         // So has its full screen.
         ensures fully_sized { HasFullSize self.now.width self.now.height (full_of self.now) }
-        // Each row of the screen has a half behind each wide cell, and each visible cell is one grapheme with the width that is measured for it.
+        // Each row of the screen has a half behind each wide cell, and each visible cell is one
+        // grapheme with the width that is measured for it.
         ensures printable { IsPrintable (measure W.width_of self.now.widths) (screen_of self.now) }
     {
         (self.width, self.height)
@@ -304,18 +333,22 @@ impl<W: Widths> Surface<W> {
         self.log.next_number()
     }
 
-    /// The texts of each row's visible cells within its stored length, with a newline behind each row.
+    /// The texts of each row's visible cells within its stored length, with a newline behind each
+    /// row.
     pub fn screen_chars_to_string(&self) -> Result<String, AllocError>
-        ensures { IfOk result (λ text. string_bytes text ≡ shown_chars (screen_of self.now).rows (lengths_of self.now)) }
+        ensures { IfOk result (λ text.
+            string_bytes text ≡ shown_chars (screen_of self.now).rows (lengths_of self.now)) }
     {
         chars_of(self.alloc, &self.rows)
     }
 
-    /// A copy of what the surface shows: each row is cut or filled to the width with default blanks, and has the number 0 and no flags.
+    /// A copy of what the surface shows: each row is cut or filled to the width with default
+    /// blanks, and has the number 0 and no flags.
     pub fn screen(&self) -> Result<Screen, AllocError>
         ensures shown { IfOk result (λ screen. screen_value screen ≡ screen_of self.now) }
         ensures numbers { IfOk result (λ screen. All (λ line. line.seqno ≡ 0) screen.rows.items) }
-        ensures flags { IfOk result (λ screen. All (λ line. line.flags ≡ no_flags) screen.rows.items) }
+        ensures flags { IfOk result (λ screen.
+            All (λ line. line.flags ≡ no_flags) screen.rows.items) }
     {
         let rows = resized_lines(self.alloc, &self.rows, self.width)?;
         let pen = self.pen.clone()?;
@@ -329,10 +362,15 @@ impl<W: Widths> Surface<W> {
         })
     }
 
-    // Clears from the cursor to the end of its row, with a pen of this background from then on. The clears stand apart, so that the way of a text is short.
+    // Clears from the cursor to the end of its row, with a pen of this background from then on. The
+    // clears stand apart, so that the way of a text is short.
     #[inline(never)]
     fn clear_to_end_of_line(&mut self, color: &ColorAttribute) -> Result<(), AllocError>
-        ensures ok { OnOk result (let s = screen_of self.old in Draws self.old (clear_eol s (with_background color.now)) (record (kept_of self.old) { lengths = eol_lengths s (with_background color.now) (lengths_of self.old) }) self.new) }
+        ensures ok { OnOk result (let s = screen_of self.old in
+            Draws self.old (clear_eol s (with_background color.now))
+            (record (kept_of self.old) {
+              lengths = eol_lengths s (with_background color.now) (lengths_of self.old);
+            }) self.new) }
         ensures err { OnErr result (SameFrame self.old self.new) }
     {
         let pen = background_only(self.alloc, *color)?;
@@ -345,7 +383,11 @@ impl<W: Widths> Surface<W> {
     // Clears from the cursor to the end of the screen.
     #[inline(never)]
     fn clear_to_end_of_screen(&mut self, color: &ColorAttribute) -> Result<(), AllocError>
-        ensures ok { OnOk result (let s = screen_of self.old in Draws self.old (clear_eos s (with_background color.now)) (record (kept_of self.old) { lengths = eos_lengths s (with_background color.now) (lengths_of self.old) }) self.new) }
+        ensures ok { OnOk result (let s = screen_of self.old in
+            Draws self.old (clear_eos s (with_background color.now))
+            (record (kept_of self.old) {
+              lengths = eos_lengths s (with_background color.now) (lengths_of self.old);
+            }) self.new) }
         ensures err { OnErr result (SameFrame self.old self.new) }
     {
         let pen = background_only(self.alloc, *color)?;
@@ -358,7 +400,11 @@ impl<W: Widths> Surface<W> {
     // Clears all rows, and takes the cursor home.
     #[inline(never)]
     fn clear_screen(&mut self, color: &ColorAttribute) -> Result<(), AllocError>
-        ensures ok { OnOk result (let s = screen_of self.old in Draws self.old (clear_screen s (with_background color.now)) (record (kept_of self.old) { lengths = screen_lengths s (with_background color.now) (lengths_of self.old) }) self.new) }
+        ensures ok { OnOk result (let s = screen_of self.old in
+            Draws self.old (clear_screen s (with_background color.now))
+            (record (kept_of self.old) {
+              lengths = screen_lengths s (with_background color.now) (lengths_of self.old);
+            }) self.new) }
         ensures err { OnErr result (SameFrame self.old self.new) }
     {
         let pen = background_only(self.alloc, *color)?;
@@ -372,7 +418,11 @@ impl<W: Widths> Surface<W> {
 
     #[inline(never)]
     fn change_pen(&mut self, change: &AttributeChange) -> Result<(), AllocError>
-        ensures ok { OnOk result (Draws self.old (record (screen_of self.old) { pen = with_attribute self.old.pen (attribute_change_value change.now) }) (kept_of self.old) self.new) }
+        ensures ok { OnOk result (Draws self.old
+            (record (screen_of self.old) {
+              pen = with_attribute self.old.pen (attribute_change_value change.now);
+            })
+            (kept_of self.old) self.new) }
         ensures err { OnErr result (self.new ≡ self.old) }
     {
         self.pen.apply_change(self.alloc, change)?;
@@ -394,7 +444,13 @@ impl<W: Widths> Surface<W> {
         count: usize,
     ) -> Result<(), AllocError>
         requires { first + size ≤ self.old.height }
-        ensures ok { OnOk result (let s = screen_of self.old in let k = kept_of self.old in Draws self.old (record s { rows = region_up (replicate s.width blank) s.rows first size count }) (record k { lengths = region_up s.width k.lengths first size count; flags = region_up no_flags k.flags first size count }) self.new) }
+        ensures ok { OnOk result (let s = screen_of self.old in let k = kept_of self.old in
+            Draws self.old
+            (record s { rows = region_up (replicate s.width blank) s.rows first size count })
+            (record k {
+              lengths = region_up s.width k.lengths first size count;
+              flags = region_up no_flags k.flags first size count;
+            }) self.new) }
         ensures err { OnErr result (SameFrame self.old self.new) }
     {
         scroll_region_up(&mut self.rows, self.width, first, size, count)?;
@@ -409,7 +465,13 @@ impl<W: Widths> Surface<W> {
         count: usize,
     ) -> Result<(), AllocError>
         requires { first + size ≤ self.old.height }
-        ensures ok { OnOk result (let s = screen_of self.old in let k = kept_of self.old in Draws self.old (record s { rows = region_down (replicate s.width blank) s.rows first size count }) (record k { lengths = region_down s.width k.lengths first size count; flags = region_down no_flags k.flags first size count }) self.new) }
+        ensures ok { OnOk result (let s = screen_of self.old in let k = kept_of self.old in
+            Draws self.old
+            (record s { rows = region_down (replicate s.width blank) s.rows first size count })
+            (record k {
+              lengths = region_down s.width k.lengths first size count;
+              flags = region_down no_flags k.flags first size count;
+            }) self.new) }
         ensures err { OnErr result (SameFrame self.old self.new) }
     {
         scroll_region_down(&mut self.rows, self.width, first, size, count)?;
@@ -418,14 +480,20 @@ impl<W: Widths> Surface<W> {
 
     // Says how the cursor's row is shown.
     fn set_line_attribute(&mut self, attribute: LineAttribute)
-        ensures { let k = kept_of self.old in Draws self.old (screen_of self.old) (record k { flags = slice_set k.flags self.old.y (with_line_attribute attribute (get_or k.flags self.old.y no_flags)) }) self.new }
+        ensures { let k = kept_of self.old in
+            Draws self.old (screen_of self.old)
+            (record k {
+              flags = slice_set k.flags self.old.y
+                  (with_line_attribute attribute (get_or k.flags self.old.y no_flags));
+            }) self.new }
     {
         set_line_attribute(&mut self.rows, self.y, attribute);
     }
 
     #[inline(never)]
     fn set_title(&mut self, title: &str) -> Result<(), AllocError>
-        ensures ok { OnOk result (Draws self.old (screen_of self.old) (record (kept_of self.old) { title = title.now }) self.new) }
+        ensures ok { OnOk result (Draws self.old (screen_of self.old)
+            (record (kept_of self.old) { title = title.now }) self.new) }
         ensures err { OnErr result (self.new ≡ self.old) }
     {
         self.title = String::from_str(self.alloc, title)?;
@@ -434,7 +502,10 @@ impl<W: Widths> Surface<W> {
 
     fn apply(&mut self, change: &Change) -> Result<(), AllocError>
         requires { region_fits self.old.height (change_value change.now) ≡ true }
-        ensures ok { OnOk result (let f = measure W.width_of self.old.widths in let s = screen_of self.old in Draws self.old (step f s (change_value change.now)) (step_kept f s (kept_of self.old) (change_value change.now)) self.new) }
+        ensures ok { OnOk result (let f = measure W.width_of self.old.widths in
+            let s = screen_of self.old in
+            Draws self.old (step f s (change_value change.now))
+            (step_kept f s (kept_of self.old) (change_value change.now)) self.new) }
         ensures err { OnErr result (SameFrame self.old self.new) }
     {
         match change {
@@ -466,7 +537,10 @@ impl<W: Widths> Surface<W> {
 
     fn apply_all(&mut self, changes: &[Change]) -> Result<(), AllocError>
         requires { regions_fit self.old.height (map change_value changes.now) ≡ true }
-        ensures ok { OnOk result (let f = measure W.width_of self.old.widths in let s = screen_of self.old in Draws self.old (replay f s (map change_value changes.now)) (replay_kept f s (kept_of self.old) (map change_value changes.now)) self.new) }
+        ensures ok { OnOk result (let f = measure W.width_of self.old.widths in
+            let s = screen_of self.old in
+            Draws self.old (replay f s (map change_value changes.now))
+            (replay_kept f s (kept_of self.old) (map change_value changes.now)) self.new) }
         ensures err { OnErr result (SameFrame self.old self.new) }
         ensures empty { OnErr result (0 < length changes.now) }
     {
@@ -493,7 +567,8 @@ impl<W: Widths> Surface<W> {
     fn make_one(&mut self, change: Change) -> Result<(), AllocError>
         requires fits { region_fits self.old.height (change_value change) ≡ true }
         requires numbers { next_number self.old.log + 1 < 2 ^ 64 }
-        ensures ok { OnOk result (Makes (measure W.width_of self.old.widths) self.old (change_value change ∷ []) self.new) }
+        ensures ok { OnOk result (Makes (measure W.width_of self.old.widths)
+            self.old (change_value change ∷ []) self.new) }
         ensures err { OnErr result (SameFrame self.old self.new) }
     {
         self.log.reserve(1)?;
@@ -506,7 +581,8 @@ impl<W: Widths> Surface<W> {
     fn make_all(&mut self, changes: Vec<Change>) -> Result<(), AllocError>
         requires fits { regions_fit self.old.height (map change_value changes.items) ≡ true }
         requires numbers { next_number self.old.log + vec_len changes < 2 ^ 64 }
-        ensures ok { OnOk result (Makes (measure W.width_of self.old.widths) self.old (map change_value changes.items) self.new) }
+        ensures ok { OnOk result (Makes (measure W.width_of self.old.widths)
+            self.old (map change_value changes.items) self.new) }
         ensures err { OnErr result (SameFrame self.old self.new) }
         ensures some { OnErr result (0 < vec_len changes) }
     {
@@ -517,9 +593,12 @@ impl<W: Widths> Surface<W> {
     }
 
     /// Makes one change. The answer is its number.
-    /// `ScrollRegion`, `Numbers`: nothing has changed. `Memory`: it may have been made in part; the size and the form of the rows stay, the cursor is inside, and the log is empty under a number that is greater by one, or 0 where it was 0.
+    /// `ScrollRegion`, `Numbers`: nothing has changed. `Memory`: it may have been made in part; the
+    /// size and the form of the rows stay, the cursor is inside, and the log is empty under a
+    /// number that is greater by one, or 0 where it was 0.
     pub fn add_change(&mut self, change: Change) -> Result<SequenceNo, SurfaceError>
-        ensures adds { Adds (measure W.width_of self.old.widths) self.old (change_value change ∷ []) (next_number self.old.log) result self.new }
+        ensures adds { Adds (measure W.width_of self.old.widths)
+            self.old (change_value change ∷ []) (next_number self.old.log) result self.new }
         // Each viewer that follows the surface goes on to, also after an error.
         ensures followed { KeepsViewers (measure W.width_of) self.old self.new }
         // What its numbers named they name still, also after an error.
@@ -534,10 +613,16 @@ impl<W: Widths> Surface<W> {
         Ok(told)
     }
 
-    /// Makes the changes in order. The answer is the number before them, less one unless it is 0, plus how many they are: where there are some that is the number of the last, or one more where the number before was 0.
-    /// `ScrollRegion`, `Numbers`: nothing has changed. `Memory`: some may have been made, and the last of those in part; the size and the form of the rows stay, the cursor is inside, and the log is empty under a number that is greater by one, or 0 where it was 0.
+    /// Makes the changes in order. The answer is the number before them, less one unless it is 0,
+    /// plus how many they are: where there are some that is the number of the last, or one more
+    /// where the number before was 0.
+    /// `ScrollRegion`, `Numbers`: nothing has changed. `Memory`: some may have been made, and the
+    /// last of those in part; the size and the form of the rows stay, the cursor is inside, and the
+    /// log is empty under a number that is greater by one, or 0 where it was 0.
     pub fn add_changes(&mut self, changes: Vec<Change>) -> Result<SequenceNo, SurfaceError>
-        ensures adds { Adds (measure W.width_of self.old.widths) self.old (map change_value changes.items) (next_number self.old.log - 1 + vec_len changes) result self.new }
+        ensures adds { Adds (measure W.width_of self.old.widths)
+            self.old (map change_value changes.items)
+            (next_number self.old.log - 1 + vec_len changes) result self.new }
         ensures empty { vec_len changes ≡ 0 → IsOk result }
         // Each viewer that follows the surface goes on to, also after an error.
         ensures followed { KeepsViewers (measure W.width_of) self.old self.new }

@@ -3,16 +3,12 @@ ghost use Rattle.std.specs.Prelude.{◌≡◌, ℕ, ◌≤◌, true, false, leng
 ghost use Rattle.std.specs.Cow.{IsBorrowedSlice, IsOwnedSlice};
 ghost use Rattle.termwiz_cell.specs.ChangeValue.{change_value};
 ghost use Rattle.termwiz_cell.specs.Measure.{measure};
-ghost use Rattle.termwiz_surface_core.specs.Answer.{Carries, IsGiven};
+ghost use Rattle.termwiz_surface_core.specs.Carried.{CarriesTo, IsGivenBy, IsPastOf};
 ghost use Rattle.termwiz_screen.specs.FullScreen.{FullScreen};
-ghost use Rattle.termwiz_surface_core.specs.SurfaceValue.{full_of, kept_of, screen_of};
-ghost use Rattle.termwiz_surface_core.specs.History.{IsPast};
-ghost use Rattle.termwiz_screen.specs.Log.{worth, is_known};
 ghost use Rattle.termwiz_screen.specs.Picture.{full_screens, screens};
-ghost use Rattle.termwiz_screen.specs.Repaint.{repaint_in};
 ghost use Rattle.termwiz_screen.specs.Screen.{Screen};
 ghost use Rattle.termwiz_screen.specs.Step.{regions_fit};
-ghost use Rattle.termwiz_screen.specs.Stream.{most_entries};
+ghost use Rattle.termwiz_surface_core.specs.Asking.{knows, own_repaint, most_own_entries};
 
 use super::Surface;
 use std::alloc::AllocError;
@@ -21,7 +17,9 @@ use std::marker::Model;
 use termwiz_cell::change::{Change, SEQ_ZERO, SequenceNo};
 use termwiz_cell::emoji::Widths;
 
-/// What a viewer accepts to have the screen that a surface had when it gave the answer: as `get_changes` answers, but with its changes as a list of its own, so that it can be carried off and be delivered late, repeatedly, in any order, or never.
+/// What a viewer accepts to have the screen that a surface had when it gave the answer: as
+/// `get_changes` answers, but with its changes as a list of its own, so that it can be carried off
+/// and be delivered late, repeatedly, in any order, or never.
 #[derive(Drop)]
 pub struct Answer {
     width: usize,
@@ -40,13 +38,21 @@ impl Model for Answer {
 
     ghost Value = { AnswerValue };
 
-    ghost view = { λ a. record { width = a.width; height = a.height; base = a.base; number = a.number; is_repaint = a.is_repaint; changes = map change_value a.changes.items } };
+    ghost view = { λ a. record {
+      width = a.width;
+      height = a.height;
+      base = a.base;
+      number = a.number;
+      is_repaint = a.is_repaint;
+      changes = map change_value a.changes.items;
+    } };
 
     ghost invariant = { λ a. regions_fit a.height (map change_value a.changes.items) ≡ true };
 }
 
 impl Answer {
-    /// The width in columns and the height in rows of the surface that gave it, and of the viewers that may accept it.
+    /// The width in columns and the height in rows of the surface that gave it, and of the viewers
+    /// that may accept it.
     pub fn size(&self) -> (usize, usize)
         ensures width { result.0 ≡ self.now.width }
         ensures height { result.1 ≡ self.now.height }
@@ -54,7 +60,8 @@ impl Answer {
         (self.width, self.height)
     }
 
-    /// The number that a viewer must have to accept it, or 0 for a repaint, which any viewer of its size may accept.
+    /// The number that a viewer must have to accept it, or 0 for a repaint, which any viewer of its
+    /// size may accept.
     pub fn base(&self) -> SequenceNo
         ensures { result ≡ self.now.base }
     {
@@ -86,18 +93,31 @@ impl Answer {
 }
 
 impl<W: Widths> Surface<W> {
-    /// What a viewer that was last given this number has to accept, as an answer that can be kept: a copy of the changes from that number on where the log knows it and they are worth sending, and else a repaint, with the base 0, as `get_changes` says.
+    /// What a viewer that was last given this number has to accept, as an answer that can be kept:
+    /// a copy of the changes from that number on where the log knows it and they are worth sending,
+    /// and else a repaint, with the base 0, as `get_changes` says.
     ///
-    /// Whoever accepts it has the screen that this surface has now, and one of a full surface gives its full screen, to a plain viewer too.
+    /// Whoever accepts it has the screen that this surface has now, and one of a full surface gives
+    /// its full screen, to a plain viewer too.
     pub fn answer(&self, seq: SequenceNo) -> Result<Answer, AllocError>
-        ensures given { IfOk result (λ answer. IsGiven screens (measure W.width_of self.now.widths) (screen_of self.now) self.now.log seq answer) }
-        ensures given_fully { self.now.full ≡ true → IfOk result (λ answer. IsGiven full_screens (measure W.width_of self.now.widths) (full_of self.now) self.now.log seq answer) }
-        // Whatever the surface's numbers named so far, the answer leads to the screen that it has now, and that of a full surface to its full screen.
-        ensures carries { (past : ℕ → Screen) → IsPast screens (measure W.width_of self.now.widths) past (screen_of self.now) self.now.log → IfOk result (λ answer. Carries screens (measure W.width_of self.now.widths) past answer (screen_of self.now)) }
-        ensures carries_fully { self.now.full ≡ true → (past : ℕ → FullScreen) → IsPast full_screens (measure W.width_of self.now.widths) past (full_of self.now) self.now.log → IfOk result (λ answer. Carries full_screens (measure W.width_of self.now.widths) past answer (full_of self.now)) }
+        ensures given { IfOk result (λ answer.
+            IsGivenBy screens (measure W.width_of) self.now seq answer) }
+        ensures given_fully { self.now.full ≡ true → IfOk result (λ answer.
+            IsGivenBy full_screens (measure W.width_of) self.now seq answer) }
+        // Whatever the surface's numbers named so far, the answer leads to the screen that it has
+        // now, and that of a full surface to its full screen.
+        ensures carries { (past : ℕ → Screen) →
+            IsPastOf screens (measure W.width_of) past self.now →
+            IfOk result (λ answer. CarriesTo screens (measure W.width_of) past answer self.now) }
+        ensures carries_fully { self.now.full ≡ true →
+            (past : ℕ → FullScreen) → IsPastOf full_screens (measure W.width_of) past self.now →
+            IfOk result (λ answer.
+            CarriesTo full_screens (measure W.width_of) past answer self.now) }
         // A repaint's entries are the defined ones.
-        ensures entries { is_known (worth self.now.width self.now.height) self.now.log seq ≡ false → IfOk result (λ answer. answer.changes ≡ repaint_in self.now.full (screen_of self.now) (kept_of self.now)) }
-        ensures short { is_known (worth self.now.width self.now.height) self.now.log seq ≡ false → IfOk result (λ answer. length answer.changes ≤ most_entries self.now.full self.now.width self.now.height) }
+        ensures entries { knows self.now seq ≡ false →
+            IfOk result (λ answer. answer.changes ≡ own_repaint self.now) }
+        ensures short { knows self.now seq ≡ false →
+            IfOk result (λ answer. length answer.changes ≤ most_own_entries self.now) }
     {
         let (number, changes) = self.get_changes(seq)?;
         let is_repaint = is_owned(&changes);

@@ -1,19 +1,19 @@
 //! What viewers are answered: the changes that they lack, or a repaint.
 ghost use Rattle.std.specs.Cow.{IsOwnedSlice};
-ghost use Rattle.std.specs.Prelude.{◌≡◌, ℕ, ◌≤◌, true, false, not, ◌==◌, map, length, IfOk, IsOkAnd};
+ghost use Rattle.std.specs.Prelude.{◌≡◌, ℕ, ◌≤◌, true, false, not, ◌==◌, map, length, IfOk};
+ghost use Rattle.std.specs.Prelude.{IsOkAnd};
 ghost use Rattle.termwiz_cell.specs.ChangeValue.{change_value};
 ghost use Rattle.termwiz_cell.specs.Measure.{measure};
 ghost use Rattle.termwiz_surface_core.specs.Adding.{with_log};
 ghost use Rattle.termwiz_surface_core.specs.Following.{KeepsViewers};
-ghost use Rattle.termwiz_surface_core.specs.SurfaceValue.{screen_of, kept_of, full_of};
+ghost use Rattle.termwiz_surface_core.specs.SurfaceValue.{screen_of, full_of};
 ghost use Rattle.termwiz_surface_core.specs.History.{KeepsNames};
-ghost use Rattle.termwiz_screen.specs.FullScreen.{full_screen};
-ghost use Rattle.termwiz_screen.specs.Log.{due, flushed, is_known, next_number, worth};
-ghost use Rattle.termwiz_screen.specs.Printable.{HasSize};
-ghost use Rattle.termwiz_screen.specs.Repaint.{repaint, full_repaint, repaint_in};
-ghost use Rattle.termwiz_screen.specs.Screen.{Screen};
-ghost use Rattle.termwiz_screen.specs.Step.{replay, regions_fit};
-ghost use Rattle.termwiz_screen.specs.Stream.{IsStream, IsFullStream, Lends, most_entries, stream_of};
+ghost use Rattle.termwiz_screen.specs.Log.{due, flushed, is_known, next_number};
+ghost use Rattle.termwiz_screen.specs.Repaint.{repaint, full_repaint};
+ghost use Rattle.termwiz_screen.specs.Step.{regions_fit};
+ghost use Rattle.termwiz_screen.specs.Stream.{Lends, stream_of};
+ghost use Rattle.termwiz_surface_core.specs.Asking.{knows, own_repaint, most_own_entries, Repaints};
+ghost use Rattle.termwiz_surface_core.specs.Asking.{StreamsFrom, StreamsFullyFrom};
 
 use super::Surface;
 use std::alloc::AllocError;
@@ -26,18 +26,22 @@ use termwiz_screen::repaint::full::{fully_framed, fully_started};
 use termwiz_screen::repaint::{all_rows, framed, started};
 
 impl<W: Widths> Surface<W> {
-    /// Whether there are changes that a viewer with this number lacks: whether it isn't the coming change's.
+    /// Whether there are changes that a viewer with this number lacks: whether it isn't the coming
+    /// change's.
     pub fn has_changes(&self, seq: SequenceNo) -> bool
         ensures { result ≡ not (seq == next_number self.now.log) }
     {
         seq != self.log.next_number()
     }
 
-    /// Forgets the changes before this number, where it is from the first number of the log on up to the coming change's. Viewers with this number and greater ones are answered as before.
+    /// Forgets the changes before this number, where it is from the first number of the log on up
+    /// to the coming change's. Viewers with this number and greater ones are answered as before.
     pub fn flush_changes_older_than(&mut self, seq: SequenceNo)
         ensures flushes { self.new ≡ with_log self.old (flushed self.old.log seq) }
         // The answer for this number, and for each greater one, is as it was.
-        ensures answers { (n most : ℕ) → seq ≤ n → (is_known most self.new.log n ≡ is_known most self.old.log n) × (due self.new.log n ≡ due self.old.log n) }
+        ensures answers { (n most : ℕ) → seq ≤ n →
+            (is_known most self.new.log n ≡ is_known most self.old.log n)
+            × (due self.new.log n ≡ due self.old.log n) }
         // Each viewer that follows the surface goes on to.
         ensures followed { KeepsViewers (measure W.width_of) self.old self.new }
         // What its numbers named they name still.
@@ -46,30 +50,46 @@ impl<W: Widths> Surface<W> {
         self.log.flush(seq);
     }
 
-    /// The number of the coming change, and what a viewer that was last given this number has to apply.
+    /// The number of the coming change, and what a viewer that was last given this number has to
+    /// apply.
     ///
-    /// The changes from that number on are lent, without a copy, where the log has them and they are worth sending. Else the answer is a repaint, which brings any screen of this size to this one: so for 0, which is the number of a viewer that was given none, for a number before the log's first one, as one that was flushed is, for one past the coming change's, and where more changes are due than 3 plus six fifths of the number of cells. A delta takes no memory.
+    /// The changes from that number on are lent, without a copy, where the log has them and they
+    /// are worth sending. Else the answer is a repaint, which brings any screen of this size to
+    /// this one: so for 0, which is the number of a viewer that was given none, for a number before
+    /// the log's first one, as one that was flushed is, for one past the coming change's, and where
+    /// more changes are due than 3 plus six fifths of the number of cells. A delta takes no memory.
     ///
-    /// A repaint also sets the title, unless it is empty, and the shape of a visible cursor, where one was set. It leaves the cursor's colour and the sizes of lines.
-    /// That of a full surface sets all that is kept beside the screen: the title, an empty one too, the cursor's shape, also of a hidden cursor and where none was set, its colour, and the size of each line.
+    /// A repaint also sets the title, unless it is empty, and the shape of a visible cursor, where
+    /// one was set. It leaves the cursor's colour and the sizes of lines.
+    /// That of a full surface sets all that is kept beside the screen: the title, an empty one too,
+    /// the cursor's shape, also of a hidden cursor and where none was set, its colour, and the size
+    /// of each line.
     pub fn get_changes(
         &self,
         seq: SequenceNo,
     ) -> Result<(SequenceNo, CowSlice<'_, Change>), AllocError>
         ensures number { IfOk result (λ answer. answer.0 ≡ next_number self.now.log) }
-        ensures due { is_known (worth self.now.width self.now.height) self.now.log seq ≡ true → IsOkAnd result (λ answer. Lends answer.1 (due self.now.log seq)) }
-        // Replayed on any screen of that size, whatever it shows, a repaint gives this one: rows, cursor, visibility and pen.
-        ensures repaint { is_known (worth self.now.width self.now.height) self.now.log seq ≡ false → IfOk result (λ answer. (s : Screen) → HasSize self.now.width self.now.height s → replay (measure W.width_of self.now.widths) s (stream_of answer.1) ≡ screen_of self.now) }
+        ensures due { knows self.now seq ≡ true →
+            IsOkAnd result (λ answer. Lends answer.1 (due self.now.log seq)) }
+        // Replayed on any screen of that size, whatever it shows, a repaint gives this one: rows,
+        // cursor, visibility and pen.
+        ensures repaint { knows self.now seq ≡ false →
+            IfOk result (λ answer. Repaints (measure W.width_of) self.now (stream_of answer.1)) }
         // Its entries are the defined ones, the title and the cursor's shape among them.
-        ensures entries { is_known (worth self.now.width self.now.height) self.now.log seq ≡ false → IfOk result (λ answer. stream_of answer.1 ≡ repaint_in self.now.full (screen_of self.now) (kept_of self.now)) }
-        ensures short { is_known (worth self.now.width self.now.height) self.now.log seq ≡ false → IfOk result (λ answer. length (stream_of answer.1) ≤ most_entries self.now.full self.now.width self.now.height) }
+        ensures entries { knows self.now seq ≡ false →
+            IfOk result (λ answer. stream_of answer.1 ≡ own_repaint self.now) }
+        ensures short { knows self.now seq ≡ false →
+            IfOk result (λ answer. length (stream_of answer.1) ≤ most_own_entries self.now) }
         // No scroll in the answer has a region that goes past the last row.
-        ensures regions { IfOk result (λ answer. regions_fit self.now.height (stream_of answer.1) ≡ true) }
-        ensures owned { is_known (worth self.now.width self.now.height) self.now.log seq ≡ false → IfOk result (λ answer. IsOwnedSlice answer.1) }
+        ensures regions { IfOk result (λ answer.
+            regions_fit self.now.height (stream_of answer.1) ≡ true) }
+        ensures owned { knows self.now seq ≡ false → IfOk result (λ answer. IsOwnedSlice answer.1) }
         // Both kinds of answer in one: what leads on a viewer that is led, by `following_laws`.
-        ensures stream { IfOk result (λ answer. IsStream (measure W.width_of self.now.widths) (screen_of self.now) self.now.log seq (stream_of answer.1)) }
+        ensures stream { IfOk result (λ answer.
+            StreamsFrom (measure W.width_of) self.now seq (stream_of answer.1)) }
         // Of a full surface, what leads a viewer on to its full screen.
-        ensures full { self.now.full ≡ true → IfOk result (λ answer. IsFullStream (measure W.width_of self.now.widths) (full_of self.now) self.now.log seq (stream_of answer.1)) }
+        ensures full { self.now.full ≡ true → IfOk result (λ answer.
+            StreamsFullyFrom (measure W.width_of) self.now seq (stream_of answer.1)) }
     {
         let number = self.log.next_number();
         match self.log.due(seq, worth(self.width, self.height)) {
@@ -80,7 +100,7 @@ impl<W: Widths> Surface<W> {
 
     // The repaint of a surface of this kind.
     fn repaint(&self) -> Result<Vec<Change>, AllocError>
-        ensures { IfOk result (λ changes. map change_value changes.items ≡ repaint_in self.now.full (screen_of self.now) (kept_of self.now)) }
+        ensures { IfOk result (λ changes. map change_value changes.items ≡ own_repaint self.now) }
     {
         if self.full {
             self.full_repaint()
@@ -90,7 +110,9 @@ impl<W: Widths> Surface<W> {
     }
 
     fn screen_repaint(&self) -> Result<Vec<Change>, AllocError>
-        ensures { IfOk result (λ changes. map change_value changes.items ≡ repaint (screen_of self.now) self.now.title self.now.shape) }
+        ensures { IfOk result (λ changes.
+            map change_value changes.items
+            ≡ repaint (screen_of self.now) self.now.title self.now.shape) }
     {
         let padding = Cell::blank();
         let writer = started(self.alloc, &padding, self.title.as_str())?;
@@ -106,7 +128,8 @@ impl<W: Widths> Surface<W> {
     }
 
     fn full_repaint(&self) -> Result<Vec<Change>, AllocError>
-        ensures { IfOk result (λ changes. map change_value changes.items ≡ full_repaint (full_screen (screen_of self.now) (kept_of self.now))) }
+        ensures { IfOk result (λ changes.
+            map change_value changes.items ≡ full_repaint (full_of self.now)) }
     {
         let padding = Cell::blank();
         let title = self.title.as_str();

@@ -2,13 +2,15 @@
 ghost use Rattle.std.specs.Prelude.{◌≡◌, map, Err, IfOk, OnOk};
 ghost use Rattle.termwiz_cell.specs.ChangeValue.{change_value};
 ghost use Rattle.termwiz_cell.specs.Measure.{measure};
-ghost use Rattle.termwiz_surface_core.specs.Copies.{IsCopied, IsDrawn, copied_region, drawn_region};
+ghost use Rattle.termwiz_surface_core.specs.Copies.{IsCopied, IsDrawn, copied_region};
+ghost use Rattle.termwiz_surface_core.specs.Diffs.{HasCopied, HasDrawn};
 ghost use Rattle.termwiz_screen.specs.Diff.{restoring};
-ghost use Rattle.termwiz_screen.specs.DiffRegions.{CrossNone, HaveRegion};
 ghost use Rattle.termwiz_surface_core.specs.History.{KeepsNames};
 ghost use Rattle.termwiz_surface_core.specs.Following.{KeepsViewers};
 ghost use Rattle.termwiz_surface_core.specs.SurfaceValue.{screen_of};
-ghost use Rattle.termwiz_surface_core.specs.declared.surface.SurfaceError.TheVariants.{ScrollRegion};
+ghost use Rattle.termwiz_surface_core.specs.declared.surface.SurfaceError.TheVariants.{
+  ScrollRegion,
+};
 
 use super::{Surface, SurfaceError};
 use std::alloc::AllocError;
@@ -17,11 +19,18 @@ use termwiz_cell::change::{Change, Position, SequenceNo};
 use termwiz_cell::emoji::Widths;
 
 impl<W: Widths> Surface<W> {
-    /// Draws what another surface shows on this one, from this column and row on, counted from 0. What doesn't fit is left out: where the place lies outside, that is all of it. Cells that this surface shows there already are not printed again.
+    /// Draws what another surface shows on this one, from this column and row on, counted from 0.
+    /// What doesn't fit is left out: where the place lies outside, that is all of it. Cells that
+    /// this surface shows there already are not printed again.
     ///
-    /// Where anything is printed, the last two changes set back the cursor and the pen, so they are as before, a pending wrap too. Where both surfaces measure texts alike and no wide grapheme of either crosses an edge of its region, this one's shows then what the other's does, and all else stays. What crosses an edge is printed whole.
+    /// Where anything is printed, the last two changes set back the cursor and the pen, so they are
+    /// as before, a pending wrap too. Where both surfaces measure texts alike and no wide grapheme
+    /// of either crosses an edge of its region, this one's shows then what the other's does, and
+    /// all else stays. What crosses an edge is printed whole.
     ///
-    /// The changes are made and logged as one list, and the answer is that of `add_changes`. `Numbers`: nothing has changed. `Memory`: either there was none for the list, and nothing has changed, or the surface is as after `add_changes`. `ScrollRegion` never comes.
+    /// The changes are made and logged as one list, and the answer is that of `add_changes`.
+    /// `Numbers`: nothing has changed. `Memory`: either there was none for the list, and nothing
+    /// has changed, or the surface is as after `add_changes`. `ScrollRegion` never comes.
     pub fn draw_from_screen(
         &mut self,
         other: &Surface<W>,
@@ -30,11 +39,15 @@ impl<W: Widths> Surface<W> {
     ) -> Result<SequenceNo, SurfaceError>
         ensures drawn { IsDrawn (measure W.width_of) self.old other.now x y result self.new }
         // All but the rows is as before.
-        ensures restores { OnOk result (screen_of self.new ≡ record (screen_of self.old) { rows = (screen_of self.new).rows }) }
-        // For two surfaces of one width function: the other's rows, where no wide grapheme crosses an edge.
-        ensures region { OnOk result (let a = screen_of self.old in let b = screen_of other.now in let r = drawn_region a b x y in measure W.width_of self.old.widths ≡ measure W.width_of other.now.widths → CrossNone a.width b.width a.rows b.rows r → HaveRegion a.width (screen_of self.new).rows a.rows b.rows r) }
+        ensures restores { OnOk result (
+            screen_of self.new ≡ record (screen_of self.old) { rows = (screen_of self.new).rows }) }
+        // For two surfaces of one width function: the other's rows, where no wide grapheme crosses
+        // an edge.
+        ensures region { OnOk result (
+            HasDrawn (measure W.width_of) self.old other.now x y (screen_of self.new)) }
         ensures no_scroll { result ≡ Err ScrollRegion → ⊥ }
-        // Each viewer that follows the surface goes on to, also after an error, and whatever width value the drawn one has.
+        // Each viewer that follows the surface goes on to, also after an error, and whatever width
+        // value the drawn one has.
         ensures followed { KeepsViewers (measure W.width_of) self.old self.new }
         // What its numbers named they name still, also after an error.
         ensures remembered { KeepsNames (measure W.width_of self.old.widths) self.old self.new }
@@ -45,11 +58,17 @@ impl<W: Widths> Surface<W> {
         self.add_changes(changes)
     }
 
-    /// Copies what a region shows, of this column, row, width and height, to the region of this size from another column and row on, all counted from 0. The regions may overlap: what is copied is what was shown before. Both are cut to what fits in the surface; where one begins outside, nothing is copied. Cells that are shown there already are not printed again.
+    /// Copies what a region shows, of this column, row, width and height, to the region of this
+    /// size from another column and row on, all counted from 0. The regions may overlap: what is
+    /// copied is what was shown before. Both are cut to what fits in the surface; where one begins
+    /// outside, nothing is copied. Cells that are shown there already are not printed again.
     ///
-    /// Where no wide grapheme crosses an edge of either region, the second one shows then what the first did, and all else stays. What crosses an edge is printed whole.
+    /// Where no wide grapheme crosses an edge of either region, the second one shows then what the
+    /// first did, and all else stays. What crosses an edge is printed whole.
     ///
-    /// The changes are made and logged as one list, and the answer is that of `add_changes`. `Numbers`: nothing has changed. `Memory`: either there was none for the list, and nothing has changed, or the surface is as after `add_changes`. `ScrollRegion` never comes.
+    /// The changes are made and logged as one list, and the answer is that of `add_changes`.
+    /// `Numbers`: nothing has changed. `Memory`: either there was none for the list, and nothing
+    /// has changed, or the surface is as after `add_changes`. `ScrollRegion` never comes.
     pub fn copy_region(
         &mut self,
         src_x: usize,
@@ -59,9 +78,13 @@ impl<W: Widths> Surface<W> {
         dest_x: usize,
         dest_y: usize,
     ) -> Result<SequenceNo, SurfaceError>
-        ensures copied { IsCopied (measure W.width_of) self.old src_x src_y width height dest_x dest_y result self.new }
-        // What the region showed before, overlapping or not, where no wide grapheme crosses an edge.
-        ensures region { OnOk result (let a = screen_of self.old in let r = copied_region a src_x src_y width height dest_x dest_y in CrossNone a.width a.width a.rows a.rows r → HaveRegion a.width (screen_of self.new).rows a.rows a.rows r) }
+        ensures copied { IsCopied (measure W.width_of)
+            self.old src_x src_y width height dest_x dest_y result self.new }
+        // What the region showed before, overlapping or not, where no wide grapheme crosses an
+        // edge.
+        ensures region { OnOk result (
+            let r = copied_region (screen_of self.old) src_x src_y width height dest_x dest_y in
+            HasCopied self.old r (screen_of self.new)) }
         ensures no_scroll { result ≡ Err ScrollRegion → ⊥ }
         // Each viewer that follows the surface goes on to, also after an error.
         ensures followed { KeepsViewers (measure W.width_of) self.old self.new }
@@ -79,7 +102,8 @@ fn restored(
     cursor: (usize, usize),
     pen: &CellAttributes,
 ) -> Result<Vec<Change>, AllocError>
-    ensures { IfOk result (λ l. map change_value l.items ≡ restoring cursor.0 cursor.1 pen.now (map change_value changes.items)) }
+    ensures { IfOk result (λ l. map change_value l.items
+        ≡ restoring cursor.0 cursor.1 pen.now (map change_value changes.items)) }
 {
     if changes.is_empty() {
         return Ok(changes);

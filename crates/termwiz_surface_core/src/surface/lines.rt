@@ -11,7 +11,9 @@ use termwiz_cell::emoji::Widths;
 use termwiz_line::line::line::Line;
 
 impl<W: Widths> Surface<W> {
-    /// The rows from the top, as they are stored: a row may be shorter than the surface is wide, and shows default blanks behind its cells. What has changed `get_changes` tells, and not the numbers of these lines, of which nothing is promised.
+    /// The rows from the top, as they are stored: a row may be shorter than the surface is wide,
+    /// and shows default blanks behind its cells. What has changed `get_changes` tells, and not the
+    /// numbers of these lines, of which nothing is promised.
     pub fn screen_lines(&self) -> Result<Vec<&Line>, AllocError>
         ensures cells { IfOk result (λ lines. map (λ l. l.now.cells) lines.items ≡ self.now.lines) }
         ensures flags { IfOk result (λ lines. map (λ l. l.now.flags) lines.items ≡ self.now.flags) }
@@ -28,8 +30,10 @@ impl<W: Widths> Surface<W> {
 }
 
 fn lent_lines(alloc: Global, rows: &VecDeque<Line>) -> Result<Vec<&Line>, AllocError>
-    ensures cells { IfOk result (λ lines. map (λ l. l.now.cells) lines.items ≡ cells_of rows.now.items) }
-    ensures flags { IfOk result (λ lines. map (λ l. l.now.flags) lines.items ≡ row_flags rows.now.items) }
+    ensures cells { IfOk result (λ lines.
+        map (λ l. l.now.cells) lines.items ≡ cells_of rows.now.items) }
+    ensures flags { IfOk result (λ lines.
+        map (λ l. l.now.flags) lines.items ≡ row_flags rows.now.items) }
 {
     let mut lines = Vec::with_capacity(alloc, rows.len())?;
     for i in 0..rows.len() {

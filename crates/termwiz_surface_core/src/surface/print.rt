@@ -1,11 +1,14 @@
 //! How a surface prints texts.
-ghost use Rattle.std.specs.Prelude.{◌≡◌, ◌+◌, ◌<◌, ◌≤◌, true, false, [], ◌∷◌, length, map, IfOk, OnOk, OnErr};
+ghost use Rattle.std.specs.Prelude.{◌≡◌, ◌+◌, ◌<◌, ◌≤◌, true, false, [], ◌∷◌, length, map, IfOk};
+ghost use Rattle.std.specs.Prelude.{OnOk, OnErr};
 ghost use Rattle.std.specs.List.{list_all};
 ghost use Rattle.termwiz_text.specs.Plain.{is_plain};
 ghost use Rattle.unicode_segmentation.specs.Grapheme.{graphemes};
 ghost use Rattle.termwiz_cell.specs.Measure.{measure};
 ghost use Rattle.termwiz_cell.specs.Attributes.{needs_box};
-ghost use Rattle.termwiz_screen.specs.Print.{columns_left, down, down_kept, one_kept, print, print_kept, print_one, put, put_kept, wrapped, wrapped_kept};
+ghost use Rattle.termwiz_screen.specs.Print.{columns_left, down, down_kept, one_kept, print};
+ghost use Rattle.termwiz_screen.specs.Print.{print_kept, print_one, put, put_kept, wrapped};
+ghost use Rattle.termwiz_screen.specs.Print.{wrapped_kept};
 ghost use Rattle.termwiz_surface_core.specs.SurfaceValue.{Draws, SameFrame, kept_of, screen_of};
 ghost use Rattle.termwiz_screen.specs.Measured.{IsMeasured};
 ghost use Rattle.termwiz_screen.specs.Runs.{AreNarrow};
@@ -21,7 +24,8 @@ use termwiz_text::split_first_grapheme;
 
 impl<W: Widths> Surface<W> {
     fn line_feed(&mut self) -> Result<(), AllocError>
-        ensures ok { OnOk result (Draws self.old (down (screen_of self.old)) (down_kept (screen_of self.old) (kept_of self.old)) self.new) }
+        ensures ok { OnOk result (Draws self.old (down (screen_of self.old))
+            (down_kept (screen_of self.old) (kept_of self.old)) self.new) }
         ensures err { OnErr result (self.new ≡ self.old) }
     {
         if self.y + 1 < self.height {
@@ -36,7 +40,8 @@ impl<W: Widths> Surface<W> {
     fn put(&mut self, cell: Cell) -> Result<(), AllocError>
         requires inside { self.old.x < self.old.width }
         requires measured { IsMeasured (measure W.width_of self.old.widths) cell }
-        ensures ok { OnOk result (let s = screen_of self.old in Draws self.old (put s cell) (put_kept s cell (kept_of self.old)) self.new) }
+        ensures ok { OnOk result (let s = screen_of self.old in
+            Draws self.old (put s cell) (put_kept s cell (kept_of self.old)) self.new) }
         ensures err { OnErr result (self.new ≡ self.old) }
     {
         let end = self.x + cell.width();
@@ -47,7 +52,8 @@ impl<W: Widths> Surface<W> {
 
     // Goes to the next row, where a wrap is pending.
     fn wrap(&mut self) -> Result<(), AllocError>
-        ensures ok { OnOk result (Draws self.old (wrapped (screen_of self.old)) (wrapped_kept (screen_of self.old) (kept_of self.old)) self.new) }
+        ensures ok { OnOk result (Draws self.old (wrapped (screen_of self.old))
+            (wrapped_kept (screen_of self.old) (kept_of self.old)) self.new) }
         ensures inside { OnOk result (self.new.x < self.new.width) }
         ensures err { OnErr result (self.new ≡ self.old) }
     {
@@ -60,7 +66,10 @@ impl<W: Widths> Surface<W> {
 
     fn print_one(&mut self, grapheme: &str) -> Result<(), AllocError>
         requires { graphemes true grapheme.now ≡ grapheme.now ∷ [] }
-        ensures ok { OnOk result (let f = measure W.width_of self.old.widths in let s = screen_of self.old in Draws self.old (print_one f s grapheme.now) (one_kept f s grapheme.now (kept_of self.old)) self.new) }
+        ensures ok { OnOk result (let f = measure W.width_of self.old.widths in
+            let s = screen_of self.old in
+            Draws self.old (print_one f s grapheme.now)
+            (one_kept f s grapheme.now (kept_of self.old)) self.new) }
         ensures err { OnErr result (SameFrame self.old self.new) }
     {
         match printed_piece(self.alloc, &self.widths, grapheme, &self.pen)? {
@@ -78,7 +87,8 @@ impl<W: Widths> Surface<W> {
         Ok(())
     }
 
-    // How many characters a run may have: what fits in the row in which the first one comes, and none where the pen takes memory.
+    // How many characters a run may have: what fits in the row in which the first one comes, and
+    // none where the pen takes memory.
     fn run_limit(&self) -> usize
         ensures fits { result ≤ columns_left (screen_of self.now) }
         ensures unboxed { 0 < result → needs_box self.now.pen ≡ false }
@@ -98,7 +108,8 @@ impl<W: Widths> Surface<W> {
         requires narrow { AreNarrow (measure W.width_of self.old.widths) run.now }
         requires unboxed { needs_box self.old.pen ≡ false }
         requires fits { self.old.x + length run.now ≤ self.old.width }
-        ensures ok { OnOk result (Prints (measure W.width_of self.old.widths) self.old (map (λ c. c ∷ []) run.now) self.new) }
+        ensures ok { OnOk result (Prints (measure W.width_of self.old.widths)
+            self.old (map (λ c. c ∷ []) run.now) self.new) }
         ensures err { OnErr result (self.new ≡ self.old) }
     {
         paint_run(&mut self.rows, self.x, self.y, run, &self.pen)?;
@@ -113,7 +124,8 @@ impl<W: Widths> Surface<W> {
         requires narrow { AreNarrow (measure W.width_of self.old.widths) run.now }
         requires unboxed { needs_box self.old.pen ≡ false }
         requires fits { length run.now ≤ columns_left (screen_of self.old) }
-        ensures ok { OnOk result (Prints (measure W.width_of self.old.widths) self.old (map (λ c. c ∷ []) run.now) self.new) }
+        ensures ok { OnOk result (Prints (measure W.width_of self.old.widths)
+            self.old (map (λ c. c ∷ []) run.now) self.new) }
         ensures err { OnErr result (SameFrame self.old self.new) }
     {
         self.wrap()?;
@@ -121,10 +133,12 @@ impl<W: Widths> Surface<W> {
         Ok(())
     }
 
-    // Prints the run of ASCII that the text begins with, or else its first grapheme, and gives what is left.
+    // Prints the run of ASCII that the text begins with, or else its first grapheme, and gives what
+    // is left.
     fn print_first<'a>(&mut self, text: &'a str) -> Result<&'a str, AllocError>
         requires { 0 < length text.now }
-        ensures ok { IfOk result (λ rest. PrintsSome (measure W.width_of self.old.widths) self.old text.now rest.now self.new) }
+        ensures ok { IfOk result (λ rest. PrintsSome (measure W.width_of self.old.widths)
+            self.old text.now rest.now self.new) }
         ensures err { OnErr result (SameFrame self.old self.new) }
     {
         if begins_plain(text) {
@@ -142,7 +156,10 @@ impl<W: Widths> Surface<W> {
     }
 
     pub(super) fn print_text(&mut self, text: &str) -> Result<(), AllocError>
-        ensures ok { OnOk result (let f = measure W.width_of self.old.widths in let s = screen_of self.old in Draws self.old (print f s text.now) (print_kept f s text.now (kept_of self.old)) self.new) }
+        ensures ok { OnOk result (let f = measure W.width_of self.old.widths in
+            let s = screen_of self.old in
+            Draws self.old (print f s text.now)
+            (print_kept f s text.now (kept_of self.old)) self.new) }
         ensures err { OnErr result (SameFrame self.old self.new) }
     {
         let mut rest = text;

@@ -4,6 +4,7 @@ pub mod FollowingLaws
 pub mod HistoryLaws
 pub mod ManySchedule
 pub mod ManySteps
+pub mod Showing
 pub use Rattle.termwiz_surface_core.specs.SurfaceValue
 pub use Rattle.termwiz_surface_core.specs.Printing
 pub use Rattle.termwiz_surface_core.specs.Adding
@@ -12,6 +13,9 @@ pub use Rattle.termwiz_surface_core.specs.Following
 pub use Rattle.termwiz_surface_core.specs.Copies
 pub use Rattle.termwiz_surface_core.specs.History
 pub use Rattle.termwiz_surface_core.specs.Answer
+pub use Rattle.termwiz_surface_core.specs.Asking
+pub use Rattle.termwiz_surface_core.specs.Diffs
+pub use Rattle.termwiz_surface_core.specs.Carried
 pub use Rattle.termwiz_screen.specs.Screen
 pub use Rattle.termwiz_screen.specs.Place
 pub use Rattle.termwiz_screen.specs.Print
@@ -48,8 +52,12 @@ pub use Rattle.termwiz_surface_core.specs.Resizing.{HasResized, Resizes}
 pub use Rattle.termwiz_surface_core.specs.Copies.{IsDrawn, IsCopied, drawn_region, copied_region}
 pub use Rattle.termwiz_surface_core.specs.Following.{ViewerValue, Follows, FollowsTo, KeepsViewers, Leads, FullLeads, blank_viewer}
 pub use Rattle.termwiz_surface_core.specs.History.{Names, IsPast, KeepsNames}
+pub use Rattle.termwiz_surface_core.specs.Asking.{knows, own_repaint, most_own_entries, Repaints, StreamsFrom, StreamsFullyFrom}
+pub use Rattle.termwiz_surface_core.specs.Diffs.{MeasureAlike, screen_after, HasDrawn, HasCopied, region_at, cut_to, PrintsRegion, GivesRegion, region_diff, rows_of, top_rows, one_row, PrintsRows, HaveTopRows, HaveRow}
 pub use Rattle.termwiz_surface_core.specs.Answer.{AnswerValue, IsGiven, Carries}
+pub use Rattle.termwiz_surface_core.specs.Carried.{IsPastOf, IsGivenBy, CarriesTo}
 pub use Rattle.termwiz_surface.specs.Accepting.{Takes}
+pub use Rattle.termwiz_surface.specs.Showing.{HasCaughtUp, ShowsNamed, KeepsShowing, ShowsCarried, StaysNamed}
 pub use Rattle.termwiz_surface.specs.Schedule.{IsSchedule, IsFullSchedule}
 pub use Rattle.termwiz_surface.specs.ManySchedule.{IsManySchedule}
 -- screens, steps, logs, streams and diffs,

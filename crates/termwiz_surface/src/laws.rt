@@ -1,6 +1,11 @@
 //! Laws of the definitions that contracts cite, each on a function that does nothing.
-ghost use Rattle.termwiz_surface.specs.FollowingLaws.{ChangesLeadOn, FlushesKeepLeading, LeadsWhereItIs, RestartsKeepLeading, StreamsLeadOn};
-ghost use Rattle.termwiz_surface.specs.HistoryLaws.{AnswersStay, CarriedLead, ChangesGoOn, FlushesKeepPast, GivenCarry, NamedAreLed, NamesStay, NothingIsNamedAtFirst, NumberNamesPicture, RestartsGoOn};
+ghost use Rattle.termwiz_surface.specs.FollowingLaws.{ChangesLeadOn, FlushesKeepLeading};
+ghost use Rattle.termwiz_surface.specs.FollowingLaws.{LeadsWhereItIs, RestartsKeepLeading};
+ghost use Rattle.termwiz_surface.specs.FollowingLaws.{StreamsLeadOn};
+ghost use Rattle.termwiz_surface.specs.HistoryLaws.{AnswersStay, CarriedLead, ChangesGoOn};
+ghost use Rattle.termwiz_surface.specs.HistoryLaws.{FlushesKeepPast, GivenCarry, NamedAreLed};
+ghost use Rattle.termwiz_surface.specs.HistoryLaws.{NamesStay, NothingIsNamedAtFirst};
+ghost use Rattle.termwiz_surface.specs.HistoryLaws.{NumberNamesPicture, RestartsGoOn};
 ghost use Rattle.termwiz_screen.specs.FullScreen.{FullScreen};
 ghost use Rattle.termwiz_screen.specs.Picture.{full_screens, screens};
 ghost use Rattle.termwiz_screen.specs.Screen.{Screen};
@@ -12,7 +17,9 @@ pub use termwiz_screen::laws::{
     diff_laws, fewest_prints, full_repaint_laws, need_laws, repaint_laws, sequence_laws,
 };
 
-/// A viewer that follows a surface still does after whatever happens to the surface: changes, flushes, want of memory and another size; and what it is answered leads it to the surface's screen. `Follows` is made of what these laws speak of.
+/// A viewer that follows a surface still does after whatever happens to the surface: changes,
+/// flushes, want of memory and another size; and what it is answered leads it to the surface's
+/// screen. `Follows` is made of what these laws speak of.
 pub fn following_laws()
     ensures same { LeadsWhereItIs screens }
     ensures changes { ChangesLeadOn screens }
@@ -30,7 +37,8 @@ pub fn full_following_laws()
     ensures restarts { RestartsKeepLeading full_screens }
 {}
 
-/// Above 0 each number that a surface had names one screen, whatever happens to the surface; and an answer leads to the screen that its number names, whenever it is accepted.
+/// Above 0 each number that a surface had names one screen, whatever happens to the surface; and an
+/// answer leads to the screen that its number names, whenever it is accepted.
 pub fn history_laws()
     ensures first { NothingIsNamedAtFirst screens }
     ensures number { NumberNamesPicture screens }

@@ -8,7 +8,9 @@ ghost use Rattle.termwiz_cell.specs.Measure.{measure};
 ghost use Rattle.termwiz_surface_core.specs.Following.{Follows, KeepsViewers};
 ghost use Rattle.termwiz_surface_core.specs.History.{KeepsNames};
 ghost use Rattle.termwiz_surface_core.specs.SurfaceValue.{SurfaceValue};
-ghost use Rattle.termwiz_surface.specs.Schedule.{Allows, IsFullSchedule, IsInRange, IsSchedule, IsScheduleOf, Seen, outcome_of, seen_of, state_beside, state_of};
+ghost use Rattle.termwiz_surface.specs.Schedule.{Allows, IsFullSchedule, IsInRange, IsSchedule};
+ghost use Rattle.termwiz_surface.specs.Schedule.{IsScheduleOf, Seen, outcome_of, seen_of};
+ghost use Rattle.termwiz_surface.specs.Schedule.{state_beside, state_of};
 
 mod many;
 mod viewer;
@@ -28,7 +30,8 @@ pub enum Event<W: Widths> {
     Changes(Vec<Change>),
     /// This surface is drawn from this column and row on, as by `draw_from_screen`.
     Draw(Surface<W>, usize, usize),
-    /// A region is copied, as by `copy_region`: its column, row, width and height, and the column and the row that it comes to.
+    /// A region is copied, as by `copy_region`: its column, row, width and height, and the column
+    /// and the row that it comes to.
     Copy(usize, usize, usize, usize, usize, usize),
     /// The changes before this number are forgotten, as by `flush_changes_older_than`.
     Flush(SequenceNo),
@@ -61,7 +64,10 @@ pub enum Outcome {
     Asked(SequenceNo, Vec<Change>),
 }
 
-/// Runs the events on one blank surface, of this width in columns and this height in rows, and its viewer, and gives one outcome for each. A refused event is an outcome, and the run goes on. It fails where there is no memory for the surface, the viewer, the list of outcomes, or what is told of a viewer that followed.
+/// Runs the events on one blank surface, of this width in columns and this height in rows, and its
+/// viewer, and gives one outcome for each. A refused event is an outcome, and the run goes on. It
+/// fails where there is no memory for the surface, the viewer, the list of outcomes, or what is
+/// told of a viewer that followed.
 pub fn run<W: Widths>(
     alloc: Global,
     widths: W,
@@ -74,12 +80,14 @@ pub fn run<W: Widths>(
     requires fits { width < 2 ^ 32 }
     requires fits_height { height < 2 ^ 32 }
     requires sizes { All IsInRange events.items }
-    ensures { IfOk result (λ outcomes. IsSchedule (measure W.width_of) (measure W.width_of widths) width height events.items outcomes.items) }
+    ensures { IfOk result (λ outcomes. IsSchedule (measure W.width_of)
+        (measure W.width_of widths) width height events.items outcomes.items) }
 {
     run_on(alloc, widths, width, height, false, events)
 }
 
-/// Runs the events as `run` does, on a surface whose repaints carry all that is kept beside the screen. What the viewer shows is told by its full screen.
+/// Runs the events as `run` does, on a surface whose repaints carry all that is kept beside the
+/// screen. What the viewer shows is told by its full screen.
 pub fn run_full<W: Widths>(
     alloc: Global,
     widths: W,
@@ -92,7 +100,8 @@ pub fn run_full<W: Widths>(
     requires fits { width < 2 ^ 32 }
     requires fits_height { height < 2 ^ 32 }
     requires sizes { All IsInRange events.items }
-    ensures { IfOk result (λ outcomes. IsFullSchedule (measure W.width_of) (measure W.width_of widths) width height events.items outcomes.items) }
+    ensures { IfOk result (λ outcomes. IsFullSchedule (measure W.width_of)
+        (measure W.width_of widths) width height events.items outcomes.items) }
 {
     run_on(alloc, widths, width, height, true, events)
 }
@@ -111,7 +120,8 @@ fn run_on<W: Widths>(
     requires fits { width < 2 ^ 32 }
     requires fits_height { height < 2 ^ 32 }
     requires sizes { All IsInRange events.items }
-    ensures { IfOk result (λ outcomes. IsScheduleOf full (measure W.width_of) (measure W.width_of widths) width height events.items outcomes.items) }
+    ensures { IfOk result (λ outcomes. IsScheduleOf full (measure W.width_of)
+        (measure W.width_of widths) width height events.items outcomes.items) }
 {
     let mut surface = Surface::blank(alloc, width, height, widths, full)?;
     let mut viewer = Viewer::new(alloc, &surface)?;
@@ -131,7 +141,9 @@ fn serve<W: Widths>(
 ) -> Result<Outcome, AllocError>
     requires range { IsInRange event }
     requires follows { Follows (measure W.width_of) viewer.old surface.old }
-    ensures step { IfOk result (λ outcome. Allows (measure W.width_of) (measure W.width_of surface.old.widths) surface.old.full (state_of surface.old viewer.old) event outcome (state_of surface.new viewer.new)) }
+    ensures step { IfOk result (λ outcome.
+        Allows (measure W.width_of) (measure W.width_of surface.old.widths) surface.old.full
+        (state_of surface.old viewer.old) event outcome (state_of surface.new viewer.new)) }
     ensures widths { OnOk result (surface.new.widths ≡ surface.old.widths) }
     ensures full { OnOk result (surface.new.full ≡ surface.old.full) }
     ensures follows { OnOk result (Follows (measure W.width_of) viewer.new surface.new) }
@@ -149,7 +161,8 @@ fn serve<W: Widths>(
 // The viewer forgets the changes that it made, since nobody follows it.
 fn forget_made<W: Widths>(viewer: &mut Viewer<W>)
     ensures seen { seen_of viewer.new ≡ seen_of viewer.old }
-    ensures follows { (s : SurfaceValue W) → Follows (measure W.width_of) viewer.old s → Follows (measure W.width_of) viewer.new s }
+    ensures follows { (s : SurfaceValue W) →
+        Follows (measure W.width_of) viewer.old s → Follows (measure W.width_of) viewer.new s }
 {
     viewer.flush_changes_older_than(viewer.surface().current_seqno());
 }
@@ -157,11 +170,14 @@ fn forget_made<W: Widths>(viewer: &mut Viewer<W>)
 // Does one event of the surface's own: any but that its viewer follows.
 fn act<W: Widths>(alloc: Global, surface: &mut Surface<W>, event: Event<W>) -> Option<Outcome>
     requires { IsInRange event }
-    ensures step { IfSome result (λ outcome. (v : Seen) → Allows (measure W.width_of) (measure W.width_of surface.old.widths) surface.old.full (state_beside surface.old v) event outcome (state_beside surface.new v)) }
+    ensures step { IfSome result (λ outcome. (v : Seen) →
+        Allows (measure W.width_of) (measure W.width_of surface.old.widths) surface.old.full
+        (state_beside surface.old v) event outcome (state_beside surface.new v)) }
     ensures widths { surface.new.widths ≡ surface.old.widths }
     ensures full { surface.new.full ≡ surface.old.full }
     ensures followed { KeepsViewers (measure W.width_of) surface.old surface.new }
-    ensures remembered { KeepsNames (measure W.width_of surface.old.widths) surface.old surface.new }
+    ensures remembered { KeepsNames (measure W.width_of surface.old.widths)
+        surface.old surface.new }
     ensures own { IsSome result → event ≡ Event.Follow → ⊥ }
     ensures none { IsNone result → (event ≡ Event.Follow) × (surface.new ≡ surface.old) }
 {
@@ -206,7 +222,10 @@ fn follow<W: Widths>(
     viewer: &mut Viewer<W>,
 ) -> Result<Outcome, AllocError>
     requires { Follows (measure W.width_of) viewer.old surface.now }
-    ensures step { IfOk result (λ outcome. Allows (measure W.width_of) (measure W.width_of surface.now.widths) surface.now.full (state_of surface.now viewer.old) Event.Follow outcome (state_of surface.now viewer.new)) }
+    ensures step { IfOk result (λ outcome.
+        Allows (measure W.width_of) (measure W.width_of surface.now.widths) surface.now.full
+        (state_of surface.now viewer.old) Event.Follow outcome
+        (state_of surface.now viewer.new)) }
     ensures follows { OnOk result (Follows (measure W.width_of) viewer.new surface.now) }
 {
     match viewer.fetch(surface) {
@@ -233,7 +252,9 @@ fn follow<W: Widths>(
 
 // The changes from a number on, as a list of their own.
 fn ask<W: Widths>(alloc: Global, surface: &Surface<W>, seq: SequenceNo) -> Outcome
-    ensures { (v : Seen) → Allows (measure W.width_of) (measure W.width_of surface.now.widths) surface.now.full (state_beside surface.now v) (Event.Ask seq) result (state_beside surface.now v) }
+    ensures { (v : Seen) →
+        Allows (measure W.width_of) (measure W.width_of surface.now.widths) surface.now.full
+        (state_beside surface.now v) (Event.Ask seq) result (state_beside surface.now v) }
 {
     match surface.get_changes(seq) {
         Ok((number, changes)) => match copied(alloc, changes) {
@@ -244,9 +265,11 @@ fn ask<W: Widths>(alloc: Global, surface: &Surface<W>, seq: SequenceNo) -> Outco
     }
 }
 
-/// The changes of an answer as a list of their own, for whoever applies them. What is lent is cloned, and what is owned isn't.
+/// The changes of an answer as a list of their own, for whoever applies them. What is lent is
+/// cloned, and what is owned isn't.
 pub fn copied(alloc: Global, changes: CowSlice<'_, Change>) -> Result<Vec<Change>, AllocError>
-    ensures { IfOk result (λ copies. map change_value copies.items ≡ map change_value (cow_slice_items changes.entry)) }
+    ensures { IfOk result (λ copies.
+        map change_value copies.items ≡ map change_value (cow_slice_items changes.entry)) }
 {
     changes.into_owned(alloc)
 }

@@ -1,10 +1,11 @@
 //! Runs of events on one surface and several viewers.
-ghost use Rattle.std.specs.Prelude.{◌≡◌, ◌^◌, ◌<◌, IfOk, OnOk, List, map, replicate};
+ghost use Rattle.std.specs.Prelude.{◌≡◌, ◌^◌, ◌<◌, IfOk, List, replicate};
 ghost use Rattle.std.specs.List.{All};
 ghost use Rattle.termwiz_cell.specs.Measure.{measure};
 ghost use Rattle.termwiz_surface_core.specs.Following.{blank_viewer};
 ghost use Rattle.termwiz_surface.specs.ManySchedule.{Held, IsManyInRange, IsManySchedule};
-ghost use Rattle.termwiz_surface.specs.ManySteps.{AnswersTo, DeliversTo, Remembers, ResizesAs, Serves};
+ghost use Rattle.termwiz_surface.specs.ManySteps.{AnswersTo, DeliversTo, Remembers, ResizesAs};
+ghost use Rattle.termwiz_surface.specs.ManySteps.{Serves};
 
 use super::{AcceptError, Event, Outcome, Viewer, act};
 use crate::surface::{Answer, Screen, Surface, SurfaceError};
@@ -44,7 +45,10 @@ pub enum ManyOutcome {
     NoSuch,
 }
 
-/// Runs the events on one blank surface, of this width in columns and this height in rows, and so many blank viewers of it, and gives one outcome for each. A refused event is an outcome, and the run goes on. It fails where there is no memory for the surface, a viewer, the lists of answers and outcomes, or what is told of a viewer that accepted.
+/// Runs the events on one blank surface, of this width in columns and this height in rows, and so
+/// many blank viewers of it, and gives one outcome for each. A refused event is an outcome, and the
+/// run goes on. It fails where there is no memory for the surface, a viewer, the lists of answers
+/// and outcomes, or what is told of a viewer that accepted.
 pub fn run_many<W: Widths>(
     alloc: Global,
     widths: W,
@@ -58,7 +62,8 @@ pub fn run_many<W: Widths>(
     requires fits { width < 2 ^ 32 }
     requires fits_height { height < 2 ^ 32 }
     requires sizes { All IsManyInRange events.items }
-    ensures { IfOk result (λ outcomes. IsManySchedule (measure W.width_of) (measure W.width_of widths) width height viewers events.items outcomes.items) }
+    ensures { IfOk result (λ outcomes. IsManySchedule (measure W.width_of)
+        (measure W.width_of widths) width height viewers events.items outcomes.items) }
 {
     let mut surface = Surface::new(alloc, width, height, widths)?;
     let mut seats = blank_viewers(alloc, &surface, viewers)?;
@@ -94,7 +99,10 @@ fn serve<W: Widths>(
     event: ManyEvent<W>,
 ) -> Result<ManyOutcome, AllocError>
     requires { IsManyInRange event }
-    ensures serves { IfOk result (λ outcome. (held : List Held) → Remembers (measure W.width_of) surface.old viewers.old.items answers.old.items held → Serves (measure W.width_of) surface.old viewers.old.items held event outcome surface.new viewers.new.items answers.new.items) }
+    ensures serves { IfOk result (λ outcome. (held : List Held) →
+        Remembers (measure W.width_of) surface.old viewers.old.items answers.old.items held →
+        Serves (measure W.width_of) surface.old viewers.old.items held event outcome
+        surface.new viewers.new.items answers.new.items) }
     ensures widths { surface.new.widths ≡ surface.old.widths }
 {
     match event {
@@ -129,7 +137,8 @@ fn answer<W: Widths>(
     seq: SequenceNo,
     answers: &mut Vec<Answer>,
 ) -> Result<ManyOutcome, AllocError>
-    ensures { IfOk result (λ outcome. AnswersTo (measure W.width_of surface.now.widths) surface.now seq answers.old.items outcome answers.new.items) }
+    ensures { IfOk result (λ outcome. AnswersTo (measure W.width_of surface.now.widths)
+        surface.now seq answers.old.items outcome answers.new.items) }
 {
     match surface.answer(seq) {
         Ok(answer) => {
@@ -143,7 +152,8 @@ fn answer<W: Widths>(
 
 // A viewer is given an answer, and what it shows then is told.
 fn deliver<W: Widths>(viewer: &mut Viewer<W>, answer: &Answer) -> Result<ManyOutcome, AllocError>
-    ensures { IfOk result (λ outcome. DeliversTo (measure W.width_of) viewer.old answer.now outcome viewer.new) }
+    ensures { IfOk result (λ outcome.
+        DeliversTo (measure W.width_of) viewer.old answer.now outcome viewer.new) }
 {
     match viewer.accept(answer) {
         Ok(number) => {

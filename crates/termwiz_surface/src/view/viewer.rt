@@ -1,18 +1,19 @@
 //! Viewers: surfaces that follow another one, or accept its answers.
-ghost use Rattle.std.specs.Prelude.{◌≡◌, ℕ, ◌+◌, ◌<◌, ◌^◌, true, length, map, nat_lt, IfOk, OnOk, OnErr};
+ghost use Rattle.std.specs.Prelude.{◌≡◌, ◌+◌, ◌<◌, ◌^◌, true, length, map, nat_lt, IfOk, OnOk};
+ghost use Rattle.std.specs.Prelude.{OnErr};
 ghost use Rattle.termwiz_cell.specs.ChangeValue.{change_value};
 ghost use Rattle.termwiz_cell.specs.Measure.{measure};
 ghost use Rattle.termwiz_surface_core.specs.Adding.{Makes, with_log};
 ghost use Rattle.termwiz_surface.specs.Accepting.{Declines, HasDropped, MayTake, Takes};
-ghost use Rattle.termwiz_surface_core.specs.Answer.{Carries};
-ghost use Rattle.termwiz_surface_core.specs.Following.{blank_viewer, forgetful, Accepts, Fetches, Fits, Follows, FollowsTo, Keeps};
-ghost use Rattle.termwiz_surface_core.specs.History.{Names};
+ghost use Rattle.termwiz_surface.specs.Showing.{HasCaughtUp, KeepsShowing, ShowsCarried};
+ghost use Rattle.termwiz_surface.specs.Showing.{StaysNamed};
+ghost use Rattle.termwiz_surface_core.specs.Following.{blank_viewer, forgetful, Accepts, Fetches};
+ghost use Rattle.termwiz_surface_core.specs.Following.{Fits, Follows, FollowsTo, Keeps};
 ghost use Rattle.termwiz_surface_core.specs.Resizing.{Resizes};
-ghost use Rattle.termwiz_surface_core.specs.SurfaceValue.{SurfaceValue, screen_of, full_of};
-ghost use Rattle.termwiz_screen.specs.FullScreen.{FullScreen, HasFullSize};
+ghost use Rattle.termwiz_surface_core.specs.SurfaceValue.{SurfaceValue, full_of};
+ghost use Rattle.termwiz_screen.specs.FullScreen.{HasFullSize};
 ghost use Rattle.termwiz_screen.specs.Log.{flushed, next_number};
 ghost use Rattle.termwiz_screen.specs.Picture.{full_screens, screens};
-ghost use Rattle.termwiz_screen.specs.Screen.{Screen};
 ghost use Rattle.termwiz_screen.specs.Stream.{stream_of};
 
 use super::copied;
@@ -30,10 +31,12 @@ pub enum AcceptError {
     /// Error 1: the answer is for another size. Nothing has changed.
     #[error("the answer is for another size")]
     Size,
-    /// Error 2: the answer is no repaint, and the viewer's number isn't its base. Nothing has changed.
+    /// Error 2: the answer is no repaint, and the viewer's number isn't its base. Nothing has
+    /// changed.
     #[error("the answer is for another number")]
     Stale,
-    /// Error 3: the numbers of the viewer's own surface would pass the greatest `usize`. The viewer shows what it showed, and has no number.
+    /// Error 3: the numbers of the viewer's own surface would pass the greatest `usize`. The viewer
+    /// shows what it showed, and has no number.
     #[error("the numbers of changes are used up")]
     Numbers,
     /// Error 4: a growth was refused. The viewer may show anything, and has no number.
@@ -52,13 +55,23 @@ impl From<AllocError> for AcceptError {
     }
 }
 
-/// A surface that follows another one, its source: it shows what the source showed when it followed last.
+/// A surface that follows another one, its source: it shows what the source showed when it followed
+/// last.
 ///
-/// `follow` asks the source for what changed since the number that it gave last, and makes those changes. So a viewer gets a few changes where few were made, and the whole screen where the source no longer knows them; and where the source has another size, the viewer takes it first. From a full source it also has all that is kept beside the screen. A viewer's own surface logs what it made, so that viewers can follow a viewer. That log grows with each change, until `flush_changes_older_than` forgets some; another size, or a list that found no memory, empties it.
+/// `follow` asks the source for what changed since the number that it gave last, and makes those
+/// changes. So a viewer gets a few changes where few were made, and the whole screen where the
+/// source no longer knows them; and where the source has another size, the viewer takes it first.
+/// From a full source it also has all that is kept beside the screen. A viewer's own surface logs
+/// what it made, so that viewers can follow a viewer. That log grows with each change, until
+/// `flush_changes_older_than` forgets some; another size, or a list that found no memory, empties
+/// it.
 ///
-/// Where the source is far away, the viewer's number goes to it, and what `Surface::answer` gives for that comes back: `accept` makes it, however late, and refuses what doesn't lead on from what the viewer shows.
+/// Where the source is far away, the viewer's number goes to it, and what `Surface::answer` gives
+/// for that comes back: `accept` makes it, however late, and refuses what doesn't lead on from what
+/// the viewer shows.
 ///
-/// A viewer is for one source: it keeps that one's number and width value. For another source make a new viewer.
+/// A viewer is for one source: it keeps that one's number and width value. For another source make
+/// a new viewer.
 #[derive(Drop)]
 pub struct Viewer<W: Widths> {
     surface: Surface<W>,
@@ -75,7 +88,8 @@ impl<W: Widths> Model for Viewer<W> {
 }
 
 impl<W: Widths> Viewer<W> {
-    /// A viewer that shows a blank surface of the source's size, width value and kind, and was given no number.
+    /// A viewer that shows a blank surface of the source's size, width value and kind, and was
+    /// given no number.
     pub fn new(alloc: Global, source: &Surface<W>) -> Result<Viewer<W>, AllocError>
         ensures blank { IfOk result (λ viewer. viewer ≡ blank_viewer source.now) }
         ensures follows { IfOk result (λ viewer. Follows (measure W.width_of) viewer source.now) }
@@ -96,7 +110,9 @@ impl<W: Widths> Viewer<W> {
         &self.surface
     }
 
-    /// The number that the viewer was last given: the source's when it followed last, or that of the answer that it accepted last. It is 0 where there is none yet, and after a failure or another size.
+    /// The number that the viewer was last given: the source's when it followed last, or that of
+    /// the answer that it accepted last. It is 0 where there is none yet, and after a failure or
+    /// another size.
     pub fn last(&self) -> SequenceNo
         ensures { result ≡ self.now.last }
     {
@@ -106,7 +122,8 @@ impl<W: Widths> Viewer<W> {
     /// Takes the source's size, and no number, where the viewer has another size.
     fn fit(&mut self, source: &Surface<W>) -> Result<(), SurfaceError>
         ensures fits { Fits self.old source.now result self.new }
-        ensures sized { OnOk result (HasFullSize source.now.width source.now.height (full_of self.new.surface)) }
+        ensures sized { OnOk result (
+            HasFullSize source.now.width source.now.height (full_of self.new.surface)) }
         ensures numbered { OnOk result (next_number self.new.surface.log < 2 ^ 64) }
     {
         let (width, height) = source.dimensions();
@@ -118,13 +135,16 @@ impl<W: Widths> Viewer<W> {
         Ok(())
     }
 
-    /// Takes the source's size, and asks the source for its number and what changed since the viewer's. After an error the viewer may have taken the size, and shows the same otherwise.
+    /// Takes the source's size, and asks the source for its number and what changed since the
+    /// viewer's. After an error the viewer may have taken the size, and shows the same otherwise.
     pub(crate) fn fetch(
         &mut self,
         source: &Surface<W>,
     ) -> Result<(SequenceNo, Vec<Change>), SurfaceError>
-        ensures fetches { Fetches (measure W.width_of source.now.widths) source.now self.old result self.new }
-        ensures sized { OnOk result (HasFullSize source.now.width source.now.height (full_of self.new.surface)) }
+        ensures fetches { Fetches (measure W.width_of source.now.widths)
+            source.now self.old result self.new }
+        ensures sized { OnOk result (
+            HasFullSize source.now.width source.now.height (full_of self.new.surface)) }
     {
         self.fit(source)?;
         let (number, changes) = source.get_changes(self.last)?;
@@ -143,13 +163,15 @@ impl<W: Widths> Viewer<W> {
         Ok(changes)
     }
 
-    /// Makes the changes, and takes the source's number, which is the answer. After an error the viewer has no number.
+    /// Makes the changes, and takes the source's number, which is the answer. After an error the
+    /// viewer has no number.
     pub(crate) fn make(
         &mut self,
         number: SequenceNo,
         changes: Vec<Change>,
     ) -> Result<SequenceNo, SurfaceError>
-        ensures { Accepts (measure W.width_of self.old.surface.widths) self.old number (map change_value changes.items) result self.new }
+        ensures { Accepts (measure W.width_of self.old.surface.widths)
+            self.old number (map change_value changes.items) result self.new }
     {
         self.last = SEQ_ZERO;
         self.surface.add_changes(changes)?;
@@ -167,7 +189,8 @@ impl<W: Widths> Viewer<W> {
     // Tells why an answer is refused before anything is done.
     fn decline(&self, answer: &Answer) -> Result<(), AcceptError>
         ensures declines { Declines self.now answer.now result }
-        ensures sized { OnOk result (HasFullSize answer.now.width answer.now.height (full_of self.now.surface)) }
+        ensures sized { OnOk result (
+            HasFullSize answer.now.width answer.now.height (full_of self.now.surface)) }
     {
         if self.surface.dimensions() != answer.size() {
             return Err(AcceptError::Size);
@@ -189,8 +212,11 @@ impl<W: Widths> Viewer<W> {
     fn take(&mut self, answer: &Answer) -> Result<(), AllocError>
         requires may { MayTake self.old answer.now }
         requires numbers { next_number self.old.surface.log + length answer.now.changes < 2 ^ 64 }
-        ensures ok { OnOk result ((self.new.last ≡ answer.now.number) × Makes (measure W.width_of self.old.surface.widths) self.old.surface answer.now.changes self.new.surface) }
-        ensures err { OnErr result (HasDropped (measure W.width_of self.old.surface.widths) self.old self.new) }
+        ensures ok { OnOk result ((self.new.last ≡ answer.now.number)
+            × Makes (measure W.width_of self.old.surface.widths)
+            self.old.surface answer.now.changes self.new.surface) }
+        ensures err { OnErr result (
+            HasDropped (measure W.width_of self.old.surface.widths) self.old self.new) }
     {
         self.last = SEQ_ZERO;
         let changes = copied(self.alloc, CowSlice::Borrowed(answer.changes()))?;
@@ -201,17 +227,27 @@ impl<W: Widths> Viewer<W> {
         Ok(())
     }
 
-    /// Makes the changes of an answer, and takes its number, which is told: so the viewer shows what the surface showed when it gave the answer, whatever either has done since.
+    /// Makes the changes of an answer, and takes its number, which is told: so the viewer shows
+    /// what the surface showed when it gave the answer, whatever either has done since.
     ///
-    /// `Size`: the answer is for another size. `Stale`: it is no repaint, and the viewer doesn't have the number that it leads from. After both nothing has changed. `Numbers`: the numbers of the viewer's own surface are used up; it shows what it showed. `Memory`: a growth was refused; it may show anything. After both the viewer has no number, so that it is to be answered by a repaint.
+    /// `Size`: the answer is for another size. `Stale`: it is no repaint, and the viewer doesn't
+    /// have the number that it leads from. After both nothing has changed. `Numbers`: the numbers
+    /// of the viewer's own surface are used up; it shows what it showed. `Memory`: a growth was
+    /// refused; it may show anything. After both the viewer has no number, so that it is to be
+    /// answered by a repaint.
     pub fn accept(&mut self, answer: &Answer) -> Result<SequenceNo, AcceptError>
-        ensures takes { Takes (measure W.width_of self.old.surface.widths) self.old answer.now result self.new }
-        // A viewer that shows what its number names has the screen that the answer was given for, and of a full surface the full screen,
-        ensures shows { (past : ℕ → Screen) (s : Screen) → Carries screens (measure W.width_of self.old.surface.widths) past answer.now s → Names past self.old.last (screen_of self.old.surface) → OnOk result (screen_of self.new.surface ≡ s) }
-        ensures shows_fully { (past : ℕ → FullScreen) (f : FullScreen) → Carries full_screens (measure W.width_of self.old.surface.widths) past answer.now f → Names past self.old.last (full_of self.old.surface) → OnOk result (full_of self.new.surface ≡ f) }
+        ensures takes { Takes (measure W.width_of self.old.surface.widths)
+            self.old answer.now result self.new }
+        // A viewer that shows what its number names has the screen that the answer was given for,
+        // and of a full surface the full screen,
+        ensures shows { ShowsCarried screens (measure W.width_of)
+            self.old answer.now result self.new }
+        ensures shows_fully { ShowsCarried full_screens (measure W.width_of)
+            self.old answer.now result self.new }
         // and shows what its number names then, also after an error.
-        ensures names { (past : ℕ → Screen) (s : Screen) → Carries screens (measure W.width_of self.old.surface.widths) past answer.now s → Names past self.old.last (screen_of self.old.surface) → Names past self.new.last (screen_of self.new.surface) }
-        ensures names_fully { (past : ℕ → FullScreen) (f : FullScreen) → Carries full_screens (measure W.width_of self.old.surface.widths) past answer.now f → Names past self.old.last (full_of self.old.surface) → Names past self.new.last (full_of self.new.surface) }
+        ensures names { StaysNamed screens (measure W.width_of) self.old answer.now self.new }
+        ensures names_fully { StaysNamed full_screens (measure W.width_of)
+            self.old answer.now self.new }
     {
         self.decline(answer)?;
         if !self.has_numbers(answer.changes().len()) {
@@ -222,7 +258,8 @@ impl<W: Widths> Viewer<W> {
         Ok(answer.number())
     }
 
-    /// Takes another size, as a surface does, and has no number then: so it is to be answered by a repaint of that size. After an error nothing has changed.
+    /// Takes another size, as a surface does, and has no number then: so it is to be answered by a
+    /// repaint of that size. After an error nothing has changed.
     pub fn resize(&mut self, width: usize, height: usize) -> Result<(), SurfaceError>
         requires some_column { 0 < width }
         requires some_row { 0 < height }
@@ -232,8 +269,8 @@ impl<W: Widths> Viewer<W> {
         ensures ok { OnOk result (self.new.last ≡ 0) }
         ensures err { OnErr result (self.new ≡ self.old) }
         // A viewer that shows what its number names does so still.
-        ensures names { (past : ℕ → Screen) → Names past self.old.last (screen_of self.old.surface) → Names past self.new.last (screen_of self.new.surface) }
-        ensures names_fully { (past : ℕ → FullScreen) → Names past self.old.last (full_of self.old.surface) → Names past self.new.last (full_of self.new.surface) }
+        ensures names { KeepsShowing screens self.old self.new }
+        ensures names_fully { KeepsShowing full_screens self.old self.new }
     {
         self.surface.resize(width, height)?;
         // What it shows now has no number.
@@ -241,29 +278,41 @@ impl<W: Widths> Viewer<W> {
         Ok(())
     }
 
-    /// Forgets the changes before this number of the viewer's own surface, as `Surface::flush_changes_older_than` does there. What the viewer shows, its last number and whom it follows stay.
+    /// Forgets the changes before this number of the viewer's own surface, as
+    /// `Surface::flush_changes_older_than` does there. What the viewer shows, its last number and
+    /// whom it follows stay.
     ///
-    /// A viewer whose own surface nobody follows can forget all that it made: `viewer.flush_changes_older_than(viewer.surface().current_seqno())`.
+    /// A viewer whose own surface nobody follows can forget all that it made:
+    /// `viewer.flush_changes_older_than(viewer.surface().current_seqno())`.
     pub fn flush_changes_older_than(&mut self, seq: SequenceNo)
-        ensures flushes { self.new.surface ≡ with_log self.old.surface (flushed self.old.surface.log seq) }
+        ensures flushes { self.new.surface
+            ≡ with_log self.old.surface (flushed self.old.surface.log seq) }
         ensures last { self.new.last ≡ self.old.last }
         // It follows each surface that it followed.
-        ensures follows { (s : SurfaceValue W) → Follows (measure W.width_of) self.old s → Follows (measure W.width_of) self.new s }
+        ensures follows { (s : SurfaceValue W) →
+            Follows (measure W.width_of) self.old s → Follows (measure W.width_of) self.new s }
     {
         self.surface.flush_changes_older_than(seq);
     }
 
     /// Shows what the source shows now. The answer is the source's number.
     ///
-    /// `Numbers`: the numbers of the viewer's own surface are used up. `Memory`: a growth was refused. After both the viewer may show anything, and has no number. Its width value stays, and the number of its own surface has grown by two at most. A viewer that followed the source follows it still: the next time that it succeeds it gets the whole screen, and shows it. `ScrollRegion` never comes.
+    /// `Numbers`: the numbers of the viewer's own surface are used up. `Memory`: a growth was
+    /// refused. After both the viewer may show anything, and has no number. Its width value stays,
+    /// and the number of its own surface has grown by two at most. A viewer that followed the
+    /// source follows it still: the next time that it succeeds it gets the whole screen, and shows
+    /// it. `ScrollRegion` never comes.
     pub fn follow(&mut self, source: &Surface<W>) -> Result<SequenceNo, SurfaceError>
         ensures steps { FollowsTo (measure W.width_of) source.now self.old result self.new }
         // A viewer that follows the source shows its screen after each success,
-        ensures caught_up { Follows (measure W.width_of) self.old source.now → OnOk result ((screen_of self.new.surface ≡ screen_of source.now) × (self.new.last ≡ next_number source.now.log)) }
+        ensures caught_up { Follows (measure W.width_of) self.old source.now →
+            OnOk result (HasCaughtUp self.new source.now) }
         // and that of a full source its full screen,
-        ensures fully_caught_up { Follows (measure W.width_of) self.old source.now → source.now.full ≡ true → OnOk result (full_of self.new.surface ≡ full_of source.now) }
+        ensures fully_caught_up { Follows (measure W.width_of) self.old source.now →
+            source.now.full ≡ true → OnOk result (full_of self.new.surface ≡ full_of source.now) }
         // and follows it also after a failure.
-        ensures follows { Follows (measure W.width_of) self.old source.now → Follows (measure W.width_of) self.new source.now }
+        ensures follows { Follows (measure W.width_of) self.old source.now →
+            Follows (measure W.width_of) self.new source.now }
         ensures failed { OnErr result (self.new.last ≡ 0) }
     {
         match self.fetch(source) {

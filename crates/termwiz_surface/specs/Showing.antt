@@ -1,0 +1,32 @@
+-- What viewers show: what a surface shows, what their number names, what an answer was given for.
+use Rattle.std.specs.Prelude.{◌≡◌, ℕ, List, Result, OnOk}
+use Rattle.termwiz_screen.specs.Log.{next_number}
+use Rattle.termwiz_screen.specs.Picture.{Pictures}
+use Rattle.termwiz_surface_core.specs.Answer.{AnswerValue, Carries}
+use Rattle.termwiz_surface_core.specs.Following.{ViewerValue}
+use Rattle.termwiz_surface_core.specs.History.{Names}
+use Rattle.termwiz_surface_core.specs.SurfaceValue.{SurfaceValue, screen_of, full_of}
+use Rattle.termwiz_surface.specs.declared.view.viewer.AcceptError.{AcceptError}
+
+-- the surface's screen, and it has the surface's number
+abbrev pub HasCaughtUp : {W : Type 0} → ViewerValue W → SurfaceValue W → Type 0
+HasCaughtUp v s = (screen_of v.surface ≡ screen_of s) × (v.last ≡ next_number s.log)
+
+module _ {P : Type 0} (pictures : Pictures P) {W : Type 0} where
+  -- what its number names
+  abbrev pub ShowsNamed : (ℕ → P) → ViewerValue W → Type 0
+  ShowsNamed past v = Names past v.last (pictures.shown (full_of v.surface))
+
+  -- a viewer that did does so still
+  abbrev pub KeepsShowing : ViewerValue W → ViewerValue W → Type 0
+  KeepsShowing old new = (past : ℕ → P) → ShowsNamed past old → ShowsNamed past new
+
+  module _ (measure_of : W → List ℕ → ℕ) (old : ViewerValue W) (a : AnswerValue) where
+    -- a viewer that did, and takes an answer that leads to a picture, shows that picture
+    abbrev pub ShowsCarried : Result ℕ AcceptError → ViewerValue W → Type 0
+    ShowsCarried result new =
+        (past : ℕ → P) (p : P) → Carries pictures (measure_of old.surface.widths) past a p → ShowsNamed past old → OnOk result (pictures.shown (full_of new.surface) ≡ p)
+
+    -- and shows what its number names, whether it takes it or not
+    abbrev pub StaysNamed : ViewerValue W → Type 0
+    StaysNamed new = (past : ℕ → P) (p : P) → Carries pictures (measure_of old.surface.widths) past a p → ShowsNamed past old → ShowsNamed past new

@@ -6,7 +6,8 @@ use std::alloc::AllocError;
 use termwiz_surface::emoji::Widths;
 use termwiz_surface::surface::Surface;
 
-/// Whether two surfaces show the same: size, rows, cursor, visibility and pen. They may measure texts differently.
+/// Whether two surfaces show the same: size, rows, cursor, visibility and pen. They may measure
+/// texts differently.
 pub fn show_the_same<A: Widths, B: Widths>(
     one: &Surface<A>,
     other: &Surface<B>,

@@ -5,7 +5,7 @@ ghost use Rattle.termwiz_surface.specs.{
   ViewerValue,
   change_value,
   measure,
-  replay,
+  screen_after,
   screen_of,
 };
 
@@ -17,7 +17,8 @@ use termwiz_surface::laws::{following_laws, full_following_laws, full_repaint_la
 use termwiz_surface::surface::{Surface, SurfaceError};
 use termwiz_surface::view::copied;
 
-/// What a surface showed when the follower last caught up with it, and the number that it was given then.
+/// What a surface showed when the follower last caught up with it, and the number that it was given
+/// then.
 #[derive(Drop)]
 pub struct Follower<W: Widths> {
     alloc: Global,
@@ -32,12 +33,14 @@ impl<W: Widths> Model for Follower<W> {
 }
 
 impl<W: Widths> Follower<W> {
-    /// A blank follower of a surface's size, which was given no number and measures texts by `widths`: give it what the surface measures by.
+    /// A blank follower of a surface's size, which was given no number and measures texts by
+    /// `widths`: give it what the surface measures by.
     pub fn new(alloc: Global, surface: &Surface<W>, widths: W) -> Result<Follower<W>, AllocError>
         requires { widths ≡ surface.now.widths }
         ensures width { IfOk result (λ follower. follower.surface.width ≡ surface.now.width) }
         ensures height { IfOk result (λ follower. follower.surface.height ≡ surface.now.height) }
-        ensures follows { IfOk result (λ follower. Follows (measure W.width_of) follower surface.now) }
+        ensures follows { IfOk result (λ follower.
+            Follows (measure W.width_of) follower surface.now) }
     {
         let (width, height) = surface.dimensions();
         let shown = Surface::new(alloc, width, height, widths)?;
@@ -55,8 +58,10 @@ impl<W: Widths> Follower<W> {
         &self.shown
     }
 
-    /// Catches up with a surface of the follower's size: asks for the changes since the number that it was last given, makes them, and takes the new number.
-    /// After an error it may show anything, and has no number: so the next answer brings the whole screen.
+    /// Catches up with a surface of the follower's size: asks for the changes since the number that
+    /// it was last given, makes them, and takes the new number.
+    /// After an error it may show anything, and has no number: so the next answer brings the whole
+    /// screen.
     pub fn catch_up(&mut self, surface: &Surface<W>) -> Result<(), SurfaceError>
         requires same_width { self.old.surface.width ≡ surface.now.width }
         requires same_height { self.old.surface.height ≡ surface.now.height }
@@ -68,7 +73,8 @@ impl<W: Widths> Follower<W> {
         ensures width { self.new.surface.width ≡ self.old.surface.width }
         ensures height { self.new.surface.height ≡ self.old.surface.height }
     {
-        // An answer leads a screen of the surface's size to the surface's, from where the follower is,
+        // An answer leads a screen of the surface's size to the surface's, from where the follower
+        // is,
         following_laws();
         // and a full screen to that of a full surface.
         full_following_laws();
@@ -93,7 +99,8 @@ pub fn make_and_show<W: Widths>(
     requires same_width { follower.old.surface.width ≡ surface.old.width }
     requires same_height { follower.old.surface.height ≡ surface.old.height }
     requires follows { Follows (measure W.width_of) follower.old surface.old }
-    ensures made { OnOk result (screen_of surface.new ≡ replay (measure W.width_of surface.old.widths) (screen_of surface.old) (change_value change ∷ [])) }
+    ensures made { OnOk result (screen_of surface.new
+        ≡ screen_after (measure W.width_of) surface.old (change_value change ∷ [])) }
     ensures shown { OnOk result (screen_of follower.new.surface ≡ screen_of surface.new) }
     ensures follows { Follows (measure W.width_of) follower.new surface.new }
     ensures width { follower.new.surface.width ≡ surface.new.width }

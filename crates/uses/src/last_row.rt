@@ -24,8 +24,11 @@ pub fn clear_last_row<W: Widths>(
     surface: &mut Surface<W>,
     background: ColorAttribute,
 ) -> Result<(), SurfaceError>
-    ensures above { OnOk result ((j : ℕ) → j < surface.old.height - 1 → row_at (screen_of surface.new).rows j ≡ row_at (screen_of surface.old).rows j) }
-    ensures cleared { OnOk result ((k : ℕ) → k < surface.old.width → stored (row_at (screen_of surface.new).rows (surface.old.height - 1)) k ≡ blank_of (with_background background)) }
+    ensures above { OnOk result ((j : ℕ) → j < surface.old.height - 1 →
+        row_at (screen_of surface.new).rows j ≡ row_at (screen_of surface.old).rows j) }
+    ensures cleared { OnOk result ((k : ℕ) → k < surface.old.width →
+        stored (row_at (screen_of surface.new).rows (surface.old.height - 1)) k
+        ≡ blank_of (with_background background)) }
     ensures width { surface.new.width ≡ surface.old.width }
     ensures height { surface.new.height ≡ surface.old.height }
 {
@@ -39,7 +42,8 @@ pub fn clear_last_row<W: Widths>(
 }
 
 fn clear_changes(alloc: Global, background: ColorAttribute) -> Result<Vec<Change>, AllocError>
-    ensures { IfOk result (λ changes. map change_value changes.items ≡ last_row_cleared background) }
+    ensures { IfOk result (λ changes.
+        map change_value changes.items ≡ last_row_cleared background) }
 {
     let changes = vec![in alloc;
         Change::CursorPosition {

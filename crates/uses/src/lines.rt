@@ -25,7 +25,8 @@ pub fn heading<W: Widths>(
     seqno: SequenceNo,
     widths: &W,
 ) -> Result<Line, AllocError>
-    ensures text { IfOk result (λ line. line.cells ≡ stored_text (measure W.width_of widths.now) default_attributes text.now) }
+    ensures text { IfOk result (λ line. line.cells
+        ≡ stored_text (measure W.width_of widths.now) default_attributes text.now) }
     ensures wide { IfOk result (λ line. line.flags ≡ with_sizes true false false no_flags) }
     ensures numbered { IfOk result (λ line. line.seqno ≡ seqno) }
 {
@@ -34,7 +35,8 @@ pub fn heading<W: Widths>(
     Ok(line)
 }
 
-/// The columns of the word at a column of a line: the longest run of cells there that are no spaces.
+/// The columns of the word at a column of a line: the longest run of cells there that are no
+/// spaces.
 pub fn word_at(line: &Line, column: usize) -> Range<usize>
     requires { column < length line.now.cells }
     ensures start { IsLower is_in_word (visible line.now.cells) column result.start }

@@ -21,7 +21,8 @@ impl<W: Widths> Model for Mirror<W> {
 }
 
 impl<W: Widths> Mirror<W> {
-    /// A blank mirror of a surface's size, which measures texts by `widths`: give it what the surface measures by.
+    /// A blank mirror of a surface's size, which measures texts by `widths`: give it what the
+    /// surface measures by.
     pub fn new(alloc: Global, surface: &Surface<W>, widths: W) -> Result<Mirror<W>, AllocError>
         ensures width { IfOk result (λ mirror. mirror.width ≡ surface.now.width) }
         ensures height { IfOk result (λ mirror. mirror.height ≡ surface.now.height) }
@@ -39,7 +40,8 @@ impl<W: Widths> Mirror<W> {
         &self.shown
     }
 
-    /// Catches up with a surface of the mirror's size that measures texts alike. Whatever the mirror showed, it has the surface's rows, cursor, visibility and pen then.
+    /// Catches up with a surface of the mirror's size that measures texts alike. Whatever the
+    /// mirror showed, it has the surface's rows, cursor, visibility and pen then.
     /// At an error it may show anything, and still has its size: it can catch up later.
     pub fn catch_up(&mut self, surface: &Surface<W>) -> Result<(), SurfaceError>
         requires same_width { self.old.width ≡ surface.now.width }

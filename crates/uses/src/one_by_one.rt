@@ -1,6 +1,6 @@
 //! Changes that are made one at a time, as they come.
 ghost use Rattle.std.specs.Prelude.{◌≡◌, OnOk, map};
-ghost use Rattle.termwiz_surface.specs.{change_value, measure, replay, screen_of};
+ghost use Rattle.termwiz_surface.specs.{change_value, measure, screen_after, screen_of};
 
 use termwiz_surface::change::Change;
 use termwiz_surface::emoji::Widths;
@@ -12,7 +12,8 @@ pub fn make_one_by_one<W: Widths>(
     surface: &mut Surface<W>,
     changes: Vec<Change>,
 ) -> Result<(), SurfaceError>
-    ensures ok { OnOk result (screen_of surface.new ≡ replay (measure W.width_of surface.old.widths) (screen_of surface.old) (map change_value changes.items)) }
+    ensures ok { OnOk result (screen_of surface.new
+        ≡ screen_after (measure W.width_of) surface.old (map change_value changes.items)) }
     ensures width { surface.new.width ≡ surface.old.width }
     ensures height { surface.new.height ≡ surface.old.height }
 {

@@ -8,7 +8,8 @@ use termwiz_surface::change::{Change, ChangeSequence, SequenceError};
 use termwiz_surface::emoji::Widths;
 use termwiz_surface::laws::sequence_laws;
 
-/// Prints a line and a hint below it, and takes the cursor back to a column of the row where the sequence began.
+/// Prints a line and a hint below it, and takes the cursor back to a column of the row where the
+/// sequence began.
 /// On an error some of it was added.
 pub fn show_prompt<W: Widths>(
     alloc: Global,
@@ -18,7 +19,8 @@ pub fn show_prompt<W: Widths>(
     column: usize,
 ) -> Result<(), SequenceError>
     requires { column < sequence.old.columns }
-    ensures added { OnOk result (sequence.new ≡ prompted (measure W.width_of sequence.old.widths) sequence.old line.now hint.now column) }
+    ensures added { OnOk result (sequence.new ≡ prompted
+        (measure W.width_of sequence.old.widths) sequence.old line.now hint.now column) }
     // However long both are, and wherever the cursor was.
     ensures shown { OnOk result (sequence.new.cursor ≡ (column, pos 0)) }
     // So the next prompt can be shown, after an error too.

@@ -1,4 +1,5 @@
-//! A remote terminal, to which a session's title and its headings of double width go as its rows do.
+//! A remote terminal, to which a session's title and its headings of double width go as its rows
+//! do.
 ghost use Rattle.std.specs.Prelude.{◌≡◌, IfOk, OnOk, get_or, map, true};
 ghost use Rattle.termwiz_surface.specs.{
   DoubleWidthLine,
@@ -16,7 +17,8 @@ use termwiz_surface::emoji::Widths;
 use termwiz_surface::surface::{Surface, SurfaceError};
 use termwiz_surface::view::Viewer;
 
-/// Prints a heading on a full surface, in a row that is shown twice as wide, makes it the title too, and shows all of it on the remote terminal.
+/// Prints a heading on a full surface, in a row that is shown twice as wide, makes it the title
+/// too, and shows all of it on the remote terminal.
 /// After an error the session may have the heading or not, and the next call shows it as it is.
 pub fn show_heading<W: Widths>(
     alloc: Global,
@@ -26,11 +28,14 @@ pub fn show_heading<W: Widths>(
 ) -> Result<(), SurfaceError>
     requires full { session.old.full ≡ true }
     requires follows { Follows (measure W.width_of) remote.old session.old }
-    // The remote terminal has the session's screen, title, cursor's shape and colour, and sizes of rows.
+    // The remote terminal has the session's screen, title, cursor's shape and colour, and sizes of
+    // rows.
     ensures shown { OnOk result (full_of remote.new.surface ≡ full_of session.new) }
-    // The heading is its title, and the row behind whose heading the cursor stands is shown twice as wide.
+    // The heading is its title, and the row behind whose heading the cursor stands is shown twice
+    // as wide.
     ensures title { OnOk result (remote.new.surface.title ≡ heading.now) }
-    ensures wide { OnOk result (let shown = full_of remote.new.surface in get_or shown.lines shown.screen.y SingleWidthLine ≡ DoubleWidthLine) }
+    ensures wide { OnOk result (let shown = full_of remote.new.surface in
+        get_or shown.lines shown.screen.y SingleWidthLine ≡ DoubleWidthLine) }
     // The next call can rely on it again, after an error too.
     ensures follows { Follows (measure W.width_of) remote.new session.new }
     ensures full { session.new.full ≡ true }
@@ -43,7 +48,8 @@ pub fn show_heading<W: Widths>(
 }
 
 fn changes_of(alloc: Global, heading: &str) -> Result<Vec<Change>, AllocError>
-    ensures { IfOk result (λ changes. map change_value changes.items ≡ heading_changes heading.now) }
+    ensures { IfOk result (λ changes.
+        map change_value changes.items ≡ heading_changes heading.now) }
 {
     let text = Change::text_from(alloc, heading)?;
     let title = String::from_str(alloc, heading)?;

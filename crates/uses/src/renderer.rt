@@ -6,7 +6,8 @@ use termwiz_surface::emoji::Widths;
 use termwiz_surface::surface::{Surface, SurfaceError};
 use termwiz_surface::view::Viewer;
 
-/// Shows on its one viewer what the surface shows, and lets both forget the changes that they have in common.
+/// Shows on its one viewer what the surface shows, and lets both forget the changes that they have
+/// in common.
 /// After an error the viewer may show anything, and the next turn shows the whole screen.
 pub fn refresh<W: Widths>(
     surface: &mut Surface<W>,
@@ -25,17 +26,21 @@ pub fn refresh<W: Widths>(
     Ok(())
 }
 
-/// Shows on all its viewers what the surface shows, and lets the surface forget its changes then, since each viewer has them.
-/// After an error the viewers may show anything, and a turn that succeeds shows the screen on all of them.
+/// Shows on all its viewers what the surface shows, and lets the surface forget its changes then,
+/// since each viewer has them.
+/// After an error the viewers may show anything, and a turn that succeeds shows the screen on all
+/// of them.
 pub fn refresh_all<W: Widths>(
     surface: &mut Surface<W>,
     viewers: &mut [Viewer<W>],
 ) -> Result<(), SurfaceError>
     requires { All (λ v. Follows (measure W.width_of) v surface.old) viewers.old }
-    ensures shown { OnOk result (All (λ v. screen_of v.surface ≡ screen_of surface.new) viewers.new) }
+    ensures shown { OnOk result (
+        All (λ v. screen_of v.surface ≡ screen_of surface.new) viewers.new) }
     // Each has the number up to which the log is flushed.
     ensures numbered { OnOk result (All (λ v. v.last ≡ next_number surface.old.log) viewers.new) }
-    ensures forgets { OnOk result (surface.new.log ≡ flushed surface.old.log (next_number surface.old.log)) }
+    ensures forgets { OnOk result (
+        surface.new.log ≡ flushed surface.old.log (next_number surface.old.log)) }
     ensures unchanged { screen_of surface.new ≡ screen_of surface.old }
     // The next turn can rely on it again, after an error too.
     ensures follows { All (λ v. Follows (measure W.width_of) v surface.new) viewers.new }

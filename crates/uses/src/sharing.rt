@@ -1,12 +1,14 @@
-//! A screen that is shared: its answers are carried off, and may be delivered late, repeatedly, in any order, or never.
+//! A screen that is shared: its answers are carried off, and may be delivered late, repeatedly, in
+//! any order, or never.
 ghost use Rattle.std.specs.Prelude.{◌≡◌, ℕ, ◌≤◌, true, false, All, OnOk};
 ghost use Rattle.termwiz_surface.specs.{
   Follows,
   FullScreen,
-  IsPast,
+  IsPastOf,
   KeepsNames,
-  Names,
+  MeasureAlike,
   Screen,
+  ShowsNamed,
   full_of,
   full_screens,
   is_known,
@@ -22,20 +24,22 @@ use termwiz_surface::laws::history_laws;
 use termwiz_surface::surface::{Surface, SurfaceError};
 use termwiz_surface::view::{AcceptError, Viewer};
 
-/// Takes an answer for a viewer along while the surface goes on, and delivers it then: the viewer has the screen that the surface had when it gave the answer.
+/// Takes an answer for a viewer along while the surface goes on, and delivers it then: the viewer
+/// has the screen that the surface had when it gave the answer.
 ///
-/// Here `past` is what the surface's numbers named so far. Whatever is answered, the viewer shows what its number names.
+/// Here `past` is what the surface's numbers named so far. Whatever is answered, the viewer shows
+/// what its number names.
 pub fn deliver_late<W: Widths>(
     surface: &mut Surface<W>,
     viewer: &mut Viewer<W>,
     change: Change,
 ) -> Result<SequenceNo, AcceptError>
     ghost past: { ℕ → Screen }
-    requires one_measure { measure W.width_of viewer.old.surface.widths ≡ measure W.width_of surface.old.widths }
-    requires is_past { IsPast screens (measure W.width_of surface.old.widths) past (screen_of surface.old) surface.old.log }
-    requires names { Names past viewer.old.last (screen_of viewer.old.surface) }
+    requires one_measure { MeasureAlike (measure W.width_of) viewer.old.surface surface.old }
+    requires is_past { IsPastOf screens (measure W.width_of) past surface.old }
+    requires names { ShowsNamed screens past viewer.old }
     ensures shows { OnOk result (screen_of viewer.new.surface ≡ screen_of surface.old) }
-    ensures names { Names past viewer.new.last (screen_of viewer.new.surface) }
+    ensures names { ShowsNamed screens past viewer.new }
 {
     let answer = surface.answer(viewer.last())?;
     let _ = surface.add_change(change);
@@ -50,42 +54,46 @@ pub fn deliver_late_fully<W: Widths>(
 ) -> Result<SequenceNo, AcceptError>
     ghost past: { ℕ → FullScreen }
     requires is_full { surface.old.full ≡ true }
-    requires one_measure { measure W.width_of viewer.old.surface.widths ≡ measure W.width_of surface.old.widths }
-    requires is_past { IsPast full_screens (measure W.width_of surface.old.widths) past (full_of surface.old) surface.old.log }
-    requires names { Names past viewer.old.last (full_of viewer.old.surface) }
+    requires one_measure { MeasureAlike (measure W.width_of) viewer.old.surface surface.old }
+    requires is_past { IsPastOf full_screens (measure W.width_of) past surface.old }
+    requires names { ShowsNamed full_screens past viewer.old }
     ensures shows { OnOk result (full_of viewer.new.surface ≡ full_of surface.old) }
-    ensures names { Names past viewer.new.last (full_of viewer.new.surface) }
+    ensures names { ShowsNamed full_screens past viewer.new }
 {
     let answer = surface.answer(viewer.last())?;
     let _ = surface.add_change(change);
     viewer.accept(&answer)
 }
 
-/// Forgets the changes that every viewer has, by the numbers that the viewers told last: each of these is answered as before, and the answers that are on their way lead where they led.
+/// Forgets the changes that every viewer has, by the numbers that the viewers told last: each of
+/// these is answered as before, and the answers that are on their way lead where they led.
 pub fn forget_delivered<W: Widths>(surface: &mut Surface<W>, told: &[SequenceNo])
-    ensures answers { All (λ n. (most : ℕ) → is_known most surface.new.log n ≡ is_known most surface.old.log n) told.now }
+    ensures answers { All (λ n. (most : ℕ) →
+        is_known most surface.new.log n ≡ is_known most surface.old.log n) told.now }
     ensures unchanged { screen_of surface.new ≡ screen_of surface.old }
-    ensures remembered { KeepsNames (measure W.width_of surface.old.widths) surface.old surface.new }
+    ensures remembered { KeepsNames (measure W.width_of surface.old.widths)
+        surface.old surface.new }
 {
     if let Some(least) = told.iter().copied().min() {
         surface.flush_changes_older_than(least);
     }
 }
 
-/// Lets a viewer that accepted answers follow the surface itself, once it can reach it: it has the surface's screen then. It follows the surface from now on, and may accept later answers too.
+/// Lets a viewer that accepted answers follow the surface itself, once it can reach it: it has the
+/// surface's screen then. It follows the surface from now on, and may accept later answers too.
 pub fn reconnect<W: Widths>(
     surface: &Surface<W>,
     viewer: &mut Viewer<W>,
 ) -> Result<SequenceNo, SurfaceError>
     ghost past: { ℕ → Screen }
     requires is_plain { surface.now.full ≡ false }
-    requires one_measure { measure W.width_of viewer.old.surface.widths ≡ measure W.width_of surface.now.widths }
-    requires is_past { IsPast screens (measure W.width_of surface.now.widths) past (screen_of surface.now) surface.now.log }
+    requires one_measure { MeasureAlike (measure W.width_of) viewer.old.surface surface.now }
+    requires is_past { IsPastOf screens (measure W.width_of) past surface.now }
     requires not_ahead { viewer.old.last ≤ next_number surface.now.log }
-    requires names { Names past viewer.old.last (screen_of viewer.old.surface) }
+    requires names { ShowsNamed screens past viewer.old }
     ensures shows { OnOk result (screen_of viewer.new.surface ≡ screen_of surface.now) }
     ensures follows { Follows (measure W.width_of) viewer.new surface.now }
-    ensures names { OnOk result (Names past viewer.new.last (screen_of viewer.new.surface)) }
+    ensures names { OnOk result (ShowsNamed screens past viewer.new) }
 {
     // What its number names leads it on, as whoever follows is led.
     history_laws();

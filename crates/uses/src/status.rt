@@ -5,7 +5,7 @@ ghost use Rattle.termwiz_surface.specs.{
   change_value,
   measure,
   next_number,
-  replay,
+  screen_after,
   screen_of,
 };
 ghost use Rattle.uses.specs.Status.{status_line};
@@ -26,8 +26,10 @@ pub fn draw_status<W: Widths>(
     pen: CellAttributes,
     text: &str,
 ) -> Result<(), SurfaceError>
-    ensures ok { OnOk result (screen_of surface.new ≡ replay (measure W.width_of surface.old.widths) (screen_of surface.old) (status_line background pen text.now)) }
-    ensures log { OnOk result (surface.new.log ≡ appended surface.old.log (status_line background pen text.now)) }
+    ensures ok { OnOk result (screen_of surface.new
+        ≡ screen_after (measure W.width_of) surface.old (status_line background pen text.now)) }
+    ensures log { OnOk result (
+        surface.new.log ≡ appended surface.old.log (status_line background pen text.now)) }
     ensures numbers { OnOk result (next_number surface.new.log ≡ next_number surface.old.log + 4) }
     ensures width { surface.new.width ≡ surface.old.width }
     ensures height { surface.new.height ≡ surface.old.height }
@@ -43,7 +45,8 @@ fn status_changes(
     pen: CellAttributes,
     text: &str,
 ) -> Result<Vec<Change>, AllocError>
-    ensures { IfOk result (λ changes. map change_value changes.items ≡ status_line background pen text.now) }
+    ensures { IfOk result (λ changes.
+        map change_value changes.items ≡ status_line background pen text.now) }
 {
     let text = Change::text_from(alloc, text)?;
     let changes = vec![in alloc;

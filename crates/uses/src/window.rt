@@ -1,13 +1,6 @@
 //! A window of widgets, and a viewer that shows it.
 ghost use Rattle.std.specs.Prelude.{◌≡◌, OnOk};
-ghost use Rattle.termwiz_surface.specs.{
-  CrossNone,
-  Follows,
-  HaveRegion,
-  drawn_region,
-  measure,
-  screen_of,
-};
+ghost use Rattle.termwiz_surface.specs.{Follows, HasDrawn, measure, screen_of};
 
 use termwiz_surface::emoji::Widths;
 use termwiz_surface::surface::{Surface, SurfaceError};
@@ -24,9 +17,12 @@ pub fn show_widget<W: Widths>(
 ) -> Result<(), SurfaceError>
     requires { Follows (measure W.width_of) viewer.old window.old }
     // The viewer shows the window, whose cursor and pen are as they were.
-    ensures shown { OnOk result (screen_of viewer.new.surface ≡ record (screen_of window.old) { rows = (screen_of window.new).rows }) }
-    // It shows the widget there, where both measure texts alike and no wide grapheme crosses an edge, and elsewhere what it showed.
-    ensures widget { OnOk result (let a = screen_of window.old in let b = screen_of widget.now in let r = drawn_region a b x y in measure W.width_of window.old.widths ≡ measure W.width_of widget.now.widths → CrossNone a.width b.width a.rows b.rows r → HaveRegion a.width (screen_of viewer.new.surface).rows a.rows b.rows r) }
+    ensures shown { OnOk result (screen_of viewer.new.surface
+        ≡ record (screen_of window.old) { rows = (screen_of window.new).rows }) }
+    // It shows the widget there, where both measure texts alike and no wide grapheme crosses an
+    // edge, and elsewhere what it showed.
+    ensures widget { OnOk result (
+        HasDrawn (measure W.width_of) window.old widget.now x y (screen_of viewer.new.surface)) }
     ensures follows { Follows (measure W.width_of) viewer.new window.new }
 {
     window.draw_from_screen(widget, x, y)?;

@@ -18,7 +18,8 @@ pub enum Workload {
     Log,
     /// The same, where the log is flushed each time, and 8,000 changes are kept.
     FlushBehind,
-    /// A row that ends in a wide character, whose last column is cleared, and which is printed again.
+    /// A row that ends in a wide character, whose last column is cleared, and which is printed
+    /// again.
     EraseWide,
     /// Ten changes that are due on 80x24.
     Delta,

@@ -1,6 +1,7 @@
 //! A surface that a test draws in steps, and what is asked of it.
 //!
-//! Its calls end a test that fails, and have no contracts: a test of which each call is one of these has nothing to prove and nothing to give back early.
+//! Its calls end a test that fails, and have no contracts: a test of which each call is one of
+//! these has nothing to prove and nothing to give back early.
 use crate::steps::Step;
 use std::alloc::Global;
 use std::process::Abort;

@@ -39,7 +39,8 @@ fn assert_logged(rt: &impl Abort, canvas: &Canvas<UnicodeWidths>, seq: SequenceN
     assert_eq!(rt; printed(changes.as_slice()), count);
 }
 
-// Behind a copy, what was shown there stands at its place, and all else stays: only so many cells are others.
+// Behind a copy, what was shown there stands at its place, and all else stays: only so many cells
+// are others.
 fn assert_stands(
     rt: &impl Abort,
     before: &Screen,
@@ -54,7 +55,8 @@ fn assert_stands(
     assert_eq!(rt; needed(before, (0, 0), after, (0, 0), whole), count);
 }
 
-// A region is copied to where it overlaps itself or not: just what is needed is printed. Where no wide grapheme crosses an edge, it stands there then.
+// A region is copied to where it overlaps itself or not: just what is needed is printed. Where no
+// wide grapheme crosses an edge, it stands there then.
 fn assert_copied(
     rt: &impl Abort,
     canvas: &Canvas<UnicodeWidths>,

@@ -68,7 +68,8 @@ pub fn printed(changes: &[Change]) -> usize {
     count
 }
 
-// How many cells the other line shows in so many columns from one on that the own one doesn't show, from its column x on.
+// How many cells the other line shows in so many columns from one on that the own one doesn't show,
+// from its column x on.
 fn needed_in_row(own: &Line, x: usize, other: &Line, other_x: usize, columns: usize) -> usize {
     let mut count: usize = 0;
     for cell in other.visible_cells() {
@@ -105,7 +106,8 @@ pub fn fitting(
     (columns, rows)
 }
 
-/// How many cells the other screen's region shows that the own screen's doesn't: what fits of this size, from these corners on.
+/// How many cells the other screen's region shows that the own screen's doesn't: what fits of this
+/// size, from these corners on.
 pub fn needed(
     own: &Screen,
     from: (usize, usize),
@@ -126,7 +128,8 @@ pub fn needed(
     count
 }
 
-// The diff of a pair prints just what is needed, by at most three changes each, and makes the rows equal.
+// The diff of a pair prints just what is needed, by at most three changes each, and makes the rows
+// equal.
 fn assert_diff(rt: &impl Abort, from: &Canvas<UnicodeWidths>, to: &Canvas<UnicodeWidths>) {
     let mut made = from.clone(rt);
     let changes = from.diff_screens(rt, to);
@@ -201,7 +204,8 @@ fn pairs_of_two_rows(rt: HostRuntime) {
     }
 }
 
-// Two columns from one on, and those of the other row from another on: the prints are just what is needed, whatever crosses the edges.
+// Two columns from one on, and those of the other row from another on: the prints are just what is
+// needed, whatever crosses the edges.
 fn assert_region(
     rt: &impl Abort,
     own: &Canvas<UnicodeWidths>,

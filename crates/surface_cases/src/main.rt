@@ -1,6 +1,9 @@
 //! Plays worked cases: surfaces that are drawn in steps, and what is asked of them, line by line.
 //!
-//! Standard input has the cases, and standard output tells them again with each answer below its line, two spaces in. A line that begins with `#` says what a case shows, or with `##` what the coming cases are about, and is not told. Words are parted by one space. The play ends at a line that is no command.
+//! Standard input has the cases, and standard output tells them again with each answer below its
+//! line, two spaces in. A line that begins with `#` says what a case shows, or with `##` what the
+//! coming cases are about, and is not told. Words are parted by one space. The play ends at a line
+//! that is no command.
 //!
 //! A case:
 //! - `case TITLE`: begins a case, with nothing left of the one before.

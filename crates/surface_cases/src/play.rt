@@ -25,7 +25,8 @@ impl Play {
         self.told.as_str()
     }
 
-    /// Plays each line, and tells it again before its answer. A fault is told below its line, and ends the play.
+    /// Plays each line, and tells it again before its answer. A fault is told below its line, and
+    /// ends the play.
     pub fn play(&mut self, script: &str) -> Result<(), Fault> {
         for line in script.lines() {
             if !line.starts_with('#') {

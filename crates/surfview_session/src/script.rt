@@ -272,7 +272,8 @@ fn scroll_up(first: &str, size: &str, count: &str) -> Result<Change, LineError> 
     })
 }
 
-/// The scroll down of a region, of which the words give the first row, the size and by how many rows.
+/// The scroll down of a region, of which the words give the first row, the size and by how many
+/// rows.
 fn scroll_down(first: &str, size: &str, count: &str) -> Result<Change, LineError> {
     Ok(Change::ScrollRegionDown {
         first_row: given(first)?,

@@ -108,7 +108,8 @@ pub fn session<R: Read, O: Write, E: Write>(
     }
 }
 
-/// What comes of the script that `input` holds, on a surface of the width and the height that the words give.
+/// What comes of the script that `input` holds, on a surface of the width and the height that the
+/// words give.
 fn outcomes<R: Read>(
     alloc: Global,
     args: &[String],

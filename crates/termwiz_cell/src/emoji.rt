@@ -48,7 +48,8 @@ pub struct UnicodeVersion {
     pub ambiguous_are_wide: bool,
 }
 
-/// Version 14, in which characters of ambiguous width take one column. `UnicodeWidths` answers for it
+/// Version 14, in which characters of ambiguous width take one column. `UnicodeWidths` answers for
+/// it
 /// as for any other version.
 pub const LATEST_UNICODE_VERSION: UnicodeVersion = UnicodeVersion {
     version: 14,
@@ -144,7 +145,8 @@ impl Widths for OneColumn {
     }
 }
 
-/// The widths of the Unicode tables, cut at 2 columns, whatever the version. Characters of ambiguous
+/// The widths of the Unicode tables, cut at 2 columns, whatever the version. Characters of
+/// ambiguous
 /// width take one column. Texts are shown as text, unless the first variation selector in them asks
 /// for the emoji form.
 #[derive(Clone, Copy, PartialEq, Eq, Debug)]

@@ -165,7 +165,8 @@ impl Hyperlink {
     }
 }
 
-/// `8;`, the params as `key=value` with `:` between them, in the order of their keys, `;` and the uri.
+/// `8;`, the params as `key=value` with `:` between them, in the order of their keys, `;` and the
+/// uri.
 impl fmt::Display for Hyperlink {
     ghost output = { λ link. Some (link_text link) };
 

@@ -1,4 +1,5 @@
-//! Cells of a screen: their texts, widths, colours, attributes and links, and the changes that are made with them.
+//! Cells of a screen: their texts, widths, colours, attributes and links, and the changes that are
+//! made with them.
 #![tactic(auto)]
 
 pub mod cell;

@@ -18,9 +18,11 @@ mod shape;
 use byte_cells::ByteCells;
 use shape::Shape;
 
-/// A piece of a line that is shaped as one: visible cells of the same attributes and presentation, of which all are spaces, or at most the last one is.
+/// A piece of a line that is shaped as one: visible cells of the same attributes and presentation,
+/// of which all are spaces, or at most the last one is.
 ///
-/// A shaper is given the text. For each byte of it the cluster knows the cell that the byte belongs to, so the glyphs find their columns.
+/// A shaper is given the text. For each byte of it the cluster knows the cell that the byte belongs
+/// to, so the glyphs find their columns.
 #[derive(Debug, Drop)]
 pub struct CellCluster {
     /// The attributes of each cell, without the mark of a line that goes on.
@@ -51,7 +53,10 @@ impl Model for CellCluster {
 }
 
 impl CellCluster {
-    /// The clusters of visible cells, in order. The cells are cut where the attributes, but for the mark of a line that goes on, or the presentation change. Each piece is cut from the left into clusters that are as long as possible: spaces alone, or other cells and at most one space behind them.
+    /// The clusters of visible cells, in order. The cells are cut where the attributes, but for the
+    /// mark of a line that goes on, or the presentation change. Each piece is cut from the left
+    /// into clusters that are as long as possible: spaces alone, or other cells and at most one
+    /// space behind them.
     /// ```text
     /// |foo  bar|  gives  `foo `, ` ` and `bar`
     /// ```

@@ -1,11 +1,13 @@
-//! What rows, edits and cuts are: laws of the definitions that the contracts cite, each on a function that does nothing.
+//! What rows, edits and cuts are: laws of the definitions that the contracts cite, each on a
+//! function that does nothing.
 ghost use Rattle.termwiz_line.specs.CutLaws.{BytesTellTheirCells, ClustersAreOne, ClustersJoin};
 ghost use Rattle.termwiz_line.specs.CutLaws.{WrapsAreAlike, WrapsAreOne, ZonesAreOne};
 ghost use Rattle.termwiz_line.specs.EditLaws.{AllColumnsShow, StoredAgainShows};
 ghost use Rattle.termwiz_line.specs.StorageLaws.{EqualInAnyForm, WholeIsVisible};
 ghost use Rattle.termwiz_line.specs.RowLaws.{PaintPaints, ClearClears, ClearPast, VisibleFixesRow, CellsHaveRow, VisibleFixesRowOf, WalkGrows, ResizedIsRow, SetCellPaints, PruningKeepsRow};
 
-/// What painting and clearing change of what a row shows: which cell stands at which column, and which columns it covers. What a row shows fixes it.
+/// What painting and clearing change of what a row shows: which cell stands at which column, and
+/// which columns it covers. What a row shows fixes it.
 pub fn row_laws()
     ensures paint { PaintPaints }
     ensures clear { ClearClears }
@@ -13,8 +15,10 @@ pub fn row_laws()
     ensures fixed { VisibleFixesRow }
 {}
 
-/// Stored cells have a row, which shows what the walk of the cells meets, at growing columns and no more cells than there are; cells in settled form that are resized are their row.
-/// Setting a cell paints it in the row, where the stored halves are halves, and pruning changes no row.
+/// Stored cells have a row, which shows what the walk of the cells meets, at growing columns and no
+/// more cells than there are; cells in settled form that are resized are their row.
+/// Setting a cell paints it in the row, where the stored halves are halves, and pruning changes no
+/// row.
 pub fn stored_row_laws()
     ensures row { CellsHaveRow }
     ensures fixed { VisibleFixesRowOf }
@@ -24,13 +28,15 @@ pub fn stored_row_laws()
     ensures pruned { PruningKeepsRow }
 {}
 
-/// Visible cells that are appended to an empty line, or taken out by all columns, show what they showed, at the same columns.
+/// Visible cells that are appended to an empty line, or taken out by all columns, show what they
+/// showed, at the same columns.
 pub fn edit_laws()
     ensures again { StoredAgainShows }
     ensures all { AllColumnsShow }
 {}
 
-/// The zones of a line follow from its cells, and the cells, numbers and flags of the lines into which it is wrapped from its own, whichever form stores the cells.
+/// The zones of a line follow from its cells, and the cells, numbers and flags of the lines into
+/// which it is wrapped from its own, whichever form stores the cells.
 pub fn cut_laws()
     ensures zones { ZonesAreOne }
     ensures wraps { WrapsAreOne }
@@ -46,7 +52,8 @@ pub fn cluster_laws()
     ensures bytes { BytesTellTheirCells }
 {}
 
-/// Lines are equal by cells, number and flags, whichever form stores the cells. The lists that may stand in a text are those that are their visible cells with their halves.
+/// Lines are equal by cells, number and flags, whichever form stores the cells. The lists that may
+/// stand in a text are those that are their visible cells with their halves.
 pub fn storage_laws()
     ensures equal { EqualInAnyForm }
     ensures whole { WholeIsVisible }

@@ -40,13 +40,16 @@ pub fn diff_laws()
     ensures restores { DrawingRestores }
 {}
 
-/// How few paints lead from one screen to another of its size: no fewer than a third of what a diff prints, and no fewer than all of it where nothing is wide.
+/// How few paints lead from one screen to another of its size: no fewer than a third of what a diff
+/// prints, and no fewer than all of it where nothing is wide.
 pub fn fewest_prints()
     ensures thirds { FewestPrints }
     ensures narrow { FewestNarrowPrints }
 {}
 
-/// Where a text and a move leave the cursor of a sequence: a text in the column in which it leaves a surface's, and a move by distances at its place, where that is on the screen or as many rows above it.
+/// Where a text and a move leave the cursor of a sequence: a text in the column in which it leaves
+/// a surface's, and a move by distances at its place, where that is on the screen or as many rows
+/// above it.
 pub fn sequence_laws()
     ensures texts { TextsMoveAlike }
     ensures moves { MovesLeadThere }

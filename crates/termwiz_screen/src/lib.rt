@@ -1,4 +1,5 @@
-//! Screens: what changes make of them, the streams that bring one to another, and the log of changes.
+//! Screens: what changes make of them, the streams that bring one to another, and the log of
+//! changes.
 #![tactic(auto)]
 
 pub mod diff;

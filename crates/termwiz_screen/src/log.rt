@@ -139,7 +139,8 @@ impl Log {
     }
 }
 
-/// How many changes are worth sending where a screen of this size could be repainted, or the greatest number where that is less.
+/// How many changes are worth sending where a screen of this size could be repainted, or the
+/// greatest number where that is less.
 pub fn worth(width: usize, height: usize) -> usize
     requires width { width < 2 ^ 32 }
     requires height { height < 2 ^ 32 }

@@ -15,7 +15,8 @@ fn move_by(distance: isize, current: usize, count: usize) -> usize
     }
 }
 
-/// The column that a position names, from the current one. The width itself is a column: there a wrap is pending.
+/// The column that a position names, from the current one. The width itself is a column: there a
+/// wrap is pending.
 pub fn column_at(position: Position, current: usize, width: usize) -> usize
     requires { 0 < width }
     ensures { result ≡ place_column position current width }

@@ -81,7 +81,8 @@ fn narrow_len<W: Widths>(widths: &W, run: &str) -> usize
     run.len()
 }
 
-/// The run of printable ASCII, each with at most one column, that the text begins with and that fits in this many columns, and what follows it.
+/// The run of printable ASCII, each with at most one column, that the text begins with and that
+/// fits in this many columns, and what follows it.
 pub fn split_narrow_run<'a, W: Widths>(
     widths: &W,
     text: &'a str,

@@ -28,7 +28,8 @@ use termwiz_cell::color::ColorAttribute;
 use termwiz_line::entries::{Penned, RowWriter, is_default, is_plain, is_same};
 use termwiz_line::line::line::Line;
 
-/// The entries of all rows, behind those that are written already. Blank rows at the bottom with one background are left to one clear to the end of the screen.
+/// The entries of all rows, behind those that are written already. Blank rows at the bottom with
+/// one background are left to one clear to the end of the screen.
 pub fn all_rows<'a>(
     mut writer: RowWriter<'a>,
     rows: &'a VecDeque<Line>,
@@ -269,7 +270,8 @@ fn push_next_line(writer: &mut RowWriter<'_>, i: usize) -> Result<(), AllocError
     Ok(())
 }
 
-/// What was drawn without its last moves, and then the cursor, the pen, the visibility and the shape of a visible cursor.
+/// What was drawn without its last moves, and then the cursor, the pen, the visibility and the
+/// shape of a visible cursor.
 pub fn framed(
     drawn: Penned<'_>,
     x: usize,

@@ -152,7 +152,8 @@ pub fn scroll_rows(rows: &mut VecDeque<Line>, width: usize) -> Result<(), AllocE
     Ok(())
 }
 
-// Makes this many rows, from `first` on, rows of default blanks. On an error each row is as it was, or one of default blanks.
+// Makes this many rows, from `first` on, rows of default blanks. On an error each row is as it was,
+// or one of default blanks.
 fn blank_some(
     rows: &mut VecDeque<Line>,
     width: usize,
@@ -186,7 +187,8 @@ fn turn_region(rows: &mut VecDeque<Line>, first: usize, size: usize, count: usiz
     }
 }
 
-/// Scrolls a region of rows up: its first `count` rows go, and as many rows of default blanks come below the others. On an error each row is as it was, or one of default blanks.
+/// Scrolls a region of rows up: its first `count` rows go, and as many rows of default blanks come
+/// below the others. On an error each row is as it was, or one of default blanks.
 pub fn scroll_region_up(
     rows: &mut VecDeque<Line>,
     width: usize,
@@ -207,7 +209,8 @@ pub fn scroll_region_up(
     Ok(())
 }
 
-/// Scrolls a region of rows down: its last `count` rows go, and as many rows of default blanks come above the others. On an error each row is as it was, or one of default blanks.
+/// Scrolls a region of rows down: its last `count` rows go, and as many rows of default blanks come
+/// above the others. On an error each row is as it was, or one of default blanks.
 pub fn scroll_region_down(
     rows: &mut VecDeque<Line>,
     width: usize,
@@ -288,7 +291,8 @@ fn put_widths(rows: &mut VecDeque<Line>, copies: VecDeque<Option<Line>>, width: 
     }
 }
 
-/// Cuts or fills each row to the width, and their number to the height by rows of default blanks. On an error the rows are as before.
+/// Cuts or fills each row to the width, and their number to the height by rows of default blanks.
+/// On an error the rows are as before.
 pub fn resize_rows(
     alloc: Global,
     rows: &mut VecDeque<Line>,

@@ -9,7 +9,8 @@ use termwiz_cell::cell::CellAttributes;
 use termwiz_cell::change::CursorVisibility;
 use termwiz_line::line::line::Line;
 
-/// What a surface shows. Two screens are equal where all of this is, whatever the numbers and flags of the rows.
+/// What a surface shows. Two screens are equal where all of this is, whatever the numbers and flags
+/// of the rows.
 #[derive(Drop, Debug)]
 pub struct Screen {
     /// How many columns there are.

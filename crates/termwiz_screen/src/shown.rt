@@ -30,7 +30,8 @@ pub fn last_attrs<'a>(row: &'a Line, width: usize, padding: &'a Cell) -> &'a Cel
     attrs
 }
 
-/// Whether every column of a row shows a blank with these attributes, which are not the default ones.
+/// Whether every column of a row shows a blank with these attributes, which are not the default
+/// ones.
 pub fn is_blank_row(row: &Line, width: usize, attrs: &CellAttributes) -> bool
     requires paddable { IsPaddable width row.now.cells }
     requires other { attributes_eq attrs.now default_attributes ≡ false }

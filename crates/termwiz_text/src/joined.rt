@@ -8,7 +8,8 @@ use super::{is_last_grapheme, is_one_plain, is_plain};
 use std::alloc::{AllocError, Global};
 use std::marker::Model;
 
-/// A text that grows by one grapheme at a time: a text is only joined where it is a grapheme of the whole, and the graphemes before it stay as they were.
+/// A text that grows by one grapheme at a time: a text is only joined where it is a grapheme of the
+/// whole, and the graphemes before it stay as they were.
 #[derive(Drop)]
 pub struct JoinedText {
     text: String,
@@ -43,7 +44,8 @@ fn only_plain(text: &str) -> Option<u8>
     }
 }
 
-// Appends a text, exactly where it is then the last grapheme, behind those that there were. Says whether it did. What stands from `last` on is cut.
+// Appends a text, exactly where it is then the last grapheme, behind those that there were. Says
+// whether it did. What stands from `last` on is cut.
 fn join_by_cut(text: &mut String, last: usize, more: &str) -> Result<bool, AllocError>
     requires { IsCutAt (string_bytes text.old) last }
     ensures joins { IfOk result (λ joined. IsTrue joined ↔ (graphemes true (string_bytes text.old ++ more.now) ≡ graphemes true (string_bytes text.old) ++ more.now ∷ [])) }
@@ -73,7 +75,8 @@ impl JoinedText {
         }
     }
 
-    /// Begins anew with a copy of this text, in the memory of the one before it. On an error that one is lost.
+    /// Begins anew with a copy of this text, in the memory of the one before it. On an error that
+    /// one is lost.
     pub fn restart(&mut self, first: &str) -> Result<(), AllocError>
         ensures { OnOk result (self.new ≡ first.now) }
     {
@@ -97,7 +100,9 @@ impl JoinedText {
         })
     }
 
-    /// Appends a text, exactly where it is then the last grapheme, and those before it are as they were. Says whether it did: the empty text and one of several graphemes are never joined. Where it was not joined, and on an error, the text so far stays.
+    /// Appends a text, exactly where it is then the last grapheme, and those before it are as they
+    /// were. Says whether it did: the empty text and one of several graphemes are never joined.
+    /// Where it was not joined, and on an error, the text so far stays.
     ///
     /// Only what was joined last, or the first text, is cut again with it, whatever stands before.
     #[inline(always)]
@@ -131,7 +136,8 @@ impl JoinedText {
         Ok(())
     }
 
-    // The same as `join`, for any text. It stands apart, so that the way of printable ASCII is short.
+    // The same as `join`, for any text. It stands apart, so that the way of printable ASCII is
+    // short.
     #[inline(never)]
     fn join_other(&mut self, more: &str) -> Result<bool, AllocError>
         ensures joins { IfOk result (λ joined. IsTrue joined ↔ (graphemes true (self.old ++ more.now) ≡ graphemes true self.old ++ more.now ∷ [])) }

@@ -40,7 +40,8 @@ fn begins_line_end(text: &str) -> bool
     }
 }
 
-/// Whether the character is a letter of hiragana (U+3041 to U+3096) or katakana (U+30A1 to U+30FA), or an ideograph from U+4E00 to U+9FFF. No other letter counts.
+/// Whether the character is a letter of hiragana (U+3041 to U+3096) or katakana (U+30A1 to U+30FA),
+/// or an ideograph from U+4E00 to U+9FFF. No other letter counts.
 pub fn is_letter(c: char) -> bool
     ensures { result ≡ letter.is_letter c }
 {
@@ -92,7 +93,8 @@ fn split_first_simple(text: &str) -> Option<(&str, &str)>
     Some((front, rest))
 }
 
-/// The first grapheme of a text, and the rest, which is cut as a text of its own. The empty text has none.
+/// The first grapheme of a text, and the rest, which is cut as a text of its own. The empty text
+/// has none.
 pub fn split_first_grapheme(text: &str) -> Option<(&str, &str)>
     ensures { MatchOption result (graphemes true text.now ≡ []) (λ (first, rest). IsFirst text.now first.now rest.now) }
 {
@@ -133,9 +135,13 @@ fn count_unmarked(bytes: &[u8], limit: usize) -> usize
     count
 }
 
-/// Splits off a run of printable ASCII, U+0020 to U+007E, of at most `limit` bytes, with which the text begins. Each byte of the run is a grapheme by itself, and the rest is cut as a text of its own.
+/// Splits off a run of printable ASCII, U+0020 to U+007E, of at most `limit` bytes, with which the
+/// text begins. Each byte of the run is a grapheme by itself, and the rest is cut as a text of its
+/// own.
 ///
-/// The run may be empty. It is shorter than `limit` only where the rest is empty, begins with another character, or begins with printable ASCII right before a character past ASCII, which may be a mark on it.
+/// The run may be empty. It is shorter than `limit` only where the rest is empty, begins with
+/// another character, or begins with printable ASCII right before a character past ASCII, which may
+/// be a mark on it.
 pub fn split_plain_run(text: &str, limit: usize) -> (&str, &str)
     ensures { plain.IsPlainRun text.now limit result.0.now result.1.now }
 {

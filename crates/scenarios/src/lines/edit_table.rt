@@ -26,7 +26,8 @@ fn reverse() -> CellAttributes {
     attrs
 }
 
-// `W` is wide and italic, `_` a blank in italics, `#` one in reverse, `.` a default one; any other letter stands for itself.
+// `W` is wide and italic, `_` a blank in italics, `#` one in reverse, `.` a default one; any other
+// letter stands for itself.
 fn cell_for(alloc: Global, letter: u8) -> Result<Cell, AllocError> {
     match letter {
         b'W' => Cell::new_grapheme_with_width(alloc, "か", 2, italic()),

@@ -315,7 +315,8 @@ impl CellAttributes {
         Ok(self)
     }
 
-    /// Sets the colour behind the text. It can only fail where the attributes take memory and took none
+    /// Sets the colour behind the text. It can only fail where the attributes take memory and took
+    /// none
     /// before. At an error nothing changed.
     pub fn change_background(
         &mut self,
@@ -341,7 +342,8 @@ impl CellAttributes {
         self.form.underline_color()
     }
 
-    /// Sets the colour of the line under the text. It can only fail where `change_underline_color` can, which also
+    /// Sets the colour of the line under the text. It can only fail where `change_underline_color`
+    /// can, which also
     /// promises that an error leaves the attributes as they were; this contract doesn't say so.
     pub fn set_underline_color(
         &mut self,
@@ -357,7 +359,8 @@ impl CellAttributes {
         Ok(self)
     }
 
-    /// Sets the colour of the line under the text. It can only fail where the attributes take memory and took none
+    /// Sets the colour of the line under the text. It can only fail where the attributes take
+    /// memory and took none
     /// before. At an error nothing changed.
     pub fn change_underline_color(
         &mut self,

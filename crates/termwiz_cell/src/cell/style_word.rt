@@ -24,7 +24,8 @@ impl Model for StyleWord {
     ghost invariant = { λ s. IsStyleWord s.word };
 }
 
-// The place of each digit but the first, which is the intensity. A digit ends where the next begins.
+// The place of each digit but the first, which is the intensity. A digit ends where the next
+// begins.
 const UNDERLINE: u64 = 1 << 2;
 
 const BLINK: u64 = 1 << 5;

@@ -192,7 +192,8 @@ fn is_same_str(a: &str, b: &str) -> bool
     a == b
 }
 
-/// A text of at most seven bytes. A character of kana, or a common ideograph, has three, and the copy
+/// A text of at most seven bytes. A character of kana, or a common ideograph, has three, and the
+/// copy
 /// of a known length needs no call.
 fn short_text(text: &str) -> ArrayString<7>
     requires { length text.now ≤ 7 }
@@ -216,7 +217,8 @@ fn other_short_text(text: &str) -> ArrayString<7>
     short
 }
 
-/// This text, which has more than seven bytes. It stands apart, so that the way of the others is short.
+/// This text, which has more than seven bytes. It stands apart, so that the way of the others is
+/// short.
 #[inline(never)]
 fn long_text(alloc: Global, text: &str, wide: bool) -> Result<CellText, AllocError>
     requires clean { clean text.now ≡ text.now }

@@ -18,7 +18,8 @@ use thiserror::Error;
 /// Why a sequence refuses a change. The errors have numbers, and are told in this order.
 #[derive(Debug, Drop, Clone, Copy, PartialEq, Eq, Error)]
 pub enum SequenceError {
-    /// Error 1: a text takes the cursor's row past the greatest `isize`, or the distance of a move is no `isize`.
+    /// Error 1: a text takes the cursor's row past the greatest `isize`, or the distance of a move
+    /// is no `isize`.
     #[error("a row or a distance is out of range")]
     Range,
     /// Error 2: a growth was refused.
@@ -37,9 +38,12 @@ impl From<AllocError> for SequenceError {
     }
 }
 
-/// A list of changes that grows, and tells where its changes take a cursor and how far apart the rows are that it reaches.
+/// A list of changes that grows, and tells where its changes take a cursor and how far apart the
+/// rows are that it reaches.
 ///
-/// It serves a program that doesn't own the whole screen, as a line editor, whose output begins wherever the cursor was when it was called. So places are told from there: the cursor begins at column 0 of row 0, and rows above that one are below 0. Nothing scrolls, and rows have no end.
+/// It serves a program that doesn't own the whole screen, as a line editor, whose output begins
+/// wherever the cursor was when it was called. So places are told from there: the cursor begins at
+/// column 0 of row 0, and rows above that one are below 0. Nothing scrolls, and rows have no end.
 ///
 /// A text moves the cursor's column as on a surface of that many columns and with that width value.
 #[derive(Drop)]
@@ -217,16 +221,19 @@ impl<W: Widths> ChangeSequence<W> {
         self.changes
     }
 
-    /// The cursor's column and row. The column is the number of columns where a wrap is pending, and a row above the first is below 0.
+    /// The cursor's column and row. The column is the number of columns where a wrap is pending,
+    /// and a row above the first is below 0.
     pub fn current_cursor_position(&self) -> (usize, isize)
         ensures cursor { result ≡ self.now.cursor }
-        // Every sequence has its form: the cursor is in its columns, and its row between the least and the greatest.
+        // Every sequence has its form: the cursor is in its columns, and its row between the least
+        // and the greatest.
         ensures form { IsSequence self.now }
     {
         (self.x, self.y)
     }
 
-    /// The distance in rows from the least to the greatest row that the cursor was in so far, row 0 among them: one less than the rows from the one to the other.
+    /// The distance in rows from the least to the greatest row that the cursor was in so far, row 0
+    /// among them: one less than the rows from the one to the other.
     pub fn render_height(&self) -> usize
         ensures { pos result ≡ self.now.greatest -ℤ self.now.least }
     {
@@ -288,7 +295,8 @@ impl<W: Widths> ChangeSequence<W> {
     /// - a text as on a surface, with a row more at each LF, CR LF and wrap;
     /// - a position to what it asks for, by remainders: the column's is never below 0, and the row's has the sign of what is asked for;
     /// - a clear of the screen and a scroll to column 0 of row 0, and all others not at all.
-    /// `Range`: a text takes the row past the greatest `isize`. `Memory`: a growth was refused. After both nothing has changed.
+    /// `Range`: a text takes the row past the greatest `isize`. `Memory`: a growth was refused.
+    /// After both nothing has changed.
     pub fn add(&mut self, change: Change) -> Result<(), SequenceError>
         ensures { AddsOne (unversioned (W.width_of self.old.widths)) self.old (change_value change) result self.new }
     {
@@ -311,8 +319,11 @@ impl<W: Widths> ChangeSequence<W> {
         Ok(())
     }
 
-    /// Adds the change that moves the cursor by the distances from where it is to a column and a row. As by `add` the cursor comes to the remainders of these: to the place itself where the column is less than the columns, and the row, without its sign, less than the rows.
-    /// `Range`: a distance is no `isize`. `Memory`: a growth was refused. After both nothing has changed.
+    /// Adds the change that moves the cursor by the distances from where it is to a column and a
+    /// row. As by `add` the cursor comes to the remainders of these: to the place itself where the
+    /// column is less than the columns, and the row, without its sign, less than the rows.
+    /// `Range`: a distance is no `isize`. `Memory`: a growth was refused. After both nothing has
+    /// changed.
     pub fn move_to(&mut self, place: (usize, isize)) -> Result<(), SequenceError>
         ensures { MovesTo (unversioned (W.width_of self.old.widths)) self.old place result self.new }
     {

@@ -1,4 +1,5 @@
-//! The params of a link: their reading from a text, their printing, and what equality and copies ask of them.
+//! The params of a link: their reading from a text, their printing, and what equality and copies
+//! ask of them.
 ghost use Rattle.std.specs.Prelude.{◌≡◌, map, string_bytes, IfOk, OnOk};
 ghost use Rattle.std.specs.Cmp.Lexicographic.{pointwise};
 ghost use Rattle.std.specs.Fmt.{WritesOnOk};

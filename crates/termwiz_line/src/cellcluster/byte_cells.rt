@@ -8,7 +8,8 @@ use std::ops::Range;
 /// The column and the width of the cell of each byte of a text.
 #[derive(Debug, Drop)]
 pub(super) struct ByteCells {
-    // The columns of the first bytes, each of which has a narrow cell of its own, one behind another: they take no memory.
+    // The columns of the first bytes, each of which has a narrow cell of its own, one behind
+    // another: they take no memory.
     plain: Range<usize>,
     // The cells of the bytes behind them.
     others: Vec<(usize, u8)>,

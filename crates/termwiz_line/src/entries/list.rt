@@ -14,7 +14,8 @@ use termwiz_cell::cell::CellAttributes;
 use termwiz_cell::change::Change;
 use termwiz_text::JoinedText;
 
-/// Entries: changes, in order. A text at their end grows by each text that joins it. After an error of a method the list may hold anything.
+/// Entries: changes, in order. A text at their end grows by each text that joins it. After an error
+/// of a method the list may hold anything.
 #[derive(Drop)]
 pub struct EntryList {
     alloc: Global,
@@ -62,7 +63,9 @@ impl EntryList {
         Ok(())
     }
 
-    /// A text comes behind the others. Where the last entry is a text and no grapheme runs over the seam, it joins that: cut together, they are the last one's graphemes and then the new text as one grapheme. Else it is an entry of its own.
+    /// A text comes behind the others. Where the last entry is a text and no grapheme runs over the
+    /// seam, it joins that: cut together, they are the last one's graphemes and then the new text
+    /// as one grapheme. Else it is an entry of its own.
     #[inline(always)]
     pub fn push_text(&mut self, more: &str) -> Result<(), AllocError>
         ensures { OnOk result (self.new ≡ add_text self.old more.now) }
@@ -73,7 +76,8 @@ impl EntryList {
         self.start_text(more)
     }
 
-    // A text of its own comes behind the others. It stands apart, so that the way of a text that joins is short.
+    // A text of its own comes behind the others. It stands apart, so that the way of a text that
+    // joins is short.
     #[inline(never)]
     fn start_text(&mut self, first: &str) -> Result<(), AllocError>
         ensures { OnOk result (self.new ≡ self.old ++ change.Text first.now ∷ []) }

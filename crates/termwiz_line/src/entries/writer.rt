@@ -19,7 +19,10 @@ use termwiz_cell::cell::CellAttributes;
 use termwiz_cell::change::Change;
 use termwiz_storage::line::cellref::VisibleCellIter;
 
-/// Writes rows of visible cells as entries: a pen for each run of equal attributes, then its texts. Spaces at the end of a row are left out where their attributes are default but for the background; a background other than the default one is cleared to the end of the line in their place.
+/// Writes rows of visible cells as entries: a pen for each run of equal attributes, then its texts.
+/// Spaces at the end of a row are left out where their attributes are default but for the
+/// background; a background other than the default one is cleared to the end of the line in their
+/// place.
 ///
 /// After an error of a method the writer may hold anything.
 #[derive(Drop)]
@@ -141,7 +144,8 @@ impl<'a> RowWriter<'a> {
         Ok(())
     }
 
-    /// A row of these visible cells, with so many spaces with these attributes behind them, comes behind the others.
+    /// A row of these visible cells, with so many spaces with these attributes behind them, comes
+    /// behind the others.
     pub fn row(
         &mut self,
         cells: VisibleCellIter<'a>,
@@ -158,7 +162,8 @@ impl<'a> RowWriter<'a> {
         self.end_row()
     }
 
-    // Visible cells come next. Each form of storage is walked apart, so that the walk needs no test for each cell.
+    // Visible cells come next. Each form of storage is walked apart, so that the walk needs no test
+    // for each cell.
     fn cells(&mut self, cells: VisibleCellIter<'a>) -> Result<(), AllocError>
         ensures { OnOk result ((from : spec.Penned) (before : List (ℕ × CellValue)) → IsWritten from before self.old → IsWritten from (before ++ cells_left cells.entry) self.new) }
     {
@@ -185,7 +190,8 @@ impl<'a> RowWriter<'a> {
         self.spaces > 0 && is_plain(self.space_attrs)
     }
 
-    // The row ends here: the spaces held back are left out, or printed where their attributes are more than a background.
+    // The row ends here: the spaces held back are left out, or printed where their attributes are
+    // more than a background.
     fn end_row(&mut self) -> Result<(), AllocError>
         ensures row { OnOk result ((from : spec.Penned) (cells : List (ℕ × CellValue)) → last_is is_text from.entries ≡ false → IsWritten from cells self.old → self.new.printed ≡ behind from.entries (spec.row_entries from.pen cells)) }
         ensures between { OnOk result (self.new.spaces ≡ 0) }

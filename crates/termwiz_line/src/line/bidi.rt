@@ -9,7 +9,8 @@ pub enum Direction {
     RightToLeft,
 }
 
-/// What decides the direction of a line: the named one, or the line's own text, and the named one where the text doesn't tell.
+/// What decides the direction of a line: the named one, or the line's own text, and the named one
+/// where the text doesn't tell.
 #[derive(Debug, Clone, Copy, PartialEq, Eq)]
 pub enum ParagraphDirectionHint {
     LeftToRight,

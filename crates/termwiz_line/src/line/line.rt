@@ -39,15 +39,29 @@ pub use clicks::DoubleClickRange;
 pub use zones::ZoneRange;
 use zones::drop_zones;
 
-/// A line of cells by itself: a row of a copied screen is one, and so may be what a program keeps of rows that have scrolled away.
+/// A line of cells by itself: a row of a copied screen is one, and so may be what a program keeps
+/// of rows that have scrolled away.
 ///
-/// It stores cells from the first column on. A wide cell hides the one that is stored behind it, as a rule its half: a blank with its attributes. How many cells are stored is not how wide the line is shown: whoever shows it reads default blanks behind its last cell, and cuts what is too long.
+/// It stores cells from the first column on. A wide cell hides the one that is stored behind it, as
+/// a rule its half: a blank with its attributes. How many cells are stored is not how wide the line
+/// is shown: whoever shows it reads default blanks behind its last cell, and cuts what is too long.
 ///
-/// An edit is given the number of the change that it belongs to, and the line keeps the greatest that it has taken; `blank_out` alone sets the number anew. Where each change has a new number, whoever keeps something that was made from a line sees by it that the line has changed since. The number doesn't tell of what `split_off` cuts, nor of what is written by `cells_mut`. Two lines are equal where their cells, numbers and flags are, whichever form stores the cells.
+/// An edit is given the number of the change that it belongs to, and the line keeps the greatest
+/// that it has taken; `blank_out` alone sets the number anew. Where each change has a new number,
+/// whoever keeps something that was made from a line sees by it that the line has changed since.
+/// The number doesn't tell of what `split_off` cuts, nor of what is written by `cells_mut`. Two
+/// lines are equal where their cells, numbers and flags are, whichever form stores the cells.
 ///
-/// A line stores its cells as a vector or as one text. `new` makes a text, which stays one while `set_cell`, `set_cell_grapheme` or `overlay_text_with_attribute` sets each cell at its end, `fill_range` sets narrow cells there that aren't default blanks, or `set_last_cell_was_wrapped` marks the last cell. Any other edit that changes cells, and lending them for writing, makes a vector of a text; an edit that changes none, or fails, may. `compress_for_scrollback` makes a text of a vector. `stored_cells`, whether `as_str` lends, and the variants of visible cells tell which it is; `==` doesn't.
+/// A line stores its cells as a vector or as one text. `new` makes a text, which stays one while
+/// `set_cell`, `set_cell_grapheme` or `overlay_text_with_attribute` sets each cell at its end,
+/// `fill_range` sets narrow cells there that aren't default blanks, or `set_last_cell_was_wrapped`
+/// marks the last cell. Any other edit that changes cells, and lending them for writing, makes a
+/// vector of a text; an edit that changes none, or fails, may. `compress_for_scrollback` makes a
+/// text of a vector. `stored_cells`, whether `as_str` lends, and the variants of visible cells tell
+/// which it is; `==` doesn't.
 ///
-/// `visible_cells` walks what is seen of a line, and `changes` gives the changes that print it, for whoever has to write it somewhere else.
+/// `visible_cells` walks what is seen of a line, and `changes` gives the changes that print it, for
+/// whoever has to write it somewhere else.
 #[derive(Drop, Debug)]
 pub struct Line {
     alloc: Global,
@@ -103,7 +117,8 @@ impl Line {
         Line::of(alloc, CellStorage::vector(cells), seqno)
     }
 
-    /// A line without cells. It is stored as one text, and stays one as long as each cell is set at its end.
+    /// A line without cells. It is stored as one text, and stays one as long as each cell is set at
+    /// its end.
     pub fn new(alloc: Global, seqno: SequenceNo) -> Line
         ensures { result ≡ record { cells = []; seqno = seqno; flags = no_flags; is_vector = false } }
     {
@@ -123,7 +138,8 @@ impl Line {
         }
     }
 
-    /// Makes this a new line of this many default blanks, with this number and without flags. A vector takes memory only where it grows.
+    /// Makes this a new line of this many default blanks, with this number and without flags. A
+    /// vector takes memory only where it grows.
     /// On an error number, flags and cells are as before.
     pub fn blank_out(&mut self, width: usize, seqno: SequenceNo) -> Result<(), AllocError>
         ensures ok { OnOk result (self.new ≡ record { cells = replicate width blank; seqno = seqno; flags = no_flags; is_vector = true }) }
@@ -137,7 +153,8 @@ impl Line {
         Ok(())
     }
 
-    /// Cuts the line to this many columns, or grows it to them by default blanks. Where it grows and its last visible cell lacks its half, the half comes first.
+    /// Cuts the line to this many columns, or grows it to them by default blanks. Where it grows
+    /// and its last visible cell lacks its half, the half comes first.
     /// The line takes the number. On an error number, flags and cells are as before.
     pub fn resize(&mut self, width: usize, seqno: SequenceNo) -> Result<(), AllocError>
         ensures ok { OnOk result (IsEdited self.old (resized width self.old.cells) seqno self.new) }
@@ -151,7 +168,8 @@ impl Line {
         Ok(())
     }
 
-    /// A copy that is stored as a vector, with this number and without flags, cut to this many columns, or grown to them as by `resize`.
+    /// A copy that is stored as a vector, with this number and without flags, cut to this many
+    /// columns, or grown to them as by `resize`.
     pub fn resized(&self, width: usize, seqno: SequenceNo) -> Result<Line, AllocError>
         ensures { IfOk result (λ line. line ≡ record { cells = resized width self.now.cells; seqno = seqno; flags = no_flags; is_vector = true }) }
     {
@@ -169,8 +187,10 @@ impl Line {
         Ok(line)
     }
 
-    /// Stores the cells as one text, which mostly takes far less memory than a vector: for what is kept of rows that have scrolled away. Cells, number and flags stay.
-    /// A vector stays one where a hidden cell isn't a blank with the attributes of the cell that hides it, or where the last visible cell is wide and lacks its half.
+    /// Stores the cells as one text, which mostly takes far less memory than a vector: for what is
+    /// kept of rows that have scrolled away. Cells, number and flags stay.
+    /// A vector stays one where a hidden cell isn't a blank with the attributes of the cell that
+    /// hides it, or where the last visible cell is wide and lacks its half.
     /// On an error nothing changed.
     pub fn compress_for_scrollback(&mut self) -> Result<(), AllocError>
         ensures cells { self.new.cells ≡ self.old.cells }
@@ -183,7 +203,8 @@ impl Line {
         Ok(())
     }
 
-    /// Whether both lines have the same cells, whatever their numbers and flags, and whichever form stores them.
+    /// Whether both lines have the same cells, whatever their numbers and flags, and whichever form
+    /// stores them.
     pub fn has_same_cells(&self, other: &Line) -> bool
         ensures { result ≡ cells_eq self.now.cells other.now.cells }
     {
@@ -232,7 +253,8 @@ impl Line {
         CellCluster::make_cluster(self.alloc, widths, self.visible_cells())
     }
 
-    /// The stored cells of a vector, hidden ones among them. A line that is stored as one text has none to lend.
+    /// The stored cells of a vector, hidden ones among them. A line that is stored as one text has
+    /// none to lend.
     pub fn stored_cells(&self) -> Option<&[Cell]>
         ensures { option_map (λ cells. cells.now) result ≡ (if self.now.is_vector then Some self.now.cells else None) }
     {

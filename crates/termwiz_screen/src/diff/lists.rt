@@ -19,7 +19,8 @@ use termwiz_cell::cell::Cell;
 use termwiz_cell::change::Change;
 use termwiz_line::line::line::Line;
 
-/// The changes that print what a region of other rows of a width shows and own rows of a width don't.
+/// The changes that print what a region of other rows of a width shows and own rows of a width
+/// don't.
 pub fn diff_rows(
     alloc: Global,
     own: &VecDeque<Line>,
@@ -78,7 +79,8 @@ fn diff_padded<'a>(
     writer.into_vec()
 }
 
-/// The changes that print what a line shows and an own row, if there is one with this number, doesn't.
+/// The changes that print what a line shows and an own row, if there is one with this number,
+/// doesn't.
 pub fn diff_line(
     alloc: Global,
     own: &VecDeque<Line>,

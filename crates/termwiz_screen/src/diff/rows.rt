@@ -117,13 +117,15 @@ fn print_cells<'a>(
     let next = print_visible(writer, own, other.visible_cells(), padding, region, row)?;
     let met = next.saturating_sub(region.other_x).min(region.width);
     let end = region.x + region.width;
-    // Behind the stored cells of both are default blanks. The first column there may be the half of a wide own cell.
+    // Behind the stored cells of both are default blanks. The first column there may be the half of
+    // a wide own cell.
     let count = end.min(own.len() + 1).saturating_sub(region.x + met);
     print_blanks(writer, own, padding, row, region.x + met, count)?;
     Ok(())
 }
 
-// The visible cells of a line at the region's columns. Tells the column behind the last one that was met.
+// The visible cells of a line at the region's columns. Tells the column behind the last one that
+// was met.
 // Each form of storage is walked apart, so that the walk needs no test for each cell.
 fn print_visible<'a>(
     writer: &mut DiffWriter<'a>,

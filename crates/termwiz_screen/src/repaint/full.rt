@@ -21,7 +21,8 @@ use termwiz_cell::color::ColorAttribute;
 use termwiz_line::entries::{Penned, RowWriter};
 use termwiz_line::line::line::Line;
 
-/// A clear of the screen with the cursor hidden, the title, the cursor's colour, and how each row is shown; then the cursor goes home.
+/// A clear of the screen with the cursor hidden, the title, the cursor's colour, and how each row
+/// is shown; then the cursor goes home.
 pub fn fully_started<'a>(
     alloc: Global,
     padding: &'a Cell,
@@ -57,7 +58,8 @@ fn push_lines(writer: &mut RowWriter<'_>, rows: &VecDeque<Line>) -> Result<(), A
     Ok(())
 }
 
-/// What was drawn without its last moves, and then the cursor, the pen, the visibility of a visible cursor, and the cursor's shape, which is the default one where none was set.
+/// What was drawn without its last moves, and then the cursor, the pen, the visibility of a visible
+/// cursor, and the cursor's shape, which is the default one where none was set.
 pub fn fully_framed(
     drawn: Penned<'_>,
     x: usize,

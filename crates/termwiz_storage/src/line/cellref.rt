@@ -12,7 +12,8 @@ use std::alloc::{AllocError, Global};
 use termwiz_cell::cell::{Cell, CellAttributes};
 use termwiz_cell::emoji::{Presentation, Widths};
 
-/// A visible cell of a line, with its column: a stored cell, or a piece of a text with its width in columns and its attributes. One that is made by hand may tell any width and any text.
+/// A visible cell of a line, with its column: a stored cell, or a piece of a text with its width in
+/// columns and its attributes. One that is made by hand may tell any width and any text.
 #[derive(Clone, Copy, Debug)]
 pub enum CellRef<'a> {
     /// A cell that is stored as one.
@@ -70,7 +71,8 @@ impl<'a> CellRef<'a> {
         }
     }
 
-    /// How the text is shown: in the form that a variation selector in it asks for, or else as the width value says.
+    /// How the text is shown: in the form that a variation selector in it asks for, or else as the
+    /// width value says.
     pub fn presentation<W: Widths>(&self, widths: &W) -> Presentation
         ensures { let shown = W.presentation_of widths.now (ref_cell self.now).text in result ≡ unwrap_or shown.1 shown.0 }
     {
@@ -78,7 +80,8 @@ impl<'a> CellRef<'a> {
         variation.unwrap_or(presentation)
     }
 
-    /// A cell of this text, width and attributes, as `Cell::new_grapheme_with_width` makes it. The width must be at most 2.
+    /// A cell of this text, width and attributes, as `Cell::new_grapheme_with_width` makes it. The
+    /// width must be at most 2.
     pub fn as_cell(&self, alloc: Global) -> Result<Cell, AllocError>
         requires { ref_width self.now ≤ 2 }
         ensures { IfOk result (λ cell. cell ≡ cell_of (ref_cell self.now).text (ref_width self.now) (ref_cell self.now).attrs) }
@@ -97,7 +100,8 @@ impl<'a> CellRef<'a> {
         }
     }
 
-    /// A copy of the cell. The reference must tell a width and a text that a cell has, as each does that a walk gives.
+    /// A copy of the cell. The reference must tell a width and a text that a cell has, as each does
+    /// that a walk gives.
     pub fn to_cell(&self, alloc: Global) -> Result<Cell, AllocError>
         requires { IsOfCell self.now }
         ensures { IfOk result (λ cell. cell ≡ ref_cell self.now) }
@@ -113,7 +117,8 @@ impl<'a> CellRef<'a> {
             && (self.width() == other.width() && *self.attrs() == *other.attrs())
     }
 
-    /// Whether both are the same cell, at the same column. Both references must tell what `to_cell` asks for.
+    /// Whether both are the same cell, at the same column. Both references must tell what `to_cell`
+    /// asks for.
     pub fn is_same(&self, other: &CellRef<'_>) -> bool
         requires own { IsOfCell self.now }
         requires other { IsOfCell other.now }

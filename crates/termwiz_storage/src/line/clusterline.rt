@@ -32,9 +32,12 @@ use std::marker::Model;
 use termwiz_cell::cell::{Cell, CellAttributes};
 use termwiz_text::is_one_plain;
 
-/// The cells of a line as one text, with what tells each cell's part of it, and runs of equal attributes. Where cells in a row are alike it takes far less memory than a vector of cells.
+/// The cells of a line as one text, with what tells each cell's part of it, and runs of equal
+/// attributes. Where cells in a row are alike it takes far less memory than a vector of cells.
 ///
-/// It stands for a list of stored cells, in which each wide cell is followed by its half, a blank with its attributes. A cell whose text has 2^32 bytes or more doesn't fit: it is refused as want of memory is.
+/// It stands for a list of stored cells, in which each wide cell is followed by its half, a blank
+/// with its attributes. A cell whose text has 2^32 bytes or more doesn't fit: it is refused as want
+/// of memory is.
 #[derive(Drop, Debug)]
 pub struct ClusteredLine {
     text: String,
@@ -69,7 +72,9 @@ impl ClusteredLine {
         }
     }
 
-    /// The line of these stored cells. There is none where a hidden cell isn't a blank with the attributes of the cell that hides it, or where the last visible cell is wide and lacks its half.
+    /// The line of these stored cells. There is none where a hidden cell isn't a blank with the
+    /// attributes of the cell that hides it, or where the last visible cell is wide and lacks its
+    /// half.
     pub fn from_cells(alloc: Global, cells: &[Cell]) -> Result<Option<ClusteredLine>, AllocError>
         ensures some { IfOk result (λ line. IsSome line ↔ IsWhole cells.now) }
         ensures value { IfOk result (λ line. IfSome line (λ line. line ≡ cells.now)) }
@@ -295,7 +300,8 @@ impl ClusteredLine {
         Ok(())
     }
 
-    /// Marks the last visible cell, and its half, as wrapped, or not. An empty list first gets a default blank. On an error nothing changed.
+    /// Marks the last visible cell, and its half, as wrapped, or not. An empty list first gets a
+    /// default blank. On an error nothing changed.
     pub fn set_last_cell_was_wrapped(&mut self, wrapped: bool) -> Result<(), AllocError>
         ensures ok { OnOk result (self.new ≡ set_last_wrapped wrapped self.old) }
         ensures err { OnErr result (self.new ≡ self.old) }
@@ -350,7 +356,8 @@ impl ClusteredLine {
     }
 }
 
-/// Whether each hidden cell is the half of the one that hides it, and no visible wide cell lacks its half.
+/// Whether each hidden cell is the half of the one that hides it, and no visible wide cell lacks
+/// its half.
 pub(super) fn is_whole(cells: &[Cell]) -> bool
     ensures { IsTrue result ↔ IsWhole cells.now }
 {

@@ -28,9 +28,11 @@ use crate::line::vecstorage::VecStorage;
 use std::alloc::{AllocError, Global};
 use termwiz_cell::cell::{Cell, CellAttributes};
 
-/// The stored cells of a line, a list in one of two forms. Its edits are methods here, and `coerce_vec` lends the cells for writing.
+/// The stored cells of a line, a list in one of two forms. Its edits are methods here, and
+/// `coerce_vec` lends the cells for writing.
 ///
-/// A walk over the list gives the visible cells: the stored cell behind a visible wide one is hidden. `set_cell` stores the half of the wide one there, a blank with its attributes.
+/// A walk over the list gives the visible cells: the stored cell behind a visible wide one is
+/// hidden. `set_cell` stores the half of the wide one there, a blank with its attributes.
 ///
 /// Two storages are equal where their lists of cells are, whatever the forms.
 #[derive(Drop, Debug)]
@@ -88,7 +90,8 @@ impl CellStorage {
         }
     }
 
-    /// The texts of the visible cells, one after another, where they stand in a text. A vector has none to lend.
+    /// The texts of the visible cells, one after another, where they stand in a text. A vector has
+    /// none to lend.
     pub fn text(&self) -> Option<&str>
         ensures { option_map (λ text. text.now) result ≡ (if is_vector self.now then None else Some (texts_of (visible (cells_of self.now)))) }
     {
@@ -108,9 +111,14 @@ impl CellStorage {
         }
     }
 
-    /// Sets the cell at a column, and behind a wide one its half. The list is first padded with default blanks as far as these need, and a wide cell stored right before the column becomes a blank with its attributes.
-    /// Right behind the last cell of a text the cell is appended to the text. Anywhere else, and by each other edit but that of the mark of the last cell, a text becomes a vector, also where the list stays as it is.
-    /// On an error, which a cell past the greatest column gives too, and one of 2^32 bytes or more that is appended to a text, the cells are as before.
+    /// Sets the cell at a column, and behind a wide one its half. The list is first padded with
+    /// default blanks as far as these need, and a wide cell stored right before the column becomes
+    /// a blank with its attributes.
+    /// Right behind the last cell of a text the cell is appended to the text. Anywhere else, and by
+    /// each other edit but that of the mark of the last cell, a text becomes a vector, also where
+    /// the list stays as it is.
+    /// On an error, which a cell past the greatest column gives too, and one of 2^32 bytes or more
+    /// that is appended to a text, the cells are as before.
     pub fn set_cell(&mut self, i: usize, cell: Cell) -> Result<(), AllocError>
         ensures ok { OnOk result (cells_of self.new ≡ set_cell i cell (cells_of self.old)) }
         ensures err { OnErr result (cells_of self.new ≡ cells_of self.old) }
@@ -128,7 +136,8 @@ impl CellStorage {
         Ok(())
     }
 
-    /// Sets a cell as `set_cell` does, in a list that is then cut to `len` cells. A text becomes a vector.
+    /// Sets a cell as `set_cell` does, in a list that is then cut to `len` cells. A text becomes a
+    /// vector.
     /// On an error, which a cell past the greatest column gives too, the cells are as before.
     #[inline(always)]
     pub fn set_cell_within(&mut self, i: usize, cell: Cell, len: usize) -> Result<(), AllocError>
@@ -144,7 +153,8 @@ impl CellStorage {
         Ok(())
     }
 
-    // The same where a text becomes a vector. It stands apart, so that the way of a vector is short.
+    // The same where a text becomes a vector. It stands apart, so that the way of a vector is
+    // short.
     #[inline(never)]
     fn set_in_text_within(&mut self, i: usize, cell: Cell, len: usize) -> Result<(), AllocError>
         ensures ok { OnOk result (cells_of self.new ≡ take len (set_cell i cell (cells_of self.old))) }
@@ -156,7 +166,8 @@ impl CellStorage {
         Ok(())
     }
 
-    /// Sets the cell of each character of a run of printable ASCII, in order from a column on, with attributes that take no memory. A text becomes a vector, also by an empty run.
+    /// Sets the cell of each character of a run of printable ASCII, in order from a column on, with
+    /// attributes that take no memory. A text becomes a vector, also by an empty run.
     /// On an error, which a cell past the greatest column gives too, the cells are as before.
     #[inline]
     pub fn set_run(&mut self, i: usize, run: &str, attrs: &CellAttributes) -> Result<(), AllocError>
@@ -174,7 +185,8 @@ impl CellStorage {
         Ok(())
     }
 
-    /// Sets a default blank in each of the columns from `from` up to `to`, which is not among them, in order. A text becomes a vector, also where there is no such column.
+    /// Sets a default blank in each of the columns from `from` up to `to`, which is not among them,
+    /// in order. A text becomes a vector, also where there is no such column.
     /// On an error the cells are as before.
     pub fn set_blanks(&mut self, from: usize, to: usize) -> Result<(), AllocError>
         ensures ok { OnOk result (cells_of self.new ≡ fill (to - from) from blank (cells_of self.old)) }
@@ -186,7 +198,8 @@ impl CellStorage {
         Ok(())
     }
 
-    /// Makes the list this many default blanks, in a vector. It can only fail where the list grows, or a text becomes a vector. On an error the cells are as before.
+    /// Makes the list this many default blanks, in a vector. It can only fail where the list grows,
+    /// or a text becomes a vector. On an error the cells are as before.
     pub fn blank_out(&mut self, len: usize) -> Result<(), AllocError>
         ensures ok { OnOk result (cells_of self.new ≡ replicate len blank) }
         ensures err { OnErr result (cells_of self.new ≡ cells_of self.old) }
@@ -201,8 +214,11 @@ impl CellStorage {
         Ok(())
     }
 
-    /// Cuts the list to this many cells, or grows it by default blanks. Where it grows and its last visible cell is wide and lacks its half, the half comes first. A text becomes a vector, also where the length stays.
-    /// It can only fail where the list grows, or a text becomes a vector. On an error the cells are as before.
+    /// Cuts the list to this many cells, or grows it by default blanks. Where it grows and its last
+    /// visible cell is wide and lacks its half, the half comes first. A text becomes a vector, also
+    /// where the length stays.
+    /// It can only fail where the list grows, or a text becomes a vector. On an error the cells are
+    /// as before.
     pub fn resize(&mut self, len: usize) -> Result<(), AllocError>
         ensures ok { OnOk result (cells_of self.new ≡ resized len (cells_of self.old)) }
         ensures err { OnErr result (cells_of self.new ≡ cells_of self.old) }
@@ -214,7 +230,8 @@ impl CellStorage {
         Ok(())
     }
 
-    /// Cuts the list to at most this many cells. A text becomes a vector, also where nothing is cut, and only that can fail. On an error the cells are as before.
+    /// Cuts the list to at most this many cells. A text becomes a vector, also where nothing is
+    /// cut, and only that can fail. On an error the cells are as before.
     pub fn truncate(&mut self, len: usize) -> Result<(), AllocError>
         ensures ok { OnOk result (cells_of self.new ≡ take len (cells_of self.old)) }
         ensures err { OnErr result (cells_of self.new ≡ cells_of self.old) }
@@ -226,7 +243,8 @@ impl CellStorage {
         Ok(())
     }
 
-    /// Marks the last visible cell and the stored cell that it hides as wrapped, or not. An empty list first gets a default blank.
+    /// Marks the last visible cell and the stored cell that it hides as wrapped, or not. An empty
+    /// list first gets a default blank.
     /// With a vector that has cells it never fails. On an error the cells are as before.
     pub fn set_last_wrapped(&mut self, wrapped: bool) -> Result<(), AllocError>
         ensures ok { OnOk result (cells_of self.new ≡ set_last_wrapped wrapped (cells_of self.old)) }
@@ -241,7 +259,8 @@ impl CellStorage {
         Ok(())
     }
 
-    /// How many cells are left without the visible default blanks that end the list. The hidden cell behind a wide one is none of these.
+    /// How many cells are left without the visible default blanks that end the list. The hidden
+    /// cell behind a wide one is none of these.
     pub fn kept_len(&self) -> usize
         ensures { IsKept (cells_of self.now) result }
     {
@@ -301,7 +320,9 @@ impl CellStorage {
         }
     }
 
-    /// The storage as a vector, which it is from then on. Its cells can be written: the list is then what was written, and another vector where one was assigned. With a vector it never fails. On an error nothing changed.
+    /// The storage as a vector, which it is from then on. Its cells can be written: the list is
+    /// then what was written, and another vector where one was assigned. With a vector it never
+    /// fails. On an error nothing changed.
     #[inline(never)]
     pub fn coerce_vec(&mut self) -> Result<&mut VecStorage, AllocError>
         ensures* writes_back { sem 𝓛 (LendsVector self.entry result) }
@@ -317,8 +338,11 @@ impl CellStorage {
         }
     }
 
-    /// Puts the cells in a text, which takes far less memory where cells in a row are alike. A vector stays one where a hidden cell isn't a blank with the attributes of the cell that hides it, or where the last visible cell is wide and lacks its half.
-    /// The list of cells stays. On an error, which a visible cell of 2^32 bytes or more gives too, nothing changed.
+    /// Puts the cells in a text, which takes far less memory where cells in a row are alike. A
+    /// vector stays one where a hidden cell isn't a blank with the attributes of the cell that
+    /// hides it, or where the last visible cell is wide and lacks its half.
+    /// The list of cells stays. On an error, which a visible cell of 2^32 bytes or more gives too,
+    /// nothing changed.
     pub fn compress(&mut self, alloc: Global) -> Result<(), AllocError>
         ensures cells { cells_of self.new ≡ cells_of self.old }
         ensures clustered { OnOk result (is_vector self.new ≡ false ↔ IsWhole (cells_of self.old)) }
@@ -382,7 +406,8 @@ impl Eq for CellStorage {
 }
 
 impl CellStorage {
-    // Whether each hidden cell is the half of the one that hides it, and no visible wide cell lacks its half. The reader of a text's length knows it.
+    // Whether each hidden cell is the half of the one that hides it, and no visible wide cell lacks
+    // its half. The reader of a text's length knows it.
     fn is_whole(&self) -> bool
         ensures { IsTrue result ↔ IsWhole (cells_of self.now) }
     {

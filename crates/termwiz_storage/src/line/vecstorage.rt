@@ -171,7 +171,9 @@ impl VecStorage {
         Ok(())
     }
 
-    /// Sets the cell at a column, and behind a wide one its half. The list is first padded with default blanks as far as these need, and a wide cell stored right before the column becomes a blank with its attributes.
+    /// Sets the cell at a column, and behind a wide one its half. The list is first padded with
+    /// default blanks as far as these need, and a wide cell stored right before the column becomes
+    /// a blank with its attributes.
     /// On an error, which a cell past the greatest column gives too, nothing changed.
     #[inline(always)]
     pub(crate) fn set_cell(&mut self, i: usize, cell: Cell) -> Result<(), AllocError>
@@ -186,7 +188,8 @@ impl VecStorage {
         Ok(())
     }
 
-    /// Sets a cell as `set_cell` does, in a list that is then cut to `len` cells. On an error, which a cell past the greatest column gives too, nothing changed.
+    /// Sets a cell as `set_cell` does, in a list that is then cut to `len` cells. On an error,
+    /// which a cell past the greatest column gives too, nothing changed.
     #[inline(always)]
     pub(crate) fn set_cell_within(
         &mut self,
@@ -213,7 +216,8 @@ impl VecStorage {
         }
     }
 
-    /// Sets the cell of each character of a run of printable ASCII, in order from a column on, with attributes that take no memory. It takes memory only where the list grows.
+    /// Sets the cell of each character of a run of printable ASCII, in order from a column on, with
+    /// attributes that take no memory. It takes memory only where the list grows.
     /// On an error, which a cell past the greatest column gives too, nothing changed.
     pub(crate) fn set_run(
         &mut self,
@@ -245,7 +249,8 @@ impl VecStorage {
         put_cells(&mut self.cells, i, run, attrs);
     }
 
-    /// Sets a default blank in each of the columns from `from` up to `to`, which is not among them, in order. On an error nothing changed.
+    /// Sets a default blank in each of the columns from `from` up to `to`, which is not among them,
+    /// in order. On an error nothing changed.
     pub(crate) fn set_blanks(&mut self, from: usize, to: usize) -> Result<(), AllocError>
         ensures ok { OnOk result (self.new ≡ fill (to - from) from blank self.old) }
         ensures err { OnErr result (self.new ≡ self.old) }
@@ -277,7 +282,8 @@ impl VecStorage {
         self.used = self.used.min(len);
     }
 
-    /// Makes the list this many default blanks. It can only fail where the list grows. On an error nothing changed.
+    /// Makes the list this many default blanks. It can only fail where the list grows. On an error
+    /// nothing changed.
     pub(crate) fn blank_out(&mut self, len: usize) -> Result<(), AllocError>
         ensures ok { OnOk result (self.new ≡ replicate len blank) }
         ensures err { OnErr result (self.new ≡ self.old) }
@@ -288,7 +294,8 @@ impl VecStorage {
         Ok(())
     }
 
-    // Pads with default blanks, or cuts, where the list is of another length. On an error nothing changed.
+    // Pads with default blanks, or cuts, where the list is of another length. On an error nothing
+    // changed.
     fn fit(&mut self, len: usize) -> Result<(), AllocError>
         ensures ok { OnOk result (length self.new ≡ len) }
         ensures err { OnErr result (self.new ≡ self.old) }
@@ -310,7 +317,8 @@ impl VecStorage {
         self.is_hidden(self.cells.len())
     }
 
-    /// Cuts the list to this many cells, or grows it by default blanks. Where it grows and its last visible cell is wide and lacks its half, the half comes first.
+    /// Cuts the list to this many cells, or grows it by default blanks. Where it grows and its last
+    /// visible cell is wide and lacks its half, the half comes first.
     /// It can only fail where the list grows. On an error nothing changed.
     pub(crate) fn resize(&mut self, len: usize) -> Result<(), AllocError>
         ensures ok { OnOk result (self.new ≡ resized len self.old) }
@@ -415,7 +423,8 @@ fn has_link(cell: &Cell) -> bool
     }
 }
 
-// Pads with default blanks, for which there may be room. It stands apart, so that the way of a list that is long enough is short.
+// Pads with default blanks, for which there may be room. It stands apart, so that the way of a list
+// that is long enough is short.
 #[inline(never)]
 fn pad_cells(cells: &mut Vec<Cell>, len: usize) -> Result<(), AllocError>
     ensures ok { OnOk result (cells.new.items ≡ padded len cells.old.items) }

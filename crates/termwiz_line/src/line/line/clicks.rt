@@ -22,11 +22,17 @@ pub enum DoubleClickRange {
 }
 
 impl Line {
-    /// The columns of the word in which a double click at a column lies. A word cell is a visible one whose text `is_word` accepts. The start is the column of the first cell of the longest run of word cells that ends with the last visible cell at the column or before it. The end is one past the column at which the last cell begins of the longest run of them that starts with the first visible cell at the column or after it: of a wide cell at the end of a word it leaves out the second column.
+    /// The columns of the word in which a double click at a column lies. A word cell is a visible
+    /// one whose text `is_word` accepts. The start is the column of the first cell of the longest
+    /// run of word cells that ends with the last visible cell at the column or before it. The end
+    /// is one past the column at which the last cell begins of the longest run of them that starts
+    /// with the first visible cell at the column or after it: of a wide cell at the end of a word
+    /// it leaves out the second column.
     /// ```text
     /// |foo bar|  at column 1:  0..3      at column 3, the space:  3..3      at column 5:  4..7
     /// ```
-    /// Where the run on a side has no cell, its start or end is the column itself, and so are both where the column lies behind the line. It takes no memory.
+    /// Where the run on a side has no cell, its start or end is the column itself, and so are both
+    /// where the column lies behind the line. It takes no memory.
     pub fn compute_double_click_range<F: Fn(&str) -> bool>(
         &self,
         click_col: usize,

@@ -23,7 +23,8 @@ use termwiz_cell::change::SequenceNo;
 use termwiz_storage::line::vecstorage::VecStorage;
 
 impl Line {
-    /// Makes the line this many blanks with these attributes, without flags. It takes the number. On an error number, flags and cells are as before.
+    /// Makes the line this many blanks with these attributes, without flags. It takes the number.
+    /// On an error number, flags and cells are as before.
     pub fn resize_and_clear(
         &mut self,
         width: usize,
@@ -40,9 +41,11 @@ impl Line {
         Ok(())
     }
 
-    /// Sets the cell at a column. The line is padded with default blanks up to it, a wide cell that is cut leaves a blank with its attributes, and the half of a wide cell follows it.
+    /// Sets the cell at a column. The line is padded with default blanks up to it, a wide cell that
+    /// is cut leaves a blank with its attributes, and the half of a wide cell follows it.
     /// At the end of a line that stores its cells as one text it is appended to the text.
-    /// The line takes the number. On an error, which also comes where the cell would end past the greatest `usize`, number, flags and cells are as before.
+    /// The line takes the number. On an error, which also comes where the cell would end past the
+    /// greatest `usize`, number, flags and cells are as before.
     pub fn set_cell(&mut self, i: usize, cell: Cell, seqno: SequenceNo) -> Result<(), AllocError>
         ensures ok { OnOk result (IsEdited self.old (set_cell i cell self.old.cells) seqno self.new) }
         ensures err { OnErr result (IsUnchanged self.old self.new) }
@@ -55,8 +58,10 @@ impl Line {
         Ok(())
     }
 
-    /// Sets the cell of a text of this width at a column, as `set_cell` does. A width of 0 counts as 1.
-    /// The line takes the number. On an error, which also comes where the cell would end past the greatest `usize`, number, flags and cells are as before.
+    /// Sets the cell of a text of this width at a column, as `set_cell` does. A width of 0 counts
+    /// as 1.
+    /// The line takes the number. On an error, which also comes where the cell would end past the
+    /// greatest `usize`, number, flags and cells are as before.
     pub fn set_cell_grapheme(
         &mut self,
         i: usize,
@@ -77,7 +82,8 @@ impl Line {
     }
 
     /// Sets the cell at a column as `set_cell` does, in a line that is then cut to `width` columns.
-    /// The line takes the number. On an error, which also comes where the cell would end past the greatest `usize`, number, flags and cells are as before.
+    /// The line takes the number. On an error, which also comes where the cell would end past the
+    /// greatest `usize`, number, flags and cells are as before.
     #[inline(always)]
     pub fn set_cell_within(
         &mut self,
@@ -96,8 +102,10 @@ impl Line {
         Ok(())
     }
 
-    /// Sets the cell of each character of a run of printable ASCII, in order from a column on, with attributes that take no memory. A vector takes memory only where it grows.
-    /// The line takes the number. On an error, which also comes where the run would end past the greatest `usize`, number, flags and cells are as before.
+    /// Sets the cell of each character of a run of printable ASCII, in order from a column on, with
+    /// attributes that take no memory. A vector takes memory only where it grows.
+    /// The line takes the number. On an error, which also comes where the run would end past the
+    /// greatest `usize`, number, flags and cells are as before.
     pub fn set_run(
         &mut self,
         i: usize,
@@ -117,7 +125,8 @@ impl Line {
         Ok(())
     }
 
-    /// Cuts the default blanks at the end, unless there is nothing else. The line takes the number where that changes it.
+    /// Cuts the default blanks at the end, unless there is nothing else. The line takes the number
+    /// where that changes it.
     /// A vector takes no memory. On an error number, flags and cells are as before.
     pub fn prune_trailing_blanks(&mut self, seqno: SequenceNo) -> Result<(), AllocError>
         ensures ok { OnOk result (Prunes self.old seqno self.new) }
@@ -178,8 +187,11 @@ impl Line {
         self.storage.is_empty() && cell.is_blank()
     }
 
-    /// Sets the cell in each of the columns, in order, as `set_cell` does, and then prunes as `prune_trailing_blanks` does. So of a wide cell the last one stays, and each before it leaves its half. An empty line stays as it is where the cell is a default blank.
-    /// The line takes the number with the first cell that is set, and where pruning changes it. On an error the cell was set in some first columns, and nothing was pruned.
+    /// Sets the cell in each of the columns, in order, as `set_cell` does, and then prunes as
+    /// `prune_trailing_blanks` does. So of a wide cell the last one stays, and each before it
+    /// leaves its half. An empty line stays as it is where the cell is a default blank.
+    /// The line takes the number with the first cell that is set, and where pruning changes it. On
+    /// an error the cell was set in some first columns, and nothing was pruned.
     pub fn fill_range(
         &mut self,
         range: Range<usize>,
@@ -198,12 +210,16 @@ impl Line {
         self.prune_trailing_blanks(seqno)
     }
 
-    /// Inserts a cell at a column, and its half behind a wide one, which moves the cells from there on. First the last cell before the margin is removed, where there is one, and then a line that is too short is padded with default blanks.
-    /// A margin is the column behind the last one that it holds, so it is at least 1. A wide cell that this cuts stays as it is.
+    /// Inserts a cell at a column, and its half behind a wide one, which moves the cells from there
+    /// on. First the last cell before the margin is removed, where there is one, and then a line
+    /// that is too short is padded with default blanks.
+    /// A margin is the column behind the last one that it holds, so it is at least 1. A wide cell
+    /// that this cuts stays as it is.
     /// ```text
     /// |abcd|  X at 1, margin 4:  |aXbc|      X at 1, margin 3:  |aXbd|
     /// ```
-    /// The line takes the number. On an error, which also comes where the cell would end past the greatest `usize`, number, flags and cells are as before.
+    /// The line takes the number. On an error, which also comes where the cell would end past the
+    /// greatest `usize`, number, flags and cells are as before.
     pub fn insert_cell(
         &mut self,
         x: usize,
@@ -222,8 +238,11 @@ impl Line {
         Ok(())
     }
 
-    /// Removes the cell at a column, which moves those behind it, and appends a default blank. A wide cell before it that this cuts becomes a blank with its attributes. Past the end of the line nothing changes.
-    /// The line takes the number where it changes. A vector takes no memory. On an error number, flags and cells are as before.
+    /// Removes the cell at a column, which moves those behind it, and appends a default blank. A
+    /// wide cell before it that this cuts becomes a blank with its attributes. Past the end of the
+    /// line nothing changes.
+    /// The line takes the number where it changes. A vector takes no memory. On an error number,
+    /// flags and cells are as before.
     pub fn erase_cell(&mut self, x: usize, seqno: SequenceNo) -> Result<(), AllocError>
         ensures ok { OnOk result (IsEditedAt x self.old (erased x self.old.cells) seqno self.new) }
         ensures err { OnErr result (IsUnchanged self.old self.new) }
@@ -238,8 +257,10 @@ impl Line {
         Ok(())
     }
 
-    /// Removes the cell at a column, which moves those behind it. A wide cell before it that this cuts becomes a blank with its attributes. Past the end of the line nothing changes.
-    /// The line takes the number where it changes. A vector takes no memory. On an error number, flags and cells are as before.
+    /// Removes the cell at a column, which moves those behind it. A wide cell before it that this
+    /// cuts becomes a blank with its attributes. Past the end of the line nothing changes.
+    /// The line takes the number where it changes. A vector takes no memory. On an error number,
+    /// flags and cells are as before.
     pub fn remove_cell(&mut self, x: usize, seqno: SequenceNo) -> Result<(), AllocError>
         ensures ok { OnOk result (IsEditedAt x self.old (removed x self.old.cells) seqno self.new) }
         ensures err { OnErr result (IsUnchanged self.old self.new) }
@@ -254,7 +275,8 @@ impl Line {
         Ok(())
     }
 
-    /// Removes the cell at a column as `remove_cell` does, and inserts a blank with these attributes in the last column before the margin, where the line reaches up to it.
+    /// Removes the cell at a column as `remove_cell` does, and inserts a blank with these
+    /// attributes in the last column before the margin, where the line reaches up to it.
     /// A margin is the column behind the last one that it holds, so it is at least 1.
     /// ```text
     /// |abcd|  column 0, margin 3:  |bc d|
@@ -279,7 +301,8 @@ impl Line {
         Ok(())
     }
 
-    /// Keeps the cells before a column, and the number. The rest is handed out as a line with the same flags and with the number that is given.
+    /// Keeps the cells before a column, and the number. The rest is handed out as a line with the
+    /// same flags and with the number that is given.
     /// On an error number, flags and cells are as before.
     pub fn split_off(&mut self, i: usize, seqno: SequenceNo) -> Result<Line, AllocError>
         ensures kept { OnOk result (HasCells self.old (take i self.old.cells) self.new) }
@@ -308,7 +331,8 @@ impl Line {
         Ok(())
     }
 
-    /// A line of the visible cells that begin in these columns, the half of each wide one behind it. It has this line's number, and no flags.
+    /// A line of the visible cells that begin in these columns, the half of each wide one behind
+    /// it. It has this line's number, and no flags.
     pub fn columns_as_line(&self, range: Range<usize>) -> Result<Line, AllocError>
         ensures { IfOk result (λ line. line ≡ record { cells = columns_between range.start range.end self.now.cells; seqno = self.now.seqno; flags = no_flags; is_vector = true }) }
     {
@@ -316,7 +340,8 @@ impl Line {
         Ok(Line::of(self.alloc, storage, self.seqno))
     }
 
-    /// The stored cells, for writing: `line.cells_mut()?[i] = cell`. The line is a vector from then on, and its number stays.
+    /// The stored cells, for writing: `line.cells_mut()?[i] = cell`. The line is a vector from then
+    /// on, and its number stays.
     /// On an error, which a vector never gives, number, flags and cells are as before.
     pub fn cells_mut(&mut self) -> Result<&mut VecStorage, AllocError>
         ensures* writes_back { sem 𝓛 (LendsLine self.entry result) }

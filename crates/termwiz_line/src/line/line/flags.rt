@@ -1,4 +1,5 @@
-//! The number of a line, and its flags: how large its characters are, and the direction of its text.
+//! The number of a line, and its flags: how large its characters are, and the direction of its
+//! text.
 ghost use Rattle.std.specs.Prelude.{◌≡◌, ◌<◌, ◌↔◌, ◌&&◌, ◌||◌, ◌⊎◌, IsTrue, false, max, not, true};
 ghost use Rattle.termwiz_line.specs.Directions.{goes_left, is_auto, is_right_to_left};
 ghost use Rattle.termwiz_line.specs.LineFlags.{with_direction, with_sizes};
@@ -17,7 +18,8 @@ impl Line {
         self.seqno
     }
 
-    /// Whether the line has changed since this number. One with the number 0 always counts as changed.
+    /// Whether the line has changed since this number. One with the number 0 always counts as
+    /// changed.
     pub fn changed_since(&self, seqno: SequenceNo) -> bool
         ensures { IsTrue result ↔ ((self.now.seqno ≡ 0) ⊎ (seqno < self.now.seqno)) }
     {
@@ -74,7 +76,8 @@ impl Line {
             && !self.bits.contains(LineBits::DOUBLE_HEIGHT_BOTTOM)
     }
 
-    /// Shows the upper half of cells that are twice as wide and two rows high. The line takes the number.
+    /// Shows the upper half of cells that are twice as wide and two rows high. The line takes the
+    /// number.
     pub fn set_double_height_top(&mut self, seqno: SequenceNo)
         ensures { self.new ≡ record self.old { flags = with_sizes true true false self.old.flags; seqno = max self.old.seqno seqno } }
     {
@@ -91,7 +94,8 @@ impl Line {
             && self.bits.contains(LineBits::DOUBLE_HEIGHT_BOTTOM)
     }
 
-    /// Shows the lower half of cells that are twice as wide and two rows high. The line takes the number.
+    /// Shows the lower half of cells that are twice as wide and two rows high. The line takes the
+    /// number.
     pub fn set_double_height_bottom(&mut self, seqno: SequenceNo)
         ensures { self.new ≡ record self.old { flags = with_sizes true false true self.old.flags; seqno = max self.old.seqno seqno } }
     {
@@ -99,7 +103,8 @@ impl Line {
         self.seqno = self.seqno.max(seqno);
     }
 
-    /// Says whether whoever shows the line may lay out its text by the bidirectional algorithm. The line takes the number.
+    /// Says whether whoever shows the line may lay out its text by the bidirectional algorithm. The
+    /// line takes the number.
     pub fn set_bidi_enabled(&mut self, enabled: bool, seqno: SequenceNo)
         ensures { self.new ≡ record self.old { flags = record self.old.flags { bidi_enabled = enabled }; seqno = max self.old.seqno seqno } }
     {
@@ -107,7 +112,8 @@ impl Line {
         self.seqno = self.seqno.max(seqno);
     }
 
-    /// Sets the direction of the text, and whether the text itself is asked first. The line takes the number.
+    /// Sets the direction of the text, and whether the text itself is asked first. The line takes
+    /// the number.
     pub fn set_direction(&mut self, direction: Direction, auto_detect: bool, seqno: SequenceNo)
         ensures { self.new ≡ record self.old { flags = with_direction (goes_left direction) auto_detect self.old.flags; seqno = max self.old.seqno seqno } }
     {
@@ -116,7 +122,8 @@ impl Line {
         self.seqno = self.seqno.max(seqno);
     }
 
-    /// Sets both: whether the bidirectional algorithm may lay out the text, and what decides its direction. The line takes the number.
+    /// Sets both: whether the bidirectional algorithm may lay out the text, and what decides its
+    /// direction. The line takes the number.
     pub fn set_bidi_info(
         &mut self,
         enabled: bool,

@@ -25,7 +25,8 @@ use termwiz_storage::line::vecstorage::push_with_half;
 use termwiz_text::Graphemes;
 
 impl Line {
-    /// A line of the cells of a text's graphemes, the half of each wide one behind it, with these attributes. They are measured by the given version of Unicode.
+    /// A line of the cells of a text's graphemes, the half of each wide one behind it, with these
+    /// attributes. They are measured by the given version of Unicode.
     pub fn from_text<W: Widths>(
         alloc: Global,
         text: &str,
@@ -55,7 +56,8 @@ impl Line {
         )
     }
 
-    /// A line of a text, as `from_text` makes it without a version, whose last visible cell is marked as wrapped, with its half. An empty text makes a line without cells.
+    /// A line of a text, as `from_text` makes it without a version, whose last visible cell is
+    /// marked as wrapped, with its half. An empty text makes a line without cells.
     pub fn from_text_with_wrapped_last_col<W: Widths>(
         alloc: Global,
         text: &str,
@@ -72,12 +74,14 @@ impl Line {
         Ok(line)
     }
 
-    /// Sets the cells of a text's graphemes, as `set_cell` does, the first at a column and each of the others behind the last one.
+    /// Sets the cells of a text's graphemes, as `set_cell` does, the first at a column and each of
+    /// the others behind the last one.
     /// ```text
     /// |abcdef|  `xかy` from column 1:  |axかyf|      |ab|  `x` from column 4:  |ab  x|
     /// ```
     /// The line takes the number with the first; an empty text changes nothing.
-    /// On an error, which also comes where a cell would end past the greatest `usize`, some first ones are set.
+    /// On an error, which also comes where a cell would end past the greatest `usize`, some first
+    /// ones are set.
     pub fn overlay_text_with_attribute<W: Widths>(
         &mut self,
         start: usize,
@@ -101,7 +105,8 @@ impl Line {
         Ok(())
     }
 
-    /// The texts of the visible cells, one after another. A line that stores them as one text lends it, which takes no memory.
+    /// The texts of the visible cells, one after another. A line that stores them as one text lends
+    /// it, which takes no memory.
     pub fn as_str(&self) -> Result<CowStr<'_>, AllocError>
         ensures text { IfOk result (λ text. cow_str_bytes text ≡ texts_of (visible self.now.cells)) }
         ensures lent { self.now.is_vector ≡ false → IsOkAnd result IsBorrowedStr }
@@ -124,7 +129,8 @@ impl Line {
         Ok(text)
     }
 
-    /// The visible cell that begins at a column. There is none at the half of a wide cell, or behind the line.
+    /// The visible cell that begins at a column. There is none at the half of a wide cell, or
+    /// behind the line.
     pub fn get_cell(&self, cell_index: usize) -> Option<CellRef<'_>>
         ensures cell { option_map ref_cell result ≡ cell_at (visible self.now.cells) cell_index }
         ensures index { IfSome result (λ cell. ref_index cell ≡ cell_index) }

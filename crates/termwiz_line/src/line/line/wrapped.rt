@@ -11,7 +11,8 @@ use std::alloc::AllocError;
 use termwiz_cell::change::SequenceNo;
 
 impl Line {
-    /// Marks the last visible cell, and the stored cell that it hides, as wrapped, or not. An empty line first gets a default blank.
+    /// Marks the last visible cell, and the stored cell that it hides, as wrapped, or not. An empty
+    /// line first gets a default blank.
     /// The line takes the number. On an error number, flags and cells are as before.
     pub fn set_last_cell_was_wrapped(
         &mut self,

@@ -16,11 +16,15 @@ use termwiz_storage::line::cellref::{CellRef, VisibleCellIter};
 use termwiz_storage::line::vecstorage::push_with_half;
 
 impl Line {
-    /// Cuts the line into lines of at most this many columns, which have the number and no flags. A line takes as many cells as fit, and one at least, so a wide cell has a line of 2 columns where the width is less; the half of a wide cell follows it. The cells behind the last one that isn't a space are dropped, and each line but the last is marked as wrapped.
+    /// Cuts the line into lines of at most this many columns, which have the number and no flags. A
+    /// line takes as many cells as fit, and one at least, so a wide cell has a line of 2 columns
+    /// where the width is less; the half of a wide cell follows it. The cells behind the last one
+    /// that isn't a space are dropped, and each line but the last is marked as wrapped.
     /// ```text
     /// |aかb |  at 2 columns:  |a|  |か|  |b|
     /// ```
-    /// A line of spaces alone, or of no cells, comes back as it is. On an error the line is dropped.
+    /// A line of spaces alone, or of no cells, comes back as it is. On an error the line is
+    /// dropped.
     pub fn wrap(self, width: usize, seqno: SequenceNo) -> Result<Vec<Line>, AllocError>
         ensures ok { IfOk result (λ lines. IsWrapped width seqno self lines.items) }
         ensures fits { 2 ≤ width → IfOk result (λ lines. FitsWidth width self lines.items) }
@@ -56,7 +60,8 @@ fn text_count(cells: VisibleCellIter<'_>) -> usize
     kept
 }
 
-// The lines of a cell and of those after it, up to a count. The last cell of a line is held back until it is known whether another line follows.
+// The lines of a cell and of those after it, up to a count. The last cell of a line is held back
+// until it is known whether another line follows.
 fn lines_from<'a>(
     alloc: Global,
     first: CellRef<'a>,

@@ -21,12 +21,14 @@ use termwiz_storage::line::storage::CellStorage;
 pub struct ZoneRange {
     /// What the run is to its reader.
     pub semantic_type: SemanticType,
-    /// From the column of the first cell to that of the last, which is in the zone too: the zone of one cell is an empty range.
+    /// From the column of the first cell to that of the last, which is in the zone too: the zone of
+    /// one cell is an empty range.
     pub range: Range<usize>,
 }
 
 impl Line {
-    /// The runs of visible cells of one semantic type, in order, up to the last cell that isn't a default blank, or all where there is no such cell.
+    /// The runs of visible cells of one semantic type, in order, up to the last cell that isn't a
+    /// default blank, or all where there is no such cell.
     /// They are kept until the next edit of cells. The line is as before, also on an error.
     pub fn semantic_zone_ranges(&mut self) -> Result<&[ZoneRange], AllocError>
         ensures* unchanged { sem 𝓛 (KeepsLine self.entry) }

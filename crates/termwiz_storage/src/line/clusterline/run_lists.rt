@@ -91,7 +91,8 @@ fn push_run(runs: &mut Vec<AttrsRun>, attrs: CellAttributes, cells: u16)
     }
 }
 
-/// Marks the last cell as wrapped, or not, in a run of its own, for which there is room. On an error nothing changed.
+/// Marks the last cell as wrapped, or not, in a run of its own, for which there is room. On an
+/// error nothing changed.
 pub(super) fn wrap_last(runs: &mut Vec<AttrsRun>, wrapped: bool) -> Result<(), AllocError>
     requires { vec_len runs.old < vec_capacity runs.old }
     ensures ok { OnOk result (attrs_of runs.new.items ≡ map_last (marked wrapped) (attrs_of runs.old.items)) }

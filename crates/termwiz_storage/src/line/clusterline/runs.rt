@@ -3,7 +3,8 @@ ghost use Rattle.std.specs.Prelude.{◌<◌};
 
 use termwiz_cell::cell::CellAttributes;
 
-/// How a cell stands in a line's text: it takes one character or so many bytes, and one column or two.
+/// How a cell stands in a line's text: it takes one character or so many bytes, and one column or
+/// two.
 #[derive(Clone, Copy)]
 pub(super) struct Shape {
     pub(super) bytes: u32,

@@ -20,7 +20,8 @@ impl CellStorage {
         Ok(CellStorage::V(storage))
     }
 
-    /// Makes the list this many blanks with these attributes, in a vector. On an error the cells are as before.
+    /// Makes the list this many blanks with these attributes, in a vector. On an error the cells
+    /// are as before.
     pub fn clear_to(
         &mut self,
         alloc: Global,
@@ -40,7 +41,8 @@ impl CellStorage {
         Ok(())
     }
 
-    /// Removes the stored cell at a column, where there is one. A wide cell stored right before it becomes a blank with its attributes; the half of a wide cell that is removed stays.
+    /// Removes the stored cell at a column, where there is one. A wide cell stored right before it
+    /// becomes a blank with its attributes; the half of a wide cell that is removed stays.
     /// With a vector it never fails. On an error the cells are as before.
     pub fn remove_cell(&mut self, x: usize) -> Result<(), AllocError>
         ensures ok { OnOk result (cells_of self.new ≡ removed x (cells_of self.old)) }
@@ -53,7 +55,8 @@ impl CellStorage {
         Ok(())
     }
 
-    /// Removes the cell at a column as `remove_cell` does, where there is one, and then appends a default blank.
+    /// Removes the cell at a column as `remove_cell` does, where there is one, and then appends a
+    /// default blank.
     /// With a vector it never fails. On an error the cells are as before.
     pub fn erase_cell(&mut self, x: usize) -> Result<(), AllocError>
         ensures ok { OnOk result (cells_of self.new ≡ erased x (cells_of self.old)) }
@@ -66,7 +69,9 @@ impl CellStorage {
         Ok(())
     }
 
-    /// Removes the cell at a column as `remove_cell` does, where there is one, and then inserts a blank with these attributes in the last column before a margin of at least 1, where the list reaches up to that column.
+    /// Removes the cell at a column as `remove_cell` does, where there is one, and then inserts a
+    /// blank with these attributes in the last column before a margin of at least 1, where the list
+    /// reaches up to that column.
     /// On an error the cells are as before.
     pub fn erase_cell_with_margin(
         &mut self,
@@ -84,8 +89,11 @@ impl CellStorage {
         Ok(())
     }
 
-    /// Inserts a cell at a column, and behind a wide one its half. First the stored cell in the last column before a margin of at least 1 is removed, where there is one, and the list is padded with default blanks up to the column.
-    /// A wide cell that is then stored right before the column stays, so the inserted cell may be hidden.
+    /// Inserts a cell at a column, and behind a wide one its half. First the stored cell in the
+    /// last column before a margin of at least 1 is removed, where there is one, and the list is
+    /// padded with default blanks up to the column.
+    /// A wide cell that is then stored right before the column stays, so the inserted cell may be
+    /// hidden.
     /// On an error, which a cell past the greatest column gives too, the cells are as before.
     pub fn insert_cell(&mut self, x: usize, cell: Cell, margin: usize) -> Result<(), AllocError>
         requires { 1 ≤ margin }
@@ -98,7 +106,8 @@ impl CellStorage {
         Ok(())
     }
 
-    /// Keeps the stored cells before a column, and hands out the rest in a vector. On an error the cells are as before.
+    /// Keeps the stored cells before a column, and hands out the rest in a vector. On an error the
+    /// cells are as before.
     pub fn split_off(&mut self, at: usize) -> Result<CellStorage, AllocError>
         ensures kept { OnOk result (cells_of self.new ≡ take at (cells_of self.old)) }
         ensures rest { IfOk result (λ rest. cells_of rest ≡ drop at (cells_of self.old)) }
@@ -111,7 +120,8 @@ impl CellStorage {
         Ok(CellStorage::V(rest))
     }
 
-    /// Appends the visible cells of another list, the half of each wide one behind it. On an error the cells are as before.
+    /// Appends the visible cells of another list, the half of each wide one behind it. On an error
+    /// the cells are as before.
     pub fn append_visible(&mut self, other: &CellStorage) -> Result<(), AllocError>
         ensures ok { OnOk result (cells_of self.new ≡ cells_of self.old ++ with_halves (visible (cells_of other.now))) }
         ensures err { OnErr result (cells_of self.new ≡ cells_of self.old) }
@@ -126,7 +136,8 @@ impl CellStorage {
         Ok(())
     }
 
-    /// A vector of the visible cells that begin in the columns from `from` up to `to`, which is not among them, the half of each wide one behind it.
+    /// A vector of the visible cells that begin in the columns from `from` up to `to`, which is not
+    /// among them, the half of each wide one behind it.
     pub fn columns(&self, from: usize, to: usize) -> Result<CellStorage, AllocError>
         ensures cells { IfOk result (λ cells. cells_of cells ≡ columns_between from to (cells_of self.now)) }
         ensures vector { IfOk result (λ cells. is_vector cells ≡ true) }

@@ -19,7 +19,8 @@ impl VecStorage {
         Ok(VecStorage::new(cells))
     }
 
-    /// Removes the stored cell at a column, where there is one. A wide cell stored right before it becomes a blank with its attributes.
+    /// Removes the stored cell at a column, where there is one. A wide cell stored right before it
+    /// becomes a blank with its attributes.
     pub(crate) fn remove_cell(&mut self, x: usize)
         ensures { self.new ≡ removed x self.old }
     {
@@ -29,7 +30,8 @@ impl VecStorage {
         }
     }
 
-    /// Removes the cell at a column as `remove_cell` does, where there is one, and then appends a default blank.
+    /// Removes the cell at a column as `remove_cell` does, where there is one, and then appends a
+    /// default blank.
     pub(crate) fn erase_cell(&mut self, x: usize)
         ensures { self.new ≡ erased x self.old }
     {
@@ -39,7 +41,9 @@ impl VecStorage {
         }
     }
 
-    /// Removes the cell at a column as `remove_cell` does, where there is one, and then inserts a blank with these attributes in the last column before a margin, where the list reaches up to that column.
+    /// Removes the cell at a column as `remove_cell` does, where there is one, and then inserts a
+    /// blank with these attributes in the last column before a margin, where the list reaches up to
+    /// that column.
     /// On an error nothing changed.
     pub(crate) fn erase_cell_with_margin(
         &mut self,
@@ -63,7 +67,9 @@ impl VecStorage {
         Ok(())
     }
 
-    /// Inserts a cell at a column, and behind a wide one its half. First the stored cell in the last column before a margin is removed, where there is one, and the list is padded with default blanks up to the column.
+    /// Inserts a cell at a column, and behind a wide one its half. First the stored cell in the
+    /// last column before a margin is removed, where there is one, and the list is padded with
+    /// default blanks up to the column.
     /// On an error, which a cell past the greatest column gives too, nothing changed.
     pub(crate) fn insert_cell(
         &mut self,
@@ -92,7 +98,8 @@ impl VecStorage {
         Ok(VecStorage::new(rest))
     }
 
-    /// Appends the visible cells of another list, the half of each wide one behind it. On an error nothing changed.
+    /// Appends the visible cells of another list, the half of each wide one behind it. On an error
+    /// nothing changed.
     pub(crate) fn append_visible(&mut self, other: &VecStorage) -> Result<(), AllocError>
         ensures ok { OnOk result (self.new ≡ self.old ++ with_halves (visible other.now)) }
         ensures err { OnErr result (self.new ≡ self.old) }
@@ -103,7 +110,8 @@ impl VecStorage {
         Ok(())
     }
 
-    /// The visible cells that begin in the columns from `from` up to `to`, which is not among them, the half of each wide one behind it.
+    /// The visible cells that begin in the columns from `from` up to `to`, which is not among them,
+    /// the half of each wide one behind it.
     pub(crate) fn columns(&self, from: usize, to: usize) -> Result<VecStorage, AllocError>
         ensures { IfOk result (λ cells. cells ≡ columns_between from to self.now) }
     {
@@ -133,7 +141,8 @@ fn shift_out(cells: &mut Vec<Cell>, x: usize)
     cells.push(Cell::blank()).unwrap();
 }
 
-// Removes the cell at a column, and inserts one in the last column before a margin, where the list reaches up to it.
+// Removes the cell at a column, and inserts one in the last column before a margin, where the list
+// reaches up to it.
 fn shift_to_margin(cells: &mut Vec<Cell>, x: usize, margin: usize, cell: Cell)
     requires place { x < vec_len cells.old }
     requires margin { 1 ≤ margin }
@@ -178,7 +187,8 @@ fn len_before_margin(len: usize, margin: usize) -> usize
     len
 }
 
-// Removes the cell before a margin, and pads up to a column, with room for so many cells more. On an error nothing changed.
+// Removes the cell before a margin, and pads up to a column, with room for so many cells more. On
+// an error nothing changed.
 fn make_gap(
     cells: &mut Vec<Cell>,
     x: usize,
@@ -232,7 +242,8 @@ fn insert_moving(
     Ok(())
 }
 
-/// Pushes a cell, and behind a wide one its half. On an error the wide cell may have been pushed without its half.
+/// Pushes a cell, and behind a wide one its half. On an error the wide cell may have been pushed
+/// without its half.
 pub fn push_with_half(out: &mut Vec<Cell>, cell: Cell) -> Result<(), AllocError>
     ensures { OnOk result (out.new.items ≡ out.old.items ++ with_half cell) }
 {
@@ -277,7 +288,8 @@ fn push_where(out: &mut Vec<Cell>, cell: &Cell, shown: bool) -> Result<(), Alloc
     Ok(())
 }
 
-// Pushes copies of the visible cells that begin in the columns from one up to another, with their halves.
+// Pushes copies of the visible cells that begin in the columns from one up to another, with their
+// halves.
 fn push_columns(
     out: &mut Vec<Cell>,
     cells: &[Cell],

@@ -10,7 +10,8 @@ use std::alloc::AllocError;
 use termwiz_cell::cell::{Cell, CellAttributes};
 
 impl VecStorage {
-    /// Marks the last visible cell and the stored cell that it hides as wrapped, or not. An empty list first gets a default blank.
+    /// Marks the last visible cell and the stored cell that it hides as wrapped, or not. An empty
+    /// list first gets a default blank.
     /// On an error, which only an empty list gives, nothing changed.
     pub(crate) fn set_last_wrapped(&mut self, wrapped: bool) -> Result<(), AllocError>
         ensures ok { OnOk result (self.new ≡ set_last_wrapped wrapped self.old) }

@@ -1,5 +1,6 @@
 -- The clusters of visible cells, one behind another, have the texts, the columns and the bytes of these.
 use Rattle.std.proofs.Common.{◌≡◌, ℕ, ◌+◌, List, [], ◌∷◌, ◌++◌, map, refl, sym, ◌∙◌, ap, ap₂, append_assoc}
+use Rattle.std.specs.List.{flat_map}
 use Rattle.std.specs.Prelude.{sum_by, Option}
 use Rattle.std.proofs.lemmas.List.Sums.{sum_by-cons}
 use Rattle.std.proofs.lemmas.Grind.{flat_map-append}
@@ -23,7 +24,7 @@ parts_join {A} IsPiece (r ∷ rs) _ (next_run {parts = p} {others = o} cut rest)
     joined-append p o ∙ ap₂ (λ (x y : List A). x ++ y) cut.whole (parts_join IsPiece rs o rest)
 
 module _ (shown : List ℕ → Presentation × Option Presentation) where
-  texts_join : (parts : List (List (ℕ × CellValue))) → joined (map (λ k. k.text) (map (cluster_of shown) parts)) ≡ texts_of (joined parts)
+  texts_join : (parts : List (List (ℕ × CellValue))) → flat_map (λ k. k.text) (map (cluster_of shown) parts) ≡ texts_of (joined parts)
   texts_join [] = refl
   texts_join (p ∷ ps) = rw (texts_join ps, flat_map-append (λ (c : ℕ × CellValue). c.1.text) p (joined ps)) refl
 
@@ -31,7 +32,7 @@ module _ (shown : List ℕ → Presentation × Option Presentation) where
   widths_join [] = refl
   widths_join (p ∷ ps) = sum_by-cons (λ k. k.width) (cluster_of shown p) (map (cluster_of shown) ps) ∙ ap (λ n. columns_of p + n) (widths_join ps) ∙ sym (columns_of-append p (joined ps))
 
-  bytes_join : (parts : List (List (ℕ × CellValue))) → joined (map (λ k. k.cells_of_bytes) (map (cluster_of shown) parts)) ≡ cells_of_bytes (joined parts)
+  bytes_join : (parts : List (List (ℕ × CellValue))) → flat_map (λ k. k.cells_of_bytes) (map (cluster_of shown) parts) ≡ cells_of_bytes (joined parts)
   bytes_join [] = refl
   bytes_join (p ∷ ps) = rw (bytes_join ps, flat_map-append cell_of_bytes p (joined ps)) refl
 
@@ -39,7 +40,7 @@ pub clusters_join : ClustersJoin
 clusters_join shown cells clusters h =
     let whole : joined h.parts ≡ cells = parts_join IsWordOrSpaces h.runs h.parts h.parts_are ∙ h.runs_are.whole in
     record {
-      texts = ap (λ ks. joined (map (λ k. k.text) ks)) h.clusters_are ∙ texts_join shown h.parts ∙ ap texts_of whole;
+      texts = ap (flat_map (λ k. k.text)) h.clusters_are ∙ texts_join shown h.parts ∙ ap texts_of whole;
       widths = ap (λ ks. sum_by (λ k. k.width) ks) h.clusters_are ∙ widths_join shown h.parts ∙ ap columns_of whole;
-      bytes = ap (λ ks. joined (map (λ k. k.cells_of_bytes) ks)) h.clusters_are ∙ bytes_join shown h.parts ∙ ap cells_of_bytes whole;
+      bytes = ap (flat_map (λ k. k.cells_of_bytes)) h.clusters_are ∙ bytes_join shown h.parts ∙ ap cells_of_bytes whole;
     }

@@ -7,7 +7,7 @@ use Rattle.termwiz_cell.specs.declared.emoji.Presentation.{Presentation}
 use Rattle.termwiz_cell.specs.declared.emoji.Presentation.TheVariants.{Text}
 use Rattle.termwiz_line.specs.declared.line.bidi.Direction.{Direction}
 use Rattle.termwiz_line.specs.declared.line.bidi.Direction.TheVariants.{LeftToRight}
-use Rattle.termwiz_line.specs.Pieces.{IsCut, AreEqualBy, joined}
+use Rattle.termwiz_line.specs.Pieces.{IsCut, AreEqualBy}
 use Rattle.termwiz_line.specs.Texts.{texts_of}
 use Rattle.termwiz_line.specs.Wraps.{IsSpace, columns_of}
 use Rattle.termwiz_line.specs.Zones.{first_index}
@@ -85,6 +85,6 @@ pub record AreClusters (shown : List ℕ → Presentation × Option Presentation
 
 -- the clusters, one behind another, have the texts, the columns and the bytes of these visible cells
 pub record JoinTo (cells : List (ℕ × CellValue)) (clusters : List ClusterValue) : Type 0 where
-  pub texts : joined (map (λ k. k.text) clusters) ≡ texts_of cells
+  pub texts : flat_map (λ k. k.text) clusters ≡ texts_of cells
   pub widths : sum_by (λ k. k.width) clusters ≡ columns_of cells
-  pub bytes : joined (map (λ k. k.cells_of_bytes) clusters) ≡ cells_of_bytes cells
+  pub bytes : flat_map (λ k. k.cells_of_bytes) clusters ≡ cells_of_bytes cells

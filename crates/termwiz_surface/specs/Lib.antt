@@ -89,7 +89,6 @@ pub use Rattle.termwiz_line.specs.Clicks.{AnswersAs, IsLower, IsUpper}
 pub use Rattle.termwiz_line.specs.Wraps.{IsWrapped, FitsWidth}
 pub use Rattle.termwiz_line.specs.Zones.{AreZones}
 pub use Rattle.termwiz_line.specs.Clusters.{AreClusters, JoinTo}
-pub use Rattle.termwiz_line.specs.Pieces.{joined}
 pub use Rattle.termwiz_line.specs.Row.{IsRow, row_of, clear}
 pub use Rattle.termwiz_line.specs.RowLaws.{CellsHaveRow, ClearClears}
 pub use Rattle.termwiz_storage.specs.Stored.{stored, visible, set_cell, set_run}

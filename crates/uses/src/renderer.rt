@@ -1,5 +1,5 @@
 //! A renderer: what it does in each turn of its loop.
-ghost use Rattle.std.specs.Prelude.{◌≡◌, All, OnOk};
+ghost use Rattle.std.specs.Prelude.{◌≡◌, [], All, OnOk};
 ghost use Rattle.termwiz_surface.specs.{Follows, flushed, measure, next_number, screen_of};
 
 use termwiz_surface::emoji::Widths;
@@ -16,6 +16,7 @@ pub fn refresh<W: Widths>(
     requires { Follows (measure W.width_of) viewer.old surface.old }
     ensures shown { OnOk result (screen_of viewer.new.surface ≡ screen_of surface.new) }
     ensures forgets { OnOk result (surface.new.log ≡ flushed surface.old.log viewer.new.last) }
+    ensures viewer_forgets { OnOk result (viewer.new.surface.log.changes ≡ []) }
     ensures unchanged { screen_of surface.new ≡ screen_of surface.old }
     // The next turn can rely on it again, after an error too.
     ensures follows { Follows (measure W.width_of) viewer.new surface.new }

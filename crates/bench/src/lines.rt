@@ -70,19 +70,20 @@ fn widths_at(line: &Line, column: usize, count: u32) -> usize {
     columns
 }
 
-pub fn asked_for_mark(alloc: Global, count: u32) -> Result<usize, SurfaceError> {
+pub fn marked(alloc: Global, count: u32) -> Result<usize, SurfaceError> {
     let mut line = coloured(alloc)?;
     line.compress_for_scrollback()?;
-    Ok(marks(&line, count))
+    marks(&mut line, count)
 }
 
-// How often the line's text goes on, as it is asked for so often.
-fn marks(line: &Line, count: u32) -> usize {
+// How often the line's text goes on, where its mark is set and taken away so often.
+fn marks(line: &mut Line, count: u32) -> Result<usize, SurfaceError> {
     let mut marks = 0usize;
-    for _ in 0..count {
+    for round in 0..count {
+        line.set_last_cell_was_wrapped(round % 2 == 0, SEQ_ZERO)?;
         marks = marks.wrapping_add(usize::from(line.last_cell_was_wrapped()));
     }
-    marks
+    Ok(marks)
 }
 
 pub fn appended(alloc: Global, count: u32) -> Result<usize, SurfaceError> {

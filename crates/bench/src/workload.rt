@@ -65,8 +65,8 @@ pub enum Workload {
     Walk,
     /// The last cell of such a line, which is asked for by its column.
     GetCell,
-    /// Whether such a line goes on, which is asked for.
-    Wrapped,
+    /// The mark of such a line that goes on, which is set or taken away, and asked for.
+    Mark,
     /// A character that is set at the end of a line of up to 120 columns, stored as one text.
     Append,
     /// A setter of an attribute.
@@ -107,7 +107,7 @@ static NAMES: [(&str, Workload); 34] = [
     ("compress", Workload::Compress),
     ("walk", Workload::Walk),
     ("get-cell", Workload::GetCell),
-    ("wrapped", Workload::Wrapped),
+    ("mark", Workload::Mark),
     ("append", Workload::Append),
     ("setter", Workload::Setter),
     ("clone", Workload::Clone),
@@ -157,7 +157,7 @@ pub fn run(alloc: Global, workload: Workload, count: u32) -> Result<usize, Surfa
         Workload::Compress => lines::compressed(alloc, count),
         Workload::Walk => lines::walked(alloc, count),
         Workload::GetCell => lines::got(alloc, count),
-        Workload::Wrapped => lines::asked_for_mark(alloc, count),
+        Workload::Mark => lines::marked(alloc, count),
         Workload::Append => lines::appended(alloc, count),
         Workload::Setter => attributes::set(count),
         Workload::Clone => attributes::cloned(count),

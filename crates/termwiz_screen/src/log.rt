@@ -1,39 +1,51 @@
 //! The log of a surface: the changes that were made, by their numbers.
-ghost use Rattle.std.specs.Prelude.{◌≡◌, ◌+◌, ◌-◌, ◌^◌, min, ◌<◌, ◌≤◌, true, false, nat_lt, List, [], ◌∷◌, length, map, drop, vec_len, IsOk, OnOk, OnErr};
+ghost use Rattle.std.specs.Prelude.{◌≡◌, ◌+◌, ◌-◌, ◌^◌, ◌<◌, ◌≤◌, ◌∷◌, [], true, false};
+ghost use Rattle.std.specs.Prelude.{min, nat_lt, length, map, drop, vec_len, IsOk, OnOk, OnErr};
 ghost use Rattle.std.specs.Option.{IsNone, IfSome};
 ghost use Rattle.termwiz_cell.specs.ChangeValue.{change_value};
-ghost use Rattle.termwiz_screen.specs.Log.{appended, due, flushed, is_known, next_number, restarted, worth};
+ghost use Rattle.termwiz_screen.specs.Log.{appended, due, flushed, is_known, next_number};
+ghost use Rattle.termwiz_screen.specs.Log.{reaches, restarted, worth};
 
-mod backlog;
-
-use backlog::Backlog;
 use std::alloc::{AllocError, Global};
 use std::marker::Model;
 use termwiz_cell::change::{Change, SEQ_ZERO, SequenceNo};
 
 /// The changes from a first number on. The change after the last one has the coming number.
+///
+/// A flush costs a few instructions for each change that it forgets, however many stay.
 #[derive(Drop)]
 pub struct Log {
-    first: SequenceNo,
-    changes: Backlog,
+    // The number of the first stored change.
+    base: SequenceNo,
+    stored: Vec<Change>,
+    // So many of the first are forgotten, and still stored: fewer than stay, behind a flush.
+    gone: usize,
 }
 
 impl Model for Log {
+    ghost use Rattle.std.specs.Prelude.{◌+◌, ◌≤◌, length, drop, map};
+    ghost use Rattle.termwiz_cell.specs.ChangeValue.{change_value};
     ghost use Rattle.termwiz_screen.specs.Log.{LogValue};
 
     ghost Value = { LogValue };
 
-    ghost view = { λ l. record { first = l.first; changes = l.changes } };
+    ghost view = { λ l. record {
+      first = l.base + l.gone;
+      changes = drop l.gone (map change_value l.stored.items);
+    } };
+
+    ghost invariant = { λ l. l.gone ≤ length l.stored.items };
 }
 
 impl Clone for Log {
     ghost is_clone = { λ a b. b ≡ a };
 
     fn clone(&self) -> Result<Log, AllocError> {
-        let changes = self.changes.clone()?;
+        let stored = self.stored.clone()?;
         Ok(Log {
-            first: self.first,
-            changes,
+            base: self.base,
+            stored,
+            gone: self.gone,
         })
     }
 }
@@ -44,8 +56,9 @@ impl Log {
         ensures { result ≡ record { first = 0; changes = [] } }
     {
         Log {
-            first: SEQ_ZERO,
-            changes: Backlog::new(alloc),
+            base: SEQ_ZERO,
+            stored: Vec::new(alloc),
+            gone: 0,
         }
     }
 
@@ -55,7 +68,7 @@ impl Log {
         requires { next_number self.now < 2 ^ 64 }
         ensures { result ≡ next_number self.now }
     {
-        self.first + self.changes.len()
+        self.base + self.stored.len()
     }
 
     /// Whether there are numbers for so many more changes.
@@ -73,7 +86,7 @@ impl Log {
         ensures unchanged { self.new ≡ self.old }
         ensures succeeds { count ≡ 0 → IsOk result }
     {
-        self.changes.reserve(count)?;
+        self.stored.reserve(count)?;
         Ok(())
     }
 
@@ -83,18 +96,37 @@ impl Log {
         ensures ok { OnOk result (self.new ≡ appended self.old (change_value change ∷ [])) }
         ensures err { OnErr result (self.new ≡ self.old) }
     {
-        self.changes.push(change)?;
+        self.stored.push(change)?;
         Ok(())
     }
 
     /// Logs more changes, which are moved in. On an error nothing has changed.
-    pub fn append(&mut self, changes: Vec<Change>) -> Result<(), AllocError>
+    pub fn append(&mut self, mut changes: Vec<Change>) -> Result<(), AllocError>
         ensures ok { OnOk result (self.new ≡ appended self.old (map change_value changes.items)) }
         ensures err { OnErr result (self.new ≡ self.old) }
         ensures succeeds { vec_len changes ≡ 0 → IsOk result }
     {
-        self.changes.append(changes)?;
+        self.stored.append(&mut changes)?;
         Ok(())
+    }
+
+    // Whether the log has this number, or it is the coming one.
+    #[inline(always)]
+    fn reaches(&self, seq: SequenceNo) -> bool
+        requires { next_number self.now < 2 ^ 64 }
+        ensures { result ≡ reaches self.now seq }
+    {
+        self.base + self.gone <= seq && seq <= self.next_number()
+    }
+
+    // Takes the forgotten changes out.
+    fn take_out(&mut self)
+        requires { next_number self.old < 2 ^ 64 }
+        ensures { self.new ≡ self.old }
+    {
+        drop_first(&mut self.stored, self.gone);
+        self.base += self.gone;
+        self.gone = 0;
     }
 
     /// The changes from a number on, where the log has them and they are at most so many.
@@ -103,10 +135,10 @@ impl Log {
         ensures some { IfSome result (λ changes. (is_known most self.now seq ≡ true) × (map change_value changes.now ≡ due self.now seq)) }
         ensures none { IsNone result → is_known most self.now seq ≡ false }
     {
-        if seq == SEQ_ZERO || seq < self.first || seq > self.next_number() {
+        if seq == SEQ_ZERO || !self.reaches(seq) {
             return None;
         }
-        let due = &self.changes.as_slice()[seq - self.first..];
+        let due = &self.stored[seq - self.base..];
         if due.len() > most {
             return None;
         }
@@ -118,9 +150,11 @@ impl Log {
         requires { next_number self.old < 2 ^ 64 }
         ensures { self.new ≡ flushed self.old seq }
     {
-        if self.first <= seq && seq <= self.next_number() {
-            self.changes.forget(seq - self.first);
-            self.first = seq;
+        if self.reaches(seq) {
+            self.gone = seq - self.base;
+            if self.gone >= self.stored.len() - self.gone {
+                self.take_out();
+            }
         }
     }
 
@@ -130,13 +164,21 @@ impl Log {
         ensures { self.new ≡ restarted self.old }
     {
         let number = self.next_number();
-        self.changes.clear();
-        self.first = if number == SEQ_ZERO {
+        self.stored.clear();
+        self.gone = 0;
+        self.base = if number == SEQ_ZERO {
             SEQ_ZERO
         } else {
             number + 1
         };
     }
+}
+
+fn drop_first(changes: &mut Vec<Change>, count: usize)
+    requires { count ≤ vec_len changes.old }
+    ensures { changes.new.items ≡ drop count changes.old.items }
+{
+    let _ = changes.drain(..count);
 }
 
 /// How many changes are worth sending where a screen of this size could be repainted, or the

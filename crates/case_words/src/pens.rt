@@ -20,10 +20,12 @@ pub fn semantic_type(word: &str) -> Result<SemanticType, Fault> {
 }
 
 /// What the words make of blank attributes, with `between` between them.
-/// `half`, `rapid`, `curly`, `sub`, `italic`, `reverse`, `strike`, `invisible`, `wrapped`,
-/// `overline`, `link`, a semantic type, `fg=C`, `bg=C` and `line=C` set one; `copy`, `sgr`, `clear`
-/// and `default` put in its place its copy, its copy without the link, the cleared one and the
-/// default one; `+` and an attribute applies a copy of that change.
+///
+/// - `half`, `rapid`, `curly`, `sub`, `italic`, `reverse`, `strike`, `invisible`, `wrapped`,
+///   `overline`, `link`, a semantic type, `fg=C`, `bg=C` and `line=C` set one.
+/// - `copy`, `sgr`, `clear` and `default` put in its place its copy, its copy without the link, the
+///   cleared one and the default one.
+/// - `+` and an attribute applies a copy of that change.
 pub fn pen(alloc: Global, words: &str, between: char) -> Result<CellAttributes, Fault> {
     let mut pen = CellAttributes::blank();
     for word in words.split(between) {

@@ -358,7 +358,8 @@ impl Stage {
 
 // A width and a height, and how columns are measured.
 fn measured_size(words: &[&str]) -> Result<(usize, usize, Measure), Fault>
-    ensures { IfOk result (λ made. (0 < made.0) × (made.0 < 2 ^ 32) × (0 < made.1) × (made.1 < 2 ^ 32)) }
+    ensures { IfOk result (λ made.
+        (0 < made.0) × (made.0 < 2 ^ 32) × (0 < made.1) × (made.1 < 2 ^ 32)) }
 {
     let [width, height, measure] = words else {
         return Err(Fault::Bad);

@@ -150,7 +150,8 @@ pub fn pair(x: &str, y: &str) -> Result<(usize, usize), Fault> {
 
 /// A width and a height that a surface may have.
 pub fn size(width: &str, height: &str) -> Result<(usize, usize), Fault>
-    ensures { IfOk result (λ size. (0 < size.0) × (size.0 < 2 ^ 32) × (0 < size.1) × (size.1 < 2 ^ 32)) }
+    ensures { IfOk result (λ size.
+        (0 < size.0) × (size.0 < 2 ^ 32) × (0 < size.1) × (size.1 < 2 ^ 32)) }
 {
     let (width, height) = pair(width, height)?;
     if 0 < width && width <= MOST && 0 < height && height <= MOST {

@@ -1,8 +1,10 @@
 //! Cells.
-ghost use Rattle.std.specs.Prelude.{◌≡◌, ◌↔◌, ◌≤◌, true, false, IsTrue, IfOk, IfSome, IsOk, length, encode_utf8, unwrap_or};
+ghost use Rattle.std.specs.Prelude.{◌≡◌, ◌↔◌, ◌≤◌, true, false, IsTrue, IfOk, IfSome, IsOk, length};
+ghost use Rattle.std.specs.Prelude.{encode_utf8, unwrap_or};
 ghost use Rattle.std.specs.Borrow.{sem};
 ghost use Rattle.std.specs.Cmp.{decided, partial_equiv_from_equiv};
-ghost use Rattle.termwiz_cell.specs.CellValue.{space, blank, blank_of, plain_cell, clean, cell_of, measured, columns, cell_eq, cell_eq-Decides};
+ghost use Rattle.termwiz_cell.specs.CellValue.{space, blank, blank_of, plain_cell, clean, cell_of};
+ghost use Rattle.termwiz_cell.specs.CellValue.{measured, columns, cell_eq, cell_eq-Decides};
 ghost use Rattle.termwiz_cell.specs.Attributes.{needs_box};
 ghost use Rattle.termwiz_cell.specs.Width.{at_version, unversioned};
 ghost use Rattle.termwiz_text.specs.Plain.{is_plain};
@@ -25,10 +27,12 @@ use text::{CellText, cleaned};
 
 /// One cell of a screen: a text, which takes one or two columns, and its attributes.
 ///
-/// The text is meant to be one grapheme, but each text is kept whole. The empty text, CR LF and a
-/// text of one control character of ASCII (U+0000 to U+001F, or U+007F) become a space. U+0080 to
-/// U+009F stay, and so do controls in longer texts. A width of 0 becomes 1. A text of at most seven
-/// bytes takes no memory.
+/// The text is meant to be one grapheme, but each text is kept whole. A text of at most seven bytes
+/// takes no memory.
+///
+/// - The empty text, CR LF and a text of one control character of ASCII (U+0000 to U+001F, or
+///   U+007F) become a space. U+0080 to U+009F stay, and so do controls in longer texts.
+/// - A width of 0 becomes 1.
 ///
 /// Two cells are equal where text, width and attributes are. A clone can only fail where the text
 /// is longer than seven bytes, or the attributes take memory.
@@ -60,7 +64,8 @@ impl Cell {
         c: char,
         attrs: CellAttributes,
     ) -> Result<Cell, AllocError>
-        ensures ok { IfOk result (λ cell. cell ≡ measured (unversioned (W.width_of widths.now)) (encode_utf8 c) attrs) }
+        ensures ok { IfOk result (λ cell.
+            cell ≡ measured (unversioned (W.width_of widths.now)) (encode_utf8 c) attrs) }
         ensures succeeds { IsOk result }
     {
         let mut buffer = [0; 4];
@@ -108,7 +113,8 @@ impl Cell {
         attrs: CellAttributes,
         version: Option<UnicodeVersion>,
     ) -> Result<Cell, AllocError>
-        ensures ok { IfOk result (λ cell. cell ≡ measured (at_version (W.width_of widths.now) version) text.now attrs) }
+        ensures ok { IfOk result (λ cell.
+            cell ≡ measured (at_version (W.width_of widths.now) version) text.now attrs) }
         ensures succeeds { length (clean text.now) ≤ 7 → IsOk result }
     {
         let text = cleaned(text);
@@ -140,7 +146,8 @@ impl Cell {
         attrs: CellAttributes,
     ) -> Result<Cell, AllocError>
         requires { clean text.now ≡ text.now }
-        ensures ok { IfOk result (λ cell. cell ≡ record { text = text.now; wide = wide; attrs = attrs }) }
+        ensures ok { IfOk result (λ cell.
+            cell ≡ record { text = text.now; wide = wide; attrs = attrs }) }
         ensures succeeds { length text.now ≤ 7 → IsOk result }
     {
         let text = CellText::new(alloc, text, wide)?;
@@ -189,7 +196,8 @@ impl Cell {
     /// How the text is shown: in the form that a variation selector in it asks for, or else as
     /// the width value says.
     pub fn presentation<W: Widths>(&self, widths: &W) -> Presentation
-        ensures { let shown = W.presentation_of widths.now self.now.text in result ≡ unwrap_or shown.1 shown.0 }
+        ensures { let shown = W.presentation_of widths.now self.now.text in
+            result ≡ unwrap_or shown.1 shown.0 }
     {
         let (presentation, variation) = widths.presentation(self.str());
         variation.unwrap_or(presentation)

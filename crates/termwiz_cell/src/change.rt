@@ -2,7 +2,9 @@
 ghost use Rattle.std.specs.Prelude.{◌≡◌, ◌↔◌, IfOk, IsTrue, false, string_bytes};
 ghost use Rattle.std.specs.Cmp.{decided, on_equiv, on_per, partial_equiv_from_equiv};
 ghost use Rattle.termwiz_cell.specs.AttributeChangeValue.{attribute_change_value};
-ghost use Rattle.termwiz_cell.specs.ChangeValue.{Attribute, LineAttribute, Text, change_value, change_eq, change_eq-Decides, copy_takes_memory, is_text, position_eq, scroll_eq, visibility_eq};
+ghost use Rattle.termwiz_cell.specs.ChangeValue.{Attribute, LineAttribute, Text, change_value};
+ghost use Rattle.termwiz_cell.specs.ChangeValue.{change_eq, change_eq-Decides, copy_takes_memory};
+ghost use Rattle.termwiz_cell.specs.ChangeValue.{is_text, position_eq, scroll_eq, visibility_eq};
 ghost use Rattle.termwiz_cell.specs.Shapes.{is_blinking_shape, line_eq, shape_eq};
 
 mod sequence;
@@ -87,9 +89,10 @@ pub const SEQ_ZERO: SequenceNo = 0;
 /// the cursor.
 ///
 /// A program makes changes and adds them to a surface, which applies each to its screen. Whoever
-/// shows the surface, a terminal say, asks it for the changes that are due and applies that list
-/// in its order: its own screen then shows the same. So one type serves both, and what a viewer
-/// was given can be added to a second surface as it is.
+/// shows the surface, a terminal say, asks it for the changes that are due and applies that list in
+/// its order: its own screen then shows the same.
+///
+/// So one type serves both, and what a viewer was given can be added to a second surface as it is.
 ///
 /// A change acts at the cursor and with the pen that those before it left. The pen is the
 /// attributes of coming texts. The cursor's colour and shape, the title, and how large lines are
@@ -243,7 +246,8 @@ impl From<String> for Change {
 }
 
 impl From<AttributeChange> for Change {
-    ghost from_gives = { λ attribute change. change_value change ≡ Attribute (attribute_change_value attribute) };
+    ghost from_gives = { λ attribute change.
+        change_value change ≡ Attribute (attribute_change_value attribute) };
 
     fn from(change: AttributeChange) -> Change {
         Change::Attribute(change)
@@ -261,7 +265,8 @@ impl From<LineAttribute> for Change {
 impl PartialEq for Change {
     ghost eq = { λ a b. change_eq (change_value a) (change_value b) };
 
-    ghost laws = { on_per change_value (partial_equiv_from_equiv (decided change_eq change_eq-Decides)) };
+    ghost laws = { on_per change_value (partial_equiv_from_equiv
+        (decided change_eq change_eq-Decides)) };
 
     fn eq(&self, other: &Change) -> bool
         ensures value { result ≡ change_eq (change_value self.now) (change_value other.now) }

@@ -108,9 +108,11 @@ pub trait Widths: Copy {
     fn char_presentation(&self, c: char) -> Presentation
         ensures { result ≡ char_presentation_of self.now c };
 
-    ghost at_most_two: { (w : Self) (text : List ℕ) (version : Option UnicodeVersion) → width_of w text version ≤ 2 };
+    ghost at_most_two: { (w : Self) (text : List ℕ) (version : Option UnicodeVersion) →
+        width_of w text version ≤ 2 };
 
-    ghost space_has_one: { (w : Self) (version : Option UnicodeVersion) → width_of w (32 ∷ []) version ≡ 1 };
+    ghost space_has_one: { (w : Self) (version : Option UnicodeVersion) →
+        width_of w (32 ∷ []) version ≡ 1 };
 }
 
 /// Each text has one column, the empty one too, and is shown as text.

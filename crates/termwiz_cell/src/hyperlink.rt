@@ -1,10 +1,13 @@
 //! Links: a target, parameters, and the texts in which escape sequences carry them.
 mod params;
 
-ghost use Rattle.std.specs.Prelude.{◌≡◌, ◌≢◌, ℕ, ◌↔◌, IsTrue, IfOk, IfSome, IsUtf8, MatchResult, None, Some, [], ◌∷◌, true, false, length, map, string_bytes, codes};
+ghost use Rattle.std.specs.Prelude.{◌≡◌, ◌≢◌, ℕ, ◌↔◌, IsTrue, IfOk, IfSome, IsUtf8, MatchResult};
+ghost use Rattle.std.specs.Prelude.{None, Some, [], ◌∷◌, true, false, length, map, string_bytes};
+ghost use Rattle.std.specs.Prelude.{codes};
 ghost use Rattle.std.specs.Cmp.{decided, partial_equiv_from_equiv};
 ghost use Rattle.termwiz_cell.specs.Link.{Link, link_eq, link_eq-Decides, param_bytes};
-ghost use Rattle.termwiz_cell.specs.LinkParse.{AreEmpty, ArePrinted, AreTexts, HasPairs, Reads, SpellsOnly, part};
+ghost use Rattle.termwiz_cell.specs.LinkParse.{AreEmpty, ArePrinted, AreTexts, HasPairs, Reads};
+ghost use Rattle.termwiz_cell.specs.LinkParse.{SpellsOnly, part};
 ghost use Rattle.termwiz_cell.specs.LinkText.{AreInOrder, IsReadable, link_text};
 
 use params::{clone_params, has_same_params, is_pairs, read_params, write_params};
@@ -93,7 +96,12 @@ impl Hyperlink {
 
     /// A link with these params.
     pub fn new_with_params(uri: String, params: BTreeMap<String, String>) -> Hyperlink
-        ensures { result ≡ record { uri = string_bytes uri; params = map param_bytes params.entries; implicit = false } }
+        ensures { result
+            ≡ record {
+              uri = string_bytes uri;
+              params = map param_bytes params.entries;
+              implicit = false;
+            } }
     {
         Hyperlink {
             params,
@@ -138,7 +146,8 @@ impl Hyperlink {
         ensures utf8 { (result ≡ Err LinkError.NotUtf8)
             ↔ ((length osc.now ≡ 3) × ¬ (AreTexts (part osc.now 1) (part osc.now 2))) }
         ensures pairs { (result ≡ Err LinkError.BadParams)
-            ↔ ((length osc.now ≡ 3) × AreTexts (part osc.now 1) (part osc.now 2) × ¬ (HasPairs (part osc.now 1))) }
+            ↔ ((length osc.now ≡ 3) × AreTexts (part osc.now 1) (part osc.now 2)
+            × ¬ (HasPairs (part osc.now 1))) }
         ensures none { (result ≡ Ok None)
             ↔ ((length osc.now ≡ 3) × AreEmpty (part osc.now 1) (part osc.now 2)) }
 
@@ -240,7 +249,8 @@ fn as_text(bytes: &[u8]) -> Result<&str, LinkError>
 }
 
 fn id_params(alloc: Global, id: String) -> Result<BTreeMap<String, String>, AllocError>
-    ensures { IfOk result (λ params. map param_bytes params.entries ≡ (codes "id", string_bytes id) ∷ []) }
+    ensures { IfOk result (λ params.
+        map param_bytes params.entries ≡ (codes "id", string_bytes id) ∷ []) }
 {
     let mut params = BTreeMap::new(alloc);
     params.insert(String::from_str(alloc, "id")?, id)?;

@@ -6,7 +6,7 @@ use Rattle.std.proofs.lemmas.List.Sums.{sum_by-cons}
 use Rattle.std.proofs.lemmas.Grind.{flat_map-append}
 use Rattle.termwiz_cell.specs.CellValue.{CellValue}
 use Rattle.termwiz_cell.specs.declared.emoji.Presentation.{Presentation}
-use Rattle.termwiz_line.specs.Clusters.{AreCutInto, no_run, next_run, IsWordOrSpaces, JoinTo, cell_of_bytes, cells_of_bytes, cluster_of}
+use Rattle.termwiz_line.specs.Clusters.{AreCutInto, no_run, next_run, IsWordOrSpaces, cell_of_bytes, cells_of_bytes, cluster_of}
 use Rattle.termwiz_line.specs.CutLaws.{ClustersJoin}
 use Rattle.termwiz_line.specs.Pieces.{joined}
 use Rattle.termwiz_line.specs.Texts.{texts_of}

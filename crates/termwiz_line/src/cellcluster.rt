@@ -3,7 +3,8 @@ ghost use Rattle.std.specs.Prelude.{◌≡◌, ◌<◌, ◌↔◌, [], ◌∷◌
 ghost use Rattle.termwiz_cell.specs.CellValue.{columns};
 ghost use Rattle.termwiz_storage.specs.CellRef.{indexed_cell, ref_cell};
 ghost use Rattle.termwiz_storage.specs.CellsLeft.{cells_left, IsOfCell};
-ghost use Rattle.termwiz_line.specs.Clusters.{AreClusters, ClusterValue, cluster_of, look_of, unmarked_attributes, with_cell};
+ghost use Rattle.termwiz_line.specs.Clusters.{AreClusters, ClusterValue, cluster_of, look_of};
+ghost use Rattle.termwiz_line.specs.Clusters.{unmarked_attributes, with_cell};
 
 use crate::line::bidi::Direction;
 use std::alloc::{AllocError, Global};
@@ -46,7 +47,16 @@ impl Model for CellCluster {
 
     ghost Value = { ClusterValue };
 
-    ghost view = { λ c. record { attrs = c.attrs; presentation = c.presentation; direction = c.direction; text = string_bytes c.text; width = c.width; first_cell_idx = c.first_cell_idx; cells_of_bytes = c.cells } };
+    ghost view = { λ c.
+        record {
+          attrs = c.attrs;
+          presentation = c.presentation;
+          direction = c.direction;
+          text = string_bytes c.text;
+          width = c.width;
+          first_cell_idx = c.first_cell_idx;
+          cells_of_bytes = c.cells;
+        } };
 
     // Each byte has a cell.
     ghost invariant = { λ c. length (string_bytes c.text) ≤ length c.cells };
@@ -65,7 +75,8 @@ impl CellCluster {
         widths: &W,
         cells: VisibleCellIter<'_>,
     ) -> Result<Vec<CellCluster>, AllocError>
-        ensures { IfOk result (λ clusters. AreClusters (W.presentation_of widths.now) (cells_left cells.entry) clusters.items) }
+        ensures { IfOk result (λ clusters.
+            AreClusters (W.presentation_of widths.now) (cells_left cells.entry) clusters.items) }
     {
         let mut rest = cells;
         match rest.next() {
@@ -97,7 +108,8 @@ impl CellCluster {
         cell: CellRef<'_>,
     ) -> Result<CellCluster, AllocError>
         requires { IsOfCell cell }
-        ensures { IfOk result (λ cluster. cluster ≡ cluster_of (W.presentation_of widths.now) (indexed_cell cell.entry ∷ [])) }
+        ensures { IfOk result (λ cluster.
+            cluster ≡ cluster_of (W.presentation_of widths.now) (indexed_cell cell.entry ∷ [])) }
     {
         let attrs = without_mark(cell.attrs())?;
         let text = String::from_str(alloc, cell.str())?;
@@ -131,7 +143,9 @@ impl CellCluster {
 
     // Whether the cell has the attributes and the presentation of the cluster.
     fn looks_like<W: Widths>(&self, widths: &W, cell: CellRef<'_>) -> Result<bool, AllocError>
-        ensures { IfOk result (λ alike. IsTrue alike ↔ (look_of (W.presentation_of widths.now) (indexed_cell cell.entry) ≡ (self.now.attrs, self.now.presentation))) }
+        ensures { IfOk result (λ alike. IsTrue alike
+            ↔ (look_of (W.presentation_of widths.now) (indexed_cell cell.entry)
+            ≡ (self.now.attrs, self.now.presentation))) }
     {
         if cell.presentation(widths) != self.presentation {
             return Ok(false);
@@ -167,7 +181,9 @@ fn clusters_from<'a, W: Widths>(
     rest: VisibleCellIter<'a>,
 ) -> Result<Vec<CellCluster>, AllocError>
     requires { IsOfCell first }
-    ensures { IfOk result (λ clusters. AreClusters (W.presentation_of widths.now) (indexed_cell first.entry ∷ cells_left rest.entry) clusters.items) }
+    ensures { IfOk result (λ clusters.
+        AreClusters (W.presentation_of widths.now)
+        (indexed_cell first.entry ∷ cells_left rest.entry) clusters.items) }
 {
     let mut clusters = Vec::new(alloc);
     let mut cluster = CellCluster::starting_at(alloc, widths, first)?;

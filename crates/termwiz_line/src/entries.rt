@@ -32,7 +32,8 @@ pub fn row_entries<'a>(
     cells: VisibleCellIter<'a>,
     pen: &'a CellAttributes,
 ) -> Result<Penned<'a>, AllocError>
-    ensures { IfOk result (λ row. penned_value row ≡ spec.row_entries pen.now (cells_left cells.entry)) }
+    ensures { IfOk result (λ row.
+        penned_value row ≡ spec.row_entries pen.now (cells_left cells.entry)) }
 {
     let mut writer = RowWriter::new(alloc, pen);
     writer.row(cells, 0, pen)?;
@@ -51,7 +52,9 @@ pub fn is_plain(attrs: &CellAttributes) -> bool
 
 // The attributes that are no colour and no link are default.
 fn has_default_bits(attrs: &CellAttributes) -> bool
-    ensures { result ≡ bytes_eq (attributes.bits_of attrs.now) (attributes.bits_of attributes.default_attributes) }
+    ensures { result
+        ≡ bytes_eq (attributes.bits_of attrs.now)
+        (attributes.bits_of attributes.default_attributes) }
 {
     attrs.attribute_bits_equal(&CellAttributes::blank())
 }

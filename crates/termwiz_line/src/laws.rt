@@ -4,7 +4,9 @@ ghost use Rattle.termwiz_line.specs.CutLaws.{BytesTellTheirCells, ClustersAreOne
 ghost use Rattle.termwiz_line.specs.CutLaws.{WrapsAreAlike, WrapsAreOne, ZonesAreOne};
 ghost use Rattle.termwiz_line.specs.EditLaws.{AllColumnsShow, StoredAgainShows};
 ghost use Rattle.termwiz_line.specs.StorageLaws.{EqualInAnyForm, WholeIsVisible};
-ghost use Rattle.termwiz_line.specs.RowLaws.{PaintPaints, ClearClears, ClearPast, VisibleFixesRow, CellsHaveRow, VisibleFixesRowOf, WalkGrows, ResizedIsRow, SetCellPaints, PruningKeepsRow};
+ghost use Rattle.termwiz_line.specs.RowLaws.{PaintPaints, ClearClears, ClearPast, VisibleFixesRow};
+ghost use Rattle.termwiz_line.specs.RowLaws.{CellsHaveRow, VisibleFixesRowOf, WalkGrows};
+ghost use Rattle.termwiz_line.specs.RowLaws.{ResizedIsRow, SetCellPaints, PruningKeepsRow};
 
 /// What painting and clearing change of what a row shows: which cell stands at which column, and
 /// which columns it covers. What a row shows fixes it.

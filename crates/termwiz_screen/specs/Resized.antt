@@ -22,11 +22,11 @@ resized_stored w h rows = map (resized w) (take h rows) ++ replicate (h - length
 abbrev pub resized_flags : ℕ → List LineFlags → List LineFlags
 resized_flags h flags = take h flags ++ replicate (h - length flags) no_flags
 
--- a vector of as many cells or more is cut in place
+-- whether a line is cut in place: a vector of as many cells or more
 abbrev pub cuts_in_place : ℕ → LineValue → Bool
 cuts_in_place w l = l.is_vector && nat_le w (length l.cells)
 
--- what a line needs a copy for
+-- the copy in that width that takes its place where it isn't cut
 abbrev pub copy_in : ℕ → LineValue → Option LineValue
 copy_in w l = if cuts_in_place w l then None else Some (in_width w l)
 

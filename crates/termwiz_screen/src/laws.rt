@@ -1,8 +1,14 @@
 //! Laws of the definitions that contracts cite, each on a function that does nothing.
-ghost use Rattle.termwiz_screen.specs.DiffLaws.{CutIsInside, DiffGivesBand, DiffGivesRegion, DiffGivesRows, DrawingRestores, LinesArePrintable, NeedGivesRegion, NeedGivesRows, NeedIs, PrintsAreDiff, RegionIsDiff};
-ghost use Rattle.termwiz_screen.specs.FullLaws.{ChangesMakeFullScreens, FullRepaintGivesScreen, FullRepaintIsShort, FullStepsAreSo, ResizedKeepsLines};
+ghost use Rattle.termwiz_screen.specs.DiffLaws.{CutIsInside, DiffGivesBand, DiffGivesRegion};
+ghost use Rattle.termwiz_screen.specs.DiffLaws.{DiffGivesRows, DrawingRestores, LinesArePrintable};
+ghost use Rattle.termwiz_screen.specs.DiffLaws.{NeedGivesRegion, NeedGivesRows, NeedIs};
+ghost use Rattle.termwiz_screen.specs.DiffLaws.{PrintsAreDiff, RegionIsDiff};
+ghost use Rattle.termwiz_screen.specs.FullLaws.{ChangesMakeFullScreens, FullRepaintGivesScreen};
+ghost use Rattle.termwiz_screen.specs.FullLaws.{FullRepaintIsShort, FullStepsAreSo};
+ghost use Rattle.termwiz_screen.specs.FullLaws.{ResizedKeepsLines};
 ghost use Rattle.termwiz_screen.specs.Fewest.{FewestNarrowPrints, FewestPrints};
-ghost use Rattle.termwiz_screen.specs.RepaintLaws.{LineEntriesGiveRow, RepaintGivesScreen, RepaintIsShort};
+ghost use Rattle.termwiz_screen.specs.RepaintLaws.{LineEntriesGiveRow, RepaintGivesScreen};
+ghost use Rattle.termwiz_screen.specs.RepaintLaws.{RepaintIsShort};
 ghost use Rattle.termwiz_screen.specs.SequenceLaws.{MovesLeadThere, TextsMoveAlike};
 
 /// What a repaint and the entries of a line do when they are replayed.

@@ -12,13 +12,14 @@ use termwiz_cell::change::{Change, SEQ_ZERO, SequenceNo};
 
 /// The changes from a first number on. The change after the last one has the coming number.
 ///
-/// A flush costs a few instructions for each change that it forgets, however many stay.
+/// All flushes together cost a few instructions for each change that they forget, however many
+/// stay.
 #[derive(Drop)]
 pub struct Log {
     // The number of the first stored change.
     base: SequenceNo,
     stored: Vec<Change>,
-    // So many of the first are forgotten, and still stored: fewer than stay, behind a flush.
+    // How many of the first are forgotten and still stored: none after a flush, or fewer than stay.
     gone: usize,
 }
 
@@ -132,7 +133,8 @@ impl Log {
     /// The changes from a number on, where the log has them and they are at most so many.
     pub fn due(&self, seq: SequenceNo, most: usize) -> Option<&[Change]>
         requires { next_number self.now < 2 ^ 64 }
-        ensures some { IfSome result (λ changes. (is_known most self.now seq ≡ true) × (map change_value changes.now ≡ due self.now seq)) }
+        ensures some { IfSome result (λ changes. (is_known most self.now seq ≡ true)
+            × (map change_value changes.now ≡ due self.now seq)) }
         ensures none { IsNone result → is_known most self.now seq ≡ false }
     {
         if seq == SEQ_ZERO || !self.reaches(seq) {

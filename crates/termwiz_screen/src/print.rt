@@ -5,7 +5,6 @@ ghost use Rattle.termwiz_text.specs.Plain.{is_plain};
 ghost use Rattle.unicode_segmentation.specs.Grapheme.{graphemes};
 ghost use Rattle.termwiz_cell.specs.CellValue.{measured};
 ghost use Rattle.termwiz_cell.specs.Width.{unversioned};
-ghost use Rattle.termwiz_cell.specs.Graphemes.{single};
 ghost use Rattle.termwiz_screen.specs.Measured.{IsMeasured};
 ghost use Rattle.termwiz_screen.specs.Print.{piece_of, printed_cell};
 ghost use Rattle.termwiz_screen.specs.Runs.{AreNarrow, IsMeasuredPiece, IsNarrowRun};
@@ -33,7 +32,8 @@ pub fn printed_piece<W: Widths>(
     pen: &CellAttributes,
 ) -> Result<Piece, AllocError>
     requires { graphemes true grapheme.now ≡ grapheme.now ∷ [] }
-    ensures piece { IfOk result (λ piece. piece ≡ piece_of (unversioned (W.width_of widths.now)) pen.now grapheme.now) }
+    ensures piece { IfOk result (λ piece.
+        piece ≡ piece_of (unversioned (W.width_of widths.now)) pen.now grapheme.now) }
     ensures measured { IfOk result (IsMeasuredPiece (unversioned (W.width_of widths.now))) }
 {
     Ok(match grapheme.as_bytes() {
@@ -54,7 +54,8 @@ fn printed_cell<W: Widths>(
     pen: &CellAttributes,
 ) -> Result<Cell, AllocError>
     requires { graphemes true grapheme.now ≡ grapheme.now ∷ [] }
-    ensures cell { IfOk result (λ cell. cell ≡ printed_cell (unversioned (W.width_of widths.now)) pen.now grapheme.now) }
+    ensures cell { IfOk result (λ cell.
+        cell ≡ printed_cell (unversioned (W.width_of widths.now)) pen.now grapheme.now) }
     ensures measured { IfOk result (IsMeasured (unversioned (W.width_of widths.now))) }
 {
     let attrs = pen.clone()?;
@@ -88,7 +89,8 @@ pub fn split_narrow_run<'a, W: Widths>(
     text: &'a str,
     columns: usize,
 ) -> (&'a str, &'a str)
-    ensures { IsNarrowRun (unversioned (W.width_of widths.now)) text.now columns result.0.now result.1.now }
+    ensures { IsNarrowRun (unversioned (W.width_of widths.now)) text.now columns result.0.now
+        result.1.now }
 {
     let (run, rest) = split_plain_run(text, columns);
     let narrow = narrow_len(widths, run);

@@ -1,7 +1,9 @@
 //! Repaints: the changes that bring any screen of that size to the one that rows show.
-ghost use Rattle.std.specs.Prelude.{◌≡◌, ◌-◌, ◌<◌, ◌≤◌, ◌++◌, ◌∷◌, [], List, ◌&&◌, not, true, false, cond, eqb, map, length, IfOk, OnOk};
+ghost use Rattle.std.specs.Prelude.{◌≡◌, ◌-◌, ◌<◌, ◌≤◌, ◌++◌, ◌∷◌, [], List, ◌&&◌, not, true};
+ghost use Rattle.std.specs.Prelude.{false, cond, eqb, map, length, IfOk, OnOk};
 ghost use Rattle.std.specs.Option.{option_copied};
-ghost use Rattle.termwiz_cell.specs.Attributes.{default_attributes, attributes_eq, is_plain, color_eq};
+ghost use Rattle.termwiz_cell.specs.Attributes.{default_attributes, attributes_eq, is_plain};
+ghost use Rattle.termwiz_cell.specs.Attributes.{color_eq};
 ghost use Rattle.termwiz_cell.specs.CellValue.{blank};
 ghost use Rattle.termwiz_cell.specs.ChangeValue as change;
 ghost use Rattle.termwiz_cell.specs.ChangeValue.{ChangeValue, change_value, is_text};
@@ -41,7 +43,11 @@ pub fn all_rows<'a>(
     requires some_row { 0 < length (cells_of rows.now.items) }
     requires paddable { ArePaddable width (cells_of rows.now.items) }
     requires blank { padding.now ≡ blank }
-    ensures { IfOk result (λ drawn. (first : List ChangeValue) → AreApart first → IsDrawnUpto first width (map (row_of width) (cells_of rows.now.items)) 0 writer.entry → penned_value drawn ≡ behind first (spec.all_rows width (length (cells_of rows.now.items)) (map (row_of width) (cells_of rows.now.items)))) }
+    ensures { IfOk result (λ drawn. (first : List ChangeValue) → AreApart first →
+        IsDrawnUpto first width (map (row_of width) (cells_of rows.now.items)) 0 writer.entry →
+        penned_value drawn
+        ≡ behind first (spec.all_rows width (length (cells_of rows.now.items))
+        (map (row_of width) (cells_of rows.now.items)))) }
 {
     let attrs = bottom_attrs(rows, width, padding);
     if is_clearable(attrs) {
@@ -57,7 +63,9 @@ fn bottom_attrs<'a>(rows: &'a VecDeque<Line>, width: usize, padding: &'a Cell) -
     requires some_row { 0 < length (cells_of rows.now.items) }
     requires paddable { ArePaddable width (cells_of rows.now.items) }
     requires blank { padding.now ≡ blank }
-    ensures { result.now ≡ spec.bottom_attrs width (length (cells_of rows.now.items)) (map (row_of width) (cells_of rows.now.items)) }
+    ensures { result.now
+        ≡ spec.bottom_attrs width (length (cells_of rows.now.items))
+        (map (row_of width) (cells_of rows.now.items)) }
 {
     last_attrs(&rows[rows.len() - 1], width, padding)
 }
@@ -69,7 +77,11 @@ pub fn started<'a>(
     title: &str,
 ) -> Result<RowWriter<'a>, AllocError>
     requires { padding.now ≡ blank }
-    ensures printed { IfOk result (λ writer. writer.printed ≡ record { entries = spec.started_entries ++ spec.title_entry title.now; pen = default_attributes }) }
+    ensures printed { IfOk result (λ writer.
+        writer.printed ≡ record {
+          entries = spec.started_entries ++ spec.title_entry title.now;
+          pen = default_attributes;
+        }) }
     ensures between { IfOk result (λ writer. writer.spaces ≡ 0) }
 {
     let mut writer = cleared(alloc, padding)?;
@@ -80,7 +92,8 @@ pub fn started<'a>(
 // A clear of the screen with the cursor hidden.
 fn cleared<'a>(alloc: Global, padding: &'a Cell) -> Result<RowWriter<'a>, AllocError>
     requires { padding.now ≡ blank }
-    ensures printed { IfOk result (λ writer. writer.printed ≡ record { entries = spec.started_entries; pen = default_attributes }) }
+    ensures printed { IfOk result (λ writer.
+        writer.printed ≡ record { entries = spec.started_entries; pen = default_attributes }) }
     ensures between { IfOk result (λ writer. writer.spaces ≡ 0) }
 {
     let mut writer = RowWriter::new(alloc, padding.attrs());
@@ -91,7 +104,12 @@ fn cleared<'a>(alloc: Global, padding: &'a Cell) -> Result<RowWriter<'a>, AllocE
 
 // The title, unless it is empty.
 fn push_title(writer: &mut RowWriter<'_>, alloc: Global, title: &str) -> Result<(), AllocError>
-    ensures printed { OnOk result (writer.new.printed ≡ record writer.old.printed { entries = writer.old.printed.entries ++ spec.title_entry title.now }) }
+    ensures printed { OnOk result (
+        writer.new.printed
+        ≡ record writer.old.printed {
+          entries = writer.old.printed.entries
+              ++ spec.title_entry title.now;
+        }) }
     ensures spaces { writer.new.spaces ≡ writer.old.spaces }
 {
     if !title.is_empty() {
@@ -119,9 +137,16 @@ fn joined_rows<'a>(
     requires some_column { 0 < width }
     requires paddable { ArePaddable width (cells_of rows.now.items) }
     requires blank { padding.now ≡ blank }
-    requires bottom { attrs.now ≡ spec.bottom_attrs width (length (cells_of rows.now.items)) (map (row_of width) (cells_of rows.now.items)) }
-    requires clearable { (is_plain attrs.now && not (attributes_eq attrs.now default_attributes)) ≡ true }
-    ensures { IfOk result (λ drawn. (first : List ChangeValue) → AreApart first → IsDrawnUpto first width (map (row_of width) (cells_of rows.now.items)) 0 writer.entry → penned_value drawn ≡ behind first (spec.all_rows width (length (cells_of rows.now.items)) (map (row_of width) (cells_of rows.now.items)))) }
+    requires bottom { attrs.now
+        ≡ spec.bottom_attrs width (length (cells_of rows.now.items))
+        (map (row_of width) (cells_of rows.now.items)) }
+    requires clearable { (is_plain attrs.now && not (attributes_eq attrs.now default_attributes))
+        ≡ true }
+    ensures { IfOk result (λ drawn. (first : List ChangeValue) → AreApart first →
+        IsDrawnUpto first width (map (row_of width) (cells_of rows.now.items)) 0 writer.entry →
+        penned_value drawn
+        ≡ behind first (spec.all_rows width (length (cells_of rows.now.items))
+        (map (row_of width) (cells_of rows.now.items)))) }
 {
     let above = rows_above(rows, width, attrs);
     write_rows(&mut writer, rows, width, padding, 0, above)?;
@@ -139,7 +164,9 @@ fn joined_rows<'a>(
 fn rows_above(rows: &VecDeque<Line>, width: usize, attrs: &CellAttributes) -> usize
     requires paddable { ArePaddable width (cells_of rows.now.items) }
     requires other { attributes_eq attrs.now default_attributes ≡ false }
-    ensures above { result ≡ spec.first_blank width attrs.now (map (row_of width) (cells_of rows.now.items)) (length (cells_of rows.now.items)) }
+    ensures above { result
+        ≡ spec.first_blank width attrs.now (map (row_of width) (cells_of rows.now.items))
+        (length (cells_of rows.now.items)) }
     ensures within { result ≤ length (cells_of rows.now.items) }
 {
     let mut above = rows.len();
@@ -193,7 +220,13 @@ fn clear_below<'a>(
     mut drawn: Penned<'a>,
     attrs: &'a CellAttributes,
 ) -> Result<Penned<'a>, AllocError>
-    ensures { IfOk result (λ cleared. penned_value cleared ≡ record { entries = spec.front_of (penned_value drawn.entry).entries ++ change.ClearToEndOfScreen attrs.now.background ∷ []; pen = attrs.now }) }
+    ensures { IfOk result (λ cleared.
+        penned_value cleared
+        ≡ record {
+          entries = spec.front_of (penned_value drawn.entry).entries
+              ++ change.ClearToEndOfScreen attrs.now.background ∷ [];
+          pen = attrs.now;
+        }) }
 {
     drop_last(&mut drawn.entries);
     drawn
@@ -218,7 +251,10 @@ fn write_rows<'a>(
     requires paddable { ArePaddable width (cells_of rows.now.items) }
     requires blank { padding.now ≡ blank }
     ensures before { OnOk result (IsBeforeRow to writer.new) }
-    ensures upto { OnOk result ((first : List ChangeValue) → IsDrawnUpto first width (map (row_of width) (cells_of rows.now.items)) from writer.old → IsDrawnUpto first width (map (row_of width) (cells_of rows.now.items)) to writer.new) }
+    ensures upto { OnOk result (
+        (first : List ChangeValue) →
+        IsDrawnUpto first width (map (row_of width) (cells_of rows.now.items)) from writer.old →
+        IsDrawnUpto first width (map (row_of width) (cells_of rows.now.items)) to writer.new) }
 {
     for i in from..to {
         push_next_line(writer, i)?;
@@ -248,7 +284,10 @@ fn write_row<'a>(
     requires apart { last_is is_text writer.old.printed.entries ≡ false }
     requires paddable { IsPaddable width row.now.cells }
     requires blank { padding.now ≡ blank }
-    ensures row { OnOk result (writer.new.printed ≡ behind writer.old.printed.entries (line.row_entries writer.old.printed.pen (visible_upto (row_of width row.now.cells) width))) }
+    ensures row { OnOk result (
+        writer.new.printed
+        ≡ behind writer.old.printed.entries (line.row_entries writer.old.printed.pen
+        (visible_upto (row_of width row.now.cells) width))) }
     ensures between { OnOk result (writer.new.spaces ≡ 0) }
 {
     let blanks = width - row.len();
@@ -258,7 +297,12 @@ fn write_row<'a>(
 
 // A move to row i, unless it is the first.
 fn push_next_line(writer: &mut RowWriter<'_>, i: usize) -> Result<(), AllocError>
-    ensures printed { OnOk result (writer.new.printed ≡ record writer.old.printed { entries = writer.old.printed.entries ++ cond (eqb i 0) [] (spec.next_line ∷ []) }) }
+    ensures printed { OnOk result (
+        writer.new.printed
+        ≡ record writer.old.printed {
+          entries = writer.old.printed.entries
+              ++ cond (eqb i 0) [] (spec.next_line ∷ []);
+        }) }
     ensures spaces { writer.new.spaces ≡ writer.old.spaces }
 {
     if i != 0 {
@@ -280,7 +324,11 @@ pub fn framed(
     shape: Option<CursorShape>,
     pen: &CellAttributes,
 ) -> Result<Vec<Change>, AllocError>
-    ensures { IfOk result (λ entries. (first : List ChangeValue) (d : line.Penned) (s : Screen) → penned_value drawn.entry ≡ behind (spec.started_entries ++ first) d → s.x ≡ x → s.y ≡ y → s.visibility ≡ visibility → s.pen ≡ pen.now → map change_value entries.items ≡ spec.repaint_of first d s (spec.shown_entries s.visibility shape)) }
+    ensures { IfOk result (λ entries. (first : List ChangeValue) (d : line.Penned) (s : Screen) →
+        penned_value drawn.entry ≡ behind (spec.started_entries ++ first) d → s.x ≡ x → s.y ≡ y →
+        s.visibility ≡ visibility → s.pen ≡ pen.now →
+        map change_value entries.items
+        ≡ spec.repaint_of first d s (spec.shown_entries s.visibility shape)) }
 {
     let mut entries = placed(drawn, x, y, pen)?;
     push_visible(&mut entries, visibility, shape)?;
@@ -294,7 +342,12 @@ fn placed(
     y: usize,
     pen: &CellAttributes,
 ) -> Result<Vec<Change>, AllocError>
-    ensures { IfOk result (λ entries. (first : List ChangeValue) (d : line.Penned) (s : Screen) → penned_value drawn.entry ≡ behind (spec.started_entries ++ first) d → s.x ≡ x → s.y ≡ y → s.pen ≡ pen.now → let es = spec.without_last_moves (first ++ d.entries) in map change_value entries.items ≡ ((spec.started_entries ++ es) ++ spec.cursor_entry es s.x s.y) ++ line.pen_entry d.pen s.pen) }
+    ensures { IfOk result (λ entries. (first : List ChangeValue) (d : line.Penned) (s : Screen) →
+        penned_value drawn.entry ≡ behind (spec.started_entries ++ first) d → s.x ≡ x → s.y ≡ y →
+        s.pen ≡ pen.now → let es = spec.without_last_moves (first ++ d.entries) in
+        map change_value entries.items
+        ≡ ((spec.started_entries ++ es) ++ spec.cursor_entry es s.x s.y)
+        ++ line.pen_entry d.pen s.pen) }
 {
     let Penned {
         mut entries,
@@ -309,7 +362,8 @@ fn placed(
 
 // Whether there are no entries but the first two.
 fn is_started_alone(entries: &[Change]) -> bool
-    ensures { (es : List ChangeValue) → map change_value entries.now ≡ spec.started_entries ++ es → result ≡ spec.is_nil es }
+    ensures { (es : List ChangeValue) → map change_value entries.now ≡ spec.started_entries ++ es →
+        result ≡ spec.is_nil es }
 {
     entries.len() == 2
 }
@@ -320,7 +374,9 @@ fn push_pen(
     old: &CellAttributes,
     new: &CellAttributes,
 ) -> Result<(), AllocError>
-    ensures { OnOk result (map change_value entries.new.items ≡ map change_value entries.old.items ++ line.pen_entry old.now new.now) }
+    ensures { OnOk result (
+        map change_value entries.new.items
+        ≡ map change_value entries.old.items ++ line.pen_entry old.now new.now) }
 {
     if !is_same(old, new) {
         entries.push(Change::AllAttributes(new.clone()?))?;
@@ -335,7 +391,10 @@ fn push_cursor(
     x: usize,
     y: usize,
 ) -> Result<(), AllocError>
-    ensures { OnOk result (map change_value entries.new.items ≡ map change_value entries.old.items ++ cond (nothing && (eqb x 0 && eqb y 0)) [] (cursor_at x y ∷ [])) }
+    ensures { OnOk result (
+        map change_value entries.new.items
+        ≡ map change_value entries.old.items
+        ++ cond (nothing && (eqb x 0 && eqb y 0)) [] (cursor_at x y ∷ [])) }
 {
     if nothing && (x == 0 && y == 0) {
         return Ok(());
@@ -348,7 +407,8 @@ fn push_cursor(
 }
 
 fn drop_last_moves(entries: &mut Vec<Change>)
-    ensures { map change_value entries.new.items ≡ spec.without_last_moves (map change_value entries.old.items) }
+    ensures { map change_value entries.new.items
+        ≡ spec.without_last_moves (map change_value entries.old.items) }
 {
     while ends_with_move(entries.as_slice()) {
         drop_last(entries);
@@ -356,7 +416,8 @@ fn drop_last_moves(entries: &mut Vec<Change>)
 }
 
 fn drop_last(entries: &mut Vec<Change>)
-    ensures { map change_value entries.new.items ≡ spec.front_of (map change_value entries.old.items) }
+    ensures { map change_value entries.new.items
+        ≡ spec.front_of (map change_value entries.old.items) }
 {
     let _ = entries.pop();
 }
@@ -382,7 +443,9 @@ fn push_visible(
     visibility: CursorVisibility,
     shape: Option<CursorShape>,
 ) -> Result<(), AllocError>
-    ensures { OnOk result (map change_value entries.new.items ≡ map change_value entries.old.items ++ spec.shown_entries visibility shape) }
+    ensures { OnOk result (
+        map change_value entries.new.items
+        ≡ map change_value entries.old.items ++ spec.shown_entries visibility shape) }
 {
     if visibility == CursorVisibility::Visible {
         entries.push(Change::CursorVisibility(CursorVisibility::Visible))?;
@@ -393,7 +456,9 @@ fn push_visible(
 
 // The cursor's shape, where one was set.
 fn push_shape(entries: &mut Vec<Change>, shape: Option<CursorShape>) -> Result<(), AllocError>
-    ensures { OnOk result (map change_value entries.new.items ≡ map change_value entries.old.items ++ spec.shape_entry shape) }
+    ensures { OnOk result (
+        map change_value entries.new.items
+        ≡ map change_value entries.old.items ++ spec.shape_entry shape) }
 {
     if let Some(shape) = shape {
         entries.push(Change::CursorShape(shape))?;

@@ -1,5 +1,7 @@
 //! The rows of a surface: lines that all have the number 0.
-ghost use Rattle.std.specs.Prelude.{◌≡◌, ◌+◌, ℕ, true, false, [], ◌∷◌, length, drop, ◌-◌, ◌<◌, ◌≤◌, slice_set, get_or, replicate, take, map, string_bytes, ◌++◌, IfOk, OnOk, OnErr};
+ghost use Rattle.std.specs.Prelude.{◌≡◌, ◌+◌, ℕ, true, false, [], ◌∷◌, length, drop, ◌-◌, ◌<◌, ◌≤◌};
+ghost use Rattle.std.specs.Prelude.{slice_set, get_or, replicate, take, map, string_bytes, ◌++◌};
+ghost use Rattle.std.specs.Prelude.{IfOk, OnOk, OnErr};
 ghost use Rattle.std.specs.VecDeque.{deque_len, deque_capacity};
 ghost use Rattle.termwiz_cell.specs.CellValue.{blank};
 ghost use Rattle.std.specs.List.{list_all};
@@ -14,7 +16,8 @@ ghost use Rattle.termwiz_screen.specs.Kept.{with_line_attribute};
 ghost use Rattle.termwiz_screen.specs.ScreenValue.{cells_of, numberless};
 ghost use Rattle.termwiz_screen.specs.Screen.{row_at};
 ghost use Rattle.termwiz_screen.specs.Print.{scrolled};
-ghost use Rattle.termwiz_screen.specs.Rows.{painted_in, AreFilled, IsPartly, ArePartly, ArePartlyReset};
+ghost use Rattle.termwiz_screen.specs.Rows.{painted_in, AreFilled, IsPartly, ArePartly};
+ghost use Rattle.termwiz_screen.specs.Rows.{ArePartlyReset};
 ghost use Rattle.termwiz_screen.specs.Regions.{region_turned, region_up, region_down};
 ghost use Rattle.termwiz_screen.specs.Resized.{copy_in, cuts_in_place};
 ghost use Rattle.termwiz_screen.specs.Resized.{resized_stored, resized_flags};
@@ -28,7 +31,8 @@ use termwiz_line::line::line::Line;
 
 fn fill_line(line: &mut Line, from: usize, to: usize, cell: &Cell) -> Result<(), AllocError>
     requires { 0 < length line.old.cells }
-    ensures ok { OnOk result (IsPruned (fill (to - from) from cell.now line.old.cells) line.new.cells) }
+    ensures ok { OnOk result (
+        IsPruned (fill (to - from) from cell.now line.old.cells) line.new.cells) }
     ensures err { from ≤ to → OnErr result (IsPartly to cell.now line.old.cells line.new.cells) }
     ensures side { KeepsSide line.old line.new }
 {
@@ -37,7 +41,8 @@ fn fill_line(line: &mut Line, from: usize, to: usize, cell: &Cell) -> Result<(),
 }
 
 fn push_chars(line: &Line, text: &mut String) -> Result<(), AllocError>
-    ensures { OnOk result (string_bytes text.new ≡ string_bytes text.old ++ row_chars line.now.cells) }
+    ensures { OnOk result (
+        string_bytes text.new ≡ string_bytes text.old ++ row_chars line.now.cells) }
 {
     for cell in line.visible_cells() {
         text.push_str(cell.str())?;
@@ -52,7 +57,8 @@ pub fn resized_lines(
     rows: &VecDeque<Line>,
     width: usize,
 ) -> Result<Vec<Line>, AllocError>
-    ensures { IfOk result (λ lines. lines.items ≡ map (λ r. numberless (resized width r)) (cells_of rows.now.items)) }
+    ensures { IfOk result (λ lines.
+        lines.items ≡ map (λ r. numberless (resized width r)) (cells_of rows.now.items)) }
 {
     let mut lines = Vec::with_capacity(alloc, rows.len())?;
     for i in 0..rows.len() {
@@ -80,7 +86,8 @@ fn add_blank_rows(
     count: usize,
 ) -> Result<(), AllocError>
     requires { deque_len rows.old + count ≤ deque_capacity rows.old }
-    ensures { OnOk result (rows.new.items ≡ rows.old.items ++ replicate count (numberless (replicate width blank))) }
+    ensures { OnOk result (
+        rows.new.items ≡ rows.old.items ++ replicate count (numberless (replicate width blank))) }
 {
     for _row in 0..count {
         rows.push_back_reserved(Line::with_width(alloc, width, SEQ_ZERO)?);
@@ -90,7 +97,8 @@ fn add_blank_rows(
 
 /// Rows of default blanks.
 pub fn blank_rows(alloc: Global, width: usize, height: usize) -> Result<VecDeque<Line>, AllocError>
-    ensures cells { IfOk result (λ rows. cells_of rows.items ≡ replicate height (replicate width blank)) }
+    ensures cells { IfOk result (λ rows.
+        cells_of rows.items ≡ replicate height (replicate width blank)) }
     ensures flags { IfOk result (λ rows. row_flags rows.items ≡ replicate height no_flags) }
     ensures vectors { IfOk result (λ rows. AreVectors rows.items) }
 {
@@ -108,7 +116,10 @@ pub fn paint_row(
     cell: Cell,
 ) -> Result<(), AllocError>
     requires { y < deque_len rows.old }
-    ensures ok { OnOk result (cells_of rows.new.items ≡ slice_set (cells_of rows.old.items) y (painted_in width x cell (row_at (cells_of rows.old.items) y))) }
+    ensures ok { OnOk result (
+        cells_of rows.new.items
+        ≡ slice_set (cells_of rows.old.items) y (painted_in width x cell
+        (row_at (cells_of rows.old.items) y))) }
     ensures err { OnErr result (cells_of rows.new.items ≡ cells_of rows.old.items) }
     ensures sides { KeepSides rows.old.items rows.new.items }
 {
@@ -128,7 +139,10 @@ pub fn paint_run(
     requires inside { y < deque_len rows.old }
     requires plain { list_all is_plain run.now ≡ true }
     requires unboxed { needs_box pen.now ≡ false }
-    ensures ok { OnOk result (cells_of rows.new.items ≡ slice_set (cells_of rows.old.items) y (set_run x run.now pen.now (row_at (cells_of rows.old.items) y))) }
+    ensures ok { OnOk result (
+        cells_of rows.new.items
+        ≡ slice_set (cells_of rows.old.items) y (set_run x run.now pen.now
+        (row_at (cells_of rows.old.items) y))) }
     ensures err { OnErr result (cells_of rows.new.items ≡ cells_of rows.old.items) }
     ensures sides { KeepSides rows.old.items rows.new.items }
 {
@@ -141,7 +155,8 @@ pub fn scroll_rows(rows: &mut VecDeque<Line>, width: usize) -> Result<(), AllocE
     requires { 0 < deque_len rows.old }
     ensures ok { OnOk result (cells_of rows.new.items ≡ scrolled width (cells_of rows.old.items)) }
     ensures err { OnErr result (cells_of rows.new.items ≡ cells_of rows.old.items) }
-    ensures flags { OnOk result (row_flags rows.new.items ≡ drop 1 (row_flags rows.old.items) ++ no_flags ∷ []) }
+    ensures flags { OnOk result (
+        row_flags rows.new.items ≡ drop 1 (row_flags rows.old.items) ++ no_flags ∷ []) }
     ensures err_flags { OnErr result (row_flags rows.new.items ≡ row_flags rows.old.items) }
     ensures vectors { AreVectors rows.old.items → AreVectors rows.new.items }
 {
@@ -161,9 +176,15 @@ fn blank_some(
     count: usize,
 ) -> Result<(), AllocError>
     requires { first + count ≤ deque_len rows.old }
-    ensures ok { OnOk result (rows.new.items ≡ take first rows.old.items ++ (replicate count (numberless (replicate width blank)) ++ drop (first + count) rows.old.items)) }
-    ensures err { OnErr result (ArePartlyReset (replicate width blank) (cells_of rows.old.items) (cells_of rows.new.items)) }
-    ensures err_flags { OnErr result (ArePartlyReset no_flags (row_flags rows.old.items) (row_flags rows.new.items)) }
+    ensures ok { OnOk result (
+        rows.new.items ≡ take first rows.old.items
+        ++ (replicate count (numberless (replicate width blank))
+        ++ drop (first + count) rows.old.items)) }
+    ensures err { OnErr result (
+        ArePartlyReset (replicate width blank) (cells_of rows.old.items)
+        (cells_of rows.new.items)) }
+    ensures err_flags { OnErr result (
+        ArePartlyReset no_flags (row_flags rows.old.items) (row_flags rows.new.items)) }
     ensures len { deque_len rows.new ≡ deque_len rows.old }
     ensures vectors { AreVectors rows.old.items → AreVectors rows.new.items }
 {
@@ -197,10 +218,16 @@ pub fn scroll_region_up(
     count: usize,
 ) -> Result<(), AllocError>
     requires { first + size ≤ deque_len rows.old }
-    ensures ok { OnOk result (cells_of rows.new.items ≡ region_up (replicate width blank) (cells_of rows.old.items) first size count) }
-    ensures flags { OnOk result (row_flags rows.new.items ≡ region_up no_flags (row_flags rows.old.items) first size count) }
-    ensures err { OnErr result (ArePartlyReset (replicate width blank) (cells_of rows.old.items) (cells_of rows.new.items)) }
-    ensures err_flags { OnErr result (ArePartlyReset no_flags (row_flags rows.old.items) (row_flags rows.new.items)) }
+    ensures ok { OnOk result (
+        cells_of rows.new.items
+        ≡ region_up (replicate width blank) (cells_of rows.old.items) first size count) }
+    ensures flags { OnOk result (
+        row_flags rows.new.items ≡ region_up no_flags (row_flags rows.old.items) first size count) }
+    ensures err { OnErr result (
+        ArePartlyReset (replicate width blank) (cells_of rows.old.items)
+        (cells_of rows.new.items)) }
+    ensures err_flags { OnErr result (
+        ArePartlyReset no_flags (row_flags rows.old.items) (row_flags rows.new.items)) }
     ensures vectors { AreVectors rows.old.items → AreVectors rows.new.items }
 {
     let gone = count.min(size);
@@ -219,10 +246,17 @@ pub fn scroll_region_down(
     count: usize,
 ) -> Result<(), AllocError>
     requires { first + size ≤ deque_len rows.old }
-    ensures ok { OnOk result (cells_of rows.new.items ≡ region_down (replicate width blank) (cells_of rows.old.items) first size count) }
-    ensures flags { OnOk result (row_flags rows.new.items ≡ region_down no_flags (row_flags rows.old.items) first size count) }
-    ensures err { OnErr result (ArePartlyReset (replicate width blank) (cells_of rows.old.items) (cells_of rows.new.items)) }
-    ensures err_flags { OnErr result (ArePartlyReset no_flags (row_flags rows.old.items) (row_flags rows.new.items)) }
+    ensures ok { OnOk result (
+        cells_of rows.new.items
+        ≡ region_down (replicate width blank) (cells_of rows.old.items) first size count) }
+    ensures flags { OnOk result (
+        row_flags rows.new.items
+        ≡ region_down no_flags (row_flags rows.old.items) first size count) }
+    ensures err { OnErr result (
+        ArePartlyReset (replicate width blank) (cells_of rows.old.items)
+        (cells_of rows.new.items)) }
+    ensures err_flags { OnErr result (
+        ArePartlyReset no_flags (row_flags rows.old.items) (row_flags rows.new.items)) }
     ensures vectors { AreVectors rows.old.items → AreVectors rows.new.items }
 {
     let gone = count.min(size);
@@ -233,17 +267,17 @@ pub fn scroll_region_down(
 }
 
 // Whether a row can be cut to the width in place, for which it needs no memory.
-fn can_be_cut(row: &Line, width: usize) -> bool
+fn is_cut_in_place(row: &Line, width: usize) -> bool
     ensures { result ≡ cuts_in_place width row.now }
 {
     row.stored_cells().is_some() && width <= row.len()
 }
 
 // The row in the width, where it can't be cut in place.
-fn grown_copy(row: &Line, width: usize) -> Result<Option<Line>, AllocError>
+fn copy_in_width(row: &Line, width: usize) -> Result<Option<Line>, AllocError>
     ensures { IfOk result (λ copy. copy ≡ copy_in width row.now) }
 {
-    if can_be_cut(row, width) {
+    if is_cut_in_place(row, width) {
         return Ok(None);
     }
     let copy = row.resized_clone(width)?;
@@ -251,7 +285,7 @@ fn grown_copy(row: &Line, width: usize) -> Result<Option<Line>, AllocError>
 }
 
 // The same for each of the first rows.
-fn grown_copies(
+fn copies_in_width(
     alloc: Global,
     rows: &VecDeque<Line>,
     width: usize,
@@ -262,7 +296,7 @@ fn grown_copies(
     let end = height.min(rows.len());
     let mut copies = VecDeque::with_capacity(alloc, end)?;
     for i in 0..end {
-        copies.push_back_reserved(grown_copy(&rows[i], width)?);
+        copies.push_back_reserved(copy_in_width(&rows[i], width)?);
     }
     Ok(copies)
 }
@@ -299,13 +333,15 @@ pub fn resize_rows(
     width: usize,
     height: usize,
 ) -> Result<(), AllocError>
-    ensures ok { OnOk result (cells_of rows.new.items ≡ resized_stored width height (cells_of rows.old.items)) }
-    ensures flags { OnOk result (row_flags rows.new.items ≡ resized_flags height (row_flags rows.old.items)) }
+    ensures ok { OnOk result (
+        cells_of rows.new.items ≡ resized_stored width height (cells_of rows.old.items)) }
+    ensures flags { OnOk result (
+        row_flags rows.new.items ≡ resized_flags height (row_flags rows.old.items)) }
     ensures err { OnErr result (rows.new.items ≡ rows.old.items) }
     ensures vectors { AreVectors rows.old.items → AreVectors rows.new.items }
 {
     // All that can fail comes before the first row is changed.
-    let copies = grown_copies(alloc, rows, width, height)?;
+    let copies = copies_in_width(alloc, rows, width, height)?;
     let missing = height - copies.len();
     let mut below = VecDeque::with_capacity(alloc, missing)?;
     add_blank_rows(alloc, &mut below, width, missing)?;
@@ -326,8 +362,11 @@ pub fn fill_row(
 ) -> Result<(), AllocError>
     requires inside { y < deque_len rows.old }
     requires some { 0 < length (row_at (cells_of rows.old.items) y) }
-    ensures ok { OnOk result (AreFilled width x y (y + 1) cell.now (cells_of rows.old.items) (cells_of rows.new.items)) }
-    ensures err { x ≤ width → OnErr result (ArePartly width cell.now (cells_of rows.old.items) (cells_of rows.new.items)) }
+    ensures ok { OnOk result (
+        AreFilled width x y (y + 1) cell.now (cells_of rows.old.items) (cells_of rows.new.items)) }
+    ensures err { x ≤ width →
+        OnErr result (
+        ArePartly width cell.now (cells_of rows.old.items) (cells_of rows.new.items)) }
     ensures sides { KeepSides rows.old.items rows.new.items }
 {
     fill_line(&mut rows[y], x, width, cell)?;
@@ -343,9 +382,14 @@ pub fn fill_rows(
     cell: &Cell,
 ) -> Result<(), AllocError>
     requires inside { y < deque_len rows.old }
-    requires some { (j : ℕ) → j < deque_len rows.old → 0 < length (row_at (cells_of rows.old.items) j) }
-    ensures ok { OnOk result (AreFilled width x y (length (cells_of rows.old.items)) cell.now (cells_of rows.old.items) (cells_of rows.new.items)) }
-    ensures err { x ≤ width → OnErr result (ArePartly width cell.now (cells_of rows.old.items) (cells_of rows.new.items)) }
+    requires some { (j : ℕ) → j < deque_len rows.old →
+        0 < length (row_at (cells_of rows.old.items) j) }
+    ensures ok { OnOk result (
+        AreFilled width x y (length (cells_of rows.old.items)) cell.now (cells_of rows.old.items)
+        (cells_of rows.new.items)) }
+    ensures err { x ≤ width →
+        OnErr result (
+        ArePartly width cell.now (cells_of rows.old.items) (cells_of rows.new.items)) }
     ensures sides { KeepSides rows.old.items rows.new.items }
 {
     fill_row(rows, width, x, y, cell)?;
@@ -359,7 +403,9 @@ pub fn fill_rows(
 pub fn set_line_attribute(rows: &mut VecDeque<Line>, y: usize, attribute: LineAttribute)
     requires { y < deque_len rows.old }
     ensures cells { cells_of rows.new.items ≡ cells_of rows.old.items }
-    ensures flags { row_flags rows.new.items ≡ slice_set (row_flags rows.old.items) y (with_line_attribute attribute (get_or (row_flags rows.old.items) y no_flags)) }
+    ensures flags { row_flags rows.new.items
+        ≡ slice_set (row_flags rows.old.items) y
+        (with_line_attribute attribute (get_or (row_flags rows.old.items) y no_flags)) }
     ensures vectors { AreVectors rows.old.items → AreVectors rows.new.items }
 {
     show_line(&mut rows[y], attribute);

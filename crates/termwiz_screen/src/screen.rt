@@ -2,8 +2,8 @@
 ghost use Rattle.std.specs.Prelude.{◌≡◌, ◌↔◌, IsTrue, Some};
 ghost use Rattle.std.specs.Cmp.{decided, on_equiv, on_per, partial_equiv_from_equiv};
 ghost use Rattle.termwiz_cell.specs.ChangeValue.{visibility_eq};
-ghost use Rattle.termwiz_storage.specs.CellLists.{cells_eq};
-ghost use Rattle.termwiz_screen.specs.ScreenValue.{cells_of, rows_eq, screen_eq, screen_eq-Decides, screen_value};
+ghost use Rattle.termwiz_screen.specs.ScreenValue.{cells_of, rows_eq, screen_eq, screen_eq-Decides};
+ghost use Rattle.termwiz_screen.specs.ScreenValue.{screen_value};
 
 use termwiz_cell::cell::CellAttributes;
 use termwiz_cell::change::CursorVisibility;
@@ -30,7 +30,8 @@ pub struct Screen {
 impl PartialEq for Screen {
     ghost eq = { λ a b. screen_eq (screen_value a) (screen_value b) };
 
-    ghost laws = { on_per screen_value (partial_equiv_from_equiv (decided screen_eq screen_eq-Decides)) };
+    ghost laws = { on_per screen_value (partial_equiv_from_equiv
+        (decided screen_eq screen_eq-Decides)) };
 
     fn eq(&self, other: &Screen) -> bool
         ensures value { result ≡ screen_eq (screen_value self.now) (screen_value other.now) }

@@ -35,7 +35,8 @@ pub fn last_attrs<'a>(row: &'a Line, width: usize, padding: &'a Cell) -> &'a Cel
 pub fn is_blank_row(row: &Line, width: usize, attrs: &CellAttributes) -> bool
     requires paddable { IsPaddable width row.now.cells }
     requires other { attributes_eq attrs.now default_attributes ≡ false }
-    ensures { result ≡ pointwise cell_eq (row_of width row.now.cells) (replicate width (blank_of attrs.now)) }
+    ensures { result
+        ≡ pointwise cell_eq (row_of width row.now.cells) (replicate width (blank_of attrs.now)) }
 {
     if row.len() < width {
         return false;

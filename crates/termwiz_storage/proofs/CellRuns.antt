@@ -1,6 +1,6 @@
 -- Runs that grow, and copies of runs.
 use Rattle.std.proofs.Common.{◌≡◌, ℕ, zero, suc, ◌+◌, ◌-◌, ◌<◌, ◌≤◌, List, [], ◌∷◌, ◌++◌, Some, replicate, set, length, get_or, drop, refl, ap, ap₂, sym, ◌∙◌, append_assoc, arith}
-use Rattle.std.proofs.lemmas.List.{replicate-append-replicate, append-nil, at_drop_more, replicate_more}
+use Rattle.std.proofs.lemmas.List.{replicate-append-replicate, append-nil, at_drop_more}
 use Rattle.std.specs.List.{flat_map, slice_get, AllZip}
 use Rattle.termwiz_cell.specs.Attributes.{Attributes}
 use Rattle.termwiz_storage.specs.declared.line.clusterline.runs.AttrsRun.{AttrsRun}

@@ -1,5 +1,6 @@
 //! A text that grows by one grapheme at a time.
-ghost use Rattle.std.specs.Prelude.{◌≡◌, ◌↔◌, ◌++◌, ◌∷◌, [], List, ℕ, true, IsTrue, ◌<◌, IfSome, OnSome, IfOk, OnOk, OnErr, string_bytes, if◌then◌else◌};
+ghost use Rattle.std.specs.Prelude.{◌≡◌, ◌↔◌, ◌++◌, ◌∷◌, [], List, ℕ, true, IsTrue, ◌<◌, IfSome};
+ghost use Rattle.std.specs.Prelude.{IfOk, OnOk, OnErr, string_bytes, if◌then◌else◌};
 ghost use Rattle.termwiz_text.specs.CutAt.{IsCutAt};
 ghost use Rattle.termwiz_text.specs.Plain.{is_plain_last, is_plain};
 ghost use Rattle.unicode_segmentation.specs.Grapheme.{graphemes};
@@ -28,7 +29,8 @@ impl Model for JoinedText {
 
     ghost view = { λ joined. string_bytes joined.text };
 
-    ghost invariant = { λ joined. IsCutAt (string_bytes joined.text) joined.last × (joined.ends_plain ≡ true → is_plain_last (string_bytes joined.text) ≡ true) };
+    ghost invariant = { λ joined. IsCutAt (string_bytes joined.text) joined.last
+        × (joined.ends_plain ≡ true → is_plain_last (string_bytes joined.text) ≡ true) };
 }
 
 // The only byte of a text that is printable ASCII.
@@ -48,8 +50,12 @@ fn only_plain(text: &str) -> Option<u8>
 // whether it did. What stands from `last` on is cut.
 fn join_by_cut(text: &mut String, last: usize, more: &str) -> Result<bool, AllocError>
     requires { IsCutAt (string_bytes text.old) last }
-    ensures joins { IfOk result (λ joined. IsTrue joined ↔ (graphemes true (string_bytes text.old ++ more.now) ≡ graphemes true (string_bytes text.old) ++ more.now ∷ [])) }
-    ensures text { IfOk result (λ joined. string_bytes text.new ≡ (if joined then string_bytes text.old ++ more.now else string_bytes text.old)) }
+    ensures joins { IfOk result (λ joined. IsTrue joined
+        ↔ (graphemes true (string_bytes text.old ++ more.now)
+        ≡ graphemes true (string_bytes text.old) ++ more.now ∷ [])) }
+    ensures text { IfOk result (λ joined.
+        string_bytes text.new
+        ≡ (if joined then string_bytes text.old ++ more.now else string_bytes text.old)) }
     ensures err { OnErr result (string_bytes text.new ≡ string_bytes text.old) }
 {
     let before = text.as_str();
@@ -107,8 +113,10 @@ impl JoinedText {
     /// Only what was joined last, or the first text, is cut again with it, whatever stands before.
     #[inline(always)]
     pub fn join(&mut self, more: &str) -> Result<bool, AllocError>
-        ensures joins { IfOk result (λ joined. IsTrue joined ↔ (graphemes true (self.old ++ more.now) ≡ graphemes true self.old ++ more.now ∷ [])) }
-        ensures text { IfOk result (λ joined. self.new ≡ (if joined then self.old ++ more.now else self.old)) }
+        ensures joins { IfOk result (λ joined. IsTrue joined
+            ↔ (graphemes true (self.old ++ more.now) ≡ graphemes true self.old ++ more.now ∷ [])) }
+        ensures text { IfOk result (λ joined.
+            self.new ≡ (if joined then self.old ++ more.now else self.old)) }
         ensures err { OnErr result (self.new ≡ self.old) }
     {
         if self.ends_plain {
@@ -126,7 +134,8 @@ impl JoinedText {
         requires ascii { byte < 128 }
         requires plain { is_plain byte ≡ true }
         requires behind { is_plain_last self.old ≡ true }
-        ensures joins { graphemes true (self.old ++ byte ∷ []) ≡ graphemes true self.old ++ (byte ∷ []) ∷ [] }
+        ensures joins { graphemes true (self.old ++ byte ∷ [])
+            ≡ graphemes true self.old ++ (byte ∷ []) ∷ [] }
         ensures ok { OnOk result (self.new ≡ self.old ++ byte ∷ []) }
         ensures err { OnErr result (self.new ≡ self.old) }
     {
@@ -140,8 +149,10 @@ impl JoinedText {
     // short.
     #[inline(never)]
     fn join_other(&mut self, more: &str) -> Result<bool, AllocError>
-        ensures joins { IfOk result (λ joined. IsTrue joined ↔ (graphemes true (self.old ++ more.now) ≡ graphemes true self.old ++ more.now ∷ [])) }
-        ensures text { IfOk result (λ joined. self.new ≡ (if joined then self.old ++ more.now else self.old)) }
+        ensures joins { IfOk result (λ joined. IsTrue joined
+            ↔ (graphemes true (self.old ++ more.now) ≡ graphemes true self.old ++ more.now ∷ [])) }
+        ensures text { IfOk result (λ joined.
+            self.new ≡ (if joined then self.old ++ more.now else self.old)) }
         ensures err { OnErr result (self.new ≡ self.old) }
     {
         let seam = self.text.as_str().len();

@@ -1,7 +1,9 @@
 //! Texts cut into graphemes, the extended grapheme clusters of UAX 29.
 #![tactic(auto)]
 
-ghost use Rattle.std.specs.Prelude.{◌≡◌, ◌≤◌, ◌<◌, length, ◌↔◌, ℕ, true, false, List, [], ◌∷◌, ◌++◌, min, take, drop, slice_index, MatchOption, IfSome, IsTrue, IfOk, string_bytes, if◌then◌else◌};
+ghost use Rattle.std.specs.Prelude.{◌≡◌, ◌≤◌, ◌<◌, length, ◌↔◌, ℕ, true, false, List, [], ◌∷◌};
+ghost use Rattle.std.specs.Prelude.{◌++◌, min, take, drop, slice_index, MatchOption, IfSome};
+ghost use Rattle.std.specs.Prelude.{IsTrue, string_bytes, if◌then◌else◌};
 ghost use Rattle.std.specs.List.{list_all};
 ghost use Rattle.std.specs.Str.{chars};
 ghost use Rattle.termwiz_text.specs.Plain as plain;
@@ -96,7 +98,8 @@ fn split_first_simple(text: &str) -> Option<(&str, &str)>
 /// The first grapheme of a text, and the rest, which is cut as a text of its own. The empty text
 /// has none.
 pub fn split_first_grapheme(text: &str) -> Option<(&str, &str)>
-    ensures { MatchOption result (graphemes true text.now ≡ []) (λ (first, rest). IsFirst text.now first.now rest.now) }
+    ensures { MatchOption result (graphemes true text.now ≡ []) (λ (first, rest).
+        IsFirst text.now first.now rest.now) }
 {
     if let Some(split) = split_first_simple(text) {
         return Some(split);
@@ -110,7 +113,8 @@ pub fn split_first_grapheme(text: &str) -> Option<(&str, &str)>
 fn count_plain(bytes: &[u8], limit: usize) -> usize
     ensures within { result ≤ min limit (length bytes.now) }
     ensures plain { list_all plain.is_plain (take result bytes.now) ≡ true }
-    ensures stops { result < min limit (length bytes.now) → plain.is_plain (slice_index bytes.now result) ≡ false }
+    ensures stops { result < min limit (length bytes.now) →
+        plain.is_plain (slice_index bytes.now result) ≡ false }
 {
     let end = limit.min(bytes.len());
     for i in 0..end {
@@ -150,7 +154,8 @@ pub fn split_plain_run(text: &str, limit: usize) -> (&str, &str)
 
 // Whether the last grapheme of the whole is the text at its end.
 fn is_last_grapheme(whole: &str, text: &str) -> bool
-    ensures { (front : List ℕ) → whole.now ≡ front ++ text.now → (IsTrue result ↔ (graphemes true whole.now ≡ graphemes true front ++ text.now ∷ [])) }
+    ensures { (front : List ℕ) → whole.now ≡ front ++ text.now →
+        (IsTrue result ↔ (graphemes true whole.now ≡ graphemes true front ++ text.now ∷ [])) }
 {
     match whole.graphemes(true).next_back() {
         Some(last) => last == text,

@@ -11,7 +11,9 @@ fn embolden(attrs: &mut CellAttributes)
 }
 
 fn embolden_cell(cell: &mut Cell)
-    ensures { cell.new ≡ record cell.old { attrs = record cell.old.attrs { underline = Single; italic = true } } }
+    ensures { cell.new ≡ record cell.old {
+      attrs = record cell.old.attrs { underline = Single; italic = true };
+    } }
 {
     embolden(cell.attrs_mut());
 }

@@ -30,7 +30,8 @@ fn shown(rt: &impl Abort, alloc: Global, line: &Line) -> String {
 // Writes one of the cells that a line lends.
 fn write(line: &mut Line, i: usize, cell: Cell) -> Result<(), AllocError>
     requires { i < length line.old.cells }
-    ensures { OnOk result (line.new ≡ record line.old { cells = slice_set line.old.cells i cell; is_vector = true }) }
+    ensures { OnOk result (line.new
+        ≡ record line.old { cells = slice_set line.old.cells i cell; is_vector = true }) }
 {
     line.cells_mut()?[i] = cell;
     Ok(())

@@ -1,7 +1,9 @@
 //! Changes of one attribute.
 ghost use Rattle.std.specs.Prelude.{◌≡◌, ◌↔◌, IsTrue, false};
 ghost use Rattle.std.specs.Cmp.{decided, on_equiv, on_per, partial_equiv_from_equiv};
-ghost use Rattle.termwiz_cell.specs.AttributeChangeValue.{attribute_change_value, attribute_change_eq, attribute_change_eq-Decides, is_link};
+ghost use Rattle.termwiz_cell.specs.AttributeChangeValue.{attribute_change_value};
+ghost use Rattle.termwiz_cell.specs.AttributeChangeValue.{attribute_change_eq};
+ghost use Rattle.termwiz_cell.specs.AttributeChangeValue.{attribute_change_eq-Decides, is_link};
 ghost use Rattle.termwiz_cell.specs.Style.{intensity_eq, underline_eq, blink_eq};
 
 use super::form::{clone_link, is_same_link};
@@ -54,23 +56,30 @@ impl Clone for AttributeChange {
 impl PartialEq for AttributeChange {
     ghost eq = { λ a b. attribute_change_eq (attribute_change_value a) (attribute_change_value b) };
 
-    ghost laws = { on_per attribute_change_value (partial_equiv_from_equiv (decided attribute_change_eq attribute_change_eq-Decides)) };
+    ghost laws = { on_per attribute_change_value
+        (partial_equiv_from_equiv (decided attribute_change_eq attribute_change_eq-Decides)) };
 
     fn eq(&self, other: &AttributeChange) -> bool
-        ensures value { result ≡ attribute_change_eq (attribute_change_value self.now) (attribute_change_value other.now) }
-        ensures same { IsTrue result ↔ (attribute_change_value self.now ≡ attribute_change_value other.now) }
+        ensures value { result
+            ≡ attribute_change_eq (attribute_change_value self.now)
+            (attribute_change_value other.now) }
+        ensures same { IsTrue result
+            ↔ (attribute_change_value self.now ≡ attribute_change_value other.now) }
     {
         self.is_same(other)
     }
 }
 
 impl Eq for AttributeChange {
-    ghost laws = { on_equiv attribute_change_value (decided attribute_change_eq attribute_change_eq-Decides) };
+    ghost laws = { on_equiv attribute_change_value
+        (decided attribute_change_eq attribute_change_eq-Decides) };
 }
 
 impl AttributeChange {
     fn is_same(&self, other: &AttributeChange) -> bool
-        ensures { result ≡ attribute_change_eq (attribute_change_value self.now) (attribute_change_value other.now) }
+        ensures { result
+            ≡ attribute_change_eq (attribute_change_value self.now)
+            (attribute_change_value other.now) }
     {
         match (self, other) {
             (AttributeChange::Intensity(a), AttributeChange::Intensity(b)) => {

@@ -1,7 +1,9 @@
 //! The attributes of a cell.
-ghost use Rattle.std.specs.Prelude.{◌≡◌, ◌↔◌, IsTrue, false, true, option_map, IfOk, OnOk, OnErr, IsOk, IsSome, IfSome};
+ghost use Rattle.std.specs.Prelude.{◌≡◌, ◌↔◌, IsTrue, false, true, option_map, IfOk, OnOk, OnErr};
+ghost use Rattle.std.specs.Prelude.{IsOk, IsSome, IfSome};
 ghost use Rattle.std.specs.Cmp.{decided, partial_equiv_from_equiv};
-ghost use Rattle.termwiz_cell.specs.Attributes.{default_attributes, attributes_eq, attributes_eq-Decides, needs_box};
+ghost use Rattle.termwiz_cell.specs.Attributes.{default_attributes, attributes_eq};
+ghost use Rattle.termwiz_cell.specs.Attributes.{attributes_eq-Decides, needs_box};
 ghost use Rattle.termwiz_cell.specs.AttributesLayout as spec;
 
 use super::attribute_change::AttributeChange;
@@ -38,7 +40,8 @@ impl Model for CellAttributes {
 
 impl CellAttributes {
     ghost use Rattle.termwiz_cell.specs.Attributes.{without_colors, sgr_only};
-    ghost use Rattle.termwiz_cell.specs.AttributeChangeValue.{attribute_change_value, with_attribute, takes_memory};
+    ghost use Rattle.termwiz_cell.specs.AttributeChangeValue.{attribute_change_value};
+    ghost use Rattle.termwiz_cell.specs.AttributeChangeValue.{with_attribute, takes_memory};
     ghost use Rattle.termwiz_cell.specs.Link.{linked};
 
     /// The default attributes. They take no memory.
@@ -267,7 +270,8 @@ impl CellAttributes {
         ensures same_reference { IfOk result (λ r. r.ghost_name ≡ self.entry.ghost_name) }
         ensures ok { IfOk result (λ r. r.now ≡ record self.old { foreground = value }) }
         ensures boxed { needs_box self.old ≡ true → IsOk result }
-        ensures succeeds { needs_box (record self.old { foreground = value }) ≡ false → IsOk result }
+        ensures succeeds { needs_box (record self.old { foreground = value }) ≡ false →
+            IsOk result }
     {
         self.change_foreground(alloc, value)?;
         Ok(self)
@@ -283,7 +287,8 @@ impl CellAttributes {
         ensures ok { OnOk result (self.new ≡ record self.old { foreground = value }) }
         ensures err { OnErr result (self.new ≡ self.old) }
         ensures boxed { needs_box self.old ≡ true → IsOk result }
-        ensures succeeds { needs_box (record self.old { foreground = value }) ≡ false → IsOk result }
+        ensures succeeds { needs_box (record self.old { foreground = value }) ≡ false →
+            IsOk result }
     {
         let palette = palette_part(&value);
         let rare = rare_part(value);
@@ -309,7 +314,8 @@ impl CellAttributes {
         ensures same_reference { IfOk result (λ r. r.ghost_name ≡ self.entry.ghost_name) }
         ensures ok { IfOk result (λ r. r.now ≡ record self.old { background = value }) }
         ensures boxed { needs_box self.old ≡ true → IsOk result }
-        ensures succeeds { needs_box (record self.old { background = value }) ≡ false → IsOk result }
+        ensures succeeds { needs_box (record self.old { background = value }) ≡ false →
+            IsOk result }
     {
         self.change_background(alloc, value)?;
         Ok(self)
@@ -326,7 +332,8 @@ impl CellAttributes {
         ensures ok { OnOk result (self.new ≡ record self.old { background = value }) }
         ensures err { OnErr result (self.new ≡ self.old) }
         ensures boxed { needs_box self.old ≡ true → IsOk result }
-        ensures succeeds { needs_box (record self.old { background = value }) ≡ false → IsOk result }
+        ensures succeeds { needs_box (record self.old { background = value }) ≡ false →
+            IsOk result }
     {
         let palette = palette_part(&value);
         let rare = rare_part(value);
@@ -353,7 +360,8 @@ impl CellAttributes {
         ensures same_reference { IfOk result (λ r. r.ghost_name ≡ self.entry.ghost_name) }
         ensures ok { IfOk result (λ r. r.now ≡ record self.old { underline_color = value }) }
         ensures boxed { needs_box self.old ≡ true → IsOk result }
-        ensures succeeds { needs_box (record self.old { underline_color = value }) ≡ false → IsOk result }
+        ensures succeeds { needs_box (record self.old { underline_color = value }) ≡ false →
+            IsOk result }
     {
         self.change_underline_color(alloc, value)?;
         Ok(self)
@@ -370,7 +378,8 @@ impl CellAttributes {
         ensures ok { OnOk result (self.new ≡ record self.old { underline_color = value }) }
         ensures err { OnErr result (self.new ≡ self.old) }
         ensures boxed { needs_box self.old ≡ true → IsOk result }
-        ensures succeeds { needs_box (record self.old { underline_color = value }) ≡ false → IsOk result }
+        ensures succeeds { needs_box (record self.old { underline_color = value }) ≡ false →
+            IsOk result }
     {
         self.form.set_color(alloc, RareColor::Underline, value)
     }
@@ -392,7 +401,8 @@ impl CellAttributes {
         ensures same_reference { IfOk result (λ r. r.ghost_name ≡ self.entry.ghost_name) }
         ensures ok { IfOk result (λ r. r.now ≡ record self.old { hyperlink = linked value }) }
         ensures boxed { needs_box self.old ≡ true → IsOk result }
-        ensures succeeds { needs_box (record self.old { hyperlink = linked value }) ≡ false → IsOk result }
+        ensures succeeds { needs_box (record self.old { hyperlink = linked value }) ≡ false →
+            IsOk result }
     {
         self.change_hyperlink(alloc, value)?;
         Ok(self)
@@ -408,7 +418,8 @@ impl CellAttributes {
         ensures ok { OnOk result (self.new ≡ record self.old { hyperlink = linked value }) }
         ensures err { OnErr result (self.new ≡ self.old) }
         ensures boxed { needs_box self.old ≡ true → IsOk result }
-        ensures succeeds { needs_box (record self.old { hyperlink = linked value }) ≡ false → IsOk result }
+        ensures succeeds { needs_box (record self.old { hyperlink = linked value }) ≡ false →
+            IsOk result }
     {
         self.form.set_hyperlink(alloc, value)
     }
@@ -431,9 +442,11 @@ impl CellAttributes {
         alloc: Global,
         change: &AttributeChange,
     ) -> Result<(), AllocError>
-        ensures ok { OnOk result (self.new ≡ with_attribute self.old (attribute_change_value change.now)) }
+        ensures ok { OnOk result (
+            self.new ≡ with_attribute self.old (attribute_change_value change.now)) }
         ensures err { OnErr result (self.new ≡ self.old) }
-        ensures succeeds { takes_memory self.old (attribute_change_value change.now) ≡ false → IsOk result }
+        ensures succeeds { takes_memory self.old (attribute_change_value change.now) ≡ false →
+            IsOk result }
     {
         match change {
             AttributeChange::Intensity(value) => {

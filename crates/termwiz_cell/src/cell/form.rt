@@ -1,5 +1,6 @@
 //! The two forms of attributes: a word alone, and a box with the word and the rare attributes.
-ghost use Rattle.std.specs.Prelude.{◌≡◌, ◌↔◌, IsTrue, IsNone, IsOk, IfOk, OnOk, OnErr, MatchOption, None, true, false, option_map};
+ghost use Rattle.std.specs.Prelude.{◌≡◌, ◌↔◌, IsTrue, IsNone, IsOk, IfOk, OnOk, OnErr, MatchOption};
+ghost use Rattle.std.specs.Prelude.{None, true, false, option_map};
 ghost use Rattle.termwiz_cell.specs.Attributes.{option_link_eq, is_default};
 ghost use Rattle.termwiz_cell.specs.AttributesLayout as spec;
 ghost use Rattle.std.specs.Borrow.{sem};
@@ -54,7 +55,8 @@ impl Full {
 
     /// Sets one of the rare colours.
     fn put(&mut self, which: RareColor, value: ColorAttribute)
-        ensures rare { spec.full_rare self.new ≡ spec.with_color which (spec.full_rare self.old) value }
+        ensures rare { spec.full_rare self.new
+            ≡ spec.with_color which (spec.full_rare self.old) value }
         ensures style { self.new.style ≡ self.old.style }
     {
         match which {
@@ -101,7 +103,9 @@ impl Full {
     /// Whether both are the same. It stands apart, so that the test of plain attributes is short.
     #[inline(never)]
     fn is_same(&self, other: &Full) -> bool
-        ensures { IsTrue result ↔ ((self.now.style ≡ other.now.style) × (spec.full_rare self.now ≡ spec.full_rare other.now)) }
+        ensures { IsTrue result
+            ↔ ((self.now.style ≡ other.now.style)
+            × (spec.full_rare self.now ≡ spec.full_rare other.now)) }
     {
         self.style.is_same(&other.style) && self.is_same_rare(other)
     }
@@ -147,7 +151,9 @@ impl Form {
     /// Whether all attributes have their defaults.
     pub(super) fn is_blank(&self) -> bool
         requires { spec.IsNeeded self.now }
-        ensures { IsTrue result ↔ ((spec.style_in self.now ≡ style_at 0) × (spec.rare_in self.now ≡ spec.rare_default)) }
+        ensures { IsTrue result
+            ↔ ((spec.style_in self.now ≡ style_at 0)
+            × (spec.rare_in self.now ≡ spec.rare_default)) }
     {
         match self {
             Form::Plain(style) => style.is_blank(),
@@ -204,12 +210,14 @@ impl Form {
         value: ColorAttribute,
     ) -> Result<(), AllocError>
         requires { spec.IsNeeded self.old }
-        ensures ok { OnOk result (spec.rare_in self.new ≡ spec.with_color which (spec.rare_in self.old) value) }
+        ensures ok { OnOk result (
+            spec.rare_in self.new ≡ spec.with_color which (spec.rare_in self.old) value) }
         ensures err { OnErr result (spec.rare_in self.new ≡ spec.rare_in self.old) }
         ensures style { spec.style_in self.new ≡ spec.style_in self.old }
         ensures needed { spec.IsNeeded self.new }
         ensures boxed { IsTrue (spec.is_boxed self.old) → IsOk result }
-        ensures succeeds { spec.is_rare_default (spec.with_color which (spec.rare_in self.old) value) ≡ true → IsOk result }
+        ensures succeeds { spec.is_rare_default (spec.with_color which
+            (spec.rare_in self.old) value) ≡ true → IsOk result }
     {
         match self {
             Form::Plain(style) => {
@@ -236,7 +244,8 @@ impl Form {
         value: Option<Rc<Hyperlink>>,
     ) -> Result<(), AllocError>
         requires { spec.IsNeeded self.old }
-        ensures ok { OnOk result (spec.rare_in self.new ≡ record (spec.rare_in self.old) { hyperlink = linked value }) }
+        ensures ok { OnOk result (
+            spec.rare_in self.new ≡ record (spec.rare_in self.old) { hyperlink = linked value }) }
         ensures err { OnErr result (spec.rare_in self.new ≡ spec.rare_in self.old) }
         ensures style { spec.style_in self.new ≡ spec.style_in self.old }
         ensures needed { spec.IsNeeded self.new }
@@ -266,7 +275,9 @@ impl Form {
     pub(super) fn is_same(&self, other: &Form) -> bool
         requires self_needed { spec.IsNeeded self.now }
         requires other_needed { spec.IsNeeded other.now }
-        ensures { IsTrue result ↔ ((spec.style_in self.now ≡ spec.style_in other.now) × (spec.rare_in self.now ≡ spec.rare_in other.now)) }
+        ensures { IsTrue result
+            ↔ ((spec.style_in self.now ≡ spec.style_in other.now)
+            × (spec.rare_in self.now ≡ spec.rare_in other.now)) }
     {
         match (self, other) {
             (Form::Plain(a), Form::Plain(b)) => a.is_same(b),
@@ -292,7 +303,8 @@ impl Form {
     /// A copy of the word, where there is no box.
     #[inline]
     pub(super) fn unboxed_copy(&self) -> Option<Form>
-        ensures { MatchOption result (spec.is_boxed self.now ≡ true) (λ copy. (copy ≡ self.now) × (spec.is_boxed self.now ≡ false)) }
+        ensures { MatchOption result (spec.is_boxed self.now ≡ true) (λ copy. (copy ≡ self.now)
+            × (spec.is_boxed self.now ≡ false)) }
     {
         match self {
             Form::Plain(style) => Some(Form::Plain(style.copied())),
@@ -303,10 +315,13 @@ impl Form {
     /// A copy with the semantic type `Output`, and no underline, overline, strike through and
     /// link. It can only fail where the copy needs a box.
     pub(super) fn sgr_only(&self, alloc: Global) -> Result<Form, AllocError>
-        ensures style { IfOk result (λ copy. spec.style_in copy ≡ style_sgr_only (spec.style_in self.now)) }
-        ensures rare { IfOk result (λ copy. spec.rare_in copy ≡ record (spec.rare_in self.now) { hyperlink = None }) }
+        ensures style { IfOk result (λ copy.
+            spec.style_in copy ≡ style_sgr_only (spec.style_in self.now)) }
+        ensures rare { IfOk result (λ copy.
+            spec.rare_in copy ≡ record (spec.rare_in self.now) { hyperlink = None }) }
         ensures needed { IfOk result (λ copy. spec.IsNeeded copy) }
-        ensures succeeds { spec.is_rare_default (record (spec.rare_in self.now) { hyperlink = None }) ≡ true → IsOk result }
+        ensures succeeds { spec.is_rare_default (record
+            (spec.rare_in self.now) { hyperlink = None }) ≡ true → IsOk result }
     {
         let style = self.style().sgr_only();
         match self {
@@ -348,7 +363,9 @@ fn is_default_color(color: ColorAttribute) -> bool
 }
 
 pub(super) fn is_same_link(a: Option<&Rc<Hyperlink>>, b: Option<&Rc<Hyperlink>>) -> bool
-    ensures { result ≡ option_link_eq (option_map (λ rc. rc.now.value) a.entry) (option_map (λ rc. rc.now.value) b.entry) }
+    ensures { result
+        ≡ option_link_eq (option_map (λ rc. rc.now.value) a.entry)
+        (option_map (λ rc. rc.now.value) b.entry) }
 {
     match (a, b) {
         (None, None) => true,

@@ -1,6 +1,8 @@
 //! The small attributes, and their numbers.
 ghost use Rattle.std.specs.Prelude.{◌≡◌, ◌<◌};
-ghost use Rattle.termwiz_cell.specs.Style.{intensity_number, intensity_at, underline_number, underline_at, blink_number, blink_at, semantic_number, semantic_at, vertical_number, vertical_at};
+ghost use Rattle.termwiz_cell.specs.Style.{intensity_number, intensity_at, underline_number};
+ghost use Rattle.termwiz_cell.specs.Style.{underline_at, blink_number, blink_at, semantic_number};
+ghost use Rattle.termwiz_cell.specs.Style.{semantic_at, vertical_number, vertical_at};
 
 /// How strong a text is drawn: as others are, bold, or dim.
 #[derive(Clone, Copy, PartialEq, Eq, Debug, Default)]

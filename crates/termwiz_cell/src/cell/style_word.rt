@@ -1,7 +1,8 @@
 //! The small attributes, packed in one word.
 ghost use Rattle.std.specs.Prelude.{◌≡◌, ℕ, ◌+◌, ◌*◌, ◌/◌, ◌%◌, ◌^◌, ◌<◌, ◌≤◌, ◌↔◌, IsTrue};
 ghost use Rattle.termwiz_cell.specs.Style.{flag_number};
-ghost use Rattle.termwiz_cell.specs.StyleWord.{palette_number, palette_at, IsPalette, style_at, style_sgr_only, bits_at};
+ghost use Rattle.termwiz_cell.specs.StyleWord.{palette_number, palette_at, IsPalette, style_at};
+ghost use Rattle.termwiz_cell.specs.StyleWord.{style_sgr_only, bits_at};
 
 use super::style::{Blink, Intensity, SemanticType, Underline, VerticalAlign};
 use std::marker::Model;

@@ -1,5 +1,6 @@
 //! The text of a cell, and whether it takes two columns.
-ghost use Rattle.std.specs.Prelude.{◌≡◌, ◌↔◌, ◌≤◌, ◌&&◌, ◌∷◌, [], length, true, false, IsTrue, IfOk, IsOk, IfSome, bytes_eq, string_bytes};
+ghost use Rattle.std.specs.Prelude.{◌≡◌, ◌↔◌, ◌≤◌, ◌&&◌, ◌∷◌, [], length, true, false, IsTrue};
+ghost use Rattle.std.specs.Prelude.{IfOk, IsOk, IfSome, bytes_eq, string_bytes};
 ghost use Rattle.std.specs.Bool.{beq};
 ghost use Rattle.termwiz_cell.specs.CellLayout.{text_in, wide_in, IsStored};
 ghost use Rattle.termwiz_cell.specs.CellValue.{clean, space};
@@ -41,7 +42,9 @@ impl LongText {
     /// short texts is short.
     #[inline(never)]
     fn is_same(&self, other: &LongText) -> bool
-        ensures { result ≡ (bytes_eq (string_bytes self.now.text) (string_bytes other.now.text) && beq self.now.wide other.now.wide) }
+        ensures { result
+            ≡ (bytes_eq (string_bytes self.now.text) (string_bytes other.now.text)
+            && beq self.now.wide other.now.wide) }
     {
         self.text == other.text && self.wide == other.wide
     }
@@ -130,7 +133,9 @@ impl CellText {
     pub(super) fn is_same(&self, other: &CellText) -> bool
         requires self_stored { IsStored self.now }
         requires other_stored { IsStored other.now }
-        ensures { result ≡ (bytes_eq (text_in self.now) (text_in other.now) && beq (wide_in self.now) (wide_in other.now)) }
+        ensures { result
+            ≡ (bytes_eq (text_in self.now) (text_in other.now)
+            && beq (wide_in self.now) (wide_in other.now)) }
     {
         match (self, other) {
             (CellText::Narrow(a), CellText::Narrow(b)) => is_same_short(a.as_str(), b.as_str()),

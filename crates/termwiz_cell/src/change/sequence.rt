@@ -1,11 +1,14 @@
 //! Sequences of changes, which tell where their changes take a cursor.
-ghost use Rattle.std.specs.Prelude.{◌≡◌, ℕ, ℤ, pos, ◌+◌, ◌+ℤ◌, ◌-ℤ◌, ◌≤ℤ◌, ◌<◌, ◌≤◌, ◌^◌, true, false, [], ◌∷◌, ◌++◌, length, map, bytes_eq, IfOk, OnOk, OnErr, IfErr};
+ghost use Rattle.std.specs.Prelude.{◌≡◌, ℕ, ℤ, pos, ◌+◌, ◌+ℤ◌, ◌-ℤ◌, ◌≤ℤ◌, ◌<◌, ◌≤◌, ◌^◌, true};
+ghost use Rattle.std.specs.Prelude.{false, [], ◌∷◌, ◌++◌, length, map, bytes_eq, IfOk, OnOk, OnErr};
+ghost use Rattle.std.specs.Prelude.{IfErr};
 ghost use Rattle.std.specs.Int.{int_rem_euclid, w64};
 ghost use Rattle.std.specs.Int.RustNames.{FitsSigned, int_rem};
 ghost use Rattle.unicode_segmentation.specs.Grapheme.{graphemes};
 ghost use Rattle.termwiz_cell.specs.ChangeValue.{change_value, is_text};
 ghost use Rattle.termwiz_cell.specs.Width.{unversioned};
-ghost use Rattle.termwiz_cell.specs.Sequence.{aim, cell_place, grapheme_place, position_place, printed_columns, text_place};
+ghost use Rattle.termwiz_cell.specs.Sequence.{aim, cell_place, grapheme_place, position_place};
+ghost use Rattle.termwiz_cell.specs.Sequence.{printed_columns, text_place};
 ghost use Rattle.termwiz_cell.specs.declared.change.sequence.SequenceError.TheVariants.{Range};
 
 use super::{Change, Position};
@@ -65,9 +68,27 @@ impl<W: Widths> Model for ChangeSequence<W> {
 
     ghost Value = { SequenceValue W };
 
-    ghost view = { λ s. record { widths = s.widths; rows = s.rows; columns = s.columns; cursor = (s.x, s.y); least = s.least; greatest = s.greatest; changes = map change_value s.changes.items } };
+    ghost view = { λ s.
+        record {
+          widths = s.widths;
+          rows = s.rows;
+          columns = s.columns;
+          cursor = (s.x, s.y);
+          least = s.least;
+          greatest = s.greatest;
+          changes = map change_value s.changes.items;
+        } };
 
-    ghost invariant = { λ s. IsSequence (record { widths = s.widths; rows = s.rows; columns = s.columns; cursor = (s.x, s.y); least = s.least; greatest = s.greatest; changes = map change_value s.changes.items }) };
+    ghost invariant = { λ s.
+        IsSequence (record {
+          widths = s.widths;
+          rows = s.rows;
+          columns = s.columns;
+          cursor = (s.x, s.y);
+          least = s.least;
+          greatest = s.greatest;
+          changes = map change_value s.changes.items;
+        }) };
 }
 
 // The columns of the cell that a grapheme prints.
@@ -112,7 +133,8 @@ fn after_grapheme<W: Widths>(
     requires column { at.0 ≤ columns }
     requires few { columns < 2 ^ 32 }
     requires row { at.1 ≤ℤ pos (2 ^ 65) }
-    ensures place { result ≡ grapheme_place (unversioned (W.width_of widths.now)) columns at grapheme.now }
+    ensures place { result
+        ≡ grapheme_place (unversioned (W.width_of widths.now)) columns at grapheme.now }
     ensures column { result.0 ≤ columns }
     ensures row { result.1 ≤ℤ (at.1 +ℤ pos 1) }
 {
@@ -130,7 +152,8 @@ fn after_text<W: Widths>(widths: &W, columns: usize, x: usize, y: i128, text: &s
     requires column { x ≤ columns }
     requires few { columns < 2 ^ 32 }
     requires row { y ≤ℤ pos (2 ^ 63) }
-    ensures place { result ≡ text_place (unversioned (W.width_of widths.now)) columns (x, y) text.now }
+    ensures place { result
+        ≡ text_place (unversioned (W.width_of widths.now)) columns (x, y) text.now }
     ensures column { result.0 ≤ columns }
     ensures row { result.1 ≤ℤ pos (2 ^ 65) }
 {
@@ -184,7 +207,9 @@ fn in_range(value: i128) -> Result<isize, SequenceError>
 
 // Puts a change behind the others. On an error nothing has changed.
 fn push(changes: &mut Vec<Change>, change: Change) -> Result<(), AllocError>
-    ensures ok { OnOk result (map change_value changes.new.items ≡ map change_value changes.old.items ++ change_value change ∷ []) }
+    ensures ok { OnOk result (
+        map change_value changes.new.items
+        ≡ map change_value changes.old.items ++ change_value change ∷ []) }
     ensures err { OnErr result (changes.new.items ≡ changes.old.items) }
 {
     changes.push(change)?;
@@ -192,7 +217,9 @@ fn push(changes: &mut Vec<Change>, change: Change) -> Result<(), AllocError>
 }
 
 impl<W: Widths> ChangeSequence<W> {
-    ghost use Rattle.termwiz_cell.specs.Sequence.{SequenceValue, IsSequence, AddsAll, AddsOne, DistancesFit, MovesTo, RowFits, move_by, place_after};
+    ghost use Rattle.termwiz_cell.specs.Sequence.{SequenceValue, IsSequence, AddsAll, AddsOne};
+    ghost use Rattle.termwiz_cell.specs.Sequence.{DistancesFit, MovesTo, RowFits, move_by};
+    ghost use Rattle.termwiz_cell.specs.Sequence.{place_after};
 
     /// An empty sequence for a screen of this many rows and columns.
     pub fn new(alloc: Global, rows: usize, cols: usize, widths: W) -> ChangeSequence<W>
@@ -200,7 +227,16 @@ impl<W: Widths> ChangeSequence<W> {
         requires few_rows { rows < 2 ^ 32 }
         requires some_column { 0 < cols }
         requires few_columns { cols < 2 ^ 32 }
-        ensures { result ≡ record { widths = widths; rows = rows; columns = cols; cursor = (0, pos 0); least = pos 0; greatest = pos 0; changes = [] } }
+        ensures { result
+            ≡ record {
+              widths = widths;
+              rows = rows;
+              columns = cols;
+              cursor = (0, pos 0);
+              least = pos 0;
+              greatest = pos 0;
+              changes = [];
+            } }
     {
         ChangeSequence {
             widths,
@@ -242,9 +278,13 @@ impl<W: Widths> ChangeSequence<W> {
 
     // Where a text takes the cursor.
     fn after_text(&self, text: &str) -> Result<(usize, isize), SequenceError>
-        ensures ok { IfOk result (λ at. at ≡ text_place (unversioned (W.width_of self.now.widths)) self.now.columns self.now.cursor text.now) }
+        ensures ok { IfOk result (λ at.
+            at ≡ text_place (unversioned (W.width_of self.now.widths)) self.now.columns
+            self.now.cursor text.now) }
         ensures column { IfOk result (λ at. at.0 ≤ self.now.columns) }
-        ensures err { IfErr result (λ error. (error ≡ Range) × (FitsSigned w64 (text_place (unversioned (W.width_of self.now.widths)) self.now.columns self.now.cursor text.now).1 → ⊥)) }
+        ensures err { IfErr result (λ error. (error ≡ Range)
+            × (FitsSigned w64 (text_place (unversioned (W.width_of self.now.widths))
+            self.now.columns self.now.cursor text.now).1 → ⊥)) }
     {
         let (x, y) = after_text(&self.widths, self.columns, self.x, self.y as i128, text);
         let y = in_range(y)?;
@@ -263,9 +303,14 @@ impl<W: Widths> ChangeSequence<W> {
 
     // Where a change takes the cursor.
     fn after_change(&self, change: &Change) -> Result<(usize, isize), SequenceError>
-        ensures ok { IfOk result (λ at. at ≡ place_after (unversioned (W.width_of self.now.widths)) self.now (change_value change.now)) }
+        ensures ok { IfOk result (λ at.
+            at ≡ place_after (unversioned (W.width_of self.now.widths)) self.now
+            (change_value change.now)) }
         ensures column { IfOk result (λ at. at.0 ≤ self.now.columns) }
-        ensures err { IfErr result (λ error. (error ≡ Range) × (is_text (change_value change.now) ≡ true) × (RowFits (unversioned (W.width_of self.now.widths)) self.now (change_value change.now) → ⊥)) }
+        ensures err { IfErr result (λ error. (error ≡ Range)
+            × (is_text (change_value change.now) ≡ true)
+            × (RowFits (unversioned (W.width_of self.now.widths)) self.now
+            (change_value change.now) → ⊥)) }
     {
         match change {
             Change::Text(text) => self.after_text(text.as_str()),
@@ -279,7 +324,8 @@ impl<W: Widths> ChangeSequence<W> {
 
     // The change that moves the cursor to a column and a row.
     fn move_by(&self, place: (usize, isize)) -> Result<Change, SequenceError>
-        ensures ok { IfOk result (λ change. DistancesFit self.now place × (change_value change ≡ move_by self.now place)) }
+        ensures ok { IfOk result (λ change. DistancesFit self.now place
+            × (change_value change ≡ move_by self.now place)) }
         ensures err { IfErr result (λ error. (error ≡ Range) × (DistancesFit self.now place → ⊥)) }
     {
         let (x, y) = place;
@@ -293,12 +339,14 @@ impl<W: Widths> ChangeSequence<W> {
 
     /// Adds a change, which moves the cursor:
     /// - a text as on a surface, with a row more at each LF, CR LF and wrap;
-    /// - a position to what it asks for, by remainders: the column's is never below 0, and the row's has the sign of what is asked for;
+    /// - a position to what it asks for, by remainders: the column's is never below 0, and the
+    ///   row's has the sign of what is asked for;
     /// - a clear of the screen and a scroll to column 0 of row 0, and all others not at all.
     /// `Range`: a text takes the row past the greatest `isize`. `Memory`: a growth was refused.
     /// After both nothing has changed.
     pub fn add(&mut self, change: Change) -> Result<(), SequenceError>
-        ensures { AddsOne (unversioned (W.width_of self.old.widths)) self.old (change_value change) result self.new }
+        ensures { AddsOne (unversioned (W.width_of self.old.widths)) self.old
+            (change_value change) result self.new }
     {
         let (x, y) = self.after_change(&change)?;
         push(&mut self.changes, change)?;
@@ -311,7 +359,8 @@ impl<W: Widths> ChangeSequence<W> {
 
     /// Adds the changes in order. On an error those before the refused one stay.
     pub fn add_changes(&mut self, changes: Vec<Change>) -> Result<(), SequenceError>
-        ensures { AddsAll (unversioned (W.width_of self.old.widths)) self.old (map change_value changes.items) result self.new }
+        ensures { AddsAll (unversioned (W.width_of self.old.widths)) self.old
+            (map change_value changes.items) result self.new }
     {
         for change in changes {
             self.add(change)?;
@@ -320,12 +369,15 @@ impl<W: Widths> ChangeSequence<W> {
     }
 
     /// Adds the change that moves the cursor by the distances from where it is to a column and a
-    /// row. As by `add` the cursor comes to the remainders of these: to the place itself where the
-    /// column is less than the columns, and the row, without its sign, less than the rows.
-    /// `Range`: a distance is no `isize`. `Memory`: a growth was refused. After both nothing has
-    /// changed.
+    /// row.
+    ///
+    /// - As by `add` the cursor comes to the remainders of these: to the place itself where the
+    ///   column is less than the columns, and the row, without its sign, less than the rows.
+    /// - `Range`: a distance is no `isize`. `Memory`: a growth was refused. After both nothing has
+    ///   changed.
     pub fn move_to(&mut self, place: (usize, isize)) -> Result<(), SequenceError>
-        ensures { MovesTo (unversioned (W.width_of self.old.widths)) self.old place result self.new }
+        ensures { MovesTo (unversioned (W.width_of self.old.widths)) self.old place result
+            self.new }
     {
         let change = self.move_by(place)?;
         self.add(change)

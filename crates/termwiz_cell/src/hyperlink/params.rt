@@ -4,7 +4,8 @@ ghost use Rattle.std.specs.Prelude.{◌≡◌, map, string_bytes, IfOk, OnOk};
 ghost use Rattle.std.specs.Cmp.Lexicographic.{pointwise};
 ghost use Rattle.std.specs.Fmt.{WritesOnOk};
 ghost use Rattle.termwiz_cell.specs.Link.{param_eq, param_bytes};
-ghost use Rattle.termwiz_cell.specs.LinkPairs.{has_equals, are_pairs, pair_of, with_pair, params_of};
+ghost use Rattle.termwiz_cell.specs.LinkPairs.{has_equals, are_pairs, pair_of, with_pair};
+ghost use Rattle.termwiz_cell.specs.LinkPairs.{params_of};
 ghost use Rattle.termwiz_cell.specs.LinkText.{params_text};
 
 use std::alloc::{AllocError, Global};
@@ -81,13 +82,15 @@ pub(super) fn write_params<W: fmt::Write>(
 pub(super) fn clone_params(
     params: &BTreeMap<String, String>,
 ) -> Result<BTreeMap<String, String>, AllocError>
-    ensures { IfOk result (λ copy. map param_bytes copy.entries ≡ map param_bytes params.now.entries) }
+    ensures { IfOk result (λ copy.
+        map param_bytes copy.entries ≡ map param_bytes params.now.entries) }
 {
     params.clone()
 }
 
 pub(super) fn has_same_params(a: &BTreeMap<String, String>, b: &BTreeMap<String, String>) -> bool
-    ensures { result ≡ pointwise param_eq (map param_bytes a.now.entries) (map param_bytes b.now.entries) }
+    ensures { result
+        ≡ pointwise param_eq (map param_bytes a.now.entries) (map param_bytes b.now.entries) }
 {
     *a == *b
 }

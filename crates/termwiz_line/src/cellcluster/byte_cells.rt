@@ -1,5 +1,6 @@
 //! The cells that the bytes of a text belong to.
-ghost use Rattle.std.specs.Prelude.{◌≡◌, ◌≤◌, ◌<◌, ◌+◌, ◌++◌, ◌^◌, [], IfSome, IsSome, OnOk, get_or, length, replicate};
+ghost use Rattle.std.specs.Prelude.{◌≡◌, ◌≤◌, ◌<◌, ◌+◌, ◌++◌, ◌^◌, [], IfSome, IsSome, OnOk};
+ghost use Rattle.std.specs.Prelude.{get_or, length, replicate};
 
 use std::alloc::{AllocError, Global};
 use std::marker::Model;
@@ -79,8 +80,10 @@ impl Clone for ByteCells {
 
 // Where the columns end with those of a cell, if it is narrow, has one byte and is the next one.
 fn end_with(columns: &Range<usize>, count: usize, index: usize, width: u8) -> Option<usize>
-    ensures end { IfSome result (λ end. (count ≡ 1) × (width ≡ 1) × (index ≡ columns.now.end) × (end ≡ index + 1)) }
-    ensures taken { count ≡ 1 → width ≡ 1 → index ≡ columns.now.end → index + 1 < 2 ^ 64 → IsSome result }
+    ensures end { IfSome result (λ end. (count ≡ 1) × (width ≡ 1) × (index ≡ columns.now.end)
+        × (end ≡ index + 1)) }
+    ensures taken { count ≡ 1 → width ≡ 1 → index ≡ columns.now.end → index + 1 < 2 ^ 64 →
+        IsSome result }
 {
     if count == 1 && (width == 1 && index == columns.end) {
         index.checked_add(1)

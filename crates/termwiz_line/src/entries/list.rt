@@ -36,7 +36,8 @@ impl Model for EntryList {
 
     ghost view = { λ e. with_text (map change_value e.pushed.items) e.grows e.text };
 
-    ghost invariant = { λ e. e.grows ≡ false → last_is is_text (map change_value e.pushed.items) ≡ false };
+    ghost invariant = { λ e. e.grows ≡ false →
+        last_is is_text (map change_value e.pushed.items) ≡ false };
 }
 
 impl EntryList {
@@ -155,7 +156,9 @@ fn push_grown(
     text: &JoinedText,
     grows: bool,
 ) -> Result<(), AllocError>
-    ensures ok { OnOk result (map change_value pushed.new.items ≡ with_text (map change_value pushed.old.items) grows text.now) }
+    ensures ok { OnOk result (
+        map change_value pushed.new.items
+        ≡ with_text (map change_value pushed.old.items) grows text.now) }
     ensures nothing { grows ≡ false → pushed.new.items ≡ pushed.old.items }
 {
     if grows {
@@ -174,7 +177,9 @@ fn push_behind(
     grows: bool,
     entry: Change,
 ) -> Result<(), AllocError>
-    ensures ok { OnOk result (map change_value pushed.new.items ≡ with_text (map change_value pushed.old.items) grows text.now ++ change_value entry ∷ []) }
+    ensures ok { OnOk result (
+        map change_value pushed.new.items
+        ≡ with_text (map change_value pushed.old.items) grows text.now ++ change_value entry ∷ []) }
     ensures err { OnErr result (grows ≡ false → pushed.new.items ≡ pushed.old.items) }
 {
     push_grown(alloc, pushed, text, grows)?;

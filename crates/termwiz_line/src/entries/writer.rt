@@ -1,5 +1,6 @@
 //! A writer of row entries.
-ghost use Rattle.std.specs.Prelude.{◌≡◌, ◌++◌, ◌∷◌, [], ◌+◌, ◌&&◌, nat_lt, ℕ, List, true, false, not, length, IfOk, OnOk};
+ghost use Rattle.std.specs.Prelude.{◌≡◌, ◌++◌, ◌∷◌, [], ◌+◌, ◌&&◌, nat_lt, ℕ, List, true, false};
+ghost use Rattle.std.specs.Prelude.{not, length, IfOk, OnOk};
 ghost use Rattle.termwiz_cell.specs.Attributes as attributes;
 ghost use Rattle.termwiz_cell.specs.Attributes.{attributes_eq};
 ghost use Rattle.termwiz_cell.specs.CellValue.{CellValue};
@@ -39,7 +40,12 @@ impl<'a> Model for RowWriter<'a> {
 
     ghost Value = { Writing };
 
-    ghost view = { λ w. record { printed = record { entries = w.entries; pen = w.pen.now }; spaces = w.spaces; space_attrs = w.space_attrs.now } };
+    ghost view = { λ w.
+        record {
+          printed = record { entries = w.entries; pen = w.pen.now };
+          spaces = w.spaces;
+          space_attrs = w.space_attrs.now;
+        } };
 }
 
 impl<'a> RowWriter<'a> {
@@ -59,7 +65,11 @@ impl<'a> RowWriter<'a> {
     /// An entry between two rows. It is no text.
     pub fn push(&mut self, entry: Change) -> Result<(), AllocError>
         requires { is_text (change_value entry) ≡ false }
-        ensures printed { OnOk result (self.new.printed ≡ record self.old.printed { entries = self.old.printed.entries ++ change_value entry ∷ [] }) }
+        ensures printed { OnOk result (
+            self.new.printed
+            ≡ record self.old.printed {
+              entries = self.old.printed.entries ++ change_value entry ∷ [];
+            }) }
         ensures spaces { self.new.spaces ≡ self.old.spaces }
     {
         self.entries.push(entry)?;
@@ -69,7 +79,10 @@ impl<'a> RowWriter<'a> {
     /// A visible cell with this text and these attributes comes next.
     #[inline(always)]
     pub fn cell(&mut self, text: &str, attrs: &'a CellAttributes) -> Result<(), AllocError>
-        ensures { OnOk result ((from : spec.Penned) (cells : List (ℕ × CellValue)) (p : ℕ × CellValue) → p.1.text ≡ text.now → p.1.attrs ≡ attrs.now → IsWritten from cells self.old → IsWritten from (cells ++ p ∷ []) self.new) }
+        ensures { OnOk result (
+            (from : spec.Penned) (cells : List (ℕ × CellValue)) (p : ℕ × CellValue) →
+            p.1.text ≡ text.now → p.1.attrs ≡ attrs.now → IsWritten from cells self.old →
+            IsWritten from (cells ++ p ∷ []) self.new) }
     {
         if is_space(text) {
             return self.spaces(1, attrs);
@@ -81,7 +94,10 @@ impl<'a> RowWriter<'a> {
     /// So many spaces with these attributes come next.
     #[inline(always)]
     pub fn spaces(&mut self, count: usize, attrs: &'a CellAttributes) -> Result<(), AllocError>
-        ensures { OnOk result ((from : spec.Penned) (cells more : List (ℕ × CellValue)) → spec.all_spaces attrs.now more ≡ true → length more ≡ count → IsWritten from cells self.old → IsWritten from (cells ++ more) self.new) }
+        ensures { OnOk result (
+            (from : spec.Penned) (cells more : List (ℕ × CellValue)) →
+            spec.all_spaces attrs.now more ≡ true → length more ≡ count →
+            IsWritten from cells self.old → IsWritten from (cells ++ more) self.new) }
     {
         if count == 0 {
             return Ok(());
@@ -98,7 +114,8 @@ impl<'a> RowWriter<'a> {
 
     // Whether spaces with these attributes are held back.
     fn holds_back(&self, attrs: &CellAttributes) -> bool
-        ensures { result ≡ (nat_lt 0 self.now.spaces && attributes_eq self.now.space_attrs attrs.now) }
+        ensures { result
+            ≡ (nat_lt 0 self.now.spaces && attributes_eq self.now.space_attrs attrs.now) }
     {
         self.spaces > 0 && is_same(self.space_attrs, attrs)
     }
@@ -106,7 +123,9 @@ impl<'a> RowWriter<'a> {
     // The spaces held back are printed.
     #[inline(always)]
     fn print_spaces(&mut self) -> Result<(), AllocError>
-        ensures printed { OnOk result (self.new.printed ≡ and_cells self.old.printed (spaces_of self.old.spaces self.old.space_attrs)) }
+        ensures printed { OnOk result (
+            self.new.printed
+            ≡ and_cells self.old.printed (spaces_of self.old.spaces self.old.space_attrs)) }
         ensures spaces { OnOk result (self.new.spaces ≡ 0) }
         ensures space_attrs { self.new.space_attrs ≡ self.old.space_attrs }
     {
@@ -119,7 +138,9 @@ impl<'a> RowWriter<'a> {
     // The same, apart, so that a cell behind no spaces is written at once.
     #[inline(never)]
     fn print_held(&mut self) -> Result<(), AllocError>
-        ensures printed { OnOk result (self.new.printed ≡ and_cells self.old.printed (spaces_of self.old.spaces self.old.space_attrs)) }
+        ensures printed { OnOk result (
+            self.new.printed
+            ≡ and_cells self.old.printed (spaces_of self.old.spaces self.old.space_attrs)) }
         ensures spaces { OnOk result (self.new.spaces ≡ 0) }
         ensures space_attrs { self.new.space_attrs ≡ self.old.space_attrs }
     {
@@ -134,7 +155,9 @@ impl<'a> RowWriter<'a> {
     // A visible cell with this text is printed.
     #[inline(always)]
     fn print(&mut self, text: &str, attrs: &'a CellAttributes) -> Result<(), AllocError>
-        ensures printed { OnOk result ((p : ℕ × CellValue) → p.1.text ≡ text.now → p.1.attrs ≡ attrs.now → self.new.printed ≡ spec.cell_out self.old.printed p) }
+        ensures printed { OnOk result (
+            (p : ℕ × CellValue) → p.1.text ≡ text.now → p.1.attrs ≡ attrs.now →
+            self.new.printed ≡ spec.cell_out self.old.printed p) }
         ensures spaces { self.new.spaces ≡ self.old.spaces }
         ensures space_attrs { self.new.space_attrs ≡ self.old.space_attrs }
     {
@@ -154,7 +177,12 @@ impl<'a> RowWriter<'a> {
     ) -> Result<(), AllocError>
         requires between { self.old.spaces ≡ 0 }
         requires apart { last_is is_text self.old.printed.entries ≡ false }
-        ensures row { OnOk result ((more : List (ℕ × CellValue)) → spec.all_spaces attrs.now more ≡ true → length more ≡ spaces → self.new.printed ≡ behind self.old.printed.entries (spec.row_entries self.old.printed.pen (cells_left cells.entry ++ more))) }
+        ensures row { OnOk result (
+            (more : List (ℕ × CellValue)) → spec.all_spaces attrs.now more ≡ true →
+            length more ≡ spaces →
+            self.new.printed
+            ≡ behind self.old.printed.entries (spec.row_entries self.old.printed.pen
+            (cells_left cells.entry ++ more))) }
         ensures between { OnOk result (self.new.spaces ≡ 0) }
     {
         self.cells(cells)?;
@@ -165,7 +193,9 @@ impl<'a> RowWriter<'a> {
     // Visible cells come next. Each form of storage is walked apart, so that the walk needs no test
     // for each cell.
     fn cells(&mut self, cells: VisibleCellIter<'a>) -> Result<(), AllocError>
-        ensures { OnOk result ((from : spec.Penned) (before : List (ℕ × CellValue)) → IsWritten from before self.old → IsWritten from (before ++ cells_left cells.entry) self.new) }
+        ensures { OnOk result (
+            (from : spec.Penned) (before : List (ℕ × CellValue)) → IsWritten from before self.old →
+            IsWritten from (before ++ cells_left cells.entry) self.new) }
     {
         match cells {
             VisibleCellIter::V(cells) => self.walk(VisibleCellIter::V(cells)),
@@ -175,7 +205,9 @@ impl<'a> RowWriter<'a> {
 
     #[inline(always)]
     fn walk(&mut self, cells: VisibleCellIter<'a>) -> Result<(), AllocError>
-        ensures { OnOk result ((from : spec.Penned) (before : List (ℕ × CellValue)) → IsWritten from before self.old → IsWritten from (before ++ cells_left cells.entry) self.new) }
+        ensures { OnOk result (
+            (from : spec.Penned) (before : List (ℕ × CellValue)) → IsWritten from before self.old →
+            IsWritten from (before ++ cells_left cells.entry) self.new) }
     {
         for cell in cells {
             self.cell(cell.str(), cell.attrs())?;
@@ -193,7 +225,10 @@ impl<'a> RowWriter<'a> {
     // The row ends here: the spaces held back are left out, or printed where their attributes are
     // more than a background.
     fn end_row(&mut self) -> Result<(), AllocError>
-        ensures row { OnOk result ((from : spec.Penned) (cells : List (ℕ × CellValue)) → last_is is_text from.entries ≡ false → IsWritten from cells self.old → self.new.printed ≡ behind from.entries (spec.row_entries from.pen cells)) }
+        ensures row { OnOk result (
+            (from : spec.Penned) (cells : List (ℕ × CellValue)) →
+            last_is is_text from.entries ≡ false → IsWritten from cells self.old →
+            self.new.printed ≡ behind from.entries (spec.row_entries from.pen cells)) }
         ensures between { OnOk result (self.new.spaces ≡ 0) }
     {
         if !self.leaves_out() {
@@ -239,7 +274,10 @@ fn push_tail<'a>(
     pen: &'a CellAttributes,
     end: &'a CellAttributes,
 ) -> Result<&'a CellAttributes, AllocError>
-    ensures { IfOk result (λ after. (kept : List (ℕ × CellValue)) → spec.is_empty kept ≡ not (last_is is_text entries.old) → record { entries = entries.new; pen = after.now } ≡ spec.with_tail (record { entries = entries.old; pen = pen.now }) kept end.now) }
+    ensures { IfOk result (λ after. (kept : List (ℕ × CellValue)) →
+        spec.is_empty kept ≡ not (last_is is_text entries.old) →
+        record { entries = entries.new; pen = after.now }
+        ≡ spec.with_tail (record { entries = entries.old; pen = pen.now }) kept end.now) }
 {
     if entries.ends_with_text() {
         entries.push_pen(pen, end)?;

@@ -1,5 +1,7 @@
 //! Lines of cells.
-ghost use Rattle.std.specs.Prelude.{◌≡◌, ◌≤◌, ◌↔◌, [], false, true, IsTrue, IsOk, IfOk, OnOk, OnErr, Some, None, length, map, option_map, replicate, if◌then◌else◌};
+ghost use Rattle.std.specs.Prelude.{◌≡◌, ◌≤◌, ◌↔◌, [], false, true, IsTrue, IsOk, IfOk, OnOk};
+ghost use Rattle.std.specs.Prelude.{OnErr, Some, None, length, map, option_map, replicate};
+ghost use Rattle.std.specs.Prelude.{if◌then◌else◌};
 ghost use Rattle.std.specs.Cmp.{decided, on_equiv, on_per, partial_equiv_from_equiv};
 ghost use Rattle.termwiz_cell.specs.CellValue.{blank};
 ghost use Rattle.termwiz_storage.specs.Stored.{visible};
@@ -14,7 +16,8 @@ ghost use Rattle.termwiz_line.specs.LineValue.{IsEdited, IsUnchanged};
 ghost use Rattle.termwiz_cell.specs.ChangeValue.{change_value};
 ghost use Rattle.termwiz_line.specs.Clusters.{AreClusters};
 ghost use Rattle.termwiz_line.specs.Entries.{row_entries};
-ghost use Rattle.termwiz_line.specs.LineEq.{contents_eq, contents_eq-Decides, flags_eq, line_contents, line_eq};
+ghost use Rattle.termwiz_line.specs.LineEq.{contents_eq, contents_eq-Decides, flags_eq};
+ghost use Rattle.termwiz_line.specs.LineEq.{line_contents, line_eq};
 
 use crate::cellcluster::CellCluster;
 use crate::entries::row_entries;
@@ -49,16 +52,20 @@ use zones::drop_zones;
 /// An edit is given the number of the change that it belongs to, and the line keeps the greatest
 /// that it has taken; `blank_out` alone sets the number anew. Where each change has a new number,
 /// whoever keeps something that was made from a line sees by it that the line has changed since.
-/// The number doesn't tell of what `split_off` cuts, nor of what is written by `cells_mut`. Two
-/// lines are equal where their cells, numbers and flags are, whichever form stores the cells.
 ///
-/// A line stores its cells as a vector or as one text. `new` makes a text, which stays one while
-/// `set_cell`, `set_cell_grapheme` or `overlay_text_with_attribute` sets each cell at its end,
-/// `fill_range` sets narrow cells there that aren't default blanks, or `set_last_cell_was_wrapped`
-/// marks the last cell. Any other edit that changes cells, and lending them for writing, makes a
-/// vector of a text; an edit that changes none, or fails, may. `compress_for_scrollback` makes a
-/// text of a vector. `stored_cells`, whether `as_str` lends, and the variants of visible cells tell
-/// which it is; `==` doesn't.
+/// The number doesn't tell of what `split_off` cuts, nor of what is written by `cells_mut`.
+///
+/// Two lines are equal where their cells, numbers and flags are, whichever form stores the cells.
+///
+/// A line stores its cells as a vector or as one text. `stored_cells`, whether `as_str` lends, and
+/// the variants of visible cells tell which it is; `==` doesn't.
+///
+/// - `new` makes a text. It stays one while `set_cell`, `set_cell_grapheme` or
+///   `overlay_text_with_attribute` sets each cell at its end, `fill_range` sets narrow cells there
+///   that aren't default blanks, or `set_last_cell_was_wrapped` marks the last cell.
+/// - Any other edit that changes cells, and lending them for writing, makes a vector of a text; an
+///   edit that changes none, or fails, may.
+/// - `compress_for_scrollback` makes a text of a vector.
 ///
 /// `visible_cells` walks what is seen of a line, and `changes` gives the changes that print it, for
 /// whoever has to write it somewhere else.
@@ -81,16 +88,29 @@ impl Model for Line {
 
     ghost Value = { LineValue };
 
-    ghost view = { λ l. record { cells = cells_of l.storage; seqno = l.seqno; flags = flags_of l.bits.0; is_vector = is_vector l.storage } };
+    ghost view = { λ l.
+        record {
+          cells = cells_of l.storage;
+          seqno = l.seqno;
+          flags = flags_of l.bits.0;
+          is_vector = is_vector l.storage;
+        } };
 
     // There are no other bits, and zones that are kept are those of the cells.
-    ghost invariant = { λ l. (bits_of (flags_of l.bits.0) ≡ l.bits.0) × AreUpToDate l.zones (cells_of l.storage) };
+    ghost invariant = { λ l. (bits_of (flags_of l.bits.0) ≡ l.bits.0)
+        × AreUpToDate l.zones (cells_of l.storage) };
 }
 
 impl Line {
     /// A line of this many default blanks.
     pub fn with_width(alloc: Global, width: usize, seqno: SequenceNo) -> Result<Line, AllocError>
-        ensures { IfOk result (λ line. line ≡ record { cells = replicate width blank; seqno = seqno; flags = no_flags; is_vector = true }) }
+        ensures { IfOk result (λ line.
+            line ≡ record {
+              cells = replicate width blank;
+              seqno = seqno;
+              flags = no_flags;
+              is_vector = true;
+            }) }
     {
         let mut storage = CellStorage::vector(Vec::new(alloc));
         storage.blank_out(width)?;
@@ -104,14 +124,21 @@ impl Line {
         cell: Cell,
         seqno: SequenceNo,
     ) -> Result<Line, AllocError>
-        ensures { IfOk result (λ line. line ≡ record { cells = replicate width cell; seqno = seqno; flags = no_flags; is_vector = true }) }
+        ensures { IfOk result (λ line.
+            line ≡ record {
+              cells = replicate width cell;
+              seqno = seqno;
+              flags = no_flags;
+              is_vector = true;
+            }) }
     {
         Ok(Line::of(alloc, CellStorage::copies(alloc, width, cell)?, seqno))
     }
 
     /// A line of these stored cells. The half of a wide cell is one of them.
     pub fn from_cells(cells: Vec<Cell>, seqno: SequenceNo) -> Line
-        ensures { result ≡ record { cells = cells.items; seqno = seqno; flags = no_flags; is_vector = true } }
+        ensures { result
+            ≡ record { cells = cells.items; seqno = seqno; flags = no_flags; is_vector = true } }
     {
         let alloc = *cells.allocator();
         Line::of(alloc, CellStorage::vector(cells), seqno)
@@ -120,14 +147,21 @@ impl Line {
     /// A line without cells. It is stored as one text, and stays one as long as each cell is set at
     /// its end.
     pub fn new(alloc: Global, seqno: SequenceNo) -> Line
-        ensures { result ≡ record { cells = []; seqno = seqno; flags = no_flags; is_vector = false } }
+        ensures { result
+            ≡ record { cells = []; seqno = seqno; flags = no_flags; is_vector = false } }
     {
         Line::of(alloc, CellStorage::clustered(alloc), seqno)
     }
 
     // A line without flags.
     fn of(alloc: Global, storage: CellStorage, seqno: SequenceNo) -> Line
-        ensures { result ≡ record { cells = cells_of storage; seqno = seqno; flags = no_flags; is_vector = is_vector storage } }
+        ensures { result
+            ≡ record {
+              cells = cells_of storage;
+              seqno = seqno;
+              flags = no_flags;
+              is_vector = is_vector storage;
+            } }
     {
         Line {
             alloc,
@@ -142,7 +176,13 @@ impl Line {
     /// vector takes memory only where it grows.
     /// On an error number, flags and cells are as before.
     pub fn blank_out(&mut self, width: usize, seqno: SequenceNo) -> Result<(), AllocError>
-        ensures ok { OnOk result (self.new ≡ record { cells = replicate width blank; seqno = seqno; flags = no_flags; is_vector = true }) }
+        ensures ok { OnOk result (
+            self.new ≡ record {
+              cells = replicate width blank;
+              seqno = seqno;
+              flags = no_flags;
+              is_vector = true;
+            }) }
         ensures err { OnErr result (IsUnchanged self.old self.new) }
         ensures succeeds { self.old.is_vector ≡ true → width ≤ length self.old.cells → IsOk result }
     {
@@ -171,13 +211,20 @@ impl Line {
     /// A copy that is stored as a vector, with this number and without flags, cut to this many
     /// columns, or grown to them as by `resize`.
     pub fn resized(&self, width: usize, seqno: SequenceNo) -> Result<Line, AllocError>
-        ensures { IfOk result (λ line. line ≡ record { cells = resized width self.now.cells; seqno = seqno; flags = no_flags; is_vector = true }) }
+        ensures { IfOk result (λ line.
+            line ≡ record {
+              cells = resized width self.now.cells;
+              seqno = seqno;
+              flags = no_flags;
+              is_vector = true;
+            }) }
     {
         let storage = self.storage.resized_copy(width)?;
         Ok(Line::of(self.alloc, storage, seqno))
     }
 
-    /// A copy that is stored as a vector, with number and flags, and then resized as by `resize`.
+    /// A copy that is stored as a vector, with the line's number and flags, cut to this many
+    /// columns, or grown to them as by `resize`.
     pub fn resized_clone(&self, width: usize) -> Result<Line, AllocError>
         ensures { IfOk result (λ line. line ≡ in_width width self.now) }
     {
@@ -189,9 +236,10 @@ impl Line {
 
     /// Stores the cells as one text, which mostly takes far less memory than a vector: for what is
     /// kept of rows that have scrolled away. Cells, number and flags stay.
-    /// A vector stays one where a hidden cell isn't a blank with the attributes of the cell that
-    /// hides it, or where the last visible cell is wide and lacks its half.
-    /// On an error nothing changed.
+    ///
+    /// - A vector stays one where a hidden cell isn't a blank with the attributes of the cell that
+    ///   hides it, or where the last visible cell is wide and lacks its half.
+    /// - On an error nothing changed.
     pub fn compress_for_scrollback(&mut self) -> Result<(), AllocError>
         ensures cells { self.new.cells ≡ self.old.cells }
         ensures number { self.new.seqno ≡ self.old.seqno }
@@ -240,7 +288,9 @@ impl Line {
 
     /// The changes that print the visible cells, from a pen with these attributes on.
     pub fn changes(&self, start_attr: &CellAttributes) -> Result<Vec<Change>, AllocError>
-        ensures { IfOk result (λ out. map change_value out.items ≡ (row_entries start_attr.now (visible self.now.cells)).entries) }
+        ensures { IfOk result (λ out.
+            map change_value out.items
+            ≡ (row_entries start_attr.now (visible self.now.cells)).entries) }
     {
         let row = row_entries(self.alloc, self.visible_cells(), start_attr)?;
         Ok(row.entries)
@@ -248,7 +298,8 @@ impl Line {
 
     /// The clusters of the visible cells: the pieces that a shaper is given.
     pub fn cluster<W: Widths>(&self, widths: &W) -> Result<Vec<CellCluster>, AllocError>
-        ensures { IfOk result (λ clusters. AreClusters (W.presentation_of widths.now) (visible self.now.cells) clusters.items) }
+        ensures { IfOk result (λ clusters.
+            AreClusters (W.presentation_of widths.now) (visible self.now.cells) clusters.items) }
     {
         CellCluster::make_cluster(self.alloc, widths, self.visible_cells())
     }
@@ -256,7 +307,8 @@ impl Line {
     /// The stored cells of a vector, hidden ones among them. A line that is stored as one text has
     /// none to lend.
     pub fn stored_cells(&self) -> Option<&[Cell]>
-        ensures { option_map (λ cells. cells.now) result ≡ (if self.now.is_vector then Some self.now.cells else None) }
+        ensures { option_map (λ cells. cells.now) result
+            ≡ (if self.now.is_vector then Some self.now.cells else None) }
     {
         self.storage.cells()
     }
@@ -280,7 +332,8 @@ impl Clone for Line {
 impl PartialEq for Line {
     ghost eq = { line_eq };
 
-    ghost laws = { on_per line_contents (partial_equiv_from_equiv (decided contents_eq contents_eq-Decides)) };
+    ghost laws = { on_per line_contents (partial_equiv_from_equiv
+        (decided contents_eq contents_eq-Decides)) };
 
     // Whichever form stores the cells.
     fn eq(&self, other: &Line) -> bool

@@ -25,7 +25,9 @@ impl Flags for LineBits {
 
     ghost exact = { ⊤ };
 
-    ghost table = { (codes "NONE", 0) ∷ (codes "BIDI_ENABLED", 1) ∷ (codes "DOUBLE_WIDTH", 16) ∷ (codes "DOUBLE_HEIGHT_TOP", 32) ∷ (codes "DOUBLE_HEIGHT_BOTTOM", 64) ∷ (codes "RTL", 128) ∷ (codes "AUTO_DETECT_DIRECTION", 256) ∷ [] };
+    ghost table = { (codes "NONE", 0) ∷ (codes "BIDI_ENABLED", 1) ∷ (codes "DOUBLE_WIDTH", 16)
+        ∷ (codes "DOUBLE_HEIGHT_TOP", 32) ∷ (codes "DOUBLE_HEIGHT_BOTTOM", 64) ∷ (codes "RTL", 128)
+        ∷ (codes "AUTO_DETECT_DIRECTION", 256) ∷ [] };
 
     ghost set_of = { λ p. p.0 };
 
@@ -46,7 +48,8 @@ impl LineBits {
     /// Says how large the cells are shown.
     pub(super) fn set_sizes(&mut self, double_width: bool, top: bool, bottom: bool)
         requires { bits_of (flags_of self.old.0) ≡ self.old.0 }
-        ensures sizes { flags_of self.new.0 ≡ with_sizes double_width top bottom (flags_of self.old.0) }
+        ensures sizes { flags_of self.new.0
+            ≡ with_sizes double_width top bottom (flags_of self.old.0) }
         ensures no_others { bits_of (flags_of self.new.0) ≡ self.new.0 }
     {
         self.set(LineBits::DOUBLE_WIDTH, double_width);
@@ -57,7 +60,8 @@ impl LineBits {
     /// Says whether the bidirectional algorithm may lay out the text.
     pub(super) fn set_bidi_enabled(&mut self, enabled: bool)
         requires { bits_of (flags_of self.old.0) ≡ self.old.0 }
-        ensures enabled { flags_of self.new.0 ≡ record (flags_of self.old.0) { bidi_enabled = enabled } }
+        ensures enabled { flags_of self.new.0
+            ≡ record (flags_of self.old.0) { bidi_enabled = enabled } }
         ensures no_others { bits_of (flags_of self.new.0) ≡ self.new.0 }
     {
         self.set(LineBits::BIDI_ENABLED, enabled);
@@ -66,7 +70,8 @@ impl LineBits {
     /// Says what decides the direction of the text.
     pub(super) fn set_direction(&mut self, right_to_left: bool, auto: bool)
         requires { bits_of (flags_of self.old.0) ≡ self.old.0 }
-        ensures direction { flags_of self.new.0 ≡ with_direction right_to_left auto (flags_of self.old.0) }
+        ensures direction { flags_of self.new.0
+            ≡ with_direction right_to_left auto (flags_of self.old.0) }
         ensures no_others { bits_of (flags_of self.new.0) ≡ self.new.0 }
     {
         self.set(LineBits::RTL, right_to_left);

@@ -33,7 +33,11 @@ pub fn diff_rows(
     requires other_fits { other_width < 2 ^ 32 }
     requires vectors { AreVectors own.now.items }
     requires halved { AreHalved width (cells_of own.now.items) }
-    ensures { IfOk result (λ l. map change_value l.items ≡ diff (map (row_of width) (cells_of own.now.items)) (map (row_of other_width) (cells_of other.now.items)) (cut (region_value region) width (deque_len own.now) other_width (deque_len other.now))) }
+    ensures { IfOk result (λ l.
+        map change_value l.items
+        ≡ diff (map (row_of width) (cells_of own.now.items))
+        (map (row_of other_width) (cells_of other.now.items))
+        (cut (region_value region) width (deque_len own.now) other_width (deque_len other.now))) }
 {
     let region = region.cut((width, own.len()), (other_width, other.len()));
     if region.is_empty() {
@@ -55,7 +59,11 @@ pub fn diff_lines(
     requires fits { width < 2 ^ 32 }
     requires vectors { AreVectors own.now.items }
     requires halved { AreHalved width (cells_of own.now.items) }
-    ensures { IfOk result (λ l. map change_value l.items ≡ diff (map (row_of width) (cells_of own.now.items)) (map (λ line. row_of width line.now.cells) lines.entry.items) (band width 0 0 (min (deque_len own.now) (length lines.entry.items)))) }
+    ensures { IfOk result (λ l.
+        map change_value l.items
+        ≡ diff (map (row_of width) (cells_of own.now.items))
+        (map (λ line. row_of width line.now.cells) lines.entry.items)
+        (band width 0 0 (min (deque_len own.now) (length lines.entry.items)))) }
 {
     diff_padded(alloc, own, width, lines, &Cell::blank())
 }
@@ -72,7 +80,11 @@ fn diff_padded<'a>(
     requires fits { width < 2 ^ 32 }
     requires vectors { AreVectors own.now.items }
     requires halved { AreHalved width (cells_of own.now.items) }
-    ensures { IfOk result (λ l. map change_value l.items ≡ diff (map (row_of width) (cells_of own.now.items)) (map (λ line. row_of width line.now.cells) lines.entry.items) (band width 0 0 (min (deque_len own.now) (length lines.entry.items)))) }
+    ensures { IfOk result (λ l.
+        map change_value l.items
+        ≡ diff (map (row_of width) (cells_of own.now.items))
+        (map (λ line. row_of width line.now.cells) lines.entry.items)
+        (band width 0 0 (min (deque_len own.now) (length lines.entry.items)))) }
 {
     let mut writer = DiffWriter::new(alloc);
     print_lines(&mut writer, own, &lines, padding, width)?;
@@ -91,7 +103,10 @@ pub fn diff_line(
     requires fits { width < 2 ^ 32 }
     requires vectors { AreVectors own.now.items }
     requires halved { AreHalved width (cells_of own.now.items) }
-    ensures { IfOk result (λ l. map change_value l.items ≡ diff (map (row_of width) (cells_of own.now.items)) (row_of width line.now.cells ∷ []) (band width row 0 (min 1 (deque_len own.now - row)))) }
+    ensures { IfOk result (λ l.
+        map change_value l.items
+        ≡ diff (map (row_of width) (cells_of own.now.items)) (row_of width line.now.cells ∷ [])
+        (band width row 0 (min 1 (deque_len own.now - row)))) }
 {
     if row >= own.len() {
         return Ok(Vec::new(alloc));

@@ -1,5 +1,6 @@
 //! The cells that a diff prints, row by row.
-ghost use Rattle.std.specs.Prelude.{◌≡◌, ◌+◌, ◌-◌, ◌<◌, ◌≤◌, ◌^◌, ◌∷◌, [], ℕ, List, cond, fold, map, min, length, nat_lt, true, IfOk, OnOk};
+ghost use Rattle.std.specs.Prelude.{◌≡◌, ◌+◌, ◌-◌, ◌<◌, ◌≤◌, ◌^◌, ◌∷◌, [], ℕ, List, cond, fold};
+ghost use Rattle.std.specs.Prelude.{map, min, length, nat_lt, true, IfOk, OnOk};
 ghost use Rattle.std.specs.VecDeque.{deque_len};
 ghost use Rattle.termwiz_cell.specs.CellValue.{CellValue, blank, cell_eq};
 ghost use Rattle.termwiz_storage.specs.CellRef.{ref_cell};
@@ -35,7 +36,11 @@ pub(super) fn print_rows<'a>(
     requires own_rows { region.y + region.height ≤ deque_len own.now }
     requires other_rows { region.other_y + region.height ≤ deque_len other.now }
     requires vectors { AreVectors own.now.items }
-    ensures { OnOk result ((v w : ℕ) → AreHalved v (cells_of own.now.items) → region.x + region.width ≤ v → region.other_x + region.width ≤ w → writer.new ≡ fold print_out writer.old (need (map (row_of v) (cells_of own.now.items)) (map (row_of w) (cells_of other.now.items)) (region_value region))) }
+    ensures { OnOk result (
+        (v w : ℕ) → AreHalved v (cells_of own.now.items) → region.x + region.width ≤ v →
+        region.other_x + region.width ≤ w →
+        writer.new ≡ fold print_out writer.old (need (map (row_of v) (cells_of own.now.items))
+        (map (row_of w) (cells_of other.now.items)) (region_value region))) }
 {
     for i in 0..region.height {
         let row = region.y + i;
@@ -62,7 +67,11 @@ pub(super) fn print_lines<'a>(
     requires blank { padding.now ≡ blank }
     requires fits { width < 2 ^ 32 }
     requires vectors { AreVectors own.now.items }
-    ensures { OnOk result (AreHalved width (cells_of own.now.items) → writer.new ≡ fold print_out writer.old (need (map (row_of width) (cells_of own.now.items)) (map (λ line. row_of width line.now.cells) lines.now) (band width 0 0 (min (deque_len own.now) (length lines.now))))) }
+    ensures { OnOk result (
+        AreHalved width (cells_of own.now.items) →
+        writer.new ≡ fold print_out writer.old (need (map (row_of width) (cells_of own.now.items))
+        (map (λ line. row_of width line.now.cells) lines.now)
+        (band width 0 0 (min (deque_len own.now) (length lines.now))))) }
 {
     let region = Region::band(width, 0, own.len().min(lines.len()));
     for row in 0..region.height {
@@ -84,7 +93,12 @@ pub(super) fn print_row<'a>(
     requires own_fits { region.x + region.width < 2 ^ 32 }
     requires other_fits { region.other_x + region.width < 2 ^ 32 }
     requires vector { own.now.is_vector ≡ true }
-    ensures { OnOk result ((v w : ℕ) → HasHalves v own.now.cells → region.x + region.width ≤ v → region.other_x + region.width ≤ w → writer.new ≡ fold print_out writer.old (map (in_row row) (row_need (row_of v own.now.cells) region.x (row_of w other.now.cells) region.other_x region.width))) }
+    ensures { OnOk result (
+        (v w : ℕ) → HasHalves v own.now.cells → region.x + region.width ≤ v →
+        region.other_x + region.width ≤ w →
+        writer.new ≡ fold print_out writer.old (map (in_row row)
+        (row_need (row_of v own.now.cells) region.x
+        (row_of w other.now.cells) region.other_x region.width))) }
 {
     // Most rows are equal, which shows without a walk.
     if region.x == region.other_x && own.has_same_cells(other) {
@@ -112,7 +126,10 @@ fn print_cells<'a>(
     requires blank { padding.now ≡ blank }
     requires own_fits { region.x + region.width < 2 ^ 32 }
     requires other_fits { region.other_x + region.width < 2 ^ 32 }
-    ensures { OnOk result ((w : ℕ) → region.other_x + region.width ≤ w → writer.new ≡ fold print_out writer.old (map (in_row row) (row_need own.now region.x (row_of w other.now.cells) region.other_x region.width))) }
+    ensures { OnOk result (
+        (w : ℕ) → region.other_x + region.width ≤ w →
+        writer.new ≡ fold print_out writer.old (map (in_row row)
+        (row_need own.now region.x (row_of w other.now.cells) region.other_x region.width))) }
 {
     let next = print_visible(writer, own, other.visible_cells(), padding, region, row)?;
     let met = next.saturating_sub(region.other_x).min(region.width);
@@ -138,8 +155,14 @@ fn print_visible<'a>(
     requires blank { padding.now ≡ blank }
     requires own_fits { region.x + region.width < 2 ^ 32 }
     requires other_fits { region.other_x + region.width < 2 ^ 32 }
-    ensures printed { IfOk result (λ next. (w : ℕ) (cs : List CellValue) → cells_left cells.entry ≡ visible cs → region.other_x + region.width ≤ w → writer.new ≡ fold print_out writer.old (map (in_row row) (row_need own.now region.x (row_of w cs) region.other_x (min region.width (next - region.other_x))))) }
-    ensures rest { IfOk result (λ next. (w : ℕ) (cs : List CellValue) → cells_left cells.entry ≡ visible cs → next < region.other_x + region.width → EndsBlank w (row_of w cs) next) }
+    ensures printed { IfOk result (λ next. (w : ℕ) (cs : List CellValue) →
+        cells_left cells.entry ≡ visible cs → region.other_x + region.width ≤ w →
+        writer.new ≡ fold print_out writer.old (map (in_row row)
+        (row_need own.now region.x (row_of w cs) region.other_x
+        (min region.width (next - region.other_x))))) }
+    ensures rest { IfOk result (λ next. (w : ℕ) (cs : List CellValue) →
+        cells_left cells.entry ≡ visible cs → next < region.other_x + region.width →
+        EndsBlank w (row_of w cs) next) }
 {
     match cells {
         VisibleCellIter::V(cells) => {
@@ -165,8 +188,14 @@ fn print_walk<'a>(
     requires blank { padding.now ≡ blank }
     requires own_fits { region.x + region.width < 2 ^ 32 }
     requires other_fits { region.other_x + region.width < 2 ^ 32 }
-    ensures printed { IfOk result (λ next. (w : ℕ) (cs : List CellValue) → cells_left cells.entry ≡ visible cs → region.other_x + region.width ≤ w → writer.new ≡ fold print_out writer.old (map (in_row row) (row_need own.now region.x (row_of w cs) region.other_x (min region.width (next - region.other_x))))) }
-    ensures rest { IfOk result (λ next. (w : ℕ) (cs : List CellValue) → cells_left cells.entry ≡ visible cs → next < region.other_x + region.width → EndsBlank w (row_of w cs) next) }
+    ensures printed { IfOk result (λ next. (w : ℕ) (cs : List CellValue) →
+        cells_left cells.entry ≡ visible cs → region.other_x + region.width ≤ w →
+        writer.new ≡ fold print_out writer.old (map (in_row row)
+        (row_need own.now region.x (row_of w cs) region.other_x
+        (min region.width (next - region.other_x))))) }
+    ensures rest { IfOk result (λ next. (w : ℕ) (cs : List CellValue) →
+        cells_left cells.entry ≡ visible cs → next < region.other_x + region.width →
+        EndsBlank w (row_of w cs) next) }
 {
     let end = region.other_x + region.width;
     let mut next = 0;
@@ -195,7 +224,9 @@ fn print_blanks<'a>(
 ) -> Result<(), AllocError>
     requires blank { padding.now ≡ blank }
     requires fits { from + count ≤ 2 ^ 32 }
-    ensures { OnOk result (writer.new ≡ fold print_out writer.old (map (in_row row) (row_need own.now from [] 0 count))) }
+    ensures { OnOk result (
+        writer.new ≡ fold print_out writer.old (map (in_row row)
+        (row_need own.now from [] 0 count))) }
 {
     let blank = CellRef::CellRef {
         cell_index: 0,
@@ -220,7 +251,10 @@ fn print_unless_shown<'a>(
     requires blank { padding.now ≡ blank }
     requires fits { column < 2 ^ 32 }
     requires cell { IsOfCell cell }
-    ensures { OnOk result (writer.new ≡ fold print_out writer.old (map (in_row row) (cond (shows own.now column (ref_cell cell.entry)) [] ((column, ref_cell cell.entry) ∷ [])))) }
+    ensures { OnOk result (
+        writer.new ≡ fold print_out writer.old (map (in_row row)
+        (cond (shows own.now column (ref_cell cell.entry)) []
+        ((column, ref_cell cell.entry) ∷ [])))) }
 {
     if !is_shown(own, padding, column, &cell) {
         writer.print(row, column, cell)?;
@@ -275,7 +309,8 @@ fn is_equal(own: &Cell, cell: &CellRef<'_>) -> bool
 
 // Whether the cell has this text, width and attributes.
 fn is_piece(own: &Cell, text: &str, width: usize, attrs: &CellAttributes) -> bool
-    ensures { result ≡ cell_eq own.now (record { text = text.now; wide = nat_lt 1 width; attrs = attrs.now }) }
+    ensures { result
+        ≡ cell_eq own.now (record { text = text.now; wide = nat_lt 1 width; attrs = attrs.now }) }
 {
     own.str() == text && ((own.width() > 1) == (width > 1) && is_same(own.attrs(), attrs))
 }

@@ -60,7 +60,12 @@ impl<'a> DiffWriter<'a> {
     ) -> Result<(), AllocError>
         requires fits { column < 2 ^ 32 }
         requires cell { IsOfCell cell }
-        ensures { OnOk result (self.new ≡ spec.print_out self.old (record { row = row; column = column; cell = ref_cell cell.entry })) }
+        ensures { OnOk result (
+            self.new ≡ spec.print_out self.old (record {
+              row = row;
+              column = column;
+              cell = ref_cell cell.entry;
+            })) }
     {
         let pen = cell.attrs();
         let x = column + cell.width();
@@ -87,7 +92,10 @@ fn push_place(
     column: usize,
     pen: &CellAttributes,
 ) -> Result<(), AllocError>
-    ensures { OnOk result ((p : Print) → p.row ≡ row → p.column ≡ column → p.cell.attrs ≡ pen.now → entries.new ≡ (entries.old ++ spec.move_to (end_value end.entry) p) ++ spec.pen_to (end_value end.entry) p) }
+    ensures { OnOk result (
+        (p : Print) → p.row ≡ row → p.column ≡ column → p.cell.attrs ≡ pen.now →
+        entries.new ≡ (entries.old ++ spec.move_to (end_value end.entry) p)
+        ++ spec.pen_to (end_value end.entry) p) }
 {
     match end {
         Some(end) => {

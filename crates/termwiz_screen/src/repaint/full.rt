@@ -31,7 +31,12 @@ pub fn fully_started<'a>(
     rows: &VecDeque<Line>,
 ) -> Result<RowWriter<'a>, AllocError>
     requires { padding.now ≡ blank }
-    ensures printed { IfOk result (λ writer. writer.printed ≡ record { entries = spec.started_entries ++ spec.full_entries title.now color (map line_attribute (row_flags rows.now.items)); pen = default_attributes }) }
+    ensures printed { IfOk result (λ writer.
+        writer.printed ≡ record {
+          entries = spec.started_entries
+              ++ spec.full_entries title.now color (map line_attribute (row_flags rows.now.items));
+          pen = default_attributes;
+        }) }
     ensures between { IfOk result (λ writer. writer.spaces ≡ 0) }
 {
     let mut writer = cleared(alloc, padding)?;
@@ -48,7 +53,13 @@ pub fn fully_started<'a>(
 
 // How each row is shown, with a move down before each but the first.
 fn push_lines(writer: &mut RowWriter<'_>, rows: &VecDeque<Line>) -> Result<(), AllocError>
-    ensures printed { OnOk result (let lines = map line_attribute (row_flags rows.now.items) in writer.new.printed ≡ record writer.old.printed { entries = writer.old.printed.entries ++ spec.lines_upto lines (length lines) }) }
+    ensures printed { OnOk result (
+        let lines = map line_attribute (row_flags rows.now.items) in
+        writer.new.printed
+        ≡ record writer.old.printed {
+          entries = writer.old.printed.entries
+              ++ spec.lines_upto lines (length lines);
+        }) }
     ensures spaces { writer.new.spaces ≡ writer.old.spaces }
 {
     for i in 0..rows.len() {
@@ -68,7 +79,11 @@ pub fn fully_framed(
     shape: Option<CursorShape>,
     pen: &CellAttributes,
 ) -> Result<Vec<Change>, AllocError>
-    ensures { IfOk result (λ entries. (first : List ChangeValue) (d : line.Penned) (s : Screen) → penned_value drawn.entry ≡ behind (spec.started_entries ++ first) d → s.x ≡ x → s.y ≡ y → s.visibility ≡ visibility → s.pen ≡ pen.now → map change_value entries.items ≡ spec.repaint_of first d s (spec.full_shown_entries s.visibility (shape_of shape))) }
+    ensures { IfOk result (λ entries. (first : List ChangeValue) (d : line.Penned) (s : Screen) →
+        penned_value drawn.entry ≡ behind (spec.started_entries ++ first) d → s.x ≡ x → s.y ≡ y →
+        s.visibility ≡ visibility → s.pen ≡ pen.now →
+        map change_value entries.items
+        ≡ spec.repaint_of first d s (spec.full_shown_entries s.visibility (shape_of shape))) }
 {
     let mut entries = placed(drawn, x, y, pen)?;
     push_fully_shown(&mut entries, visibility, shape)?;
@@ -81,7 +96,10 @@ fn push_fully_shown(
     visibility: CursorVisibility,
     shape: Option<CursorShape>,
 ) -> Result<(), AllocError>
-    ensures { OnOk result (map change_value entries.new.items ≡ map change_value entries.old.items ++ spec.full_shown_entries visibility (shape_of shape)) }
+    ensures { OnOk result (
+        map change_value entries.new.items
+        ≡ map change_value entries.old.items
+        ++ spec.full_shown_entries visibility (shape_of shape)) }
 {
     if visibility == CursorVisibility::Visible {
         entries.push(Change::CursorVisibility(CursorVisibility::Visible))?;

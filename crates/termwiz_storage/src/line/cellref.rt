@@ -3,7 +3,8 @@ ghost use Rattle.std.specs.Prelude.{◌≡◌, ◌≤◌, ◌↔◌, IsTrue, IfO
 ghost use Rattle.std.specs.Option.{unwrap_or};
 ghost use Rattle.std.specs.Iterator.{item_count};
 ghost use Rattle.termwiz_cell.specs.CellValue.{blank, cell_of, columns, space};
-ghost use Rattle.termwiz_storage.specs.CellRef.{contents, contents_of, indexed_cell, ref_index, ref_cell, ref_width};
+ghost use Rattle.termwiz_storage.specs.CellRef.{contents, contents_of, indexed_cell, ref_index};
+ghost use Rattle.termwiz_storage.specs.CellRef.{ref_cell, ref_width};
 ghost use Rattle.termwiz_storage.specs.CellsLeft.{cells_left, IsOfCell, YieldsCell};
 
 use crate::line::clusterline::ClusterLineIter;
@@ -74,7 +75,8 @@ impl<'a> CellRef<'a> {
     /// How the text is shown: in the form that a variation selector in it asks for, or else as the
     /// width value says.
     pub fn presentation<W: Widths>(&self, widths: &W) -> Presentation
-        ensures { let shown = W.presentation_of widths.now (ref_cell self.now).text in result ≡ unwrap_or shown.1 shown.0 }
+        ensures { let shown = W.presentation_of widths.now (ref_cell self.now).text in
+            result ≡ unwrap_or shown.1 shown.0 }
     {
         let (presentation, variation) = widths.presentation(self.str());
         variation.unwrap_or(presentation)
@@ -84,7 +86,9 @@ impl<'a> CellRef<'a> {
     /// width must be at most 2.
     pub fn as_cell(&self, alloc: Global) -> Result<Cell, AllocError>
         requires { ref_width self.now ≤ 2 }
-        ensures { IfOk result (λ cell. cell ≡ cell_of (ref_cell self.now).text (ref_width self.now) (ref_cell self.now).attrs) }
+        ensures { IfOk result (λ cell.
+            cell ≡ cell_of (ref_cell self.now).text (ref_width self.now)
+            (ref_cell self.now).attrs) }
     {
         match self {
             CellRef::CellRef { cell, .. } => copied(cell),

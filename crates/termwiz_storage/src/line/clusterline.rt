@@ -8,7 +8,7 @@ ghost use Rattle.std.specs.List.{last_or, list_any};
 ghost use Rattle.std.specs.Option.{option_copied};
 ghost use Rattle.termwiz_cell.specs.Attributes.{default_attributes};
 ghost use Rattle.termwiz_cell.specs.CellValue.{blank, clean, half};
-ghost use Rattle.termwiz_storage.specs.CellRef.{indexed_cell, ref_cell, ref_index};
+ghost use Rattle.termwiz_storage.specs.CellRef.{ref_cell, ref_index};
 ghost use Rattle.termwiz_storage.specs.CellTexts.{first_texts, texts_of};
 ghost use Rattle.termwiz_storage.specs.CellsLeft.{IsOfCell, YieldsCell};
 ghost use Rattle.termwiz_storage.specs.Clustered.{HasByteCells, IsWhole, cell_len};
@@ -54,9 +54,11 @@ impl Model for ClusteredLine {
 
     ghost Value = { List CellValue };
 
-    ghost view = { λ s. cells_from (string_bytes s.text) (shapes_of s.shapes.items) (attrs_of s.attrs.items) };
+    ghost view = { λ s.
+        cells_from (string_bytes s.text) (shapes_of s.shapes.items) (attrs_of s.attrs.items) };
 
-    ghost invariant = { λ s. IsSound (string_bytes s.text) (shapes_of s.shapes.items) (attrs_of s.attrs.items) s.len };
+    ghost invariant = { λ s.
+        IsSound (string_bytes s.text) (shapes_of s.shapes.items) (attrs_of s.attrs.items) s.len };
 }
 
 impl ClusteredLine {
@@ -283,7 +285,9 @@ impl ClusteredLine {
         attrs: &CellAttributes,
     ) -> Result<(), AllocError>
         requires { clean text.now ≡ text.now }
-        ensures ok { OnOk result (self.new ≡ self.old ++ with_half (record { text = text.now; wide = wide; attrs = attrs.now })) }
+        ensures ok { OnOk result (
+            self.new ≡ self.old
+            ++ with_half (record { text = text.now; wide = wide; attrs = attrs.now })) }
         ensures err { OnErr result (self.new ≡ self.old) }
     {
         let width = if wide { 2 } else { 1 };

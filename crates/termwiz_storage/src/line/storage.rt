@@ -1,5 +1,7 @@
 //! Where a line keeps its cells, and all that edits them.
-ghost use Rattle.std.specs.Prelude.{◌≡◌, ◌≢◌, ◌-◌, ◌<◌, ◌≤◌, ◌∷◌, [], ◌↔◌, drop, false, true, length, option_map, replicate, take, IsTrue, IsOk, IfOk, IfSome, OnOk, OnErr, Some, None, if◌then◌else◌};
+ghost use Rattle.std.specs.Prelude.{◌≡◌, ◌≢◌, ◌-◌, ◌<◌, ◌≤◌, ◌∷◌, [], ◌↔◌, drop, false, true};
+ghost use Rattle.std.specs.Prelude.{length, option_map, replicate, take, IsTrue, IsOk, IfOk};
+ghost use Rattle.std.specs.Prelude.{IfSome, OnOk, OnErr, Some, None, if◌then◌else◌};
 ghost use Rattle.std.specs.Borrow.{sem};
 ghost use Rattle.std.specs.Cmp.{decided, on_equiv, on_per, partial_equiv_from_equiv};
 ghost use Rattle.std.specs.List.{list_all, list_any};
@@ -82,7 +84,8 @@ impl CellStorage {
 
     /// The stored cells of a vector, hidden ones among them. A text has none to lend.
     pub fn cells(&self) -> Option<&[Cell]>
-        ensures { option_map (λ cells. cells.now) result ≡ (if is_vector self.now then Some (cells_of self.now) else None) }
+        ensures { option_map (λ cells. cells.now) result
+            ≡ (if is_vector self.now then Some (cells_of self.now) else None) }
     {
         match self {
             CellStorage::V(storage) => Some(storage.cells()),
@@ -93,7 +96,8 @@ impl CellStorage {
     /// The texts of the visible cells, one after another, where they stand in a text. A vector has
     /// none to lend.
     pub fn text(&self) -> Option<&str>
-        ensures { option_map (λ text. text.now) result ≡ (if is_vector self.now then None else Some (texts_of (visible (cells_of self.now)))) }
+        ensures { option_map (λ text. text.now) result
+            ≡ (if is_vector self.now then None else Some (texts_of (visible (cells_of self.now)))) }
     {
         match self {
             CellStorage::V(_) => None,
@@ -114,16 +118,18 @@ impl CellStorage {
     /// Sets the cell at a column, and behind a wide one its half. The list is first padded with
     /// default blanks as far as these need, and a wide cell stored right before the column becomes
     /// a blank with its attributes.
-    /// Right behind the last cell of a text the cell is appended to the text. Anywhere else, and by
-    /// each other edit but that of the mark of the last cell, a text becomes a vector, also where
-    /// the list stays as it is.
-    /// On an error, which a cell past the greatest column gives too, and one of 2^32 bytes or more
-    /// that is appended to a text, the cells are as before.
+    ///
+    /// - Right behind the last cell of a text the cell is appended to the text.
+    /// - Anywhere else, and by each other edit but that of the mark of the last cell, a text
+    ///   becomes a vector, also where the list stays as it is.
+    /// - On an error the cells are as before. It comes also for a cell past the greatest column,
+    ///   and for one of 2^32 bytes or more that is appended to a text.
     pub fn set_cell(&mut self, i: usize, cell: Cell) -> Result<(), AllocError>
         ensures ok { OnOk result (cells_of self.new ≡ set_cell i cell (cells_of self.old)) }
         ensures err { OnErr result (cells_of self.new ≡ cells_of self.old) }
         ensures vector { is_vector self.old ≡ true → is_vector self.new ≡ true }
-        ensures appended { is_vector self.old ≡ false → i ≡ length (cells_of self.old) → OnOk result (is_vector self.new ≡ false) }
+        ensures appended { is_vector self.old ≡ false → i ≡ length (cells_of self.old) →
+            OnOk result (is_vector self.new ≡ false) }
         ensures made { i ≢ length (cells_of self.old) → OnOk result (is_vector self.new ≡ true) }
     {
         if let CellStorage::Cluster(line) = self {
@@ -141,7 +147,8 @@ impl CellStorage {
     /// On an error, which a cell past the greatest column gives too, the cells are as before.
     #[inline(always)]
     pub fn set_cell_within(&mut self, i: usize, cell: Cell, len: usize) -> Result<(), AllocError>
-        ensures ok { OnOk result (cells_of self.new ≡ take len (set_cell i cell (cells_of self.old))) }
+        ensures ok { OnOk result (
+            cells_of self.new ≡ take len (set_cell i cell (cells_of self.old))) }
         ensures err { OnErr result (cells_of self.new ≡ cells_of self.old) }
         ensures vector { is_vector self.old ≡ true → is_vector self.new ≡ true }
         ensures made { OnOk result (is_vector self.new ≡ true) }
@@ -157,7 +164,8 @@ impl CellStorage {
     // short.
     #[inline(never)]
     fn set_in_text_within(&mut self, i: usize, cell: Cell, len: usize) -> Result<(), AllocError>
-        ensures ok { OnOk result (cells_of self.new ≡ take len (set_cell i cell (cells_of self.old))) }
+        ensures ok { OnOk result (
+            cells_of self.new ≡ take len (set_cell i cell (cells_of self.old))) }
         ensures err { OnErr result (cells_of self.new ≡ cells_of self.old) }
         ensures vector { is_vector self.old ≡ true → is_vector self.new ≡ true }
         ensures made { OnOk result (is_vector self.new ≡ true) }
@@ -173,7 +181,8 @@ impl CellStorage {
     pub fn set_run(&mut self, i: usize, run: &str, attrs: &CellAttributes) -> Result<(), AllocError>
         requires plain { list_all is_plain run.now ≡ true }
         requires unboxed { needs_box attrs.now ≡ false }
-        ensures ok { OnOk result (cells_of self.new ≡ set_run i run.now attrs.now (cells_of self.old)) }
+        ensures ok { OnOk result (
+            cells_of self.new ≡ set_run i run.now attrs.now (cells_of self.old)) }
         ensures err { OnErr result (cells_of self.new ≡ cells_of self.old) }
         ensures vector { is_vector self.old ≡ true → is_vector self.new ≡ true }
         ensures made { OnOk result (is_vector self.new ≡ true) }
@@ -189,7 +198,8 @@ impl CellStorage {
     /// in order. A text becomes a vector, also where there is no such column.
     /// On an error the cells are as before.
     pub fn set_blanks(&mut self, from: usize, to: usize) -> Result<(), AllocError>
-        ensures ok { OnOk result (cells_of self.new ≡ fill (to - from) from blank (cells_of self.old)) }
+        ensures ok { OnOk result (
+            cells_of self.new ≡ fill (to - from) from blank (cells_of self.old)) }
         ensures err { OnErr result (cells_of self.new ≡ cells_of self.old) }
         ensures vector { is_vector self.old ≡ true → is_vector self.new ≡ true }
         ensures made { OnOk result (is_vector self.new ≡ true) }
@@ -203,7 +213,8 @@ impl CellStorage {
     pub fn blank_out(&mut self, len: usize) -> Result<(), AllocError>
         ensures ok { OnOk result (cells_of self.new ≡ replicate len blank) }
         ensures err { OnErr result (cells_of self.new ≡ cells_of self.old) }
-        ensures succeeds { is_vector self.old ≡ true → len ≤ length (cells_of self.old) → IsOk result }
+        ensures succeeds { is_vector self.old ≡ true → len ≤ length (cells_of self.old) →
+            IsOk result }
         ensures vector { is_vector self.old ≡ true → is_vector self.new ≡ true }
         ensures made { OnOk result (is_vector self.new ≡ true) }
     {
@@ -215,14 +226,16 @@ impl CellStorage {
     }
 
     /// Cuts the list to this many cells, or grows it by default blanks. Where it grows and its last
-    /// visible cell is wide and lacks its half, the half comes first. A text becomes a vector, also
-    /// where the length stays.
-    /// It can only fail where the list grows, or a text becomes a vector. On an error the cells are
-    /// as before.
+    /// visible cell is wide and lacks its half, the half comes first.
+    ///
+    /// - A text becomes a vector, also where the length stays.
+    /// - It can only fail where the list grows, or a text becomes a vector. On an error the cells
+    ///   are as before.
     pub fn resize(&mut self, len: usize) -> Result<(), AllocError>
         ensures ok { OnOk result (cells_of self.new ≡ resized len (cells_of self.old)) }
         ensures err { OnErr result (cells_of self.new ≡ cells_of self.old) }
-        ensures succeeds { is_vector self.old ≡ true → len ≤ length (cells_of self.old) → IsOk result }
+        ensures succeeds { is_vector self.old ≡ true → len ≤ length (cells_of self.old) →
+            IsOk result }
         ensures vector { is_vector self.old ≡ true → is_vector self.new ≡ true }
         ensures made { OnOk result (is_vector self.new ≡ true) }
     {
@@ -247,9 +260,11 @@ impl CellStorage {
     /// list first gets a default blank.
     /// With a vector that has cells it never fails. On an error the cells are as before.
     pub fn set_last_wrapped(&mut self, wrapped: bool) -> Result<(), AllocError>
-        ensures ok { OnOk result (cells_of self.new ≡ set_last_wrapped wrapped (cells_of self.old)) }
+        ensures ok { OnOk result (
+            cells_of self.new ≡ set_last_wrapped wrapped (cells_of self.old)) }
         ensures err { OnErr result (cells_of self.new ≡ cells_of self.old) }
-        ensures succeeds { is_vector self.old ≡ true → 0 < length (cells_of self.old) → IsOk result }
+        ensures succeeds { is_vector self.old ≡ true → 0 < length (cells_of self.old) →
+            IsOk result }
         ensures form { is_vector self.new ≡ is_vector self.old }
     {
         match self {
@@ -338,11 +353,12 @@ impl CellStorage {
         }
     }
 
-    /// Puts the cells in a text, which takes far less memory where cells in a row are alike. A
-    /// vector stays one where a hidden cell isn't a blank with the attributes of the cell that
-    /// hides it, or where the last visible cell is wide and lacks its half.
-    /// The list of cells stays. On an error, which a visible cell of 2^32 bytes or more gives too,
-    /// nothing changed.
+    /// Puts the cells in a text, which takes far less memory where cells in a row are alike. The
+    /// list of cells stays.
+    ///
+    /// - A vector stays one where a hidden cell isn't a blank with the attributes of the cell that
+    ///   hides it, or where the last visible cell is wide and lacks its half.
+    /// - On an error, which a visible cell of 2^32 bytes or more gives too, nothing changed.
     pub fn compress(&mut self, alloc: Global) -> Result<(), AllocError>
         ensures cells { cells_of self.new ≡ cells_of self.old }
         ensures clustered { OnOk result (is_vector self.new ≡ false ↔ IsWhole (cells_of self.old)) }
@@ -457,7 +473,8 @@ fn shows_same(cells: VisibleCellIter<'_>, others: VisibleCellIter<'_>) -> bool
 // Whether a walk goes on with this cell.
 fn comes_next(others: &mut VisibleCellIter<'_>, cell: CellRef<'_>) -> bool
     requires { IsOfCell cell }
-    ensures same { IsTrue result ↔ (cells_left others.old ≡ indexed_cell cell.entry ∷ cells_left others.new) }
+    ensures same { IsTrue result
+        ↔ (cells_left others.old ≡ indexed_cell cell.entry ∷ cells_left others.new) }
     ensures rest { cells_left others.new ≡ drop 1 (cells_left others.old) }
 {
     match others.next() {

@@ -1,5 +1,7 @@
 //! Cells stored one by one.
-ghost use Rattle.std.specs.Prelude.{◌≡◌, [], false, true, ◌+◌, ◌-◌, ◌<◌, ◌≤◌, ◌↔◌, IsTrue, OnErr, OnOk, IsOk, IfOk, IfSome, length, option_map, take, replicate, slice_set, vec_capacity, vec_len};
+ghost use Rattle.std.specs.Prelude.{◌≡◌, [], false, true, ◌+◌, ◌-◌, ◌<◌, ◌≤◌, ◌↔◌, IsTrue, OnErr};
+ghost use Rattle.std.specs.Prelude.{OnOk, IsOk, IfOk, IfSome, length, option_map, take, replicate};
+ghost use Rattle.std.specs.Prelude.{slice_set, vec_capacity, vec_len};
 ghost use Rattle.std.specs.Cmp.{decided, partial_equiv_from_equiv};
 ghost use Rattle.std.specs.Iterator.{item_count};
 ghost use Rattle.std.specs.List.{list_all, list_any};
@@ -8,7 +10,8 @@ ghost use Rattle.termwiz_cell.specs.Attributes.{needs_box};
 ghost use Rattle.termwiz_cell.specs.CellValue.{blank, half, is_wide};
 ghost use Rattle.termwiz_storage.specs.CellsLeft.{IsOfCell, YieldsCell};
 ghost use Rattle.termwiz_storage.specs.CellRef.{ref_cell, ref_index};
-ghost use Rattle.termwiz_storage.specs.Stored.{cell_at, fill, hides, is_linked, padded, put_run, stored, set_cell, set_run, torn, visible, IsKept};
+ghost use Rattle.termwiz_storage.specs.Stored.{cell_at, fill, hides, is_linked, padded, put_run};
+ghost use Rattle.termwiz_storage.specs.Stored.{stored, set_cell, set_run, torn, visible, IsKept};
 ghost use Rattle.termwiz_storage.specs.Halves.{resized};
 ghost use Rattle.termwiz_storage.specs.Used.{IsBlanked, IsFilledTo, IsUsedTo};
 ghost use Rattle.termwiz_storage.specs.CellLists.{cells_eq, cells_eq-Decides};
@@ -501,7 +504,8 @@ fn end_of(i: usize, columns: usize) -> Result<usize, AllocError>
 // The half of the last cell.
 fn half_behind(cells: &Vec<Cell>) -> Result<Cell, AllocError>
     requires { 0 < vec_len cells.now }
-    ensures { IfOk result (λ made. made ≡ half (stored cells.now.items (length cells.now.items - 1))) }
+    ensures { IfOk result (λ made.
+        made ≡ half (stored cells.now.items (length cells.now.items - 1))) }
 {
     let attrs = cells[cells.len() - 1].attrs().clone()?;
     Ok(Cell::blank_with_attrs(attrs))

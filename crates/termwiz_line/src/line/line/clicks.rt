@@ -5,7 +5,8 @@ ghost use Rattle.std.specs.List.{All};
 ghost use Rattle.termwiz_storage.specs.CellRef.{ref_cell};
 ghost use Rattle.termwiz_storage.specs.CellsLeft.{cells_left};
 ghost use Rattle.termwiz_storage.specs.Stored.{visible};
-ghost use Rattle.termwiz_line.specs.Clicks.{AnswersAs, IsLower, IsUpper, goes_on, lower_of, upper_of};
+ghost use Rattle.termwiz_line.specs.Clicks.{AnswersAs, IsLower, IsUpper, goes_on, lower_of};
+ghost use Rattle.termwiz_line.specs.Clicks.{upper_of};
 ghost use Rattle.termwiz_line.specs.Wrapped.{last_is_wrapped};
 
 use super::Line;
@@ -23,28 +24,41 @@ pub enum DoubleClickRange {
 
 impl Line {
     /// The columns of the word in which a double click at a column lies. A word cell is a visible
-    /// one whose text `is_word` accepts. The start is the column of the first cell of the longest
-    /// run of word cells that ends with the last visible cell at the column or before it. The end
-    /// is one past the column at which the last cell begins of the longest run of them that starts
-    /// with the first visible cell at the column or after it: of a wide cell at the end of a word
-    /// it leaves out the second column.
+    /// one whose text `is_word` accepts.
+    ///
+    /// - The start is the column of the first cell of the longest run of word cells that ends with
+    ///   the last visible cell at the column or before it.
+    /// - The end is one past the column at which the last cell begins of the longest run of them
+    ///   that starts with the first visible cell at the column or after it: of a wide cell at the
+    ///   end of a word it leaves out the second column.
+    /// - Where the run on a side has no cell, its start or end is the column itself, and so are
+    ///   both where the column lies behind the line.
+    ///
     /// ```text
     /// |foo bar|  at column 1:  0..3      at column 3, the space:  3..3      at column 5:  4..7
     /// ```
-    /// Where the run on a side has no cell, its start or end is the column itself, and so are both
-    /// where the column lies behind the line. It takes no memory.
+    /// It takes no memory.
     pub fn compute_double_click_range<F: Fn(&str) -> bool>(
         &self,
         click_col: usize,
         is_word: F,
     ) -> DoubleClickRange
         requires { F.IsAlwaysCallable is_word }
-        ensures outside { length self.now.cells ≤ click_col → (lower_of result ≡ click_col) × (upper_of result ≡ click_col) × (goes_on result ≡ false) }
-        ensures around { click_col < length self.now.cells → (lower_of result ≤ click_col) × (click_col ≤ upper_of result) × (upper_of result ≤ length self.now.cells) }
+        ensures outside { length self.now.cells ≤ click_col → (lower_of result ≡ click_col)
+            × (upper_of result ≡ click_col) × (goes_on result ≡ false) }
+        ensures around { click_col < length self.now.cells → (lower_of result ≤ click_col)
+            × (click_col ≤ upper_of result) × (upper_of result ≤ length self.now.cells) }
         // For a predicate that answers the same for the same text.
-        ensures upper { click_col < length self.now.cells → (word : List ℕ → Bool) → AnswersAs (FnReturnsAt F.Fn is_word) word → IsUpper word (visible self.now.cells) click_col (upper_of result) }
-        ensures lower { click_col < length self.now.cells → (word : List ℕ → Bool) → AnswersAs (FnReturnsAt F.Fn is_word) word → IsLower word (visible self.now.cells) click_col (lower_of result) }
-        ensures wraps { click_col < length self.now.cells → (IsTrue (goes_on result) ↔ ((lower_of result < upper_of result) × (length self.now.cells ≤ upper_of result) × IsTrue (last_is_wrapped (visible self.now.cells)))) }
+        ensures upper { click_col < length self.now.cells → (word : List ℕ → Bool) →
+            AnswersAs (FnReturnsAt F.Fn is_word) word →
+            IsUpper word (visible self.now.cells) click_col (upper_of result) }
+        ensures lower { click_col < length self.now.cells → (word : List ℕ → Bool) →
+            AnswersAs (FnReturnsAt F.Fn is_word) word →
+            IsLower word (visible self.now.cells) click_col (lower_of result) }
+        ensures wraps { click_col < length self.now.cells →
+            (IsTrue (goes_on result)
+            ↔ ((lower_of result < upper_of result) × (length self.now.cells ≤ upper_of result)
+            × IsTrue (last_is_wrapped (visible self.now.cells)))) }
     {
         let len = self.len();
         if click_col >= len {
@@ -63,7 +77,8 @@ impl Line {
 // Whether the predicate says of the cell that it belongs to a word.
 fn is_in_word<F: Fn(&str) -> bool>(cell: CellRef<'_>, is_word: &F) -> bool
     requires { F.IsAlwaysCallable is_word.now }
-    ensures { (word : List ℕ → Bool) → AnswersAs (FnReturnsAt F.Fn is_word.now) word → result ≡ word (ref_cell cell.entry).text }
+    ensures { (word : List ℕ → Bool) → AnswersAs (FnReturnsAt F.Fn is_word.now) word →
+        result ≡ word (ref_cell cell.entry).text }
 {
     is_word(cell.str())
 }
@@ -80,7 +95,8 @@ fn upper_end<F: Fn(&str) -> bool>(
     requires click { click < len }
     ensures at_least { click ≤ result }
     ensures at_most { result ≤ len }
-    ensures agreed { (word : List ℕ → Bool) → AnswersAs (FnReturnsAt F.Fn is_word.now) word → IsUpper word (cells_left cells.entry) click result }
+    ensures agreed { (word : List ℕ → Bool) → AnswersAs (FnReturnsAt F.Fn is_word.now) word →
+        IsUpper word (cells_left cells.entry) click result }
 {
     let mut upper = click;
     for cell in cells {
@@ -99,7 +115,8 @@ fn upper_end<F: Fn(&str) -> bool>(
 fn lower_end<F: Fn(&str) -> bool>(cells: VisibleCellIter<'_>, click: usize, is_word: &F) -> usize
     requires callable { F.IsAlwaysCallable is_word.now }
     ensures at_most { result ≤ click }
-    ensures agreed { (word : List ℕ → Bool) → AnswersAs (FnReturnsAt F.Fn is_word.now) word → IsLower word (cells_left cells.entry) click result }
+    ensures agreed { (word : List ℕ → Bool) → AnswersAs (FnReturnsAt F.Fn is_word.now) word →
+        IsLower word (cells_left cells.entry) click result }
 {
     let mut start = None;
     for cell in cells {

@@ -1,17 +1,21 @@
 //! Edits of a line's cells.
-ghost use Rattle.std.specs.Prelude.{◌≡◌, ◌<◌, ◌≤◌, ◌-◌, ◌↔◌, ◌++◌, [], true, false, max, take, drop, replicate, IsTrue, IsOk, IfOk, OnOk, OnErr, length};
+ghost use Rattle.std.specs.Prelude.{◌≡◌, ◌<◌, ◌≤◌, ◌-◌, ◌↔◌, ◌++◌, [], true, false, max, take};
+ghost use Rattle.std.specs.Prelude.{drop, replicate, IsTrue, IsOk, IfOk, OnOk, OnErr, length};
 ghost use Rattle.std.specs.Borrow.{sem};
 ghost use Rattle.std.specs.List.{list_all};
 ghost use Rattle.termwiz_text.specs.Plain.{is_plain};
 ghost use Rattle.termwiz_cell.specs.Attributes.{needs_box};
 ghost use Rattle.termwiz_cell.specs.CellValue.{blank, blank_of, cell_of};
 ghost use Rattle.termwiz_storage.specs.Stored.{set_cell, set_run, visible};
-ghost use Rattle.termwiz_storage.specs.Edits.{columns_between, erased, erased_within, inserted, removed, with_halves};
-ghost use Rattle.termwiz_line.specs.Filled.{AppendsCells, Fills, IsFilled, IsPartlyFilled, MakesVector};
+ghost use Rattle.termwiz_storage.specs.Edits.{columns_between, erased, erased_within, inserted};
+ghost use Rattle.termwiz_storage.specs.Edits.{removed, with_halves};
+ghost use Rattle.termwiz_line.specs.Filled.{AppendsCells, Fills, IsFilled, IsPartlyFilled};
+ghost use Rattle.termwiz_line.specs.Filled.{MakesVector};
 ghost use Rattle.termwiz_line.specs.Lending.{LendsLine};
 ghost use Rattle.termwiz_line.specs.LineEdits.{HasCells, IsEditedAt, IsTakenFrom};
 ghost use Rattle.termwiz_line.specs.LineFlags.{no_flags};
-ghost use Rattle.termwiz_line.specs.LineValue.{AppendsAt, EditsElsewhere, IsEdited, IsUnchanged, Prunes};
+ghost use Rattle.termwiz_line.specs.LineValue.{AppendsAt, EditsElsewhere, IsEdited, IsUnchanged};
+ghost use Rattle.termwiz_line.specs.LineValue.{Prunes};
 
 use crate::line::line::Line;
 use crate::line::line::zones::drop_zones;
@@ -31,7 +35,13 @@ impl Line {
         seqno: SequenceNo,
         blank_attr: CellAttributes,
     ) -> Result<(), AllocError>
-        ensures ok { OnOk result (self.new ≡ record { cells = replicate width (blank_of blank_attr); seqno = max self.old.seqno seqno; flags = no_flags; is_vector = true }) }
+        ensures ok { OnOk result (
+            self.new ≡ record {
+              cells = replicate width (blank_of blank_attr);
+              seqno = max self.old.seqno seqno;
+              flags = no_flags;
+              is_vector = true;
+            }) }
         ensures err { OnErr result (IsUnchanged self.old self.new) }
     {
         drop_zones(&mut self.zones);
@@ -42,12 +52,15 @@ impl Line {
     }
 
     /// Sets the cell at a column. The line is padded with default blanks up to it, a wide cell that
-    /// is cut leaves a blank with its attributes, and the half of a wide cell follows it.
-    /// At the end of a line that stores its cells as one text it is appended to the text.
-    /// The line takes the number. On an error, which also comes where the cell would end past the
-    /// greatest `usize`, number, flags and cells are as before.
+    /// is cut leaves a blank with its attributes, and the half of a wide cell follows it. The line
+    /// takes the number.
+    ///
+    /// - At the end of a line that stores its cells as one text it is appended to the text.
+    /// - On an error, which also comes where the cell would end past the greatest `usize`, number,
+    ///   flags and cells are as before.
     pub fn set_cell(&mut self, i: usize, cell: Cell, seqno: SequenceNo) -> Result<(), AllocError>
-        ensures ok { OnOk result (IsEdited self.old (set_cell i cell self.old.cells) seqno self.new) }
+        ensures ok { OnOk result (
+            IsEdited self.old (set_cell i cell self.old.cells) seqno self.new) }
         ensures err { OnErr result (IsUnchanged self.old self.new) }
         ensures appended { OnOk result (AppendsAt i self.old self.new) }
         ensures made { OnOk result (EditsElsewhere i self.old self.new) }
@@ -71,7 +84,9 @@ impl Line {
         seqno: SequenceNo,
     ) -> Result<(), AllocError>
         requires { width ≤ 2 }
-        ensures ok { OnOk result (IsEdited self.old (set_cell i (cell_of text.now width attrs) self.old.cells) seqno self.new) }
+        ensures ok { OnOk result (
+            IsEdited self.old (set_cell i (cell_of text.now width attrs) self.old.cells) seqno
+            self.new) }
         ensures err { OnErr result (IsUnchanged self.old self.new) }
         ensures appended { OnOk result (AppendsAt i self.old self.new) }
         ensures made { OnOk result (EditsElsewhere i self.old self.new) }
@@ -92,7 +107,8 @@ impl Line {
         width: usize,
         seqno: SequenceNo,
     ) -> Result<(), AllocError>
-        ensures ok { OnOk result (IsEdited self.old (take width (set_cell i cell self.old.cells)) seqno self.new) }
+        ensures ok { OnOk result (
+            IsEdited self.old (take width (set_cell i cell self.old.cells)) seqno self.new) }
         ensures err { OnErr result (IsUnchanged self.old self.new) }
         ensures made { OnOk result (self.new.is_vector ≡ true) }
     {
@@ -115,7 +131,8 @@ impl Line {
     ) -> Result<(), AllocError>
         requires plain { list_all is_plain run.now ≡ true }
         requires unboxed { needs_box attrs.now ≡ false }
-        ensures ok { OnOk result (IsEdited self.old (set_run i run.now attrs.now self.old.cells) seqno self.new) }
+        ensures ok { OnOk result (
+            IsEdited self.old (set_run i run.now attrs.now self.old.cells) seqno self.new) }
         ensures err { OnErr result (IsUnchanged self.old self.new) }
         ensures made { OnOk result (self.new.is_vector ≡ true) }
     {
@@ -188,10 +205,12 @@ impl Line {
     }
 
     /// Sets the cell in each of the columns, in order, as `set_cell` does, and then prunes as
-    /// `prune_trailing_blanks` does. So of a wide cell the last one stays, and each before it
-    /// leaves its half. An empty line stays as it is where the cell is a default blank.
-    /// The line takes the number with the first cell that is set, and where pruning changes it. On
-    /// an error the cell was set in some first columns, and nothing was pruned.
+    /// `prune_trailing_blanks` does. The line takes the number with the first cell that is set, and
+    /// where pruning changes it.
+    ///
+    /// - Of a wide cell the last one stays, and each before it leaves its half.
+    /// - An empty line stays as it is where the cell is a default blank.
+    /// - On an error the cell was set in some first columns, and nothing was pruned.
     pub fn fill_range(
         &mut self,
         range: Range<usize>,
@@ -199,8 +218,10 @@ impl Line {
         seqno: SequenceNo,
     ) -> Result<(), AllocError>
         ensures ok { OnOk result (IsFilled self.old range.start range.end cell.now seqno self.new) }
-        ensures err { OnErr result (IsPartlyFilled self.old range.start range.end cell.now seqno self.new) }
-        ensures appended { OnOk result (AppendsCells self.old range.start range.end cell.now self.new) }
+        ensures err { OnErr result (
+            IsPartlyFilled self.old range.start range.end cell.now seqno self.new) }
+        ensures appended { OnOk result (
+            AppendsCells self.old range.start range.end cell.now self.new) }
         ensures made { OnOk result (MakesVector self.old range.start range.end cell.now self.new) }
     {
         if self.stays_empty(cell) {
@@ -212,14 +233,15 @@ impl Line {
 
     /// Inserts a cell at a column, and its half behind a wide one, which moves the cells from there
     /// on. First the last cell before the margin is removed, where there is one, and then a line
-    /// that is too short is padded with default blanks.
-    /// A margin is the column behind the last one that it holds, so it is at least 1. A wide cell
-    /// that this cuts stays as it is.
+    /// that is too short is padded with default blanks. The line takes the number.
+    ///
     /// ```text
     /// |abcd|  X at 1, margin 4:  |aXbc|      X at 1, margin 3:  |aXbd|
     /// ```
-    /// The line takes the number. On an error, which also comes where the cell would end past the
-    /// greatest `usize`, number, flags and cells are as before.
+    /// - A margin is the column behind the last one that it holds, so it is at least 1.
+    /// - A wide cell that this cuts stays as it is.
+    /// - On an error, which also comes where the cell would end past the greatest `usize`, number,
+    ///   flags and cells are as before.
     pub fn insert_cell(
         &mut self,
         x: usize,
@@ -228,7 +250,8 @@ impl Line {
         seqno: SequenceNo,
     ) -> Result<(), AllocError>
         requires { 1 ≤ right_margin }
-        ensures ok { OnOk result (IsEdited self.old (inserted x cell right_margin self.old.cells) seqno self.new) }
+        ensures ok { OnOk result (
+            IsEdited self.old (inserted x cell right_margin self.old.cells) seqno self.new) }
         ensures err { OnErr result (IsUnchanged self.old self.new) }
         ensures made { OnOk result (self.new.is_vector ≡ true) }
     {
@@ -238,11 +261,12 @@ impl Line {
         Ok(())
     }
 
-    /// Removes the cell at a column, which moves those behind it, and appends a default blank. A
-    /// wide cell before it that this cuts becomes a blank with its attributes. Past the end of the
-    /// line nothing changes.
-    /// The line takes the number where it changes. A vector takes no memory. On an error number,
-    /// flags and cells are as before.
+    /// Removes the cell at a column, which moves those behind it, and appends a default blank. The
+    /// line takes the number where it changes.
+    ///
+    /// - A wide cell before it that this cuts becomes a blank with its attributes.
+    /// - Past the end of the line nothing changes.
+    /// - A vector takes no memory. On an error number, flags and cells are as before.
     pub fn erase_cell(&mut self, x: usize, seqno: SequenceNo) -> Result<(), AllocError>
         ensures ok { OnOk result (IsEditedAt x self.old (erased x self.old.cells) seqno self.new) }
         ensures err { OnErr result (IsUnchanged self.old self.new) }
@@ -290,7 +314,9 @@ impl Line {
         blank_attr: CellAttributes,
     ) -> Result<(), AllocError>
         requires { 1 ≤ right_margin }
-        ensures ok { OnOk result (IsEdited self.old (erased_within x right_margin blank_attr self.old.cells) seqno self.new) }
+        ensures ok { OnOk result (
+            IsEdited self.old (erased_within x right_margin blank_attr self.old.cells) seqno
+            self.new) }
         ensures err { OnErr result (IsUnchanged self.old self.new) }
         ensures made { OnOk result (self.new.is_vector ≡ true) }
     {
@@ -306,7 +332,8 @@ impl Line {
     /// On an error number, flags and cells are as before.
     pub fn split_off(&mut self, i: usize, seqno: SequenceNo) -> Result<Line, AllocError>
         ensures kept { OnOk result (HasCells self.old (take i self.old.cells) self.new) }
-        ensures rest { IfOk result (λ rest. IsTakenFrom self.old (drop i self.old.cells) seqno rest) }
+        ensures rest { IfOk result (λ rest.
+            IsTakenFrom self.old (drop i self.old.cells) seqno rest) }
         ensures err { OnErr result (IsUnchanged self.old self.new) }
         ensures made { OnOk result (self.new.is_vector ≡ true) }
         ensures rest_vector { IfOk result (λ rest. rest.is_vector ≡ true) }
@@ -321,7 +348,9 @@ impl Line {
     /// Appends the visible cells of another line, the half of each wide one behind it.
     /// The line takes the number. On an error number, flags and cells are as before.
     pub fn append_line(&mut self, other: Line, seqno: SequenceNo) -> Result<(), AllocError>
-        ensures ok { OnOk result (IsEdited self.old (self.old.cells ++ with_halves (visible other.cells)) seqno self.new) }
+        ensures ok { OnOk result (
+            IsEdited self.old (self.old.cells ++ with_halves (visible other.cells)) seqno
+            self.new) }
         ensures err { OnErr result (IsUnchanged self.old self.new) }
         ensures made { OnOk result (self.new.is_vector ≡ true) }
     {
@@ -334,7 +363,13 @@ impl Line {
     /// A line of the visible cells that begin in these columns, the half of each wide one behind
     /// it. It has this line's number, and no flags.
     pub fn columns_as_line(&self, range: Range<usize>) -> Result<Line, AllocError>
-        ensures { IfOk result (λ line. line ≡ record { cells = columns_between range.start range.end self.now.cells; seqno = self.now.seqno; flags = no_flags; is_vector = true }) }
+        ensures { IfOk result (λ line.
+            line ≡ record {
+              cells = columns_between range.start range.end self.now.cells;
+              seqno = self.now.seqno;
+              flags = no_flags;
+              is_vector = true;
+            }) }
     {
         let storage = self.storage.columns(range.start, range.end)?;
         Ok(Line::of(self.alloc, storage, self.seqno))

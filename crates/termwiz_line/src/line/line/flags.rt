@@ -35,7 +35,9 @@ impl Line {
 
     /// Whether cells are shown in their own size, neither twice as wide nor as a half of two rows.
     pub fn is_single_width(&self) -> bool
-        ensures { result ≡ not (self.now.flags.double_width || self.now.flags.double_height_top || self.now.flags.double_height_bottom) }
+        ensures { result
+            ≡ not (self.now.flags.double_width || self.now.flags.double_height_top ||
+            self.now.flags.double_height_bottom) }
     {
         !(self.bits.contains(LineBits::DOUBLE_WIDTH)
             || self.bits.contains(LineBits::DOUBLE_HEIGHT_TOP)
@@ -44,7 +46,11 @@ impl Line {
 
     /// Shows cells in their own size. The line takes the number.
     pub fn set_single_width(&mut self, seqno: SequenceNo)
-        ensures { self.new ≡ record self.old { flags = with_sizes false false false self.old.flags; seqno = max self.old.seqno seqno } }
+        ensures { self.new
+            ≡ record self.old {
+              flags = with_sizes false false false self.old.flags;
+              seqno = max self.old.seqno seqno;
+            } }
     {
         self.bits.set_sizes(false, false, false);
         self.seqno = self.seqno.max(seqno);
@@ -52,7 +58,9 @@ impl Line {
 
     /// Whether each cell is shown twice as wide, and one row high.
     pub fn is_double_width(&self) -> bool
-        ensures { result ≡ (self.now.flags.double_width && not self.now.flags.double_height_top && not self.now.flags.double_height_bottom) }
+        ensures { result
+            ≡ (self.now.flags.double_width && not self.now.flags.double_height_top
+            && not self.now.flags.double_height_bottom) }
     {
         self.bits.contains(LineBits::DOUBLE_WIDTH)
             && !self.bits.contains(LineBits::DOUBLE_HEIGHT_TOP)
@@ -61,7 +69,11 @@ impl Line {
 
     /// Shows each cell twice as wide, and one row high. The line takes the number.
     pub fn set_double_width(&mut self, seqno: SequenceNo)
-        ensures { self.new ≡ record self.old { flags = with_sizes true false false self.old.flags; seqno = max self.old.seqno seqno } }
+        ensures { self.new
+            ≡ record self.old {
+              flags = with_sizes true false false self.old.flags;
+              seqno = max self.old.seqno seqno;
+            } }
     {
         self.bits.set_sizes(true, false, false);
         self.seqno = self.seqno.max(seqno);
@@ -69,7 +81,9 @@ impl Line {
 
     /// Whether the line shows the upper half of cells that are twice as wide and two rows high.
     pub fn is_double_height_top(&self) -> bool
-        ensures { result ≡ (self.now.flags.double_width && self.now.flags.double_height_top && not self.now.flags.double_height_bottom) }
+        ensures { result
+            ≡ (self.now.flags.double_width && self.now.flags.double_height_top
+            && not self.now.flags.double_height_bottom) }
     {
         self.bits.contains(LineBits::DOUBLE_WIDTH)
             && self.bits.contains(LineBits::DOUBLE_HEIGHT_TOP)
@@ -79,7 +93,11 @@ impl Line {
     /// Shows the upper half of cells that are twice as wide and two rows high. The line takes the
     /// number.
     pub fn set_double_height_top(&mut self, seqno: SequenceNo)
-        ensures { self.new ≡ record self.old { flags = with_sizes true true false self.old.flags; seqno = max self.old.seqno seqno } }
+        ensures { self.new
+            ≡ record self.old {
+              flags = with_sizes true true false self.old.flags;
+              seqno = max self.old.seqno seqno;
+            } }
     {
         self.bits.set_sizes(true, true, false);
         self.seqno = self.seqno.max(seqno);
@@ -87,7 +105,9 @@ impl Line {
 
     /// Whether the line shows the lower half of cells that are twice as wide and two rows high.
     pub fn is_double_height_bottom(&self) -> bool
-        ensures { result ≡ (self.now.flags.double_width && not self.now.flags.double_height_top && self.now.flags.double_height_bottom) }
+        ensures { result
+            ≡ (self.now.flags.double_width && not self.now.flags.double_height_top
+            && self.now.flags.double_height_bottom) }
     {
         self.bits.contains(LineBits::DOUBLE_WIDTH)
             && !self.bits.contains(LineBits::DOUBLE_HEIGHT_TOP)
@@ -97,7 +117,11 @@ impl Line {
     /// Shows the lower half of cells that are twice as wide and two rows high. The line takes the
     /// number.
     pub fn set_double_height_bottom(&mut self, seqno: SequenceNo)
-        ensures { self.new ≡ record self.old { flags = with_sizes true false true self.old.flags; seqno = max self.old.seqno seqno } }
+        ensures { self.new
+            ≡ record self.old {
+              flags = with_sizes true false true self.old.flags;
+              seqno = max self.old.seqno seqno;
+            } }
     {
         self.bits.set_sizes(true, false, true);
         self.seqno = self.seqno.max(seqno);
@@ -106,7 +130,11 @@ impl Line {
     /// Says whether whoever shows the line may lay out its text by the bidirectional algorithm. The
     /// line takes the number.
     pub fn set_bidi_enabled(&mut self, enabled: bool, seqno: SequenceNo)
-        ensures { self.new ≡ record self.old { flags = record self.old.flags { bidi_enabled = enabled }; seqno = max self.old.seqno seqno } }
+        ensures { self.new
+            ≡ record self.old {
+              flags = record self.old.flags { bidi_enabled = enabled };
+              seqno = max self.old.seqno seqno;
+            } }
     {
         self.bits.set_bidi_enabled(enabled);
         self.seqno = self.seqno.max(seqno);
@@ -115,7 +143,12 @@ impl Line {
     /// Sets the direction of the text, and whether the text itself is asked first. The line takes
     /// the number.
     pub fn set_direction(&mut self, direction: Direction, auto_detect: bool, seqno: SequenceNo)
-        ensures { self.new ≡ record self.old { flags = with_direction (goes_left direction) auto_detect self.old.flags; seqno = max self.old.seqno seqno } }
+        ensures { self.new
+            ≡ record self.old {
+              flags = with_direction
+                  (goes_left direction) auto_detect self.old.flags;
+              seqno = max self.old.seqno seqno;
+            } }
     {
         self.bits
             .set_direction(direction == Direction::RightToLeft, auto_detect);
@@ -130,7 +163,12 @@ impl Line {
         direction: ParagraphDirectionHint,
         seqno: SequenceNo,
     )
-        ensures { self.new ≡ record self.old { flags = with_direction (is_right_to_left direction) (is_auto direction) (record self.old.flags { bidi_enabled = enabled }); seqno = max self.old.seqno seqno } }
+        ensures { self.new
+            ≡ record self.old {
+              flags = with_direction (is_right_to_left direction)
+                  (is_auto direction) (record self.old.flags { bidi_enabled = enabled });
+              seqno = max self.old.seqno seqno;
+            } }
     {
         self.bits.set_bidi_enabled(enabled);
         self.bits

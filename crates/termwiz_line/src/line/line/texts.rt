@@ -1,5 +1,6 @@
 //! Lines of texts, and the texts of a line.
-ghost use Rattle.std.specs.Prelude.{◌≡◌, ◌≢◌, ◌+◌, ◌↔◌, ◌++◌, [], false, true, IfOk, IfSome, IsTrue, OnErr, OnOk, option_map, string_bytes, IsOkAnd};
+ghost use Rattle.std.specs.Prelude.{◌≡◌, ◌≢◌, ◌+◌, ◌↔◌, ◌++◌, [], false, true, IfOk, IfSome};
+ghost use Rattle.std.specs.Prelude.{IsTrue, OnErr, OnOk, option_map, string_bytes, IsOkAnd};
 ghost use Rattle.std.specs.Cow.{cow_str_bytes, IsBorrowedStr};
 ghost use Rattle.std.specs.List.{All, list_any};
 ghost use Rattle.termwiz_cell.specs.Attributes.{default_attributes};
@@ -11,7 +12,9 @@ ghost use Rattle.termwiz_storage.specs.Stored.{cell_at, is_linked, visible};
 ghost use Rattle.termwiz_line.specs.LineEdits.{IsMade};
 ghost use Rattle.termwiz_line.specs.LineFlags.{no_flags};
 ghost use Rattle.termwiz_line.specs.LineValue.{AppendsAt, EditsElsewhere};
-ghost use Rattle.termwiz_line.specs.Texts.{IsPartlyOverlaid, Overlays, cells_of_text, placed, stored_text, text_within, texts_of, texts_between, wrapped_text};
+ghost use Rattle.termwiz_line.specs.Texts.{IsPartlyOverlaid, Overlays, cells_of_text, placed};
+ghost use Rattle.termwiz_line.specs.Texts.{stored_text, text_within, texts_of, texts_between};
+ghost use Rattle.termwiz_line.specs.Texts.{wrapped_text};
 
 use super::Line;
 use std::alloc::{AllocError, Global};
@@ -35,7 +38,14 @@ impl Line {
         version: Option<UnicodeVersion>,
         widths: &W,
     ) -> Result<Line, AllocError>
-        ensures { IfOk result (λ line. line ≡ record { cells = stored_text (at_version (W.width_of widths.now) version) attrs.now text.now; seqno = seqno; flags = no_flags; is_vector = true }) }
+        ensures { IfOk result (λ line.
+            line ≡ record {
+              cells = stored_text (at_version (W.width_of widths.now) version)
+                  attrs.now text.now;
+              seqno = seqno;
+              flags = no_flags;
+              is_vector = true;
+            }) }
     {
         let mut cells = Vec::new(alloc);
         push_text(&mut cells, alloc, text, attrs, version, widths)?;
@@ -44,7 +54,14 @@ impl Line {
 
     /// A line of a text in default attributes, measured without a version, with the number 0.
     pub fn from_plain<W: Widths>(alloc: Global, text: &str, widths: &W) -> Result<Line, AllocError>
-        ensures { IfOk result (λ line. line ≡ record { cells = stored_text (unversioned (W.width_of widths.now)) default_attributes text.now; seqno = 0; flags = no_flags; is_vector = true }) }
+        ensures { IfOk result (λ line.
+            line ≡ record {
+              cells = stored_text (unversioned (W.width_of widths.now))
+                  default_attributes text.now;
+              seqno = 0;
+              flags = no_flags;
+              is_vector = true;
+            }) }
     {
         Line::from_text(
             alloc,
@@ -65,7 +82,8 @@ impl Line {
         seqno: SequenceNo,
         widths: &W,
     ) -> Result<Line, AllocError>
-        ensures { IfOk result (IsMade (wrapped_text (unversioned (W.width_of widths.now)) attrs.now text.now) seqno) }
+        ensures { IfOk result (
+            IsMade (wrapped_text (unversioned (W.width_of widths.now)) attrs.now text.now) seqno) }
     {
         let mut line = Line::from_text(alloc, text, attrs, seqno, None, widths)?;
         if line.len() > 0 {
@@ -90,8 +108,12 @@ impl Line {
         seqno: SequenceNo,
         widths: &W,
     ) -> Result<(), AllocError>
-        ensures ok { OnOk result (Overlays self.old (placed start (cells_of_text (unversioned (W.width_of widths.now)) attr.now text.now)) seqno self.new) }
-        ensures err { OnErr result (IsPartlyOverlaid self.old (placed start (cells_of_text (unversioned (W.width_of widths.now)) attr.now text.now)) seqno self.new) }
+        ensures ok { OnOk result (
+            Overlays self.old (placed start (cells_of_text
+            (unversioned (W.width_of widths.now)) attr.now text.now)) seqno self.new) }
+        ensures err { OnErr result (
+            IsPartlyOverlaid self.old (placed start (cells_of_text
+            (unversioned (W.width_of widths.now)) attr.now text.now)) seqno self.new) }
         ensures appended { OnOk result (AppendsAt start self.old self.new) }
         ensures made { text.now ≢ [] → OnOk result (EditsElsewhere start self.old self.new) }
     {
@@ -108,7 +130,8 @@ impl Line {
     /// The texts of the visible cells, one after another. A line that stores them as one text lends
     /// it, which takes no memory.
     pub fn as_str(&self) -> Result<CowStr<'_>, AllocError>
-        ensures text { IfOk result (λ text. cow_str_bytes text ≡ texts_of (visible self.now.cells)) }
+        ensures text { IfOk result (λ text.
+            cow_str_bytes text ≡ texts_of (visible self.now.cells)) }
         ensures lent { self.now.is_vector ≡ false → IsOkAnd result IsBorrowedStr }
     {
         if let Some(text) = self.storage.text() {
@@ -120,7 +143,8 @@ impl Line {
 
     /// The texts of the visible cells that begin in these columns, one after another.
     pub fn columns_as_str(&self, range: Range<usize>) -> Result<String, AllocError>
-        ensures { IfOk result (λ text. string_bytes text ≡ texts_between range.start range.end (visible self.now.cells)) }
+        ensures { IfOk result (λ text.
+            string_bytes text ≡ texts_between range.start range.end (visible self.now.cells)) }
     {
         let mut text = String::new(self.alloc);
         for cell in self.visible_cells() {
@@ -167,7 +191,8 @@ fn measured_cell<W: Widths>(
     version: Option<UnicodeVersion>,
     widths: &W,
 ) -> Result<Cell, AllocError>
-    ensures { IfOk result (λ cell. cell ≡ measured (at_version (W.width_of widths.now) version) grapheme.now attrs.now) }
+    ensures { IfOk result (λ cell.
+        cell ≡ measured (at_version (W.width_of widths.now) version) grapheme.now attrs.now) }
 {
     let attrs = attrs.clone()?;
     Cell::new_grapheme(alloc, widths, grapheme, attrs, version)
@@ -189,7 +214,9 @@ fn push_text<W: Widths>(
     version: Option<UnicodeVersion>,
     widths: &W,
 ) -> Result<(), AllocError>
-    ensures { OnOk result (cells.new.items ≡ cells.old.items ++ stored_text (at_version (W.width_of widths.now) version) attrs.now text.now) }
+    ensures { OnOk result (
+        cells.new.items ≡ cells.old.items
+        ++ stored_text (at_version (W.width_of widths.now) version) attrs.now text.now) }
 {
     for grapheme in Graphemes::new(text) {
         let cell = measured_cell(alloc, grapheme, attrs, version, widths)?;
@@ -216,7 +243,9 @@ fn push_within(
     from: usize,
     to: usize,
 ) -> Result<(), AllocError>
-    ensures { OnOk result (string_bytes text.new ≡ string_bytes text.old ++ text_within from to (indexed_cell cell.entry)) }
+    ensures { OnOk result (
+        string_bytes text.new
+        ≡ string_bytes text.old ++ text_within from to (indexed_cell cell.entry)) }
 {
     let index = cell.cell_index();
     if from <= index && index < to {

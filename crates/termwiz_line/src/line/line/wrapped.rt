@@ -19,7 +19,8 @@ impl Line {
         wrapped: bool,
         seqno: SequenceNo,
     ) -> Result<(), AllocError>
-        ensures ok { OnOk result (IsEdited self.old (set_last_wrapped wrapped self.old.cells) seqno self.new) }
+        ensures ok { OnOk result (
+            IsEdited self.old (set_last_wrapped wrapped self.old.cells) seqno self.new) }
         ensures marked { OnOk result (last_is_wrapped (visible self.new.cells) ≡ wrapped) }
         ensures err { OnErr result (IsUnchanged self.old self.new) }
         ensures succeeds { self.old.is_vector ≡ true → 0 < length self.old.cells → IsOk result }

@@ -1,5 +1,6 @@
 //! A line that is cut into lines of a width.
-ghost use Rattle.std.specs.Prelude.{◌≡◌, [], ◌+◌, ◌<◌, ◌≤◌, ◌^◌, ◌∷◌, ◌++◌, ◌↔◌, IsTrue, IfOk, OnOk, length, take, true};
+ghost use Rattle.std.specs.Prelude.{◌≡◌, [], ◌+◌, ◌<◌, ◌≤◌, ◌^◌, ◌∷◌, ◌++◌, ◌↔◌, IsTrue, IfOk};
+ghost use Rattle.std.specs.Prelude.{OnOk, length, take, true};
 ghost use Rattle.termwiz_cell.specs.CellValue.{half, space};
 ghost use Rattle.termwiz_storage.specs.CellRef.{indexed_cell, ref_cell};
 ghost use Rattle.termwiz_storage.specs.CellsLeft.{cells_left, IsOfCell};
@@ -16,15 +17,17 @@ use termwiz_storage::line::cellref::{CellRef, VisibleCellIter};
 use termwiz_storage::line::vecstorage::push_with_half;
 
 impl Line {
-    /// Cuts the line into lines of at most this many columns, which have the number and no flags. A
-    /// line takes as many cells as fit, and one at least, so a wide cell has a line of 2 columns
-    /// where the width is less; the half of a wide cell follows it. The cells behind the last one
-    /// that isn't a space are dropped, and each line but the last is marked as wrapped.
+    /// Cuts the line into lines of at most this many columns, which have the number and no flags.
+    /// The cells behind the last one that isn't a space are dropped, and each line but the last is
+    /// marked as wrapped.
+    ///
     /// ```text
     /// |aかb |  at 2 columns:  |a|  |か|  |b|
     /// ```
-    /// A line of spaces alone, or of no cells, comes back as it is. On an error the line is
-    /// dropped.
+    /// - A line takes as many cells as fit, and one at least, so a wide cell has a line of 2
+    ///   columns where the width is less; the half of a wide cell follows it.
+    /// - A line of spaces alone, or of no cells, comes back as it is.
+    /// - On an error the line is dropped.
     pub fn wrap(self, width: usize, seqno: SequenceNo) -> Result<Vec<Line>, AllocError>
         ensures ok { IfOk result (λ lines. IsWrapped width seqno self lines.items) }
         ensures fits { 2 ≤ width → IfOk result (λ lines. FitsWidth width self lines.items) }
@@ -71,7 +74,9 @@ fn lines_from<'a>(
     seqno: SequenceNo,
 ) -> Result<Vec<Line>, AllocError>
     requires { IsOfCell first }
-    ensures { IfOk result (λ lines. AreLinesOf width seqno (indexed_cell first.entry ∷ take count (cells_left rest.entry)) lines.items) }
+    ensures { IfOk result (λ lines.
+        AreLinesOf width seqno (indexed_cell first.entry ∷ take count (cells_left rest.entry))
+        lines.items) }
 {
     let mut lines = Vec::new(alloc);
     let mut line = Vec::new(alloc);
@@ -118,7 +123,8 @@ fn push_copy(line: &mut Vec<Cell>, alloc: Global, cell: CellRef<'_>) -> Result<(
 // Stores a copy of a cell that is marked as wrapped, a wide one with its half.
 fn push_marked(line: &mut Vec<Cell>, alloc: Global, cell: CellRef<'_>) -> Result<(), AllocError>
     requires { IsOfCell cell }
-    ensures { OnOk result (line.new.items ≡ line.old.items ++ with_half (with_wrapped true (ref_cell cell.entry))) }
+    ensures { OnOk result (
+        line.new.items ≡ line.old.items ++ with_half (with_wrapped true (ref_cell cell.entry))) }
 {
     let mut copy = cell.to_cell(alloc)?;
     mark(copy.attrs_mut());

@@ -94,7 +94,8 @@ fn zones_from(
     rest: VisibleCellIter<'_>,
     count: usize,
 ) -> Result<Vec<ZoneRange>, AllocError>
-    ensures { IfOk result (λ zones. AreZonesOf (indexed_cell first.entry ∷ take count (cells_left rest.entry)) zones.items) }
+    ensures { IfOk result (λ zones.
+        AreZonesOf (indexed_cell first.entry ∷ take count (cells_left rest.entry)) zones.items) }
 {
     let mut zones = Vec::new(alloc);
     let mut zone = zone_at(first);

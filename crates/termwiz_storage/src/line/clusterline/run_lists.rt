@@ -1,4 +1,4 @@
-//! Lists of runs: a cell more, how many there are, a look at one, and a walk over all.
+//! Lists of runs: more cells, how many there are, a look at one, and a walk over all.
 ghost use Rattle.std.specs.Prelude.{◌≡◌, ◌<◌, ◌≤◌, ◌+◌, ◌^◌, ◌++◌, ◌∷◌, []};
 ghost use Rattle.std.specs.Prelude.{IfOk, MatchOption, OnErr, OnOk, length, replicate};
 ghost use Rattle.std.specs.Prelude.{vec_capacity, vec_len};
@@ -48,7 +48,13 @@ pub(super) fn push_shape(runs: &mut Vec<ShapeRun>, shape: Shape, cells: u16)
 }
 
 fn run_of(shape: Shape, cells: u16) -> ShapeRun
-    ensures { result ≡ record { bytes = shape.bytes; one_char = shape.one_char; wide = shape.wide; cells = cells } }
+    ensures { result
+        ≡ record {
+          bytes = shape.bytes;
+          one_char = shape.one_char;
+          wide = shape.wide;
+          cells = cells;
+        } }
 {
     ShapeRun {
         bytes: shape.bytes,
@@ -95,7 +101,8 @@ fn push_run(runs: &mut Vec<AttrsRun>, attrs: CellAttributes, cells: u16)
 /// error nothing changed.
 pub(super) fn wrap_last(runs: &mut Vec<AttrsRun>, wrapped: bool) -> Result<(), AllocError>
     requires { vec_len runs.old < vec_capacity runs.old }
-    ensures ok { OnOk result (attrs_of runs.new.items ≡ map_last (marked wrapped) (attrs_of runs.old.items)) }
+    ensures ok { OnOk result (
+        attrs_of runs.new.items ≡ map_last (marked wrapped) (attrs_of runs.old.items)) }
     ensures err { OnErr result (runs.new.items ≡ runs.old.items) }
 {
     let count = runs.len();
@@ -192,7 +199,8 @@ impl<'a> ShapeIter<'a> {
     }
 
     pub(super) fn next(&mut self) -> Option<Shape>
-        ensures { MatchOption result ((self.old ≡ []) × (self.new ≡ [])) (λ s. self.old ≡ s ∷ self.new) }
+        ensures { MatchOption result ((self.old ≡ [])
+            × (self.new ≡ [])) (λ s. self.old ≡ s ∷ self.new) }
     {
         while self.run.cells == 0 {
             self.run = *self.rest.next()?;
@@ -218,7 +226,7 @@ impl<'a> Model for AttrsIter<'a> {
     ghost use Rattle.std.specs.Prelude.{List, ◌≡◌, ◌++◌, None};
     ghost use Rattle.std.specs.Slice.Iter.{iter_rest};
     ghost use Rattle.termwiz_cell.specs.Attributes.{Attributes};
-    ghost use Rattle.termwiz_storage.specs.CellRuns.{AddsAttrs, attrs_of, same_attrs};
+    ghost use Rattle.termwiz_storage.specs.CellRuns.{attrs_of, same_attrs};
 
     ghost Value = { List Attributes };
 
@@ -239,7 +247,8 @@ impl<'a> AttrsIter<'a> {
     }
 
     pub(super) fn next(&mut self) -> Option<&'a CellAttributes>
-        ensures { MatchOption result ((self.old ≡ []) × (self.new ≡ [])) (λ a. self.old ≡ a.now ∷ self.new) }
+        ensures { MatchOption result ((self.old ≡ [])
+            × (self.new ≡ [])) (λ a. self.old ≡ a.now ∷ self.new) }
     {
         while self.left == 0 {
             let run = self.rest.next()?;

@@ -1,8 +1,10 @@
 //! Edits that move the stored cells.
-ghost use Rattle.std.specs.Prelude.{◌≡◌, ◌≤◌, ◌++◌, true, take, drop, replicate, IsOk, IfOk, OnOk, OnErr};
+ghost use Rattle.std.specs.Prelude.{◌≡◌, ◌≤◌, ◌++◌, true, take, drop, replicate, IsOk, IfOk, OnOk};
+ghost use Rattle.std.specs.Prelude.{OnErr};
 ghost use Rattle.termwiz_cell.specs.CellValue.{blank_of};
 ghost use Rattle.termwiz_storage.specs.Stored.{visible};
-ghost use Rattle.termwiz_storage.specs.Edits.{columns_between, erased, erased_within, inserted, removed, with_halves};
+ghost use Rattle.termwiz_storage.specs.Edits.{columns_between, erased, erased_within, inserted};
+ghost use Rattle.termwiz_storage.specs.Edits.{removed, with_halves};
 ghost use Rattle.termwiz_storage.specs.Storage.{cells_of, is_vector};
 
 use crate::line::storage::{CellStorage, expanded};
@@ -80,7 +82,8 @@ impl CellStorage {
         attrs: CellAttributes,
     ) -> Result<(), AllocError>
         requires { 1 ≤ margin }
-        ensures ok { OnOk result (cells_of self.new ≡ erased_within x margin attrs (cells_of self.old)) }
+        ensures ok { OnOk result (
+            cells_of self.new ≡ erased_within x margin attrs (cells_of self.old)) }
         ensures err { OnErr result (cells_of self.new ≡ cells_of self.old) }
         ensures vector { is_vector self.old ≡ true → is_vector self.new ≡ true }
         ensures made { OnOk result (is_vector self.new ≡ true) }
@@ -92,9 +95,10 @@ impl CellStorage {
     /// Inserts a cell at a column, and behind a wide one its half. First the stored cell in the
     /// last column before a margin of at least 1 is removed, where there is one, and the list is
     /// padded with default blanks up to the column.
-    /// A wide cell that is then stored right before the column stays, so the inserted cell may be
-    /// hidden.
-    /// On an error, which a cell past the greatest column gives too, the cells are as before.
+    ///
+    /// - A wide cell that is then stored right before the column stays, so the inserted cell may be
+    ///   hidden.
+    /// - On an error, which a cell past the greatest column gives too, the cells are as before.
     pub fn insert_cell(&mut self, x: usize, cell: Cell, margin: usize) -> Result<(), AllocError>
         requires { 1 ≤ margin }
         ensures ok { OnOk result (cells_of self.new ≡ inserted x cell margin (cells_of self.old)) }
@@ -123,7 +127,8 @@ impl CellStorage {
     /// Appends the visible cells of another list, the half of each wide one behind it. On an error
     /// the cells are as before.
     pub fn append_visible(&mut self, other: &CellStorage) -> Result<(), AllocError>
-        ensures ok { OnOk result (cells_of self.new ≡ cells_of self.old ++ with_halves (visible (cells_of other.now))) }
+        ensures ok { OnOk result (
+            cells_of self.new ≡ cells_of self.old ++ with_halves (visible (cells_of other.now))) }
         ensures err { OnErr result (cells_of self.new ≡ cells_of self.old) }
         ensures vector { is_vector self.old ≡ true → is_vector self.new ≡ true }
         ensures made { OnOk result (is_vector self.new ≡ true) }
@@ -139,7 +144,8 @@ impl CellStorage {
     /// A vector of the visible cells that begin in the columns from `from` up to `to`, which is not
     /// among them, the half of each wide one behind it.
     pub fn columns(&self, from: usize, to: usize) -> Result<CellStorage, AllocError>
-        ensures cells { IfOk result (λ cells. cells_of cells ≡ columns_between from to (cells_of self.now)) }
+        ensures cells { IfOk result (λ cells.
+            cells_of cells ≡ columns_between from to (cells_of self.now)) }
         ensures vector { IfOk result (λ cells. is_vector cells ≡ true) }
     {
         match self {

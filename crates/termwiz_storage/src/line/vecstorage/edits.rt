@@ -1,9 +1,13 @@
 //! Edits that move stored cells.
-ghost use Rattle.std.specs.Prelude.{◌≡◌, [], ◌∷◌, ◌+◌, ◌<◌, ◌≤◌, ◌-◌, ◌++◌, nat_le, ◌&&◌, not, false, true, length, take, drop, replicate, IfOk, OnOk, OnErr, if◌then◌else◌, vec_capacity, vec_len};
+ghost use Rattle.std.specs.Prelude.{◌≡◌, [], ◌∷◌, ◌+◌, ◌<◌, ◌≤◌, ◌-◌, ◌++◌, nat_le, ◌&&◌, not};
+ghost use Rattle.std.specs.Prelude.{false, true, length, take, drop, replicate, IfOk, OnOk, OnErr};
+ghost use Rattle.std.specs.Prelude.{if◌then◌else◌, vec_capacity, vec_len};
 ghost use Rattle.std.specs.List.{insert, remove};
 ghost use Rattle.termwiz_cell.specs.CellValue.{blank, half, is_wide};
 ghost use Rattle.termwiz_storage.specs.Stored.{padded, visible};
-ghost use Rattle.termwiz_storage.specs.Edits.{columns_between, erased, erased_within, inserted, inserted_at_margin, removed, removed_at_margin, with_half, with_halves};
+ghost use Rattle.termwiz_storage.specs.Edits.{columns_between, erased, erased_within, inserted};
+ghost use Rattle.termwiz_storage.specs.Edits.{inserted_at_margin, removed, removed_at_margin};
+ghost use Rattle.termwiz_storage.specs.Edits.{with_half, with_halves};
 
 use crate::line::vecstorage::{VecStorage, end_of, half_of, pad_cells};
 use std::alloc::{AllocError, Global};
@@ -196,7 +200,8 @@ fn make_gap(
     columns: usize,
 ) -> Result<(), AllocError>
     requires { 1 ≤ margin }
-    ensures ok { OnOk result (cells.new.items ≡ padded x (removed_at_margin margin cells.old.items)) }
+    ensures ok { OnOk result (
+        cells.new.items ≡ padded x (removed_at_margin margin cells.old.items)) }
     ensures room { OnOk result (vec_len cells.new + columns ≤ vec_capacity cells.new) }
     ensures err { OnErr result (cells.new.items ≡ cells.old.items) }
 {
@@ -280,7 +285,8 @@ pub(crate) fn hides_next(cell: &Cell, hidden: bool) -> bool
 
 // Pushes a copy of a cell that is shown, and of its half.
 fn push_where(out: &mut Vec<Cell>, cell: &Cell, shown: bool) -> Result<(), AllocError>
-    ensures { OnOk result (out.new.items ≡ out.old.items ++ (if shown then with_half cell.now else [])) }
+    ensures { OnOk result (
+        out.new.items ≡ out.old.items ++ (if shown then with_half cell.now else [])) }
 {
     if shown {
         push_with_half(out, cell.clone()?)?;

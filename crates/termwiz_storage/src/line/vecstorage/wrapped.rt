@@ -1,9 +1,11 @@
 //! The mark of the last visible cell, behind which the text goes on in the next line.
-ghost use Rattle.std.specs.Prelude.{◌≡◌, ◌<◌, ◌≤◌, IsTrue, OnErr, OnOk, IsOk, length, slice_set, vec_len};
+ghost use Rattle.std.specs.Prelude.{◌≡◌, ◌<◌, ◌≤◌, IsTrue, OnErr, OnOk, IsOk, length, slice_set};
+ghost use Rattle.std.specs.Prelude.{vec_len};
 ghost use Rattle.std.specs.Option.{option_copied};
 ghost use Rattle.termwiz_storage.specs.LastCell.{last_attrs};
 ghost use Rattle.termwiz_storage.specs.Stored.{hides, stored, visible};
-ghost use Rattle.termwiz_storage.specs.Wrapped.{last_index, set_last_wrapped, with_wrapped, wrapped_last};
+ghost use Rattle.termwiz_storage.specs.Wrapped.{last_index, set_last_wrapped, with_wrapped};
+ghost use Rattle.termwiz_storage.specs.Wrapped.{wrapped_last};
 
 use super::VecStorage;
 use std::alloc::AllocError;
@@ -74,7 +76,8 @@ impl VecStorage {
 
 fn put_wrapped(cells: &mut Vec<Cell>, i: usize, wrapped: bool)
     requires { i < vec_len cells.old }
-    ensures { cells.new.items ≡ slice_set cells.old.items i (with_wrapped wrapped (stored cells.old.items i)) }
+    ensures { cells.new.items
+        ≡ slice_set cells.old.items i (with_wrapped wrapped (stored cells.old.items i)) }
 {
     set_wrapped(cells[i].attrs_mut(), wrapped);
 }

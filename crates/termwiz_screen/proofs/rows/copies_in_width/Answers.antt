@@ -1,7 +1,7 @@
 use Rattle.std.proofs.Common.{◌≡◌, length, min, map, ◌∙◌, ap, arith}
 use Rattle.termwiz_screen.specs.Resized.{copy_in}
 use Rattle.termwiz_screen.proofs.ResizedRows.{take_upto}
-use Rattle.termwiz_screen.proofs.rows.grown_copies.Goals as goal
+use Rattle.termwiz_screen.proofs.rows.copies_in_width.Goals as goal
 
 pub returns : goal.returns
 returns c =

@@ -1,7 +1,7 @@
 use Rattle.std.proofs.Common.{◌≡◌, ◌≤◌, map, take}
 use Rattle.std.specs.VecDeque.{deque_len, deque_capacity}
 use Rattle.termwiz_screen.specs.Resized.{copy_in}
-use Rattle.termwiz_screen.proofs.rows.grown_copies.Given as goal
+use Rattle.termwiz_screen.proofs.rows.copies_in_width.Given as goal
 
 abbrev pub invariant-loop-i : goal.invariant-loop-i
 invariant-loop-i l = record {

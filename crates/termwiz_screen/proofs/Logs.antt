@@ -1,9 +1,9 @@
 -- What a log has from a number on.
-use Rattle.std.proofs.Common.{◌≡◌, ℕ, ◌+◌, ◌-◌, ◌≤◌, ◌<◌, ◌^◌, min, true, false, inl, inr, List, length, take, drop, map, refl, sym, ◌∙◌, ap, arith, length-drop}
+use Rattle.std.proofs.Common.{◌≡◌, ℕ, ◌+◌, ◌-◌, ◌≤◌, ◌<◌, ◌^◌, min, true, false, inl, inr, List, [], length, take, drop, map, refl, sym, ◌∙◌, ap, arith, length-drop}
 use Rattle.std.specs.Prelude.{◌==◌, if◌then◌else◌}
 use Rattle.std.proofs.lemmas.Bool.{cases_Bool, cases_lt, ne_eqb, le-leb}
 use Rattle.std.proofs.lemmas.Bool.Decides.{nat_tests}
-use Rattle.std.proofs.lemmas.List.{take_all, drop-map, drop-drop}
+use Rattle.std.proofs.lemmas.List.{take_all, drop_all, drop-map, drop-drop}
 use Rattle.termwiz_screen.specs.Log.{LogValue, due, reaches, is_known, next_number, flushed, restarted}
 
 module _ (l : LogValue) (n : ℕ) (from : l.first ≤ n) (upto : n ≤ next_number l) where
@@ -35,6 +35,12 @@ restarted_fits l fits = elim (cases_Bool (next_number l == 0)) [ inl e ↦ rw e 
 -- where the log reaches a number, it is from the first number up to the coming one
 pub reached : (l : LogValue) (n : ℕ) → reaches l n ≡ true → (l.first ≤ n) × (n ≤ next_number l)
 reached l n h = (grind (arith, nat_tests), grind (arith, nat_tests))
+
+-- a flush up to the coming number leaves no change
+pub flushed_whole : (l : LogValue) → (flushed l (next_number l)).changes ≡ []
+flushed_whole l =
+    rw (le-leb l.first (next_number l) (omega arith), le-leb (next_number l) (next_number l) (omega arith))
+    (drop_all (next_number l - l.first) l.changes (omega arith))
 
 -- a flush leaves the number
 pub flushed_number : (l : LogValue) (n : ℕ) → next_number (flushed l n) ≡ next_number l

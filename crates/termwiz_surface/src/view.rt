@@ -65,9 +65,11 @@ pub enum Outcome {
 }
 
 /// Runs the events on one blank surface, of this width in columns and this height in rows, and its
-/// viewer, and gives one outcome for each. A refused event is an outcome, and the run goes on. It
-/// fails where there is no memory for the surface, the viewer, the list of outcomes, or what is
-/// told of a viewer that followed.
+/// viewer, and gives one outcome for each.
+///
+/// - A refused event is an outcome, and the run goes on.
+/// - It fails where there is no memory for the surface, the viewer, the list of outcomes, or what
+///   is told of a viewer that followed.
 pub fn run<W: Widths>(
     alloc: Global,
     widths: W,

@@ -33,7 +33,7 @@ module _ {W : Type 0} where
   abbrev pub cut_to : SurfaceValue W → SurfaceValue W → Region → Region
   cut_to s t r = cut r s.width s.height t.width t.height
 
-  -- the changes print what the region of t shows and that of s doesn't
+  -- the changes are moves, pens and texts; where both measure texts alike they print what the region of t shows and that of s doesn't
   abbrev pub PrintsRegion : (W → List ℕ → ℕ) → SurfaceValue W → SurfaceValue W → Region → List ChangeValue → Type 0
   PrintsRegion measure_of s t r changes =
       IsDiff (measure_of s.widths) (screen_of s) (MeasureAlike measure_of s t)
@@ -68,11 +68,11 @@ abbrev pub HaveRow : List (List CellValue) → List (List CellValue) → ℕ →
 HaveRow t a h i row = (i < h → row_at t i ≡ row) × ((j : ℕ) → (j < i) ⊎ (i < j) → row_at t j ≡ row_at a j)
 
 module _ {W : Type 0} where
-  -- where both measure texts alike, the screen shows the other surface drawn there, and else what the old one showed
+  -- where both measure texts alike and no wide grapheme crosses an edge, the screen shows the other surface drawn there, and elsewhere what the old one showed
   abbrev pub HasDrawn : (W → List ℕ → ℕ) → SurfaceValue W → SurfaceValue W → ℕ → ℕ → Screen → Type 0
   HasDrawn measure_of old other x y shown =
       MeasureAlike measure_of old other → GivesRegion shown.rows (screen_of old) (screen_of other) (drawn_region (screen_of old) (screen_of other) x y)
 
-  -- the screen shows the region copied there, and else what the old one showed
+  -- where no wide grapheme crosses an edge of either region, the screen shows the region copied there, and elsewhere what the old one showed
   abbrev pub HasCopied : SurfaceValue W → Region → Screen → Type 0
   HasCopied old r shown = GivesRegion shown.rows (screen_of old) (screen_of old) r

@@ -70,11 +70,12 @@ pub enum SurfaceError {
     /// a viewer that was to follow `Viewer::follow` tells.
     #[error("the numbers of changes are used up")]
     Numbers,
-    /// Error 3: a growth was refused. After a list of changes, that of a draw or a copy too, the
-    /// surface keeps its size and the form of its rows, and its log is empty under a new number, or
-    /// 0 where that was 0.
-    /// Where there was no memory for the list of a draw or a copy, or for another size, nothing has
-    /// changed. Of a viewer that was to follow `Viewer::follow` tells.
+    /// Error 3: a growth was refused. Of a viewer that was to follow `Viewer::follow` tells.
+    ///
+    /// - After a list of changes, that of a draw or a copy too, the surface keeps its size and the
+    ///   form of its rows, and its log is empty under a new number, or 0 where that was 0.
+    /// - Where there was no memory for the list of a draw or a copy, or for another size, nothing
+    ///   has changed.
     #[error("out of memory")]
     Memory,
 }
@@ -100,10 +101,12 @@ impl From<AllocError> for SurfaceError {
 ///
 /// A stream of changes comes out: `get_changes` lends a viewer the changes since the number that it
 /// was last given, and answers with a repaint, which brings any screen of this size to this one,
-/// where the log no longer has them or they are too many. `flush_changes_older_than` forgets the
-/// changes that all viewers have: without it the log grows with each change. `answer` gives what
-/// `get_changes` lends as a value that can be carried off. `screen` copies what the surface shows,
-/// and `full_screen` what it keeps beside it too.
+/// where the log no longer has them or they are too many. `answer` gives the same as a value that
+/// can be carried off.
+///
+/// `flush_changes_older_than` forgets the changes that all viewers have: without it the log grows
+/// with each change. `screen` copies what the surface shows, and `full_screen` what it keeps beside
+/// it too.
 ///
 /// A surface that `new_full` makes is a full one: its repaints bring all of that as well, so that
 /// its viewers have it whatever they missed. Those of another one bring the screen, and leave some
@@ -616,9 +619,11 @@ impl<W: Widths> Surface<W> {
     /// Makes the changes in order. The answer is the number before them, less one unless it is 0,
     /// plus how many they are: where there are some that is the number of the last, or one more
     /// where the number before was 0.
-    /// `ScrollRegion`, `Numbers`: nothing has changed. `Memory`: some may have been made, and the
-    /// last of those in part; the size and the form of the rows stay, the cursor is inside, and the
-    /// log is empty under a number that is greater by one, or 0 where it was 0.
+    ///
+    /// - `ScrollRegion`, `Numbers`: nothing has changed.
+    /// - `Memory`: some may have been made, and the last of those in part; the size and the form of
+    ///   the rows stay, the cursor is inside, and the log is empty under a number that is greater
+    ///   by one, or 0 where it was 0.
     pub fn add_changes(&mut self, changes: Vec<Change>) -> Result<SequenceNo, SurfaceError>
         ensures adds { Adds (measure W.width_of self.old.widths)
             self.old (map change_value changes.items)

@@ -1,3 +1,2 @@
 mod ClearedRow
 mod HeadingRow
-mod FlushedLogs

@@ -8,7 +8,7 @@ use termwiz_surface::view::Viewer;
 
 /// Shows on its one viewer what the surface shows, and lets both forget the changes that they have
 /// in common.
-/// After an error the viewer may show anything, and the next turn shows the whole screen.
+/// After an error the viewer may show anything, and the next turn that succeeds shows the screen.
 pub fn refresh<W: Widths>(
     surface: &mut Surface<W>,
     viewer: &mut Viewer<W>,

@@ -7,8 +7,8 @@ use termwiz_surface::emoji::Widths;
 use termwiz_surface::laws::cluster_laws;
 use termwiz_surface::line::line::Line;
 
-/// The texts that a shaper is given for a line, cluster by cluster: together they are the text
-/// that the line shows, so no glyph is lost and none comes twice.
+/// The text of a line, put together from what a shaper is given for it, cluster by cluster: it is
+/// what the line shows.
 pub fn shaped_text<W: Widths>(alloc: Global, line: &Line, widths: &W) -> Result<String, AllocError>
     ensures { IfOk result (λ text. string_bytes text ≡ texts_of (visible line.now.cells)) }
 {

@@ -1,6 +1,7 @@
 //! A screen that is shared: its answers are carried off, and may be delivered late, repeatedly, in
 //! any order, or never.
 ghost use Rattle.std.specs.Prelude.{◌≡◌, ℕ, ◌≤◌, true, false, All, OnOk};
+ghost use Rattle.std.specs.List.{Any};
 ghost use Rattle.termwiz_surface.specs.{
   Follows,
   FullScreen,
@@ -9,6 +10,7 @@ ghost use Rattle.termwiz_surface.specs.{
   MeasureAlike,
   Screen,
   ShowsNamed,
+  flushed,
   full_of,
   full_screens,
   is_known,
@@ -66,10 +68,13 @@ pub fn deliver_late_fully<W: Widths>(
 }
 
 /// Forgets the changes that every viewer has, by the numbers that the viewers told last: each of
-/// these is answered as before, and the answers that are on their way lead where they led.
+/// these is known as before, and the answers that are on their way lead where they led.
 pub fn forget_delivered<W: Widths>(surface: &mut Surface<W>, told: &[SequenceNo])
     ensures answers { All (λ n. (most : ℕ) →
         is_known most surface.new.log n ≡ is_known most surface.old.log n) told.now }
+    // The log is flushed to the least of them.
+    ensures forgets { (n : ℕ) → Any (λ k. k ≡ n) told.now → All (λ k. n ≤ k) told.now →
+        surface.new.log ≡ flushed surface.old.log n }
     ensures unchanged { screen_of surface.new ≡ screen_of surface.old }
     ensures remembered { KeepsNames (measure W.width_of surface.old.widths)
         surface.old surface.new }
@@ -79,8 +84,9 @@ pub fn forget_delivered<W: Widths>(surface: &mut Surface<W>, told: &[SequenceNo]
     }
 }
 
-/// Lets a viewer that accepted answers follow the surface itself, once it can reach it: it has the
-/// surface's screen then. It follows the surface from now on, and may accept later answers too.
+/// Lets a viewer that accepted answers follow the surface itself, which isn't a full one, once it
+/// can reach it: it has the surface's screen then. It follows the surface from now on, and may
+/// accept later answers too.
 pub fn reconnect<W: Widths>(
     surface: &Surface<W>,
     viewer: &mut Viewer<W>,

@@ -46,9 +46,11 @@ pub enum ManyOutcome {
 }
 
 /// Runs the events on one blank surface, of this width in columns and this height in rows, and so
-/// many blank viewers of it, and gives one outcome for each. A refused event is an outcome, and the
-/// run goes on. It fails where there is no memory for the surface, a viewer, the lists of answers
-/// and outcomes, or what is told of a viewer that accepted.
+/// many blank viewers of it, and gives one outcome for each.
+///
+/// - A refused event is an outcome, and the run goes on.
+/// - It fails where there is no memory for the surface, a viewer, the lists of answers and
+///   outcomes, or what is told of a viewer that accepted.
 pub fn run_many<W: Widths>(
     alloc: Global,
     widths: W,

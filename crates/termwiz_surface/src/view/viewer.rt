@@ -1,6 +1,6 @@
 //! Viewers: surfaces that follow another one, or accept its answers.
 ghost use Rattle.std.specs.Prelude.{◌≡◌, ◌+◌, ◌<◌, ◌^◌, true, length, map, nat_lt, IfOk, OnOk};
-ghost use Rattle.std.specs.Prelude.{OnErr};
+ghost use Rattle.std.specs.Prelude.{[], OnErr};
 ghost use Rattle.termwiz_cell.specs.ChangeValue.{change_value};
 ghost use Rattle.termwiz_cell.specs.Measure.{measure};
 ghost use Rattle.termwiz_surface_core.specs.Adding.{Makes, with_log};
@@ -59,12 +59,16 @@ impl From<AllocError> for AcceptError {
 /// last.
 ///
 /// `follow` asks the source for what changed since the number that it gave last, and makes those
-/// changes. So a viewer gets a few changes where few were made, and the whole screen where the
-/// source no longer knows them; and where the source has another size, the viewer takes it first.
-/// From a full source it also has all that is kept beside the screen. A viewer's own surface logs
-/// what it made, so that viewers can follow a viewer. That log grows with each change, until
-/// `flush_changes_older_than` forgets some; another size, or a list that found no memory, empties
-/// it.
+/// changes.
+///
+/// - A viewer gets a few changes where few were made, and the whole screen where the source no
+///   longer knows them.
+/// - Where the source has another size, the viewer takes it first.
+/// - From a full source it also has all that is kept beside the screen.
+///
+/// A viewer's own surface logs what it made, so that viewers can follow a viewer. That log grows
+/// with each change, until `flush_changes_older_than` forgets some; another size, or a list that
+/// found no memory, empties it.
 ///
 /// Where the source is far away, the viewer's number goes to it, and what `Surface::answer` gives
 /// for that comes back: `accept` makes it, however late, and refuses what doesn't lead on from what
@@ -230,11 +234,11 @@ impl<W: Widths> Viewer<W> {
     /// Makes the changes of an answer, and takes its number, which is told: so the viewer shows
     /// what the surface showed when it gave the answer, whatever either has done since.
     ///
-    /// `Size`: the answer is for another size. `Stale`: it is no repaint, and the viewer doesn't
-    /// have the number that it leads from. After both nothing has changed. `Numbers`: the numbers
-    /// of the viewer's own surface are used up; it shows what it showed. `Memory`: a growth was
-    /// refused; it may show anything. After both the viewer has no number, so that it is to be
-    /// answered by a repaint.
+    /// - `Size`: the answer is for another size. `Stale`: it is no repaint, and the viewer doesn't
+    ///   have the number that it leads from. After both nothing has changed.
+    /// - `Numbers`: the numbers of the viewer's own surface are used up; it shows what it showed.
+    ///   `Memory`: a growth was refused; it may show anything. After both the viewer has no number,
+    ///   so that it is to be answered by a repaint.
     pub fn accept(&mut self, answer: &Answer) -> Result<SequenceNo, AcceptError>
         ensures takes { Takes (measure W.width_of self.old.surface.widths)
             self.old answer.now result self.new }
@@ -288,6 +292,9 @@ impl<W: Widths> Viewer<W> {
         ensures flushes { self.new.surface
             ≡ with_log self.old.surface (flushed self.old.surface.log seq) }
         ensures last { self.new.last ≡ self.old.last }
+        // Where this is the coming change's number, no change stays.
+        ensures emptied { seq ≡ next_number self.old.surface.log →
+            self.new.surface.log.changes ≡ [] }
         // It follows each surface that it followed.
         ensures follows { (s : SurfaceValue W) →
             Follows (measure W.width_of) self.old s → Follows (measure W.width_of) self.new s }
@@ -297,11 +304,12 @@ impl<W: Widths> Viewer<W> {
 
     /// Shows what the source shows now. The answer is the source's number.
     ///
-    /// `Numbers`: the numbers of the viewer's own surface are used up. `Memory`: a growth was
-    /// refused. After both the viewer may show anything, and has no number. Its width value stays,
-    /// and the number of its own surface has grown by two at most. A viewer that followed the
-    /// source follows it still: the next time that it succeeds it gets the whole screen, and shows
-    /// it. `ScrollRegion` never comes.
+    /// - `Numbers`: the numbers of the viewer's own surface are used up. `Memory`: a growth was
+    ///   refused. After both the viewer may show anything, and has no number. Its width value
+    ///   stays, and the number of its own surface has grown by two at most.
+    /// - A viewer that followed the source follows it still: the next time that it succeeds it gets
+    ///   the whole screen, and shows it.
+    /// - `ScrollRegion` never comes.
     pub fn follow(&mut self, source: &Surface<W>) -> Result<SequenceNo, SurfaceError>
         ensures steps { FollowsTo (measure W.width_of) source.now self.old result self.new }
         // A viewer that follows the source shows its screen after each success,

@@ -1,6 +1,6 @@
 //! What viewers are answered: the changes that they lack, or a repaint.
 ghost use Rattle.std.specs.Cow.{IsOwnedSlice};
-ghost use Rattle.std.specs.Prelude.{◌≡◌, ℕ, ◌≤◌, true, false, not, ◌==◌, map, length, IfOk};
+ghost use Rattle.std.specs.Prelude.{◌≡◌, ℕ, ◌≤◌, [], true, false, not, ◌==◌, map, length, IfOk};
 ghost use Rattle.std.specs.Prelude.{IsOkAnd};
 ghost use Rattle.termwiz_cell.specs.ChangeValue.{change_value};
 ghost use Rattle.termwiz_cell.specs.Measure.{measure};
@@ -42,6 +42,8 @@ impl<W: Widths> Surface<W> {
         ensures answers { (n most : ℕ) → seq ≤ n →
             (is_known most self.new.log n ≡ is_known most self.old.log n)
             × (due self.new.log n ≡ due self.old.log n) }
+        // Where this is the coming change's number, no change stays.
+        ensures emptied { seq ≡ next_number self.old.log → self.new.log.changes ≡ [] }
         // Each viewer that follows the surface goes on to.
         ensures followed { KeepsViewers (measure W.width_of) self.old self.new }
         // What its numbers named they name still.
@@ -53,17 +55,21 @@ impl<W: Widths> Surface<W> {
     /// The number of the coming change, and what a viewer that was last given this number has to
     /// apply.
     ///
-    /// The changes from that number on are lent, without a copy, where the log has them and they
-    /// are worth sending. Else the answer is a repaint, which brings any screen of this size to
-    /// this one: so for 0, which is the number of a viewer that was given none, for a number before
-    /// the log's first one, as one that was flushed is, for one past the coming change's, and where
-    /// more changes are due than 3 plus six fifths of the number of cells. A delta takes no memory.
+    /// Where the log has the changes from that number on, and they are worth sending, they are
+    /// lent, without a copy and without memory. Else the answer is a repaint, which brings any
+    /// screen of this size to this one:
     ///
-    /// A repaint also sets the title, unless it is empty, and the shape of a visible cursor, where
-    /// one was set. It leaves the cursor's colour and the sizes of lines.
-    /// That of a full surface sets all that is kept beside the screen: the title, an empty one too,
-    /// the cursor's shape, also of a hidden cursor and where none was set, its colour, and the size
-    /// of each line.
+    /// - for 0, which is the number of a viewer that was given none;
+    /// - for a number before the log's first one, as one that was flushed is, and for one past the
+    ///   coming change's;
+    /// - where more changes are due than 3 plus six fifths of the number of cells.
+    ///
+    /// What a repaint tells of what is kept beside the screen:
+    ///
+    /// - the title, unless it is empty, and the shape of a visible cursor, where one was set. It
+    ///   leaves the cursor's colour and the sizes of lines.
+    /// - That of a full surface sets all: the title, an empty one too, the cursor's shape, also of
+    ///   a hidden cursor and where none was set, its colour, and the size of each line.
     pub fn get_changes(
         &self,
         seq: SequenceNo,

@@ -24,9 +24,11 @@ impl<W: Widths> Surface<W> {
     /// this surface shows there already are not printed again.
     ///
     /// Where anything is printed, the last two changes set back the cursor and the pen, so they are
-    /// as before, a pending wrap too. Where both surfaces measure texts alike and no wide grapheme
-    /// of either crosses an edge of its region, this one's shows then what the other's does, and
-    /// all else stays. What crosses an edge is printed whole.
+    /// as before, a pending wrap too.
+    ///
+    /// Where both surfaces measure texts alike and no wide grapheme of either crosses an edge of
+    /// its region, this one's shows then what the other's does, and all else stays. What crosses an
+    /// edge is printed whole.
     ///
     /// The changes are made and logged as one list, and the answer is that of `add_changes`.
     /// `Numbers`: nothing has changed. `Memory`: either there was none for the list, and nothing
@@ -59,9 +61,11 @@ impl<W: Widths> Surface<W> {
     }
 
     /// Copies what a region shows, of this column, row, width and height, to the region of this
-    /// size from another column and row on, all counted from 0. The regions may overlap: what is
-    /// copied is what was shown before. Both are cut to what fits in the surface; where one begins
-    /// outside, nothing is copied. Cells that are shown there already are not printed again.
+    /// size from another column and row on, all counted from 0.
+    ///
+    /// - The regions may overlap: what is copied is what was shown before.
+    /// - Both are cut to what fits in the surface; where one begins outside, nothing is copied.
+    /// - Cells that are shown there already are not printed again.
     ///
     /// Where no wide grapheme crosses an edge of either region, the second one shows then what the
     /// first did, and all else stays. What crosses an edge is printed whole.

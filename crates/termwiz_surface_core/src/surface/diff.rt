@@ -34,8 +34,7 @@ impl<W: Widths> Surface<W> {
     /// where the cursor doesn't stand behind the cell before, and a pen where that cell's isn't the
     /// same.
     pub fn diff_screens(&self, other: &Surface<W>) -> Result<Vec<Change>, AllocError>
-        // The equation in `IsDiff` says where the exact prints are promised: where both have one
-        // width function, and for lines, by `f ≡ f`, always.
+        // The exact prints are promised where both have one width function, as `PrintsRegion` says.
         ensures diff { IfOk result (λ l. let r = whole self.now.width self.now.height in
             PrintsRegion (measure W.width_of) self.now other.now r (map change_value l.items)) }
         // Its entries are the defined ones.

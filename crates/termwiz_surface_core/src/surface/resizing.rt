@@ -12,13 +12,16 @@ use termwiz_cell::emoji::Widths;
 use termwiz_screen::rows::resize_rows;
 
 impl<W: Widths> Surface<W> {
-    /// Takes another size, in columns and rows. Each row is cut, or filled with default blanks;
-    /// rows go at the bottom, or default ones come there. The cursor stays where it is on the
-    /// surface still, and else, from a pending wrap too, goes to the last column or row.
-    /// The log is emptied and a number is taken, unless the number is 0: so every viewer is
-    /// answered by a repaint.
-    /// `Numbers`: the number is the greatest. `Memory`: a growth was refused. After both nothing
-    /// has changed.
+    /// Takes another size, in columns and rows.
+    ///
+    /// - Each row is cut, or filled with default blanks; rows go at the bottom, or default ones
+    ///   come there.
+    /// - The cursor stays where it is on the surface still, and else, from a pending wrap too, goes
+    ///   to the last column or row.
+    /// - The log is emptied and a number is taken, unless the number is 0: so every viewer is
+    ///   answered by a repaint.
+    /// - `Numbers`: the number is the greatest. `Memory`: a growth was refused. After both nothing
+    ///   has changed.
     pub fn resize(&mut self, width: usize, height: usize) -> Result<(), SurfaceError>
         requires some_column { 0 < width }
         requires some_row { 0 < height }

@@ -1,6 +1,7 @@
-use Rattle.std.proofs.Common.{arith}
+use Rattle.std.proofs.Common.{◌≡◌, ap, ◌∙◌, arith}
 use Rattle.termwiz_surface_core.proofs.Drawn.{any_log}
-use Rattle.termwiz_screen.proofs.Logs.{flushed_number, flushed_alike}
+use Rattle.termwiz_screen.proofs.Logs.{flushed_number, flushed_alike, flushed_whole}
+use Rattle.termwiz_screen.specs.Log.{flushed}
 use Rattle.termwiz_screen.proofs.LogRegions.{regions-flushed}
 use Rattle.termwiz_surface_core.proofs.Remembering.{keeps_flushed}
 use Rattle.termwiz_surface_core.proofs.surface.Surface.flush_changes_older_than.Goals as goal
@@ -16,6 +17,11 @@ invariant_of-self g c =
 pub returns-clause-answers : goal.returns-clause-answers
 returns-clause-answers g c =
     λ n most from. rw (← c.self.view_is, c.flush.ensures) (flushed_alike c.self.inside.log c.args.seq n most from)
+
+pub returns-clause-emptied : goal.returns-clause-emptied
+returns-clause-emptied g c =
+    let log = c.self.inside.log in
+    rw (← c.self.view_is, c.flush.ensures) (λ whole. ap (λ n. (flushed log n).changes) whole ∙ flushed_whole log)
 
 pub returns-clause-remembered : goal.returns-clause-remembered
 returns-clause-remembered g c =

@@ -7,7 +7,7 @@ use termwiz_surface::surface::{Surface, SurfaceError};
 use termwiz_surface::view::Viewer;
 
 pub fn due(alloc: Global, count: u32) -> Result<usize, SurfaceError> {
-    let mut surface = blank(alloc)?;
+    let mut surface = blank(alloc, 24)?;
     add_texts(alloc, &mut surface, SHORT, 11)?;
     answered(&surface, 1, count)
 }
@@ -32,7 +32,7 @@ fn answered(
 }
 
 pub fn accepted(alloc: Global, count: u32) -> Result<usize, SurfaceError> {
-    let mut surface = blank(alloc)?;
+    let mut surface = blank(alloc, 24)?;
     view_deltas(alloc, &mut surface, count)
 }
 
@@ -73,7 +73,7 @@ fn accept(
 }
 
 pub fn accepted_by_hundred(alloc: Global, count: u32) -> Result<usize, SurfaceError> {
-    let mut surface = blank(alloc)?;
+    let mut surface = blank(alloc, 24)?;
     view_by_hundred(alloc, &mut surface, count)
 }
 

@@ -20,9 +20,12 @@ pub const EIGHT: &str = "colours ";
 /// Another, which differs in each.
 pub const OTHER_EIGHT: &str = "COLOURED";
 
-/// A blank 80x24.
-pub fn blank(alloc: Global) -> Result<Surface<UnicodeWidths>, SurfaceError> {
-    Ok(Surface::new(alloc, 80, 24, UnicodeWidths)?)
+/// A blank surface of 80 columns and so many rows.
+pub fn blank(alloc: Global, rows: usize) -> Result<Surface<UnicodeWidths>, SurfaceError>
+    requires some { 0 < rows }
+    requires fits { rows < 2 ^ 32 }
+{
+    Ok(Surface::new(alloc, 80, rows, UnicodeWidths)?)
 }
 
 /// A surface with a colour for every 8 columns.

@@ -1,15 +1,15 @@
-//! Workloads on lines of up to 120 columns.
-ghost use Rattle.std.specs.Prelude.{◌<◌};
+//! Workloads on lines of so many columns.
+ghost use Rattle.std.specs.Prelude.{◌≤◌};
 
 use std::alloc::{AllocError, Global};
-use termwiz_cell::cell::CellAttributes;
+use termwiz_cell::cell::{Cell, CellAttributes};
 use termwiz_cell::change::SEQ_ZERO;
 use termwiz_cell::color::ColorAttribute;
 use termwiz_line::line::line::Line;
 use termwiz_surface::surface::SurfaceError;
 
-pub fn cloned(alloc: Global, count: u32) -> Result<usize, SurfaceError> {
-    let line = coloured(alloc)?;
+pub fn cloned(alloc: Global, columns: usize, count: u32) -> Result<usize, SurfaceError> {
+    let line = coloured(alloc, columns)?;
     clones(&line, count)
 }
 
@@ -22,8 +22,8 @@ fn clones(line: &Line, count: u32) -> Result<usize, SurfaceError> {
     Ok(columns)
 }
 
-pub fn compressed(alloc: Global, count: u32) -> Result<usize, SurfaceError> {
-    let line = coloured(alloc)?;
+pub fn compressed(alloc: Global, columns: usize, count: u32) -> Result<usize, SurfaceError> {
+    let line = coloured(alloc, columns)?;
     compressions(&line, count)
 }
 
@@ -38,9 +38,8 @@ fn compressions(line: &Line, count: u32) -> Result<usize, SurfaceError> {
     Ok(columns)
 }
 
-pub fn walked(alloc: Global, count: u32) -> Result<usize, SurfaceError> {
-    let mut line = coloured(alloc)?;
-    line.compress_for_scrollback()?;
+pub fn walked(alloc: Global, columns: usize, count: u32) -> Result<usize, SurfaceError> {
+    let line = clustered(alloc, columns)?;
     Ok(widths(&line, count))
 }
 
@@ -55,10 +54,9 @@ fn widths(line: &Line, count: u32) -> usize {
     columns
 }
 
-pub fn got(alloc: Global, count: u32) -> Result<usize, SurfaceError> {
-    let mut line = coloured(alloc)?;
-    line.compress_for_scrollback()?;
-    Ok(widths_at(&line, 119, count))
+pub fn got(alloc: Global, columns: usize, count: u32) -> Result<usize, SurfaceError> {
+    let line = clustered(alloc, columns)?;
+    Ok(widths_at(&line, columns.saturating_sub(1), count))
 }
 
 // The width of the cell at a column, which is asked for so often.
@@ -70,9 +68,8 @@ fn widths_at(line: &Line, column: usize, count: u32) -> usize {
     columns
 }
 
-pub fn marked(alloc: Global, count: u32) -> Result<usize, SurfaceError> {
-    let mut line = coloured(alloc)?;
-    line.compress_for_scrollback()?;
+pub fn marked(alloc: Global, columns: usize, count: u32) -> Result<usize, SurfaceError> {
+    let mut line = clustered(alloc, columns)?;
     marks(&mut line, count)
 }
 
@@ -86,17 +83,48 @@ fn marks(line: &mut Line, count: u32) -> Result<usize, SurfaceError> {
     Ok(marks)
 }
 
-pub fn appended(alloc: Global, count: u32) -> Result<usize, SurfaceError> {
-    let mut line = Line::new(alloc, SEQ_ZERO);
-    let mut columns = 0usize;
+pub fn pruned(alloc: Global, columns: usize, count: u32) -> Result<usize, SurfaceError> {
+    let mut line = clustered(alloc, columns)?;
+    prune(&mut line, count)
+}
+
+// How many columns stay of a line that is pruned so often.
+fn prune(line: &mut Line, count: u32) -> Result<usize, SurfaceError> {
     for _ in 0..count {
-        if line.len() >= 120 {
-            columns = columns.wrapping_add(line.len());
+        line.prune_trailing_blanks(SEQ_ZERO)?;
+    }
+    Ok(line.len())
+}
+
+pub fn inserted(alloc: Global, columns: usize, count: u32) -> Result<usize, SurfaceError>
+    requires { 1 ≤ columns }
+{
+    let mut line = coloured(alloc, columns)?;
+    insert(&mut line, columns, count)
+}
+
+// How many columns a line has where so many blanks are inserted at its beginning, and so many cells
+// removed at its end.
+fn insert(line: &mut Line, columns: usize, count: u32) -> Result<usize, SurfaceError>
+    requires { 1 ≤ columns }
+{
+    for _ in 0..count {
+        line.insert_cell(0, Cell::blank(), columns, SEQ_ZERO)?;
+    }
+    Ok(line.len())
+}
+
+pub fn appended(alloc: Global, columns: usize, count: u32) -> Result<usize, SurfaceError> {
+    let mut line = Line::new(alloc, SEQ_ZERO);
+    let mut appended = 0usize;
+    for _ in 0..count {
+        if line.len() >= columns {
+            appended = appended.wrapping_add(line.len());
             line = Line::new(alloc, SEQ_ZERO);
         }
         append(&mut line)?;
     }
-    Ok(columns)
+    Ok(appended)
 }
 
 #[inline(always)]
@@ -105,19 +133,27 @@ fn append(line: &mut Line) -> Result<(), AllocError> {
     line.set_cell_grapheme(end, "x", 1, CellAttributes::blank(), SEQ_ZERO)
 }
 
-// A line of 120 columns with a colour for every 8.
-fn coloured(alloc: Global) -> Result<Line, AllocError> {
-    let mut line = Line::with_width(alloc, 120, SEQ_ZERO)?;
-    for column in 0..120 {
+// A line with a colour for every 8 columns, each cell in a place of its own.
+fn coloured(alloc: Global, columns: usize) -> Result<Line, AllocError> {
+    let mut line = Line::with_width(alloc, columns, SEQ_ZERO)?;
+    for column in 0..columns {
         set_coloured(alloc, &mut line, column)?;
     }
     Ok(line)
 }
 
-fn set_coloured(alloc: Global, line: &mut Line, column: usize) -> Result<(), AllocError>
-    requires { column < 120 }
-{
+fn set_coloured(alloc: Global, line: &mut Line, column: usize) -> Result<(), AllocError> {
     let mut attrs = CellAttributes::blank();
-    attrs.set_foreground(alloc, ColorAttribute::PaletteIndex((column / 8) as u8))?;
+    attrs.set_foreground(
+        alloc,
+        ColorAttribute::PaletteIndex((column / 8 % 256) as u8),
+    )?;
     line.set_cell_grapheme(column, "x", 1, attrs, SEQ_ZERO)
+}
+
+// The same, stored as one text.
+fn clustered(alloc: Global, columns: usize) -> Result<Line, AllocError> {
+    let mut line = coloured(alloc, columns)?;
+    line.compress_for_scrollback()?;
+    Ok(line)
 }

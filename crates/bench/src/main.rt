@@ -1,4 +1,5 @@
-//! Workloads for measuring, each run as often as it is told: `bench WORKLOAD COUNT`.
+//! Workloads for measuring, each run as often as it is told: `bench WORKLOAD COUNT`, or
+//! `bench WORKLOAD COUNT SIZE` to see how one grows with what it works on.
 //! The program keeps no time: measure it from outside, at two counts, and take the difference.
 #![tactic(auto)]
 
@@ -17,11 +18,11 @@ use std::process::ExitCode;
 use workload::{Workload, run};
 
 fn main(rt: HostRuntime) -> ExitCode {
-    let Some((workload, count)) = asked(&rt) else {
-        let _ = rt.eprintln("usage: bench WORKLOAD COUNT");
+    let Some((workload, count, size)) = asked(&rt) else {
+        let _ = rt.eprintln("usage: bench WORKLOAD COUNT [SIZE]");
         return ExitCode::from(2);
     };
-    match run(rt.alloc(), workload, count) {
+    match run(rt.alloc(), workload, count, size) {
         Ok(sum) => match println!(rt; "{sum}") {
             Ok(()) => ExitCode::SUCCESS,
             Err(_) => ExitCode::FAILURE,
@@ -33,10 +34,14 @@ fn main(rt: HostRuntime) -> ExitCode {
     }
 }
 
-// The workload and how often it is run, as the words say.
-fn asked(rt: &HostRuntime) -> Option<(Workload, u32)> {
+// The workload, how often it is run, and the size of what it works on, as the words say.
+fn asked(rt: &HostRuntime) -> Option<(Workload, u32, Option<u16>)> {
     let mut words = env::args(rt).ok()?.skip(1);
     let workload = Workload::from_name(words.next()?.as_str())?;
     let count = words.next()?.as_str().parse::<u32>().ok()?;
-    Some((workload, count))
+    let size = match words.next() {
+        Some(word) => Some(word.as_str().parse::<u16>().ok()?),
+        None => None,
+    };
+    Some((workload, count, size))
 }

@@ -1,4 +1,6 @@
-//! Workloads that print on an 80x24.
+//! Workloads that print on an 80x24, or on a surface of so many rows or columns.
+ghost use Rattle.std.specs.Prelude.{◌<◌, ◌^◌};
+
 use crate::drawn::{SHORT, add_colours, add_text, add_texts, blank};
 use std::alloc::Global;
 use termwiz_cell::change::{Change, Position};
@@ -12,19 +14,51 @@ const PLAIN: &str =
 const KANA: &str = "かきくけこさしすせそたちつてとなにぬねのはひふへほまみむめもやゆよらりるれろわを\r\n";
 
 pub fn plain(alloc: Global, count: u32) -> Result<usize, SurfaceError> {
-    printed(alloc, PLAIN, count)
+    printed(alloc, 24, PLAIN, count)
 }
 
 pub fn kana(alloc: Global, count: u32) -> Result<usize, SurfaceError> {
-    printed(alloc, KANA, count)
+    printed(alloc, 24, KANA, count)
 }
 
-pub fn scrolled(alloc: Global, count: u32) -> Result<usize, SurfaceError> {
-    printed(alloc, SHORT, count)
+pub fn scrolled(alloc: Global, rows: usize, count: u32) -> Result<usize, SurfaceError>
+    requires some { 0 < rows }
+    requires fits { rows < 2 ^ 32 }
+{
+    printed(alloc, rows, SHORT, count)
 }
 
-fn printed(alloc: Global, line: &str, count: u32) -> Result<usize, SurfaceError> {
-    let mut surface = blank(alloc)?;
+pub fn scrolled_in_two(alloc: Global, rows: usize, count: u32) -> Result<usize, SurfaceError>
+    requires some { 0 < rows }
+    requires fits { rows < 2 ^ 32 }
+{
+    let mut surface = blank(alloc, rows)?;
+    add_texts(alloc, &mut surface, SHORT, rows)?;
+    scroll_two(alloc, &mut surface, count)
+}
+
+// Prints a short line at the bottom, and scrolls the first two rows.
+fn scroll_two(
+    alloc: Global,
+    surface: &mut Surface<UnicodeWidths>,
+    count: u32,
+) -> Result<usize, SurfaceError> {
+    for _ in 0..count {
+        add_text(alloc, surface, SHORT)?;
+        surface.add_change(Change::ScrollRegionUp {
+            first_row: 0,
+            region_size: 2,
+            scroll_count: 1,
+        })?;
+    }
+    Ok(surface.current_seqno())
+}
+
+fn printed(alloc: Global, rows: usize, line: &str, count: u32) -> Result<usize, SurfaceError>
+    requires some { 0 < rows }
+    requires fits { rows < 2 ^ 32 }
+{
+    let mut surface = blank(alloc, rows)?;
     print(alloc, &mut surface, line, count)
 }
 
@@ -41,7 +75,7 @@ fn print(
 }
 
 pub fn coloured(alloc: Global, count: u32) -> Result<usize, SurfaceError> {
-    let mut surface = blank(alloc)?;
+    let mut surface = blank(alloc, 24)?;
     print_colours(alloc, &mut surface, count)
 }
 
@@ -58,7 +92,7 @@ fn print_colours(
 }
 
 pub fn flushed(alloc: Global, count: u32) -> Result<usize, SurfaceError> {
-    let mut surface = blank(alloc)?;
+    let mut surface = blank(alloc, 24)?;
     print_and_flush(alloc, &mut surface, count)
 }
 
@@ -76,43 +110,48 @@ fn print_and_flush(
     Ok(surface.current_seqno())
 }
 
-// How many changes a slow viewer lacks.
-const BEHIND: usize = 8_000;
-
-pub fn flushed_behind(alloc: Global, count: u32) -> Result<usize, SurfaceError> {
-    let mut surface = blank(alloc)?;
-    add_texts(alloc, &mut surface, SHORT, BEHIND)?;
-    print_and_flush_behind(alloc, &mut surface, count)
+/// Here a slow viewer lacks so many changes.
+pub fn flushed_behind(alloc: Global, behind: usize, count: u32) -> Result<usize, SurfaceError> {
+    let mut surface = blank(alloc, 24)?;
+    add_texts(alloc, &mut surface, SHORT, behind)?;
+    print_and_flush_behind(alloc, &mut surface, behind, count)
 }
 
 fn print_and_flush_behind(
     alloc: Global,
     surface: &mut Surface<UnicodeWidths>,
+    behind: usize,
     count: u32,
 ) -> Result<usize, SurfaceError> {
     for _ in 0..count {
         add_text(alloc, surface, SHORT)?;
-        surface.flush_changes_older_than(surface.current_seqno().saturating_sub(BEHIND));
+        surface.flush_changes_older_than(surface.current_seqno().saturating_sub(behind));
     }
     Ok(surface.current_seqno())
 }
 
-pub fn erased_wide(alloc: Global, count: u32) -> Result<usize, SurfaceError> {
-    let mut surface = blank(alloc)?;
-    add_text(alloc, &mut surface, KANA)?;
-    erase_wide(alloc, &mut surface, count)
+pub fn erased_wide(alloc: Global, columns: usize, count: u32) -> Result<usize, SurfaceError>
+    requires some { 1 < columns }
+    requires fits { columns < 2 ^ 32 }
+{
+    let mut surface = Surface::new(alloc, columns, 24, UnicodeWidths)?;
+    add_texts(alloc, &mut surface, "わ", columns / 2)?;
+    erase_wide(alloc, &mut surface, columns, count)
 }
 
 // Clears the last column of a row, which a wide grapheme takes, and prints one there again.
 fn erase_wide(
     alloc: Global,
     surface: &mut Surface<UnicodeWidths>,
+    columns: usize,
     count: u32,
-) -> Result<usize, SurfaceError> {
+) -> Result<usize, SurfaceError>
+    requires { 1 < columns }
+{
     for _ in 0..count {
-        move_to(surface, 79)?;
+        move_to(surface, columns - 1)?;
         surface.add_change(Change::ClearToEndOfLine(ColorAttribute::Default))?;
-        move_to(surface, 78)?;
+        move_to(surface, columns - 2)?;
         add_text(alloc, surface, "わ")?;
     }
     Ok(surface.current_seqno())

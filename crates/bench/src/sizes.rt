@@ -43,7 +43,7 @@ pub fn made(alloc: Global, count: u32) -> Result<usize, SurfaceError> {
 
 #[inline(always)]
 fn width_of_new(alloc: Global) -> Result<usize, SurfaceError> {
-    let surface = blank(alloc)?;
+    let surface = blank(alloc, 24)?;
     let (width, _) = surface.dimensions();
     Ok(width)
 }

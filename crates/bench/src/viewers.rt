@@ -8,10 +8,10 @@ use termwiz_cell::emoji::UnicodeWidths;
 use termwiz_surface::surface::{Surface, SurfaceError};
 use termwiz_surface::view::Viewer;
 
-pub fn due(alloc: Global, count: u32) -> Result<usize, SurfaceError> {
-    let mut surface = blank(alloc)?;
-    add_texts(alloc, &mut surface, SHORT, 11)?;
-    asked(&surface, 1, count)
+pub fn due(alloc: Global, logged: usize, count: u32) -> Result<usize, SurfaceError> {
+    let mut surface = blank(alloc, 24)?;
+    add_texts(alloc, &mut surface, SHORT, logged)?;
+    asked(&surface, logged.saturating_sub(10), count)
 }
 
 pub fn repainted(
@@ -50,7 +50,7 @@ fn asked(
 }
 
 pub fn followed_by_deltas(alloc: Global, count: u32) -> Result<usize, SurfaceError> {
-    let mut surface = blank(alloc)?;
+    let mut surface = blank(alloc, 24)?;
     view_deltas(alloc, &mut surface, count)
 }
 
@@ -90,7 +90,7 @@ fn follow_delta(
 }
 
 pub fn refreshed(alloc: Global, count: u32) -> Result<usize, SurfaceError> {
-    let mut surface = blank(alloc)?;
+    let mut surface = blank(alloc, 24)?;
     let mut viewer = Viewer::new(alloc, &surface)?;
     refresh_lines(alloc, &mut surface, &mut viewer, count)
 }

@@ -1,4 +1,6 @@
 //! What is measured, by its name.
+ghost use Rattle.std.specs.Prelude.{◌<◌, ◌^◌};
+
 use crate::{answers, attributes, diffs, lines, printing, sizes, viewers};
 use std::alloc::Global;
 use termwiz_surface::surface::SurfaceError;
@@ -12,16 +14,18 @@ pub enum Workload {
     Colours,
     /// A line of 40 kana.
     Kana,
-    /// A short line at the bottom row.
+    /// A short line at the bottom row, of 24 or SIZE.
     Scroll,
+    /// The same, and a scroll of the first two rows.
+    ScrollTwo,
     /// The same, where the log is flushed every 64 changes.
     Log,
-    /// The same, where the log is flushed each time, and 8,000 changes are kept.
+    /// The same, where the log is flushed each time, and 8,000 changes are kept, or SIZE.
     FlushBehind,
-    /// A row that ends in a wide character, whose last column is cleared, and which is printed
-    /// again.
+    /// A row of 80 columns, or SIZE, that ends in a wide character, whose last column is cleared,
+    /// and which is printed again.
     EraseWide,
-    /// Ten changes that are due on 80x24.
+    /// Ten changes that are due on 80x24, of 11 in the log, or SIZE.
     Delta,
     /// A repaint of a coloured 80x24.
     Repaint,
@@ -57,7 +61,8 @@ pub enum Workload {
     ResizeOneRow,
     /// Making an 80x24.
     New,
-    /// A clone of a line of 120 columns with a colour for every 8, each cell in a place of its own.
+    /// A clone of a line of 120 columns, or SIZE, with a colour for every 8, each cell in a place
+    /// of its own.
     LineClone,
     /// The same, stored as one text then.
     Compress,
@@ -67,7 +72,12 @@ pub enum Workload {
     GetCell,
     /// The mark of such a line that goes on, which is set or taken away, and asked for.
     Mark,
-    /// A character that is set at the end of a line of up to 120 columns, stored as one text.
+    /// The trailing blanks of such a line are pruned, of which it has none.
+    Prune,
+    /// A blank that is inserted at the beginning of the line that was cloned, whose last cell goes.
+    Insert,
+    /// A character that is set at the end of a line of up to 120 columns, or SIZE, stored as one
+    /// text.
     Append,
     /// A setter of an attribute.
     Setter,
@@ -77,11 +87,12 @@ pub enum Workload {
     Equality,
 }
 
-static NAMES: [(&str, Workload); 34] = [
+static NAMES: [(&str, Workload); 37] = [
     ("plain", Workload::Plain),
     ("colours", Workload::Colours),
     ("kana", Workload::Kana),
     ("scroll", Workload::Scroll),
+    ("scroll-two", Workload::ScrollTwo),
     ("log", Workload::Log),
     ("flush-behind", Workload::FlushBehind),
     ("erase-wide", Workload::EraseWide),
@@ -108,6 +119,8 @@ static NAMES: [(&str, Workload); 34] = [
     ("walk", Workload::Walk),
     ("get-cell", Workload::GetCell),
     ("mark", Workload::Mark),
+    ("prune", Workload::Prune),
+    ("insert", Workload::Insert),
     ("append", Workload::Append),
     ("setter", Workload::Setter),
     ("clone", Workload::Clone),
@@ -125,17 +138,32 @@ impl Workload {
     }
 }
 
-/// Runs the workload, and gives a sum that depends on what was done.
-pub fn run(alloc: Global, workload: Workload, count: u32) -> Result<usize, SurfaceError> {
+// The size that is given, or the usual one. A line or a surface has two columns or rows at least.
+fn given(size: Option<u16>, usual: u16) -> usize
+    ensures some { 1 < result }
+    ensures fits { result < 2 ^ 32 }
+{
+    usize::from(size.unwrap_or(usual)).max(2)
+}
+
+/// Runs the workload so often, and gives a sum that depends on what was done. Where its object can
+/// have another size, that may be given.
+pub fn run(
+    alloc: Global,
+    workload: Workload,
+    count: u32,
+    size: Option<u16>,
+) -> Result<usize, SurfaceError> {
     match workload {
         Workload::Plain => printing::plain(alloc, count),
         Workload::Colours => printing::coloured(alloc, count),
         Workload::Kana => printing::kana(alloc, count),
-        Workload::Scroll => printing::scrolled(alloc, count),
+        Workload::Scroll => printing::scrolled(alloc, given(size, 24), count),
+        Workload::ScrollTwo => printing::scrolled_in_two(alloc, given(size, 24), count),
         Workload::Log => printing::flushed(alloc, count),
-        Workload::FlushBehind => printing::flushed_behind(alloc, count),
-        Workload::EraseWide => printing::erased_wide(alloc, count),
-        Workload::Delta => viewers::due(alloc, count),
+        Workload::FlushBehind => printing::flushed_behind(alloc, given(size, 8_000), count),
+        Workload::EraseWide => printing::erased_wide(alloc, given(size, 80), count),
+        Workload::Delta => viewers::due(alloc, given(size, 11), count),
         Workload::Repaint => viewers::repainted(alloc, 80, 24, count),
         Workload::LargeRepaint => viewers::repainted(alloc, 200, 60, count),
         Workload::OnePen => viewers::one_pen(alloc, count),
@@ -153,12 +181,14 @@ pub fn run(alloc: Global, workload: Workload, count: u32) -> Result<usize, Surfa
         Workload::Resize => sizes::resized(alloc, count),
         Workload::ResizeOneRow => sizes::resized_by_a_row(alloc, count),
         Workload::New => sizes::made(alloc, count),
-        Workload::LineClone => lines::cloned(alloc, count),
-        Workload::Compress => lines::compressed(alloc, count),
-        Workload::Walk => lines::walked(alloc, count),
-        Workload::GetCell => lines::got(alloc, count),
-        Workload::Mark => lines::marked(alloc, count),
-        Workload::Append => lines::appended(alloc, count),
+        Workload::LineClone => lines::cloned(alloc, given(size, 120), count),
+        Workload::Compress => lines::compressed(alloc, given(size, 120), count),
+        Workload::Walk => lines::walked(alloc, given(size, 120), count),
+        Workload::GetCell => lines::got(alloc, given(size, 120), count),
+        Workload::Mark => lines::marked(alloc, given(size, 120), count),
+        Workload::Prune => lines::pruned(alloc, given(size, 120), count),
+        Workload::Insert => lines::inserted(alloc, given(size, 120), count),
+        Workload::Append => lines::appended(alloc, given(size, 120), count),
         Workload::Setter => attributes::set(count),
         Workload::Clone => attributes::cloned(count),
         Workload::Equality => attributes::compared(count),

@@ -11,6 +11,7 @@ pub mod Width
 pub mod Measure
 pub mod WidthLaws
 pub mod CellValue
+pub mod ShortTextLayout
 pub mod CellLayout
 pub mod Lending
 pub mod AttributeChangeValue

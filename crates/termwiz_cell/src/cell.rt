@@ -13,6 +13,7 @@ mod attribute_change;
 mod attributes;
 mod debug;
 mod form;
+mod short_text;
 mod style;
 mod style_word;
 mod text;

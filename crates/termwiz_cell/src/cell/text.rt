@@ -6,15 +6,15 @@ ghost use Rattle.termwiz_cell.specs.CellLayout.{text_in, wide_in, IsStored};
 ghost use Rattle.termwiz_cell.specs.CellValue.{clean, space};
 ghost use Rattle.termwiz_text.specs.Plain.{is_plain};
 
-use arrayvec::ArrayString;
+use super::short_text::ShortText;
 use std::alloc::{AllocError, Global};
 
 /// The text of a cell, and whether it takes two columns. A text of at most seven bytes stands in
 /// the value itself, and a longer one on the heap.
 #[derive(Drop)]
 pub(super) enum CellText {
-    Narrow(ArrayString<7>),
-    Wide(ArrayString<7>),
+    Narrow(ShortText),
+    Wide(ShortText),
     Long(Box<LongText>),
 }
 
@@ -68,10 +68,7 @@ impl CellText {
         ensures narrow { wide_in result ≡ false }
         ensures stored { IsStored result }
     {
-        let mut short = ArrayString::new();
-        // The remainder shows the compiler that the text is one byte.
-        short.push((byte % 128) as char);
-        CellText::Narrow(short)
+        CellText::Narrow(ShortText::plain(byte))
     }
 
     /// This text. It can only fail where the text is longer than seven bytes.
@@ -83,7 +80,7 @@ impl CellText {
         ensures succeeds { length text.now ≤ 7 → IsOk result }
     {
         if text.len() <= 7 {
-            let short = short_text(text);
+            let short = ShortText::new(text);
             return Ok(if wide {
                 CellText::Wide(short)
             } else {
@@ -121,7 +118,7 @@ impl CellText {
         ensures { IsTrue result ↔ ((text_in self.now ≡ space) × (wide_in self.now ≡ false)) }
     {
         match self {
-            CellText::Narrow(short) => matches!(short.as_str().as_bytes(), b" "),
+            CellText::Narrow(short) => short.is_same(&ShortText::plain(b' ')),
             _ => false,
         }
     }
@@ -138,8 +135,8 @@ impl CellText {
             && beq (wide_in self.now) (wide_in other.now)) }
     {
         match (self, other) {
-            (CellText::Narrow(a), CellText::Narrow(b)) => is_same_short(a.as_str(), b.as_str()),
-            (CellText::Wide(a), CellText::Wide(b)) => is_same_str(a.as_str(), b.as_str()),
+            (CellText::Narrow(a), CellText::Narrow(b)) => a.is_same(b),
+            (CellText::Wide(a), CellText::Wide(b)) => a.is_same(b),
             (CellText::Long(a), CellText::Long(b)) => a.is_same(b),
             (CellText::Narrow(_), CellText::Wide(_)) => false,
             (CellText::Wide(_), CellText::Narrow(_)) => false,
@@ -177,49 +174,6 @@ impl CellText {
             CellText::Long(long) => long_text(*Box::allocator(long), &long.text, long.wide),
         }
     }
-}
-
-// Whether both are the same text. Those of one byte are told apart without a call.
-#[inline(always)]
-fn is_same_short(a: &str, b: &str) -> bool
-    ensures { result ≡ bytes_eq a.now b.now }
-{
-    match (a.as_bytes(), b.as_bytes()) {
-        ([a], [b]) => *a == *b,
-        _ => is_same_str(a, b),
-    }
-}
-
-#[inline(never)]
-fn is_same_str(a: &str, b: &str) -> bool
-    ensures { result ≡ bytes_eq a.now b.now }
-{
-    a == b
-}
-
-/// A text of at most seven bytes. A character of kana, or a common ideograph, has three, and the
-/// copy
-/// of a known length needs no call.
-fn short_text(text: &str) -> ArrayString<7>
-    requires { length text.now ≤ 7 }
-    ensures { result.bytes ≡ text.now }
-{
-    if text.len() == 3 {
-        let mut short = ArrayString::new();
-        short.push_str(text);
-        return short;
-    }
-    other_short_text(text)
-}
-
-#[inline(never)]
-fn other_short_text(text: &str) -> ArrayString<7>
-    requires { length text.now ≤ 7 }
-    ensures { result.bytes ≡ text.now }
-{
-    let mut short = ArrayString::new();
-    short.push_str(text);
-    short
 }
 
 /// This text, which has more than seven bytes. It stands apart, so that the way of the others is

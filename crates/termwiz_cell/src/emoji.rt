@@ -49,8 +49,7 @@ pub struct UnicodeVersion {
 }
 
 /// Version 14, in which characters of ambiguous width take one column. `UnicodeWidths` answers for
-/// it
-/// as for any other version.
+/// it as for any other version.
 pub const LATEST_UNICODE_VERSION: UnicodeVersion = UnicodeVersion {
     version: 14,
     ambiguous_are_wide: false,
@@ -148,9 +147,8 @@ impl Widths for OneColumn {
 }
 
 /// The widths of the Unicode tables, cut at 2 columns, whatever the version. Characters of
-/// ambiguous
-/// width take one column. Texts are shown as text, unless the first variation selector in them asks
-/// for the emoji form.
+/// ambiguous width take one column. Texts are shown as text, unless the first variation selector in
+/// them asks for the emoji form.
 #[derive(Clone, Copy, PartialEq, Eq, Debug)]
 pub struct UnicodeWidths;
 

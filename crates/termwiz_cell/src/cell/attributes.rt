@@ -322,8 +322,7 @@ impl CellAttributes {
     }
 
     /// Sets the colour behind the text. It can only fail where the attributes take memory and took
-    /// none
-    /// before. At an error nothing changed.
+    /// none before. At an error nothing changed.
     pub fn change_background(
         &mut self,
         alloc: Global,
@@ -350,8 +349,8 @@ impl CellAttributes {
     }
 
     /// Sets the colour of the line under the text. It can only fail where `change_underline_color`
-    /// can, which also
-    /// promises that an error leaves the attributes as they were; this contract doesn't say so.
+    /// can, which also promises that an error leaves the attributes as they were; this contract
+    /// doesn't say so.
     pub fn set_underline_color(
         &mut self,
         alloc: Global,
@@ -368,8 +367,7 @@ impl CellAttributes {
     }
 
     /// Sets the colour of the line under the text. It can only fail where the attributes take
-    /// memory and took none
-    /// before. At an error nothing changed.
+    /// memory and took none before. At an error nothing changed.
     pub fn change_underline_color(
         &mut self,
         alloc: Global,

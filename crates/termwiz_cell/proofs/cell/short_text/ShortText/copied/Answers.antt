@@ -1,4 +1,3 @@
-use Rattle.std.proofs.Common.{ap, subst, ◌∙◌, length}
 use Rattle.termwiz_cell.proofs.ShortTexts.{IsShort-padded}
 use Rattle.termwiz_cell.proofs.cell.short_text.ShortText.copied.Goals as goal
 

@@ -1,4 +1,4 @@
-use Rattle.std.proofs.Common.{◌∙◌, ap}
+use Rattle.std.proofs.Common.{◌∙◌}
 use Rattle.std.specs.Prelude.{bytes_eq}
 use Rattle.termwiz_cell.proofs.ShortTexts.{bytes_eq-fields}
 use Rattle.termwiz_cell.proofs.cell.short_text.ShortText.is_same.Goals as goal

@@ -14,8 +14,9 @@ use Rattle.termwiz_cell.specs.Attributes.{Attributes, attributes_eq, attributes_
 use Rattle.termwiz_cell.specs.CellValue.{CellValue, clean, is_control, is_wide, plain_cell}
 use Rattle.termwiz_storage.specs.declared.line.clusterline.runs.Shape.{Shape}
 use Rattle.termwiz_storage.specs.CellTexts.{cell_texts}
+use Rattle.termwiz_storage.specs.Stored.{visible_from}
 use Rattle.termwiz_storage.specs.Clustered.{cell_len, cells_from, IsSound, IsWhole}
-use Rattle.termwiz_storage.specs.PlainCells.{is_plain_with, ArePlain}
+use Rattle.termwiz_storage.specs.PlainCells.{is_plain_with, begins_plain, ArePlain, IsPlainFirst}
 use Rattle.termwiz_storage.proofs.Clustered.{IsSound-push, cells_from-push}
 use Rattle.termwiz_storage.proofs.Whole.{behind_narrow}
 
@@ -36,6 +37,17 @@ plain_is a c h =
     let narrow : c.wide ≡ false = not-true c.wide parts.0 in
     let attrs : c.attrs ≡ a = (attributes_eq-Decides c.attrs a).0 rest.1 in
     (text.0, (λ i. record { text = text.1 i; wide = narrow i; attrs = attrs i }), text.2)
+
+-- the walk of a list that begins with a plain cell
+pub plain_first : (a : Attributes) (i b : ℕ) (c : CellValue) (cs : List CellValue) → is_plain_with a c ≡ true → c.text ≡ b ∷ [] → IsPlainFirst a (visible_from i 0 (c ∷ cs)) b (visible_from (i + 1) 0 cs)
+plain_first a i b c cs h e =
+    let parts = plain_is a c h in
+    let same : parts.0 ≡ b = let texts : parts.0 ∷ [] ≡ b ∷ [] = sym (ap (λ (d : CellValue). d.text) parts.1) ∙ e in cc in
+    record {
+      column = i;
+      plain = ap is_plain (sym same) ∙ parts.2;
+      first = ap (λ (d : CellValue). visible_from i 0 (d ∷ cs)) parts.1 ∙ ap (λ t. (i, plain_cell t a) ∷ visible_from (i + 1) 0 cs) same;
+    }
 
 clean_plain : (b : ℕ) → is_plain b ≡ true → clean (b ∷ []) ≡ b ∷ []
 clean_plain b h =

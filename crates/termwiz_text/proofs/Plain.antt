@@ -17,7 +17,7 @@ use Rattle.termwiz_text.proofs.Boundaries.{breaks, breaks-end}
 plain_lt : (c : ℕ) → is_plain c ≡ true → c < 127
 plain_lt c h = let le = leb-true c 0x7E (and_parts (nat_le 0x20 c) (nat_le c 0x7E) h).1 in omega arith
 
-plain_ascii : (c : ℕ) → is_plain c ≡ true → c < 128
+pub plain_ascii : (c : ℕ) → is_plain c ≡ true → c < 128
 plain_ascii c h = let l = plain_lt c h in omega arith
 
 pub plain_unmarked : (c : ℕ) → is_plain c ≡ true → is_ascii c ≡ true

@@ -1,5 +1,5 @@
 -- A text behind another one: where no grapheme runs over the seam.
-use Rattle.std.proofs.Common.{◌≡◌, ◌≢◌, ℕ, suc, ◌-◌, true, false, List, [], ◌∷◌, ◌++◌, map, length, Some, refl, sym, ap, ap₂, subst, ◌∙◌, arith}
+use Rattle.std.proofs.Common.{◌≡◌, ◌≢◌, ℕ, suc, ◌-◌, true, false, List, [], ◌∷◌, ◌++◌, map, length, Some, None, refl, sym, ap, ap₂, subst, ◌∙◌, arith}
 use Rattle.std.specs.Prelude.{slice_get, ◌↔◌, encode_utf8_all}
 use Rattle.std.proofs.lemmas.List.{map-append}
 use Rattle.std.proofs.lemmas.Str.{chars-append, chars-nil}
@@ -94,6 +94,23 @@ last_plain (x ∷ (y ∷ b)) h =
     let rest = last_plain (y ∷ b) h in
     let less : length (x ∷ (y ∷ b)) - 1 ≡ suc (length (y ∷ b) - 1) = omega arith in
     (rest.0, (ap (slice_get (x ∷ (y ∷ b))) less ∙ rest.1.0, rest.1.1))
+
+-- its last byte decides
+pub plain_last_is : (b : List ℕ) (p : ℕ) → slice_get b (length b - 1) ≡ Some p → is_plain_last b ≡ is_plain p
+unfolding is_plain_last
+plain_last_is [] p e = absurd cc
+plain_last_is (x ∷ []) p e = let same : x ≡ p = cc in ap is_plain same
+plain_last_is (x ∷ (y ∷ b)) p e =
+    let less : length (x ∷ (y ∷ b)) - 1 ≡ suc (length (y ∷ b) - 1) = omega arith in
+    plain_last_is (y ∷ b) p (ap (slice_get (x ∷ (y ∷ b))) (sym less) ∙ e)
+
+pub plain_last_none : (b : List ℕ) → slice_get b (length b - 1) ≡ None → is_plain_last b ≡ false
+unfolding is_plain_last
+plain_last_none [] e = refl
+plain_last_none (x ∷ []) e = absurd cc
+plain_last_none (x ∷ (y ∷ b)) e =
+    let less : length (x ∷ (y ∷ b)) - 1 ≡ suc (length (y ∷ b) - 1) = omega arith in
+    plain_last_none (y ∷ b) (ap (slice_get (x ∷ (y ∷ b))) (sym less) ∙ e)
 
 pub seam_behind : (b : List ℕ) (q : ℕ) → IsUtf8 b → is_plain_last b ≡ true → is_plain q ≡ true → graphemes true (b ++ q ∷ []) ≡ graphemes true b ++ (q ∷ []) ∷ []
 seam_behind b q u last plain =

@@ -1,5 +1,5 @@
 //! A text that grows by one grapheme at a time.
-ghost use Rattle.std.specs.Prelude.{◌≡◌, ◌↔◌, ◌++◌, ◌∷◌, [], List, ℕ, true, IsTrue, ◌<◌, IfSome};
+ghost use Rattle.std.specs.Prelude.{◌≡◌, ◌↔◌, ◌++◌, ◌∷◌, [], List, ℕ, true, IsTrue, IfSome};
 ghost use Rattle.std.specs.Prelude.{IfOk, OnOk, OnErr, string_bytes, if◌then◌else◌};
 ghost use Rattle.termwiz_text.specs.CutAt.{IsCutAt};
 ghost use Rattle.termwiz_text.specs.Plain.{is_plain_last, is_plain};
@@ -36,12 +36,11 @@ impl Model for JoinedText {
 // The only byte of a text that is printable ASCII.
 #[inline(always)]
 fn only_plain(text: &str) -> Option<u8>
-    ensures ascii { IfSome result (λ byte. byte < 128) }
     ensures plain { IfSome result (λ byte. is_plain byte ≡ true) }
     ensures only { IfSome result (λ byte. text.now ≡ byte ∷ []) }
 {
     match text.as_bytes() {
-        [only] if is_plain(*only) && only.is_ascii() => Some(*only),
+        [only] if is_plain(*only) => Some(*only),
         _ => None,
     }
 }
@@ -128,15 +127,26 @@ impl JoinedText {
         self.join_other(more)
     }
 
-    // Appends a character of printable ASCII behind printable ASCII.
+    /// Whether the text ends in printable ASCII.
+    pub fn ends_plain(&self) -> bool
+        ensures { result ≡ is_plain_last self.now }
+    {
+        match self.text.as_str().as_bytes().last() {
+            Some(last) => is_plain(*last),
+            None => false,
+        }
+    }
+
+    /// Appends a character of printable ASCII behind printable ASCII, of which it is always a
+    /// grapheme by itself. On an error the text so far stays.
     #[inline(always)]
-    fn push_plain(&mut self, byte: u8) -> Result<(), AllocError>
-        requires ascii { byte < 128 }
+    pub fn push_plain(&mut self, byte: u8) -> Result<(), AllocError>
         requires plain { is_plain byte ≡ true }
         requires behind { is_plain_last self.old ≡ true }
         ensures joins { graphemes true (self.old ++ byte ∷ [])
             ≡ graphemes true self.old ++ (byte ∷ []) ∷ [] }
         ensures ok { OnOk result (self.new ≡ self.old ++ byte ∷ []) }
+        ensures ends { OnOk result (is_plain_last self.new ≡ true) }
         ensures err { OnErr result (self.new ≡ self.old) }
     {
         let seam = self.text.as_str().len();

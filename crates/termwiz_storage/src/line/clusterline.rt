@@ -14,7 +14,7 @@ ghost use Rattle.termwiz_storage.specs.CellsLeft.{IsOfCell, YieldsCell};
 ghost use Rattle.termwiz_storage.specs.Clustered.{HasByteCells, IsWhole, cell_len};
 ghost use Rattle.termwiz_storage.specs.Edits.{with_half};
 ghost use Rattle.termwiz_storage.specs.LastCell.{last_attrs};
-ghost use Rattle.termwiz_storage.specs.PlainCells.{is_plain_with, ArePlain};
+ghost use Rattle.termwiz_storage.specs.PlainCells.{ArePlain};
 ghost use Rattle.termwiz_storage.specs.Stored.{cell_at, is_linked, visible, IsKept};
 ghost use Rattle.termwiz_storage.specs.Wrapped.{set_last_wrapped, with_wrapped};
 
@@ -22,7 +22,7 @@ mod run_lists;
 mod runs;
 
 use crate::line::cellref::CellRef;
-use crate::line::vecstorage::{hides_next, push_with_half, set_wrapped};
+use crate::line::vecstorage::{hides_next, plain_byte, push_with_half, set_wrapped};
 use run_lists::{
     AttrsIter, ShapeIter, attrs_at, cell_count, has_link, push_attrs, push_shape, wrap_last,
 };
@@ -30,7 +30,6 @@ use runs::{AttrsRun, Shape, ShapeRun};
 use std::alloc::{AllocError, Global};
 use std::marker::Model;
 use termwiz_cell::cell::{Cell, CellAttributes};
-use termwiz_text::is_one_plain;
 
 /// The cells of a line as one text, with what tells each cell's part of it, and runs of equal
 /// attributes. Where cells in a row are alike it takes far less memory than a vector of cells.
@@ -396,19 +395,6 @@ fn push_plain(text: &mut String, cells: &[Cell], attrs: &CellAttributes) -> usiz
         text.push(byte as char).unwrap();
     }
     cells.len()
-}
-
-// The character of a plain cell with these attributes.
-fn plain_byte(cell: &Cell, attrs: &CellAttributes) -> Option<u8>
-    ensures plain { IsSome result ↔ (is_plain_with attrs.now cell.now ≡ true) }
-    ensures text { IfSome result (λ byte. cell.now.text ≡ byte ∷ []) }
-    ensures ascii { IfSome result (λ byte. byte < 128) }
-{
-    let text = cell.str();
-    if cell.width() == 1 && is_one_plain(text) && *cell.attrs() == *attrs {
-        return Some(text.as_bytes()[0]);
-    }
-    None
 }
 
 // Appends to a text, for which there is room. A character of ASCII takes no call.

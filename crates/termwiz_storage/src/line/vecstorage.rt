@@ -1,6 +1,7 @@
 //! Cells stored one by one.
 ghost use Rattle.std.specs.Prelude.{◌≡◌, [], false, true, ◌+◌, ◌-◌, ◌<◌, ◌≤◌, ◌↔◌, IsTrue, OnErr};
 ghost use Rattle.std.specs.Prelude.{OnOk, IsOk, IfOk, IfSome, length, option_map, take, replicate};
+ghost use Rattle.std.specs.Prelude.{IsSome, MatchOption, ◌∷◌};
 ghost use Rattle.std.specs.Prelude.{slice_set, vec_capacity, vec_len};
 ghost use Rattle.std.specs.Cmp.{decided, partial_equiv_from_equiv};
 ghost use Rattle.std.specs.Iterator.{item_count};
@@ -10,6 +11,7 @@ ghost use Rattle.termwiz_cell.specs.Attributes.{needs_box};
 ghost use Rattle.termwiz_cell.specs.CellValue.{blank, half, is_wide};
 ghost use Rattle.termwiz_storage.specs.CellsLeft.{IsOfCell, YieldsCell};
 ghost use Rattle.termwiz_storage.specs.CellRef.{ref_cell, ref_index};
+ghost use Rattle.termwiz_storage.specs.PlainCells.{begins_plain, is_plain_with, IsPlainFirst};
 ghost use Rattle.termwiz_storage.specs.Stored.{cell_at, fill, hides, is_linked, padded, put_run};
 ghost use Rattle.termwiz_storage.specs.Stored.{stored, set_cell, set_run, torn, visible, IsKept};
 ghost use Rattle.termwiz_storage.specs.Halves.{resized};
@@ -29,6 +31,7 @@ use std::marker::Model;
 use std::ops::{DerefSlice, DerefSliceMut};
 use std::{mem, slice};
 use termwiz_cell::cell::{Cell, CellAttributes};
+use termwiz_text::is_one_plain;
 pub(crate) use wrapped::set_wrapped;
 
 /// The cells of a line, each with a place of its own. It is read, and written, as a slice of cells.
@@ -595,7 +598,6 @@ impl Eq for VecStorage {
 pub struct VecStorageIter<'a> {
     cells: slice::Iter<'a, Cell>,
     idx: usize,
-    skip_width: usize,
 }
 
 impl<'a> Model for VecStorageIter<'a> {
@@ -606,7 +608,7 @@ impl<'a> Model for VecStorageIter<'a> {
 
     ghost Value = { List (ℕ × CellValue) };
 
-    ghost view = { λ s. visible_from s.idx s.skip_width (iter_rest s.cells) };
+    ghost view = { λ s. visible_from s.idx 0 (iter_rest s.cells) };
 
     ghost invariant = { λ s. s.idx + length (iter_rest s.cells) < 2 ^ 64 };
 }
@@ -619,7 +621,25 @@ impl<'a> VecStorageIter<'a> {
         VecStorageIter {
             cells: cells.iter(),
             idx: 0,
-            skip_width: 0,
+        }
+    }
+
+    /// The character of the next cell, where that is plain: one character of printable ASCII, which
+    /// takes one column, with these attributes. Else the walk stays where it is.
+    #[inline(always)]
+    pub fn next_plain(&mut self, attrs: &CellAttributes) -> Option<u8>
+        ensures { MatchOption result
+            ((self.new ≡ self.old) × (begins_plain attrs.now self.old ≡ false))
+            (λ byte. IsPlainFirst attrs.now self.old byte self.new) }
+    {
+        let (first, rest) = self.cells.as_slice().split_first()?;
+        match plain_byte(first, attrs) {
+            Some(byte) => {
+                self.cells = rest.iter();
+                self.idx += 1;
+                Some(byte)
+            }
+            None => None,
         }
     }
 }
@@ -633,17 +653,29 @@ impl<'a> Iterator for VecStorageIter<'a> {
 
     #[inline(always)]
     fn next(&mut self) -> Option<CellRef<'a>> {
-        while self.skip_width > 0 {
-            self.skip_width -= 1;
-            self.cells.next()?;
-            self.idx += 1;
-        }
         let cell = self.cells.next()?;
         // A cell's text is clean, which its reader knows.
         let _text = cell.str();
         let cell_index = self.idx;
         self.idx += 1;
-        self.skip_width = cell.width() - 1;
+        // The cell behind a wide one is passed over.
+        if cell.width() > 1 && self.cells.next().is_some() {
+            self.idx += 1;
+        }
         Some(CellRef::CellRef { cell_index, cell })
     }
+}
+
+// The character of a plain cell with these attributes.
+#[inline(always)]
+pub(crate) fn plain_byte(cell: &Cell, attrs: &CellAttributes) -> Option<u8>
+    ensures plain { IsSome result ↔ (is_plain_with attrs.now cell.now ≡ true) }
+    ensures text { IfSome result (λ byte. cell.now.text ≡ byte ∷ []) }
+    ensures ascii { IfSome result (λ byte. byte < 128) }
+{
+    let text = cell.str();
+    if cell.width() == 1 && is_one_plain(text) && *cell.attrs() == *attrs {
+        return Some(text.as_bytes()[0]);
+    }
+    None
 }

@@ -6,5 +6,6 @@ pub mod Simple
 pub mod Ascii
 pub mod First
 pub mod Plain
+pub mod LetterRuns
 pub mod Seam
 pub mod CutAt

@@ -97,7 +97,7 @@ first_piece before (c ∷ cs) p ps h = elim (cases_Bool (breaks (c ∷ before) (
   | inr n ↦ longer before c cs p ps n (sym (cond-false (breaks (c ∷ before) (cs ++ [])) ((c ∷ []) ∷ cut breaks (c ∷ before) cs []) (prepend (c ∷ []) (cut breaks (c ∷ before) cs [])) n) ∙ h) (first_piece (c ∷ before) cs)
 ]
 
-IsUtf8-past : (cs rest : List ℕ) → IsUtf8 (encode_utf8_all cs ++ rest) → IsUtf8 rest
+pub IsUtf8-past : (cs rest : List ℕ) → IsUtf8 (encode_utf8_all cs ++ rest) → IsUtf8 rest
 IsUtf8-past [] rest u = u
 IsUtf8-past (c ∷ cs) rest u = IsUtf8-past cs rest (IsUtf8-past_char _ _ c u (append_assoc (encode_utf8 c) (encode_utf8_all cs) rest))
 

@@ -3,7 +3,7 @@
 
 ghost use Rattle.std.specs.Prelude.{◌≡◌, ◌≤◌, ◌<◌, length, ◌↔◌, ℕ, true, false, List, [], ◌∷◌};
 ghost use Rattle.std.specs.Prelude.{◌++◌, min, take, drop, slice_index, MatchOption, IfSome};
-ghost use Rattle.std.specs.Prelude.{IsTrue, string_bytes, if◌then◌else◌};
+ghost use Rattle.std.specs.Prelude.{IsTrue, string_bytes, if◌then◌else◌, encode_utf8, get_or};
 ghost use Rattle.std.specs.List.{list_all};
 ghost use Rattle.std.specs.Str.{chars};
 ghost use Rattle.termwiz_text.specs.Plain as plain;
@@ -150,6 +150,71 @@ pub fn split_plain_run(text: &str, limit: usize) -> (&str, &str)
     ensures { plain.IsPlainRun text.now limit result.0.now result.1.now }
 {
     text.split_at(count_unmarked(text.as_bytes(), limit))
+}
+
+/// Whether the text begins with a letter for which `is_letter` holds.
+#[inline]
+pub fn begins_letter(text: &str) -> bool
+    ensures { result ≡ letter.begins_letter (chars text.now) }
+{
+    match text.chars().next() {
+        Some(first) => is_letter(first),
+        None => false,
+    }
+}
+
+// How many letters the text begins with, `limit` at most.
+fn count_letters(text: &str, limit: usize) -> usize
+    ensures within { result ≤ min limit (length (chars text.now)) }
+    ensures letters { list_all letter.is_letter (take result (chars text.now)) ≡ true }
+    ensures stops { result < limit →
+        letter.begins_letter (drop result (chars text.now)) ≡ false }
+{
+    let mut chars = text.chars();
+    for k in 0..limit {
+        match chars.next() {
+            Some(c) if is_letter(c) => {}
+            _ => return k,
+        }
+    }
+    limit
+}
+
+/// Splits off a run of at most `limit` letters for which `is_letter` holds, with which the text
+/// begins. Each letter of the run is a grapheme by itself, and the rest is cut as a text of its
+/// own.
+///
+/// The run may be empty. It has fewer letters only where the rest is empty, begins with another
+/// character, or begins with a letter right before one that is neither a letter nor ASCII, which
+/// may be a mark on it.
+pub fn split_letter_run(text: &str, limit: usize) -> (&str, &str)
+    ensures { letter.IsLetterRun text.now limit result.0.now result.1.now }
+{
+    let count = count_letters(text, limit);
+    let (run, rest) = text.split_at(3 * count);
+    if count == 0 || begins_simple(rest) {
+        return (run, rest);
+    }
+    text.split_at(3 * (count - 1))
+}
+
+/// How many letters a run of them has: each has three bytes.
+#[inline]
+pub fn letter_count(run: &str) -> usize
+    requires { letter.AreLetters run.now }
+    ensures { result ≡ length (chars run.now) }
+{
+    run.len() / 3
+}
+
+/// The letter at an index of a run of letters.
+#[inline]
+pub fn letter_at(run: &str, k: usize) -> &str
+    requires letters { letter.AreLetters run.now }
+    requires inside { k < length (chars run.now) }
+    ensures { result.now ≡ encode_utf8 (get_or (chars run.now) k 0) }
+{
+    &run[3 * k..3 * k + 3]
 }
 
 // Whether the last grapheme of the whole is the text at its end.

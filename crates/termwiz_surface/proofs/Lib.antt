@@ -1,5 +1,6 @@
 mod Running
 mod Viewing
 mod FollowedRuns
+mod ScheduleLaws
 mod Accepting
 mod ManyRuns

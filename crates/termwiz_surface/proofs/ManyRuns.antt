@@ -1,57 +1,39 @@
 -- What a surface, its viewers and the answers that are kept do is what the schedule for many viewers allows, and their numbers go on to name what they named.
-use Rattle.std.proofs.Common.{◌≡◌, ℕ, ◌+◌, ◌<◌, ◌≤◌, inl, inr, false, List, [], ◌∷◌, ◌++◌, length, map, replicate, refl, sym, ap, subst, ◌∙◌, arith, length-append, add-zero}
+use Rattle.std.proofs.Common.{◌≡◌, ℕ, ◌<◌, ◌≤◌, inl, inr, List, [], ◌∷◌, ◌++◌, length, map, replicate, refl, sym, ap, subst, ◌∙◌, arith}
 use Rattle.std.specs.Prelude.{get_or, set}
-use Rattle.std.proofs.lemmas.List.{length-map, length-replicate, get_or-map, get_or-replicate, get_or_default, map-append, map-set}
+use Rattle.std.proofs.lemmas.List.{length-map, length-replicate, get_or-map, get_or-replicate, get_or_default, map-append}
 use Rattle.std.proofs.lemmas.List.Elements.{All-push, All-set}
 use Rattle.termwiz_surface_core.specs.Answer.{AnswerValue, Carries}
 use Rattle.termwiz_surface_core.specs.Following.{ViewerValue, blank_viewer}
 use Rattle.termwiz_surface_core.specs.History.{Names, IsPast, KeepsNames}
 use Rattle.termwiz_screen.specs.Log.{next_number}
 use Rattle.termwiz_screen.specs.Picture.{screens}
-use Rattle.termwiz_surface.specs.ManySchedule.{Held, ManyState, ViewerState, viewer_state, IsAt, Turns, Receives, Delivers, TakesSizeAs, TakesOwnSize, AllowsMany, RunsMany, Ended, Next, first_many}
-use Rattle.termwiz_surface.specs.ManySteps.{many_state, IsNamed, IsHeld, Remembers, AnswersTo, TakesAs, DeliversTo, ResizesAs, Serves}
-use Rattle.termwiz_surface.specs.Schedule.{Seen, Allows, state_beside}
+use Rattle.termwiz_surface.specs.ManySchedule.{Held, ManyState, Receives, ResizesAs, Delivers, TakesOwnSize, AllowsMany, RunsMany, Ended, Next}
+use Rattle.termwiz_surface.specs.ManySteps.{many_state, IsNamed, IsHeld, Remembers, AnswersTo, TakesAs, DeliversTo, Serves}
+use Rattle.termwiz_surface.specs.Schedule.{Acts}
 use Rattle.termwiz_screen.specs.Screen.{Screen}
-use Rattle.termwiz_surface_core.specs.SurfaceValue.{SurfaceValue, screen_of, kept_of}
+use Rattle.termwiz_surface_core.specs.SurfaceValue.{SurfaceValue, screen_of}
 use Rattle.termwiz_surface_core.specs.declared.surface.SurfaceError.TheVariants as refused
 use Rattle.termwiz_surface.specs.declared.view.Event.{Event}
-use Rattle.termwiz_surface.specs.declared.view.Event.TheVariants as event
 use Rattle.termwiz_surface.specs.declared.view.Outcome.{Outcome}
 use Rattle.termwiz_surface.specs.declared.view.many.ManyEvent.{ManyEvent}
 use Rattle.termwiz_surface.specs.declared.view.many.ManyEvent.TheVariants.{On, AnswerFor, Deliver, ResizeViewer}
 use Rattle.termwiz_surface.specs.declared.view.many.ManyOutcome.{ManyOutcome}
 use Rattle.termwiz_surface.specs.declared.view.many.ManyOutcome.TheVariants.{Of, Kept, Accepted, NotAccepted, Done, Refused, NoSuch}
 use Rattle.termwiz_surface.specs.declared.view.viewer.AcceptError.TheVariants.{Size, Stale, Numbers, Memory}
-use Rattle.termwiz_screen.proofs.Logs.{restarted_number}
-use Rattle.termwiz_screen.proofs.Regions.{map-replicate}
-use Rattle.termwiz_surface.proofs.Running.{blank_surface, state_of-blank}
 use Rattle.termwiz_surface_core.proofs.Remembering.{past-first, names-stay, answers-stay, given-carries}
 
-pub RunsMany-push : {W : Type 0} {measure_of : W → List ℕ → ℕ} {measure : List ℕ → ℕ} {a b : ManyState} {events : List (ManyEvent W)} {outcomes : List ManyOutcome} (e : ManyEvent W) (outcome : ManyOutcome) (c : ManyState)
-    → RunsMany measure_of measure a events outcomes b → AllowsMany measure_of measure b e outcome c → RunsMany measure_of measure a (events ++ e ∷ []) (outcomes ++ outcome ∷ []) c
+pub RunsMany-push : {W : Type 0} {measure_of : W → List ℕ → ℕ} {a b : ManyState W} {events : List (ManyEvent W)} {outcomes : List ManyOutcome} (e : ManyEvent W) (outcome : ManyOutcome) (c : ManyState W)
+    → RunsMany measure_of a events outcomes b → AllowsMany measure_of b e outcome c → RunsMany measure_of a (events ++ e ∷ []) (outcomes ++ outcome ∷ []) c
 RunsMany-push e outcome c (Ended s) h = Next s c c e outcome [] [] h (Ended c)
 RunsMany-push e outcome c (Next old mid new first o es os k r) h = Next old mid c first o (es ++ e ∷ []) (os ++ outcome ∷ []) k (RunsMany-push e outcome c r h)
 
-module _ {W : Type 0} where
-  -- a viewer in the list of viewers, as the state has it
-  seen_at : (viewers : List (ViewerValue W)) (v : ℕ) (viewer : ViewerValue W) → v < length viewers → viewer ≡ get_or viewers v viewer → IsAt (map viewer_state viewers) v (viewer_state viewer)
-  seen_at viewers v viewer lt e = record { inside = omega (arith, lt, length-map viewers viewer_state); is = get_or-map viewer_state viewers v viewer (viewer_state viewer) lt ∙ ap viewer_state (sym e) }
-
-  turns : (s : SurfaceValue W) (viewers : List (ViewerValue W)) (held : List Held) (v : ℕ) (viewer new : ViewerValue W) → v < length viewers → viewer ≡ get_or viewers v viewer
-      → Turns v (many_state s viewers held) (viewer_state viewer) (viewer_state new) (many_state s (set viewers v new) held)
-  turns s viewers held v viewer new lt e = record {
-    has = seen_at viewers v viewer lt e;
-    new_is = ap (λ (vs : List ViewerState). record { screen = screen_of s; kept = kept_of s; log = s.log; answers = held; viewers = vs }) (map-set viewer_state viewers v new);
-  }
-
 module _ {W : Type 0} (f : W → List ℕ → ℕ) where
   -- a surface that goes on, among the same viewers and answers
-  remembers-on : (s t : SurfaceValue W) (viewers : List (ViewerValue W)) (answers : List AnswerValue) (held : List Held) → Remembers f s viewers answers held → t.widths ≡ s.widths → t.full ≡ s.full
-      → KeepsNames (f s.widths) s t → Remembers f t viewers answers held
-  remembers-on s t viewers answers held r w full goes =
+  remembers-on : (s t : SurfaceValue W) (viewers : List (ViewerValue W)) (answers : List AnswerValue) (held : List Held) → Remembers f s viewers answers held → t.widths ≡ s.widths → KeepsNames (f s.widths) s t → Remembers f t viewers answers held
+  remembers-on s t viewers answers held r w goes =
       let g = goes.screen r.past r.is_past in
       record {
-        plain = full ∙ r.plain;
         past = g.later;
         is_past = subst (λ m. IsPast screens m g.later (screen_of t) t.log) (sym (ap f w)) g.is_past;
         answers_are = r.answers_are;
@@ -72,24 +54,18 @@ module _ {W : Type 0} (f : W → List ℕ → ℕ) where
             };
       }
 
-  pub serves-act : (s t : SurfaceValue W) (viewers : List (ViewerValue W)) (answers : List AnswerValue) (held : List Held) (e : Event W) (outcome : Outcome) → (e ≡ event.Follow → ⊥) → t.widths ≡ s.widths → t.full ≡ s.full
-      → KeepsNames (f s.widths) s t
-      → ((v : Seen) → Allows f (f s.widths) s.full (state_beside s v) e outcome (state_beside t v)) → Remembers f s viewers answers held → Serves f s viewers held (On e) (Of outcome) t viewers answers
-  serves-act s t viewers answers held e outcome own w full goes allows r = record {
-    later = held;
-    remembers = remembers-on s t viewers answers held r w full goes;
-    allows = record { own = own; allows = λ v. subst (λ b. Allows f (f s.widths) b (state_beside s v) e outcome (state_beside t v)) r.plain (allows v); answers = refl; viewers = refl };
-  }
+  pub serves-act : (s t : SurfaceValue W) (viewers : List (ViewerValue W)) (answers : List AnswerValue) (held : List Held) (e : Event W) (outcome : Outcome) → t.widths ≡ s.widths → KeepsNames (f s.widths) s t → Acts f s e outcome t
+      → Remembers f s viewers answers held → Serves f s viewers held (On e) (Of outcome) t viewers answers
+  serves-act s t viewers answers held e outcome w goes acts r = record { later = held; remembers = remembers-on s t viewers answers held r w goes; allows = (acts, refl) }
 
   pub serves-answer : (s : SurfaceValue W) (viewers : List (ViewerValue W)) (answers new : List AnswerValue) (held : List Held) (v : ℕ) (viewer : ViewerValue W) (outcome : ManyOutcome) → v < length viewers → viewer ≡ get_or viewers v viewer
-      → AnswersTo (f s.widths) s viewer.last answers outcome new → Remembers f s viewers answers held → Serves f s viewers held (AnswerFor v) outcome s viewers new
+      → AnswersTo f s viewer.last answers outcome new → Remembers f s viewers answers held → Serves f s viewers held (AnswerFor v) outcome s viewers new
   serves-answer s viewers answers new held v viewer (Kept k) lt e h r =
       let a = h.1.0 in
       let x : Held = record { answer = a; screen = screen_of s } in
       record {
         later = held ++ x ∷ [];
         remembers = record {
-          plain = r.plain;
           past = r.past;
           is_past = r.is_past;
           answers_are = map-append (λ (y : Held). y.answer) held (x ∷ []) ∙ ap (λ (l : List AnswerValue). l ++ a ∷ []) r.answers_are ∙ sym h.1.2;
@@ -97,9 +73,9 @@ module _ {W : Type 0} (f : W → List ℕ → ℕ) where
           viewers_so = r.viewers_so;
         };
         allows = record {
-          viewer = viewer_state viewer;
+          viewer = viewer;
           answer = a;
-          has = seen_at viewers v viewer lt e;
+          has = record { inside = lt; is = sym e };
           number = h.0 ∙ ap length (sym r.answers_are) ∙ length-map held (λ (y : Held). y.answer);
           given = h.1.1;
           new_is = refl;
@@ -108,7 +84,7 @@ module _ {W : Type 0} (f : W → List ℕ → ℕ) where
   serves-answer s viewers answers new held v viewer (Refused refused.Memory) lt e h r = record {
     later = held;
     remembers = subst (λ (l : List AnswerValue). Remembers f s viewers l held) (sym h) r;
-    allows = (omega (arith, lt, length-map viewers viewer_state), refl);
+    allows = (lt, refl);
   }
   serves-answer s viewers answers new held v viewer (Refused refused.Numbers) lt e h r = absurd h
   serves-answer s viewers answers new held v viewer (Refused refused.ScrollRegion) lt e h r = absurd h
@@ -120,24 +96,9 @@ module _ {W : Type 0} (f : W → List ℕ → ℕ) where
 
   -- a viewer that was given an answer
   module _ (viewer new : ViewerValue W) (a : AnswerValue) (t : Screen) (past : ℕ → Screen) (carries : Carries screens (f viewer.surface.widths) past a t) (names : Names past viewer.last (screen_of viewer.surface)) where
-    received : (outcome : ManyOutcome) → TakesAs f viewer a outcome new → Receives (viewer_state viewer) (record { answer = a; screen = t }) outcome (viewer_state new)
-    received (Accepted n told) h =
-        let k = h.0 in
-        let shows = h.2 past t carries names in
-        let counted : next_number new.surface.log ≡ next_number viewer.surface.log + length a.changes = ap next_number k.4.log ∙ omega (arith, length-append viewer.surface.log.changes a.changes) in (
-          record { suits = k.0.suits; fresh = k.0.fresh },
-          k.1,
-          k.2,
-          h.1 ∙ shows,
-          λ i. record { given = k.3 i; shown = shows i; own = counted i },
-        )
-    received (NotAccepted Size) h = (h.0, ap viewer_state h.1)
-    received (NotAccepted Stale) h = (h.0, h.1, ap viewer_state h.2)
-    received (NotAccepted Numbers) h = (record { suits = h.0.suits; fresh = h.0.fresh }, h.1, ap viewer_state h.2)
-    received (NotAccepted Memory) h = elim h.2.surface [
-      | inl same ↦ (record { suits = h.0.suits; fresh = h.0.fresh }, h.1, h.2.last, ap (λ (x : SurfaceValue W). x.width) same, ap (λ (x : SurfaceValue W). x.height) same, omega (arith, ap (λ (x : SurfaceValue W). next_number x.log) same))
-      | inr k ↦ (record { suits = h.0.suits; fresh = h.0.fresh }, h.1, h.2.last, k.0.width, k.0.height, omega (arith, ap next_number k.0.log, restarted_number viewer.surface.log))
-    ]
+    received : (outcome : ManyOutcome) → TakesAs f viewer a outcome new → Receives f viewer (record { answer = a; screen = t }) outcome new
+    received (Accepted n told) h = let shows = h.2 past t carries names in (h.0, h.1 ∙ shows, shows)
+    received (NotAccepted e) h = h
     received (Of o) h = absurd h
     received (Kept k) h = absurd h
     received Done h = absurd h
@@ -187,19 +148,18 @@ module _ {W : Type 0} (f : W → List ℕ → ℕ) where
     carries_now : Carries screens (f viewer.surface.widths) r.past a given_at
     carries_now = subst (λ m. Carries screens m r.past a given_at) (sym viewer_so.one_measure) answer_so.carries
 
-    delivered : (outcome : ManyOutcome) → DeliversTo f viewer a outcome new → Delivers (many_state s viewers held) v k outcome (many_state s (set viewers v new) held)
+    delivered : (outcome : ManyOutcome) → DeliversTo f viewer a outcome new → Delivers f (many_state s viewers held) v k outcome (many_state s (set viewers v new) held)
     delivered outcome d = record {
-      viewer = viewer_state viewer;
-      after = viewer_state new;
+      viewer = viewer;
+      after = new;
       held = answer_held;
       has = record { inside = has_held; is = held_is };
       receives = received viewer new a given_at r.past carries_now viewer_so.names outcome d.takes;
-      turns = turns s viewers held v viewer new has_viewer viewer_is;
+      turns = record { has = record { inside = has_viewer; is = sym viewer_is }; new_is = refl };
     }
 
     remembered : (outcome : ManyOutcome) → DeliversTo f viewer a outcome new → Remembers f s (set viewers v new) answers held
     remembered outcome d = record {
-      plain = r.plain;
       past = r.past;
       is_past = r.is_past;
       answers_are = r.answers_are;
@@ -218,18 +178,6 @@ module _ {W : Type 0} (f : W → List ℕ → ℕ) where
     serves-deliver (Refused x) d = absurd d.takes
     serves-deliver NoSuch d = absurd d.takes
 
-  -- a viewer took another size, or nothing has changed
-  resized : (viewer new : ViewerValue W) (w h : ℕ) (outcome : ManyOutcome) → ResizesAs viewer w h outcome new → TakesSizeAs (viewer_state viewer) w h outcome (viewer_state new)
-  resized viewer new w h Done k = (k.1.0, λ i. record { given = k.0 i; shown = k.1.1.screen_is i; own = (ap next_number k.1.1.log ∙ add-zero _) i })
-  resized viewer new w h (Refused refused.Numbers) k = (k.0.0, ap viewer_state k.1)
-  resized viewer new w h (Refused refused.Memory) k = (k.0.0, ap viewer_state k.1)
-  resized viewer new w h (Refused refused.ScrollRegion) k = absurd k.0
-  resized viewer new w h (Of o) k = absurd k
-  resized viewer new w h (Kept n) k = absurd k
-  resized viewer new w h (Accepted n t) k = absurd k
-  resized viewer new w h (NotAccepted e) k = absurd k
-  resized viewer new w h NoSuch k = absurd k
-
   named_resized : (past : ℕ → Screen) (s : SurfaceValue W) (viewer new : ViewerValue W) (w h : ℕ) (outcome : ManyOutcome) → ResizesAs viewer w h outcome new → IsNamed f past s viewer → IsNamed f past s new
   named_resized past s viewer new w h Done k n = record { one_measure = ap f k.1.1.widths ∙ n.one_measure; not_ahead = omega (arith, k.0); names = record { named = λ ne. absurd (ne k.0) } }
   named_resized past s viewer new w h (Refused e) k n = subst (IsNamed f past s) (sym k.1) n
@@ -242,7 +190,6 @@ module _ {W : Type 0} (f : W → List ℕ → ℕ) where
   module _ (s : SurfaceValue W) (viewers : List (ViewerValue W)) (answers : List AnswerValue) (held : List Held) (v w h : ℕ) (viewer new : ViewerValue W) (has : v < length viewers) (is : viewer ≡ get_or viewers v viewer) (r : Remembers f s viewers answers held) where
     remembers-resized : (outcome : ManyOutcome) → ResizesAs viewer w h outcome new → Remembers f s (set viewers v new) answers held
     remembers-resized outcome k = record {
-      plain = r.plain;
       past = r.past;
       is_past = r.is_past;
       answers_are = r.answers_are;
@@ -251,7 +198,7 @@ module _ {W : Type 0} (f : W → List ℕ → ℕ) where
     }
 
     takes : (outcome : ManyOutcome) → ResizesAs viewer w h outcome new → TakesOwnSize (many_state s viewers held) v w h outcome (many_state s (set viewers v new) held)
-    takes outcome k = record { viewer = viewer_state viewer; after = viewer_state new; takes = resized viewer new w h outcome k; turns = turns s viewers held v viewer new has is }
+    takes outcome k = record { viewer = viewer; after = new; resizes = k; turns = record { has = record { inside = has; is = sym is }; new_is = refl } }
 
     pub serves-resize : (outcome : ManyOutcome) → ResizesAs viewer w h outcome new → Serves f s viewers held (ResizeViewer v w h) outcome s (set viewers v new) answers
     serves-resize Done k = record { later = held; remembers = remembers-resized Done k; allows = takes Done k }
@@ -262,25 +209,10 @@ module _ {W : Type 0} (f : W → List ℕ → ℕ) where
     serves-resize (NotAccepted e) k = absurd k
     serves-resize NoSuch k = absurd k
 
-module _ {W : Type 0} where
-  -- a blank surface and its viewers are in the first state
-  pub many_state-blank : (widths : W) (w h n : ℕ) → let s = blank_surface widths w h false in many_state s (replicate n (blank_viewer s)) [] ≡ first_many w h n
-  many_state-blank widths w h n =
-      let s = blank_surface widths w h false in
-      let first = state_of-blank widths w h false in
-      λ i. record {
-        screen = (first i).screen;
-        kept = (first i).kept;
-        log = (first i).log;
-        answers = [];
-        viewers = (map-replicate viewer_state n (blank_viewer s) ∙ λ j. replicate n (record { given = (first j).given; shown = (first j).shown.screen; own = (first j).own })) i;
-      }
-
 module _ {W : Type 0} (f : W → List ℕ → ℕ) where
   -- nothing has a number above 0 yet
-  pub remembers-blank : (s : SurfaceValue W) (n : ℕ) → s.full ≡ false → s.log ≡ record { first = 0; changes = [] } → Remembers f s (replicate n (blank_viewer s)) [] []
-  remembers-blank s n plain e = record {
-    plain = plain;
+  pub remembers-blank : (s : SurfaceValue W) (n : ℕ) → s.log ≡ record { first = 0; changes = [] } → Remembers f s (replicate n (blank_viewer s)) [] []
+  remembers-blank s n e = record {
     past = λ _. screen_of s;
     is_past = subst (IsPast screens (f s.widths) (λ _. screen_of s) (screen_of s)) (sym e) (past-first screens (f s.widths) (λ _. screen_of s) (screen_of s));
     answers_are = refl;

@@ -1,5 +1,6 @@
 pub mod Accepting
 pub mod Schedule
+pub mod ScheduleLaws
 pub mod FollowingLaws
 pub mod HistoryLaws
 pub mod ManySchedule

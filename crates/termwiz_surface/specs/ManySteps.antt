@@ -1,26 +1,26 @@
 -- What one event makes of a surface, its viewers and the answers that are kept.
-use Rattle.std.specs.Prelude.{◌≡◌, ℕ, ◌≤◌, false, List, [], ◌∷◌, ◌++◌, length, map, Ok, Err}
+use Rattle.std.specs.Prelude.{◌≡◌, ℕ, ◌≤◌, List, [], ◌∷◌, ◌++◌, length, map, Ok, Err}
 use Rattle.std.specs.List.{All}
 use Rattle.termwiz_surface.specs.Accepting.{Takes}
-use Rattle.termwiz_surface_core.specs.Answer.{AnswerValue, IsGiven, Carries}
+use Rattle.termwiz_surface_core.specs.Answer.{AnswerValue, Carries}
+use Rattle.termwiz_surface_core.specs.Carried.{IsGivenBy}
 use Rattle.termwiz_surface_core.specs.Following.{ViewerValue}
 use Rattle.termwiz_surface_core.specs.History.{Names, IsPast}
 use Rattle.termwiz_screen.specs.Log.{next_number}
-use Rattle.termwiz_surface.specs.ManySchedule.{Held, ManyState, AllowsMany, viewer_state}
+use Rattle.termwiz_surface.specs.ManySchedule.{Held, ManyState, AllowsMany}
 use Rattle.termwiz_screen.specs.Picture.{screens}
-use Rattle.termwiz_surface_core.specs.Resizing.{Resizes}
 use Rattle.termwiz_screen.specs.Screen.{Screen}
 use Rattle.termwiz_screen.specs.ScreenValue.{screen_value}
-use Rattle.termwiz_surface_core.specs.SurfaceValue.{SurfaceValue, screen_of, kept_of}
+use Rattle.termwiz_surface_core.specs.SurfaceValue.{SurfaceValue, screen_of}
 use Rattle.termwiz_surface_core.specs.declared.surface.SurfaceError.TheVariants as refused
 use Rattle.termwiz_surface.specs.declared.view.many.ManyEvent.{ManyEvent}
 use Rattle.termwiz_surface.specs.declared.view.many.ManyOutcome.{ManyOutcome}
-use Rattle.termwiz_surface.specs.declared.view.many.ManyOutcome.TheVariants.{Kept, Accepted, NotAccepted, Done, Refused}
+use Rattle.termwiz_surface.specs.declared.view.many.ManyOutcome.TheVariants.{Kept, Accepted, NotAccepted, Refused}
 
 module _ {W : Type 0} where
   -- the state, where these answers are held
-  abbrev pub many_state : SurfaceValue W → List (ViewerValue W) → List Held → ManyState
-  many_state s viewers held = record { screen = screen_of s; kept = kept_of s; log = s.log; answers = held; viewers = map viewer_state viewers }
+  abbrev pub many_state : SurfaceValue W → List (ViewerValue W) → List Held → ManyState W
+  many_state s viewers held = record { surface = s; answers = held; viewers = viewers }
 
   -- the viewer measures as the surface does, and shows what its number names, which the surface had
   pub record IsNamed (measure_of : W → List ℕ → ℕ) (past : ℕ → Screen) (s : SurfaceValue W) (v : ViewerValue W) : Type 0 where
@@ -33,9 +33,8 @@ module _ {W : Type 0} where
     pub not_ahead : h.answer.number ≤ next_number s.log
     pub carries : Carries screens (measure_of s.widths) past h.answer h.screen
 
-  -- the surface is no full one, and its numbers so far name screens, those of all its viewers and answers among them
+  -- the surface's numbers so far name screens, those of all its viewers and answers among them
   pub record Remembers (measure_of : W → List ℕ → ℕ) (s : SurfaceValue W) (viewers : List (ViewerValue W)) (answers : List AnswerValue) (held : List Held) : Type 0 where
-    pub plain : s.full ≡ false
     pub past : ℕ → Screen
     pub is_past : IsPast screens (measure_of s.widths) past (screen_of s) s.log
     pub answers_are : map (λ (h : Held). h.answer) held ≡ answers
@@ -43,10 +42,10 @@ module _ {W : Type 0} where
     pub viewers_so : All (IsNamed measure_of past s) viewers
 
   -- the answer for a number is kept as the last one
-  abbrev pub AnswersTo : (List ℕ → ℕ) → SurfaceValue W → ℕ → List AnswerValue → ManyOutcome → List AnswerValue → Type 0
-  AnswersTo measure s n old (Kept k) new = (k ≡ length old) × ((a : AnswerValue) × IsGiven screens measure (screen_of s) s.log n a × (new ≡ old ++ a ∷ []))
-  AnswersTo measure s n old (Refused refused.Memory) new = new ≡ old
-  AnswersTo measure s n old _ new = ⊥
+  abbrev pub AnswersTo : (W → List ℕ → ℕ) → SurfaceValue W → ℕ → List AnswerValue → ManyOutcome → List AnswerValue → Type 0
+  AnswersTo measure_of s n old (Kept k) new = (k ≡ length old) × ((a : AnswerValue) × IsGivenBy screens measure_of s n a × (new ≡ old ++ a ∷ []))
+  AnswersTo measure_of s n old (Refused refused.Memory) new = new ≡ old
+  AnswersTo measure_of s n old _ new = ⊥
 
   -- a viewer is given an answer, and what it shows then is told where it accepts it
   abbrev pub TakesAs : (W → List ℕ → ℕ) → ViewerValue W → AnswerValue → ManyOutcome → ViewerValue W → Type 0
@@ -60,14 +59,8 @@ module _ {W : Type 0} where
     pub takes : TakesAs measure_of old a outcome new
     pub names : (past : ℕ → Screen) (s : Screen) → Carries screens (measure_of old.surface.widths) past a s → Names past old.last (screen_of old.surface) → Names past new.last (screen_of new.surface)
 
-  -- a viewer takes another size
-  abbrev pub ResizesAs : ViewerValue W → ℕ → ℕ → ManyOutcome → ViewerValue W → Type 0
-  ResizesAs old w h Done new = (new.last ≡ 0) × Resizes old.surface w h (Ok tt) new.surface
-  ResizesAs old w h (Refused e) new = Resizes old.surface w h (Err e) new.surface × (new ≡ old)
-  ResizesAs old w h _ new = ⊥
-
   -- the schedule allows the event's outcome, and the numbers go on to name what they named
   pub record Serves (measure_of : W → List ℕ → ℕ) (s : SurfaceValue W) (viewers : List (ViewerValue W)) (held : List Held) (event : ManyEvent W) (outcome : ManyOutcome) (t : SurfaceValue W) (after : List (ViewerValue W)) (answers : List AnswerValue) : Type 0 where
     pub later : List Held
     pub remembers : Remembers measure_of t after answers later
-    pub allows : AllowsMany measure_of (measure_of s.widths) (many_state s viewers held) event outcome (many_state t after later)
+    pub allows : AllowsMany measure_of (many_state s viewers held) event outcome (many_state t after later)

@@ -6,10 +6,14 @@ ghost use Rattle.termwiz_surface.specs.HistoryLaws.{AnswersStay, CarriedLead, Ch
 ghost use Rattle.termwiz_surface.specs.HistoryLaws.{FlushesKeepPast, GivenCarry, NamedAreLed};
 ghost use Rattle.termwiz_surface.specs.HistoryLaws.{NamesStay, NothingIsNamedAtFirst};
 ghost use Rattle.termwiz_surface.specs.HistoryLaws.{NumberNamesPicture, RestartsGoOn};
+ghost use Rattle.termwiz_surface.specs.ScheduleLaws.{BrokenListsLeaveForm, FollowedFullLeadOn};
+ghost use Rattle.termwiz_surface.specs.ScheduleLaws.{FollowedLeadOn, LackMemory, LackNumbers};
+ghost use Rattle.termwiz_cell.specs.Measure.{measure};
 ghost use Rattle.termwiz_screen.specs.FullScreen.{FullScreen};
 ghost use Rattle.termwiz_screen.specs.Picture.{full_screens, screens};
 ghost use Rattle.termwiz_screen.specs.Screen.{Screen};
 
+use termwiz_cell::emoji::Widths;
 pub use termwiz_line::laws::{
     cluster_laws, cut_laws, edit_laws, row_laws, storage_laws, stored_row_laws,
 };
@@ -64,4 +68,15 @@ pub fn full_history_laws()
     ensures answers { AnswersStay full_screens }
     ensures given { GivenCarry full_screens }
     ensures carried { CarriedLead full_screens }
+{}
+
+/// What the steps of a schedule tell: from what the viewer showed the changes that are told lead to
+/// the screen that is told, and by how much its own number grows; when it lacks numbers, or
+/// memory; and that a list that ran out of memory leaves the surface's size and form.
+pub fn schedule_laws<W: Widths>()
+    ensures followed { FollowedLeadOn (measure W.width_of) }
+    ensures followed_fully { FollowedFullLeadOn (measure W.width_of) }
+    ensures numbers { LackNumbers (measure W.width_of) }
+    ensures memory { LackMemory (measure W.width_of) }
+    ensures broken { BrokenListsLeaveForm W }
 {}

@@ -1,5 +1,5 @@
 //! Runs of events on a surface.
-ghost use Rattle.std.specs.Prelude.{◌≡◌, ◌^◌, ◌<◌, IfOk, IsSome, OnOk, map};
+ghost use Rattle.std.specs.Prelude.{◌≡◌, ◌^◌, ◌<◌, IfOk, OnOk, map};
 ghost use Rattle.std.specs.Option.{IfSome, IsNone};
 ghost use Rattle.std.specs.Cow.{cow_slice_items};
 ghost use Rattle.termwiz_cell.specs.ChangeValue.{change_value};
@@ -8,9 +8,9 @@ ghost use Rattle.termwiz_cell.specs.Measure.{measure};
 ghost use Rattle.termwiz_surface_core.specs.Following.{Follows, KeepsViewers};
 ghost use Rattle.termwiz_surface_core.specs.History.{KeepsNames};
 ghost use Rattle.termwiz_surface_core.specs.SurfaceValue.{SurfaceValue};
-ghost use Rattle.termwiz_surface.specs.Schedule.{Allows, IsFullSchedule, IsInRange, IsSchedule};
-ghost use Rattle.termwiz_surface.specs.Schedule.{IsScheduleOf, Seen, outcome_of, seen_of};
-ghost use Rattle.termwiz_surface.specs.Schedule.{state_beside, state_of};
+ghost use Rattle.termwiz_surface.specs.Schedule.{Acts, Allows, IsFullSchedule, IsInRange};
+ghost use Rattle.termwiz_surface.specs.Schedule.{IsSchedule, IsScheduleOf, Tells, Views};
+ghost use Rattle.termwiz_surface.specs.Schedule.{with_empty_log};
 
 mod many;
 mod viewer;
@@ -83,7 +83,7 @@ pub fn run<W: Widths>(
     requires fits_height { height < 2 ^ 32 }
     requires sizes { All IsInRange events.items }
     ensures { IfOk result (λ outcomes. IsSchedule (measure W.width_of)
-        (measure W.width_of widths) width height events.items outcomes.items) }
+        widths width height events.items outcomes.items) }
 {
     run_on(alloc, widths, width, height, false, events)
 }
@@ -103,7 +103,7 @@ pub fn run_full<W: Widths>(
     requires fits_height { height < 2 ^ 32 }
     requires sizes { All IsInRange events.items }
     ensures { IfOk result (λ outcomes. IsFullSchedule (measure W.width_of)
-        (measure W.width_of widths) width height events.items outcomes.items) }
+        widths width height events.items outcomes.items) }
 {
     run_on(alloc, widths, width, height, true, events)
 }
@@ -123,7 +123,7 @@ fn run_on<W: Widths>(
     requires fits_height { height < 2 ^ 32 }
     requires sizes { All IsInRange events.items }
     ensures { IfOk result (λ outcomes. IsScheduleOf full (measure W.width_of)
-        (measure W.width_of widths) width height events.items outcomes.items) }
+        widths width height events.items outcomes.items) }
 {
     let mut surface = Surface::blank(alloc, width, height, widths, full)?;
     let mut viewer = Viewer::new(alloc, &surface)?;
@@ -143,11 +143,8 @@ fn serve<W: Widths>(
 ) -> Result<Outcome, AllocError>
     requires range { IsInRange event }
     requires follows { Follows (measure W.width_of) viewer.old surface.old }
-    ensures step { IfOk result (λ outcome.
-        Allows (measure W.width_of) (measure W.width_of surface.old.widths) surface.old.full
-        (state_of surface.old viewer.old) event outcome (state_of surface.new viewer.new)) }
-    ensures widths { OnOk result (surface.new.widths ≡ surface.old.widths) }
-    ensures full { OnOk result (surface.new.full ≡ surface.old.full) }
+    ensures step { IfOk result (λ outcome. Allows (measure W.width_of)
+        surface.old viewer.old event outcome surface.new viewer.new) }
     ensures follows { OnOk result (Follows (measure W.width_of) viewer.new surface.new) }
 {
     match act(alloc, surface, event) {
@@ -162,7 +159,7 @@ fn serve<W: Widths>(
 
 // The viewer forgets the changes that it made, since nobody follows it.
 fn forget_made<W: Widths>(viewer: &mut Viewer<W>)
-    ensures seen { seen_of viewer.new ≡ seen_of viewer.old }
+    ensures forgets { viewer.new ≡ with_empty_log viewer.old }
     ensures follows { (s : SurfaceValue W) →
         Follows (measure W.width_of) viewer.old s → Follows (measure W.width_of) viewer.new s }
 {
@@ -172,15 +169,12 @@ fn forget_made<W: Widths>(viewer: &mut Viewer<W>)
 // Does one event of the surface's own: any but that its viewer follows.
 fn act<W: Widths>(alloc: Global, surface: &mut Surface<W>, event: Event<W>) -> Option<Outcome>
     requires { IsInRange event }
-    ensures step { IfSome result (λ outcome. (v : Seen) →
-        Allows (measure W.width_of) (measure W.width_of surface.old.widths) surface.old.full
-        (state_beside surface.old v) event outcome (state_beside surface.new v)) }
+    ensures step { IfSome result (λ outcome.
+        Acts (measure W.width_of) surface.old event outcome surface.new) }
     ensures widths { surface.new.widths ≡ surface.old.widths }
-    ensures full { surface.new.full ≡ surface.old.full }
     ensures followed { KeepsViewers (measure W.width_of) surface.old surface.new }
     ensures remembered { KeepsNames (measure W.width_of surface.old.widths)
         surface.old surface.new }
-    ensures own { IsSome result → event ≡ Event.Follow → ⊥ }
     ensures none { IsNone result → (event ≡ Event.Follow) × (surface.new ≡ surface.old) }
 {
     match event {
@@ -209,7 +203,7 @@ fn act<W: Widths>(alloc: Global, surface: &mut Surface<W>, event: Event<W>) -> O
 
 // What adding a list of changes answered, as an outcome.
 fn answered(answer: Result<SequenceNo, SurfaceError>) -> Outcome
-    ensures { result ≡ outcome_of answer }
+    ensures { Tells (λ told. told ≡ answer) result }
 {
     match answer {
         Ok(number) => Outcome::Answered(number),
@@ -224,10 +218,8 @@ fn follow<W: Widths>(
     viewer: &mut Viewer<W>,
 ) -> Result<Outcome, AllocError>
     requires { Follows (measure W.width_of) viewer.old surface.now }
-    ensures step { IfOk result (λ outcome.
-        Allows (measure W.width_of) (measure W.width_of surface.now.widths) surface.now.full
-        (state_of surface.now viewer.old) Event.Follow outcome
-        (state_of surface.now viewer.new)) }
+    ensures views { IfOk result (λ outcome.
+        Views (measure W.width_of) surface.now viewer.old outcome viewer.new) }
     ensures follows { OnOk result (Follows (measure W.width_of) viewer.new surface.now) }
 {
     match viewer.fetch(surface) {
@@ -254,9 +246,7 @@ fn follow<W: Widths>(
 
 // The changes from a number on, as a list of their own.
 fn ask<W: Widths>(alloc: Global, surface: &Surface<W>, seq: SequenceNo) -> Outcome
-    ensures { (v : Seen) →
-        Allows (measure W.width_of) (measure W.width_of surface.now.widths) surface.now.full
-        (state_beside surface.now v) (Event.Ask seq) result (state_beside surface.now v) }
+    ensures { Acts (measure W.width_of) surface.now (Event.Ask seq) result surface.now }
 {
     match surface.get_changes(seq) {
         Ok((number, changes)) => match copied(alloc, changes) {

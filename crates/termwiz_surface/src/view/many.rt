@@ -4,8 +4,8 @@ ghost use Rattle.std.specs.List.{All};
 ghost use Rattle.termwiz_cell.specs.Measure.{measure};
 ghost use Rattle.termwiz_surface_core.specs.Following.{blank_viewer};
 ghost use Rattle.termwiz_surface.specs.ManySchedule.{Held, IsManyInRange, IsManySchedule};
-ghost use Rattle.termwiz_surface.specs.ManySteps.{AnswersTo, DeliversTo, Remembers, ResizesAs};
-ghost use Rattle.termwiz_surface.specs.ManySteps.{Serves};
+ghost use Rattle.termwiz_surface.specs.ManySchedule.{ResizesAs};
+ghost use Rattle.termwiz_surface.specs.ManySteps.{AnswersTo, DeliversTo, Remembers, Serves};
 
 use super::{AcceptError, Event, Outcome, Viewer, act};
 use crate::surface::{Answer, Screen, Surface, SurfaceError};
@@ -65,7 +65,7 @@ pub fn run_many<W: Widths>(
     requires fits_height { height < 2 ^ 32 }
     requires sizes { All IsManyInRange events.items }
     ensures { IfOk result (λ outcomes. IsManySchedule (measure W.width_of)
-        (measure W.width_of widths) width height viewers events.items outcomes.items) }
+        widths width height viewers events.items outcomes.items) }
 {
     let mut surface = Surface::new(alloc, width, height, widths)?;
     let mut seats = blank_viewers(alloc, &surface, viewers)?;
@@ -101,11 +101,10 @@ fn serve<W: Widths>(
     event: ManyEvent<W>,
 ) -> Result<ManyOutcome, AllocError>
     requires { IsManyInRange event }
-    ensures serves { IfOk result (λ outcome. (held : List Held) →
+    ensures { IfOk result (λ outcome. (held : List Held) →
         Remembers (measure W.width_of) surface.old viewers.old.items answers.old.items held →
         Serves (measure W.width_of) surface.old viewers.old.items held event outcome
         surface.new viewers.new.items answers.new.items) }
-    ensures widths { surface.new.widths ≡ surface.old.widths }
 {
     match event {
         ManyEvent::On(event) => match act(alloc, surface, event) {
@@ -139,7 +138,7 @@ fn answer<W: Widths>(
     seq: SequenceNo,
     answers: &mut Vec<Answer>,
 ) -> Result<ManyOutcome, AllocError>
-    ensures { IfOk result (λ outcome. AnswersTo (measure W.width_of surface.now.widths)
+    ensures { IfOk result (λ outcome. AnswersTo (measure W.width_of)
         surface.now seq answers.old.items outcome answers.new.items) }
 {
     match surface.answer(seq) {

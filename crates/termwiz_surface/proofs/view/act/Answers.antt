@@ -1,19 +1,28 @@
+use Rattle.std.proofs.Common.{◌+◌, ◌-◌, map}
+use Rattle.std.specs.Prelude.{vec_len}
+use Rattle.termwiz_cell.specs.ChangeValue.{change_value}
 use Rattle.termwiz_cell.specs.Width.{unversioned}
-use Rattle.termwiz_surface.proofs.Running.{Allows-changes, Allows-drawn, Allows-copied}
+use Rattle.termwiz_screen.specs.Log.{next_number}
+use Rattle.termwiz_surface_core.specs.Adding.{Adds}
+use Rattle.termwiz_surface_core.specs.Copies.{IsDrawn, IsCopied}
+use Rattle.termwiz_surface.proofs.Running.{Tells-answer}
 use Rattle.termwiz_surface.proofs.view.act.Goals as goal
 
 pub returns-in-Changes-clause-step : goal.returns-in-Changes-clause-step
-returns-in-Changes-clause-step g c v =
-    rw (c.in-Changes.is, c.answered.ensures)
-    (Allows-changes (λ widths. unversioned (g.W.Widths.width_of widths)) c.args.surface.now c.add_changes.new.self v c.args.surface.now.full c.add_changes.result c.in-Changes.changes c.add_changes.ensures.adds)
+returns-in-Changes-clause-step g c =
+    let s = c.args.surface.now in
+    let changes = c.in-Changes.changes in
+    rw c.in-Changes.is
+    (Tells-answer (λ result. Adds (unversioned (g.W.Widths.width_of s.widths)) s (map change_value changes.items) (next_number s.log - 1 + vec_len changes) result c.add_changes.new.self) c.add_changes.result c.answered.result c.answered.ensures c.add_changes.ensures.adds)
 
 pub returns-in-Draw-clause-step : goal.returns-in-Draw-clause-step
-returns-in-Draw-clause-step g c v =
-    rw (c.in-Draw.is, c.answered-in-Draw.ensures)
-    (Allows-drawn (λ widths. unversioned (g.W.Widths.width_of widths)) c.args.surface.now c.draw_from_screen.new.self v c.args.surface.now.full c.draw_from_screen.result c.in-Draw.other c.in-Draw.x c.in-Draw.y c.draw_from_screen.ensures.drawn)
+returns-in-Draw-clause-step g c =
+    let at = c.in-Draw in
+    rw c.in-Draw.is
+    (Tells-answer (λ result. IsDrawn (λ widths. unversioned (g.W.Widths.width_of widths)) c.args.surface.now at.other at.x at.y result c.draw_from_screen.new.self) c.draw_from_screen.result c.answered-in-Draw.result c.answered-in-Draw.ensures c.draw_from_screen.ensures.drawn)
 
 pub returns-in-Copy-clause-step : goal.returns-in-Copy-clause-step
-returns-in-Copy-clause-step g c v =
+returns-in-Copy-clause-step g c =
     let at = c.in-Copy in
-    rw (c.in-Copy.is, c.answered-in-Copy.ensures)
-    (Allows-copied (λ widths. unversioned (g.W.Widths.width_of widths)) c.args.surface.now c.copy_region-answer.new.self v c.args.surface.now.full c.copy_region-answer.result at.src_x at.src_y at.width at.height at.dest_x at.dest_y c.copy_region-answer.ensures.copied)
+    rw c.in-Copy.is
+    (Tells-answer (λ result. IsCopied (λ widths. unversioned (g.W.Widths.width_of widths)) c.args.surface.now at.src_x at.src_y at.width at.height at.dest_x at.dest_y result c.copy_region-answer.new.self) c.copy_region-answer.result c.answered-in-Copy.result c.answered-in-Copy.ensures c.copy_region-answer.ensures.copied)

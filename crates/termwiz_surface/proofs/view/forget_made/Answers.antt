@@ -1,14 +1,11 @@
 use Rattle.std.proofs.Common.{ap, ◌∙◌}
-use Rattle.termwiz_screen.specs.Log.{next_number}
-use Rattle.termwiz_screen.proofs.Logs.{flushed_number}
-use Rattle.termwiz_surface_core.specs.SurfaceValue.{full_of}
+use Rattle.termwiz_screen.specs.Log.{flushed, next_number}
+use Rattle.termwiz_surface_core.specs.Adding.{with_log}
 use Rattle.termwiz_surface.proofs.view.forget_made.Goals as goal
 
-pub returns-clause-seen : goal.returns-clause-seen
-returns-clause-seen g c =
+pub returns-clause-forgets : goal.returns-clause-forgets
+returns-clause-forgets g c =
     let flush = c.flush_changes_older_than.ensures in
-    λ i. record {
-      given = flush.last i;
-      shown = ap full_of flush.flushes i;
-      own = (ap (λ s. next_number s.log) flush.flushes ∙ flushed_number c.args.viewer.now.surface.log c.current_seqno.result) i;
-    }
+    let s = c.args.viewer.now.surface in
+    let number = c.current_seqno.ensures.value ∙ ap (λ v. next_number v.log) c.surface.ensures in
+    λ i. record { surface = (flush.flushes ∙ ap (λ n. with_log s (flushed s.log n)) number) i; last = flush.last i }

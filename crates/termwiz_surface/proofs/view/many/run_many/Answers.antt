@@ -5,39 +5,27 @@ use Rattle.std.proofs.lemmas.List.{map-id}
 use Rattle.termwiz_cell.specs.Width.{unversioned}
 use Rattle.termwiz_surface.specs.ManySchedule.{first_many, Ended}
 use Rattle.termwiz_surface.specs.ManySteps.{many_state}
-use Rattle.termwiz_surface.proofs.ManyRuns.{RunsMany-push, many_state-blank, remembers-blank}
+use Rattle.termwiz_surface.proofs.ManyRuns.{RunsMany-push, remembers-blank}
 use Rattle.termwiz_surface.proofs.view.many.run_many.Goals as goal
 
 pub loop-event-init : goal.loop-event-init
 loop-event-init g c =
     rw (c.in_ok-seats.ensures, c.in_ok-surface.ensures, c.new-outcomes.ensures.items, c.new-answers.ensures.items)
-    (record {
-      widths = refl;
-      run = (
-        [],
-        remembers-blank (λ widths. unversioned (g.W.Widths.width_of widths)) _ c.args.viewers refl refl,
-        rw (many_state-blank c.args.widths c.args.width c.args.height c.args.viewers) (Ended (first_many c.args.width c.args.height c.args.viewers)),
-      );
-    })
+    ([], remembers-blank (λ widths. unversioned (g.W.Widths.width_of widths)) _ c.args.viewers refl, Ended (first_many c.args.widths c.args.width c.args.height c.args.viewers))
 
 pub loop-event-preserved : goal.loop-event-preserved
 loop-event-preserved g c =
-    let run = c.loop-event.invariant.run in
-    let served = c.in_ok-serve.ensures.serves run.0 run.1 in
-    record {
-      widths = c.in_ok-serve.ensures.widths ∙ c.loop-event.invariant.widths;
-      run = (
-        served.later,
-        served.remembers,
-        rw c.in_ok-push.ensures.items
-            (RunsMany-push c.in-Some.event c.in_ok-serve.field-0 (many_state c.serve.new.surface c.serve.new.viewers.items served.later) run.2 (rw (← c.loop-event.invariant.widths) served.allows)),
-      );
-    }
+    let run = c.loop-event.invariant in
+    let served = c.in_ok-serve.ensures run.0 run.1 in (
+      served.later,
+      served.remembers,
+      rw c.in_ok-push.ensures.items (RunsMany-push c.in-Some.event c.in_ok-serve.field-0 (many_state c.serve.new.surface c.serve.new.viewers.items served.later) run.2 served.allows),
+    )
 
 pub returns : goal.returns
 returns g c =
     let gives = c.into_iter-event-iterator.ensures.into_iter_gives in
     let whole = YieldsList-from_vec c.args.events.items gives.0 (gives.1 ∙ c.args.events.ok.0) in
     let all = sym (map-id c.loop-event.yielded) ∙ (YieldsList-end whole c.loop-event.yielded _ c.loop-event.yielded_by _ c.next.new.self c.in-None.is c.next.ensures.steps).0 in
-    let run = c.loop-event.invariant.run in
+    let run = c.loop-event.invariant in
     (many_state c.loop-event.surface c.loop-event.seats.items run.0, rw (← all) run.2)

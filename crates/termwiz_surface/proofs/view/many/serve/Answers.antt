@@ -5,14 +5,14 @@ use Rattle.termwiz_surface.specs.ManySteps.{AnswersTo}
 use Rattle.termwiz_surface.proofs.ManyRuns.{serves-act, serves-answer, serves-deliver, serves-resize}
 use Rattle.termwiz_surface.proofs.view.many.serve.Goals as goal
 
-pub returns-in-Some-clause-serves : goal.returns-in-Some-clause-serves
-returns-in-Some-clause-serves g c held r =
+pub returns-in-Some : goal.returns-in-Some
+returns-in-Some g c held r =
     let told = c.in-Some.ensures in
     rw c.in-On.is
-    (serves-act (λ widths. unversioned (g.W.Widths.width_of widths)) c.args.surface.now c.act.new.surface c.args.viewers.now.items c.args.answers.now.items held c.in-On.event c.in-Some.outcome (told.own refl) told.widths told.full told.remembered told.step r)
+    (serves-act (λ widths. unversioned (g.W.Widths.width_of widths)) c.args.surface.now c.act.new.surface c.args.viewers.now.items c.args.answers.now.items held c.in-On.event c.in-Some.outcome told.widths told.remembered told.step r)
 
-pub returns-else-v-len-clause-serves : goal.returns-else-v-len-clause-serves
-returns-else-v-len-clause-serves g c =
+pub returns-else-v-len : goal.returns-else-v-len
+returns-else-v-len g c =
     let s = c.args.surface.now in
     let viewers = c.args.viewers.now.items in
     let answers = c.args.answers.now.items in
@@ -20,11 +20,11 @@ returns-else-v-len-clause-serves g c =
     MatchResult-weaker c.answer.result c.answer.ensures
     (λ outcome told held r. rw c.in-AnswerFor.is
     (serves-answer (λ widths. unversioned (g.W.Widths.width_of widths)) s viewers answers c.answer.new.answers.items held c.in-AnswerFor.v c.index.result.now outcome inside c.index.ensures
-    (subst (λ n. AnswersTo (unversioned (g.W.Widths.width_of s.widths)) s n answers outcome c.answer.new.answers.items) c.last.ensures told) r))
+    (subst (λ n. AnswersTo (λ widths. unversioned (g.W.Widths.width_of widths)) s n answers outcome c.answer.new.answers.items) c.last.ensures told) r))
     (λ _ _. tt)
 
-pub returns-else-k-len-clause-serves : goal.returns-else-k-len-clause-serves
-returns-else-k-len-clause-serves g c =
+pub returns-else-k-len : goal.returns-else-k-len
+returns-else-k-len g c =
     let at = c.in-Deliver in
     let viewers = c.args.viewers.now.items in
     let answers = c.args.answers.now.items in
@@ -36,8 +36,8 @@ returns-else-k-len-clause-serves g c =
     c.index-in-Deliver.ensures r outcome told))
     (λ _ _. tt)
 
-pub returns-else-v-len-3-clause-serves : goal.returns-else-v-len-3-clause-serves
-returns-else-v-len-3-clause-serves g c held r =
+pub returns-else-v-len-3 : goal.returns-else-v-len-3
+returns-else-v-len-3 g c held r =
     let at = c.in-ResizeViewer in
     let viewers = c.args.viewers.now.items in
     let has_viewer : at.v < length viewers = omega (arith, c.if-v-len-3.false, c.len-in-ResizeViewer.ensures, c.args.viewers.now.ok.0) in

@@ -21,6 +21,7 @@ pub mod Filling
 pub mod Logs
 pub mod Sides
 pub mod Regions
+pub mod ReversedRegions
 pub mod ScrolledRows
 pub mod ResizedRows
 pub mod LogRegions

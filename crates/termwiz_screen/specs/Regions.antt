@@ -1,5 +1,5 @@
 -- Scrolling a region of a list: its rows, their lengths or their flags.
-use Rattle.std.specs.Prelude.{ℕ, ◌+◌, ◌-◌, min, List, ◌++◌, take, drop, replicate}
+use Rattle.std.specs.Prelude.{ℕ, ◌+◌, ◌-◌, min, List, ◌++◌, take, drop, replicate, reverse}
 
 module _ {X : Type 0} (xs : List X) (a n : ℕ) where
   -- n elements from a on
@@ -9,6 +9,10 @@ module _ {X : Type 0} (xs : List X) (a n : ℕ) where
   -- xs with others in the place of those
   abbrev pub with_region : List X → List X
   with_region ys = take a xs ++ (ys ++ drop (a + n) xs)
+
+  -- the region in the opposite order
+  abbrev pub region_reversed : List X
+  region_reversed = with_region (reverse region)
 
   -- the first k elements of the region come behind its others
   abbrev pub region_turned : ℕ → List X

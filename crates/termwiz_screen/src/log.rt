@@ -24,7 +24,7 @@ pub struct Log {
 }
 
 impl Model for Log {
-    ghost use Rattle.std.specs.Prelude.{◌+◌, ◌≤◌, length, drop, map};
+    ghost use Rattle.std.specs.Prelude.{◌+◌, ◌^◌, ◌<◌, ◌≤◌, length, drop, map};
     ghost use Rattle.termwiz_cell.specs.ChangeValue.{change_value};
     ghost use Rattle.termwiz_screen.specs.Log.{LogValue};
 
@@ -35,18 +35,20 @@ impl Model for Log {
       changes = drop l.gone (map change_value l.stored.items);
     } };
 
-    ghost invariant = { λ l. l.gone ≤ length l.stored.items };
+    ghost invariant = { λ l. (l.gone ≤ length l.stored.items) × (l.base + l.gone < 2 ^ 64) };
 }
 
+/// A copy has no room for the changes that are forgotten.
 impl Clone for Log {
     ghost is_clone = { λ a b. b ≡ a };
 
     fn clone(&self) -> Result<Log, AllocError> {
-        let stored = self.stored.clone()?;
+        let alloc = *self.stored.allocator();
+        let stored = self.stored[self.gone..].to_vec(alloc)?;
         Ok(Log {
-            base: self.base,
+            base: self.base + self.gone,
             stored,
-            gone: self.gone,
+            gone: 0,
         })
     }
 }

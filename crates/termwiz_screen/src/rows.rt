@@ -18,7 +18,8 @@ ghost use Rattle.termwiz_screen.specs.Screen.{row_at};
 ghost use Rattle.termwiz_screen.specs.Print.{scrolled};
 ghost use Rattle.termwiz_screen.specs.Rows.{painted_in, AreFilled, IsPartly, ArePartly};
 ghost use Rattle.termwiz_screen.specs.Rows.{ArePartlyReset};
-ghost use Rattle.termwiz_screen.specs.Regions.{region_turned, region_up, region_down};
+ghost use Rattle.termwiz_screen.specs.Regions.{region_down, region_reversed, region_turned};
+ghost use Rattle.termwiz_screen.specs.Regions.{region_up};
 ghost use Rattle.termwiz_screen.specs.Resized.{copy_in, cuts_in_place};
 ghost use Rattle.termwiz_screen.specs.Resized.{resized_stored, resized_flags};
 ghost use Rattle.termwiz_screen.specs.Sides.{row_flags, AreVectors, KeepsSide, KeepSides};
@@ -194,7 +195,29 @@ fn blank_some(
     Ok(())
 }
 
-// Moves the first rows of a region behind its others.
+// Puts the rows of a region in the opposite order.
+fn reverse_region(rows: &mut VecDeque<Line>, first: usize, size: usize)
+    requires { first + size ≤ deque_len rows.old }
+    ensures items { rows.new.items ≡ region_reversed rows.old.items first size }
+    ensures len { deque_len rows.new ≡ deque_len rows.old }
+{
+    for i in 0..size / 2 {
+        rows.swap(first + i, first + size - 1 - i);
+    }
+}
+
+// Moves the first rows of a region behind its others. No row outside the region is moved.
+fn turn_by_reversals(rows: &mut VecDeque<Line>, first: usize, size: usize, count: usize)
+    requires inside { first + size ≤ deque_len rows.old }
+    requires within { count ≤ size }
+    ensures { rows.new.items ≡ region_turned rows.old.items first size count }
+{
+    reverse_region(rows, first, count);
+    reverse_region(rows, first + count, size - count);
+    reverse_region(rows, first, size);
+}
+
+// The same, also where the region is all rows.
 fn turn_region(rows: &mut VecDeque<Line>, first: usize, size: usize, count: usize)
     requires inside { first + size ≤ deque_len rows.old }
     requires within { count ≤ size }
@@ -204,7 +227,7 @@ fn turn_region(rows: &mut VecDeque<Line>, first: usize, size: usize, count: usiz
     if size == rows.len() {
         rows.rotate_left(count);
     } else {
-        rows.make_contiguous()[first..first + size].rotate_left(count);
+        turn_by_reversals(rows, first, size, count);
     }
 }
 

@@ -12,14 +12,14 @@ use Rattle.termwiz_storage.proofs.SetCell.{length-set_cell, set_cell-padded}
 use Rattle.termwiz_storage.proofs.Used.{used-set, used-more}
 
 -- a list that is long enough is not padded
-padded-long : (n : ℕ) (cs : List CellValue) → n ≤ length cs → padded n cs ≡ cs
+pub padded-long : (n : ℕ) (cs : List CellValue) → n ≤ length cs → padded n cs ≡ cs
 padded-long n cs l = let none : n - length cs ≡ 0 = omega arith in rw none (append-nil cs)
 
 set_cell-inside : (i : ℕ) (b : ℕ) (a : Attributes) (cs : List CellValue) → i < length cs → set_cell i (plain_cell b a) cs ≡ set (torn i cs) i (plain_cell b a)
 set_cell-inside i b a cs l = sym (set_cell-torn i (i + 1) (plain_cell b a) cs refl) ∙ ap (λ (ds : List CellValue). set (torn i ds) i (plain_cell b a)) (padded-long (i + 1) cs (omega arith))
 
 -- behind a narrow cell nothing is torn
-torn-behind : (i : ℕ) (cs : List CellValue) → is_wide (stored cs i) ≡ false → torn (i + 1) cs ≡ cs
+pub torn-behind : (i : ℕ) (cs : List CellValue) → is_wide (stored cs i) ≡ false → torn (i + 1) cs ≡ cs
 torn-behind i cs n =
     let k : i + 1 - 1 ≡ i = omega arith in
     let no : (nat_lt 0 (i + 1) && is_wide (stored cs (i + 1 - 1))) ≡ false = and_right (nat_lt 0 (i + 1)) (is_wide (stored cs (i + 1 - 1))) (rw k n) in

@@ -1,4 +1,5 @@
 pub mod Stored
+pub mod Letters
 pub mod Used
 pub mod Halves
 pub mod Edits

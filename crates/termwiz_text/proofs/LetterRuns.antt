@@ -1,12 +1,12 @@
 -- Runs of letters: each has three bytes, and is a grapheme by itself where no mark follows the last one.
-use Rattle.std.proofs.Common.{◌≡◌, ◌≢◌, ℕ, zero, suc, ◌+◌, ◌-◌, ◌*◌, ◌<◌, ◌≤◌, true, false, ◌&&◌, ◌||◌, ◌==◌, inl, inr, List, [], ◌∷◌, ◌++◌, map, length, get_or, take, drop, min, refl, sym, ap, ap₂, subst, ◌∙◌, arith, take-append-drop, length-take-le, length-append, append_assoc}
+use Rattle.std.proofs.Common.{◌≡◌, ◌≢◌, ℕ, zero, suc, ◌+◌, ◌-◌, ◌*◌, ◌<◌, ◌≤◌, true, false, ◌&&◌, ◌||◌, ◌==◌, inl, inr, List, [], ◌∷◌, ◌++◌, map, length, get_or, take, drop, min, refl, sym, ap, ap₂, subst, ◌∙◌, arith, take-append-drop, length-take-le, length-append, append-nil, append_assoc}
 use Rattle.std.proofs.Math.Bool.{or-true}
 use Rattle.std.proofs.Math.Seq.{take-append_seam, drop-append_seam}
 use Rattle.std.proofs.lemmas.Bool.{and_parts, or_cases, ne_eqb, le-ltb, lt-ltb, leb-true}
 use Rattle.std.proofs.lemmas.List.{drop_more}
 use Rattle.std.proofs.lemmas.List.Folds.{list_all-append}
 use Rattle.std.proofs.lemmas.List.Sums.{AllPass-from_list_all}
-use Rattle.std.proofs.lemmas.Str.{chars_past_char, chars_from_encodes, encodes-chars, encodes-append, IsUtf8-past_char, IsCharBoundary-at_seam, length-encode}
+use Rattle.std.proofs.lemmas.Str.{chars-nil, chars_past_char, chars_from_encodes, encodes-chars, encodes-append, IsUtf8-encode, IsUtf8-past_char, IsCharBoundary-at_seam, length-encode}
 use Rattle.std.specs.Prelude.{nat_le, encode_utf8, encode_utf8_all}
 use Rattle.std.specs.Char.{is_ascii}
 use Rattle.std.specs.Int.{is_in_range}
@@ -16,6 +16,7 @@ use Rattle.unicode_segmentation.specs.Grapheme.{graphemes}
 use Rattle.unicode_segmentation.proofs.TextLemmas.{IsUtf8-before}
 use Rattle.termwiz_text.specs.Letter.{is_letter, is_simple, begins_simple, begins_letter, begins_lone_letter, AreLetters, IsLetterRun}
 use Rattle.termwiz_text.proofs.Boundaries.{breaks, breaks-end}
+use Rattle.termwiz_text.proofs.First.{graphemes-nil}
 use Rattle.termwiz_text.proofs.Letters.{letter_from}
 use Rattle.termwiz_text.proofs.Pieces.{IsUtf8-past, graphemes_past_char}
 use Rattle.termwiz_text.proofs.Simple.{simple_breaks}
@@ -128,6 +129,14 @@ graphemes_letters (c ∷ ls) rest u h k =
     let simple : begins_simple (chars rest) ≡ true = k (omega arith) in
     graphemes_past_char (encode_utf8_all (c ∷ ls) ++ rest) more c u split (letter_ends c (chars more) parts.0 (next_simple ls rest later parts.1 simple))
     ∙ ap (λ gs. encode_utf8 c ∷ gs) (graphemes_letters ls rest later parts.1 (λ _. simple))
+
+letter_text : (c : ℕ) → is_letter c ≡ true → IsUtf8 (encode_utf8 c)
+letter_text c h = let to : c ≤ 0x9FFF = letter_to c h in IsUtf8-encode c (rw (lt-ltb c 0xD800 (omega arith)) refl)
+
+pub alone_letter : (c : ℕ) → is_letter c ≡ true → graphemes true (encode_utf8 c) ≡ encode_utf8 c ∷ []
+alone_letter c h =
+    graphemes_past_char (encode_utf8 c) [] c (letter_text c h) (sym (append-nil (encode_utf8 c))) (ap (breaks (c ∷ [])) chars-nil ∙ breaks-end c [])
+    ∙ ap (λ gs. encode_utf8 c ∷ gs) graphemes-nil
 
 -- ---- counting
 

@@ -6,6 +6,8 @@ ghost use Rattle.std.specs.Borrow.{sem};
 ghost use Rattle.std.specs.Cmp.{decided, on_equiv, on_per, partial_equiv_from_equiv};
 ghost use Rattle.std.specs.List.{list_all, list_any};
 ghost use Rattle.std.specs.Option.{option_copied};
+ghost use Rattle.std.specs.Str.{chars};
+ghost use Rattle.termwiz_text.specs.Letter.{AreLetters};
 ghost use Rattle.termwiz_text.specs.Plain.{is_plain};
 ghost use Rattle.termwiz_cell.specs.Attributes.{needs_box};
 ghost use Rattle.termwiz_cell.specs.CellValue.{blank};
@@ -17,6 +19,7 @@ ghost use Rattle.termwiz_storage.specs.Clustered.{IsWhole};
 ghost use Rattle.termwiz_storage.specs.Stored.{cell_at, visible, fill, set_cell, set_run, IsKept};
 ghost use Rattle.termwiz_storage.specs.Halves.{resized};
 ghost use Rattle.termwiz_storage.specs.Storage.{cells_of, is_vector, same_cells};
+ghost use Rattle.termwiz_storage.specs.Letters.{set_letters};
 ghost use Rattle.termwiz_storage.specs.Stored.{is_linked};
 ghost use Rattle.termwiz_storage.specs.Lending.{LendsVector};
 ghost use Rattle.termwiz_storage.specs.LastCell.{last_attrs};
@@ -190,6 +193,32 @@ impl CellStorage {
         match self {
             CellStorage::V(storage) => storage.set_run(i, run, attrs)?,
             CellStorage::Cluster(_) => self.coerce_vec()?.set_run(i, run, attrs)?,
+        }
+        Ok(())
+    }
+
+    /// Sets the cell of each letter of a run, of two columns, in order from a column on, and behind
+    /// each its half, with attributes that take no memory. A text becomes a vector, also by an empty
+    /// run.
+    /// On an error, which a cell past the greatest column gives too, the cells are as before.
+    #[inline]
+    pub fn set_letters(
+        &mut self,
+        i: usize,
+        run: &str,
+        attrs: &CellAttributes,
+    ) -> Result<(), AllocError>
+        requires letters { AreLetters run.now }
+        requires unboxed { needs_box attrs.now ≡ false }
+        ensures ok { OnOk result (
+            cells_of self.new ≡ set_letters i (chars run.now) attrs.now (cells_of self.old)) }
+        ensures err { OnErr result (cells_of self.new ≡ cells_of self.old) }
+        ensures vector { is_vector self.old ≡ true → is_vector self.new ≡ true }
+        ensures made { OnOk result (is_vector self.new ≡ true) }
+    {
+        match self {
+            CellStorage::V(storage) => storage.set_letters(i, run, attrs)?,
+            CellStorage::Cluster(_) => self.coerce_vec()?.set_letters(i, run, attrs)?,
         }
         Ok(())
     }

@@ -1,16 +1,19 @@
 //! Cells stored one by one.
-ghost use Rattle.std.specs.Prelude.{◌≡◌, [], false, true, ◌+◌, ◌-◌, ◌<◌, ◌≤◌, ◌↔◌, IsTrue, OnErr};
+ghost use Rattle.std.specs.Prelude.{◌≡◌, [], false, true, ◌+◌, ◌*◌, ◌-◌, ◌<◌, ◌≤◌, ◌↔◌, IsTrue, OnErr};
 ghost use Rattle.std.specs.Prelude.{OnOk, IsOk, IfOk, IfSome, length, option_map, take, replicate};
 ghost use Rattle.std.specs.Prelude.{IsSome, MatchOption, ◌∷◌};
 ghost use Rattle.std.specs.Prelude.{slice_set, vec_capacity, vec_len};
 ghost use Rattle.std.specs.Cmp.{decided, partial_equiv_from_equiv};
 ghost use Rattle.std.specs.Iterator.{item_count};
 ghost use Rattle.std.specs.List.{list_all, list_any};
+ghost use Rattle.std.specs.Str.{chars};
+ghost use Rattle.termwiz_text.specs.Letter.{AreLetters};
 ghost use Rattle.termwiz_text.specs.Plain.{is_plain};
 ghost use Rattle.termwiz_cell.specs.Attributes.{needs_box};
 ghost use Rattle.termwiz_cell.specs.CellValue.{blank, half, is_wide};
 ghost use Rattle.termwiz_storage.specs.CellsLeft.{IsOfCell, YieldsCell};
 ghost use Rattle.termwiz_storage.specs.CellRef.{ref_cell, ref_index};
+ghost use Rattle.termwiz_storage.specs.Letters.{put_letters, set_letters};
 ghost use Rattle.termwiz_storage.specs.PlainCells.{begins_plain, is_plain_with, IsPlainFirst};
 ghost use Rattle.termwiz_storage.specs.Stored.{cell_at, fill, hides, is_linked, padded, put_run};
 ghost use Rattle.termwiz_storage.specs.Stored.{stored, set_cell, set_run, torn, visible, IsKept};
@@ -31,7 +34,7 @@ use std::marker::Model;
 use std::ops::{DerefSlice, DerefSliceMut};
 use std::{mem, slice};
 use termwiz_cell::cell::{Cell, CellAttributes};
-use termwiz_text::is_one_plain;
+use termwiz_text::{is_one_plain, letter_at, letter_count};
 pub(crate) use wrapped::set_wrapped;
 
 /// The cells of a line, each with a place of its own. It is read, and written, as a slice of cells.
@@ -253,6 +256,41 @@ impl VecStorage {
     {
         self.used = self.used.max(i + run.len());
         put_cells(&mut self.cells, i, run, attrs);
+    }
+
+    /// Sets the cell of each letter of a run, of two columns, in order from a column on, and behind
+    /// each its half, with attributes that take no memory. It takes memory only where the list
+    /// grows.
+    /// On an error, which a cell past the greatest column gives too, nothing changed.
+    pub(crate) fn set_letters(
+        &mut self,
+        i: usize,
+        run: &str,
+        attrs: &CellAttributes,
+    ) -> Result<(), AllocError>
+        requires letters { AreLetters run.now }
+        requires unboxed { needs_box attrs.now ≡ false }
+        ensures ok { OnOk result (
+            self.new ≡ set_letters i (chars run.now) attrs.now self.old) }
+        ensures err { OnErr result (self.new ≡ self.old) }
+    {
+        let end = end_of(i, 2 * letter_count(run))?;
+        if i < end {
+            self.make_room(i, end)?;
+            self.put_letters(i, run, attrs);
+        }
+        Ok(())
+    }
+
+    // The cells of the letters and their halves come to the columns from i on.
+    fn put_letters(&mut self, i: usize, run: &str, attrs: &CellAttributes)
+        requires letters { AreLetters run.now }
+        requires unboxed { needs_box attrs.now ≡ false }
+        requires room { i + 2 * length (chars run.now) ≤ length self.old }
+        ensures { self.new ≡ put_letters i (chars run.now) attrs.now self.old }
+    {
+        self.used = self.used.max(i + 2 * letter_count(run));
+        put_letter_cells(&mut self.cells, i, run, attrs);
     }
 
     /// Sets a default blank in each of the columns from `from` up to `to`, which is not among them,
@@ -484,6 +522,24 @@ fn put_cells(cells: &mut Vec<Cell>, i: usize, run: &[u8], attrs: &CellAttributes
     for k in 0..run.len() {
         let copy = own.unboxed_copy().unwrap();
         cells[i + k] = Cell::plain(run[k], copy);
+    }
+}
+
+// The cells of the letters and their halves come to the columns from i on.
+fn put_letter_cells(cells: &mut Vec<Cell>, i: usize, run: &str, attrs: &CellAttributes)
+    requires letters { AreLetters run.now }
+    requires unboxed { needs_box attrs.now ≡ false }
+    requires room { i + 2 * length (chars run.now) ≤ vec_len cells.old }
+    ensures { cells.new.items ≡ put_letters i (chars run.now) attrs.now cells.old.items }
+{
+    let alloc = *cells.allocator();
+    let own = attrs.unboxed_copy().unwrap();
+    for k in 0..letter_count(run) {
+        let copy = own.unboxed_copy().unwrap();
+        let cell = Cell::new_grapheme_with_width(alloc, letter_at(run, k), 2, copy).unwrap();
+        let copy = own.unboxed_copy().unwrap();
+        cells[i + 2 * k + 1] = Cell::blank_with_attrs(copy);
+        cells[i + 2 * k] = cell;
     }
 }
 

@@ -75,12 +75,14 @@ pub use Rattle.termwiz_screen.specs.Stream.{IsStream, IsFullStream, Lends, most_
 pub use Rattle.termwiz_screen.specs.Repaint.{repaint_in}
 pub use Rattle.termwiz_screen.specs.Printable.{HasSize, IsPrintable, ArePrintable}
 pub use Rattle.termwiz_screen.specs.ShownChars.{shown_chars}
-pub use Rattle.termwiz_screen.specs.Prints.{printed}
+pub use Rattle.termwiz_screen.specs.Prints.{Print, print_all, printed}
 pub use Rattle.termwiz_screen.specs.Diff.{diff, need, whole}
 pub use Rattle.termwiz_screen.specs.DiffLists.{IsDiff}
-pub use Rattle.termwiz_screen.specs.DiffRegions.{CrossNone, HaveRegion}
+pub use Rattle.termwiz_screen.specs.DiffRegions.{AreRows, CrossNone, HaveRegion}
+pub use Rattle.termwiz_screen.specs.Fewest.{PrintsWithin}
 -- lines and stored cells,
 pub use Rattle.termwiz_line.specs.LineValue.{LineValue, IsEdited, IsUnchanged, Prunes}
+pub use Rattle.termwiz_line.specs.LineEq.{line_contents, line_eq}
 pub use Rattle.termwiz_line.specs.LineFlags.{LineFlags, no_flags, with_sizes}
 pub use Rattle.termwiz_line.specs.LineEdits.{HasCells, IsEditedAt, IsMade, IsTakenFrom}
 pub use Rattle.termwiz_line.specs.Filled.{IsFilled, IsPartlyFilled}

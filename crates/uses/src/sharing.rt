@@ -22,7 +22,7 @@ ghost use Rattle.termwiz_surface.specs.{
 
 use termwiz_surface::change::{Change, SequenceNo};
 use termwiz_surface::emoji::Widths;
-use termwiz_surface::laws::history_laws;
+use termwiz_surface::laws::{full_history_laws, history_laws};
 use termwiz_surface::surface::{Surface, SurfaceError};
 use termwiz_surface::view::{AcceptError, Viewer};
 
@@ -103,5 +103,28 @@ pub fn reconnect<W: Widths>(
 {
     // What its number names leads it on, as whoever follows is led.
     history_laws();
+    viewer.follow(surface)
+}
+
+/// The same with a surface that is a full one: the viewer has its full screen then. Here `past` has
+/// the screens and the full screens that the surface's numbers named so far.
+pub fn reconnect_fully<W: Widths>(
+    surface: &Surface<W>,
+    viewer: &mut Viewer<W>,
+) -> Result<SequenceNo, SurfaceError>
+    ghost past: { (ℕ → Screen) × (ℕ → FullScreen) }
+    requires is_full { surface.now.full ≡ true }
+    requires one_measure { MeasureAlike (measure W.width_of) viewer.old.surface surface.now }
+    requires is_past { IsPastOf screens (measure W.width_of) past.0 surface.now }
+    requires is_full_past { IsPastOf full_screens (measure W.width_of) past.1 surface.now }
+    requires not_ahead { viewer.old.last ≤ next_number surface.now.log }
+    requires names { ShowsNamed screens past.0 viewer.old }
+    requires names_fully { ShowsNamed full_screens past.1 viewer.old }
+    ensures shows { OnOk result (full_of viewer.new.surface ≡ full_of surface.now) }
+    ensures follows { Follows (measure W.width_of) viewer.new surface.now }
+    ensures names { OnOk result (ShowsNamed full_screens past.1 viewer.new) }
+{
+    history_laws();
+    full_history_laws();
     viewer.follow(surface)
 }

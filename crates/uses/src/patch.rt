@@ -1,0 +1,65 @@
+//! A patch: a diff that is made where both surfaces are, and applied where only one of them is.
+ghost use Rattle.std.specs.Prelude.{◌≡◌, ◌≤◌, ◌*◌, IfOk, List, OnOk, length, map};
+ghost use Rattle.termwiz_surface.specs.{
+  AreRows,
+  CellValue,
+  IsDiff,
+  MeasureAlike,
+  Print,
+  PrintsWithin,
+  change_value,
+  measure,
+  need,
+  print_all,
+  printed,
+  screen_of,
+  whole,
+};
+
+use std::alloc::AllocError;
+use termwiz_surface::change::Change;
+use termwiz_surface::emoji::Widths;
+use termwiz_surface::laws::{diff_laws, fewest_prints};
+use termwiz_surface::surface::{Surface, SurfaceError};
+
+/// The patch that makes a surface show the rows of another one of its size. Whoever paints these
+/// rows in another way, cell by cell, paints at least a third as many cells.
+pub fn patch_to<W: Widths>(
+    surface: &Surface<W>,
+    target: &Surface<W>,
+) -> Result<Vec<Change>, AllocError>
+    requires same_width { surface.now.width ≡ target.now.width }
+    requires same_height { surface.now.height ≡ target.now.height }
+    requires alike { MeasureAlike (measure W.width_of) surface.now target.now }
+    ensures { IfOk result (λ patch. (ps : List Print) →
+        let own = (screen_of surface.now).rows in
+        PrintsWithin surface.now.width surface.now.height ps →
+        print_all own ps ≡ (screen_of target.now).rows →
+        length (printed (measure W.width_of surface.now.widths) (screen_of surface.now)
+        (map change_value patch.items)) ≤ 3 * length ps) }
+{
+    // No paints that lead there are fewer than a third of what a diff prints.
+    fewest_prints();
+    let _form = surface.dimensions();
+    let patch = surface.diff_screens(target)?;
+    Ok(patch)
+}
+
+/// Applies a patch. Where it leads to some rows of the surface's size, the surface shows them then.
+pub fn apply_patch<W: Widths>(
+    surface: &mut Surface<W>,
+    patch: Vec<Change>,
+) -> Result<(), SurfaceError>
+    ensures { let f = measure W.width_of surface.old.widths in
+        let own = screen_of surface.old in
+        (rows : List (List CellValue)) → AreRows own.width own.height rows →
+        IsDiff f own (f ≡ f) (need own.rows rows (whole own.width own.height))
+        (map change_value patch.items) →
+        OnOk result ((screen_of surface.new).rows ≡ rows) }
+{
+    // Any diff of the whole gives its rows.
+    diff_laws();
+    let _form = surface.dimensions();
+    surface.add_changes(patch)?;
+    Ok(())
+}

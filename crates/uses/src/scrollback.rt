@@ -1,0 +1,47 @@
+//! A scrollback: lines that have left the screen, each stored as one text where that can be.
+ghost use Rattle.std.specs.Prelude.{◌≡◌, IfOk, List, false, map, true};
+ghost use Rattle.termwiz_surface.specs.{IsWrapped, LineValue, line_contents, line_eq, visible};
+
+use std::alloc::{AllocError, Global};
+use termwiz_surface::change::{SEQ_ZERO, SequenceNo};
+use termwiz_surface::laws::{cut_laws, edit_laws, storage_laws};
+use termwiz_surface::line::line::Line;
+
+/// Stores a line that leaves the screen, as one text where that can be. It is equal to what it was,
+/// also after an error.
+pub fn store(line: &mut Line) -> Result<(), AllocError>
+    ensures { line_eq line.new line.old ≡ true }
+{
+    // Equality is that of cells, number and flags, whichever form stores them.
+    storage_laws();
+    line.compress_for_scrollback()
+}
+
+/// A copy of what a line shows, which is stored as one text, whatever stands behind its wide cells.
+pub fn stored_copy(alloc: Global, line: &Line) -> Result<Line, AllocError>
+    ensures shows { IfOk result (λ copy. visible copy.cells ≡ visible line.now.cells) }
+    ensures text { IfOk result (λ copy. copy.is_vector ≡ false) }
+{
+    // Visible cells that are stored again with their halves show the same, and may stand in a text.
+    edit_laws();
+    storage_laws();
+    let mut copy = Line::new(alloc, line.current_seqno());
+    copy.append_line(line.clone()?, SEQ_ZERO)?;
+    copy.compress_for_scrollback()?;
+    Ok(copy)
+}
+
+/// The rows of a window of this width that show a stored copy of a line: they are those that the
+/// line itself is wrapped into.
+pub fn rewrapped(line: &Line, width: usize, seqno: SequenceNo) -> Result<Vec<Line>, AllocError>
+    ensures { IfOk result (λ rows. (of_line : List LineValue) →
+        IsWrapped width seqno line.now of_line →
+        map line_contents rows.items ≡ map line_contents of_line) }
+{
+    // Lines of the same cells, number and flags are wrapped alike.
+    cut_laws();
+    let mut stored = line.clone()?;
+    stored.compress_for_scrollback()?;
+    let rows = stored.wrap(width, seqno)?;
+    Ok(rows)
+}

@@ -2,17 +2,19 @@
 use Rattle.std.proofs.Common.{◌≡◌, ℕ, zero, suc, ◌+◌, ◌-◌, ◌<◌, Bool, true, false, cond, not, ◌&&◌, List, [], ◌∷◌, ◌++◌, length, refl, sym, ap, ap₂, ◌∙◌, subst, arith, ltb-true, append_assoc, append-nil, inl, inr, bytes_eq}
 use Rattle.std.specs.Prelude.{nat_lt}
 use Rattle.std.specs.Cmp.Lexicographic.{bytes_decides}
-use Rattle.std.proofs.lemmas.Bool.{cases_Bool, and_from, and_left, and_right, and_parts, cond-false, true≢false, lt-ltb}
+use Rattle.std.proofs.lemmas.Bool.{cases_Bool, and_from, and_left, and_right, and_parts, cond-false, true≢false, lt-ltb, ltb-false}
 use Rattle.std.proofs.lemmas.List.{replicate-append-replicate}
 use Rattle.std.proofs.lemmas.List.Sums.{fold-append}
 use Rattle.termwiz_cell.specs.Attributes.{Attributes, attributes_eq, attributes_eq-Decides, default_attributes, is_plain}
 use Rattle.termwiz_cell.specs.CellValue.{CellValue, blank_of, space}
+use Rattle.termwiz_cell.specs.ChangeValue as change
 use Rattle.termwiz_cell.specs.ChangeValue.{ChangeValue, is_text}
+use Rattle.termwiz_line.specs.GrowingText.{ends_printable}
 use Rattle.termwiz_line.specs.LastChange.{last_is}
 use Rattle.termwiz_line.specs.Entries.{Penned, pen_entry, add_text, cell_out, cells_out, is_space_of, all_spaces, trimmed, last_attrs, is_empty, clear_entry, with_tail, ends_plain, row_entries}
 use Rattle.termwiz_line.specs.Writing.{Writing, behind, and_cells, ends_in_space, spaces_of, IsWritten}
 use Rattle.termwiz_line.proofs.EntryLists.{trimmed_push, row_entries_plain}
-use Rattle.termwiz_line.proofs.JoinedTexts.{add_text_behind, ends_with_added}
+use Rattle.termwiz_line.proofs.JoinedTexts.{add_text_behind, ends_with_added, ends_with_plain}
 
 -- a cell more at the end
 pub ends_push : (a : Attributes) (ps : List (ℕ × CellValue)) (p : ℕ × CellValue) → ends_in_space a (ps ++ p ∷ []) ≡ is_space_of a p
@@ -121,10 +123,49 @@ module _ (from : Penned) (cells : List (ℕ × CellValue)) (w v : Writing) (z : 
     held = λ a. ends_in_spaces v.space_attrs a cells more h lm ∙ sym (held_is v.spaces (attributes_eq v.space_attrs a) (omega arith));
   }
 
+  -- one more of the spaces held back, or the first one
+  pub written_space : (p : ℕ × CellValue) → is_space_of w.space_attrs p ≡ true → v.printed ≡ w.printed → v.spaces ≡ w.spaces + 1 → v.space_attrs ≡ w.space_attrs → IsWritten from (cells ++ p ∷ []) v
+  written_space p h ep es ea =
+      let one : all_spaces w.space_attrs (p ∷ []) ≡ true = and_from (is_space_of w.space_attrs p) true h refl in
+      elim (cases_Bool (nat_lt 0 w.spaces)) [
+        | inl t ↦ written_spaces (p ∷ []) one ep es ea (ltb-true 0 w.spaces t) (omega arith)
+        | inr f ↦
+            let none : w.spaces ≡ 0 = omega (arith, ltb-false 0 w.spaces f) in
+            other_spaces (p ∷ []) (ap (λ a. all_spaces a (p ∷ [])) ea ∙ one) (ep ∙ sym (ap (λ n. and_cells w.printed (spaces_of n w.space_attrs)) none)) (es ∙ ap (λ n. n + 1) none) (omega arith)
+            (ap (λ b. b && attributes_eq w.space_attrs v.space_attrs) f)
+      ]
+
+  -- while none are held back, it doesn't matter in which attributes
+  pub written_attrs : w.spaces ≡ 0 → v.printed ≡ w.printed → v.spaces ≡ 0 → IsWritten from cells v
+  written_attrs ew ep ev = record {
+    printed = ep ∙ z.printed ∙ ap (and_cells from) (untrimmed w.space_attrs cells (none w.space_attrs) ∙ sym (untrimmed v.space_attrs cells (none v.space_attrs)));
+    whole = ap (λ n. and_cells v.printed (spaces_of n v.space_attrs)) ev ∙ ep ∙ sym (ap (λ n. and_cells w.printed (spaces_of n w.space_attrs)) ew) ∙ z.whole;
+    held = λ a. none a ∙ sym (ap (λ n. nat_lt 0 n && attributes_eq v.space_attrs a) ev);
+  }
+    where
+      none : (a : Attributes) → ends_in_space a cells ≡ false
+      none a = z.held a ∙ ap (λ n. nat_lt 0 n && attributes_eq w.space_attrs a) ew
+
   -- nothing more
   pub written_none : (more : List (ℕ × CellValue)) → length more ≡ 0 → v ≡ w → IsWritten from (cells ++ more) v
   written_none [] e same = subst (λ (u : Writing). IsWritten from (cells ++ []) u) (sym same) (subst (λ cs. IsWritten from cs w) (sym (append-nil cells)) z)
   written_none (p ∷ ps) e same = absurd (omega arith)
+
+self_eq : (a : Attributes) → attributes_eq a a ≡ true
+self_eq a = (attributes_eq-Decides a a).1 refl
+
+-- a cell in the pen that stands
+pub out_in_pen : (d : Penned) (p : ℕ × CellValue) (text : List ℕ) (es : List ChangeValue) → p.1.text ≡ text → p.1.attrs ≡ d.pen → es ≡ add_text d.entries text → record { entries = es; pen = d.pen } ≡ cell_out d p
+out_in_pen d p text es t a e =
+    let pen : pen_entry d.pen p.1.attrs ≡ [] = ap (pen_entry d.pen) a ∙ ap (λ b. cond b [] (change.AllAttributes d.pen ∷ [])) (self_eq d.pen) in
+    let entries : es ≡ add_text (d.entries ++ pen_entry d.pen p.1.attrs) p.1.text =
+    e ∙ sym ((λ i. add_text (d.entries ++ pen i) (t i)) ∙ ap (λ l. add_text l text) (append-nil d.entries)) in
+    λ i. record { entries = entries i; pen = sym a i }
+
+-- printed spaces are printable ASCII
+pub spaces_in_text : (n : ℕ) (d : Penned) (a : Attributes) → last_is ends_printable d.entries ≡ true → d.pen ≡ a → (last_is ends_printable (and_cells d (spaces_of n a)).entries ≡ true) × ((and_cells d (spaces_of n a)).pen ≡ a)
+spaces_in_text zero d a h e = (h, e)
+spaces_in_text (suc n) d a h e = spaces_in_text n (cell_out d (0, blank_of a)) a (ends_with_plain (d.entries ++ pen_entry d.pen a) 32 refl) refl
 
 -- rows behind other entries, which end in no text
 cell_behind : (es : List ChangeValue) (d : Penned) (p : ℕ × CellValue) → last_is is_text es ≡ false → cell_out (behind es d) p ≡ behind es (cell_out d p)
@@ -171,9 +212,6 @@ ends_otherwise : (ps : List (ℕ × CellValue)) → ((a : Attributes) → ends_i
 ends_otherwise [] h = refl
 ends_otherwise (p ∷ []) h = and_left (is_space_of p.1.attrs p) (is_plain p.1.attrs) (h p.1.attrs)
 ends_otherwise (p ∷ (q ∷ ps)) h = ends_otherwise (q ∷ ps) h
-
-self_eq : (a : Attributes) → attributes_eq a a ≡ true
-self_eq a = (attributes_eq-Decides a a).1 refl
 
 module _ (from : Penned) (cells : List (ℕ × CellValue)) (w : Writing) (apart : last_is is_text from.entries ≡ false) (z : IsWritten from cells w) where
   held_true : 0 < w.spaces → ends_in_space w.space_attrs cells ≡ true

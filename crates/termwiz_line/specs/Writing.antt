@@ -1,8 +1,10 @@
 -- Rows of entries that are written cell by cell: spaces at the end of what was written are held back until it is known whether they end the row.
-use Rattle.std.specs.Prelude.{◌≡◌, ℕ, Bool, false, ◌&&◌, nat_lt, List, [], ◌∷◌, ◌++◌, fold, replicate}
+use Rattle.std.specs.Prelude.{◌≡◌, ℕ, Bool, true, false, ◌&&◌, nat_lt, List, [], ◌∷◌, ◌++◌, fold, replicate}
 use Rattle.termwiz_cell.specs.Attributes.{Attributes, attributes_eq}
 use Rattle.termwiz_cell.specs.CellValue.{CellValue, blank_of}
 use Rattle.termwiz_cell.specs.ChangeValue.{ChangeValue}
+use Rattle.termwiz_line.specs.LastChange.{last_is}
+use Rattle.termwiz_line.specs.GrowingText.{ends_printable}
 use Rattle.termwiz_line.specs.Entries.{Penned, cell_out, is_space_of, trimmed}
 
 -- what is printed, and so many spaces with these attributes that are not
@@ -34,3 +36,14 @@ pub record IsWritten (from : Penned) (cells : List (ℕ × CellValue)) (w : Writ
   pub printed : w.printed ≡ and_cells from (trimmed w.space_attrs cells)
   pub whole : and_cells w.printed (spaces_of w.spaces w.space_attrs) ≡ and_cells from cells
   pub held : (a : Attributes) → ends_in_space a cells ≡ (nat_lt 0 w.spaces && attributes_eq w.space_attrs a)
+
+-- of all these visible cells of a row, those that aren't left were written since `from`
+pub record IsUnderWay (from : Penned) (all left : List (ℕ × CellValue)) (w : Writing) : Type 0 where
+  pub done : List (ℕ × CellValue)
+  pub whole : done ++ left ≡ all
+  pub written : IsWritten from done w
+
+-- what was printed ends in printable ASCII, and held spaces have the pen that stands
+pub record IsInText (w : Writing) : Type 0 where
+  pub text : last_is ends_printable w.printed.entries ≡ true
+  pub spaces : w.space_attrs ≡ w.printed.pen

@@ -1,11 +1,13 @@
 //! A list of entries whose last text may still grow.
-ghost use Rattle.std.specs.Prelude.{◌≡◌, ◌++◌, ◌∷◌, [], false, ◌&&◌, map, cond, IfOk, OnOk, OnErr};
+ghost use Rattle.std.specs.Prelude.{◌≡◌, ◌++◌, ◌∷◌, [], true, false, ◌&&◌, map, cond, IfOk, OnOk};
+ghost use Rattle.std.specs.Prelude.{OnErr};
 ghost use Rattle.std.specs.Option.{option_copied};
+ghost use Rattle.termwiz_text.specs.Plain.{is_plain};
 ghost use Rattle.termwiz_cell.specs.ChangeValue as change;
 ghost use Rattle.termwiz_cell.specs.ChangeValue.{change_value, is_text};
 ghost use Rattle.termwiz_line.specs.Entries.{add_text, joins, pen_entry};
 ghost use Rattle.termwiz_line.specs.LastChange.{last_is};
-ghost use Rattle.termwiz_line.specs.GrowingText.{with_text, IsLastOf};
+ghost use Rattle.termwiz_line.specs.GrowingText.{ends_printable, with_text, IsLastOf};
 
 use super::is_same;
 use std::alloc::{AllocError, Global};
@@ -89,6 +91,17 @@ impl EntryList {
         Ok(())
     }
 
+    /// A character of printable ASCII comes behind a text that ends in one, which it always joins.
+    #[inline(always)]
+    pub fn push_plain(&mut self, byte: u8) -> Result<(), AllocError>
+        requires plain { is_plain byte ≡ true }
+        requires behind { last_is ends_printable self.old ≡ true }
+        ensures { OnOk result (self.new ≡ add_text self.old (byte ∷ [])) }
+    {
+        self.text.push_plain(byte)?;
+        Ok(())
+    }
+
     /// A pen comes behind the others, where it is another one than before.
     #[inline(always)]
     pub fn push_pen(&mut self, old: &CellAttributes, new: &CellAttributes) -> Result<(), AllocError>
@@ -121,6 +134,13 @@ impl EntryList {
         ensures { result ≡ last_is is_text self.now }
     {
         self.grows
+    }
+
+    /// Whether the last entry is a text that ends in printable ASCII.
+    pub fn ends_printable(&self) -> bool
+        ensures { result ≡ last_is ends_printable self.now }
+    {
+        self.grows && self.text.ends_plain()
     }
 
     /// The last entry, if it is no text.

@@ -1,6 +1,7 @@
 //! A writer of row entries.
 ghost use Rattle.std.specs.Prelude.{◌≡◌, ◌++◌, ◌∷◌, [], ◌+◌, ◌&&◌, nat_lt, ℕ, List, true, false};
-ghost use Rattle.std.specs.Prelude.{not, length, IfOk, OnOk};
+ghost use Rattle.std.specs.Prelude.{not, length, ◌≤◌, ◌==◌, IfOk, OnOk};
+ghost use Rattle.termwiz_text.specs.Plain as plain;
 ghost use Rattle.termwiz_cell.specs.Attributes as attributes;
 ghost use Rattle.termwiz_cell.specs.Attributes.{attributes_eq};
 ghost use Rattle.termwiz_cell.specs.CellValue.{CellValue};
@@ -9,9 +10,10 @@ ghost use Rattle.termwiz_storage.specs.CellsLeft.{cells_left};
 ghost use Rattle.std.specs.Option.{option_copied};
 ghost use Rattle.termwiz_line.specs.Entries as spec;
 ghost use Rattle.termwiz_line.specs.LastChange.{last_is};
-ghost use Rattle.termwiz_line.specs.GrowingText.{IsLastOf};
+ghost use Rattle.termwiz_line.specs.GrowingText.{ends_printable, IsLastOf};
 ghost use Rattle.termwiz_line.specs.PennedValue.{penned_value};
-ghost use Rattle.termwiz_line.specs.Writing.{and_cells, behind, spaces_of, IsWritten};
+ghost use Rattle.termwiz_line.specs.Writing.{and_cells, behind, spaces_of, IsInText, IsUnderWay};
+ghost use Rattle.termwiz_line.specs.Writing.{IsWritten};
 
 use super::{EntryList, Penned, is_default, is_plain, is_same, is_space};
 use std::alloc::{AllocError, Global};
@@ -19,6 +21,7 @@ use std::marker::Model;
 use termwiz_cell::cell::CellAttributes;
 use termwiz_cell::change::Change;
 use termwiz_storage::line::cellref::VisibleCellIter;
+use termwiz_storage::line::vecstorage::VecStorageIter;
 
 /// Writes rows of visible cells as entries: a pen for each run of equal attributes, then its texts.
 /// Spaces at the end of a row are left out where their attributes are default but for the
@@ -198,9 +201,94 @@ impl<'a> RowWriter<'a> {
             IsWritten from (before ++ cells_left cells.entry) self.new) }
     {
         match cells {
-            VisibleCellIter::V(cells) => self.walk(VisibleCellIter::V(cells)),
+            VisibleCellIter::V(cells) => self.stored_cells(cells),
             VisibleCellIter::Cluster(cells) => self.walk(VisibleCellIter::Cluster(cells)),
         }
+    }
+
+    // Cells that are stored one by one come next. Behind each one the plain cells in its pen are
+    // written in a loop of their own, which asks only what they need.
+    fn stored_cells(&mut self, cells: VecStorageIter<'a>) -> Result<(), AllocError>
+        ensures { OnOk result (
+            (from : spec.Penned) (before : List (ℕ × CellValue)) → IsWritten from before self.old →
+            IsWritten from (before ++ cells.entry) self.new) }
+    {
+        let mut left = cells;
+        while let Some(cell) = left.next() {
+            self.cell(cell.str(), cell.attrs())?;
+            self.plain_cells(&mut left)?;
+        }
+        Ok(())
+    }
+
+    // The plain cells that come next in the pen that stands are written, where the text grows
+    // behind printable ASCII.
+    #[inline(always)]
+    fn plain_cells(&mut self, left: &mut VecStorageIter<'a>) -> Result<(), AllocError>
+        ensures written { OnOk result (
+            (from : spec.Penned) (all : List (ℕ × CellValue)) →
+            IsUnderWay from all left.old self.old → IsUnderWay from all left.new self.new) }
+        ensures shorter { length left.new ≤ length left.old }
+    {
+        if !self.is_in_text() {
+            return Ok(());
+        }
+        // A pen in a place of its own is compared without a look behind a reference.
+        match self.pen.unboxed_copy() {
+            Some(pen) => self.plain_run(left, &pen),
+            None => Ok(()),
+        }
+    }
+
+    // The same with a pen that is equal to the one that stands.
+    #[inline(always)]
+    fn plain_run(
+        &mut self,
+        left: &mut VecStorageIter<'a>,
+        pen: &CellAttributes,
+    ) -> Result<(), AllocError>
+        requires spaces { self.old.spaces ≡ 0 }
+        requires text { last_is ends_printable self.old.printed.entries ≡ true }
+        requires pen { pen.now ≡ self.old.printed.pen }
+        ensures written { OnOk result (
+            (from : spec.Penned) (all : List (ℕ × CellValue)) →
+            IsUnderWay from all left.old self.old → IsUnderWay from all left.new self.new) }
+        ensures shorter { length left.new ≤ length left.old }
+    {
+        self.space_attrs = self.pen;
+        while let Some(byte) = left.next_plain(pen) {
+            self.plain_cell(byte)?;
+        }
+        Ok(())
+    }
+
+    // Whether the text grows, no space is held back behind it, and it ends in printable ASCII.
+    fn is_in_text(&self) -> bool
+        ensures { result
+            ≡ (self.now.spaces == 0 && last_is ends_printable self.now.printed.entries) }
+    {
+        self.spaces == 0 && self.entries.ends_printable()
+    }
+
+    // A cell of one character of printable ASCII comes next, in the pen that stands.
+    #[inline(always)]
+    fn plain_cell(&mut self, byte: u8) -> Result<(), AllocError>
+        requires plain { plain.is_plain byte ≡ true }
+        requires text { IsInText self.old }
+        ensures cell { OnOk result (
+            (from : spec.Penned) (cells : List (ℕ × CellValue)) (p : ℕ × CellValue) →
+            p.1.text ≡ byte ∷ [] → p.1.attrs ≡ self.old.printed.pen →
+            IsWritten from cells self.old → IsWritten from (cells ++ p ∷ []) self.new) }
+        ensures text { OnOk result (IsInText self.new) }
+        ensures pen { OnOk result (self.new.printed.pen ≡ self.old.printed.pen) }
+    {
+        if byte == b' ' {
+            self.spaces = added(self.spaces, 1)?;
+            return Ok(());
+        }
+        self.print_spaces()?;
+        self.entries.push_plain(byte)?;
+        Ok(())
     }
 
     #[inline(always)]

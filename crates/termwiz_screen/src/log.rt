@@ -113,6 +113,19 @@ impl Log {
         Ok(())
     }
 
+    /// Logs clones of more changes. On an error nothing has changed.
+    pub fn append_clones(&mut self, changes: &[Change]) -> Result<(), AllocError>
+        ensures ok { OnOk result (self.new ≡ appended self.old (map change_value changes.now)) }
+        ensures err { OnErr result (self.new ≡ self.old) }
+        ensures succeeds { length changes.now ≡ 0 → IsOk result }
+    {
+        if changes.is_empty() {
+            return Ok(());
+        }
+        self.stored.extend_from_slice(changes)?;
+        Ok(())
+    }
+
     // Whether the log has this number, or it is the coming one.
     #[inline(always)]
     fn reaches(&self, seq: SequenceNo) -> bool

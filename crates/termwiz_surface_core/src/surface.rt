@@ -595,6 +595,21 @@ impl<W: Widths> Surface<W> {
         Ok(())
     }
 
+    // Makes the changes and logs clones of them.
+    fn make_lent(&mut self, changes: &[Change]) -> Result<(), AllocError>
+        requires fits { regions_fit self.old.height (map change_value changes.now) ≡ true }
+        requires numbers { next_number self.old.log + length changes.now < 2 ^ 64 }
+        ensures ok { OnOk result (Makes (measure W.width_of self.old.widths)
+            self.old (map change_value changes.now) self.new) }
+        ensures err { OnErr result (SameFrame self.old self.new) }
+        ensures some { OnErr result (0 < length changes.now) }
+    {
+        self.log.reserve(changes.len())?;
+        self.apply_all(changes)?;
+        self.log.append_clones(changes)?;
+        Ok(())
+    }
+
     /// Makes one change. The answer is its number.
     /// `ScrollRegion`, `Numbers`: nothing has changed. `Memory`: it may have been made in part; the
     /// size and the form of the rows stay, the cursor is inside, and the log is empty under a
@@ -635,11 +650,41 @@ impl<W: Widths> Surface<W> {
         ensures remembered { KeepsNames (measure W.width_of self.old.widths) self.old self.new }
     {
         self.refuse(changes.as_slice())?;
-        let told = self.log.next_number().saturating_sub(1) + changes.len();
+        let told = told_of(self.log.next_number(), changes.len());
         if self.make_all(changes).is_err() {
             self.log.restart();
             return Err(SurfaceError::Memory);
         }
         Ok(told)
     }
+
+    /// Makes changes that are lent, and logs clones of them, so that they need no list of their
+    /// own. All else is as of `add_changes`.
+    pub fn add_lent_changes(&mut self, changes: &[Change]) -> Result<SequenceNo, SurfaceError>
+        ensures adds { Adds (measure W.width_of self.old.widths)
+            self.old (map change_value changes.now)
+            (next_number self.old.log - 1 + length changes.now) result self.new }
+        ensures empty { length changes.now ≡ 0 → IsOk result }
+        // Each viewer that follows the surface goes on to, also after an error.
+        ensures followed { KeepsViewers (measure W.width_of) self.old self.new }
+        // What its numbers named they name still, also after an error.
+        ensures remembered { KeepsNames (measure W.width_of self.old.widths) self.old self.new }
+    {
+        self.refuse(changes)?;
+        let told = told_of(self.log.next_number(), changes.len());
+        if self.make_lent(changes).is_err() {
+            self.log.restart();
+            return Err(SurfaceError::Memory);
+        }
+        Ok(told)
+    }
+}
+
+// The number that is told of a list of so many changes, by the coming one.
+#[inline(always)]
+fn told_of(coming: SequenceNo, count: usize) -> SequenceNo
+    requires { coming + count < 2 ^ 64 }
+    ensures { result ≡ coming - 1 + count }
+{
+    coming.saturating_sub(1) + count
 }

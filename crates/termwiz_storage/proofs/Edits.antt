@@ -1,6 +1,6 @@
 -- Stored cells that are removed, inserted, and copied.
 use Rattle.std.proofs.Common.{suc, zero, min, drop-cons, add-one, ◌≡◌, ℕ, ◌+◌, ◌-◌, ◌<◌, ◌≤◌, inl, inr, Bool, true, false, cond, not, ◌&&◌, List, [], ◌∷◌, ◌++◌, length, get_or, take, drop, replicate, refl, sym, ◌∙◌, ap, arith, append_assoc}
-use Rattle.std.specs.List.{AllClonesOf, AppendsClonesOf, filter, remove}
+use Rattle.std.specs.List.{AllClonesOf, AppendsClonesOf, filter, insert, insert_slice, remove}
 use Rattle.std.specs.Prelude.{nat_le}
 use Rattle.std.proofs.lemmas.Bool.{cases_Bool, cases_lt, le-leb, lt-leb, lt-ltb, le-ltb}
 use Rattle.std.proofs.Math.ListN.{drop_of_length-le}
@@ -140,3 +140,9 @@ shown-again i (suc s) (c ∷ cs) = let e : i + suc s ≡ i + 1 + s = omega arith
 
 pub visible-with_halves : (cs : List CellValue) → visible (with_halves (visible cs)) ≡ visible cs
 visible-with_halves cs = shown-again 0 0 cs
+
+-- what is inserted twice at one place is inserted at once
+pub inserted_twice : {X : Type 0} (xs : List X) (i : ℕ) (x y : X) → i ≤ length xs → insert (insert xs i y) i x ≡ insert_slice xs i (x ∷ y ∷ [])
+inserted_twice xs zero x y h = refl
+inserted_twice [] (suc i) x y h = absurd (omega (arith, h))
+inserted_twice (z ∷ zs) (suc i) x y h = ap (λ l. z ∷ l) (inserted_twice zs i x y (omega (arith, h)))

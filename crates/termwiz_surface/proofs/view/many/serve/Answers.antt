@@ -1,4 +1,4 @@
-use Rattle.std.proofs.Common.{◌<◌, refl, length, arith, subst}
+use Rattle.std.proofs.Common.{◌<◌, length, arith, subst}
 use Rattle.std.proofs.lemmas.Result.{MatchResult-weaker}
 use Rattle.termwiz_cell.specs.Width.{unversioned}
 use Rattle.termwiz_surface.specs.ManySteps.{AnswersTo}

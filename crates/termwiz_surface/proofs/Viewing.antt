@@ -4,7 +4,7 @@ use Rattle.std.specs.Prelude.{Result, Ok, Err, OnOk}
 use Rattle.std.proofs.lemmas.Bool.{true≢false}
 use Rattle.std.proofs.lemmas.Bool.Decides.{nat_tests}
 use Rattle.termwiz_cell.specs.ChangeValue.{ChangeValue}
-use Rattle.termwiz_surface_core.specs.Following.{ViewerValue, Follows, forgetful, Fits, IsFitted, IsAnswer, Fetches, Keeps, Accepts, IsLost, HasNoRoom, HasRoom, FollowsTo}
+use Rattle.termwiz_surface_core.specs.Following.{ViewerValue, Follows, forgetful, Fits, IsFitted, IsAnswer, Fetches, Accepts, IsLost, HasNoRoom, HasRoom, FollowsTo}
 use Rattle.termwiz_screen.specs.Log.{next_number}
 use Rattle.termwiz_surface_core.specs.Adding.{Makes}
 use Rattle.termwiz_screen.specs.FullScreen.{HasFullSize, full_replay}
@@ -67,12 +67,6 @@ module _ {W : Type 0} where
       known = rw h.0 (λ k. absurd (true≢false (sym k)));
     },
   )
-
-  -- the answer isn't kept
-  pub Fetches-unkept : (measure : List ℕ → ℕ) (s : SurfaceValue W) (old mid : ViewerValue W) (cs : List ChangeValue) (e : SurfaceError) → IsFitted old s mid → IsAnswer measure s mid.last cs → Keeps mid cs (Err e) → Fetches measure s old (Err e) mid
-  Fetches-unkept measure s old mid cs ScrollRegion fitted answer h = h
-  Fetches-unkept measure s old mid cs Numbers fitted answer h = (inr fitted, no_room measure s old mid cs fitted answer h)
-  Fetches-unkept measure s old mid cs Memory fitted answer h = (inr fitted, has_room measure s old mid cs fitted answer h)
 
   -- what was asked for is not taken
   pub FollowsTo-refused : (f : W → List ℕ → ℕ) (measure : List ℕ → ℕ) (s : SurfaceValue W) (old mid new : ViewerValue W) (n : ℕ) (cs : List ChangeValue) (e : SurfaceError)

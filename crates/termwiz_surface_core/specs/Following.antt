@@ -1,14 +1,15 @@
 -- Viewers: a surface that follows another one, by what its viewer was last given.
-use Rattle.std.specs.Prelude.{◌≡◌, ℕ, ◌+◌, ◌<◌, ◌≤◌, ◌^◌, Bool, true, false, ◌&&◌, ◌==◌, ◌⊎◌, List, length, map, Result, Ok, Err, Vec, if◌then◌else◌}
+use Rattle.std.specs.Prelude.{◌≡◌, ℕ, ◌+◌, ◌<◌, ◌≤◌, ◌^◌, Bool, true, false, ◌&&◌, ◌==◌, ◌⊎◌, List, length, Result, Ok, Err, if◌then◌else◌}
 use Rattle.std.specs.declared.alloc.Global.{Global}
-use Rattle.termwiz_cell.specs.ChangeValue.{ChangeValue, change_value}
+use Rattle.std.specs.declared.borrow.CowSlice.{CowSlice}
+use Rattle.termwiz_cell.specs.ChangeValue.{ChangeValue}
 use Rattle.termwiz_cell.specs.declared.change.Change.{Change}
 use Rattle.termwiz_surface_core.specs.Adding.{Adds, Makes}
 use Rattle.termwiz_screen.specs.Log.{LogValue, next_number, due, is_known, worth, restarted}
 use Rattle.termwiz_surface_core.specs.Resizing.{HasResized}
 use Rattle.termwiz_screen.specs.Screen.{Screen}
 use Rattle.termwiz_screen.specs.Step.{regions_fit}
-use Rattle.termwiz_screen.specs.Stream.{IsStream, IsFullStream, most_entries}
+use Rattle.termwiz_screen.specs.Stream.{IsStream, IsFullStream, most_entries, stream_of}
 use Rattle.termwiz_screen.specs.FullScreen.{FullScreen}
 use Rattle.termwiz_surface_core.specs.SurfaceValue.{SurfaceValue, blank_surface, screen_of, full_of}
 use Rattle.termwiz_screen.specs.Picture.{Pictures, screens, full_screens, played}
@@ -97,20 +98,13 @@ module _ {W : Type 0} where
     pub known : is_known (worth s.width s.height) s.log (asks_with old s) ≡ true → number_in_size old s + length (due s.log (asks_with old s)) < 2 ^ 64
 
   -- the viewer asks in the surface's size, for changes that its own number has room for
-  abbrev pub Fetches : (List ℕ → ℕ) → SurfaceValue W → ViewerValue W → Result (ℕ × Vec Change Global) SurfaceError → ViewerValue W → Type 0
-  Fetches measure s old (Ok answer) new = (answer.0 ≡ next_number s.log) × IsFitted old s new × IsAnswer measure s new.last (map change_value answer.1.items)
+  abbrev pub Fetches : (List ℕ → ℕ) → SurfaceValue W → ViewerValue W → Result (ℕ × CowSlice Change Global) SurfaceError → ViewerValue W → Type 0
+  Fetches measure s old (Ok answer) new = (answer.0 ≡ next_number s.log) × IsFitted old s new × IsAnswer measure s new.last (stream_of answer.1)
   -- no number for the other size, or for the answer
   Fetches measure s old (Err Numbers) new = (Fits old s (Err Numbers) new ⊎ IsFitted old s new) × HasNoRoom old s
   -- no memory for the other size, or for the answer
   Fetches measure s old (Err Memory) new = (Fits old s (Err Memory) new ⊎ IsFitted old s new) × HasRoom old s
   Fetches measure s old (Err ScrollRegion) new = ⊥
-
-  -- these changes are kept as a list, where the viewer's own number has room for them
-  abbrev pub Keeps : ViewerValue W → List ChangeValue → Result (Vec Change Global) SurfaceError → Type 0
-  Keeps v changes (Ok list) = map change_value list.items ≡ changes
-  Keeps v changes (Err Numbers) = 2 ^ 64 ≤ next_number v.surface.log + length changes
-  Keeps v changes (Err Memory) = next_number v.surface.log + length changes < 2 ^ 64
-  Keeps v changes (Err ScrollRegion) = ⊥
 
   -- changes are made, and the number is taken and told; where they are refused, none is
   abbrev pub Accepts : (List ℕ → ℕ) → ViewerValue W → ℕ → List ChangeValue → Result ℕ SurfaceError → ViewerValue W → Type 0

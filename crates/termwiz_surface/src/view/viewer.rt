@@ -1,14 +1,13 @@
 //! Viewers: surfaces that follow another one, or accept its answers.
-ghost use Rattle.std.specs.Prelude.{◌≡◌, ◌+◌, ◌<◌, ◌^◌, true, length, map, nat_lt, IfOk, OnOk};
+ghost use Rattle.std.specs.Prelude.{◌≡◌, ◌+◌, ◌-◌, ◌<◌, ◌^◌, true, length, nat_lt, IfOk, OnOk};
 ghost use Rattle.std.specs.Prelude.{[], OnErr};
-ghost use Rattle.termwiz_cell.specs.ChangeValue.{change_value};
 ghost use Rattle.termwiz_cell.specs.Measure.{measure};
-ghost use Rattle.termwiz_surface_core.specs.Adding.{Makes, with_log};
+ghost use Rattle.termwiz_surface_core.specs.Adding.{Adds, Makes, with_log};
 ghost use Rattle.termwiz_surface.specs.Accepting.{Declines, HasDropped, MayTake, Takes};
 ghost use Rattle.termwiz_surface.specs.Showing.{HasCaughtUp, KeepsShowing, ShowsCarried};
 ghost use Rattle.termwiz_surface.specs.Showing.{StaysNamed};
 ghost use Rattle.termwiz_surface_core.specs.Following.{blank_viewer, forgetful, Accepts, Fetches};
-ghost use Rattle.termwiz_surface_core.specs.Following.{Fits, Follows, FollowsTo, Keeps};
+ghost use Rattle.termwiz_surface_core.specs.Following.{Fits, Follows, FollowsTo};
 ghost use Rattle.termwiz_surface_core.specs.Resizing.{Resizes};
 ghost use Rattle.termwiz_surface_core.specs.SurfaceValue.{SurfaceValue, full_of};
 ghost use Rattle.termwiz_screen.specs.FullScreen.{HasFullSize};
@@ -16,7 +15,6 @@ ghost use Rattle.termwiz_screen.specs.Log.{flushed, next_number};
 ghost use Rattle.termwiz_screen.specs.Picture.{full_screens, screens};
 ghost use Rattle.termwiz_screen.specs.Stream.{stream_of};
 
-use super::copied;
 use crate::surface::{Answer, Surface, SurfaceError};
 use std::alloc::{AllocError, Global};
 use std::borrow::CowSlice;
@@ -79,7 +77,6 @@ impl From<AllocError> for AcceptError {
 #[derive(Drop)]
 pub struct Viewer<W: Widths> {
     surface: Surface<W>,
-    alloc: Global,
     last: SequenceNo,
 }
 
@@ -102,7 +99,6 @@ impl<W: Widths> Viewer<W> {
         let surface = Surface::blank(alloc, width, height, source.widths(), source.is_full())?;
         Ok(Viewer {
             surface,
-            alloc,
             last: SEQ_ZERO,
         })
     }
@@ -141,10 +137,10 @@ impl<W: Widths> Viewer<W> {
 
     /// Takes the source's size, and asks the source for its number and what changed since the
     /// viewer's. After an error the viewer may have taken the size, and shows the same otherwise.
-    pub(crate) fn fetch(
+    pub(crate) fn fetch<'s>(
         &mut self,
-        source: &Surface<W>,
-    ) -> Result<(SequenceNo, Vec<Change>), SurfaceError>
+        source: &'s Surface<W>,
+    ) -> Result<(SequenceNo, CowSlice<'s, Change>), SurfaceError>
         ensures fetches { Fetches (measure W.width_of source.now.widths)
             source.now self.old result self.new }
         ensures sized { OnOk result (
@@ -152,19 +148,7 @@ impl<W: Widths> Viewer<W> {
     {
         self.fit(source)?;
         let (number, changes) = source.get_changes(self.last)?;
-        let changes = self.keep(changes)?;
         Ok((number, changes))
-    }
-
-    // The changes as a list, where the viewer's own surface has numbers for them.
-    fn keep(&self, changes: CowSlice<'_, Change>) -> Result<Vec<Change>, SurfaceError>
-        ensures { Keeps self.now (stream_of changes.entry) result }
-    {
-        if !self.has_numbers(changes.len()) {
-            return Err(SurfaceError::Numbers);
-        }
-        let changes = copied(self.alloc, changes)?;
-        Ok(changes)
     }
 
     /// Makes the changes, and takes the source's number, which is the answer. After an error the
@@ -172,15 +156,29 @@ impl<W: Widths> Viewer<W> {
     pub(crate) fn make(
         &mut self,
         number: SequenceNo,
-        changes: Vec<Change>,
+        changes: CowSlice<'_, Change>,
     ) -> Result<SequenceNo, SurfaceError>
         ensures { Accepts (measure W.width_of self.old.surface.widths)
-            self.old number (map change_value changes.items) result self.new }
+            self.old number (stream_of changes.entry) result self.new }
     {
         self.last = SEQ_ZERO;
-        self.surface.add_changes(changes)?;
+        self.add(changes)?;
         self.last = number;
         Ok(number)
+    }
+
+    // Makes the changes. Those that are lent are cloned into the log, and the others moved.
+    fn add(&mut self, changes: CowSlice<'_, Change>) -> Result<SequenceNo, SurfaceError>
+        ensures adds { Adds (measure W.width_of self.old.surface.widths)
+            self.old.surface (stream_of changes.entry)
+            (next_number self.old.surface.log - 1 + length (stream_of changes.entry))
+            result self.new.surface }
+        ensures last { self.new.last ≡ self.old.last }
+    {
+        match changes {
+            CowSlice::Borrowed(lent) => self.surface.add_lent_changes(lent),
+            CowSlice::Owned(list) => self.surface.add_changes(list),
+        }
     }
 
     /// Forgets the number, so that the next answer brings the whole screen.
@@ -223,8 +221,7 @@ impl<W: Widths> Viewer<W> {
             HasDropped (measure W.width_of self.old.surface.widths) self.old self.new) }
     {
         self.last = SEQ_ZERO;
-        let changes = copied(self.alloc, CowSlice::Borrowed(answer.changes()))?;
-        if self.surface.add_changes(changes).is_err() {
+        if self.surface.add_lent_changes(answer.changes()).is_err() {
             return Err(AllocError);
         }
         self.last = answer.number();

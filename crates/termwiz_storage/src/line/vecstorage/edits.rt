@@ -225,7 +225,6 @@ fn insert_in_gap(cells: &mut Vec<Cell>, x: usize, cell: Cell)
 }
 
 // Inserts a cell, and its half behind a wide one, once the cell before a margin is removed.
-#[tactic(auto, using(crate::proofs::Edits::inserted_twice))]
 fn insert_moving(
     cells: &mut Vec<Cell>,
     x: usize,

@@ -1,6 +1,7 @@
 pub mod Stored
 mod Measuring
 pub mod Runs
+pub mod LetterRuns
 pub mod Clear
 mod Fills
 mod EntryTexts

@@ -1,7 +1,7 @@
 -- Runs of ASCII: what their characters print, and a wrap before them.
 use Rattle.std.proofs.Common.{◌≡◌, ℕ, ◌+◌, ◌-◌, ◌<◌, ◌≤◌, inl, inr, true, false, List, [], ◌∷◌, ◌++◌, length, get_or, take, fold, map, refl, sym, ◌∙◌, ap, ap₂, subst, arith}
 use Rattle.std.specs.Prelude.{nat_le}
-use Rattle.std.specs.List.{list_all, slice_range}
+use Rattle.std.specs.List.{All, list_all, slice_range}
 use Rattle.std.specs.Str.{IsCharBoundary}
 use Rattle.std.proofs.lemmas.List.Sums.{AllPass-from_list_all}
 use Rattle.std.proofs.lemmas.Bool.{cases_Bool, le-ltb, leb-true, and_parts, ne_eqb}
@@ -10,7 +10,7 @@ use Rattle.unicode_segmentation.specs.Grapheme.{graphemes}
 use Rattle.termwiz_text.specs.Plain.{is_plain}
 use Rattle.termwiz_text.proofs.Plain.{graphemes_plain, utf8_one}
 use Rattle.termwiz_cell.specs.Attributes.{Attributes}
-use Rattle.termwiz_cell.specs.CellValue.{plain_cell, clean, measured}
+use Rattle.termwiz_cell.specs.CellValue.{CellValue, plain_cell, clean, measured}
 use Rattle.termwiz_screen.specs.declared.print.Piece.TheVariants.{Cell}
 use Rattle.termwiz_cell.specs.Graphemes.{single}
 use Rattle.termwiz_screen.specs.Kept.{Kept}
@@ -46,6 +46,15 @@ module _ (f : List ℕ → ℕ) (b : ℕ) (a : Attributes) (plain : is_plain b �
 
   pub IsMeasured-plain : IsMeasured f (plain_cell b a)
   IsMeasured-plain = record { alone = alone-plain b plain; is_clean = clean-plain b plain; wide_is = sym (le-ltb 1 (f (b ∷ [])) narrow) }
+
+-- a grapheme prints this cell, which is measured
+pub record PrintsCell (f : List ℕ → ℕ) (pen : Attributes) (g : List ℕ) (c : CellValue) : Type 0 where
+  pub is_text : piece_of f pen g ≡ Cell (printed_cell f pen g)
+  pub cell_is : printed_cell f pen g ≡ c
+  pub measured : IsMeasured f c
+
+pub PrintsCell-plain : (f : List ℕ → ℕ) (pen : Attributes) (b : ℕ) → is_plain b ≡ true → f (b ∷ []) ≤ 1 → PrintsCell f pen (b ∷ []) (plain_cell b pen)
+PrintsCell-plain f pen b h n = record { is_text = piece-plain f pen b h; cell_is = measured-plain f b pen h n; measured = IsMeasured-plain f b pen h n }
 
 -- the graphemes of a run
 abbrev pub pieces : List ℕ → List (List ℕ)
@@ -95,13 +104,13 @@ boundary-plain bs i h l = (
       absurd (omega arith),
 )
 
--- a shorter beginning of the same text is a beginning of the narrow one
-pub narrow-shorter : (f : List ℕ → ℕ) (n : ℕ) (run rest short more : List ℕ) → run ++ rest ≡ short ++ more → length short ≤ n → n ≤ length run → AreNarrow f (take n run) → AreNarrow f short
-narrow-shorter f n run rest short more e s l h = λ k d m.
+-- what holds of a beginning holds of a shorter beginning of the same list
+pub all-shorter : (P : ℕ → Type 0) (n : ℕ) (run rest short more : List ℕ) → run ++ rest ≡ short ++ more → length short ≤ n → n ≤ length run → All P (take n run) → All P short
+all-shorter P n run rest short more e s l h = λ k d m.
     let left : get_or (run ++ rest) k d ≡ get_or run k d = get_or_append_left run rest d k (omega arith) in
     let right : get_or (short ++ more) k d ≡ get_or short k d = get_or_append_left short more d k m in
     let same : get_or (take n run) k d ≡ get_or short k d = get_or-take n run k d (omega arith) ∙ sym left ∙ ap (λ (t : List ℕ). get_or t k d) e ∙ right in
-    subst (λ (b : ℕ). f (b ∷ []) ≤ 1) same (h k d (omega (arith, length-take n run)))
+    subst P same (h k d (omega (arith, length-take n run)))
 
 pub one_byte : (bs : List ℕ) (k : ℕ) → k < length bs → slice_range bs k (k + 1) ≡ get_or bs k 0 ∷ []
 one_byte bs k l = let one : k + 1 - k ≡ 1 = omega arith in rw (one, drop_more bs k 0 l) refl

@@ -1,18 +1,22 @@
-//! Texts: their graphemes, the cells that these print, and the runs of ASCII that they begin with.
+//! Texts: their graphemes, the cells that these print, and the runs of ASCII and of letters that
+//! they begin with.
 ghost use Rattle.std.specs.Prelude.{◌≡◌, ◌≤◌, true, [], ◌∷◌, length, take, IfOk};
 ghost use Rattle.std.specs.List.{list_all};
+ghost use Rattle.std.specs.Str.{chars};
+ghost use Rattle.termwiz_text.specs.Letter.{AreLetters};
 ghost use Rattle.termwiz_text.specs.Plain.{is_plain};
 ghost use Rattle.unicode_segmentation.specs.Grapheme.{graphemes};
 ghost use Rattle.termwiz_cell.specs.CellValue.{measured};
 ghost use Rattle.termwiz_cell.specs.Width.{unversioned};
 ghost use Rattle.termwiz_screen.specs.Measured.{IsMeasured};
 ghost use Rattle.termwiz_screen.specs.Print.{piece_of, printed_cell};
-ghost use Rattle.termwiz_screen.specs.Runs.{AreNarrow, IsMeasuredPiece, IsNarrowRun};
+ghost use Rattle.termwiz_screen.specs.Runs.{AreNarrow, AreWide, IsMeasuredPiece, IsNarrowRun};
+ghost use Rattle.termwiz_screen.specs.Runs.{IsWideRun};
 
 use std::alloc::{AllocError, Global};
 use termwiz_cell::cell::{Cell, CellAttributes};
 use termwiz_cell::emoji::Widths;
-use termwiz_text::split_plain_run;
+use termwiz_text::{letter_at, letter_count, split_letter_run, split_plain_run};
 
 /// What a grapheme prints: a line break, or a cell.
 #[derive(Drop, Debug)]
@@ -96,6 +100,39 @@ pub fn split_narrow_run<'a, W: Widths>(
     let narrow = narrow_len(widths, run);
     if narrow < run.len() {
         return split_plain_run(text, narrow);
+    }
+    (run, rest)
+}
+
+// How many letters of a run, from its first one on, have two columns each.
+fn wide_len<W: Widths>(widths: &W, run: &str) -> usize
+    requires { AreLetters run.now }
+    ensures within { result ≤ length (chars run.now) }
+    ensures wide { AreWide (unversioned (W.width_of widths.now)) (take result (chars run.now)) }
+{
+    let count = letter_count(run);
+    for k in 0..count {
+        if widths.width(letter_at(run, k), None) < 2 {
+            return k;
+        }
+    }
+    count
+}
+
+/// The run of letters, each of two columns, that the text begins with and that fits in this many
+/// columns, and what follows it.
+pub fn split_wide_run<'a, W: Widths>(
+    widths: &W,
+    text: &'a str,
+    columns: usize,
+) -> (&'a str, &'a str)
+    ensures { IsWideRun (unversioned (W.width_of widths.now)) text.now columns result.0.now
+        result.1.now }
+{
+    let (run, rest) = split_letter_run(text, columns / 2);
+    let wide = wide_len(widths, run);
+    if wide < letter_count(run) {
+        return split_letter_run(text, wide);
     }
     (run, rest)
 }

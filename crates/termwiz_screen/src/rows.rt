@@ -7,8 +7,11 @@ ghost use Rattle.termwiz_cell.specs.CellValue.{blank};
 ghost use Rattle.std.specs.List.{list_all};
 ghost use Rattle.termwiz_line.specs.InWidth.{in_width};
 ghost use Rattle.termwiz_line.specs.LineFlags.{no_flags};
+ghost use Rattle.std.specs.Str.{chars};
+ghost use Rattle.termwiz_text.specs.Letter.{AreLetters};
 ghost use Rattle.termwiz_text.specs.Plain.{is_plain};
 ghost use Rattle.termwiz_cell.specs.Attributes.{needs_box};
+ghost use Rattle.termwiz_storage.specs.Letters.{set_letters};
 ghost use Rattle.termwiz_storage.specs.Stored.{fill, set_run, IsPruned};
 ghost use Rattle.termwiz_storage.specs.Halves.{resized};
 ghost use Rattle.termwiz_screen.specs.Chars.{row_chars, screen_chars};
@@ -148,6 +151,28 @@ pub fn paint_run(
     ensures sides { KeepSides rows.old.items rows.new.items }
 {
     rows[y].set_run(x, run, pen, SEQ_ZERO)?;
+    Ok(())
+}
+
+/// Paints a run of letters in a row, each of two columns, with a pen that takes no memory.
+pub fn paint_letters(
+    rows: &mut VecDeque<Line>,
+    x: usize,
+    y: usize,
+    run: &str,
+    pen: &CellAttributes,
+) -> Result<(), AllocError>
+    requires inside { y < deque_len rows.old }
+    requires letters { AreLetters run.now }
+    requires unboxed { needs_box pen.now ≡ false }
+    ensures ok { OnOk result (
+        cells_of rows.new.items
+        ≡ slice_set (cells_of rows.old.items) y (set_letters x (chars run.now) pen.now
+        (row_at (cells_of rows.old.items) y))) }
+    ensures err { OnErr result (cells_of rows.new.items ≡ cells_of rows.old.items) }
+    ensures sides { KeepSides rows.old.items rows.new.items }
+{
+    rows[y].set_letters(x, run, pen, SEQ_ZERO)?;
     Ok(())
 }
 

@@ -3,9 +3,12 @@ ghost use Rattle.std.specs.Prelude.{◌≡◌, ◌<◌, ◌≤◌, ◌-◌, ◌�
 ghost use Rattle.std.specs.Prelude.{drop, replicate, IsTrue, IsOk, IfOk, OnOk, OnErr, length};
 ghost use Rattle.std.specs.Borrow.{sem};
 ghost use Rattle.std.specs.List.{list_all};
+ghost use Rattle.std.specs.Str.{chars};
+ghost use Rattle.termwiz_text.specs.Letter.{AreLetters};
 ghost use Rattle.termwiz_text.specs.Plain.{is_plain};
 ghost use Rattle.termwiz_cell.specs.Attributes.{needs_box};
 ghost use Rattle.termwiz_cell.specs.CellValue.{blank, blank_of, cell_of};
+ghost use Rattle.termwiz_storage.specs.Letters.{set_letters};
 ghost use Rattle.termwiz_storage.specs.Stored.{set_cell, set_run, visible};
 ghost use Rattle.termwiz_storage.specs.Edits.{columns_between, erased, erased_within, inserted};
 ghost use Rattle.termwiz_storage.specs.Edits.{removed, with_halves};
@@ -138,6 +141,32 @@ impl Line {
     {
         drop_zones(&mut self.zones);
         self.storage.set_run(i, run, attrs)?;
+        self.seqno = self.seqno.max(seqno);
+        Ok(())
+    }
+
+    /// Sets the cell of each letter of a run, of two columns, in order from a column on, and behind
+    /// each its half, with attributes that take no memory. A vector takes memory only where it
+    /// grows.
+    /// The line takes the number. On an error, which also comes where the run would end past the
+    /// greatest `usize`, number, flags and cells are as before.
+    pub fn set_letters(
+        &mut self,
+        i: usize,
+        run: &str,
+        attrs: &CellAttributes,
+        seqno: SequenceNo,
+    ) -> Result<(), AllocError>
+        requires letters { AreLetters run.now }
+        requires unboxed { needs_box attrs.now ≡ false }
+        ensures ok { OnOk result (
+            IsEdited self.old (set_letters i (chars run.now) attrs.now self.old.cells) seqno
+            self.new) }
+        ensures err { OnErr result (IsUnchanged self.old self.new) }
+        ensures made { OnOk result (self.new.is_vector ≡ true) }
+    {
+        drop_zones(&mut self.zones);
+        self.storage.set_letters(i, run, attrs)?;
         self.seqno = self.seqno.max(seqno);
         Ok(())
     }

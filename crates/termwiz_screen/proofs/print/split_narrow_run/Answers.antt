@@ -1,8 +1,8 @@
-use Rattle.std.proofs.Common.{◌≡◌, ℕ, List, take, subst, sym, ◌∙◌, arith}
+use Rattle.std.proofs.Common.{◌≡◌, ◌≤◌, ℕ, List, [], ◌∷◌, take, subst, sym, ◌∙◌, arith}
 use Rattle.std.proofs.lemmas.List.{take_all}
 use Rattle.termwiz_cell.specs.Width.{unversioned}
 use Rattle.termwiz_screen.specs.Runs.{AreNarrow}
-use Rattle.termwiz_screen.proofs.Runs.{narrow-shorter}
+use Rattle.termwiz_screen.proofs.Runs.{all-shorter}
 use Rattle.termwiz_screen.proofs.print.split_narrow_run.Goals as goal
 
 pub returns-then-narrow-run : goal.returns-then-narrow-run
@@ -13,7 +13,7 @@ returns-then-narrow-run g c =
     record {
       whole = again.whole;
       plain = again.plain;
-      narrow = narrow-shorter f c.narrow_len-narrow.result c.split_plain_run.result.0.now c.split_plain_run.result.1.now c.split_plain_run-then-narrow-run.result.0.now c.split_plain_run-then-narrow-run.result.1.now (first.whole ∙ sym again.whole) again.within c.narrow_len-narrow.ensures.within c.narrow_len-narrow.ensures.narrow;
+      narrow = all-shorter (λ b. f (b ∷ []) ≤ 1) c.narrow_len-narrow.result c.split_plain_run.result.0.now c.split_plain_run.result.1.now c.split_plain_run-then-narrow-run.result.0.now c.split_plain_run-then-narrow-run.result.1.now (first.whole ∙ sym again.whole) again.within c.narrow_len-narrow.ensures.within c.narrow_len-narrow.ensures.narrow;
       within = omega (arith, again.within, first.within);
       graphemes_are = again.graphemes_are;
     }

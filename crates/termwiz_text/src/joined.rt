@@ -137,8 +137,8 @@ impl JoinedText {
         }
     }
 
-    /// Appends a character of printable ASCII behind printable ASCII, of which it is always a
-    /// grapheme by itself. On an error the text so far stays.
+    /// Appends a character of printable ASCII behind another one, where it is always a grapheme by
+    /// itself. On an error the text so far stays.
     #[inline(always)]
     pub fn push_plain(&mut self, byte: u8) -> Result<(), AllocError>
         requires plain { is_plain byte ≡ true }

@@ -159,7 +159,7 @@ impl<'a> CellRef<'a> {
 fn copied(cell: &Cell) -> Result<Cell, AllocError>
     ensures { IfOk result (λ made. made ≡ cell_of cell.now.text (columns cell.now) cell.now.attrs) }
 {
-    // A cell's text is clean, which its reader knows.
+    // A cell's text is clean, as `str` promises.
     let _text = cell.str();
     cell.clone()
 }

@@ -400,7 +400,7 @@ impl CellStorage {
                 }
             }
             CellStorage::Cluster(line) => {
-                // No wide cell of a text lacks its half, which its reader knows.
+                // No wide cell of a text lacks its half, as `len` promises.
                 let _len = line.len();
             }
         }

@@ -426,7 +426,7 @@ impl VecStorage {
             return None;
         }
         let cell = &self.cells[i];
-        // A cell's text is clean, which its reader knows.
+        // A cell's text is clean, as `str` promises.
         let _text = cell.str();
         Some(CellRef::CellRef {
             cell_index: i,
@@ -710,7 +710,7 @@ impl<'a> Iterator for VecStorageIter<'a> {
     #[inline(always)]
     fn next(&mut self) -> Option<CellRef<'a>> {
         let cell = self.cells.next()?;
-        // A cell's text is clean, which its reader knows.
+        // A cell's text is clean, as `str` promises.
         let _text = cell.str();
         let cell_index = self.idx;
         self.idx += 1;

@@ -1,4 +1,4 @@
--- Printing a part of a text on a surface: some graphemes, or a run of ASCII.
+-- Printing a part of a text on a surface: some graphemes, or a run of ASCII or of letters.
 use Rattle.std.specs.Prelude.{◌≡◌, ℕ, ◌<◌, true, List, ◌++◌, fold, length}
 use Rattle.std.specs.Str.{IsUtf8}
 use Rattle.unicode_segmentation.specs.Grapheme.{graphemes}

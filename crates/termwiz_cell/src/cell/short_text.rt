@@ -18,7 +18,8 @@ impl Model for ShortText {
 
     ghost Value = { List ℕ };
 
-    ghost use Rattle.termwiz_cell.specs.ShortTextLayout.{short_bytes, fields_of, fields_of-short_bytes, IsShort};
+    ghost use Rattle.termwiz_cell.specs.ShortTextLayout.{short_bytes, IsShort};
+    ghost use Rattle.termwiz_cell.specs.ShortTextLayout.{fields_of, fields_of-short_bytes};
 
     ghost view = { short_bytes };
 

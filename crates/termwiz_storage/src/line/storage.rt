@@ -198,8 +198,8 @@ impl CellStorage {
     }
 
     /// Sets the cell of each letter of a run, of two columns, in order from a column on, and behind
-    /// each its half, with attributes that take no memory. A text becomes a vector, also by an empty
-    /// run.
+    /// each its half, with attributes that take no memory. A text becomes a vector, also by an
+    /// empty run.
     /// On an error, which a cell past the greatest column gives too, the cells are as before.
     #[inline]
     pub fn set_letters(

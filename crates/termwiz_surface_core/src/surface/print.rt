@@ -1,7 +1,9 @@
 //! How a surface prints texts.
-ghost use Rattle.std.specs.Prelude.{◌≡◌, ◌+◌, ◌<◌, ◌≤◌, true, false, [], ◌∷◌, length, map, IfOk};
-ghost use Rattle.std.specs.Prelude.{OnOk, OnErr};
+ghost use Rattle.std.specs.Prelude.{◌≡◌, ◌+◌, ◌*◌, ◌<◌, ◌≤◌, true, false, [], ◌∷◌, length, map};
+ghost use Rattle.std.specs.Prelude.{encode_utf8, IfOk, OnOk, OnErr};
 ghost use Rattle.std.specs.List.{list_all};
+ghost use Rattle.std.specs.Str.{chars};
+ghost use Rattle.termwiz_text.specs.Letter.{AreLetters};
 ghost use Rattle.termwiz_text.specs.Plain.{is_plain};
 ghost use Rattle.unicode_segmentation.specs.Grapheme.{graphemes};
 ghost use Rattle.termwiz_cell.specs.Measure.{measure};
@@ -11,16 +13,16 @@ ghost use Rattle.termwiz_screen.specs.Print.{print_kept, print_one, put, put_kep
 ghost use Rattle.termwiz_screen.specs.Print.{wrapped_kept};
 ghost use Rattle.termwiz_surface_core.specs.SurfaceValue.{Draws, SameFrame, kept_of, screen_of};
 ghost use Rattle.termwiz_screen.specs.Measured.{IsMeasured};
-ghost use Rattle.termwiz_screen.specs.Runs.{AreNarrow};
+ghost use Rattle.termwiz_screen.specs.Runs.{AreNarrow, AreWide};
 ghost use Rattle.termwiz_surface_core.specs.Printing.{Prints, PrintsSome};
 
 use super::Surface;
 use std::alloc::AllocError;
 use termwiz_cell::cell::Cell;
 use termwiz_cell::emoji::Widths;
-use termwiz_screen::print::{Piece, begins_plain, printed_piece, split_narrow_run};
-use termwiz_screen::rows::{paint_row, paint_run, scroll_rows};
-use termwiz_text::split_first_grapheme;
+use termwiz_screen::print::{Piece, begins_plain, printed_piece, split_narrow_run, split_wide_run};
+use termwiz_screen::rows::{paint_letters, paint_row, paint_run, scroll_rows};
+use termwiz_text::{begins_letter, letter_count, split_first_grapheme};
 
 impl<W: Widths> Surface<W> {
     fn line_feed(&mut self) -> Result<(), AllocError>
@@ -133,8 +135,39 @@ impl<W: Widths> Surface<W> {
         Ok(())
     }
 
-    // Prints the run of ASCII that the text begins with, or else its first grapheme, and gives what
-    // is left.
+    // Prints a run of letters in the cursor's row, where each takes two columns.
+    fn put_letters(&mut self, run: &str) -> Result<(), AllocError>
+        requires letters { AreLetters run.now }
+        requires wide { AreWide (measure W.width_of self.old.widths) (chars run.now) }
+        requires unboxed { needs_box self.old.pen ≡ false }
+        requires fits { self.old.x + 2 * length (chars run.now) ≤ self.old.width }
+        ensures ok { OnOk result (Prints (measure W.width_of self.old.widths)
+            self.old (map encode_utf8 (chars run.now)) self.new) }
+        ensures err { OnErr result (self.new ≡ self.old) }
+    {
+        paint_letters(&mut self.rows, self.x, self.y, run, &self.pen)?;
+        self.x += 2 * letter_count(run);
+        Ok(())
+    }
+
+    // Prints a run of letters in the row in which its first one comes.
+    fn print_letters(&mut self, run: &str) -> Result<(), AllocError>
+        requires some { 0 < length (chars run.now) }
+        requires letters { AreLetters run.now }
+        requires wide { AreWide (measure W.width_of self.old.widths) (chars run.now) }
+        requires unboxed { needs_box self.old.pen ≡ false }
+        requires fits { 2 * length (chars run.now) ≤ columns_left (screen_of self.old) }
+        ensures ok { OnOk result (Prints (measure W.width_of self.old.widths)
+            self.old (map encode_utf8 (chars run.now)) self.new) }
+        ensures err { OnErr result (SameFrame self.old self.new) }
+    {
+        self.wrap()?;
+        self.put_letters(run)?;
+        Ok(())
+    }
+
+    // Prints the run of ASCII or of letters that the text begins with, or else its first grapheme,
+    // and gives what is left.
     fn print_first<'a>(&mut self, text: &'a str) -> Result<&'a str, AllocError>
         requires { 0 < length text.now }
         ensures ok { IfOk result (λ rest. PrintsSome (measure W.width_of self.old.widths)
@@ -145,6 +178,13 @@ impl<W: Widths> Surface<W> {
             let (run, rest) = split_narrow_run(&self.widths, text, self.run_limit());
             if !run.is_empty() {
                 self.print_run(run)?;
+                return Ok(rest);
+            }
+        }
+        if begins_letter(text) {
+            let (run, rest) = split_wide_run(&self.widths, text, self.run_limit());
+            if !run.is_empty() {
+                self.print_letters(run)?;
                 return Ok(rest);
             }
         }

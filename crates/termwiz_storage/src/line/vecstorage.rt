@@ -1,7 +1,7 @@
 //! Cells stored one by one.
 ghost use Rattle.std.specs.Prelude.{◌≡◌, [], false, true, ◌+◌, ◌*◌, ◌-◌, ◌<◌, ◌≤◌, ◌↔◌, IsTrue};
-ghost use Rattle.std.specs.Prelude.{OnErr, OnOk, IsOk, IfOk, IfSome, length, option_map, take, replicate};
-ghost use Rattle.std.specs.Prelude.{IsSome, MatchOption, ◌∷◌};
+ghost use Rattle.std.specs.Prelude.{OnOk, IsOk, IfOk, IfSome, length, option_map, take, replicate};
+ghost use Rattle.std.specs.Prelude.{IsSome, MatchOption, OnErr, ◌∷◌};
 ghost use Rattle.std.specs.Prelude.{slice_set, vec_capacity, vec_len};
 ghost use Rattle.std.specs.Cmp.{decided, partial_equiv_from_equiv};
 ghost use Rattle.std.specs.Iterator.{item_count};

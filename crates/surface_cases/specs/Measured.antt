@@ -4,7 +4,7 @@ use Rattle.termwiz_cell.specs.Width.{unicode_columns}
 use Rattle.surface_cases.specs.declared.measure.Measure.{Measure}
 use Rattle.surface_cases.specs.declared.measure.Measure.TheVariants.{Unicode, One, Wide}
 
-unfoldable pub measured : Measure → List ℕ → ℕ
-measured Unicode text = unicode_columns text
-measured One _ = 1
-measured Wide text = if bytes_eq text (32 ∷ []) then 1 else 2
+unfoldable pub columns_by : Measure → List ℕ → ℕ
+columns_by Unicode text = unicode_columns text
+columns_by One _ = 1
+columns_by Wide text = if bytes_eq text (32 ∷ []) then 1 else 2

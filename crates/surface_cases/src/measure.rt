@@ -27,11 +27,11 @@ impl Measure {
 
 impl Widths for Measure {
     ghost use Rattle.std.specs.Prelude.{None};
-    ghost use Rattle.surface_cases.specs.Measured.{measured};
+    ghost use Rattle.surface_cases.specs.Measured.{columns_by};
     ghost use Rattle.surface_cases.specs.MeasuredLaws.{measured-le, measured-space};
     ghost use Rattle.termwiz_cell.specs.declared.emoji.Presentation.TheVariants.{Text};
 
-    ghost width_of = { λ measure text _. measured measure text };
+    ghost width_of = { λ measure text _. columns_by measure text };
 
     ghost presentation_of = { λ _ _. (Text, None) };
 
@@ -41,7 +41,7 @@ impl Widths for Measure {
 
     ghost space_has_one = { λ measure _. measured-space measure };
 
-    #[tactic(auto, unfolding(crate::specs::Measured::measured))]
+    #[tactic(auto, unfolding(crate::specs::Measured::columns_by))]
     fn width(&self, text: &str, _version: Option<UnicodeVersion>) -> usize {
         match self {
             Measure::Unicode => UnicodeWidths.width(text, None),

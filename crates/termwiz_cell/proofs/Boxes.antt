@@ -9,7 +9,7 @@ use Rattle.termwiz_cell.specs.declared.cell.style.Style.{Style}
 use Rattle.termwiz_cell.specs.declared.cell.attributes.CellAttributes.TheInside.{Inside}
 use Rattle.termwiz_cell.specs.Link.{Link}
 use Rattle.termwiz_cell.specs.Attributes.{Attributes, is_default, color_eq-Decides, attributes_eq, attributes_eq-Decides, option_link_eq-Decides}
-use Rattle.termwiz_cell.specs.AttributesLayout.{Rare, rare_default, is_rare_default, style_in, rare_in, rare_eq, shown, is_apart, rare_part, palette_part, attributes_from, attributes_of, IsSound}
+use Rattle.termwiz_cell.specs.AttributesLayout.{Rare, rare_default, is_rare_default, style_in, rare_in, rare_eq, shown, is_apart, rare_part, palette_part, attributes_from, attributes_of, IsCanonical}
 
 rare_part-shown : (rare : ColorAttribute) (index : Option ℕ) → is_apart rare index ≡ true → rare_part (shown rare index) ≡ rare
 rare_part-shown color.Default None h = refl
@@ -90,7 +90,7 @@ pub rare_default_only : (r : Rare) → is_rare_default r ≡ true → r ≡ rare
 rare_default_only r h = (rare_default-Decides r).0 h
 
 -- attributes are equal exactly where word and box are
-pub same-parts : (a b : Inside) → IsSound a → IsSound b → (same : Bool) → Decides same ((style_in a.form ≡ style_in b.form) × (rare_in a.form ≡ rare_in b.form)) → same ≡ attributes_eq (attributes_of a) (attributes_of b)
+pub same-parts : (a b : Inside) → IsCanonical a → IsCanonical b → (same : Bool) → Decides same ((style_in a.form ≡ style_in b.form) × (rare_in a.form ≡ rare_in b.form)) → same ≡ attributes_eq (attributes_of a) (attributes_of b)
 same-parts a b ha hb same h =
     same_from_decides same _
     (Decides-like same

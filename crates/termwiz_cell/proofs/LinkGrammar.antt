@@ -14,7 +14,7 @@ use Rattle.termwiz_cell.proofs.ParamOrder.{entries-same, fold-sorted, lookup-ins
 use Rattle.termwiz_cell.specs.Link.{Link}
 use Rattle.termwiz_cell.specs.LinkPairs.{are_pairs, pair_of, params_from, params_of, with_pair}
 use Rattle.termwiz_cell.specs.LinkParse.{HasPairs, SpellsOnly}
-use Rattle.termwiz_cell.specs.LinkText.{AreInOrder, IsReadable, Makes, SpellsLink, SpellsPairs, params_parts, params_text}
+use Rattle.termwiz_cell.specs.LinkText.{AreInOrder, IsReadable, MakesParams, SpellsLink, SpellsPairs, params_parts, params_text}
 
 -- a look-up by bytes is the look-up by their order
 by_order : (key : List ℕ) (params : List (List ℕ × List ℕ)) → lookup (eq_by_cmp (slice_cmp nat_cmp) key) params ≡ lookup (bytes_eq key) params
@@ -44,7 +44,7 @@ sorted-fold start [] ordered = ordered
 sorted-fold start (pair ∷ pairs) ordered = sorted-fold (with_pair start pair) pairs (sorted-insert_entry nat_list_cmp_total pair.0 pair.1 start ordered)
 
 -- the pairs make the params that putting them one after another gives
-pub makes-params_from : (pairs : List (List ℕ × List ℕ)) → Makes pairs (params_from pairs)
+pub makes-params_from : (pairs : List (List ℕ × List ℕ)) → MakesParams pairs (params_from pairs)
 unfolding IsStrictlySortedBy
 makes-params_from pairs = record {
   ordered = sorted-fold [] pairs tt;
@@ -52,14 +52,14 @@ makes-params_from pairs = record {
 }
 
 -- and no others
-pub made-only : (pairs a b : List (List ℕ × List ℕ)) → Makes pairs a → Makes pairs b → a ≡ b
+pub made-only : (pairs a b : List (List ℕ × List ℕ)) → MakesParams pairs a → MakesParams pairs b → a ≡ b
 made-only pairs a b of_a of_b =
     entries-same nat_list_cmp_total exact_bytes a b of_a.ordered of_b.ordered
     (λ key. by_order key a ∙ of_a.last key ∙ sym (of_b.last key) ∙ sym (by_order key b))
 
 -- params in order are made of themselves
-pub makes-itself : (params : List (List ℕ × List ℕ)) → AreInOrder params → Makes params params
-makes-itself params ordered = subst (Makes params) (fold-sorted nat_list_cmp_total [] params ordered) (makes-params_from params)
+pub makes-itself : (params : List (List ℕ × List ℕ)) → AreInOrder params → MakesParams params params
+makes-itself params ordered = subst (MakesParams params) (fold-sorted nat_list_cmp_total [] params ordered) (makes-params_from params)
 
 -- the link that a text's own pairs make is spelled, and no other
 pub spells-link : (params uri : List ℕ) (link : Link) → SpellsPairs params (map pair_of (params_parts params)) → link ≡ record { uri = uri; params = params_of params; implicit = false } → SpellsLink params uri link
@@ -74,7 +74,7 @@ spells-link params uri link spelled is = subst (SpellsLink params uri) (sym is) 
 pub link-only : (params uri : List ℕ) (a b : Link) → SpellsLink params uri a → SpellsLink params uri b → a ≡ b
 link-only params uri a b of_a of_b =
     let pairs : of_a.pairs ≡ of_b.pairs = pairs-only params of_a.pairs of_a.spelled ∙ sym (pairs-only params of_b.pairs of_b.spelled) in
-    let made : Makes of_b.pairs a.params = subst (λ ps. Makes ps a.params) pairs of_a.made in
+    let made : MakesParams of_b.pairs a.params = subst (λ ps. MakesParams ps a.params) pairs of_a.made in
     λ i. record {
       uri = (of_a.target ∙ sym of_b.target) i;
       params = made-only of_b.pairs a.params b.params made of_b.made i;

@@ -4,7 +4,7 @@ use Rattle.std.specs.Result.{MatchResult}
 use Rattle.termwiz_cell.proofs.LinkGrammar.{spells-printed}
 use Rattle.termwiz_cell.proofs.PairTexts.{none-from_text}
 use Rattle.termwiz_cell.specs.Link.{Link}
-use Rattle.termwiz_cell.specs.LinkParse.{AreEmpty, AreTexts, HasPairs, Reads, part}
+use Rattle.termwiz_cell.specs.LinkParse.{AreEmpty, AreTexts, HasPairs, ReadsLink, part}
 use Rattle.termwiz_cell.specs.LinkText.{IsReadable, SpellsLink, SpellsPairs, params_text}
 use Rattle.termwiz_cell.specs.declared.hyperlink.LinkError.{LinkError}
 use Rattle.termwiz_cell.specs.declared.hyperlink.LinkError.TheVariants.{WrongParamCount, NotUtf8, BadParams, Memory}
@@ -14,7 +14,7 @@ use denote.Ref.{Bor}
 pairs-from_empty : (params uri : List ℕ) → AreEmpty params uri → HasPairs params
 pairs-from_empty params uri empty = ([], subst (λ text. SpellsPairs text []) (sym empty.0) tt)
 
-pub reads-bad_params : (params uri : List ℕ) (r : Result (Option Link) LinkError) → Reads params uri r → (r ≡ Err BadParams) ↔ (AreTexts params uri × ¬ (HasPairs params))
+pub reads-bad_params : (params uri : List ℕ) (r : Result (Option Link) LinkError) → ReadsLink params uri r → (r ≡ Err BadParams) ↔ (AreTexts params uri × ¬ (HasPairs params))
 reads-bad_params params uri (Ok None) reads = ((λ e. cc), (λ bad. absurd (bad.1 (pairs-from_empty params uri reads))))
 reads-bad_params params uri (Ok (Some link)) reads = ((λ e. cc), (λ bad. absurd (bad.1 (reads.2.spelled.pairs, reads.2.spelled.spelled))))
 reads-bad_params params uri (Err WrongParamCount) reads = absurd reads
@@ -34,7 +34,7 @@ spelled-by : (params uri : List ℕ) (link : Link) → IsReadable link → param
 spelled-by params uri link readable same_params same_uri =
     subst (λ p. SpellsLink p uri link) (sym same_params) (subst (λ u. SpellsLink (params_text link.params) u link) (sym same_uri) (spells-printed link readable))
 
-pub reads-back : (params uri : List ℕ) (r : Result (Option Link) LinkError) (link : Link) → Reads params uri r → IsReadable link → params ≡ params_text link.params → uri ≡ link.uri → AreTexts params uri → MatchResult r (λ found. found ≡ Some link) (λ e. e ≡ Memory)
+pub reads-back : (params uri : List ℕ) (r : Result (Option Link) LinkError) (link : Link) → ReadsLink params uri r → IsReadable link → params ≡ params_text link.params → uri ≡ link.uri → AreTexts params uri → MatchResult r (λ found. found ≡ Some link) (λ e. e ≡ Memory)
 reads-back params uri (Ok None) link reads readable p u texts = absurd (some-printed params uri link readable p u reads)
 reads-back params uri (Ok (Some found)) link reads readable p u texts = ap Some (sym (reads.2.only link (spelled-by params uri link readable p u)))
 reads-back params uri (Err WrongParamCount) link reads readable p u texts = absurd reads
@@ -48,7 +48,7 @@ part-get_or [] i d inside = absurd (omega arith)
 part-get_or (first ∷ others) zero d inside = refl
 part-get_or (first ∷ others) (suc i) d inside = part-get_or others i d (omega arith)
 
-pub reads-parts : (osc : List (Bor (List ℕ))) (d : Bor (List ℕ)) (r : Result (Option Link) LinkError) → 3 ≤ length osc → Reads (get_or osc 1 d).now (get_or osc 2 d).now r → Reads (part osc 1) (part osc 2) r
+pub reads-parts : (osc : List (Bor (List ℕ))) (d : Bor (List ℕ)) (r : Result (Option Link) LinkError) → 3 ≤ length osc → ReadsLink (get_or osc 1 d).now (get_or osc 2 d).now r → ReadsLink (part osc 1) (part osc 2) r
 reads-parts osc d r long reads =
-    subst (λ params. Reads params (part osc 2) r) (part-get_or osc 1 d (omega arith))
-    (subst (λ uri. Reads (get_or osc 1 d).now uri r) (part-get_or osc 2 d (omega arith)) reads)
+    subst (λ params. ReadsLink params (part osc 2) r) (part-get_or osc 1 d (omega arith))
+    (subst (λ uri. ReadsLink (get_or osc 1 d).now uri r) (part-get_or osc 2 d (omega arith)) reads)

@@ -16,7 +16,7 @@ use Rattle.termwiz_cell.specs.declared.cell.style.VerticalAlign.{VerticalAlign}
 use Rattle.termwiz_cell.specs.declared.cell.style.VerticalAlign.TheVariants.{BaseLine, SuperScript, SubScript}
 use Rattle.termwiz_cell.specs.declared.cell.style.Style.{Style}
 use Rattle.termwiz_cell.specs.Style.{intensity_number, intensity_at, underline_number, underline_at, blink_number, blink_at, semantic_number, semantic_at, vertical_number, vertical_at, flag_number, flag_at, intensity-back, underline-back, blink-back, semantic-back, vertical-back, flag-back}
-use Rattle.termwiz_cell.specs.StyleWord.{whole, palette_number, palette_at, style_at, word_of, bits_at, IsStyleWord, HasPalette, IsPalette}
+use Rattle.termwiz_cell.specs.StyleWord.{word_of_digits, palette_number, palette_at, style_at, word_of, bits_at, IsStyleWord, HasPalette, IsPalette}
 
 intensity-lt : (v : Intensity) → intensity_number v < 3
 intensity-lt Normal = omega arith
@@ -103,7 +103,7 @@ palette-there (suc n) = rw (eqb-suc-zero n) (omega arith)
 -- a word is the one that spells its style
 pub word_of-style_at : (w : ℕ) → IsStyleWord w → word_of (style_at w) ≡ w
 word_of-style_at w h =
-    (λ i. whole
+    (λ i. word_of_digits
     (intensity-there (w % 4) h.intensity i) (underline-there (w / 2 ^ 2 % 8) h.underline i) (blink-there (w / 2 ^ 5 % 4) h.blink i)
     (flag-there (w / 2 ^ 7 % 2) (omega arith) i) (flag-there (w / 2 ^ 8 % 2) (omega arith) i) (flag-there (w / 2 ^ 9 % 2) (omega arith) i)
     (flag-there (w / 2 ^ 10 % 2) (omega arith) i) (flag-there (w / 2 ^ 11 % 2) (omega arith) i) (flag-there (w / 2 ^ 12 % 2) (omega arith) i)

@@ -180,5 +180,5 @@ abbrev pub with_background : ColorAttribute → Attributes
 with_background color = record default_attributes { background = color }
 
 -- the attributes are default but for the background
-abbrev pub is_plain : Attributes → Bool
-is_plain a = attributes_eq a (with_background a.background)
+abbrev pub has_only_background : Attributes → Bool
+has_only_background a = attributes_eq a (with_background a.background)

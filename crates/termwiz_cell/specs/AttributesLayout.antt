@@ -115,7 +115,7 @@ abbrev pub attributes_of : Inside → Attributes
 attributes_of a = attributes_from (style_in a.form) (rare_in a.form)
 
 -- the box is there only while it is needed, and a colour stands in one place: so attributes have one form
-pub record IsSound (a : Inside) : Type 0 where
+pub record IsCanonical (a : Inside) : Type 0 where
   pub needed : IsNeeded a.form
   pub foreground : is_apart (rare_in a.form).foreground (style_in a.form).foreground ≡ true
   pub background : is_apart (rare_in a.form).background (style_in a.form).background ≡ true

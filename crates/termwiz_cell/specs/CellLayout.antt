@@ -18,10 +18,10 @@ wide_in (Wide _) = true
 wide_in (Long b) = b.value.wide
 
 -- a text is clean, and on the heap exactly where it has more than seven bytes
-abbrev pub IsStored : CellText → Type 0
-IsStored (Narrow short) = (clean short ≡ short) × (length short ≤ 7)
-IsStored (Wide short) = (clean short ≡ short) × (length short ≤ 7)
-IsStored (Long b) = (clean (string_bytes b.value.text) ≡ string_bytes b.value.text) × (8 ≤ length (string_bytes b.value.text))
+abbrev pub HasTextForm : CellText → Type 0
+HasTextForm (Narrow short) = (clean short ≡ short) × (length short ≤ 7)
+HasTextForm (Wide short) = (clean short ≡ short) × (length short ≤ 7)
+HasTextForm (Long b) = (clean (string_bytes b.value.text) ≡ string_bytes b.value.text) × (8 ≤ length (string_bytes b.value.text))
 
 abbrev pub cell_value : Inside → CellValue
 cell_value c = record { text = text_in c.text; wide = wide_in c.text; attrs = c.attrs }

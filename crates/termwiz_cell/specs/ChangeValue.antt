@@ -14,7 +14,7 @@ use Rattle.termwiz_cell.specs.declared.change.CursorVisibility as cursor
 use Rattle.termwiz_cell.specs.declared.change.CursorVisibility.TheVariants.{Hidden, Visible}
 use Rattle.termwiz_cell.specs.declared.change.CursorShape as shapes
 use Rattle.termwiz_cell.specs.declared.change.LineAttribute as lines
-use Rattle.termwiz_cell.specs.Shapes.{shape_eq, shape_eq-Decides, line_eq, line_eq-Decides}
+use Rattle.termwiz_cell.specs.Shapes.{shape_eq, shape_eq-Decides, line_attribute_eq, line_attribute_eq-Decides}
 use Rattle.termwiz_cell.specs.declared.change.Change.{Change}
 use Rattle.termwiz_cell.specs.declared.change.Change.TheVariants as code
 
@@ -111,7 +111,7 @@ change_eq (CursorVisibility a) (CursorVisibility b) = visibility_eq a b
 change_eq (ScrollRegionUp a b c) (ScrollRegionUp d e f) = scroll_eq a b c d e f
 change_eq (ScrollRegionDown a b c) (ScrollRegionDown d e f) = scroll_eq a b c d e f
 change_eq (Title a) (Title b) = bytes_eq a b
-change_eq (LineAttribute a) (LineAttribute b) = line_eq a b
+change_eq (LineAttribute a) (LineAttribute b) = line_attribute_eq a b
 change_eq _ _ = false
 
 pub change_eq-Decides : (a b : ChangeValue) → Decides (change_eq a b) (a ≡ b)
@@ -140,5 +140,5 @@ change_eq-Decides (ScrollRegionDown a b c) (ScrollRegionDown d e f) =
     (λ e. (cc, (cc, cc)))
     (scroll_eq-Decides a b c d e f)
 change_eq-Decides (Title a) (Title b) = Decides-like (bytes_eq a b) (ap Title) (λ e. cc) (bytes_decides a b)
-change_eq-Decides (LineAttribute a) (LineAttribute b) = Decides-like (line_eq a b) (ap LineAttribute) (λ e. cc) (line_eq-Decides a b)
+change_eq-Decides (LineAttribute a) (LineAttribute b) = Decides-like (line_attribute_eq a b) (ap LineAttribute) (λ e. cc) (line_attribute_eq-Decides a b)
 change_eq-Decides _ _ = ((λ e. cc), (λ e. cc))

@@ -37,10 +37,10 @@ pub record ArePrinted (osc : List (Bor (List ℕ))) (link : Link) : Type 0 where
   pub texts : AreTexts (part osc 1) (part osc 2)
 
 -- what holds of a params text and a uri at each outcome of their reading
-abbrev pub Reads : List ℕ → List ℕ → Result (Option Link) LinkError → Type 0
-Reads params uri (Ok None) = AreEmpty params uri
-Reads params uri (Ok (Some link)) = ¬ (AreEmpty params uri) × AreTexts params uri × SpellsOnly params uri link
-Reads params uri (Err WrongParamCount) = ⊥
-Reads params uri (Err NotUtf8) = ¬ (AreTexts params uri)
-Reads params uri (Err BadParams) = AreTexts params uri × ¬ (HasPairs params)
-Reads params uri (Err Memory) = ¬ (AreEmpty params uri) × AreTexts params uri × HasPairs params
+abbrev pub ReadsLink : List ℕ → List ℕ → Result (Option Link) LinkError → Type 0
+ReadsLink params uri (Ok None) = AreEmpty params uri
+ReadsLink params uri (Ok (Some link)) = ¬ (AreEmpty params uri) × AreTexts params uri × SpellsOnly params uri link
+ReadsLink params uri (Err WrongParamCount) = ⊥
+ReadsLink params uri (Err NotUtf8) = ¬ (AreTexts params uri)
+ReadsLink params uri (Err BadParams) = AreTexts params uri × ¬ (HasPairs params)
+ReadsLink params uri (Err Memory) = ¬ (AreEmpty params uri) × AreTexts params uri × HasPairs params

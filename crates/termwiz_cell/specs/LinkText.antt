@@ -38,7 +38,7 @@ abbrev pub AreInOrder : List (List ℕ × List ℕ) → Type 0
 AreInOrder params = IsStrictlySortedBy (slice_cmp nat_cmp) (keys_of params)
 
 -- the params that pairs make: each key of a pair, with the value of its last pair
-pub record Makes (pairs params : List (List ℕ × List ℕ)) : Type 0 where
+pub record MakesParams (pairs params : List (List ℕ × List ℕ)) : Type 0 where
   pub ordered : AreInOrder params
   pub last : (key : List ℕ) → lookup (bytes_eq key) params ≡ lookup (bytes_eq key) (reverse pairs)
 
@@ -46,7 +46,7 @@ pub record Makes (pairs params : List (List ℕ × List ℕ)) : Type 0 where
 pub record SpellsLink (params uri : List ℕ) (link : Link) : Type 0 where
   pub pairs : List (List ℕ × List ℕ)
   pub spelled : SpellsPairs params pairs
-  pub made : Makes pairs link.params
+  pub made : MakesParams pairs link.params
   pub target : link.uri ≡ uri
   pub explicit : link.implicit ≡ false
 

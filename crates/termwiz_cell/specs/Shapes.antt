@@ -63,8 +63,8 @@ line_at n =
     else SingleWidthLine
 
 -- `==` of the sizes of lines
-abbrev pub line_eq : LineAttribute → LineAttribute → Bool
-line_eq a b = line_number a == line_number b
+abbrev pub line_attribute_eq : LineAttribute → LineAttribute → Bool
+line_attribute_eq a b = line_number a == line_number b
 
 line-back : (v : LineAttribute) → line_at (line_number v) ≡ v
 line-back DoubleHeightTopHalfLine = refl
@@ -72,5 +72,5 @@ line-back DoubleHeightBottomHalfLine = refl
 line-back DoubleWidthLine = refl
 line-back SingleWidthLine = refl
 
-pub line_eq-Decides : (a b : LineAttribute) → Decides (line_eq a b) (a ≡ b)
-line_eq-Decides = numbers-Decide line_number line_at line-back
+pub line_attribute_eq-Decides : (a b : LineAttribute) → Decides (line_attribute_eq a b) (a ≡ b)
+line_attribute_eq-Decides = numbers-Decide line_number line_at line-back

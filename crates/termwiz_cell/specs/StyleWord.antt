@@ -43,12 +43,12 @@ pub record IsStyleWord (w : ℕ) : Type 0 where
   pub whole : w < 2 ^ 35
 
 -- the word with these digits, the lowest first
-abbrev pub whole : (a b c d e f g h i j k l m : ℕ) → ℕ
-whole a b c d e f g h i j k l m = a + b * 2 ^ 2 + c * 2 ^ 5 + d * 2 ^ 7 + e * 2 ^ 8 + f * 2 ^ 9 + g * 2 ^ 10 + h * 2 ^ 11 + i * 2 ^ 12 + j * 2 ^ 13 + k * 2 ^ 15 + l * 2 ^ 17 + m * 2 ^ 26
+abbrev pub word_of_digits : (a b c d e f g h i j k l m : ℕ) → ℕ
+word_of_digits a b c d e f g h i j k l m = a + b * 2 ^ 2 + c * 2 ^ 5 + d * 2 ^ 7 + e * 2 ^ 8 + f * 2 ^ 9 + g * 2 ^ 10 + h * 2 ^ 11 + i * 2 ^ 12 + j * 2 ^ 13 + k * 2 ^ 15 + l * 2 ^ 17 + m * 2 ^ 26
 
 -- the word that spells a style
 abbrev pub word_of : Style → ℕ
-word_of s = whole (intensity_number s.intensity) (underline_number s.underline) (blink_number s.blink)
+word_of s = word_of_digits (intensity_number s.intensity) (underline_number s.underline) (blink_number s.blink)
     (flag_number s.italic) (flag_number s.reverse) (flag_number s.strikethrough) (flag_number s.invisible)
     (flag_number s.wrapped) (flag_number s.overline) (semantic_number s.semantic_type)
     (vertical_number s.vertical_align) (palette_number s.foreground) (palette_number s.background)

@@ -6,7 +6,8 @@ ghost use Rattle.std.specs.Cmp.{decided, partial_equiv_from_equiv};
 ghost use Rattle.termwiz_cell.specs.CellValue.{space, blank, blank_of, plain_cell, clean, cell_of};
 ghost use Rattle.termwiz_cell.specs.CellValue.{measured, columns, cell_eq, cell_eq-Decides};
 ghost use Rattle.termwiz_cell.specs.Attributes.{needs_box};
-ghost use Rattle.termwiz_cell.specs.Width.{at_version, unversioned};
+ghost use Rattle.termwiz_cell.specs.Measure.{measure};
+ghost use Rattle.termwiz_cell.specs.Width.{at_version};
 ghost use Rattle.termwiz_text.specs.Plain.{is_plain};
 
 mod attribute_change;
@@ -45,13 +46,13 @@ pub struct Cell {
 
 impl Model for Cell {
     ghost use Rattle.termwiz_cell.specs.CellValue.{CellValue};
-    ghost use Rattle.termwiz_cell.specs.CellLayout.{cell_value, IsStored};
+    ghost use Rattle.termwiz_cell.specs.CellLayout.{cell_value, HasTextForm};
 
     ghost Value = { CellValue };
 
     ghost view = { cell_value };
 
-    ghost invariant = { λ c. IsStored c.text };
+    ghost invariant = { λ c. HasTextForm c.text };
 }
 
 impl Cell {
@@ -66,7 +67,7 @@ impl Cell {
         attrs: CellAttributes,
     ) -> Result<Cell, AllocError>
         ensures ok { IfOk result (λ cell.
-            cell ≡ measured (unversioned (W.width_of widths.now)) (encode_utf8 c) attrs) }
+            cell ≡ measured (measure W.width_of widths.now) (encode_utf8 c) attrs) }
         ensures succeeds { IsOk result }
     {
         let mut buffer = [0; 4];

@@ -5,7 +5,7 @@ ghost use Rattle.termwiz_cell.specs.AttributeChangeValue.{attribute_change_value
 ghost use Rattle.termwiz_cell.specs.ChangeValue.{Attribute, LineAttribute, Text, change_value};
 ghost use Rattle.termwiz_cell.specs.ChangeValue.{change_eq, change_eq-Decides, copy_takes_memory};
 ghost use Rattle.termwiz_cell.specs.ChangeValue.{is_text, position_eq, scroll_eq, visibility_eq};
-ghost use Rattle.termwiz_cell.specs.Shapes.{is_blinking_shape, line_eq, shape_eq};
+ghost use Rattle.termwiz_cell.specs.Shapes.{is_blinking_shape, line_attribute_eq, shape_eq};
 
 mod sequence;
 
@@ -351,7 +351,7 @@ fn is_same_shape(a: CursorShape, b: CursorShape) -> bool
 }
 
 fn is_same_line(a: LineAttribute, b: LineAttribute) -> bool
-    ensures { result ≡ line_eq a b }
+    ensures { result ≡ line_attribute_eq a b }
 {
     a == b
 }

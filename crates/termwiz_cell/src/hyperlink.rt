@@ -6,7 +6,7 @@ ghost use Rattle.std.specs.Prelude.{None, Some, [], ◌∷◌, true, false, leng
 ghost use Rattle.std.specs.Prelude.{codes};
 ghost use Rattle.std.specs.Cmp.{decided, partial_equiv_from_equiv};
 ghost use Rattle.termwiz_cell.specs.Link.{Link, link_eq, link_eq-Decides, param_bytes};
-ghost use Rattle.termwiz_cell.specs.LinkParse.{AreEmpty, ArePrinted, AreTexts, HasPairs, Reads};
+ghost use Rattle.termwiz_cell.specs.LinkParse.{AreEmpty, ArePrinted, AreTexts, HasPairs, ReadsLink};
 ghost use Rattle.termwiz_cell.specs.LinkParse.{SpellsOnly, part};
 ghost use Rattle.termwiz_cell.specs.LinkText.{AreInOrder, IsReadable, link_text};
 
@@ -219,7 +219,7 @@ impl Eq for Hyperlink {
 
 /// The link of a params text and a uri, if one of them is not empty.
 fn read_link(alloc: Global, params: &[u8], uri: &[u8]) -> Result<Option<Hyperlink>, LinkError>
-    ensures { Reads params.now uri.now result }
+    ensures { ReadsLink params.now uri.now result }
 {
     if are_empty(params, uri) {
         return Ok(None);

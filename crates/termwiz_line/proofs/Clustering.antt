@@ -1,9 +1,9 @@
 -- The state of a walk that cuts visible cells into clusters.
 use Rattle.std.proofs.Common.{◌≡◌, ◌≢◌, ℕ, ◌⊎◌, inl, inr, List, [], ◌∷◌, ◌++◌, map, refl, sym, ◌∙◌, ap, Bool, true, false, Option, Some, None, IsTrue, ◌↔◌, rules}
+use Rattle.termwiz_storage.specs.VisibleCell.{VisibleCell}
 use Rattle.std.proofs.lemmas.Bool.{iff_false}
 use Rattle.std.proofs.lemmas.List.{flat_map_more, map-append}
 use Rattle.termwiz_cell.specs.Attributes.{Attributes, attributes_eq, attributes_eq-Decides}
-use Rattle.termwiz_cell.specs.CellValue.{CellValue}
 use Rattle.termwiz_cell.specs.declared.emoji.Presentation.{Presentation}
 use Rattle.termwiz_cell.specs.declared.emoji.Presentation.TheVariants.{Text, Emoji}
 use Rattle.termwiz_line.specs.declared.cellcluster.shape.Shape.{Shape}
@@ -34,11 +34,11 @@ same_look a b = elim (decided (attributes_eq a.0 b.0) (attributes_eq-Decides a.0
 ]
 
 -- cells of one look that are a word or spaces
-abbrev pub IsCluster : (List ℕ → Presentation × Option Presentation) → List (ℕ × CellValue) → Type 0
+abbrev pub IsCluster : (List ℕ → Presentation × Option Presentation) → List VisibleCell → Type 0
 IsCluster shown = IsBoth (AreEqualBy (look_of shown)) IsWordOrSpaces
 
 module _ (shown : List ℕ → Presentation × Option Presentation) where
-  cluster_of-push : (p : List (ℕ × CellValue)) (x : ℕ × CellValue) → p ≢ [] → cluster_of shown (p ++ x ∷ []) ≡ with_cell (cluster_of shown p) x
+  cluster_of-push : (p : List VisibleCell) (x : VisibleCell) → p ≢ [] → cluster_of shown (p ++ x ∷ []) ≡ with_cell (cluster_of shown p) x
   cluster_of-push [] x n = absurd (n refl)
   cluster_of-push (c ∷ cs) x n = rw (← flat_map_more (λ q. q.1.text) [] (c ∷ cs) x, ← flat_map_more cell_of_bytes [] (c ∷ cs) x, columns_of-push (c ∷ cs) x) refl
 
@@ -49,9 +49,9 @@ when_true : {P : Type 0} (b : Bool) → (IsTrue b ↔ P) → b ≡ true → P
 when_true b h e = h.0 (search rules)
 
 -- the state of the loop: clusters that are done, and one that may grow
-pub record IsClustering (shown : List ℕ → Presentation × Option Presentation) (first : ℕ × CellValue) (rest left : List (ℕ × CellValue)) (clusters : List ClusterValue) (cluster : ClusterValue) (shape : Shape) : Type 0 where
-  pub before : List (List (ℕ × CellValue))
-  pub now : List (ℕ × CellValue)
+pub record IsClustering (shown : List ℕ → Presentation × Option Presentation) (first : VisibleCell) (rest left : List VisibleCell) (clusters : List ClusterValue) (cluster : ClusterValue) (shape : Shape) : Type 0 where
+  pub before : List (List VisibleCell)
+  pub now : List VisibleCell
   pub has_shape : HasShape shape now
   pub under_way : IsUnderWay (IsCluster shown) first rest before now left
   pub clusters_are : clusters ≡ map (cluster_of shown) before
@@ -60,14 +60,14 @@ pub record IsClustering (shown : List ℕ → Presentation × Option Presentatio
 abbrev pub look_of_cluster : ClusterValue → Attributes × Presentation
 look_of_cluster k = (k.attrs, k.presentation)
 
-module _ (shown : List ℕ → Presentation × Option Presentation) (first : ℕ × CellValue) (rest : List (ℕ × CellValue)) where
+module _ (shown : List ℕ → Presentation × Option Presentation) (first : VisibleCell) (rest : List VisibleCell) where
   pub clustering-start : (space : Bool) → (IsTrue space ↔ IsSpace first) → IsClustering shown first rest rest [] (cluster_of shown (first ∷ [])) (shape_of_one space)
   clustering-start space s = record { before = []; now = first ∷ []; has_shape = HasShape-one space first (when_true space s) (iff_false s); under_way = under_way-start (IsCluster shown) (closed shown) first rest; clusters_are = refl; cluster_is = refl }
 
-  look_is : (k : ClusterValue) (p : List (ℕ × CellValue)) → k ≡ cluster_of shown p → look_of_cluster k ≡ look_of_first shown p
+  look_is : (k : ClusterValue) (p : List VisibleCell) → k ≡ cluster_of shown p → look_of_cluster k ≡ look_of_first shown p
   look_is k p e = ap look_of_cluster e
 
-  pub clustering-grows : (left : List (ℕ × CellValue)) (clusters : List ClusterValue) (cluster : ClusterValue) (shape next : Shape) (x : ℕ × CellValue) (look space : Bool) → grown shape look space ≡ Some next → (IsTrue look ↔ (look_of shown x ≡ look_of_cluster cluster)) → (IsTrue space ↔ IsSpace x) → IsClustering shown first rest (x ∷ left) clusters cluster shape → IsClustering shown first rest left clusters (with_cell cluster x) next
+  pub clustering-grows : (left : List VisibleCell) (clusters : List ClusterValue) (cluster : ClusterValue) (shape next : Shape) (x : VisibleCell) (look space : Bool) → grown shape look space ≡ Some next → (IsTrue look ↔ (look_of shown x ≡ look_of_cluster cluster)) → (IsTrue space ↔ IsSpace x) → IsClustering shown first rest (x ∷ left) clusters cluster shape → IsClustering shown first rest left clusters (with_cell cluster x) next
   clustering-grows left clusters cluster shape next x look space e l s z =
       let h = HasShape-grows shape look space next z.now x z.has_shape e (when_true space s) (iff_false s) in
       let n : z.now ≢ [] = HasShape-some shape z.now z.has_shape in
@@ -81,11 +81,11 @@ module _ (shown : List ℕ → Presentation × Option Presentation) (first : ℕ
         cluster_is = rw z.cluster_is (sym (cluster_of-push shown z.now x n));
       }
 
-  stops : (shape : Shape) (look space : Bool) (now : List (ℕ × CellValue)) (x : ℕ × CellValue) (k : ClusterValue) → HasShape shape now → k ≡ cluster_of shown now → grown shape look space ≡ None → (look ≡ false → look_of shown x ≡ look_of_cluster k → ⊥) → (space ≡ false → IsNoSpace x) → IsCluster shown (now ++ x ∷ []) → ⊥
+  stops : (shape : Shape) (look space : Bool) (now : List VisibleCell) (x : VisibleCell) (k : ClusterValue) → HasShape shape now → k ≡ cluster_of shown now → grown shape look space ≡ None → (look ≡ false → look_of shown x ≡ look_of_cluster k → ⊥) → (space ≡ false → IsNoSpace x) → IsCluster shown (now ++ x ∷ []) → ⊥
   stops shape true space now x k h e g l b w = HasShape-ends shape true space now x h g b refl w.right
   stops shape false space now x k h e g l b w = AreEqualBy-refuses (look_of shown) (look_of_first shown) (λ c cs. refl) now x (HasShape-some shape now h) (λ q. l refl (q ∙ sym (look_is k now e))) w.left
 
-  pub clustering-ends : (left : List (ℕ × CellValue)) (clusters : List ClusterValue) (cluster : ClusterValue) (shape : Shape) (x : ℕ × CellValue) (look space : Bool) → grown shape look space ≡ None → (IsTrue look ↔ (look_of shown x ≡ look_of_cluster cluster)) → (IsTrue space ↔ IsSpace x) → IsClustering shown first rest (x ∷ left) clusters cluster shape → IsClustering shown first rest left (clusters ++ cluster ∷ []) (cluster_of shown (x ∷ [])) (shape_of_one space)
+  pub clustering-ends : (left : List VisibleCell) (clusters : List ClusterValue) (cluster : ClusterValue) (shape : Shape) (x : VisibleCell) (look space : Bool) → grown shape look space ≡ None → (IsTrue look ↔ (look_of shown x ≡ look_of_cluster cluster)) → (IsTrue space ↔ IsSpace x) → IsClustering shown first rest (x ∷ left) clusters cluster shape → IsClustering shown first rest left (clusters ++ cluster ∷ []) (cluster_of shown (x ∷ [])) (shape_of_one space)
   clustering-ends left clusters cluster shape x look space e l s z = record {
     before = z.before ++ z.now ∷ [];
     now = x ∷ [];
@@ -97,7 +97,7 @@ module _ (shown : List ℕ → Presentation × Option Presentation) (first : ℕ
 
   pub clustering-done : (clusters : List ClusterValue) (cluster : ClusterValue) (shape : Shape) → IsClustering shown first rest [] clusters cluster shape → AreClusters shown (first ∷ rest) (clusters ++ cluster ∷ [])
   clustering-done clusters cluster shape z =
-      let parts : List (List (ℕ × CellValue)) = z.before ++ z.now ∷ [] in
+      let parts : List (List VisibleCell) = z.before ++ z.now ∷ [] in
       let c : IsCut (IsCluster shown) (first ∷ rest) parts = under_way-done (IsCluster shown) (closed shown) first rest z.before z.now z.under_way in
       let n : AreNested (look_of shown) IsWordOrSpaces parts = nested (look_of shown) IsWordOrSpaces (λ x y. same_look (look_of shown x) (look_of shown y)) parts c.longest in
       record {

@@ -1,8 +1,9 @@
 -- There is one list of clusters, and each byte of a cluster's text tells its cell.
 use Rattle.std.proofs.Common.{◌≡◌, ℕ, ◌+◌, List, [], ◌∷◌, ◌++◌, map, length, get_or, refl, sym, ◌∙◌, ap, ap₂, arith, length-append}
+use Rattle.termwiz_storage.specs.VisibleCell.{VisibleCell}
 use Rattle.std.proofs.lemmas.Grind.{flat_map-append}
 use Rattle.std.proofs.lemmas.List.{get_or_append_left, get_or-append-add, get_or-replicate, length-replicate}
-use Rattle.termwiz_cell.specs.CellValue.{CellValue, columns}
+use Rattle.termwiz_cell.specs.CellValue.{columns}
 use Rattle.termwiz_line.specs.Clusters.{AreCutInto, no_run, next_run, IsWordOrSpaces, cell_of_bytes, cells_of_bytes, cluster_of, look_of}
 use Rattle.termwiz_line.specs.CutLaws.{ClustersAreOne, BytesTellTheirCells}
 use Rattle.termwiz_line.specs.Pieces.{AreEqualBy}
@@ -24,7 +25,7 @@ clusters_are_one shown cells a b x y =
     x.clusters_are ∙ ap (map (cluster_of shown)) (parts_same IsWordOrSpaces x.runs y.runs x.parts y.parts runs x.parts_are y.parts_are) ∙ sym y.clusters_are
 
 -- there are as many as bytes
-length-cells : (cells : List (ℕ × CellValue)) → length (cells_of_bytes cells) ≡ length (texts_of cells)
+length-cells : (cells : List VisibleCell) → length (cells_of_bytes cells) ≡ length (texts_of cells)
 length-cells [] = refl
 length-cells (c ∷ cs) = omega (arith, length-cells cs, length-append (cell_of_bytes c) (cells_of_bytes cs), length-append c.1.text (texts_of cs), length-replicate {A = ℕ × ℕ} (length c.1.text) (c.0, columns c.1))
 

@@ -5,6 +5,7 @@ use Rattle.std.specs.Prelude.{nat_lt}
 use Rattle.termwiz_cell.specs.CellValue.{columns, CellValue, half, is_wide}
 use Rattle.termwiz_storage.specs.Stored.{visible_from, cell_at, visible, stored}
 use Rattle.termwiz_storage.proofs.Widths.{columns-wide, columns-narrow}
+use Rattle.termwiz_storage.specs.VisibleCell.{VisibleCell}
 
 -- the columns of a list of stored cells: each shows a cell, or is covered by the cell to its left
 abbrev pub columns_from : ℕ → List CellValue → List (Option CellValue)
@@ -13,7 +14,7 @@ columns_from zero (c ∷ cs) = Some c ∷ columns_from (columns c - 1) cs
 columns_from (suc k) (c ∷ cs) = None ∷ columns_from k cs
 
 -- the cells that columns show, with their indices
-abbrev pub shown_from : ℕ → List (Option CellValue) → List (ℕ × CellValue)
+abbrev pub shown_from : ℕ → List (Option CellValue) → List VisibleCell
 shown_from i [] = []
 shown_from i (Some c ∷ os) = (i, c) ∷ shown_from (i + 1) os
 shown_from i (None ∷ os) = shown_from (i + 1) os

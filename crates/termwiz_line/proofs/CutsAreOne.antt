@@ -5,11 +5,12 @@ use Rattle.std.specs.List.{All}
 use Rattle.termwiz_cell.specs.CellValue.{CellValue}
 use Rattle.termwiz_line.specs.declared.line.line.zones.ZoneRange.{ZoneRange}
 use Rattle.termwiz_storage.specs.Stored.{visible}
+use Rattle.termwiz_storage.specs.VisibleCell.{VisibleCell}
 use Rattle.termwiz_line.specs.LineEq.{line_contents}
 use Rattle.termwiz_line.specs.LineValue.{LineValue}
 use Rattle.termwiz_line.specs.Pieces.{AreEqualBy}
 use Rattle.termwiz_line.specs.Trim.{IsTrimmed}
-use Rattle.termwiz_line.specs.Wraps.{AreLinesOf, FitsOrAlone, IsSpace, line_of, marked}
+use Rattle.termwiz_line.specs.Wraps.{AreLinesOf, FitsOrAlone, IsSpace, line_of, marked_pieces}
 use Rattle.termwiz_line.specs.Zones.{AreZonesOf, IsBlank, semantic, zone_of}
 use Rattle.termwiz_line.specs.CutLaws.{ZonesAreOne, WrapsAreAlike, WrapsAreOne}
 use Rattle.termwiz_line.proofs.Cuts.{same_append, IsCut-same}
@@ -38,7 +39,7 @@ empty_or_not : {A : Type 0} (xs : List A) → (xs ≡ []) ⊎ (xs ≢ [])
 empty_or_not [] = inl refl
 empty_or_not (x ∷ xs) = inr (λ e. cc)
 
-zones_of_same : (cells : List (ℕ × CellValue)) (a b : List ZoneRange) → AreZonesOf cells a → AreZonesOf cells b → a ≡ b
+zones_of_same : (cells : List VisibleCell) (a b : List ZoneRange) → AreZonesOf cells a → AreZonesOf cells b → a ≡ b
 zones_of_same cells a b x y = x.zones_are ∙ ap (map zone_of) (IsCut-same (AreEqualBy semantic) cells x.pieces y.pieces x.cut y.cut) ∙ sym y.zones_are
 
 pub zones_are_one : ZonesAreOne
@@ -46,18 +47,18 @@ zones_are_one cells a b x y =
     let same : x.kept ≡ y.kept = trimmed_same IsBlank cells x.kept y.kept x.trimmed y.trimmed in
     elim (empty_or_not x.kept) [
       | inl e ↦ zones_of_same cells a b (x.of_all e) (y.of_all (sym same ∙ e))
-      | inr n ↦ zones_of_same x.kept a b (x.of_kept n) (subst (λ (k : List (ℕ × CellValue)). AreZonesOf k b) (sym same) (y.of_kept (λ e. n (same ∙ e))))
+      | inr n ↦ zones_of_same x.kept a b (x.of_kept n) (subst (λ (k : List VisibleCell). AreZonesOf k b) (sym same) (y.of_kept (λ e. n (same ∙ e))))
     ]
 
-lines_of_same : (width seqno : ℕ) (cells : List (ℕ × CellValue)) (a b : List LineValue) → AreLinesOf width seqno cells a → AreLinesOf width seqno cells b → a ≡ b
-lines_of_same width seqno cells a b x y = x.lines_are ∙ ap (λ ps. map (line_of seqno) (marked ps)) (IsCut-same (FitsOrAlone width) cells x.pieces y.pieces x.cut y.cut) ∙ sym y.lines_are
+lines_of_same : (width seqno : ℕ) (cells : List VisibleCell) (a b : List LineValue) → AreLinesOf width seqno cells a → AreLinesOf width seqno cells b → a ≡ b
+lines_of_same width seqno cells a b x y = x.lines_are ∙ ap (λ ps. map (line_of seqno) (marked_pieces ps)) (IsCut-same (FitsOrAlone width) cells x.pieces y.pieces x.cut y.cut) ∙ sym y.lines_are
 
 pub wraps_are_one : WrapsAreOne
 wraps_are_one width seqno line a b x y =
     let same : x.kept ≡ y.kept = trimmed_same IsSpace _ x.kept y.kept x.trimmed y.trimmed in
     elim (empty_or_not x.kept) [
       | inl e ↦ x.alone e ∙ sym (y.alone (sym same ∙ e))
-      | inr n ↦ lines_of_same width seqno x.kept a b (x.cut n) (subst (λ (k : List (ℕ × CellValue)). AreLinesOf width seqno k b) (sym same) (y.cut (λ e. n (same ∙ e))))
+      | inr n ↦ lines_of_same width seqno x.kept a b (x.cut n) (subst (λ (k : List VisibleCell). AreLinesOf width seqno k b) (sym same) (y.cut (λ e. n (same ∙ e))))
     ]
 
 pub wraps_are_alike : WrapsAreAlike
@@ -66,5 +67,5 @@ wraps_are_alike width seqno one other a b e x y =
     let same : x.kept ≡ y.kept = trimmed_same IsSpace _ x.kept y.kept x.trimmed (subst (λ (cs : List CellValue). IsTrimmed IsSpace (visible cs) y.kept) (sym cells) y.trimmed) in
     elim (empty_or_not x.kept) [
       | inl n ↦ ap (map line_contents) (x.alone n) ∙ ap (λ c. c ∷ []) e ∙ ap (map line_contents) (sym (y.alone (sym same ∙ n)))
-      | inr n ↦ ap (map line_contents) (lines_of_same width seqno x.kept a b (x.cut n) (subst (λ (k : List (ℕ × CellValue)). AreLinesOf width seqno k b) (sym same) (y.cut (λ e. n (same ∙ e)))))
+      | inr n ↦ ap (map line_contents) (lines_of_same width seqno x.kept a b (x.cut n) (subst (λ (k : List VisibleCell). AreLinesOf width seqno k b) (sym same) (y.cut (λ e. n (same ∙ e)))))
     ]

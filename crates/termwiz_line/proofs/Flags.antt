@@ -5,14 +5,14 @@ use Rattle.std.specs.Cmp.{unsigned_Decides}
 use Rattle.std.specs.Bool.{one_answer}
 use Rattle.std.specs.Int.RustNames.{bit_or}
 use Rattle.bitflags.specs.Sets.{without}
-use Rattle.termwiz_line.specs.LineFlags.{LineFlags, flags_of, bits_of, with_direction, with_sizes}
+use Rattle.termwiz_line.specs.LineFlags.{LineFlags, flags_of, flag_bits, with_direction, with_sizes}
 use Rattle.termwiz_line.specs.LineEq.{flags_eq, flags_eq-Decides}
 
 -- numbers with no other bits are equal where their flags are
-pub bits_eq : (a b : ℕ) → bits_of (flags_of a) ≡ a → bits_of (flags_of b) ≡ b → (a == b) ≡ flags_eq (flags_of a) (flags_of b)
+pub bits_eq : (a b : ℕ) → flag_bits (flags_of a) ≡ a → flag_bits (flags_of b) ≡ b → (a == b) ≡ flags_eq (flags_of a) (flags_of b)
 bits_eq a b p q =
     one_answer (a == b) (flags_eq (flags_of a) (flags_of b)) (unsigned_Decides a b)
-    ((λ t. sym p ∙ ap bits_of ((flags_eq-Decides (flags_of a) (flags_of b)).0 t) ∙ q), (λ e. (flags_eq-Decides (flags_of a) (flags_of b)).1 (ap flags_of e)))
+    ((λ t. sym p ∙ ap flag_bits ((flags_eq-Decides (flags_of a) (flags_of b)).0 t) ∙ q), (λ e. (flags_eq-Decides (flags_of a) (flags_of b)).1 (ap flags_of e)))
 
 -- what setting or clearing bits makes of a number
 abbrev pub set_bits : ℕ → ℕ → Bool → ℕ
@@ -48,22 +48,22 @@ all_flags-holds p e f =
     (triples-hold (λ a b c. triples (λ x y z. p (flags_from a b c x y z))) e f.bidi_enabled f.double_width f.double_height_top)
     f.double_height_bottom f.right_to_left f.auto_detect
 
-flags-bits : (f : LineFlags) → flags_of (bits_of f) ≡ f
-flags-bits f = (flags_eq-Decides (flags_of (bits_of f)) f).0 (all_flags-holds (λ f. flags_eq (flags_of (bits_of f)) f) refl f)
+flags-bits : (f : LineFlags) → flags_of (flag_bits f) ≡ f
+flags-bits f = (flags_eq-Decides (flags_of (flag_bits f)) f).0 (all_flags-holds (λ f. flags_eq (flags_of (flag_bits f)) f) refl f)
 
 -- a number that has the bits of these flags alone
 abbrev pub Holds : ℕ → LineFlags → Type 0
-Holds n f = (flags_of n ≡ f) × (bits_of (flags_of n) ≡ n)
+Holds n f = (flags_of n ≡ f) × (flag_bits (flags_of n) ≡ n)
 
 -- setting bits changes the flags so, as it does for each number of flags
-sets : (m : ℕ) (with : Bool → LineFlags → LineFlags) → all_flags (λ f. both (λ on. set_bits (bits_of f) m on == bits_of (with on f))) ≡ true
+sets : (m : ℕ) (with : Bool → LineFlags → LineFlags) → all_flags (λ f. both (λ on. set_bits (flag_bits f) m on == flag_bits (with on f))) ≡ true
     → {n k : ℕ} {f : LineFlags} {on : Bool} → k ≡ set_bits n m on → Holds n f → Holds k (with on f)
 sets m with e {n} {k} {f} {on} s h =
-    let agrees : LineFlags → Bool → Bool = λ f on. set_bits (bits_of f) m on == bits_of (with on f) in
-    let p : n ≡ bits_of f = sym h.1 ∙ ap bits_of h.0 in
-    let q : k ≡ bits_of (with on f) = s ∙ ap (λ k. set_bits k m on) p ∙ (unsigned_Decides _ _).0 (both-holds (agrees f) (all_flags-holds (λ f. both (agrees f)) e f) on) in
+    let agrees : LineFlags → Bool → Bool = λ f on. set_bits (flag_bits f) m on == flag_bits (with on f) in
+    let p : n ≡ flag_bits f = sym h.1 ∙ ap flag_bits h.0 in
+    let q : k ≡ flag_bits (with on f) = s ∙ ap (λ k. set_bits k m on) p ∙ (unsigned_Decides _ _).0 (both-holds (agrees f) (all_flags-holds (λ f. both (agrees f)) e f) on) in
     let r : flags_of k ≡ with on f = ap flags_of q ∙ flags-bits (with on f) in
-    (r, ap bits_of r ∙ sym q)
+    (r, ap flag_bits r ∙ sym q)
 
 pub sets-bidi : {n k : ℕ} {f : LineFlags} {on : Bool} → k ≡ set_bits n 1 on → Holds n f → Holds k (record f { bidi_enabled = on })
 sets-bidi = sets 1 (λ on f. record f { bidi_enabled = on }) refl

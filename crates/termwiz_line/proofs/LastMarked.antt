@@ -7,14 +7,15 @@ use Rattle.termwiz_storage.specs.Stored.{visible, visible_from, padded}
 use Rattle.termwiz_storage.specs.Wrapped.{last_index, with_wrapped, wrapped_from, set_last_wrapped}
 use Rattle.termwiz_storage.proofs.Halves.{length-padded}
 use Rattle.termwiz_storage.proofs.LastCell.{last_index-cons, walk_none}
+use Rattle.termwiz_storage.specs.VisibleCell.{VisibleCell}
 use Rattle.termwiz_line.specs.Wrapped.{last_is_wrapped}
 
 -- there is a last cell, and b tells whether it is marked
-data EndsMarked (b : Bool) : List (ℕ × CellValue) → Type 0 where
-  here : {p : ℕ × CellValue} → p.1.attrs.wrapped ≡ b → EndsMarked b (p ∷ [])
-  later : {p : ℕ × CellValue} {ps : List (ℕ × CellValue)} → EndsMarked b ps → EndsMarked b (p ∷ ps)
+data EndsMarked (b : Bool) : List VisibleCell → Type 0 where
+  here : {p : VisibleCell} → p.1.attrs.wrapped ≡ b → EndsMarked b (p ∷ [])
+  later : {p : VisibleCell} {ps : List VisibleCell} → EndsMarked b ps → EndsMarked b (p ∷ ps)
 
-last_is : (b : Bool) (ps : List (ℕ × CellValue)) → EndsMarked b ps → last_is_wrapped ps ≡ b
+last_is : (b : Bool) (ps : List VisibleCell) → EndsMarked b ps → last_is_wrapped ps ≡ b
 last_is b [] h = elim h [ ]
 last_is b (p ∷ []) (here e) = e
 last_is b (p ∷ []) (later h) = elim h [ ]

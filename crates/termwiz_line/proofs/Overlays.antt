@@ -11,38 +11,39 @@ use Rattle.termwiz_cell.specs.CellValue.{CellValue, columns}
 use Rattle.termwiz_storage.specs.Edits.{with_half, with_halves}
 use Rattle.termwiz_storage.specs.Stored.{set_cell}
 use Rattle.termwiz_storage.proofs.SetCell.{length-set_cell}
+use Rattle.termwiz_storage.specs.VisibleCell.{VisibleCell}
 use Rattle.termwiz_line.specs.Filled.{taken}
 use Rattle.termwiz_line.specs.LineValue.{LineValue, IsEdited, IsUnchanged}
-use Rattle.termwiz_line.specs.Texts.{IsPartlyOverlaid, Overlays, overlaid, placed}
+use Rattle.termwiz_line.specs.Texts.{IsPartlyOverlaid, Overlays, overlaid, at_columns}
 use Rattle.termwiz_line.proofs.Fills.{taken-more}
 
 -- halves don't depend on the columns
-pub halves-anywhere : (x y : ℕ) (cs : List CellValue) → with_halves (placed x cs) ≡ with_halves (placed y cs)
+pub halves-anywhere : (x y : ℕ) (cs : List CellValue) → with_halves (at_columns x cs) ≡ with_halves (at_columns y cs)
 halves-anywhere x y [] = refl
 halves-anywhere x y (c ∷ cs) = ap (λ (z : List CellValue). with_half c ++ z) (halves-anywhere (x + columns c) (y + columns c) cs)
 
 -- a cell is pushed with its half
-pub pushed-more : (done : List CellValue) {new all : List CellValue} (c : CellValue) (cs : List CellValue) → new ≡ done ++ with_half c → done ++ with_halves (placed 0 (c ∷ cs)) ≡ all → new ++ with_halves (placed 0 cs) ≡ all
+pub pushed-more : (done : List CellValue) {new all : List CellValue} (c : CellValue) (cs : List CellValue) → new ≡ done ++ with_half c → done ++ with_halves (at_columns 0 (c ∷ cs)) ≡ all → new ++ with_halves (at_columns 0 cs) ≡ all
 pushed-more done {new} {all} c cs e h =
-    ap (λ (z : List CellValue). z ++ with_halves (placed 0 cs)) e
-    ∙ append_assoc done (with_half c) (with_halves (placed 0 cs))
+    ap (λ (z : List CellValue). z ++ with_halves (at_columns 0 cs)) e
+    ∙ append_assoc done (with_half c) (with_halves (at_columns 0 cs))
     ∙ ap (λ (z : List CellValue). done ++ (with_half c ++ z)) (halves-anywhere 0 (0 + columns c) cs)
     ∙ h
 
-overlaid-more : (ps : List (ℕ × CellValue)) (p : ℕ × CellValue) (cs : List CellValue) → overlaid (ps ++ p ∷ []) cs ≡ set_cell p.0 p.1 (overlaid ps cs)
+overlaid-more : (ps : List VisibleCell) (p : VisibleCell) (cs : List CellValue) → overlaid (ps ++ p ∷ []) cs ≡ set_cell p.0 p.1 (overlaid ps cs)
 overlaid-more [] p cs = refl
 overlaid-more (q ∷ ps) p cs = overlaid-more ps p (set_cell q.0 q.1 cs)
 
 -- some first ones of the cells are set, and these are left
-pub record IsOverlaying (old : LineValue) (all left : List (ℕ × CellValue)) (seqno : ℕ) (now : LineValue) : Type 0 where
-  pub set : List (ℕ × CellValue)
+pub record IsOverlaying (old : LineValue) (all left : List VisibleCell) (seqno : ℕ) (now : LineValue) : Type 0 where
+  pub set : List VisibleCell
   pub whole : set ++ left ≡ all
   pub overlays : Overlays old set seqno now
 
-pub overlaying-none : (old : LineValue) (all : List (ℕ × CellValue)) (seqno : ℕ) → IsOverlaying old all all seqno old
+pub overlaying-none : (old : LineValue) (all : List VisibleCell) (seqno : ℕ) → IsOverlaying old all all seqno old
 overlaying-none old all seqno = record { set = []; whole = refl; overlays = record { cells_are = refl; number = refl; flags = refl; vector = λ v. v } }
 
-pub overlaying-more : {old now new : LineValue} {all left : List (ℕ × CellValue)} {seqno : ℕ} (p : ℕ × CellValue)
+pub overlaying-more : {old now new : LineValue} {all left : List VisibleCell} {seqno : ℕ} (p : VisibleCell)
     → IsOverlaying old all (p ∷ left) seqno now → IsEdited now (set_cell p.0 p.1 now.cells) seqno new → IsOverlaying old all left seqno new
 overlaying-more {old} {now} {new} {all} {left} {seqno} p h t = record {
   set = h.set ++ p ∷ [];
@@ -60,7 +61,7 @@ overlaying-more {old} {now} {new} {all} {left} {seqno} p h t = record {
   };
 }
 
-pub overlaying-partly : {old now new : LineValue} {all left : List (ℕ × CellValue)} {seqno : ℕ} → IsOverlaying old all left seqno now → IsUnchanged now new → IsPartlyOverlaid old all seqno new
+pub overlaying-partly : {old now new : LineValue} {all left : List VisibleCell} {seqno : ℕ} → IsOverlaying old all left seqno now → IsUnchanged now new → IsPartlyOverlaid old all seqno new
 overlaying-partly {old} {now} {new} {all} {left} {seqno} h t = record {
   set = h.set;
   left = left;
@@ -73,7 +74,7 @@ overlaying-partly {old} {now} {new} {all} {left} {seqno} h t = record {
   };
 }
 
-pub overlaying-all : {old now : LineValue} {all : List (ℕ × CellValue)} {seqno : ℕ} → IsOverlaying old all [] seqno now → Overlays old all seqno now
+pub overlaying-all : {old now : LineValue} {all : List VisibleCell} {seqno : ℕ} → IsOverlaying old all [] seqno now → Overlays old all seqno now
 overlaying-all {old} {now} {all} {seqno} h = subst (λ ps. Overlays old ps seqno now) (sym (append-nil h.set) ∙ h.whole) h.overlays
 
 -- ---- the form that is left

@@ -2,7 +2,7 @@
 use Rattle.std.proofs.Common.{◌≡◌, Bool, true, false, not, refl, sym, bytes_eq}
 use Rattle.std.specs.Prelude.{is_none, is_some, Option, Some, None, option_map}
 use Rattle.termwiz_cell.specs.declared.color.ColorAttribute.TheVariants as color
-use Rattle.termwiz_cell.specs.Attributes.{Attributes, default_attributes, bits_of, color_eq, color_eq-Decides, option_link_eq, is_plain}
+use Rattle.termwiz_cell.specs.Attributes.{Attributes, default_attributes, bits_of, color_eq, color_eq-Decides, option_link_eq, has_only_background}
 use Rattle.termwiz_cell.specs.Link.{Link}
 
 no_link : (link : Option Link) → option_link_eq link None ≡ is_none link
@@ -20,16 +20,16 @@ module _ (a : Attributes) where
   same_background : color_eq a.background a.background ≡ true
   same_background = (color_eq-Decides a.background a.background).1 refl
 
-  pub plain_link : bytes_eq (bits_of a) (bits_of default_attributes) ≡ true → color_eq a.foreground color.Default ≡ true → color_eq a.underline_color color.Default ≡ true → is_none a.hyperlink ≡ is_plain a
+  pub plain_link : bytes_eq (bits_of a) (bits_of default_attributes) ≡ true → color_eq a.foreground color.Default ≡ true → color_eq a.underline_color color.Default ≡ true → is_none a.hyperlink ≡ has_only_background a
   plain_link b f u = sym (rw (b, f, same_background, u) (no_link a.hyperlink))
 
-  pub plain_bits : bytes_eq (bits_of a) (bits_of default_attributes) ≡ false → is_plain a ≡ false
+  pub plain_bits : bytes_eq (bits_of a) (bits_of default_attributes) ≡ false → has_only_background a ≡ false
   plain_bits b = rw b refl
 
-  pub plain_foreground : bytes_eq (bits_of a) (bits_of default_attributes) ≡ true → color_eq a.foreground color.Default ≡ false → is_plain a ≡ false
+  pub plain_foreground : bytes_eq (bits_of a) (bits_of default_attributes) ≡ true → color_eq a.foreground color.Default ≡ false → has_only_background a ≡ false
   plain_foreground b f = rw (b, f) refl
 
-  pub plain_underline : bytes_eq (bits_of a) (bits_of default_attributes) ≡ true → color_eq a.foreground color.Default ≡ true → color_eq a.underline_color color.Default ≡ false → is_plain a ≡ false
+  pub plain_underline : bytes_eq (bits_of a) (bits_of default_attributes) ≡ true → color_eq a.foreground color.Default ≡ true → color_eq a.underline_color color.Default ≡ false → has_only_background a ≡ false
   plain_underline b f u = rw (b, f, same_background, u) refl
 
 pub ruleset plain = (plain_link, plain_bits, plain_foreground, plain_underline)

@@ -8,7 +8,8 @@ use Rattle.termwiz_cell.specs.CellValue.{CellValue, blank, half, is_wide}
 use Rattle.termwiz_storage.specs.Stored.{stored, padded, visible, visible_from, hides}
 use Rattle.termwiz_storage.proofs.Halves.{length-padded}
 use Rattle.termwiz_storage.proofs.SetCell.{stored-padded}
-use Rattle.termwiz_line.specs.RowLaws.{cut_to}
+use Rattle.termwiz_storage.specs.VisibleCell.{VisibleCell}
+use Rattle.termwiz_line.specs.RowLaws.{first_cells}
 use Rattle.termwiz_line.proofs.RowVisible.{visible_fixes}
 use Rattle.termwiz_line.specs.Row.{IsRow, is_hidden, visible_upto, settled_at, row_of}
 
@@ -54,11 +55,11 @@ pub row_shows : (w : ℕ) (cs : List CellValue) (k : ℕ) → k < w → is_hidde
 row_shows w cs k l v = row_of_at w cs k l ∙ settled_visible cs k (sym (hidden_row w cs k (omega arith)) ∙ v)
 
 -- what a walk that stands at index k has still to meet
-abbrev pub walk_from : List CellValue → ℕ → List (ℕ × CellValue)
+abbrev pub walk_from : List CellValue → ℕ → List VisibleCell
 walk_from cs k = visible_from k (cond (hides cs k) 1 0) (drop k cs)
 
 -- the cell at a column, where it is not hidden
-abbrev met : Bool → ℕ → CellValue → List (ℕ × CellValue)
+abbrev met : Bool → ℕ → CellValue → List VisibleCell
 met h k c = cond h [] ((k, c) ∷ [])
 
 walk_step : (k : ℕ) (h : Bool) (c : CellValue) (rest : List CellValue) → visible_from k (cond h 1 0) (c ∷ rest) ≡ met h k c ++ visible_from (suc k) (cond (is_wide c && not h) 1 0) rest
@@ -113,11 +114,11 @@ row_of_same w cs ds e = ext_get_or blank (row_of w cs) (row_of w ds) (length-row
     row_of_at w cs k m ∙ settled_same cs ds k (λ j n. e j (omega arith)) ∙ sym (row_of_at w ds k m))
 
 -- the row shows what the walk of its cells meets
-pub row-visible : (w : ℕ) (cs : List CellValue) → visible_upto (row_of w cs) w ≡ visible (cut_to w cs)
+pub row-visible : (w : ℕ) (cs : List CellValue) → visible_upto (row_of w cs) w ≡ visible (first_cells w cs)
 row-visible w cs =
-    let len : length (cut_to w cs) ≡ w = simp length-take (omega (arith, (length-padded w cs).0)) in
-    let same : row_of w cs ≡ row_of w (cut_to w cs) = row_of_same w cs (cut_to w cs) (λ j l. sym (get_or-take w (padded w cs) j blank l ∙ stored-padded w cs j)) in
-    sym (visible_row (cut_to w cs) ∙ ap (λ n. visible_upto (row_of n (cut_to w cs)) n) len ∙ ap (λ r. visible_upto r w) (sym same))
+    let len : length (first_cells w cs) ≡ w = simp length-take (omega (arith, (length-padded w cs).0)) in
+    let same : row_of w cs ≡ row_of w (first_cells w cs) = row_of_same w cs (first_cells w cs) (λ j l. sym (get_or-take w (padded w cs) j blank l ∙ stored-padded w cs j)) in
+    sym (visible_row (first_cells w cs) ∙ ap (λ n. visible_upto (row_of n (first_cells w cs)) n) len ∙ ap (λ r. visible_upto r w) (sym same))
 
-pub row_of-fixed : (w : ℕ) (cs ds : List CellValue) → visible (cut_to w cs) ≡ visible (cut_to w ds) → row_of w cs ≡ row_of w ds
+pub row_of-fixed : (w : ℕ) (cs ds : List CellValue) → visible (first_cells w cs) ≡ visible (first_cells w ds) → row_of w cs ≡ row_of w ds
 row_of-fixed w cs ds e = visible_fixes w (row_of w cs) (row_of w ds) (row_of_row w cs) (row_of_row w ds) (row-visible w cs ∙ e ∙ sym (row-visible w ds))

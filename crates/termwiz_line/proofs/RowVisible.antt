@@ -5,11 +5,12 @@ use Rattle.std.proofs.lemmas.List.Sums.{fold_push}
 use Rattle.std.proofs.lemmas.Bool.{cases_lt, cases_order, cases_Bool, false≢true}
 use Rattle.termwiz_cell.specs.CellValue.{CellValue, blank, half, is_wide}
 use Rattle.termwiz_storage.specs.Stored.{stored}
+use Rattle.termwiz_storage.specs.VisibleCell.{VisibleCell}
 use Rattle.termwiz_line.specs.Row.{IsRow, is_hidden, visible_upto, paint}
 use Rattle.termwiz_line.proofs.RowPainting.{length-paint, paint_here, paint_second, paint_other}
 
 -- paints in order, each a column and a cell
-abbrev pub paint_all : List CellValue → List (ℕ × CellValue) → List CellValue
+abbrev pub paint_all : List CellValue → List VisibleCell → List CellValue
 paint_all r ps = fold (λ s p. paint s p.0 p.1) r ps
 
 pub visible_hidden : (r : List CellValue) (k : ℕ) → is_hidden r k ≡ true → visible_upto r (suc k) ≡ visible_upto r k

@@ -4,24 +4,25 @@ use Rattle.std.proofs.lemmas.List.{append-nil, map-append}
 use Rattle.termwiz_cell.specs.CellValue.{CellValue, columns}
 use Rattle.termwiz_storage.specs.Edits.{with_half, with_halves}
 use Rattle.termwiz_storage.specs.Wrapped.{with_wrapped}
+use Rattle.termwiz_storage.specs.VisibleCell.{VisibleCell}
 use Rattle.termwiz_line.specs.LineValue.{LineValue}
-use Rattle.termwiz_line.specs.Wraps.{columns_of, FitsOrAlone, line_of, new_line, mark_last, marked, AreLinesOf}
+use Rattle.termwiz_line.specs.Wraps.{columns_taken, FitsOrAlone, line_of, new_line, mark_last, marked_pieces, AreLinesOf}
 use Rattle.termwiz_line.proofs.Cuts.{AreClosed, IsUnderWay, under_way-start, under_way-grows, under_way-ends, under_way-done}
 
-pub columns_of-append : (p q : List (ℕ × CellValue)) → columns_of (p ++ q) ≡ columns_of p + columns_of q
+pub columns_of-append : (p q : List VisibleCell) → columns_taken (p ++ q) ≡ columns_taken p + columns_taken q
 columns_of-append [] q = omega arith
 columns_of-append (c ∷ cs) q = omega (arith, columns_of-append cs q)
 
-with_halves-append : (p q : List (ℕ × CellValue)) → with_halves (p ++ q) ≡ with_halves p ++ with_halves q
+with_halves-append : (p q : List VisibleCell) → with_halves (p ++ q) ≡ with_halves p ++ with_halves q
 with_halves-append [] q = refl
 with_halves-append (c ∷ cs) q = ap (λ z. with_half c.1 ++ z) (with_halves-append cs q) ∙ sym (append_assoc (with_half c.1) (with_halves cs) (with_halves q))
 
-mark_last-push : (p : List (ℕ × CellValue)) (c : ℕ × CellValue) → mark_last (p ++ c ∷ []) ≡ p ++ (c.0, with_wrapped true c.1) ∷ []
+mark_last-push : (p : List VisibleCell) (c : VisibleCell) → mark_last (p ++ c ∷ []) ≡ p ++ (c.0, with_wrapped true c.1) ∷ []
 mark_last-push [] c = refl
 mark_last-push (d ∷ []) c = refl
 mark_last-push (d ∷ e ∷ es) c = ap (λ z. d ∷ z) (mark_last-push (e ∷ es) c)
 
-marked-push : (ps : List (List (ℕ × CellValue))) (p : List (ℕ × CellValue)) → marked (ps ++ p ∷ []) ≡ map mark_last ps ++ p ∷ []
+marked-push : (ps : List (List VisibleCell)) (p : List VisibleCell) → marked_pieces (ps ++ p ∷ []) ≡ map mark_last ps ++ p ∷ []
 marked-push [] p = refl
 marked-push (q ∷ []) p = refl
 marked-push (q ∷ r ∷ rs) p = ap (λ z. mark_last q ∷ z) (marked-push (r ∷ rs) p)
@@ -30,7 +31,7 @@ map-map : {A B C : Type 0} (f : B → C) (g : A → B) (xs : List A) → map f (
 map-map f g [] = refl
 map-map f g (x ∷ xs) = ap (λ z. f (g x) ∷ z) (map-map f g xs)
 
-length_beginning : (p more : List (ℕ × CellValue)) → p ≢ [] → length (p ++ more) ≡ 1 → length p ≡ 1
+length_beginning : (p more : List VisibleCell) → p ≢ [] → length (p ++ more) ≡ 1 → length p ≡ 1
 length_beginning [] more s e = absurd (s refl)
 length_beginning (c ∷ cs) more s e = omega (arith, e, length-append cs more)
 
@@ -44,24 +45,24 @@ closed width = record {
 }
 
 -- the state of the loop: lines that are done, one without its last cell, that cell, and the columns of the two
-pub record IsWrapping (width seqno : ℕ) (first : ℕ × CellValue) (rest left : List (ℕ × CellValue)) (lines : List LineValue) (line : List CellValue) (last : ℕ × CellValue) (used : ℕ) : Type 0 where
-  pub before : List (List (ℕ × CellValue))
-  pub now : List (ℕ × CellValue)
+pub record IsWrapping (width seqno : ℕ) (first : VisibleCell) (rest left : List VisibleCell) (lines : List LineValue) (line : List CellValue) (last : VisibleCell) (used : ℕ) : Type 0 where
+  pub before : List (List VisibleCell)
+  pub now : List VisibleCell
   pub under_way : IsUnderWay (FitsOrAlone width) first rest before (now ++ last ∷ []) left
   pub lines_are : lines ≡ map (λ p. line_of seqno (mark_last p)) before
   pub line_is : line ≡ with_halves now
-  pub used_is : used ≡ columns_of now + columns last.1
+  pub used_is : used ≡ columns_taken now + columns last.1
 
-pub wrapping-start : (width seqno : ℕ) (first : ℕ × CellValue) (rest : List (ℕ × CellValue)) (used : ℕ) → used ≡ columns first.1 → IsWrapping width seqno first rest rest [] [] first used
+pub wrapping-start : (width seqno : ℕ) (first : VisibleCell) (rest : List VisibleCell) (used : ℕ) → used ≡ columns first.1 → IsWrapping width seqno first rest rest [] [] first used
 wrapping-start width seqno first rest used u = record { before = []; now = []; under_way = under_way-start (FitsOrAlone width) (closed width) first rest; lines_are = refl; line_is = refl; used_is = omega (arith, u) }
 
-pub columns_of-push : (p : List (ℕ × CellValue)) (c : ℕ × CellValue) → columns_of (p ++ c ∷ []) ≡ columns_of p + columns c.1
+pub columns_of-push : (p : List VisibleCell) (c : VisibleCell) → columns_taken (p ++ c ∷ []) ≡ columns_taken p + columns c.1
 columns_of-push p c = omega (arith, columns_of-append p (c ∷ []))
 
-with_halves-push : (p : List (ℕ × CellValue)) (c : ℕ × CellValue) → with_halves (p ++ c ∷ []) ≡ with_halves p ++ with_half c.1
+with_halves-push : (p : List VisibleCell) (c : VisibleCell) → with_halves (p ++ c ∷ []) ≡ with_halves p ++ with_half c.1
 with_halves-push p c = with_halves-append p (c ∷ []) ∙ ap (λ z. with_halves p ++ z) (append-nil (with_half c.1))
 
-pub wrapping-grows : (width seqno : ℕ) (first : ℕ × CellValue) (rest left : List (ℕ × CellValue)) (lines : List LineValue) (line : List CellValue) (last x : ℕ × CellValue) (used : ℕ) → used + columns x.1 ≤ width → IsWrapping width seqno first rest (x ∷ left) lines line last used → IsWrapping width seqno first rest left lines (line ++ with_half last.1) x (used + columns x.1)
+pub wrapping-grows : (width seqno : ℕ) (first : VisibleCell) (rest left : List VisibleCell) (lines : List LineValue) (line : List CellValue) (last x : VisibleCell) (used : ℕ) → used + columns x.1 ≤ width → IsWrapping width seqno first rest (x ∷ left) lines line last used → IsWrapping width seqno first rest left lines (line ++ with_half last.1) x (used + columns x.1)
 wrapping-grows width seqno first rest left lines line last x used h z = record {
   before = z.before;
   now = z.now ++ last ∷ [];
@@ -71,14 +72,14 @@ wrapping-grows width seqno first rest left lines line last x used h z = record {
   used_is = omega (arith, z.used_is, columns_of-push z.now last);
 }
 
-done_line : (now : List (ℕ × CellValue)) (last : ℕ × CellValue) (line : List CellValue) → line ≡ with_halves now → line ++ with_half (with_wrapped true last.1) ≡ with_halves (mark_last (now ++ last ∷ []))
+done_line : (now : List VisibleCell) (last : VisibleCell) (line : List CellValue) → line ≡ with_halves now → line ++ with_half (with_wrapped true last.1) ≡ with_halves (mark_last (now ++ last ∷ []))
 done_line now last line e = rw (e, mark_last-push now last) (sym (with_halves-push now (last.0, with_wrapped true last.1)))
 
-too_long : (width : ℕ) (now : List (ℕ × CellValue)) (last x : ℕ × CellValue) (used : ℕ) → used ≡ columns_of now + columns last.1 → (used + columns x.1 ≤ width → ⊥) → FitsOrAlone width ((now ++ last ∷ []) ++ x ∷ []) → ⊥
+too_long : (width : ℕ) (now : List VisibleCell) (last x : VisibleCell) (used : ℕ) → used ≡ columns_taken now + columns last.1 → (used + columns x.1 ≤ width → ⊥) → FitsOrAlone width ((now ++ last ∷ []) ++ x ∷ []) → ⊥
 too_long width now last x used u n (inl h) = n (omega (arith, h, u, columns_of-push (now ++ last ∷ []) x, columns_of-push now last))
 too_long width now last x used u n (inr h) = absurd (omega (arith, h, length-append (now ++ last ∷ []) (x ∷ []), length-append now (last ∷ [])))
 
-pub wrapping-ends : (width seqno : ℕ) (first : ℕ × CellValue) (rest left : List (ℕ × CellValue)) (lines : List LineValue) (line : List CellValue) (last x : ℕ × CellValue) (used more : ℕ) → more ≡ columns x.1 → (used + columns x.1 ≤ width → ⊥) → IsWrapping width seqno first rest (x ∷ left) lines line last used → IsWrapping width seqno first rest left (lines ++ new_line seqno (line ++ with_half (with_wrapped true last.1)) ∷ []) [] x more
+pub wrapping-ends : (width seqno : ℕ) (first : VisibleCell) (rest left : List VisibleCell) (lines : List LineValue) (line : List CellValue) (last x : VisibleCell) (used more : ℕ) → more ≡ columns x.1 → (used + columns x.1 ≤ width → ⊥) → IsWrapping width seqno first rest (x ∷ left) lines line last used → IsWrapping width seqno first rest left (lines ++ new_line seqno (line ++ with_half (with_wrapped true last.1)) ∷ []) [] x more
 wrapping-ends width seqno first rest left lines line last x used more m n z = record {
   before = z.before ++ (z.now ++ last ∷ []) ∷ [];
   now = [];
@@ -88,7 +89,7 @@ wrapping-ends width seqno first rest left lines line last x used more m n z = re
   used_is = omega (arith, m);
 }
 
-pub wrapping-done : (width seqno : ℕ) (first : ℕ × CellValue) (rest : List (ℕ × CellValue)) (lines : List LineValue) (line : List CellValue) (last : ℕ × CellValue) (used : ℕ) → IsWrapping width seqno first rest [] lines line last used → AreLinesOf width seqno (first ∷ rest) (lines ++ new_line seqno (line ++ with_half last.1) ∷ [])
+pub wrapping-done : (width seqno : ℕ) (first : VisibleCell) (rest : List VisibleCell) (lines : List LineValue) (line : List CellValue) (last : VisibleCell) (used : ℕ) → IsWrapping width seqno first rest [] lines line last used → AreLinesOf width seqno (first ∷ rest) (lines ++ new_line seqno (line ++ with_half last.1) ∷ [])
 wrapping-done width seqno first rest lines line last used z = record {
   pieces = z.before ++ (z.now ++ last ∷ []) ∷ [];
   cut = under_way-done (FitsOrAlone width) (closed width) first rest z.before (z.now ++ last ∷ []) z.under_way;

@@ -1,6 +1,7 @@
 -- What a line is cut into doesn't depend on the form that stores its cells.
 use Rattle.std.specs.Prelude.{◌≡◌, ℕ, ◌+◌, ◌<◌, List, ◌∷◌, ◌++◌, Option, get_or, length, map}
-use Rattle.termwiz_cell.specs.CellValue.{CellValue, columns}
+use Rattle.termwiz_storage.specs.VisibleCell.{VisibleCell}
+use Rattle.termwiz_cell.specs.CellValue.{columns}
 use Rattle.termwiz_cell.specs.declared.emoji.Presentation.{Presentation}
 use Rattle.termwiz_line.specs.Clusters.{AreClusters, ClusterValue, JoinTo, cells_of_bytes}
 use Rattle.termwiz_line.specs.Texts.{texts_of}
@@ -12,7 +13,7 @@ use Rattle.termwiz_line.specs.Zones.{AreZones}
 
 -- visible cells have one list of zones
 abbrev pub ZonesAreOne : Type 0
-ZonesAreOne = (cells : List (ℕ × CellValue)) (a b : List ZoneRange) → AreZones cells a → AreZones cells b → a ≡ b
+ZonesAreOne = (cells : List VisibleCell) (a b : List ZoneRange) → AreZones cells a → AreZones cells b → a ≡ b
 
 -- a line is wrapped in one way
 abbrev pub WrapsAreOne : Type 0
@@ -24,12 +25,12 @@ WrapsAreAlike = (width seqno : ℕ) (one other : LineValue) (a b : List LineValu
 
 -- visible cells have one list of clusters
 abbrev pub ClustersAreOne : Type 0
-ClustersAreOne = (shown : List ℕ → Presentation × Option Presentation) (cells : List (ℕ × CellValue)) (a b : List ClusterValue) → AreClusters shown cells a → AreClusters shown cells b → a ≡ b
+ClustersAreOne = (shown : List ℕ → Presentation × Option Presentation) (cells : List VisibleCell) (a b : List ClusterValue) → AreClusters shown cells a → AreClusters shown cells b → a ≡ b
 
 -- the clusters of visible cells join to them
 abbrev pub ClustersJoin : Type 0
-ClustersJoin = (shown : List ℕ → Presentation × Option Presentation) (cells : List (ℕ × CellValue)) (clusters : List ClusterValue) → AreClusters shown cells clusters → JoinTo cells clusters
+ClustersJoin = (shown : List ℕ → Presentation × Option Presentation) (cells : List VisibleCell) (clusters : List ClusterValue) → AreClusters shown cells clusters → JoinTo cells clusters
 
 -- each byte of a cell's text tells the column and the width of that cell
 abbrev pub BytesTellTheirCells : Type 0
-BytesTellTheirCells = (before : List (ℕ × CellValue)) (c : ℕ × CellValue) (after : List (ℕ × CellValue)) (k : ℕ) → k < length c.1.text → get_or (cells_of_bytes (before ++ c ∷ after)) (length (texts_of before) + k) (0, 0) ≡ (c.0, columns c.1)
+BytesTellTheirCells = (before : List VisibleCell) (c : VisibleCell) (after : List VisibleCell) (k : ℕ) → k < length c.1.text → get_or (cells_of_bytes (before ++ c ∷ after)) (length (texts_of before) + k) (0, 0) ≡ (c.0, columns c.1)

@@ -1,9 +1,10 @@
 -- Row entries: the changes that print a list of visible cells, from a pen on.
 use Rattle.std.specs.Prelude.{ℕ, Bool, true, false, cond, ◌&&◌, List, [], ◌∷◌, ◌++◌, fold, bytes_eq}
+use Rattle.termwiz_storage.specs.VisibleCell.{VisibleCell}
 use Rattle.std.specs.Cmp.Lexicographic.{pointwise}
 use Rattle.unicode_segmentation.specs.Grapheme.{graphemes}
-use Rattle.termwiz_cell.specs.Attributes.{Attributes, default_attributes, attributes_eq, is_plain}
-use Rattle.termwiz_cell.specs.CellValue.{CellValue, space}
+use Rattle.termwiz_cell.specs.Attributes.{Attributes, default_attributes, attributes_eq, has_only_background}
+use Rattle.termwiz_cell.specs.CellValue.{space}
 use Rattle.termwiz_cell.specs.ChangeValue as change
 use Rattle.termwiz_cell.specs.ChangeValue.{ChangeValue}
 
@@ -31,31 +32,31 @@ abbrev pub pen_entry : Attributes → Attributes → List ChangeValue
 pen_entry old new = cond (attributes_eq old new) [] (change.AllAttributes new ∷ [])
 
 -- a visible cell is printed
-abbrev pub cell_out : Penned → ℕ × CellValue → Penned
+abbrev pub cell_out : Penned → VisibleCell → Penned
 cell_out d p = record { entries = add_text (d.entries ++ pen_entry d.pen p.1.attrs) p.1.text; pen = p.1.attrs }
 
-abbrev pub cells_out : Attributes → List (ℕ × CellValue) → Penned
+abbrev pub cells_out : Attributes → List VisibleCell → Penned
 cells_out pen cells = fold cell_out (record { entries = []; pen = pen }) cells
 
 -- the cell shows one space with these attributes
-abbrev pub is_space_of : Attributes → ℕ × CellValue → Bool
+abbrev pub is_space_of : Attributes → VisibleCell → Bool
 is_space_of a p = bytes_eq p.1.text space && attributes_eq p.1.attrs a
 
-abbrev pub all_spaces : Attributes → List (ℕ × CellValue) → Bool
+abbrev pub all_spaces : Attributes → List VisibleCell → Bool
 all_spaces a [] = true
 all_spaces a (p ∷ ps) = is_space_of a p && all_spaces a ps
 
 -- the cells without the spaces with these attributes at their end
-abbrev pub trimmed : Attributes → List (ℕ × CellValue) → List (ℕ × CellValue)
+abbrev pub trimmed : Attributes → List VisibleCell → List VisibleCell
 trimmed a [] = []
 trimmed a (p ∷ ps) = cond (all_spaces a (p ∷ ps)) [] (p ∷ trimmed a ps)
 
 -- the attributes of the last cell, or the pen where there is none
-abbrev pub last_attrs : Attributes → List (ℕ × CellValue) → Attributes
-last_attrs a [] = a
-last_attrs a (p ∷ ps) = last_attrs p.1.attrs ps
+abbrev pub pen_behind : Attributes → List VisibleCell → Attributes
+pen_behind a [] = a
+pen_behind a (p ∷ ps) = pen_behind p.1.attrs ps
 
-abbrev pub is_empty : List (ℕ × CellValue) → Bool
+abbrev pub is_empty : List VisibleCell → Bool
 is_empty [] = true
 is_empty (p ∷ ps) = false
 
@@ -63,22 +64,22 @@ abbrev pub clear_entry : Attributes → List ChangeValue
 clear_entry a = cond (attributes_eq a default_attributes) [] (change.ClearToEndOfLine a.background ∷ [])
 
 -- what follows the entries d of the kept cells, where spaces with attributes a were left out behind them
-abbrev pub with_tail : Penned → List (ℕ × CellValue) → Attributes → Penned
+abbrev pub with_tail : Penned → List VisibleCell → Attributes → Penned
 with_tail d kept a = record {
   entries = (d.entries ++ cond (is_empty kept) [] (pen_entry d.pen a)) ++ clear_entry a;
   pen = cond (is_empty kept && attributes_eq a default_attributes) d.pen a;
 }
 
 -- the last cell is a space whose attributes are default but for the background
-abbrev pub ends_plain : List (ℕ × CellValue) → Bool
+abbrev pub ends_plain : List VisibleCell → Bool
 ends_plain [] = false
-ends_plain (p ∷ []) = is_space_of p.1.attrs p && is_plain p.1.attrs
+ends_plain (p ∷ []) = is_space_of p.1.attrs p && has_only_background p.1.attrs
 ends_plain (p ∷ (q ∷ ps)) = ends_plain (q ∷ ps)
 
 -- the changes that print these visible cells from a pen on: a pen for each run of equal attributes, then the run's texts;
 -- spaces at the end whose attributes are default but for the background are left out, and the background, where it isn't the default one, is cleared to the end of the line
-abbrev pub row_entries : Attributes → List (ℕ × CellValue) → Penned
+abbrev pub row_entries : Attributes → List VisibleCell → Penned
 row_entries pen cells =
-    let a = last_attrs pen cells in
+    let a = pen_behind pen cells in
     let kept = trimmed a cells in
     cond (ends_plain cells) (with_tail (cells_out pen kept) kept a) (cells_out pen cells)

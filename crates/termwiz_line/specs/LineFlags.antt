@@ -25,8 +25,8 @@ flags_of n = record {
 }
 
 -- the number that has the bits of these flags alone
-abbrev pub bits_of : LineFlags → ℕ
-bits_of f = cond f.bidi_enabled 1 0 + (cond f.double_width 16 0 + (cond f.double_height_top 32 0 + (cond f.double_height_bottom 64 0 + (cond f.right_to_left 128 0 + cond f.auto_detect 256 0))))
+abbrev pub flag_bits : LineFlags → ℕ
+flag_bits f = cond f.bidi_enabled 1 0 + (cond f.double_width 16 0 + (cond f.double_height_top 32 0 + (cond f.double_height_bottom 64 0 + (cond f.right_to_left 128 0 + cond f.auto_detect 256 0))))
 
 -- how large the cells are shown: twice as wide, and then also two rows high, of which this is the upper or the lower one
 abbrev pub with_sizes : Bool → Bool → Bool → LineFlags → LineFlags

@@ -4,6 +4,7 @@ use Rattle.termwiz_cell.specs.Attributes.{Attributes}
 use Rattle.termwiz_cell.specs.CellValue.{CellValue, blank_of, columns}
 use Rattle.termwiz_storage.specs.Stored.{visible, padded, set_cell, IsPruned}
 use Rattle.termwiz_storage.specs.Halves.{resized}
+use Rattle.termwiz_storage.specs.VisibleCell.{VisibleCell}
 use Rattle.termwiz_line.specs.Row.{HasHalves, IsRow, row_of, visible_upto, paint, clear}
 use Rattle.termwiz_line.specs.Shows.{IsPainted, IsCleared}
 
@@ -24,19 +25,19 @@ abbrev pub VisibleFixesRow : Type 0
 VisibleFixesRow = (w : ℕ) (a b : List CellValue) → IsRow w a → IsRow w b → visible_upto a w ≡ visible_upto b w → a ≡ b
 
 -- the first w stored cells, filled with default blanks
-abbrev pub cut_to : ℕ → List CellValue → List CellValue
-cut_to w cs = take w (padded w cs)
+abbrev pub first_cells : ℕ → List CellValue → List CellValue
+first_cells w cs = take w (padded w cs)
 
 -- the row of stored cells is a row, which shows what the walk of the cells meets
 abbrev pub CellsHaveRow : Type 0
-CellsHaveRow = (w : ℕ) (cs : List CellValue) → IsRow w (row_of w cs) × (visible_upto (row_of w cs) w ≡ visible (cut_to w cs))
+CellsHaveRow = (w : ℕ) (cs : List CellValue) → IsRow w (row_of w cs) × (visible_upto (row_of w cs) w ≡ visible (first_cells w cs))
 
 -- stored cells that show the same have the same row
 abbrev pub VisibleFixesRowOf : Type 0
-VisibleFixesRowOf = (w : ℕ) (cs ds : List CellValue) → visible (cut_to w cs) ≡ visible (cut_to w ds) → row_of w cs ≡ row_of w ds
+VisibleFixesRowOf = (w : ℕ) (cs ds : List CellValue) → visible (first_cells w cs) ≡ visible (first_cells w ds) → row_of w cs ≡ row_of w ds
 
 -- each index is at least where the cell before it ends, the first at least i
-abbrev pub AreGrowing : ℕ → List (ℕ × CellValue) → Type 0
+abbrev pub AreGrowing : ℕ → List VisibleCell → Type 0
 AreGrowing i [] = Unit {0}
 AreGrowing i (p ∷ ps) = (i ≤ p.0) × AreGrowing (p.0 + columns p.1) ps
 

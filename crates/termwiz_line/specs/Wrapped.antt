@@ -1,9 +1,9 @@
 -- The mark of a last cell behind which the text goes on in the next line.
 use Rattle.std.specs.Prelude.{ℕ, Bool, false, List, [], ◌∷◌}
-use Rattle.termwiz_cell.specs.CellValue.{CellValue}
+use Rattle.termwiz_storage.specs.VisibleCell.{VisibleCell}
 
 -- whether the last of visible cells has it
-abbrev pub last_is_wrapped : List (ℕ × CellValue) → Bool
+abbrev pub last_is_wrapped : List VisibleCell → Bool
 last_is_wrapped [] = false
 last_is_wrapped (c ∷ []) = c.1.attrs.wrapped
 last_is_wrapped (c ∷ d ∷ ds) = last_is_wrapped (d ∷ ds)

@@ -5,62 +5,63 @@ use Rattle.termwiz_cell.specs.CellValue.{CellValue, columns, space}
 use Rattle.termwiz_storage.specs.Edits.{with_halves}
 use Rattle.termwiz_storage.specs.Stored.{visible}
 use Rattle.termwiz_storage.specs.Wrapped.{with_wrapped}
+use Rattle.termwiz_storage.specs.VisibleCell.{VisibleCell}
 use Rattle.termwiz_line.specs.LineFlags.{no_flags}
 use Rattle.termwiz_line.specs.LineValue.{LineValue}
 use Rattle.termwiz_line.specs.Pieces.{IsCut, joined}
 use Rattle.termwiz_line.specs.Trim.{IsTrimmed}
 
-abbrev pub IsSpace : ℕ × CellValue → Type 0
+abbrev pub IsSpace : VisibleCell → Type 0
 IsSpace c = c.1.text ≡ space
 
 -- how many columns the cells take
-abbrev pub columns_of : List (ℕ × CellValue) → ℕ
-columns_of [] = 0
-columns_of (c ∷ cs) = columns c.1 + columns_of cs
+abbrev pub columns_taken : List VisibleCell → ℕ
+columns_taken [] = 0
+columns_taken (c ∷ cs) = columns c.1 + columns_taken cs
 
 -- the cells fit the width, or there is one alone
-abbrev pub FitsOrAlone : ℕ → List (ℕ × CellValue) → Type 0
-FitsOrAlone width p = (columns_of p ≤ width) ⊎ (length p ≡ 1)
+abbrev pub FitsOrAlone : ℕ → List VisibleCell → Type 0
+FitsOrAlone width p = (columns_taken p ≤ width) ⊎ (length p ≡ 1)
 
--- the last cell is marked: the text goes on behind it
-abbrev pub mark_last : List (ℕ × CellValue) → List (ℕ × CellValue)
+-- the last cell is marked_pieces: the text goes on behind it
+abbrev pub mark_last : List VisibleCell → List VisibleCell
 mark_last [] = []
 mark_last (c ∷ []) = (c.0, with_wrapped true c.1) ∷ []
 mark_last (c ∷ d ∷ ds) = c ∷ mark_last (d ∷ ds)
 
--- all pieces but the last end in a marked cell
-abbrev pub marked : List (List (ℕ × CellValue)) → List (List (ℕ × CellValue))
-marked [] = []
-marked (p ∷ []) = p ∷ []
-marked (p ∷ q ∷ qs) = mark_last p ∷ marked (q ∷ qs)
+-- all pieces but the last end in a marked_pieces cell
+abbrev pub marked_pieces : List (List VisibleCell) → List (List VisibleCell)
+marked_pieces [] = []
+marked_pieces (p ∷ []) = p ∷ []
+marked_pieces (p ∷ q ∷ qs) = mark_last p ∷ marked_pieces (q ∷ qs)
 
 abbrev pub new_line : ℕ → List CellValue → LineValue
 new_line seqno cells = record { cells = cells; seqno = seqno; flags = no_flags; is_vector = true }
 
 -- a new line of visible cells, the half of each wide one behind it
-abbrev pub line_of : ℕ → List (ℕ × CellValue) → LineValue
+abbrev pub line_of : ℕ → List VisibleCell → LineValue
 line_of seqno p = new_line seqno (with_halves p)
 
 -- the lines of the longest pieces that fit the width
-pub record AreLinesOf (width seqno : ℕ) (cells : List (ℕ × CellValue)) (lines : List LineValue) : Type 0 where
-  pub pieces : List (List (ℕ × CellValue))
+pub record AreLinesOf (width seqno : ℕ) (cells : List VisibleCell) (lines : List LineValue) : Type 0 where
+  pub pieces : List (List VisibleCell)
   pub cut : IsCut (FitsOrAlone width) cells pieces
-  pub lines_are : lines ≡ map (line_of seqno) (marked pieces)
+  pub lines_are : lines ≡ map (line_of seqno) (marked_pieces pieces)
 
 -- a line is wrapped: the visible cells up to the last that isn't a space, or the line comes back alone where there is none
 pub record IsWrapped (width seqno : ℕ) (line : LineValue) (lines : List LineValue) : Type 0 where
-  pub kept : List (ℕ × CellValue)
+  pub kept : List VisibleCell
   pub trimmed : IsTrimmed IsSpace (visible line.cells) kept
   pub cut : kept ≢ [] → AreLinesOf width seqno kept lines
   pub alone : kept ≡ [] → lines ≡ line ∷ []
 
 -- the visible cells of a line without the mark, without their columns
-abbrev pub unmarked : List (ℕ × CellValue) → List CellValue
+abbrev pub unmarked : List VisibleCell → List CellValue
 unmarked cells = map (λ p. with_wrapped false p.1) cells
 
 -- where a line is cut, no line is longer than the width, and the lines show one after another what it shows up to the last cell that isn't a space, apart from the marks
 pub record FitsWidth (width : ℕ) (line : LineValue) (lines : List LineValue) : Type 0 where
-  pub kept : List (ℕ × CellValue)
+  pub kept : List VisibleCell
   pub trimmed : IsTrimmed IsSpace (visible line.cells) kept
   pub short : kept ≢ [] → All (λ l. length l.cells ≤ width) lines
   pub same : kept ≢ [] → joined (map (λ l. unmarked (visible l.cells)) lines) ≡ unmarked kept

@@ -43,7 +43,7 @@ pub fn row_entries<'a>(
 /// Whether the attributes are default but for the background.
 #[tactic(auto, using(crate::proofs::PlainAttributes::plain))]
 pub fn is_plain(attrs: &CellAttributes) -> bool
-    ensures { result ≡ attributes.is_plain attrs.now }
+    ensures { result ≡ attributes.has_only_background attrs.now }
 {
     has_default_bits(attrs)
         && (is_default_color(attrs.foreground())

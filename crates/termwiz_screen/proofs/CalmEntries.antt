@@ -3,13 +3,14 @@ use Rattle.std.proofs.Common.{◌≡◌, ℕ, zero, suc, ◌<◌, ◌≤◌, Boo
 use Rattle.std.proofs.lemmas.List.Sums.{fold-append, fold_push}
 use Rattle.std.proofs.lemmas.Bool.{cases_Bool, cond-true, cond-false, and_parts, not-true}
 use Rattle.unicode_segmentation.specs.Grapheme.{graphemes}
-use Rattle.termwiz_cell.specs.Attributes.{Attributes, default_attributes, is_plain, attributes_eq}
+use Rattle.termwiz_cell.specs.Attributes.{Attributes, default_attributes, has_only_background, attributes_eq}
 use Rattle.termwiz_cell.specs.CellValue.{CellValue, space}
 use Rattle.termwiz_cell.specs.ChangeValue as change
 use Rattle.termwiz_cell.specs.ChangeValue.{ChangeValue}
 use Rattle.termwiz_storage.specs.Stored.{stored}
+use Rattle.termwiz_storage.specs.VisibleCell.{VisibleCell}
 use Rattle.termwiz_line.specs.Row.{is_hidden, visible_upto}
-use Rattle.termwiz_line.specs.Entries.{joins, join, add_text, Penned, pen_entry, cell_out, cells_out, last_attrs, is_empty, clear_entry, with_tail, ends_plain, row_entries}
+use Rattle.termwiz_line.specs.Entries.{joins, join, add_text, Penned, pen_entry, cell_out, cells_out, pen_behind, is_empty, clear_entry, with_tail, ends_plain, row_entries}
 use Rattle.termwiz_screen.specs.Kept.{Kept}
 use Rattle.termwiz_screen.specs.Screen.{Screen, row_at}
 use Rattle.termwiz_screen.specs.Print.{piece_of, printed_cell, one_kept, kept_after}
@@ -69,7 +70,7 @@ module _ (f : List ℕ → ℕ) where
       rw (n, b) (record { title = refl; shape = refl; color = refl; lines = refl })
 
   -- the entries of a visible cell
-  calm-cell : (s : Screen) (d : Penned) (p : ℕ × CellValue) → Calm f s d.entries → (replay f s d.entries).pen ≡ d.pen → (replay f s d.entries).x < (replay f s d.entries).width → IsMeasured f p.1 → Calm f s (cell_out d p).entries
+  calm-cell : (s : Screen) (d : Penned) (p : VisibleCell) → Calm f s d.entries → (replay f s d.entries).pen ≡ d.pen → (replay f s d.entries).x < (replay f s d.entries).width → IsMeasured f p.1 → Calm f s (cell_out d p).entries
   calm-cell s d p c e l m k =
       let es = d.entries ++ pen_entry d.pen p.1.attrs in
       let u : replay f s es ≡ record (replay f s d.entries) { pen = p.1.attrs } = fold-append (step f) s d.entries _ ∙ replay_pen f (replay f s d.entries) d.pen p.1.attrs e in
@@ -80,7 +81,7 @@ module _ (f : List ℕ → ℕ) where
       (calm-append s d.entries (pen_entry d.pen p.1.attrs) c (calm-pen (replay f s d.entries) d.pen p.1.attrs) k))
 
   -- what follows the texts
-  calm-tail : (s : Screen) (d : Penned) (kept : List (ℕ × CellValue)) (a : Attributes) → Calm f s d.entries → Calm f s (with_tail d kept a).entries
+  calm-tail : (s : Screen) (d : Penned) (kept : List VisibleCell) (a : Attributes) → Calm f s d.entries → Calm f s (with_tail d kept a).entries
   calm-tail s d kept a c =
       calm-append s (d.entries ++ cond (is_empty kept) [] (pen_entry d.pen a)) (clear_entry a) (calm-append s d.entries (cond (is_empty kept) [] (pen_entry d.pen a)) c (some (is_empty kept)))
       (calm-optional (replay f s (d.entries ++ cond (is_empty kept) [] (pen_entry d.pen a))) (attributes_eq a default_attributes) (change.ClearToEndOfLine a.background) (λ k. record { title = refl; shape = refl; color = refl; lines = refl }))
@@ -107,11 +108,11 @@ module _ (f : List ℕ → ℕ) where
     pub calm-row : Calm f s (row_entries p (visible_upto r s.width)).entries
     calm-row = done (cases_Bool (ends_plain cells))
       where
-        cells : List (ℕ × CellValue)
+        cells : List VisibleCell
         cells = visible_upto r s.width
 
         a : Attributes
-        a = last_attrs p cells
+        a = pen_behind p cells
 
         t : IsTrimmed r a s.width
         t = trimmed_columns f one s.width r a z s.width (le_refl s.width)
@@ -169,8 +170,8 @@ module _ (f : List ℕ → ℕ) where
         calm : (b : Bool) → joins_rows w h rows ≡ b → Calm f (emptied s) (all_rows w h rows).entries
         calm false e = subst (λ (d : Penned). Calm f (emptied s) d.entries) (sym (cond-false (joins_rows w h rows) _ _ e)) (calm-rows h (le_refl h))
         calm true e =
-            let x = and_parts (is_plain a && not (attributes_eq a default_attributes)) (ltb i h && ltb (suc t) h) e in
-            let y = and_parts (is_plain a) (not (attributes_eq a default_attributes)) x.0 in
+            let x = and_parts (has_only_background a && not (attributes_eq a default_attributes)) (ltb i h && ltb (suc t) h) e in
+            let y = and_parts (has_only_background a) (not (attributes_eq a default_attributes)) x.0 in
             let v = and_parts (ltb i h) (ltb (suc t) h) x.1 in
             let li : i < h = ltb-true i h v.0 in
             let lt : suc t < h = ltb-true (suc t) h v.1 in

@@ -13,7 +13,7 @@ use Rattle.termwiz_line.specs.LastChange.{last_is}
 use Rattle.termwiz_screen.specs.Screen.{Screen, row_at}
 use Rattle.termwiz_screen.specs.Step.{replay}
 use Rattle.termwiz_screen.specs.Prints.{Print, piece_prints, printed}
-use Rattle.termwiz_screen.specs.Diff.{End, Drawn, nothing_drawn, move_to, pen_to, print_out, prints_out, is_drawing, all_drawing, Region, need, band, diff}
+use Rattle.termwiz_screen.specs.Diff.{End, PrintedOut, nothing_printed, move_to, pen_to, print_out, prints_out, is_diff_entry, all_diff_entries, Region, need, band, diff}
 use Rattle.termwiz_screen.specs.Place.{cursor_at}
 use Rattle.termwiz_screen.specs.DiffLaws.{CanPrint, PrintsAreDiff, RegionIsDiff, DiffGivesRows, DiffGivesRegion, DiffGivesBand}
 use Rattle.termwiz_screen.specs.DiffLists.{IsDiff}
@@ -25,32 +25,32 @@ use Rattle.termwiz_screen.proofs.EntryTexts.{no_break}
 use Rattle.termwiz_screen.proofs.DiffStreams.{printed_before, printed_text, entries_replay, entries_print, length_out}
 
 -- moves, pens and texts
-drawing-append : (es fs : List ChangeValue) → all_drawing es ≡ true → all_drawing fs ≡ true → all_drawing (es ++ fs) ≡ true
+drawing-append : (es fs : List ChangeValue) → all_diff_entries es ≡ true → all_diff_entries fs ≡ true → all_diff_entries (es ++ fs) ≡ true
 drawing-append [] fs a b = b
-drawing-append (e ∷ es) fs a b = let p = and_parts (is_drawing e) (all_drawing es) a in and_from _ _ p.0 (drawing-append es fs p.1 b)
+drawing-append (e ∷ es) fs a b = let p = and_parts (is_diff_entry e) (all_diff_entries es) a in and_from _ _ p.0 (drawing-append es fs p.1 b)
 
-drawing_join : (e : ChangeValue) (t : List ℕ) → is_drawing e ≡ true → all_drawing (join e t) ≡ true
+drawing_join : (e : ChangeValue) (t : List ℕ) → is_diff_entry e ≡ true → all_diff_entries (join e t) ≡ true
 drawing_join (change.Text u) t h = go (joins u t)
   where
-    go : (b : Bool) → all_drawing (cond b (change.Text (u ++ t) ∷ []) (change.Text u ∷ change.Text t ∷ [])) ≡ true
+    go : (b : Bool) → all_diff_entries (cond b (change.Text (u ++ t) ∷ []) (change.Text u ∷ change.Text t ∷ [])) ≡ true
     go true = refl
     go false = refl
 drawing_join e t h = and_from _ _ h refl
 
-drawing_text : (es : List ChangeValue) (t : List ℕ) → all_drawing es ≡ true → all_drawing (add_text es t) ≡ true
+drawing_text : (es : List ChangeValue) (t : List ℕ) → all_diff_entries es ≡ true → all_diff_entries (add_text es t) ≡ true
 drawing_text [] t h = refl
-drawing_text (e ∷ []) t h = drawing_join e t (and_parts (is_drawing e) true h).0
-drawing_text (e ∷ (g ∷ es)) t h = let p = and_parts (is_drawing e) (all_drawing (g ∷ es)) h in and_from _ _ p.0 (drawing_text (g ∷ es) t p.1)
+drawing_text (e ∷ []) t h = drawing_join e t (and_parts (is_diff_entry e) true h).0
+drawing_text (e ∷ (g ∷ es)) t h = let p = and_parts (is_diff_entry e) (all_diff_entries (g ∷ es)) h in and_from _ _ p.0 (drawing_text (g ∷ es) t p.1)
 
-drawing_to : (d : Option End) (p : Print) → (all_drawing (move_to d p) ≡ true) × (all_drawing (pen_to d p) ≡ true)
+drawing_to : (d : Option End) (p : Print) → (all_diff_entries (move_to d p) ≡ true) × (all_diff_entries (pen_to d p) ≡ true)
 drawing_to None p = (refl, refl)
 drawing_to (Some q) p = (go (eqb q.x p.column && eqb q.y p.row) (cursor_at p.column p.row) refl, go (attributes_eq q.pen p.cell.attrs) (change.AllAttributes p.cell.attrs) refl)
   where
-    go : (b : Bool) (e : ChangeValue) → is_drawing e ≡ true → all_drawing (cond b [] (e ∷ [])) ≡ true
+    go : (b : Bool) (e : ChangeValue) → is_diff_entry e ≡ true → all_diff_entries (cond b [] (e ∷ [])) ≡ true
     go true e h = refl
     go false e h = and_from _ _ h refl
 
-drawing_out : (ps : List Print) (d : Drawn) → all_drawing d.entries ≡ true → all_drawing (fold print_out d ps).entries ≡ true
+drawing_out : (ps : List Print) (d : PrintedOut) → all_diff_entries d.entries ≡ true → all_diff_entries (fold print_out d ps).entries ≡ true
 drawing_out [] d h = h
 drawing_out (p ∷ ps) d h =
     drawing_out ps (print_out d p)
@@ -58,13 +58,13 @@ drawing_out (p ∷ ps) d h =
     (drawing-append (d.entries ++ move_to d.end p) (pen_to d.end p) (drawing-append d.entries (move_to d.end p) h (drawing_to d.end p).0) (drawing_to d.end p).1))
 
 -- a text at the end
-last_out : (ps : List Print) (d : Drawn) → last_is is_text d.entries ≡ true → last_is is_text (fold print_out d ps).entries ≡ true
+last_out : (ps : List Print) (d : PrintedOut) → last_is is_text d.entries ≡ true → last_is is_text (fold print_out d ps).entries ≡ true
 last_out [] d h = h
 last_out (p ∷ ps) d h = last_out ps (print_out d p) (ends_with_added ((d.entries ++ move_to d.end p) ++ pen_to d.end p) p.cell.text)
 
 ends_out : (ps : List Print) → (prints_out ps ≡ []) ⊎ (last_is is_text (prints_out ps) ≡ true)
 ends_out [] = inl refl
-ends_out (p ∷ ps) = let d : Drawn = nothing_drawn in inr (last_out ps (print_out d p) (ends_with_added ((d.entries ++ move_to d.end p) ++ pen_to d.end p) p.cell.text))
+ends_out (p ∷ ps) = let d : PrintedOut = nothing_printed in inr (last_out ps (print_out d p) (ends_with_added ((d.entries ++ move_to d.end p) ++ pen_to d.end p) p.cell.text))
 
 -- clean single graphemes are printed one by one, whatever width they are measured to have
 abbrev AreSingle : List Print → Type 0
@@ -72,7 +72,7 @@ AreSingle [] = Unit {0}
 AreSingle (p ∷ ps) = (graphemes true p.cell.text ≡ p.cell.text ∷ []) × (clean p.cell.text ≡ p.cell.text) × AreSingle ps
 
 module _ (f : List ℕ → ℕ) (s : Screen) where
-  count_one : (d : Drawn) (p : Print) → graphemes true p.cell.text ≡ p.cell.text ∷ [] → clean p.cell.text ≡ p.cell.text → length (printed f s (print_out d p).entries) ≡ suc (length (printed f s d.entries))
+  count_one : (d : PrintedOut) (p : Print) → graphemes true p.cell.text ≡ p.cell.text ∷ [] → clean p.cell.text ≡ p.cell.text → length (printed f s (print_out d p).entries) ≡ suc (length (printed f s d.entries))
   count_one d p h c =
       let t : Screen = replay f s ((d.entries ++ move_to d.end p) ++ pen_to d.end p) in
       ap length (
@@ -81,7 +81,7 @@ module _ (f : List ℕ → ℕ) (s : Screen) where
       )
       ∙ length-append (printed f s d.entries) _ ∙ omega arith
 
-  count_out : (ps : List Print) (d : Drawn) → AreSingle ps → length (printed f s (fold print_out d ps).entries) ≡ length (printed f s d.entries) + length ps
+  count_out : (ps : List Print) (d : PrintedOut) → AreSingle ps → length (printed f s (fold print_out d ps).entries) ≡ length (printed f s d.entries) + length ps
   count_out [] d q = omega arith
   count_out (p ∷ ps) d q = omega (arith, count_out ps (print_out d p) q.2, count_one d p q.0 q.1)
 
@@ -92,9 +92,9 @@ printable_single f w h (p ∷ ps) q = (q.2.alone, q.2.is_clean, printable_single
 -- by any width function f, where the cells are measured by g
 pub prints_diff : PrintsAreDiff
 prints_diff f g s ps q = record {
-  drawing = drawing_out ps (nothing_drawn) refl;
+  drawing = drawing_out ps (nothing_printed) refl;
   ends = ends_out ps;
-  few = omega (arith, length_out ps (nothing_drawn), count_out f s ps (nothing_drawn) (printable_single g s.width s.height ps q));
+  few = omega (arith, length_out ps (nothing_printed), count_out f s ps (nothing_printed) (printable_single g s.width s.height ps q));
   exact = λ e.
       let p = subst (λ k. CanPrint k s.width s.height ps) (sym e) q in
       record { prints = entries_print f s ps p; rows = ap (λ (t : Screen). t.rows) (entries_replay f s ps p).screen_is };

@@ -5,6 +5,7 @@ use Rattle.std.proofs.lemmas.List.Sums.{fold-append}
 use Rattle.std.proofs.lemmas.Bool.{cases_lt, cases_eq, cases_Bool}
 use Rattle.termwiz_cell.specs.CellValue.{CellValue, blank, cell_eq-Decides}
 use Rattle.termwiz_storage.specs.Stored.{stored}
+use Rattle.termwiz_storage.specs.VisibleCell.{VisibleCell}
 use Rattle.termwiz_line.specs.Row.{is_hidden, paint}
 use Rattle.termwiz_screen.specs.Screen.{row_at}
 use Rattle.termwiz_screen.specs.Prints.{Print, print_on, print_all}
@@ -16,12 +17,12 @@ use Rattle.termwiz_line.proofs.RowPainting.{length-paint}
 use Rattle.termwiz_line.proofs.RowVisible.{paint_all}
 use Rattle.termwiz_screen.proofs.DiffRows.{row_region}
 
-length_paints : (s : List CellValue) (ps : List (ℕ × CellValue)) → length (paint_all s ps) ≡ length s
+length_paints : (s : List CellValue) (ps : List VisibleCell) → length (paint_all s ps) ≡ length s
 length_paints s [] = refl
 length_paints s (p ∷ ps) = length_paints (paint s p.0 p.1) ps ∙ length-paint s p.0 p.1
 
 -- prints in one row
-row_prints : (i : ℕ) (ps : List (ℕ × CellValue)) (s : List (List CellValue)) → i < length s → print_all s (map (in_row i) ps) ≡ set s i (paint_all (row_at s i) ps)
+row_prints : (i : ℕ) (ps : List VisibleCell) (s : List (List CellValue)) → i < length s → print_all s (map (in_row i) ps) ≡ set s i (paint_all (row_at s i) ps)
 row_prints i [] s l = sym (set-get_or s i [])
 row_prints i (p ∷ ps) s l =
     let again : i < length (set s i (paint (row_at s i) p.0 p.1)) = omega (arith, length-set s i (paint (row_at s i) p.0 p.1)) in
@@ -31,7 +32,7 @@ row_prints i (p ∷ ps) s l =
 
 module _ (a b : List (List CellValue)) (r : Region) where
   -- the cells that row i of the region needs
-  abbrev row_i : ℕ → List (ℕ × CellValue)
+  abbrev row_i : ℕ → List VisibleCell
   row_i i = row_need (row_at a (r.y + i)) r.x (row_at b (r.other_y + i)) r.other_x r.width
 
   -- the region's rows above its row i are painted, and all others are a's

@@ -16,7 +16,7 @@ use Rattle.termwiz_screen.specs.Print.{piece_of, print_one}
 use Rattle.termwiz_screen.specs.Step.{step, replay}
 use Rattle.termwiz_screen.specs.Measured.{IsMeasured}
 use Rattle.termwiz_screen.specs.Prints.{Print, print_on, print_all, piece_prints, text_prints, step_prints, printed}
-use Rattle.termwiz_screen.specs.Diff.{End, end_of, Drawn, nothing_drawn, move_to, pen_to, print_out, prints_out}
+use Rattle.termwiz_screen.specs.Diff.{End, end_of, PrintedOut, nothing_printed, move_to, pen_to, print_out, prints_out}
 use Rattle.termwiz_screen.specs.Place.{cursor_at}
 use Rattle.termwiz_screen.specs.DiffLaws.{CanPrint}
 use Rattle.termwiz_screen.proofs.RepaintScreen.{replay_cursor}
@@ -61,7 +61,7 @@ module _ (f : List ℕ → ℕ) where
       go false true = refl
       go false false = refl
 
-  pub printed_before : (s : Screen) (d : Drawn) (p : Print) → printed f s ((d.entries ++ move_to d.end p) ++ pen_to d.end p) ≡ printed f s d.entries
+  pub printed_before : (s : Screen) (d : PrintedOut) (p : Print) → printed f s ((d.entries ++ move_to d.end p) ++ pen_to d.end p) ≡ printed f s d.entries
   printed_before s d p =
       printed-append f s (d.entries ++ move_to d.end p) (pen_to d.end p)
       ∙ ap (λ l. l ++ printed f (replay f s (d.entries ++ move_to d.end p)) (pen_to d.end p)) (printed-append f s d.entries (move_to d.end p))
@@ -107,19 +107,19 @@ module _ (f : List ℕ → ℕ) (w h : ℕ) where
       pen_stays (inr t) = rw t ep
 
   -- where the cell is printed from
-  before : (s : Screen) (d : Drawn) (p : Print) → Knows w h d.end (replay f s d.entries) → p.row < h → p.column < w → replay f s ((d.entries ++ move_to d.end p) ++ pen_to d.end p) ≡ at_print (replay f s d.entries) p
+  before : (s : Screen) (d : PrintedOut) (p : Print) → Knows w h d.end (replay f s d.entries) → p.row < h → p.column < w → replay f s ((d.entries ++ move_to d.end p) ++ pen_to d.end p) ≡ at_print (replay f s d.entries) p
   before s d p k lr lc =
       fold-append (step f) s (d.entries ++ move_to d.end p) (pen_to d.end p)
       ∙ ap (λ t. replay f t (pen_to d.end p)) (fold-append (step f) s d.entries (move_to d.end p))
       ∙ replay_to d.end (replay f s d.entries) p k lr lc
 
-  replay_out : (s : Screen) (d : Drawn) (p : Print) → Knows w h d.end (replay f s d.entries) → p.row < h → p.column < w → IsMeasured f p.cell → replay f s (print_out d p).entries ≡ after_print (replay f s d.entries) p
+  replay_out : (s : Screen) (d : PrintedOut) (p : Print) → Knows w h d.end (replay f s d.entries) → p.row < h → p.column < w → IsMeasured f p.cell → replay f s (print_out d p).entries ≡ after_print (replay f s d.entries) p
   replay_out s d p k lr lc m =
       replay_text f ((d.entries ++ move_to d.end p) ++ pen_to d.end p) s p.cell.text m.alone
       ∙ ap (λ t. print_one f t p.cell.text) (before s d p k lr lc)
       ∙ print_cell f (at_print (replay f s d.entries) p) p.cell (omega (arith, (size_of k).0)) m
 
-  printed_out : (s : Screen) (d : Drawn) (p : Print) → Knows w h d.end (replay f s d.entries) → p.row < h → p.column < w → IsMeasured f p.cell → printed f s (print_out d p).entries ≡ printed f s d.entries ++ p ∷ []
+  printed_out : (s : Screen) (d : PrintedOut) (p : Print) → Knows w h d.end (replay f s d.entries) → p.row < h → p.column < w → IsMeasured f p.cell → printed f s (print_out d p).entries ≡ printed f s d.entries ++ p ∷ []
   printed_out s d p k lr lc m =
       printed_text f ((d.entries ++ move_to d.end p) ++ pen_to d.end p) s p.cell.text m.alone
       ∙ ap₂ (λ a b. a ++ b) (printed_before f s d p) here
@@ -133,7 +133,7 @@ module _ (f : List ℕ → ℕ) (w h : ℕ) where
       here : piece_prints (replay f s ((d.entries ++ move_to d.end p) ++ pen_to d.end p)) (piece_of f (replay f s ((d.entries ++ move_to d.end p) ++ pen_to d.end p)).pen p.cell.text) ≡ p ∷ []
       here = ap (λ t. piece_prints t (piece_of f t.pen p.cell.text)) (before s d p k lr lc) ∙ one (replay f s d.entries) (omega (arith, (size_of k).0))
 
-  knows_out : (s : Screen) (d : Drawn) (p : Print) → Knows w h d.end (replay f s d.entries) → p.row < h → p.column < w → IsMeasured f p.cell → Knows w h (Some (end_of p)) (replay f s (print_out d p).entries)
+  knows_out : (s : Screen) (d : PrintedOut) (p : Print) → Knows w h d.end (replay f s d.entries) → p.row < h → p.column < w → IsMeasured f p.cell → Knows w h (Some (end_of p)) (replay f s (print_out d p).entries)
   knows_out s d p k lr lc m =
       let z = size_of k in
       subst (Knows w h (Some (end_of p))) (sym (replay_out s d p k lr lc m))
@@ -147,7 +147,7 @@ pub record Printed (s t : Screen) (ps : List Print) : Type 0 where
   pub screen_is : t ≡ record s { rows = print_all s.rows ps; x = x; y = y; pen = pen }
 
 module _ (f : List ℕ → ℕ) (w h : ℕ) (s : Screen) where
-  replay_all : (ps : List Print) (d : Drawn) → Knows w h d.end (replay f s d.entries) → CanPrint f w h ps → Printed (replay f s d.entries) (replay f s (fold print_out d ps).entries) ps
+  replay_all : (ps : List Print) (d : PrintedOut) → Knows w h d.end (replay f s d.entries) → CanPrint f w h ps → Printed (replay f s d.entries) (replay f s (fold print_out d ps).entries) ps
   replay_all [] d k q = record { x = (replay f s d.entries).x; y = (replay f s d.entries).y; pen = (replay f s d.entries).pen; screen_is = refl }
   replay_all (p ∷ ps) d k q = more (replay_all ps (print_out d p) (knows_out f w h s d p k q.0 q.1 q.2) q.3)
     where
@@ -157,7 +157,7 @@ module _ (f : List ℕ → ℕ) (w h : ℕ) (s : Screen) where
       more : Printed (replay f s (print_out d p).entries) (replay f s (fold print_out (print_out d p) ps).entries) ps → Printed (replay f s d.entries) (replay f s (fold print_out (print_out d p) ps).entries) (p ∷ ps)
       more r = record { x = r.x; y = r.y; pen = r.pen; screen_is = r.screen_is ∙ ap (λ (t : Screen). record t { rows = print_all t.rows ps; x = r.x; y = r.y; pen = r.pen }) e }
 
-  printed_all : (ps : List Print) (d : Drawn) → Knows w h d.end (replay f s d.entries) → CanPrint f w h ps → printed f s (fold print_out d ps).entries ≡ printed f s d.entries ++ ps
+  printed_all : (ps : List Print) (d : PrintedOut) → Knows w h d.end (replay f s d.entries) → CanPrint f w h ps → printed f s (fold print_out d ps).entries ≡ printed f s d.entries ++ ps
   printed_all [] d k q = sym (append-nil _)
   printed_all (p ∷ ps) d k q =
       printed_all ps (print_out d p) (knows_out f w h s d p k q.0 q.1 q.2) q.3
@@ -165,17 +165,17 @@ module _ (f : List ℕ → ℕ) (w h : ℕ) (s : Screen) where
       ∙ append_assoc (printed f s d.entries) (p ∷ []) ps
 
 pub entries_replay : (f : List ℕ → ℕ) (s : Screen) (ps : List Print) → CanPrint f s.width s.height ps → Printed s (replay f s (prints_out ps)) ps
-entries_replay f s ps q = replay_all f s.width s.height s ps (nothing_drawn) (Anywhere s refl refl) q
+entries_replay f s ps q = replay_all f s.width s.height s ps (nothing_printed) (Anywhere s refl refl) q
 
 pub entries_print : (f : List ℕ → ℕ) (s : Screen) (ps : List Print) → CanPrint f s.width s.height ps → printed f s (prints_out ps) ≡ ps
-entries_print f s ps q = printed_all f s.width s.height s ps (nothing_drawn) (Anywhere s refl refl) q
+entries_print f s ps q = printed_all f s.width s.height s ps (nothing_printed) (Anywhere s refl refl) q
 
 -- at most three changes for each print
 length_to : (d : Option End) (p : Print) → length (move_to d p) + length (pen_to d p) ≤ 2
 length_to None p = omega arith
 length_to (Some q) p = omega (arith, length_optional (eqb q.x p.column && eqb q.y p.row) (cursor_at p.column p.row), length_optional (attributes_eq q.pen p.cell.attrs) (change.AllAttributes p.cell.attrs))
 
-pub length_out : (ps : List Print) (d : Drawn) → length (fold print_out d ps).entries ≤ length d.entries + 3 * length ps
+pub length_out : (ps : List Print) (d : PrintedOut) → length (fold print_out d ps).entries ≤ length d.entries + 3 * length ps
 length_out [] d = omega arith
 length_out (p ∷ ps) d =
     omega (

@@ -1,5 +1,6 @@
 -- What the entries of a visible cell do: its pen and its text print the cell.
 use Rattle.std.proofs.Common.{◌≡◌, ℕ, ◌<◌, Bool, true, false, cond, eqb, List, [], ◌∷◌, ◌++◌, length, fold, arith, inl, inr, ne_eqb, eq-eqb, bytes_eq, get_or, nat_lt, refl, sym, ap, ◌∙◌, subst, Decides}
+use Rattle.termwiz_storage.specs.VisibleCell.{VisibleCell}
 use Rattle.std.proofs.lemmas.List.Sums.{fold-append, fold_push}
 use Rattle.std.proofs.lemmas.Bool.{cases_Bool}
 use Rattle.std.proofs.lemmas.Slice.Eq.{bytes_eq-Decides, slice_eq-Decides}
@@ -12,7 +13,7 @@ use Rattle.termwiz_cell.specs.ChangeValue.{ChangeValue}
 use Rattle.termwiz_line.specs.Entries.{joins, join, add_text, Penned, pen_entry, cell_out}
 use Rattle.termwiz_cell.specs.Graphemes.{is_single, single}
 use Rattle.termwiz_screen.specs.Screen.{Screen}
-use Rattle.termwiz_screen.specs.Print.{piece_of, printed_cell, put, print_one}
+use Rattle.termwiz_screen.specs.Print.{piece_of, printed_cell, put_at_cursor, print_one}
 use Rattle.termwiz_screen.specs.Step.{step, replay}
 use Rattle.termwiz_screen.specs.Measured.{IsMeasured}
 use Rattle.termwiz_screen.specs.declared.print.Piece.TheVariants.{Cell}
@@ -67,15 +68,15 @@ no_break f pen g h =
     ]
 
 -- a measured cell, where no wrap is pending
-pub print_cell : (f : List ℕ → ℕ) (s : Screen) (c : CellValue) → s.x < s.width → IsMeasured f c → print_one f (record s { pen = c.attrs }) c.text ≡ put (record s { pen = c.attrs }) c
+pub print_cell : (f : List ℕ → ℕ) (s : Screen) (c : CellValue) → s.x < s.width → IsMeasured f c → print_one f (record s { pen = c.attrs }) c.text ≡ put_at_cursor (record s { pen = c.attrs }) c
 print_cell f s c l m =
     let n : piece_of f c.attrs c.text ≡ Cell (printed_cell f c.attrs c.text) = no_break f c.attrs c.text m.is_clean in
     let k : eqb s.x s.width ≡ false = ne_eqb s.x s.width (omega arith) in
-    rw (n, k) (ap (put (record s { pen = c.attrs })) (printed_is f c m))
+    rw (n, k) (ap (put_at_cursor (record s { pen = c.attrs })) (printed_is f c m))
 
 -- the entries of a visible cell
-pub replay_cell : (f : List ℕ → ℕ) (s : Screen) (d : Penned) (p : ℕ × CellValue) → (replay f s d.entries).pen ≡ d.pen → (replay f s d.entries).x < (replay f s d.entries).width → IsMeasured f p.1 →
-    replay f s (cell_out d p).entries ≡ put (record (replay f s d.entries) { pen = p.1.attrs }) p.1
+pub replay_cell : (f : List ℕ → ℕ) (s : Screen) (d : Penned) (p : VisibleCell) → (replay f s d.entries).pen ≡ d.pen → (replay f s d.entries).x < (replay f s d.entries).width → IsMeasured f p.1 →
+    replay f s (cell_out d p).entries ≡ put_at_cursor (record (replay f s d.entries) { pen = p.1.attrs }) p.1
 replay_cell f s d p e l m =
     replay_text f (d.entries ++ pen_entry d.pen p.1.attrs) s p.1.text m.alone
     ∙ ap (λ v. print_one f v p.1.text) (fold-append (step f) s d.entries _ ∙ replay_pen f (replay f s d.entries) d.pen p.1.attrs e)

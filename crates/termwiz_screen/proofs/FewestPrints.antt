@@ -4,10 +4,11 @@ use Rattle.std.proofs.lemmas.List.{length-append, length-map, length-set, get_or
 use Rattle.std.proofs.lemmas.Bool.{cases_eq, cases_lt, cases_Bool, false≢true, and_from, not_from_false}
 use Rattle.termwiz_cell.specs.CellValue.{CellValue, is_wide, columns, cell_eq, cell_eq-Decides}
 use Rattle.termwiz_storage.specs.Stored.{stored}
+use Rattle.termwiz_storage.specs.VisibleCell.{VisibleCell}
 use Rattle.termwiz_line.specs.Row.{IsRow, is_hidden, paint}
 use Rattle.termwiz_screen.specs.Prints.{Print, print_on, print_all}
 use Rattle.termwiz_screen.specs.Diff.{shows, row_need, in_row, need_upto, need, whole}
-use Rattle.termwiz_screen.specs.Fewest.{IsNarrow, PrintsWithin, NarrowPrints, AreNarrow, FewestPrints, FewestNarrowPrints}
+use Rattle.termwiz_screen.specs.Fewest.{IsNarrow, PrintsWithin, NarrowPrints, AreNarrowRows, FewestPrints, FewestNarrowPrints}
 use Rattle.termwiz_screen.specs.Screen.{row_at}
 use Rattle.termwiz_screen.specs.DiffRegions.{AreRows}
 use Rattle.termwiz_line.proofs.RowPainting.{paint_here, paint_other}
@@ -15,7 +16,7 @@ use Rattle.termwiz_line.proofs.RowShows.{paint_row}
 use Rattle.termwiz_screen.proofs.DiffRows.{shows_is}
 
 -- what is needed of the first n columns
-abbrev first_need : List CellValue → List CellValue → ℕ → List (ℕ × CellValue)
+abbrev first_need : List CellValue → List CellValue → ℕ → List VisibleCell
 first_need a b n = row_need a 0 b 0 n
 
 -- 1 where b's cell at column k is needed, else 0
@@ -44,9 +45,9 @@ length_need : (a b : List CellValue) (k : ℕ) → length (first_need a b (suc k
 unfolding needs
 length_need a b k =
     length-append (first_need a b k) _
-    ∙ ap (λ n. length (first_need a b k) + n) (ap (λ j. length {A = ℕ × CellValue} (cond (is_hidden b j || shows a j (stored b j)) [] ((j, stored b j) ∷ []))) (zero-add k) ∙ one (is_hidden b k) (shows a k (stored b k)))
+    ∙ ap (λ n. length (first_need a b k) + n) (ap (λ j. length {A = VisibleCell} (cond (is_hidden b j || shows a j (stored b j)) [] ((j, stored b j) ∷ []))) (zero-add k) ∙ one (is_hidden b k) (shows a k (stored b k)))
   where
-    one : (h t : Bool) → length {A = ℕ × CellValue} (cond (h || t) [] ((k, stored b k) ∷ [])) ≡ cond h 0 (cond t 0 1)
+    one : (h t : Bool) → length {A = VisibleCell} (cond (h || t) [] ((k, stored b k) ∷ [])) ≡ cond h 0 (cond t 0 1)
     one true t = refl
     one false true = refl
     one false false = refl
@@ -242,14 +243,14 @@ screen_third w h n (p ∷ ps) a z q =
       screen_third w h n ps (print_on a p) (print_rows w h a p z q.0 q.1) q.2,
     )
 
-print_narrow : (w h : ℕ) (s : List (List CellValue)) (p : Print) → AreRows w h s → p.row < h → p.column < w → is_wide p.cell ≡ false → AreNarrow s → AreNarrow (print_on s p)
+print_narrow : (w h : ℕ) (s : List (List CellValue)) (p : Print) → AreRows w h s → p.row < h → p.column < w → is_wide p.cell ≡ false → AreNarrowRows s → AreNarrowRows (print_on s p)
 print_narrow w h s p z l m f n i k = elim (cases_eq i p.row) [
   | inl e ↦ ap (λ r. is_wide (stored r k)) (ap (row_at (print_on s p)) e ∙ get_or-set_same s p.row (paint (row_at s p.row) p.column p.cell) [] (omega (arith, z.full)))
       ∙ paint_narrow (row_at s p.row) p.column p.cell (omega (arith, (z.each p.row l).width)) f (n p.row) k
   | inr o ↦ ap (λ r. is_wide (stored r k)) (get_or-set_other s p.row i (paint (row_at s p.row) p.column p.cell) [] o) ∙ n i k
 ]
 
-screen_each : (w h n : ℕ) (ps : List Print) (a : List (List CellValue)) → AreRows w h a → PrintsWithin w h ps → AreNarrow a → NarrowPrints ps → length (screen_need w a (print_all a ps) n) ≤ length ps
+screen_each : (w h n : ℕ) (ps : List Print) (a : List (List CellValue)) → AreRows w h a → PrintsWithin w h ps → AreNarrowRows a → NarrowPrints ps → length (screen_need w a (print_all a ps) n) ≤ length ps
 screen_each w h n [] a z q m f = omega (arith, screen_same w a n)
 screen_each w h n (p ∷ ps) a z q m f =
     let l : p.column < length (row_at a p.row) = omega (arith, (z.each p.row q.0).width, q.1) in

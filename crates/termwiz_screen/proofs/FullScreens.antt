@@ -11,7 +11,7 @@ use Rattle.termwiz_line.specs.LineFlags.{LineFlags, no_flags}
 use Rattle.termwiz_screen.specs.FullScreen.{FullScreen, line_attribute, shape_of, full_screen, kept_in, full_step, full_replay}
 use Rattle.termwiz_screen.specs.Kept.{Kept, with_line_attribute}
 use Rattle.termwiz_screen.specs.Print.{has_below, down_kept, wraps, wrapped_kept, piece_of, print_one, piece_kept, one_kept, kept_after}
-use Rattle.termwiz_screen.specs.Regions.{region_up, region_down}
+use Rattle.termwiz_screen.specs.ScrollRegions.{region_up, region_down}
 use Rattle.termwiz_screen.specs.FullLaws.{FullStepsAre}
 use Rattle.termwiz_screen.specs.Resized.{resized_screen, resized_kept}
 use Rattle.termwiz_screen.specs.Screen.{Screen}

@@ -1,7 +1,7 @@
 -- The entries of rows, one row more at a time, and those of blank rows at the bottom.
 use Rattle.std.proofs.Common.{◌≡◌, ℕ, zero, suc, replicate, ◌+◌, ◌-◌, ◌<◌, ◌≤◌, Bool, true, false, cond, not, ◌&&◌, eqb, ltb, List, [], ◌∷◌, ◌++◌, ltb-true, arith, add-one, append-nil, append_assoc, refl, sym, ap, ◌∙◌}
 use Rattle.std.proofs.lemmas.Bool.{cond-true, cond-false, and_parts, and_from, and_left, false_from_ne_true, lt-ltb, ne_eqb}
-use Rattle.termwiz_cell.specs.Attributes.{Attributes, default_attributes, attributes_eq, is_plain}
+use Rattle.termwiz_cell.specs.Attributes.{Attributes, default_attributes, attributes_eq, has_only_background}
 use Rattle.std.specs.Cmp.Lexicographic.{pointwise}
 use Rattle.termwiz_cell.specs.CellValue.{CellValue, blank_of, cell_eq}
 use Rattle.termwiz_cell.specs.ChangeValue as change
@@ -11,7 +11,7 @@ use Rattle.termwiz_line.specs.Entries.{Penned, row_entries}
 use Rattle.termwiz_line.specs.LastChange.{last_is}
 use Rattle.termwiz_line.specs.Writing.{Writing, behind}
 use Rattle.termwiz_line.proofs.LastChange.{last_pushed}
-use Rattle.termwiz_screen.specs.Drawing.{IsBeforeRow, AreApart, IsDrawnUpto}
+use Rattle.termwiz_screen.specs.Drawing.{IsBeforeRow, AreApart, IsWrittenUpto}
 use Rattle.termwiz_screen.proofs.LastChanges.{front_behind_first}
 use Rattle.termwiz_screen.specs.Screen.{row_at}
 use Rattle.termwiz_screen.specs.Repaint.{next_line, ends_with, rows_upto, bottom_attrs, first_blank, front_of, joined_row, bottom, joins_rows, all_rows}
@@ -35,8 +35,8 @@ module _ (w : ℕ) (rows : List (List CellValue)) (v u t : Writing) where
       ∙ ap (λ b. last_is is_text (v.printed.entries ++ cond b [] (next_line ∷ []))) (ne_eqb (suc i) 0 (omega arith))
       ∙ last_pushed is_text v.printed.entries next_line
 
-  pub row_drawn : (first : List ChangeValue) (i : ℕ) (row : List CellValue) → IsDrawnUpto first w rows i v → u.printed ≡ record v.printed { entries = v.printed.entries ++ cond (eqb i 0) [] (next_line ∷ []) } →
-      t.printed ≡ behind u.printed.entries (row_entries u.printed.pen (visible_upto row w)) → row_at rows i ≡ row → IsDrawnUpto first w rows (i + 1) t
+  pub row_drawn : (first : List ChangeValue) (i : ℕ) (row : List CellValue) → IsWrittenUpto first w rows i v → u.printed ≡ record v.printed { entries = v.printed.entries ++ cond (eqb i 0) [] (next_line ∷ []) } →
+      t.printed ≡ behind u.printed.entries (row_entries u.printed.pen (visible_upto row w)) → row_at rows i ≡ row → IsWrittenUpto first w rows (i + 1) t
   row_drawn first i row z eu et er = record {
     printed =
         et ∙ (λ k. behind (drawn k).entries (row_entries (drawn k).pen (visible_upto (sym er k) w)))
@@ -65,7 +65,7 @@ cleared_below a d = record { entries = front_of d.entries ++ change.ClearToEndOf
 
 -- the attributes of the last column can be cleared
 abbrev pub clearable : Attributes → Bool
-clearable a = is_plain a && not (attributes_eq a default_attributes)
+clearable a = has_only_background a && not (attributes_eq a default_attributes)
 
 -- behind the first entries
 pub cleared_behind : (a : Attributes) (first : List ChangeValue) (d : Penned) → ends_with a d.entries ≡ true → cleared_below a (behind first d) ≡ behind first (cleared_below a d)
@@ -115,5 +115,5 @@ module _ (first : List ChangeValue) (writer : Writing) (e : writer.printed ≡ r
   pub before_rows : AreApart first → writer.spaces ≡ 0 → IsBeforeRow 0 writer
   before_rows apart none = record { between = none; apart = λ zero. ap (λ (d : Penned). last_is is_text d.entries) e ∙ apart.no_text }
 
-  pub none_drawn : (w : ℕ) (rows : List (List CellValue)) → IsDrawnUpto first w rows 0 writer
+  pub none_drawn : (w : ℕ) (rows : List (List CellValue)) → IsWrittenUpto first w rows 0 writer
   none_drawn w rows = record { printed = e ∙ ap (λ es. record { entries = es; pen = default_attributes }) (sym (append-nil first)) }

@@ -6,7 +6,7 @@ use Rattle.std.proofs.lemmas.Bool.{true≢false, eq-eqb, ne_eqb, and_from, and_l
 use Rattle.std.proofs.lemmas.List.{map-append}
 use Rattle.std.proofs.lemmas.Bool.Decides.{same_from_decides}
 use Rattle.termwiz_cell.specs.declared.color.ColorAttribute.{ColorAttribute}
-use Rattle.termwiz_cell.specs.Attributes.{Attributes, attributes_eq, attributes_eq-Decides, with_background, is_plain, color_eq, color_eq-Decides}
+use Rattle.termwiz_cell.specs.Attributes.{Attributes, attributes_eq, attributes_eq-Decides, with_background, has_only_background, color_eq, color_eq-Decides}
 use Rattle.termwiz_cell.specs.ChangeValue as change
 use Rattle.termwiz_cell.specs.ChangeValue.{ChangeValue, is_text}
 use Rattle.termwiz_cell.specs.declared.change.Change.{Change}
@@ -61,7 +61,7 @@ front_popped f (x ∷ xs) new None n m e l h = absurd (omega (arith, l, h.0))
 front_popped f old new (Some x) n m e l h = sym (ap front_of (ap (map f) e ∙ map-append f new (x ∷ [])) ∙ front_pushed (map f new) (f x))
 
 -- a clear of a line gives plain attributes where it has their background
-pub plain_clear : (a : Attributes) (color : ColorAttribute) → is_plain a ≡ true → color_eq color a.background ≡ is_clear_of a (change.ClearToEndOfLine color)
+pub plain_clear : (a : Attributes) (color : ColorAttribute) → has_only_background a ≡ true → color_eq color a.background ≡ is_clear_of a (change.ClearToEndOfLine color)
 plain_clear a color h = same_from_decides {P = color ≡ a.background} (color_eq color a.background) (attributes_eq (with_background color) a) (color_eq-Decides color a.background) (background, whole)
   where
     background : attributes_eq (with_background color) a ≡ true → color ≡ a.background

@@ -5,14 +5,15 @@ use Rattle.std.proofs.lemmas.List.Elements.{filter-append}
 use Rattle.std.proofs.lemmas.Bool.{cases_Bool, lt-leb}
 use Rattle.termwiz_cell.specs.CellValue.{CellValue}
 use Rattle.termwiz_storage.specs.Stored.{stored}
+use Rattle.termwiz_storage.specs.VisibleCell.{VisibleCell}
 use Rattle.termwiz_line.specs.Row.{is_hidden, visible_upto}
 use Rattle.termwiz_screen.specs.Diff.{shows, row_need}
 
 module _ (a : List CellValue) (p : ℕ) (b : List CellValue) (q : ℕ) where
-  worded : List (ℕ × CellValue) → List (ℕ × CellValue)
+  worded : List VisibleCell → List VisibleCell
   worded cs = filter (λ c. not (shows a c.0 c.1)) (map (λ c. (p + (c.0 - q), c.1)) (filter (λ c. nat_le q c.0) cs))
 
-  worded-append : (cs ds : List (ℕ × CellValue)) → worded (cs ++ ds) ≡ worded cs ++ worded ds
+  worded-append : (cs ds : List VisibleCell) → worded (cs ++ ds) ≡ worded cs ++ worded ds
   unfolding worded
   worded-append cs ds =
       ap (λ l. filter (λ c. not (shows a c.0 c.1)) (map (λ c. (p + (c.0 - q), c.1)) l)) (filter-append (λ c. nat_le q c.0) cs ds)

@@ -5,10 +5,11 @@ use Rattle.std.proofs.lemmas.List.Sums.{fold-append}
 use Rattle.std.proofs.lemmas.Bool.{cases_Bool, cases_lt}
 use Rattle.termwiz_cell.specs.CellValue.{CellValue, blank, is_wide, cell_eq, cell_eq-Decides}
 use Rattle.termwiz_storage.specs.Stored.{stored, hides}
+use Rattle.termwiz_storage.specs.VisibleCell.{VisibleCell}
 use Rattle.termwiz_line.specs.Row.{HasHalves, is_hidden, row_of, settled_at}
 use Rattle.termwiz_line.proofs.RowOf.{hidden_row, row_of_at}
 use Rattle.termwiz_line.proofs.StoredRows.{row_stored}
-use Rattle.termwiz_screen.specs.Diff.{Region, shows, row_need, need_upto, in_row, Drawn, print_out}
+use Rattle.termwiz_screen.specs.Diff.{Region, shows, row_need, need_upto, in_row, PrintedOut, print_out}
 use Rattle.termwiz_screen.specs.Screen.{row_at}
 use Rattle.termwiz_screen.specs.Walked.{EndsBlank}
 use Rattle.termwiz_screen.proofs.WalkedRows.{needed_shown, needed_nothing, one_more}
@@ -45,7 +46,7 @@ blanks_past own p t (suc j) (inr l) =
     ∙ append-nil (row_need own p [] 0 t)
 
 -- the other's visible cells up to a column, and blanks behind them
-pub needed_whole : (own : List CellValue) (x : ℕ) (b : List CellValue) (q n w row next m t : ℕ) (d e g : Drawn) → (next < q + n → EndsBlank w b next) → q + n ≤ w → m ≡ min n (next - q) →
+pub needed_whole : (own : List CellValue) (x : ℕ) (b : List CellValue) (q n w row next m t : ℕ) (d e g : PrintedOut) → (next < q + n → EndsBlank w b next) → q + n ≤ w → m ≡ min n (next - q) →
     t ≡ min (x + n) (length own + 1) - (x + m) → e ≡ fold print_out d (map (in_row row) (row_need own x b q (min n (next - q)))) → g ≡ fold print_out e (map (in_row row) (row_need own (x + m) [] 0 t)) →
     g ≡ fold print_out d (map (in_row row) (row_need own x b q n))
 needed_whole own x b q n w row next m t d e g z l s r u v = one_more row d e g (row_need own x b q (min n (next - q))) (row_need own (x + m) [] 0 t) (row_need own x b q n)
@@ -86,11 +87,11 @@ nothing_needed cs v w x (suc n) a b = ap₂ (λ ps qs. ps ++ qs) (nothing_needed
     other_cell = row_of_at w cs (x + n) (omega arith)
 
     last : (hides cs (x + n) ≡ true) ⊎ (hides cs (x + n) ≡ false) →
-        cond {A = List (ℕ × CellValue)} (is_hidden (row_of w cs) (x + n) || shows (row_of v cs) (x + n) (stored (row_of w cs) (x + n))) [] ((x + n, stored (row_of w cs) (x + n)) ∷ []) ≡ []
-    last (inl h) = ap (λ s. cond {A = List (ℕ × CellValue)} (s || shows (row_of v cs) (x + n) (stored (row_of w cs) (x + n))) [] ((x + n, stored (row_of w cs) (x + n)) ∷ [])) (other_hidden ∙ h)
+        cond {A = List VisibleCell} (is_hidden (row_of w cs) (x + n) || shows (row_of v cs) (x + n) (stored (row_of w cs) (x + n))) [] ((x + n, stored (row_of w cs) (x + n)) ∷ []) ≡ []
+    last (inl h) = ap (λ s. cond {A = List VisibleCell} (s || shows (row_of v cs) (x + n) (stored (row_of w cs) (x + n))) [] ((x + n, stored (row_of w cs) (x + n)) ∷ [])) (other_hidden ∙ h)
     last (inr h) =
-        (λ i. cond {A = List (ℕ × CellValue)} ((other_hidden ∙ h) i || (not ((own_hidden ∙ h) i) && cell_eq (own_cell i) (other_cell i))) [] ((x + n, stored (row_of w cs) (x + n)) ∷ []))
-        ∙ ap (λ s. cond {A = List (ℕ × CellValue)} s [] ((x + n, stored (row_of w cs) (x + n)) ∷ [])) ((cell_eq-Decides (settled_at cs (x + n)) (settled_at cs (x + n))).1 refl)
+        (λ i. cond {A = List VisibleCell} ((other_hidden ∙ h) i || (not ((own_hidden ∙ h) i) && cell_eq (own_cell i) (other_cell i))) [] ((x + n, stored (row_of w cs) (x + n)) ∷ []))
+        ∙ ap (λ s. cond {A = List VisibleCell} s [] ((x + n, stored (row_of w cs) (x + n)) ∷ [])) ((cell_eq-Decides (settled_at cs (x + n)) (settled_at cs (x + n))).1 refl)
 
 -- stored cells with halves need what their row needs
 own_hidden : (v : ℕ) (own : List CellValue) (k : ℕ) → HasHalves v own → k < v → is_hidden own k ≡ is_hidden (row_of v own) k
@@ -107,7 +108,7 @@ own_row own v x b q (suc n) h l =
     λ i. before i ++ cond (is_hidden b (q + n) || (not (hidden i) && cell_eq (cell i) (stored b (q + n)))) [] ((x + n, stored b (q + n)) ∷ [])
 
 -- one more row
-pub more_rows : (a b : List (List CellValue)) (r : Region) (i : ℕ) (d e g : Drawn) → e ≡ fold print_out d (need_upto a b r i) →
+pub more_rows : (a b : List (List CellValue)) (r : Region) (i : ℕ) (d e g : PrintedOut) → e ≡ fold print_out d (need_upto a b r i) →
     g ≡ fold print_out e (map (in_row (r.y + i)) (row_need (row_at a (r.y + i)) r.x (row_at b (r.other_y + i)) r.other_x r.width)) → g ≡ fold print_out d (need_upto a b r (i + 1))
 more_rows a b r i d e g h j =
     let n : suc i ≡ i + 1 = omega arith in

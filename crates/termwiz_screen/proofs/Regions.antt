@@ -4,7 +4,7 @@ use Rattle.std.specs.List.{All}
 use Rattle.std.proofs.lemmas.List.Elements.{All-append, All-take, All-drop, All-replicate}
 use Rattle.std.proofs.lemmas.List.{take-append-drop, take_at, drop_at, drop-append-le, drop-drop, length-replicate, replicate_more, map-append, drop-map, take-map, take-take}
 use Rattle.std.proofs.Math.Seq.{set-append_seam, take-add}
-use Rattle.termwiz_screen.specs.Regions.{region, with_region, region_turned, region_up, region_down}
+use Rattle.termwiz_screen.specs.ScrollRegions.{region, with_region, region_turned, region_up, region_down}
 
 -- one more default element
 pub blank_step : {X : Type 0} (d : X) (xs ys : List X) (a i n m : ℕ) → a + n ≡ i → m ≡ n + 1 → i < length xs

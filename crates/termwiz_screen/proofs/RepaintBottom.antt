@@ -5,13 +5,14 @@ use Rattle.std.proofs.lemmas.List.Sums.{fold-append}
 use Rattle.std.proofs.lemmas.Bool.{cases_eq, cases_lt, cond-true, cond-false, and_parts, and_from, not-true, false≢true}
 use Rattle.std.proofs.lemmas.Slice.Eq.{slice_eq-Decides}
 use Rattle.std.specs.Cmp.Lexicographic.{pointwise}
-use Rattle.termwiz_cell.specs.Attributes.{Attributes, default_attributes, with_background, is_plain, attributes_eq, attributes_eq-Decides}
+use Rattle.termwiz_cell.specs.Attributes.{Attributes, default_attributes, with_background, has_only_background, attributes_eq, attributes_eq-Decides}
 use Rattle.termwiz_cell.specs.CellValue.{CellValue, space, blank, blank_of, is_wide, cell_eq, cell_eq-Decides}
 use Rattle.termwiz_cell.specs.ChangeValue as change
 use Rattle.termwiz_cell.specs.ChangeValue.{ChangeValue}
 use Rattle.termwiz_storage.specs.Stored.{stored}
+use Rattle.termwiz_storage.specs.VisibleCell.{VisibleCell}
 use Rattle.termwiz_line.specs.Row.{is_hidden, visible_upto, clear}
-use Rattle.termwiz_line.specs.Entries.{Penned, is_space_of, all_spaces, trimmed, last_attrs, ends_plain, cells_out, with_tail, row_entries}
+use Rattle.termwiz_line.specs.Entries.{Penned, is_space_of, all_spaces, trimmed, pen_behind, ends_plain, cells_out, with_tail, row_entries}
 use Rattle.termwiz_screen.specs.Screen.{Screen, row_at}
 use Rattle.termwiz_screen.specs.Clear.{cleared_row, clear_eol, clear_eos}
 use Rattle.termwiz_screen.specs.Step.{step, replay}
@@ -74,25 +75,25 @@ length-blank_visible w a (suc n) l =
     ∙ omega (arith, length-append (visible_upto (replicate w (blank_of a)) n) ((n, stored (replicate w (blank_of a)) n) ∷ []), length-blank_visible w a n (omega arith))
 
 -- spaces with attributes a alone: nothing is kept of them
-spaces_last : (a p : Attributes) (ps : List (ℕ × CellValue)) → 0 < length ps → all_spaces a ps ≡ true → last_attrs p ps ≡ a
+spaces_last : (a p : Attributes) (ps : List VisibleCell) → 0 < length ps → all_spaces a ps ≡ true → pen_behind p ps ≡ a
 spaces_last a p [] l h = absurd (omega arith)
 spaces_last a p (q ∷ []) l h = (attributes_eq-Decides q.1.attrs a).0 (and_parts _ _ (and_parts (is_space_of a q) true h).0).1
 spaces_last a p (q ∷ (o ∷ ps)) l h = spaces_last a q.1.attrs (o ∷ ps) (omega arith) (and_parts (is_space_of a q) (all_spaces a (o ∷ ps)) h).1
 
-spaces_plain : (a : Attributes) (ps : List (ℕ × CellValue)) → 0 < length ps → all_spaces a ps ≡ true → is_plain a ≡ true → ends_plain ps ≡ true
+spaces_plain : (a : Attributes) (ps : List VisibleCell) → 0 < length ps → all_spaces a ps ≡ true → has_only_background a ≡ true → ends_plain ps ≡ true
 spaces_plain a [] l h q = absurd (omega arith)
 spaces_plain a (p ∷ []) l h q =
     let s : is_space_of a p ≡ true = (and_parts (is_space_of a p) true h).0 in
     let e : p.1.attrs ≡ a = (attributes_eq-Decides p.1.attrs a).0 (and_parts _ _ s).1 in
-    subst (λ b. (is_space_of b p && is_plain b) ≡ true) (sym e) (and_from (is_space_of a p) (is_plain a) s q)
+    subst (λ b. (is_space_of b p && has_only_background b) ≡ true) (sym e) (and_from (is_space_of a p) (has_only_background a) s q)
 spaces_plain a (p ∷ (o ∷ ps)) l h q = spaces_plain a (o ∷ ps) (omega arith) (and_parts (is_space_of a p) (all_spaces a (o ∷ ps)) h).1 q
 
-spaces_trimmed : (a : Attributes) (ps : List (ℕ × CellValue)) → all_spaces a ps ≡ true → trimmed a ps ≡ []
+spaces_trimmed : (a : Attributes) (ps : List VisibleCell) → all_spaces a ps ≡ true → trimmed a ps ≡ []
 spaces_trimmed a [] h = refl
 spaces_trimmed a (p ∷ ps) h = cond-true (all_spaces a (p ∷ ps)) [] (p ∷ trimmed a ps) h
 
 -- a blank row's entries are the one clear
-blank_entries : (w : ℕ) (p a : Attributes) → 0 < w → is_plain a ≡ true → attributes_eq a default_attributes ≡ false →
+blank_entries : (w : ℕ) (p a : Attributes) → 0 < w → has_only_background a ≡ true → attributes_eq a default_attributes ≡ false →
     (row_entries p (visible_upto (replicate w (blank_of a)) w)).entries ≡ change.ClearToEndOfLine a.background ∷ []
 blank_entries w p a l h n =
     ap (λ (d : Penned). d.entries) (cond-true (ends_plain cells) _ _ (spaces_plain a cells some spaces h)
@@ -100,7 +101,7 @@ blank_entries w p a l h n =
     ∙ ap (λ v. with_tail (cells_out p v) v a) (spaces_trimmed a cells spaces))
     ∙ cond-false (attributes_eq a default_attributes) [] (change.ClearToEndOfLine a.background ∷ []) n
   where
-    cells : List (ℕ × CellValue)
+    cells : List VisibleCell
     cells = visible_upto (replicate w (blank_of a)) w
 
     some : 0 < length cells
@@ -111,7 +112,7 @@ blank_entries w p a l h n =
 
 module _ (w : ℕ) (a : Attributes) (rows : List (List CellValue)) (i : ℕ) where
   -- the row that is joined ends with the clear
-  pub joined_ends : 0 < w → is_plain a ≡ true → attributes_eq a default_attributes ≡ false → row_at rows i ≡ replicate w (blank_of a) →
+  pub joined_ends : 0 < w → has_only_background a ≡ true → attributes_eq a default_attributes ≡ false → row_at rows i ≡ replicate w (blank_of a) →
       ends_with a (rows_upto w rows (suc (joined_row w a rows i))).entries ≡ true
   joined_ends l h n e = ends (ends_with a (rows_upto w rows i).entries) refl
     where
@@ -228,8 +229,8 @@ module _ (f : List ℕ → ℕ) (one : f space ≡ 1) (w h : ℕ) (rows : List (
         where
           joined : HasRows w h rows a (replay f (emptied s) (front_of (rows_upto w rows (suc t)).entries ++ change.ClearToEndOfScreen a.background ∷ []))
           joined =
-              let x = and_parts (is_plain a && not (attributes_eq a default_attributes)) (ltb i h && ltb (suc t) h) e in
-              let y = and_parts (is_plain a) (not (attributes_eq a default_attributes)) x.0 in
+              let x = and_parts (has_only_background a && not (attributes_eq a default_attributes)) (ltb i h && ltb (suc t) h) e in
+              let y = and_parts (has_only_background a) (not (attributes_eq a default_attributes)) x.0 in
               let v = and_parts (ltb i h) (ltb (suc t) h) x.1 in
               let li : i < h = ltb-true i h v.0 in
               let lt : suc t < h = ltb-true (suc t) h v.1 in

@@ -5,13 +5,14 @@ use Rattle.std.proofs.lemmas.Bool.{and_parts}
 use Rattle.termwiz_cell.specs.declared.change.CursorShape.{CursorShape}
 use Rattle.termwiz_cell.specs.declared.change.CursorVisibility.{CursorVisibility}
 use Rattle.termwiz_cell.specs.declared.change.CursorVisibility.TheVariants as cursor
-use Rattle.termwiz_cell.specs.Attributes.{Attributes, default_attributes, is_plain, attributes_eq}
+use Rattle.termwiz_cell.specs.Attributes.{Attributes, default_attributes, has_only_background, attributes_eq}
 use Rattle.termwiz_cell.specs.CellValue.{CellValue}
 use Rattle.termwiz_cell.specs.ChangeValue as change
 use Rattle.termwiz_cell.specs.ChangeValue.{ChangeValue}
 use Rattle.termwiz_storage.specs.Stored.{stored}
+use Rattle.termwiz_storage.specs.VisibleCell.{VisibleCell}
 use Rattle.termwiz_line.specs.Row.{is_hidden, visible_upto}
-use Rattle.termwiz_line.specs.Entries.{joins, add_text, Penned, pen_entry, cell_out, cells_out, trimmed, last_attrs, is_empty, clear_entry, with_tail, ends_plain, row_entries}
+use Rattle.termwiz_line.specs.Entries.{joins, add_text, Penned, pen_entry, cell_out, cells_out, trimmed, pen_behind, is_empty, clear_entry, with_tail, ends_plain, row_entries}
 use Rattle.termwiz_screen.specs.Screen.{Screen, row_at}
 use Rattle.termwiz_screen.specs.Repaint.{next_line, rows_upto, bottom_attrs, front_of, joined_row, bottom, joins_rows, all_rows, all_moves, without_last_moves, is_nil, cursor_entry, shown_entries, title_entry, repaint_of, repaint, lines_upto, full_entries, full_shown_entries, full_repaint}
 use Rattle.termwiz_screen.specs.Place.{cursor_at}
@@ -37,7 +38,7 @@ length-add_text (e ∷ []) t = omega arith
 length-add_text (e ∷ (g ∷ es)) t = omega (arith, length-add_text (g ∷ es) t)
 
 -- a cell's pen and text
-length_cells : (ps : List (ℕ × CellValue)) (d : Penned) → length (fold cell_out d ps).entries ≤ length d.entries + 2 * length ps
+length_cells : (ps : List VisibleCell) (d : Penned) → length (fold cell_out d ps).entries ≤ length d.entries + 2 * length ps
 length_cells [] d = omega arith
 length_cells (p ∷ ps) d =
     omega (
@@ -48,7 +49,7 @@ length_cells (p ∷ ps) d =
       length_optional (attributes_eq d.pen p.1.attrs) (change.AllAttributes p.1.attrs),
     )
 
-length_tail : (d : Penned) (kept : List (ℕ × CellValue)) (a : Attributes) → length (with_tail d kept a).entries ≤ length d.entries + 2
+length_tail : (d : Penned) (kept : List VisibleCell) (a : Attributes) → length (with_tail d kept a).entries ≤ length d.entries + 2
 length_tail d kept a =
     omega (
       arith,
@@ -63,13 +64,13 @@ length_tail d kept a =
     pens false = length_optional (attributes_eq d.pen a) (change.AllAttributes a)
 
 -- a row: at most two for each visible cell
-pub length_row : (p : Attributes) (cells : List (ℕ × CellValue)) → length (row_entries p cells).entries ≤ 2 * length cells
+pub length_row : (p : Attributes) (cells : List VisibleCell) → length (row_entries p cells).entries ≤ 2 * length cells
 length_row p cells = row (ends_plain cells) (trimmed_shorter p cells)
   where
     a : Attributes
-    a = last_attrs p cells
+    a = pen_behind p cells
 
-    kept : List (ℕ × CellValue)
+    kept : List VisibleCell
     kept = trimmed a cells
 
     row : (b : Bool) → (b ≡ true → length kept < length cells) → length (cond b (with_tail (cells_out p kept) kept a) (cells_out p cells)).entries ≤ 2 * length cells
@@ -78,7 +79,7 @@ length_row p cells = row (ends_plain cells) (trimmed_shorter p cells)
 
 length_visible : (r : List CellValue) (k : ℕ) → length (visible_upto r k) ≤ k
 length_visible r zero = omega arith
-length_visible r (suc k) = omega (arith, length_visible r k, length-append (visible_upto r k) (cond (is_hidden r k) [] ((k, stored r k) ∷ [])), length_optional {A = ℕ × CellValue} (is_hidden r k) (k, stored r k))
+length_visible r (suc k) = omega (arith, length_visible r k, length-append (visible_upto r k) (cond (is_hidden r k) [] ((k, stored r k) ∷ [])), length_optional {A = VisibleCell} (is_hidden r k) (k, stored r k))
 
 -- the first row has no move before it
 length_rows : (w : ℕ) (rows : List (List CellValue)) (i : ℕ) → length (rows_upto w rows i).entries ≤ 2 * (w * i) + (i - 1)
@@ -88,7 +89,7 @@ length_rows w rows (suc i) = omega (arith, length_rows w rows i, parts, moves i,
     pen : Attributes
     pen = (rows_upto w rows i).pen
 
-    cells : List (ℕ × CellValue)
+    cells : List VisibleCell
     cells = visible_upto (row_at rows i) w
 
     moves : (i : ℕ) → length (cond {A = List ChangeValue} (eqb i 0) [] (next_line ∷ [])) + (i - 1) ≤ i
@@ -112,7 +113,7 @@ length_all_rows w h rows = short (joins_rows w h rows) below
     t = joined_row w a rows i
 
     below : joins_rows w h rows ≡ true → suc t < h
-    below e = ltb-true (suc t) h (and_parts (ltb i h) (ltb (suc t) h) (and_parts (is_plain a && not (attributes_eq a default_attributes)) (ltb i h && ltb (suc t) h) e).1).1
+    below e = ltb-true (suc t) h (and_parts (ltb i h) (ltb (suc t) h) (and_parts (has_only_background a && not (attributes_eq a default_attributes)) (ltb i h && ltb (suc t) h) e).1).1
 
     short : (b : Bool) → (b ≡ true → suc t < h) →
         length (cond b (record { entries = front_of (rows_upto w rows (suc t)).entries ++ change.ClearToEndOfScreen a.background ∷ []; pen = a }) (rows_upto w rows h)).entries ≤ 2 * (w * h) + (h - 1)

@@ -1,5 +1,6 @@
 -- A repaint holds no scroll, so each region in it lies on the surface.
 use Rattle.std.proofs.Common.{◌≡◌, ℕ, zero, suc, Bool, true, false, cond, ◌&&◌, eqb, List, [], ◌∷◌, ◌++◌, fold, length, get_or, refl}
+use Rattle.termwiz_storage.specs.VisibleCell.{VisibleCell}
 use Rattle.std.specs.Prelude.{Option, Some, None}
 use Rattle.std.proofs.lemmas.Bool.{and_parts}
 use Rattle.termwiz_cell.specs.declared.change.CursorShape.{CursorShape}
@@ -10,7 +11,7 @@ use Rattle.termwiz_cell.specs.CellValue.{CellValue}
 use Rattle.termwiz_cell.specs.ChangeValue as change
 use Rattle.termwiz_cell.specs.ChangeValue.{ChangeValue}
 use Rattle.termwiz_line.specs.Row.{visible_upto}
-use Rattle.termwiz_line.specs.Entries.{joins, add_text, Penned, pen_entry, cell_out, cells_out, trimmed, last_attrs, is_empty, clear_entry, with_tail, ends_plain, row_entries}
+use Rattle.termwiz_line.specs.Entries.{joins, add_text, Penned, pen_entry, cell_out, cells_out, trimmed, pen_behind, is_empty, clear_entry, with_tail, ends_plain, row_entries}
 use Rattle.termwiz_screen.specs.Screen.{Screen, row_at}
 use Rattle.termwiz_screen.specs.Repaint.{next_line, rows_upto, bottom_attrs, front_of, joined_row, bottom, joins_rows, all_rows, all_moves, without_last_moves, is_nil, cursor_entry, shape_entry, shown_entries, title_entry, repaint_of, repaint, lines_upto, full_entries, full_shown_entries, full_repaint}
 use Rattle.termwiz_screen.specs.Place.{cursor_at}
@@ -42,11 +43,11 @@ module _ (h : ℕ) where
   texts (e ∷ []) t p = p
   texts (e ∷ (g ∷ es)) t p = let k = and_parts (region_fits h e) (regions_fit h (g ∷ es)) p in after e (add_text (g ∷ es) t) k.0 (texts (g ∷ es) t k.1)
 
-  cells : (ps : List (ℕ × CellValue)) (d : Penned) → regions_fit h d.entries ≡ true → regions_fit h (fold cell_out d ps).entries ≡ true
+  cells : (ps : List VisibleCell) (d : Penned) → regions_fit h d.entries ≡ true → regions_fit h (fold cell_out d ps).entries ≡ true
   cells [] d p = p
   cells (c ∷ cs) d p = cells cs (cell_out d c) (texts (d.entries ++ pen_entry d.pen c.1.attrs) c.1.text (regions-append h d.entries (pen_entry d.pen c.1.attrs) p (pens d.pen c.1.attrs)))
 
-  tail : (d : Penned) (kept : List (ℕ × CellValue)) (a : Attributes) → regions_fit h d.entries ≡ true → regions_fit h (with_tail d kept a).entries ≡ true
+  tail : (d : Penned) (kept : List VisibleCell) (a : Attributes) → regions_fit h d.entries ≡ true → regions_fit h (with_tail d kept a).entries ≡ true
   tail d kept a p =
       regions-append h (d.entries ++ cond (is_empty kept) [] (pen_entry d.pen a)) (clear_entry a) (regions-append h d.entries (cond (is_empty kept) [] (pen_entry d.pen a)) p (some (is_empty kept)))
       (optional (attributes_eq a default_attributes) (change.ClearToEndOfLine a.background) refl)
@@ -55,11 +56,11 @@ module _ (h : ℕ) where
       some true = refl
       some false = pens d.pen a
 
-  row : (pen : Attributes) (ps : List (ℕ × CellValue)) → regions_fit h (row_entries pen ps).entries ≡ true
+  row : (pen : Attributes) (ps : List VisibleCell) → regions_fit h (row_entries pen ps).entries ≡ true
   row pen ps = at (ends_plain ps)
     where
       a : Attributes
-      a = last_attrs pen ps
+      a = pen_behind pen ps
 
       at : (b : Bool) → regions_fit h (cond b (with_tail (cells_out pen (trimmed a ps)) (trimmed a ps) a) (cells_out pen ps)).entries ≡ true
       at true = tail (cells_out pen (trimmed a ps)) (trimmed a ps) a (cells (trimmed a ps) (record { entries = []; pen = pen }) refl)

@@ -9,7 +9,7 @@ use Rattle.termwiz_cell.specs.ChangeValue.{ChangeValue}
 use Rattle.termwiz_screen.specs.Screen.{Screen}
 use Rattle.termwiz_screen.specs.Print.{down, returned, wraps, wrapped, piece_of, print_piece, print_one}
 use Rattle.termwiz_screen.specs.Step.{step, replay, region_fits, regions_fit}
-use Rattle.termwiz_screen.specs.Diff.{is_drawing, all_drawing, restoring}
+use Rattle.termwiz_screen.specs.Diff.{is_diff_entry, all_diff_entries, restoring}
 use Rattle.termwiz_screen.specs.Place.{cursor_at}
 use Rattle.termwiz_screen.specs.DiffLaws.{DrawingRestores}
 use Rattle.termwiz_screen.specs.declared.print.Piece.{Piece}
@@ -46,15 +46,15 @@ module _ (f : List ℕ → ℕ) where
   text_shape s [] = same_shape s
   text_shape s (g ∷ gs) = then_shape (piece_shape s (piece_of f s.pen g)) (text_shape (print_one f s g) gs)
 
-  drawing_shape : (s : Screen) (e : ChangeValue) → is_drawing e ≡ true → SameShape s (step f s e)
+  drawing_shape : (s : Screen) (e : ChangeValue) → is_diff_entry e ≡ true → SameShape s (step f s e)
   drawing_shape s (change.CursorPosition x y) h = record { width = refl; height = refl; visibility = refl }
   drawing_shape s (change.AllAttributes a) h = record { width = refl; height = refl; visibility = refl }
   drawing_shape s (change.Text t) h = text_shape s (graphemes true t)
   drawing_shape s _ h = absurd cc
 
-  all_shape : (s : Screen) (es : List ChangeValue) → all_drawing es ≡ true → SameShape s (replay f s es)
+  all_shape : (s : Screen) (es : List ChangeValue) → all_diff_entries es ≡ true → SameShape s (replay f s es)
   all_shape s [] h = same_shape s
-  all_shape s (e ∷ es) h = let p = and_parts (is_drawing e) (all_drawing es) h in then_shape (drawing_shape s e p.0) (all_shape (step f s e) es p.1)
+  all_shape s (e ∷ es) h = let p = and_parts (is_diff_entry e) (all_diff_entries es) h in then_shape (drawing_shape s e p.0) (all_shape (step f s e) es p.1)
 
   set_back : (s t : Screen) → SameShape s t → s.x ≤ s.width → s.y < s.height → replay f t (cursor_at s.x s.y ∷ change.AllAttributes s.pen ∷ []) ≡ record s { rows = t.rows }
   set_back s t z lx ly =
@@ -70,16 +70,16 @@ drawing_restores f s (e ∷ es) h lx ly =
     fold-append (step f) s (e ∷ es) (cursor_at s.x s.y ∷ change.AllAttributes s.pen ∷ []) ∙ set_back f s (replay f s (e ∷ es)) (all_shape f s (e ∷ es) h) lx ly
 
 -- drawing scrolls nothing
-drawing_fits : (h : ℕ) (e : ChangeValue) → is_drawing e ≡ true → region_fits h e ≡ true
+drawing_fits : (h : ℕ) (e : ChangeValue) → is_diff_entry e ≡ true → region_fits h e ≡ true
 drawing_fits h (change.CursorPosition x y) d = refl
 drawing_fits h (change.AllAttributes a) d = refl
 drawing_fits h (change.Text t) d = refl
 drawing_fits h _ d = absurd cc
 
-pub drawings_fit : (h : ℕ) (es : List ChangeValue) → all_drawing es ≡ true → regions_fit h es ≡ true
+pub drawings_fit : (h : ℕ) (es : List ChangeValue) → all_diff_entries es ≡ true → regions_fit h es ≡ true
 drawings_fit h [] d = refl
-drawings_fit h (e ∷ es) d = let p = and_parts (is_drawing e) (all_drawing es) d in rw (drawing_fits h e p.0) (drawings_fit h es p.1)
+drawings_fit h (e ∷ es) d = let p = and_parts (is_diff_entry e) (all_diff_entries es) d in rw (drawing_fits h e p.0) (drawings_fit h es p.1)
 
-pub restoring_fits : (h x y : ℕ) (pen : Attributes) (es : List ChangeValue) → all_drawing es ≡ true → regions_fit h (restoring x y pen es) ≡ true
+pub restoring_fits : (h x y : ℕ) (pen : Attributes) (es : List ChangeValue) → all_diff_entries es ≡ true → regions_fit h (restoring x y pen es) ≡ true
 restoring_fits h x y pen [] d = refl
 restoring_fits h x y pen (e ∷ es) d = regions-append h (e ∷ es) (cursor_at x y ∷ change.AllAttributes pen ∷ []) (drawings_fit h (e ∷ es) d) refl

@@ -3,7 +3,7 @@ use Rattle.std.proofs.Common.{◌≡◌, ℕ, ◌+◌, ◌-◌, ◌<◌, ◌≤�
 use Rattle.std.specs.List.{swap}
 use Rattle.std.proofs.lemmas.List.{take-append-drop, take_at, drop_at, drop-drop, drop_more, get_or_at, set_at, length_push, reverse-append, reverse-reverse, length-reverse}
 use Rattle.std.proofs.lemmas.List.Edits.{swap_is}
-use Rattle.termwiz_screen.specs.Regions.{region, region_reversed, region_turned}
+use Rattle.termwiz_screen.specs.ScrollRegions.{region, region_reversed, region_turned}
 
 -- a region between two other lists
 at_region : {X : Type 0} (p q r : List X) (a n : ℕ) → length p ≡ a → length q ≡ n → region_reversed (p ++ (q ++ r)) a n ≡ p ++ (reverse q ++ r)

@@ -3,15 +3,16 @@ use Rattle.std.proofs.Common.{◌≡◌, ℕ, zero, suc, ◌+◌, ◌<◌, ◌�
 use Rattle.std.proofs.lemmas.List.{set-set, set-get_or, get_or-set_same}
 use Rattle.std.proofs.lemmas.List.Sums.{fold-append, fold_push}
 use Rattle.std.proofs.lemmas.Bool.{cases_Bool, cond-true, cond-false}
-use Rattle.termwiz_cell.specs.Attributes.{Attributes, default_attributes, with_background, is_plain, attributes_eq, attributes_eq-Decides}
+use Rattle.termwiz_cell.specs.Attributes.{Attributes, default_attributes, with_background, has_only_background, attributes_eq, attributes_eq-Decides}
 use Rattle.termwiz_cell.specs.CellValue.{CellValue, space, blank, blank_of, is_wide, columns}
 use Rattle.termwiz_cell.specs.ChangeValue as change
 use Rattle.termwiz_cell.specs.ChangeValue.{ChangeValue}
 use Rattle.termwiz_storage.specs.Stored.{stored}
+use Rattle.termwiz_storage.specs.VisibleCell.{VisibleCell}
 use Rattle.termwiz_line.specs.Row.{is_hidden, visible_upto, paint, clear}
-use Rattle.termwiz_line.specs.Entries.{Penned, pen_entry, cell_out, cells_out, last_attrs, is_empty, clear_entry, with_tail, ends_plain, row_entries}
+use Rattle.termwiz_line.specs.Entries.{Penned, pen_entry, cell_out, cells_out, pen_behind, is_empty, clear_entry, with_tail, ends_plain, row_entries}
 use Rattle.termwiz_screen.specs.Screen.{Screen, row_at}
-use Rattle.termwiz_screen.specs.Print.{put}
+use Rattle.termwiz_screen.specs.Print.{put_at_cursor}
 use Rattle.termwiz_screen.specs.Step.{step, replay}
 use Rattle.termwiz_screen.specs.Printable.{IsPrintableRow, LeavesRow}
 use Rattle.termwiz_line.proofs.RowVisible.{paint_all, visible_hidden, visible_shown, reach, reach_hidden, reach_visible, hidden_narrow, painted_whole}
@@ -29,7 +30,7 @@ module _ (f : List ℕ → ℕ) (one : f space ≡ 1) (s : Screen) (r : List Cel
       replay f s (cell_out d (k, stored r k)).entries ≡ texts_before s r (suc k) (stored r k).attrs
   row_next k d l v e =
       replay_cell f s d (k, stored r k) (ap (λ (t : Screen). t.pen) e) (omega (arith, ap (λ (t : Screen). t.x) e, ap (λ (t : Screen). t.width) e, column)) (z.measured k l v)
-      ∙ ap (λ (t : Screen). put (record t { pen = c.attrs }) c) e
+      ∙ ap (λ (t : Screen). put_at_cursor (record t { pen = c.attrs }) c) e
       ∙ λ i. record s { rows = rows_are i; x = x_is (cases_Bool (is_wide c)) i; pen = c.attrs }
     where
       c : CellValue
@@ -96,7 +97,7 @@ module _ (f : List ℕ → ℕ) (one : f space ≡ 1) (s : Screen) (r : List Cel
         let row : paint_all (row_at s.rows s.y) (visible_upto r k) ≡ r = ap (λ u. paint_all u (visible_upto r k)) empty ∙ painted_trimmed s.width k r z.row t in
         λ i. record s { rows = set s.rows s.y (row i); x = min s.width (reach r k); pen = pen }
 
-    tail_done : (k : ℕ) (d : Penned) (kept : List (ℕ × CellValue)) (a : Attributes) → TailIs s.width r k (blank_of a) → is_plain a ≡ true →
+    tail_done : (k : ℕ) (d : Penned) (kept : List VisibleCell) (a : Attributes) → TailIs s.width r k (blank_of a) → has_only_background a ≡ true →
         replay f s d.entries ≡ texts_before s r k d.pen → LeavesRow s r (with_tail d kept a).pen (replay f s (with_tail d kept a).entries)
     tail_done k d kept a t h e =
         subst (LeavesRow s r (with_tail d kept a).pen)
@@ -122,11 +123,11 @@ module _ (f : List ℕ → ℕ) (one : f space ≡ 1) (s : Screen) (r : List Cel
     pub row_done : (p : Attributes) → s.x ≡ 0 → s.pen ≡ p → LeavesRow s r (row_entries p (visible_upto r s.width)).pen (replay f s (row_entries p (visible_upto r s.width)).entries)
     row_done p ex ep = done (cases_Bool (ends_plain cells))
       where
-        cells : List (ℕ × CellValue)
+        cells : List VisibleCell
         cells = visible_upto r s.width
 
         a : Attributes
-        a = last_attrs p cells
+        a = pen_behind p cells
 
         t : IsTrimmed r a s.width
         t = trimmed_columns f one s.width r a z s.width (le_refl s.width)

@@ -2,11 +2,12 @@
 use Rattle.std.proofs.Common.{◌≡◌, ℕ, zero, suc, ◌<◌, ◌≤◌, Bool, true, false, cond, List, [], ◌∷◌, length, arith, inl, inr, ◌⊎◌, bytes_eq, nat_lt, refl, sym, ap, ◌∙◌, subst}
 use Rattle.std.proofs.lemmas.Bool.{cases_eq, cases_lt, cases_Bool, and_parts, cond-true, false≢true}
 use Rattle.std.proofs.lemmas.Slice.Eq.{bytes_eq-Decides}
-use Rattle.termwiz_cell.specs.Attributes.{Attributes, is_plain, attributes_eq, attributes_eq-Decides}
+use Rattle.termwiz_cell.specs.Attributes.{Attributes, has_only_background, attributes_eq, attributes_eq-Decides}
 use Rattle.termwiz_cell.specs.CellValue.{CellValue, space, blank_of, is_wide}
 use Rattle.termwiz_storage.specs.Stored.{stored}
+use Rattle.termwiz_storage.specs.VisibleCell.{VisibleCell}
 use Rattle.termwiz_line.specs.Row.{is_hidden, visible_upto}
-use Rattle.termwiz_line.specs.Entries.{is_space_of, all_spaces, trimmed, last_attrs, ends_plain}
+use Rattle.termwiz_line.specs.Entries.{is_space_of, all_spaces, trimmed, pen_behind, ends_plain}
 use Rattle.termwiz_line.proofs.EntryLists.{all_spaces_push, trimmed_push, untrimmed_push}
 use Rattle.termwiz_screen.specs.Measured.{IsMeasured}
 use Rattle.termwiz_screen.specs.Printable.{IsPrintableRow}
@@ -14,20 +15,20 @@ use Rattle.termwiz_line.proofs.RowVisible.{visible_hidden, visible_shown, hidden
 use Rattle.termwiz_screen.proofs.RowTails.{TailIs}
 
 -- where the last cell is a plain space, something is left out
-pub trimmed_shorter : (a : Attributes) (ps : List (ℕ × CellValue)) → ends_plain ps ≡ true → length (trimmed (last_attrs a ps) ps) < length ps
+pub trimmed_shorter : (a : Attributes) (ps : List VisibleCell) → ends_plain ps ≡ true → length (trimmed (pen_behind a ps) ps) < length ps
 trimmed_shorter a [] h = absurd (false≢true h)
 trimmed_shorter a (p ∷ []) h =
-    let s : all_spaces p.1.attrs (p ∷ []) ≡ true = all_spaces_push p.1.attrs [] p (and_parts (is_space_of p.1.attrs p) (is_plain p.1.attrs) h).0 in
+    let s : all_spaces p.1.attrs (p ∷ []) ≡ true = all_spaces_push p.1.attrs [] p (and_parts (is_space_of p.1.attrs p) (has_only_background p.1.attrs) h).0 in
     omega (arith, ap length (cond-true (all_spaces p.1.attrs (p ∷ [])) [] (p ∷ []) s))
-trimmed_shorter a (p ∷ (q ∷ ps)) h = shorter (all_spaces (last_attrs p.1.attrs (q ∷ ps)) (p ∷ (q ∷ ps))) _ (trimmed_shorter p.1.attrs (q ∷ ps) h)
+trimmed_shorter a (p ∷ (q ∷ ps)) h = shorter (all_spaces (pen_behind p.1.attrs (q ∷ ps)) (p ∷ (q ∷ ps))) _ (trimmed_shorter p.1.attrs (q ∷ ps) h)
   where
-    shorter : (b : Bool) (l : List (ℕ × CellValue)) → length l < suc (length ps) → length (cond b [] (p ∷ l)) < suc (suc (length ps))
+    shorter : (b : Bool) (l : List VisibleCell) → length l < suc (length ps) → length (cond b [] (p ∷ l)) < suc (suc (length ps))
     shorter true l h = omega arith
     shorter false l h = omega arith
 
-pub last_is_plain : (a : Attributes) (ps : List (ℕ × CellValue)) → ends_plain ps ≡ true → is_plain (last_attrs a ps) ≡ true
+pub last_is_plain : (a : Attributes) (ps : List VisibleCell) → ends_plain ps ≡ true → has_only_background (pen_behind a ps) ≡ true
 last_is_plain a [] h = absurd (false≢true h)
-last_is_plain a (p ∷ []) h = (and_parts (is_space_of p.1.attrs p) (is_plain p.1.attrs) h).1
+last_is_plain a (p ∷ []) h = (and_parts (is_space_of p.1.attrs p) (has_only_background p.1.attrs) h).1
 last_is_plain a (p ∷ (q ∷ ps)) h = last_is_plain p.1.attrs (q ∷ ps) h
 
 -- the cells that are left are those before a column, and behind it the row is blank
@@ -93,7 +94,7 @@ module _ (f : List ℕ → ℕ) (one : f space ≡ 1) where
       }
 
 -- where the last cell is a plain space, the row behind the cells that are left is blank in its colour
-pub trimmed_tail : (w : ℕ) (r : List CellValue) (p : Attributes) → ends_plain (visible_upto r w) ≡ true → (t : IsTrimmed r (last_attrs p (visible_upto r w)) w) → TailIs w r t.kept (blank_of (last_attrs p (visible_upto r w)))
+pub trimmed_tail : (w : ℕ) (r : List CellValue) (p : Attributes) → ends_plain (visible_upto r w) ≡ true → (t : IsTrimmed r (pen_behind p (visible_upto r w)) w) → TailIs w r t.kept (blank_of (pen_behind p (visible_upto r w)))
 trimmed_tail w r p h t = record { inside = inside; visible = (t.same t.kept (omega arith) inside).1; same = λ j m n. (t.same j m n).0 }
   where
     inside : t.kept < w

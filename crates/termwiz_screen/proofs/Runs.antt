@@ -15,7 +15,7 @@ use Rattle.termwiz_screen.specs.declared.print.Piece.TheVariants.{Cell}
 use Rattle.termwiz_cell.specs.Graphemes.{single}
 use Rattle.termwiz_screen.specs.Kept.{Kept}
 use Rattle.termwiz_screen.specs.Screen.{Screen}
-use Rattle.termwiz_screen.specs.Print.{piece_of, print_piece, print_one, put, put_kept, printed_cell, piece_kept, one_kept, kept_after, wraps, wrapped, wrapped_kept, columns_left}
+use Rattle.termwiz_screen.specs.Print.{piece_of, print_piece, print_one, put_at_cursor, put_kept, printed_cell, piece_kept, one_kept, kept_after, wraps, wrapped, wrapped_kept, columns_left}
 use Rattle.termwiz_screen.specs.Runs.{AreNarrow}
 use Rattle.termwiz_screen.specs.Measured.{IsMeasured}
 use Rattle.termwiz_cell.proofs.Graphemes.{graphemes-nothing, single_same}
@@ -79,7 +79,7 @@ module _ (f : List ℕ → ℕ) (s : Screen) (k : Kept) (g : List ℕ) (gs : Lis
   piece-wrapped = ap (λ (a : Attributes). piece_of f a g) (pen-wrapped s) ∙ is_text
 
   print-wrapped : print_one f (wrapped s) g ≡ print_one f s g
-  print-wrapped = ap (print_piece (wrapped s)) piece-wrapped ∙ ap (λ (z : Screen). put z (printed_cell f s.pen g)) wrapped-twice ∙ sym (ap (print_piece s) is_text)
+  print-wrapped = ap (print_piece (wrapped s)) piece-wrapped ∙ ap (λ (z : Screen). put_at_cursor z (printed_cell f s.pen g)) wrapped-twice ∙ sym (ap (print_piece s) is_text)
 
   kept-wrapped : one_kept f (wrapped s) g (wrapped_kept s k) ≡ one_kept f s g k
   kept-wrapped =

@@ -9,7 +9,7 @@ use Rattle.termwiz_line.specs.LineFlags.{no_flags}
 use Rattle.termwiz_line.specs.LineValue.{LineValue}
 use Rattle.termwiz_line.specs.Row.{row_of}
 use Rattle.termwiz_line.proofs.StoredRows.{row_blank}
-use Rattle.termwiz_screen.specs.Regions.{region_up, region_down}
+use Rattle.termwiz_screen.specs.ScrollRegions.{region_up, region_down}
 use Rattle.termwiz_screen.specs.Rows.{ArePartlyReset}
 use Rattle.termwiz_screen.specs.Screen.{row_at}
 use Rattle.termwiz_screen.specs.ScreenValue.{cells_of, numberless}

@@ -10,8 +10,9 @@ use Rattle.std.specs.Cmp.Lexicographic.{pointwise}
 use Rattle.termwiz_cell.specs.Attributes.{Attributes, default_attributes}
 use Rattle.termwiz_cell.specs.CellValue.{CellValue, blank, columns, is_wide, cell_eq, cell_eq-Decides}
 use Rattle.termwiz_storage.specs.Stored.{stored, visible, hides}
+use Rattle.termwiz_storage.specs.VisibleCell.{VisibleCell}
 use Rattle.termwiz_line.specs.Row.{IsRow, is_hidden, visible_upto, row_of}
-use Rattle.termwiz_line.specs.Entries.{last_attrs, all_spaces}
+use Rattle.termwiz_line.specs.Entries.{pen_behind, all_spaces}
 use Rattle.termwiz_screen.specs.Padding.{IsPaddable, blanks_from, all_are}
 use Rattle.termwiz_line.proofs.RowOf.{length-row_of, row_of_at, settled_visible, hidden_row, row_of_row, visible_row}
 use Rattle.termwiz_line.proofs.EntryLists.{all_spaces_push}
@@ -75,25 +76,25 @@ length-blanks x zero = refl
 length-blanks x (suc n) = length-append (blanks_from x n) ((x + n, blank) ∷ []) ∙ omega (arith, length-blanks x n)
 
 -- the attributes of the last column
-last_pushed : (p : Attributes) (ps : List (ℕ × CellValue)) (k : ℕ) (c : CellValue) → last_attrs p (ps ++ (k, c) ∷ []) ≡ c.attrs
+last_pushed : (p : Attributes) (ps : List VisibleCell) (k : ℕ) (c : CellValue) → pen_behind p (ps ++ (k, c) ∷ []) ≡ c.attrs
 last_pushed p [] k c = refl
 last_pushed p (q ∷ ps) k c = last_pushed q.1.attrs ps k c
 
-last_shown : (w : ℕ) (r : List CellValue) → IsRow w r → (p : Attributes) (k : ℕ) → k < w → last_attrs p (visible_upto r (suc k)) ≡ (stored r k).attrs
+last_shown : (w : ℕ) (r : List CellValue) → IsRow w r → (p : Attributes) (k : ℕ) → k < w → pen_behind p (visible_upto r (suc k)) ≡ (stored r k).attrs
 last_shown w r z p zero l = refl
 last_shown w r z p (suc k) l = elim (cases_Bool (is_hidden r (suc k))) [
-  | inl t ↦ ap (last_attrs p) (visible_hidden r (suc k) t) ∙ last_shown w r z p k (omega arith) ∙ sym (ap (λ (c : CellValue). c.attrs) (z.settled k l t))
-  | inr f ↦ ap (last_attrs p) (visible_shown r (suc k) f) ∙ last_pushed p (visible_upto r (suc k)) (suc k) (stored r (suc k))
+  | inl t ↦ ap (pen_behind p) (visible_hidden r (suc k) t) ∙ last_shown w r z p k (omega arith) ∙ sym (ap (λ (c : CellValue). c.attrs) (z.settled k l t))
+  | inr f ↦ ap (pen_behind p) (visible_shown r (suc k) f) ∙ last_pushed p (visible_upto r (suc k)) (suc k) (stored r (suc k))
 ]
 
-pub last_column : (w : ℕ) (cs : List CellValue) (p : Attributes) → IsPaddable w cs → 0 < w → length cs ≡ w → last_attrs p (visible cs) ≡ (stored (row_of w cs) (w - 1)).attrs
+pub last_column : (w : ℕ) (cs : List CellValue) (p : Attributes) → IsPaddable w cs → 0 < w → length cs ≡ w → pen_behind p (visible cs) ≡ (stored (row_of w cs) (w - 1)).attrs
 last_column w cs p z l e =
     let last : suc (w - 1) ≡ w = omega arith in
-    ap (last_attrs p) (full_visible w cs z e ∙ ap (visible_upto (row_of w cs)) (sym last))
+    ap (pen_behind p) (full_visible w cs z e ∙ ap (visible_upto (row_of w cs)) (sym last))
     ∙ last_shown w (row_of w cs) (row_of_row w cs) p (w - 1) (omega arith)
 
 -- a row of one cell
-all_appended : (c : CellValue) (ps qs : List (ℕ × CellValue)) → all_are c (ps ++ qs) ≡ (all_are c ps && all_are c qs)
+all_appended : (c : CellValue) (ps qs : List VisibleCell) → all_are c (ps ++ qs) ≡ (all_are c ps && all_are c qs)
 all_appended c [] qs = refl
 all_appended c (p ∷ ps) qs = ap (λ b. cell_eq p.1 c && b) (all_appended c ps qs) ∙ sym (and_assoc (cell_eq p.1 c) (all_are c ps) (all_are c qs))
 
@@ -103,7 +104,7 @@ module _ (c : CellValue) (narrow : is_wide c ≡ false) (r : List CellValue) whe
   none_hidden (suc n) h = ap is_wide (h n (omega arith)) ∙ narrow
 
   -- what column n adds
-  column : ℕ → List (ℕ × CellValue)
+  column : ℕ → List VisibleCell
   column n = cond (is_hidden r n) [] ((n, stored r n) ∷ [])
 
   next_column : (n : ℕ) → ((k : ℕ) → k < n → stored r k ≡ c) → all_are c (column n) ≡ true → (k : ℕ) → k < suc n → stored r k ≡ c

@@ -6,17 +6,18 @@ use Rattle.std.proofs.lemmas.List.Sums.{fold-append}
 use Rattle.std.proofs.lemmas.Bool.{cases_lt, and_from, and_left, not_from_false, false≢true}
 use Rattle.termwiz_cell.specs.CellValue.{CellValue, blank, columns, is_wide}
 use Rattle.termwiz_storage.specs.Stored.{stored, visible, visible_from, hides}
+use Rattle.termwiz_storage.specs.VisibleCell.{VisibleCell}
 use Rattle.termwiz_line.specs.Row.{is_hidden, row_of}
 use Rattle.termwiz_line.proofs.RowOf.{hidden_row, row_of_at, settled_visible}
-use Rattle.termwiz_screen.specs.Diff.{shows, row_need, in_row, Drawn, print_out}
+use Rattle.termwiz_screen.specs.Diff.{shows, row_need, in_row, PrintedOut, print_out}
 use Rattle.termwiz_screen.specs.Walked.{EndsBlank}
 
 -- a walk of stored cells stands at the start of a cell at column k, and has this left
-pub record IsAt (cs : List CellValue) (k : ℕ) (left : List (ℕ × CellValue)) : Type 0 where
+pub record IsAt (cs : List CellValue) (k : ℕ) (left : List VisibleCell) : Type 0 where
   pub rest : left ≡ visible_from k 0 (drop k cs)
   pub starts : hides cs k ≡ false
 
-pub at_start : (cs : List CellValue) (left : List (ℕ × CellValue)) → left ≡ visible cs → IsAt cs 0 left
+pub at_start : (cs : List CellValue) (left : List VisibleCell) → left ≡ visible cs → IsAt cs 0 left
 at_start cs left e = record { rest = e; starts = refl }
 
 skip_one : (i : ℕ) (l : List CellValue) → visible_from i 1 l ≡ visible_from (i + 1) 0 (drop 1 l)
@@ -30,7 +31,7 @@ drop_one k cs = elim (cases_lt k (length cs)) [
 ]
 
 -- what is behind the first cell
-behind : (cs : List CellValue) (k : ℕ) (wide : Bool) (more : List (ℕ × CellValue)) → is_wide (stored cs k) ≡ wide → hides cs k ≡ false →
+behind : (cs : List CellValue) (k : ℕ) (wide : Bool) (more : List VisibleCell) → is_wide (stored cs k) ≡ wide → hides cs k ≡ false →
     more ≡ visible_from (k + 1) (cond {A = ℕ} wide 2 1 - 1) (drop (suc k) cs) → IsAt cs (k + cond wide 2 1) more
 behind cs k true more w h e = record {
   rest = e ∙ skip_one (k + 1) (drop (suc k) cs) ∙ ap₂ (λ i l. visible_from i 0 l) two (drop_one (suc k) cs ∙ ap (λ i. drop i cs) next);
@@ -61,17 +62,17 @@ behind cs k false more w h e = record {
     next = omega arith
 
 -- one more cell
-pub record IsNext (cs : List CellValue) (k : ℕ) (p : ℕ × CellValue) (more : List (ℕ × CellValue)) : Type 0 where
+pub record IsNext (cs : List CellValue) (k : ℕ) (p : VisibleCell) (more : List VisibleCell) : Type 0 where
   pub within : k < length cs
   pub cell : p.1 ≡ stored cs k
   pub at : IsAt cs (k + columns p.1) more
 
-pub at_next : (cs : List CellValue) (k : ℕ) (left : List (ℕ × CellValue)) (p : ℕ × CellValue) (more : List (ℕ × CellValue)) → IsAt cs k left → left ≡ p ∷ more → IsNext cs k p more
+pub at_next : (cs : List CellValue) (k : ℕ) (left : List VisibleCell) (p : VisibleCell) (more : List VisibleCell) → IsAt cs k left → left ≡ p ∷ more → IsNext cs k p more
 at_next cs k left p more z e = elim (cases_lt k (length cs)) [
   | inr l ↦ absurd (none (sym e ∙ z.rest ∙ ap (visible_from k 0) (drop_all k cs l)))
   | inl l ↦
       let same : p ∷ more ≡ (k, stored cs k) ∷ visible_from (k + 1) (columns (stored cs k) - 1) (drop (suc k) cs) = sym e ∙ z.rest ∙ ap (visible_from k 0) (drop-cons cs k blank l) in
-      let cell : p.1 ≡ stored cs k = ap (λ (q : ℕ × CellValue). q.1) (ap (λ ps. get_or ps 0 p) same) in
+      let cell : p.1 ≡ stored cs k = ap (λ (q : VisibleCell). q.1) (ap (λ ps. get_or ps 0 p) same) in
       record {
         within = l;
         cell = cell;
@@ -80,14 +81,14 @@ at_next cs k left p more z e = elim (cases_lt k (length cs)) [
 ]
   where
     none : p ∷ more ≡ [] → ⊥
-    none h = false≢true (ap (λ (l : List (ℕ × CellValue)). is_none l) (sym h))
+    none h = false≢true (ap (λ (l : List VisibleCell). is_none l) (sym h))
       where
-        is_none : List (ℕ × CellValue) → Bool
+        is_none : List VisibleCell → Bool
         is_none [] = false
         is_none (x ∷ xs) = true
 
 -- nothing is left: what follows is blank
-pub at_end : (w : ℕ) (cs : List CellValue) (k : ℕ) (left : List (ℕ × CellValue)) → IsAt cs k left → left ≡ [] → EndsBlank w (row_of w cs) k
+pub at_end : (w : ℕ) (cs : List CellValue) (k : ℕ) (left : List VisibleCell) → IsAt cs k left → left ≡ [] → EndsBlank w (row_of w cs) k
 at_end w cs k left z e = record {
   blanks = λ j a b. row_of_at w cs j b ∙ settled_visible cs j (shown j a) ∙ get_or_past cs j blank (omega (arith, over));
   starts = λ j a b. hidden_row w cs j (omega arith) ∙ shown j a;
@@ -99,11 +100,11 @@ at_end w cs k left z e = record {
       | inl l ↦ absurd (some (sym e ∙ z.rest ∙ ap (visible_from k 0) (drop-cons cs k blank l)))
     ]
       where
-        is_some : List (ℕ × CellValue) → Bool
+        is_some : List VisibleCell → Bool
         is_some [] = false
         is_some (x ∷ xs) = true
 
-        some : {p : ℕ × CellValue} {ps : List (ℕ × CellValue)} → [] ≡ p ∷ ps → ⊥
+        some : {p : VisibleCell} {ps : List VisibleCell} → [] ≡ p ∷ ps → ⊥
         some h = false≢true (ap is_some h)
 
     shown : (j : ℕ) → k ≤ j → hides cs j ≡ false
@@ -131,7 +132,7 @@ module _ (own : List CellValue) (x : ℕ) (b : List CellValue) (q : ℕ) where
   needed_hidden m h = (λ i. row_need own x b q m ++ cond (h i || shows own (x + m) (stored b (q + m))) [] ((x + m, stored b (q + m)) ∷ [])) ∙ append-nil (row_need own x b q m)
 
 -- more cells are printed
-pub one_more : (row : ℕ) (d e g : Drawn) (ps last all : List (ℕ × CellValue)) → all ≡ ps ++ last → e ≡ fold print_out d (map (in_row row) ps) → g ≡ fold print_out e (map (in_row row) last) →
+pub one_more : (row : ℕ) (d e g : PrintedOut) (ps last all : List VisibleCell) → all ≡ ps ++ last → e ≡ fold print_out d (map (in_row row) ps) → g ≡ fold print_out e (map (in_row row) last) →
     g ≡ fold print_out d (map (in_row row) all)
 one_more row d e g ps last all h u v =
     v ∙ ap (λ y. fold print_out y (map (in_row row) last)) u
@@ -148,7 +149,7 @@ needed_nothing own p m =
     needed_shown own p [] 0 m m blank same (hidden_nothing m) (get_or_past [] m blank (omega arith))
 
 -- one more default blank
-pub blank_next : (own : List CellValue) (from k row : ℕ) (c : CellValue) (d e g : Drawn) → c ≡ blank → e ≡ fold print_out d (map (in_row row) (row_need own from [] 0 k)) →
+pub blank_next : (own : List CellValue) (from k row : ℕ) (c : CellValue) (d e g : PrintedOut) → c ≡ blank → e ≡ fold print_out d (map (in_row row) (row_need own from [] 0 k)) →
     g ≡ fold print_out e (map (in_row row) (cond (shows own (from + k) c) [] ((from + k, c) ∷ []))) → g ≡ fold print_out d (map (in_row row) (row_need own from [] 0 (k + 1)))
 blank_next own from k row c d e g s u v =
     let next : k + 1 ≡ suc k = omega arith in
@@ -175,14 +176,14 @@ module _ (own : List CellValue) (x : ℕ) (cs : List CellValue) (q n w row : ℕ
         ap (row_need own x (row_of w cs) q) same
   ]
 
-  pub printed_next : (d e g : Drawn) (k : ℕ) (c : CellValue) → c ≡ stored cs k → hides cs k ≡ false → q ≤ k → k < q + n → q + n ≤ w →
+  pub printed_next : (d e g : PrintedOut) (k : ℕ) (c : CellValue) → c ≡ stored cs k → hides cs k ≡ false → q ≤ k → k < q + n → q + n ≤ w →
       e ≡ fold print_out d (map (in_row row) (row_need own x (row_of w cs) q (min n (k - q)))) → g ≡ fold print_out e (map (in_row row) (cond (shows own (x + (k - q)) c) [] ((x + (k - q), c) ∷ []))) →
       g ≡ fold print_out d (map (in_row row) (row_need own x (row_of w cs) q (min n (k + columns c - q))))
   printed_next d e g k c s h a b l u v =
       let there : q + (k - q) ≡ k = omega arith in
       let before : k - q ≡ min n (k - q) = omega arith in
       let inside : k < w = omega arith in
-      let last : List (ℕ × CellValue) = cond (shows own (x + (k - q)) c) [] ((x + (k - q), c) ∷ []) in
+      let last : List VisibleCell = cond (shows own (x + (k - q)) c) [] ((x + (k - q), c) ∷ []) in
       one_more row d e g (row_need own x (row_of w cs) q (min n (k - q))) last (row_need own x (row_of w cs) q (min n (k + columns c - q)))
       (ap (λ (y : CellValue). row_need own x (row_of w cs) q (min n (k + columns y - q))) s
       ∙ needed_two k (is_wide (stored cs k)) refl h a b l
@@ -203,7 +204,7 @@ module _ (own : List CellValue) (x : ℕ) (cs : List CellValue) (q n w row : ℕ
         ap (row_need own x (row_of w cs) q) same ∙ needed_hidden own x (row_of w cs) q 0 (ap (is_hidden (row_of w cs)) (sym there) ∙ next_hidden k h s (omega arith))
   ]
 
-  pub skipped_next : (d e : Drawn) (k : ℕ) (c : CellValue) → c ≡ stored cs k → hides cs k ≡ false → k < q → q + n ≤ w →
+  pub skipped_next : (d e : PrintedOut) (k : ℕ) (c : CellValue) → c ≡ stored cs k → hides cs k ≡ false → k < q → q + n ≤ w →
       e ≡ fold print_out d (map (in_row row) (row_need own x (row_of w cs) q (min n (k - q)))) → e ≡ fold print_out d (map (in_row row) (row_need own x (row_of w cs) q (min n (k + columns c - q))))
   skipped_next d e k c s h a l u =
       let nothing : min n (k - q) ≡ 0 = omega arith in

@@ -5,6 +5,7 @@ use Rattle.termwiz_cell.specs.CellValue.{CellValue, columns, cell_eq}
 use Rattle.termwiz_cell.specs.ChangeValue as change
 use Rattle.termwiz_cell.specs.ChangeValue.{ChangeValue}
 use Rattle.termwiz_storage.specs.Stored.{stored}
+use Rattle.termwiz_storage.specs.VisibleCell.{VisibleCell}
 use Rattle.termwiz_line.specs.Row.{is_hidden}
 use Rattle.termwiz_line.specs.Entries.{add_text, pen_entry}
 use Rattle.termwiz_screen.specs.Place.{cursor_at}
@@ -16,7 +17,7 @@ abbrev pub shows : List CellValue → ℕ → CellValue → Bool
 shows r k c = not (is_hidden r k) && cell_eq (stored r k) c
 
 -- of the n columns from q on of b: the cells that start there and that a does not show at their places, from column p on
-abbrev pub row_need : List CellValue → ℕ → List CellValue → ℕ → ℕ → List (ℕ × CellValue)
+abbrev pub row_need : List CellValue → ℕ → List CellValue → ℕ → ℕ → List VisibleCell
 row_need a p b q zero = []
 row_need a p b q (suc k) = row_need a p b q k ++ cond (is_hidden b (q + k) || shows a (p + k) (stored b (q + k))) [] ((p + k, stored b (q + k)) ∷ [])
 
@@ -37,7 +38,7 @@ fitting n v p w q = min n (min (v - p) (w - q))
 abbrev pub cut : Region → ℕ → ℕ → ℕ → ℕ → Region
 cut r v h w g = record r { width = fitting r.width v r.x w r.other_x; height = fitting r.height h r.y g r.other_y }
 
-abbrev pub in_row : ℕ → ℕ × CellValue → Print
+abbrev pub in_row : ℕ → VisibleCell → Print
 in_row i p = record { row = i; column = p.0; cell = p.1 }
 
 -- the cells of the region's first rows of b that a does not show at their places, row by row
@@ -58,7 +59,7 @@ abbrev pub end_of : Print → End
 end_of p = record { x = p.column + columns p.cell; y = p.row; pen = p.cell.attrs }
 
 -- changes, and where the last cell that they print ended; before the first one nothing is known
-pub record Drawn : Type 0 where
+pub record PrintedOut : Type 0 where
   pub entries : List ChangeValue
   pub end : Option End
 
@@ -72,15 +73,15 @@ abbrev pub pen_to : Option End → Print → List ChangeValue
 pen_to None p = change.AllAttributes p.cell.attrs ∷ []
 pen_to (Some e) p = pen_entry e.pen p.cell.attrs
 
-abbrev pub print_out : Drawn → Print → Drawn
+abbrev pub print_out : PrintedOut → Print → PrintedOut
 print_out d p = record { entries = add_text ((d.entries ++ move_to d.end p) ++ pen_to d.end p) p.cell.text; end = Some (end_of p) }
 
-abbrev pub nothing_drawn : Drawn
-nothing_drawn = record { entries = []; end = None }
+abbrev pub nothing_printed : PrintedOut
+nothing_printed = record { entries = []; end = None }
 
 -- the changes that print these cells
 abbrev pub prints_out : List Print → List ChangeValue
-prints_out ps = (fold print_out nothing_drawn ps).entries
+prints_out ps = (fold print_out nothing_printed ps).entries
 
 -- the changes that print what b's region shows and a's does not
 abbrev pub diff : List (List CellValue) → List (List CellValue) → Region → List ChangeValue
@@ -95,15 +96,15 @@ abbrev pub band : ℕ → ℕ → ℕ → ℕ → Region
 band w y z n = record { x = 0; y = y; width = w; height = n; other_x = 0; other_y = z }
 
 -- a move, a pen or a text
-abbrev pub is_drawing : ChangeValue → Bool
-is_drawing (change.CursorPosition x y) = true
-is_drawing (change.AllAttributes attrs) = true
-is_drawing (change.Text text) = true
-is_drawing _ = false
+abbrev pub is_diff_entry : ChangeValue → Bool
+is_diff_entry (change.CursorPosition x y) = true
+is_diff_entry (change.AllAttributes attrs) = true
+is_diff_entry (change.Text text) = true
+is_diff_entry _ = false
 
-abbrev pub all_drawing : List ChangeValue → Bool
-all_drawing [] = true
-all_drawing (e ∷ es) = is_drawing e && all_drawing es
+abbrev pub all_diff_entries : List ChangeValue → Bool
+all_diff_entries [] = true
+all_diff_entries (e ∷ es) = is_diff_entry e && all_diff_entries es
 
 -- drawing leaves the cursor and the pen as they were: where something was drawn they are set again
 abbrev pub restoring : ℕ → ℕ → Attributes → List ChangeValue → List ChangeValue

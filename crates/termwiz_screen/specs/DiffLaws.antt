@@ -8,7 +8,7 @@ use Rattle.termwiz_screen.specs.Step.{replay}
 use Rattle.termwiz_screen.specs.Measured.{IsMeasured}
 use Rattle.termwiz_screen.specs.Printable.{ArePrintable, IsPrintableRow}
 use Rattle.termwiz_screen.specs.Prints.{Print, print_all}
-use Rattle.termwiz_screen.specs.Diff.{Region, shows, row_need, need, prints_out, diff, cut, whole, band, all_drawing, restoring}
+use Rattle.termwiz_screen.specs.Diff.{Region, shows, row_need, need, prints_out, diff, cut, whole, band, all_diff_entries, restoring}
 use Rattle.termwiz_screen.specs.DiffRegions.{AreRows, IsInside, CrossNone, HaveRegion}
 use Rattle.termwiz_screen.specs.DiffLists.{IsDiff}
 
@@ -65,5 +65,5 @@ LinesArePrintable = (f : List ℕ → ℕ) → f space ≡ 1 → (w : ℕ) (cell
 
 -- what drawing restores: all but the rows is as before
 abbrev pub DrawingRestores : Type 0
-DrawingRestores = (f : List ℕ → ℕ) (s : Screen) (l : List ChangeValue) → all_drawing l ≡ true → s.x ≤ s.width → s.y < s.height →
+DrawingRestores = (f : List ℕ → ℕ) (s : Screen) (l : List ChangeValue) → all_diff_entries l ≡ true → s.x ≤ s.width → s.y < s.height →
     replay f s (restoring s.x s.y s.pen l) ≡ record s { rows = (replay f s l).rows }

@@ -24,5 +24,5 @@ pub record AreApart (first : List ChangeValue) : Type 0 where
   pub no_clear : (a : Attributes) → last_is (is_clear_of a) first ≡ false
 
 -- the rows above row i are written behind these entries, and nothing of that row
-pub record IsDrawnUpto (first : List ChangeValue) (w : ℕ) (rows : List (List CellValue)) (i : ℕ) (writer : Writing) : Type 0 where
+pub record IsWrittenUpto (first : List ChangeValue) (w : ℕ) (rows : List (List CellValue)) (i : ℕ) (writer : Writing) : Type 0 where
   pub printed : writer.printed ≡ behind first (rows_upto w rows i)

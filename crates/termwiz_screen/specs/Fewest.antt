@@ -10,8 +10,8 @@ use Rattle.termwiz_screen.specs.DiffRegions.{AreRows}
 abbrev pub IsNarrow : List CellValue → Type 0
 IsNarrow r = (k : ℕ) → is_wide (stored r k) ≡ false
 
-abbrev pub AreNarrow : List (List CellValue) → Type 0
-AreNarrow rows = (i : ℕ) → IsNarrow (row_at rows i)
+abbrev pub AreNarrowRows : List (List CellValue) → Type 0
+AreNarrowRows rows = (i : ℕ) → IsNarrow (row_at rows i)
 
 abbrev pub PrintsWithin : ℕ → ℕ → List Print → Type 0
 PrintsWithin w h [] = Unit {0}
@@ -26,5 +26,5 @@ abbrev pub FewestPrints : Type 0
 FewestPrints = (w h : ℕ) (a b : List (List CellValue)) (ps : List Print) → AreRows w h a → PrintsWithin w h ps → print_all a ps ≡ b → length (need a b (whole w h)) ≤ 3 * length ps
 
 abbrev pub FewestNarrowPrints : Type 0
-FewestNarrowPrints = (w h : ℕ) (a b : List (List CellValue)) (ps : List Print) → AreRows w h a → PrintsWithin w h ps → AreNarrow a → NarrowPrints ps → print_all a ps ≡ b →
+FewestNarrowPrints = (w h : ℕ) (a b : List (List CellValue)) (ps : List Print) → AreRows w h a → PrintsWithin w h ps → AreNarrowRows a → NarrowPrints ps → print_all a ps ≡ b →
     length (need a b (whole w h)) ≤ length ps

@@ -13,7 +13,7 @@ use Rattle.termwiz_screen.specs.Printable.{IsPrintable}
 use Rattle.termwiz_screen.specs.Repaint.{full_repaint}
 use Rattle.termwiz_screen.specs.Screen.{Screen}
 use Rattle.termwiz_screen.specs.Step.{step, replay, replay_kept}
-use Rattle.termwiz_screen.specs.Regions.{region_up, region_down}
+use Rattle.termwiz_screen.specs.ScrollRegions.{region_up, region_down}
 use Rattle.termwiz_screen.specs.Resized.{resized_screen, resized_kept}
 
 -- the full screen after changes depends on the full screen before them alone

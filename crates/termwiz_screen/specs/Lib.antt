@@ -22,7 +22,7 @@ pub mod FullScreen
 pub mod Picture
 pub mod FullScreenValue
 pub mod Sides
-pub mod Regions
+pub mod ScrollRegions
 pub mod Resized
 pub mod Prints
 pub mod Diff

@@ -19,8 +19,8 @@ abbrev pub reaches : LogValue → ℕ → Bool
 reaches l n = nat_le l.first n && nat_le n (next_number l)
 
 -- how many changes are worth sending where a screen of this size could be repainted
-abbrev pub worth : ℕ → ℕ → ℕ
-worth w h = 3 + (6 * (w * h)) / 5
+abbrev pub delta_limit : ℕ → ℕ → ℕ
+delta_limit w h = 3 + (6 * (w * h)) / 5
 
 -- the log has what is due from number n on, and that is worth sending; 0 is no number that a viewer was given
 abbrev pub is_known : ℕ → LogValue → ℕ → Bool

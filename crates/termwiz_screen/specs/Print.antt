@@ -25,8 +25,8 @@ down s = record s { rows = if has_below s then s.rows else scrolled s.width s.ro
 abbrev pub returned : Screen → Screen
 returned s = record s { x = 0 }
 
-abbrev pub put : Screen → CellValue → Screen
-put s c = record s { rows = set s.rows s.y (paint (row_at s.rows s.y) s.x c); x = min (s.x + columns c) s.width }
+abbrev pub put_at_cursor : Screen → CellValue → Screen
+put_at_cursor s c = record s { rows = set s.rows s.y (paint (row_at s.rows s.y) s.x c); x = min (s.x + columns c) s.width }
 
 abbrev pub wraps : Screen → Bool
 wraps s = s.x == s.width
@@ -54,7 +54,7 @@ abbrev pub print_piece : Screen → Piece → Screen
 print_piece s CarriageReturn = returned s
 print_piece s LineFeed = down s
 print_piece s CarriageReturnLineFeed = returned (down s)
-print_piece s (Cell c) = put (wrapped s) c
+print_piece s (Cell c) = put_at_cursor (wrapped s) c
 
 -- a grapheme is printed
 abbrev pub print_one : (List ℕ → ℕ) → Screen → List ℕ → Screen

@@ -9,7 +9,7 @@ use Rattle.termwiz_cell.specs.declared.change.Position.TheVariants as position
 use Rattle.termwiz_cell.specs.declared.change.CursorShape.{CursorShape}
 use Rattle.termwiz_cell.specs.declared.change.CursorVisibility.{CursorVisibility}
 use Rattle.termwiz_cell.specs.declared.change.CursorVisibility.TheVariants as cursor
-use Rattle.termwiz_cell.specs.Attributes.{Attributes, default_attributes, attributes_eq, is_plain}
+use Rattle.termwiz_cell.specs.Attributes.{Attributes, default_attributes, attributes_eq, has_only_background}
 use Rattle.termwiz_cell.specs.CellValue.{CellValue, blank_of, cell_eq}
 use Rattle.termwiz_cell.specs.ChangeValue as change
 use Rattle.termwiz_cell.specs.ChangeValue.{ChangeValue}
@@ -68,7 +68,7 @@ bottom w h rows = first_blank w (bottom_attrs w h rows) rows h
 -- there are blank rows at the bottom, in a background that is not the default one, and the row that clears them is not the last
 abbrev pub joins_rows : ℕ → ℕ → List (List CellValue) → Bool
 joins_rows w h rows =
-    (is_plain (bottom_attrs w h rows) && not (attributes_eq (bottom_attrs w h rows) default_attributes))
+    (has_only_background (bottom_attrs w h rows) && not (attributes_eq (bottom_attrs w h rows) default_attributes))
     && (ltb (bottom w h rows) h && ltb (suc (joined_row w (bottom_attrs w h rows) rows (bottom w h rows))) h)
 
 -- the entries of all rows: blank rows at the bottom in one background are left to one clear to the end of the screen

@@ -12,7 +12,7 @@ use Rattle.termwiz_screen.specs.Kept.{Kept, with_line_attribute}
 use Rattle.termwiz_screen.specs.Print.{print, print_kept}
 use Rattle.termwiz_screen.specs.Clear.{clear_eol, clear_eos, clear_screen, eol_lengths, eos_lengths, screen_lengths}
 use Rattle.termwiz_screen.specs.Place.{placed}
-use Rattle.termwiz_screen.specs.Regions.{region_up, region_down}
+use Rattle.termwiz_screen.specs.ScrollRegions.{region_up, region_down}
 
 -- the screen after a change, by a width function
 abbrev pub step : (List ℕ → ℕ) → Screen → ChangeValue → Screen

@@ -5,7 +5,7 @@ use Rattle.std.specs.declared.borrow.CowSlice.{CowSlice}
 use Rattle.std.specs.declared.alloc.Global.{Global}
 use Rattle.termwiz_cell.specs.declared.change.Change.{Change}
 use Rattle.termwiz_cell.specs.ChangeValue.{ChangeValue, change_value}
-use Rattle.termwiz_screen.specs.Log.{LogValue, due, is_known, worth}
+use Rattle.termwiz_screen.specs.Log.{LogValue, due, is_known, delta_limit}
 use Rattle.termwiz_screen.specs.FullScreen.{FullScreen}
 use Rattle.termwiz_screen.specs.Picture.{Pictures, screens, full_screens, played}
 use Rattle.termwiz_screen.specs.Screen.{Screen}
@@ -20,8 +20,8 @@ pub record Lends (stream : CowSlice Change Global) (changes : List ChangeValue) 
 
 -- what brings a viewer to a picture from the number n that it was last given: what is due where that is known, and else changes that bring any picture of that size to this one
 pub record Brings {P : Type 0} (pictures : Pictures P) (measure : List ℕ → ℕ) (p : P) (log : LogValue) (n : ℕ) (changes : List ChangeValue) : Type 0 where
-  pub known : is_known (worth (pictures.screen p).width (pictures.screen p).height) log n ≡ true → changes ≡ due log n
-  pub repaint : is_known (worth (pictures.screen p).width (pictures.screen p).height) log n ≡ false → (t : P) → pictures.IsSized (pictures.screen p).width (pictures.screen p).height t → played pictures measure t changes ≡ p
+  pub known : is_known (delta_limit (pictures.screen p).width (pictures.screen p).height) log n ≡ true → changes ≡ due log n
+  pub repaint : is_known (delta_limit (pictures.screen p).width (pictures.screen p).height) log n ≡ false → (t : P) → pictures.IsSized (pictures.screen p).width (pictures.screen p).height t → played pictures measure t changes ≡ p
 
 -- to a screen
 abbrev pub IsStream : (List ℕ → ℕ) → Screen → LogValue → ℕ → List ChangeValue → Type 0

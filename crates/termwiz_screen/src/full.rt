@@ -3,7 +3,7 @@ ghost use Rattle.std.specs.Prelude.{◌≡◌, ◌↔◌, IsTrue, IfOk, bytes_eq
 ghost use Rattle.std.specs.Cmp.{decided, on_equiv, on_per, partial_equiv_from_equiv};
 ghost use Rattle.std.specs.Cmp.Lexicographic.{pointwise};
 ghost use Rattle.termwiz_cell.specs.Attributes.{color_eq};
-ghost use Rattle.termwiz_cell.specs.Shapes.{line_eq, shape_eq};
+ghost use Rattle.termwiz_cell.specs.Shapes.{line_attribute_eq, shape_eq};
 ghost use Rattle.termwiz_screen.specs.FullScreen.{line_attribute, shape_of};
 ghost use Rattle.termwiz_screen.specs.FullScreenValue.{full_eq, full_eq-Decides, full_value};
 ghost use Rattle.termwiz_screen.specs.Sides.{row_flags};
@@ -77,7 +77,7 @@ fn is_same_color(a: ColorAttribute, b: ColorAttribute) -> bool
 }
 
 fn has_same_lines(a: &[LineAttribute], b: &[LineAttribute]) -> bool
-    ensures { result ≡ pointwise line_eq a.now b.now }
+    ensures { result ≡ pointwise line_attribute_eq a.now b.now }
 {
     if a.len() != b.len() {
         return false;

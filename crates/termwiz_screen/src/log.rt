@@ -4,7 +4,7 @@ ghost use Rattle.std.specs.Prelude.{min, nat_lt, length, map, drop, vec_len, IsO
 ghost use Rattle.std.specs.Option.{IsNone, IfSome};
 ghost use Rattle.termwiz_cell.specs.ChangeValue.{change_value};
 ghost use Rattle.termwiz_screen.specs.Log.{appended, due, flushed, is_known, next_number};
-ghost use Rattle.termwiz_screen.specs.Log.{reaches, restarted, worth};
+ghost use Rattle.termwiz_screen.specs.Log.{reaches, restarted, delta_limit};
 
 use std::alloc::{AllocError, Global};
 use std::marker::Model;
@@ -200,10 +200,10 @@ fn drop_first(changes: &mut Vec<Change>, count: usize)
 
 /// How many changes are worth sending where a screen of this size could be repainted, or the
 /// greatest number where that is less.
-pub fn worth(width: usize, height: usize) -> usize
+pub fn delta_limit(width: usize, height: usize) -> usize
     requires width { width < 2 ^ 32 }
     requires height { height < 2 ^ 32 }
-    ensures { result ≡ min (worth width height) (2 ^ 64 - 1) }
+    ensures { result ≡ min (delta_limit width height) (2 ^ 64 - 1) }
 {
     let cells = width * height;
     cells.saturating_add(cells / 5).saturating_add(3)

@@ -7,7 +7,7 @@ ghost use Rattle.termwiz_text.specs.Letter.{AreLetters};
 ghost use Rattle.termwiz_text.specs.Plain.{is_plain};
 ghost use Rattle.unicode_segmentation.specs.Grapheme.{graphemes};
 ghost use Rattle.termwiz_cell.specs.CellValue.{measured};
-ghost use Rattle.termwiz_cell.specs.Width.{unversioned};
+ghost use Rattle.termwiz_cell.specs.Measure.{measure};
 ghost use Rattle.termwiz_screen.specs.Measured.{IsMeasured};
 ghost use Rattle.termwiz_screen.specs.Print.{piece_of, printed_cell};
 ghost use Rattle.termwiz_screen.specs.Runs.{AreNarrow, AreWide, IsMeasuredPiece, IsNarrowRun};
@@ -37,8 +37,8 @@ pub fn printed_piece<W: Widths>(
 ) -> Result<Piece, AllocError>
     requires { graphemes true grapheme.now ≡ grapheme.now ∷ [] }
     ensures piece { IfOk result (λ piece.
-        piece ≡ piece_of (unversioned (W.width_of widths.now)) pen.now grapheme.now) }
-    ensures measured { IfOk result (IsMeasuredPiece (unversioned (W.width_of widths.now))) }
+        piece ≡ piece_of (measure W.width_of widths.now) pen.now grapheme.now) }
+    ensures measured { IfOk result (IsMeasuredPiece (measure W.width_of widths.now)) }
 {
     Ok(match grapheme.as_bytes() {
         [b'\r'] => Piece::CarriageReturn,
@@ -59,8 +59,8 @@ fn printed_cell<W: Widths>(
 ) -> Result<Cell, AllocError>
     requires { graphemes true grapheme.now ≡ grapheme.now ∷ [] }
     ensures cell { IfOk result (λ cell.
-        cell ≡ printed_cell (unversioned (W.width_of widths.now)) pen.now grapheme.now) }
-    ensures measured { IfOk result (IsMeasured (unversioned (W.width_of widths.now))) }
+        cell ≡ printed_cell (measure W.width_of widths.now) pen.now grapheme.now) }
+    ensures measured { IfOk result (IsMeasured (measure W.width_of widths.now)) }
 {
     let attrs = pen.clone()?;
     let cell = Cell::new_grapheme(alloc, widths, grapheme, attrs, None)?;
@@ -76,7 +76,7 @@ pub fn begins_plain(text: &str) -> bool {
 fn narrow_len<W: Widths>(widths: &W, run: &str) -> usize
     requires { list_all is_plain run.now ≡ true }
     ensures within { result ≤ length run.now }
-    ensures narrow { AreNarrow (unversioned (W.width_of widths.now)) (take result run.now) }
+    ensures narrow { AreNarrow (measure W.width_of widths.now) (take result run.now) }
 {
     for k in 0..run.len() {
         if widths.width(&run[k..k + 1], None) > 1 {
@@ -93,7 +93,7 @@ pub fn split_narrow_run<'a, W: Widths>(
     text: &'a str,
     columns: usize,
 ) -> (&'a str, &'a str)
-    ensures { IsNarrowRun (unversioned (W.width_of widths.now)) text.now columns result.0.now
+    ensures { IsNarrowRun (measure W.width_of widths.now) text.now columns result.0.now
         result.1.now }
 {
     let (run, rest) = split_plain_run(text, columns);
@@ -108,7 +108,7 @@ pub fn split_narrow_run<'a, W: Widths>(
 fn wide_len<W: Widths>(widths: &W, run: &str) -> usize
     requires { AreLetters run.now }
     ensures within { result ≤ length (chars run.now) }
-    ensures wide { AreWide (unversioned (W.width_of widths.now)) (take result (chars run.now)) }
+    ensures wide { AreWide (measure W.width_of widths.now) (take result (chars run.now)) }
 {
     let count = letter_count(run);
     for k in 0..count {
@@ -126,7 +126,7 @@ pub fn split_wide_run<'a, W: Widths>(
     text: &'a str,
     columns: usize,
 ) -> (&'a str, &'a str)
-    ensures { IsWideRun (unversioned (W.width_of widths.now)) text.now columns result.0.now
+    ensures { IsWideRun (measure W.width_of widths.now) text.now columns result.0.now
         result.1.now }
 {
     let (run, rest) = split_letter_run(text, columns / 2);

@@ -2,7 +2,8 @@
 ghost use Rattle.std.specs.Prelude.{◌≡◌, ◌-◌, ◌<◌, ◌≤◌, ◌++◌, ◌∷◌, [], List, ◌&&◌, not, true};
 ghost use Rattle.std.specs.Prelude.{false, cond, eqb, map, length, IfOk, OnOk};
 ghost use Rattle.std.specs.Option.{option_copied};
-ghost use Rattle.termwiz_cell.specs.Attributes.{default_attributes, attributes_eq, is_plain};
+ghost use Rattle.termwiz_cell.specs.Attributes.{attributes_eq, default_attributes};
+ghost use Rattle.termwiz_cell.specs.Attributes.{has_only_background};
 ghost use Rattle.termwiz_cell.specs.Attributes.{color_eq};
 ghost use Rattle.termwiz_cell.specs.CellValue.{blank};
 ghost use Rattle.termwiz_cell.specs.ChangeValue as change;
@@ -15,7 +16,7 @@ ghost use Rattle.termwiz_line.specs.Writing.{behind};
 ghost use Rattle.termwiz_screen.specs.Screen.{Screen};
 ghost use Rattle.termwiz_screen.specs.ScreenValue.{cells_of};
 ghost use Rattle.termwiz_screen.specs.Padding.{IsPaddable, ArePaddable};
-ghost use Rattle.termwiz_screen.specs.Drawing.{clears, IsBeforeRow, AreApart, IsDrawnUpto};
+ghost use Rattle.termwiz_screen.specs.Drawing.{clears, IsBeforeRow, AreApart, IsWrittenUpto};
 ghost use Rattle.termwiz_screen.specs.Place.{cursor_at};
 ghost use Rattle.termwiz_screen.specs.Repaint as spec;
 
@@ -44,7 +45,7 @@ pub fn all_rows<'a>(
     requires paddable { ArePaddable width (cells_of rows.now.items) }
     requires blank { padding.now ≡ blank }
     ensures { IfOk result (λ drawn. (first : List ChangeValue) → AreApart first →
-        IsDrawnUpto first width (map (row_of width) (cells_of rows.now.items)) 0 writer.entry →
+        IsWrittenUpto first width (map (row_of width) (cells_of rows.now.items)) 0 writer.entry →
         penned_value drawn
         ≡ behind first (spec.all_rows width (length (cells_of rows.now.items))
         (map (row_of width) (cells_of rows.now.items)))) }
@@ -120,7 +121,8 @@ fn push_title(writer: &mut RowWriter<'_>, alloc: Global, title: &str) -> Result<
 
 // The attributes are default but for the background, which is another one.
 fn is_clearable(attrs: &CellAttributes) -> bool
-    ensures { result ≡ (is_plain attrs.now && not (attributes_eq attrs.now default_attributes)) }
+    ensures { result ≡ (has_only_background attrs.now
+        && not (attributes_eq attrs.now default_attributes)) }
 {
     is_plain(attrs) && !is_default(attrs)
 }
@@ -140,10 +142,11 @@ fn joined_rows<'a>(
     requires bottom { attrs.now
         ≡ spec.bottom_attrs width (length (cells_of rows.now.items))
         (map (row_of width) (cells_of rows.now.items)) }
-    requires clearable { (is_plain attrs.now && not (attributes_eq attrs.now default_attributes))
+    requires clearable { (has_only_background attrs.now
+        && not (attributes_eq attrs.now default_attributes))
         ≡ true }
     ensures { IfOk result (λ drawn. (first : List ChangeValue) → AreApart first →
-        IsDrawnUpto first width (map (row_of width) (cells_of rows.now.items)) 0 writer.entry →
+        IsWrittenUpto first width (map (row_of width) (cells_of rows.now.items)) 0 writer.entry →
         penned_value drawn
         ≡ behind first (spec.all_rows width (length (cells_of rows.now.items))
         (map (row_of width) (cells_of rows.now.items)))) }
@@ -178,7 +181,7 @@ fn rows_above(rows: &VecDeque<Line>, width: usize, attrs: &CellAttributes) -> us
 
 // The row whose end clears all below it, where this is the last entry of the rows above.
 fn joined_row(last: Option<&Change>, attrs: &CellAttributes, above: usize) -> usize
-    requires { is_plain attrs.now ≡ true }
+    requires { has_only_background attrs.now ≡ true }
     ensures { result ≡ (cond (clears attrs.now (option_copied last.entry)) (above - 1) above) }
 {
     if is_clear(last, attrs) {
@@ -190,7 +193,7 @@ fn joined_row(last: Option<&Change>, attrs: &CellAttributes, above: usize) -> us
 
 // Whether the entry clears to the end of the line in this background.
 fn is_clear(last: Option<&Change>, attrs: &CellAttributes) -> bool
-    requires { is_plain attrs.now ≡ true }
+    requires { has_only_background attrs.now ≡ true }
     ensures { result ≡ clears attrs.now (option_copied last.entry) }
 {
     match last {
@@ -200,7 +203,7 @@ fn is_clear(last: Option<&Change>, attrs: &CellAttributes) -> bool
 }
 
 fn is_clear_of(entry: &Change, attrs: &CellAttributes) -> bool
-    requires { is_plain attrs.now ≡ true }
+    requires { has_only_background attrs.now ≡ true }
     ensures { result ≡ spec.is_clear_of attrs.now (change_value entry.now) }
 {
     match entry {
@@ -253,8 +256,8 @@ fn write_rows<'a>(
     ensures before { OnOk result (IsBeforeRow to writer.new) }
     ensures upto { OnOk result (
         (first : List ChangeValue) →
-        IsDrawnUpto first width (map (row_of width) (cells_of rows.now.items)) from writer.old →
-        IsDrawnUpto first width (map (row_of width) (cells_of rows.now.items)) to writer.new) }
+        IsWrittenUpto first width (map (row_of width) (cells_of rows.now.items)) from writer.old →
+        IsWrittenUpto first width (map (row_of width) (cells_of rows.now.items)) to writer.new) }
 {
     for i in from..to {
         push_next_line(writer, i)?;

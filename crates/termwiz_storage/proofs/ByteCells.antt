@@ -8,7 +8,7 @@ use Rattle.std.proofs.lemmas.Str.{IsCharBoundary-from_rest, IsCharBoundary-start
 use Rattle.termwiz_cell.specs.Attributes.{Attributes}
 use Rattle.termwiz_cell.specs.CellValue.{CellValue, columns}
 use Rattle.termwiz_storage.specs.declared.line.clusterline.runs.Shape.{Shape}
-use Rattle.termwiz_storage.specs.Clustered.{AreCuts, HasByteCells, IsCellText, IsSound, cell_len, cells_from, first_cell, shown_cells}
+use Rattle.termwiz_storage.specs.Clustered.{AreCuts, HasByteCells, IsCellText, IsClusteredText, cell_len, cells_from, first_cell, shown_cells}
 use Rattle.termwiz_storage.specs.Edits.{with_half}
 use Rattle.termwiz_storage.specs.Stored.{cell_at, visible}
 use Rattle.termwiz_storage.proofs.Clustered.{length-with_half, texts_of-visible, visible-cells_from}
@@ -117,7 +117,7 @@ none_past (x ∷ xs) (suc k) g = omega (arith, none_past xs k g)
 
 -- ---- of a list that a text stands for
 
-module _ (cs : List CellValue) (t : List ℕ) (ss : List Shape) (ps : List Attributes) (n : ℕ) (v : cells_from t ss ps ≡ cs) (h : IsSound t ss ps n) where
+module _ (cs : List CellValue) (t : List ℕ) (ss : List Shape) (ps : List Attributes) (n : ℕ) (v : cells_from t ss ps ≡ cs) (h : IsClusteredText t ss ps n) where
   pub length-visible : length (visible cs) ≡ length ss
   length-visible = ap length (sym (visible-cells_from cs t ss ps v)) ∙ length-shown 0 t ss ps h.aligned
 

@@ -6,7 +6,7 @@ use Rattle.termwiz_cell.specs.Attributes.{Attributes}
 use Rattle.termwiz_cell.specs.CellValue.{CellValue, columns}
 use Rattle.termwiz_storage.specs.declared.line.clusterline.runs.Shape.{Shape}
 use Rattle.termwiz_storage.specs.CellRuns.{map_last, marked}
-use Rattle.termwiz_storage.specs.Clustered.{IsSound, cell_len, first_cell, cells_from, shown_cells}
+use Rattle.termwiz_storage.specs.Clustered.{IsClusteredText, cell_len, first_cell, cells_from, shown_cells}
 use Rattle.termwiz_storage.specs.Edits.{with_half}
 use Rattle.termwiz_storage.specs.Stored.{visible, padded}
 use Rattle.termwiz_storage.specs.Wrapped.{last_index, set_last_wrapped, with_wrapped, wrapped_from, wrapped_last}
@@ -77,7 +77,7 @@ length-map_last f (x ∷ y ∷ xs) = ap suc (length-map_last f (y ∷ xs))
 length-wrapped_from : (b : Bool) (k : ℕ) (cs : List CellValue) → length (wrapped_from b k cs) ≡ length cs
 length-wrapped_from b k cs = length-append (take k cs) (map (with_wrapped b) (drop k cs)) ∙ ap (λ (n : ℕ). length (take k cs) + n) (length-map (drop k cs) (with_wrapped b)) ∙ sym (length-append (take k cs) (drop k cs)) ∙ ap length (take-append-drop k cs)
 
-pub IsSound-marked : (b : Bool) (t : List ℕ) (ss : List Shape) (ps : List Attributes) (n : ℕ) → IsSound t ss ps n → IsSound t ss (map_last (marked b) ps) n
+pub IsSound-marked : (b : Bool) (t : List ℕ) (ss : List Shape) (ps : List Attributes) (n : ℕ) → IsClusteredText t ss ps n → IsClusteredText t ss (map_last (marked b) ps) n
 IsSound-marked b t ss ps n h =
     let cs : List CellValue = cells_from t ss ps in
     record {

@@ -8,16 +8,17 @@ use Rattle.termwiz_cell.specs.Attributes.{Attributes}
 use Rattle.termwiz_cell.specs.CellValue.{CellValue, clean, columns}
 use Rattle.termwiz_storage.specs.declared.line.clusterline.runs.Shape.{Shape}
 use Rattle.termwiz_storage.specs.CellTexts.{texts_of}
-use Rattle.termwiz_storage.specs.Clustered.{cell_len, char_len, first_cell, cells_from, shown_cells, AreCuts, IsCellText, IsSound, IsStepping}
+use Rattle.termwiz_storage.specs.Clustered.{cell_len, char_len, first_cell, cells_from, shown_cells, AreCuts, IsCellText, IsClusteredText, IsStepping}
 use Rattle.termwiz_storage.specs.Edits.{with_half, with_halves}
 use Rattle.termwiz_storage.specs.Stored.{visible_from, visible}
+use Rattle.termwiz_storage.specs.VisibleCell.{VisibleCell}
 
 -- a cell with its half is one visible cell, and the walk goes on behind it
-visible_step : (b : Bool) (x : List ℕ) (a : Attributes) (i : ℕ) (cs : List CellValue) (shown : ℕ → List (ℕ × CellValue)) → ((j : ℕ) → shown j ≡ visible_from j 0 cs) → (i, record { text = x; wide = b; attrs = a }) ∷ shown (i + columns (record { text = x; wide = b; attrs = a })) ≡ visible_from i 0 (with_half (record { text = x; wide = b; attrs = a }) ++ cs)
+visible_step : (b : Bool) (x : List ℕ) (a : Attributes) (i : ℕ) (cs : List CellValue) (shown : ℕ → List VisibleCell) → ((j : ℕ) → shown j ≡ visible_from j 0 cs) → (i, record { text = x; wide = b; attrs = a }) ∷ shown (i + columns (record { text = x; wide = b; attrs = a })) ≡ visible_from i 0 (with_half (record { text = x; wide = b; attrs = a }) ++ cs)
 visible_step true x a i cs shown h =
     let e : i + 2 ≡ i + 1 + 1 = omega arith in
-    ap (λ (z : List (ℕ × CellValue)). (i, record { text = x; wide = true; attrs = a }) ∷ z) (rw e (h (i + 1 + 1)))
-visible_step false x a i cs shown h = ap (λ (z : List (ℕ × CellValue)). (i, record { text = x; wide = false; attrs = a }) ∷ z) (h (i + 1))
+    ap (λ (z : List VisibleCell). (i, record { text = x; wide = true; attrs = a }) ∷ z) (rw e (h (i + 1 + 1)))
+visible_step false x a i cs shown h = ap (λ (z : List VisibleCell). (i, record { text = x; wide = false; attrs = a }) ∷ z) (h (i + 1))
 
 shown_is_visible : (i : ℕ) (t : List ℕ) (ss : List Shape) (ps : List Attributes) → shown_cells i t ss ps ≡ visible_from i 0 (cells_from t ss ps)
 shown_is_visible i t [] ps = refl
@@ -103,13 +104,13 @@ visible-cells_from cs t ss ps e = shown_is_visible 0 t ss ps ∙ ap visible e
 pub with_halves-visible : (cs : List CellValue) (t : List ℕ) (ss : List Shape) (ps : List Attributes) → cells_from t ss ps ≡ cs → with_halves (visible cs) ≡ cs
 with_halves-visible cs t ss ps e = ap with_halves (sym (visible-cells_from cs t ss ps e)) ∙ with_halves-shown 0 t ss ps ∙ e
 
-pub texts_of-visible : (cs : List CellValue) (t : List ℕ) (ss : List Shape) (ps : List Attributes) (n : ℕ) → cells_from t ss ps ≡ cs → IsSound t ss ps n → texts_of (visible cs) ≡ t
+pub texts_of-visible : (cs : List CellValue) (t : List ℕ) (ss : List Shape) (ps : List Attributes) (n : ℕ) → cells_from t ss ps ≡ cs → IsClusteredText t ss ps n → texts_of (visible cs) ≡ t
 texts_of-visible cs t ss ps n e h = ap texts_of (sym (visible-cells_from cs t ss ps e)) ∙ texts_of-shown 0 t ss ps h.cuts h.aligned
 
-pub IsStepping-start : (t : List ℕ) (ss : List Shape) (ps : List Attributes) (n : ℕ) → IsSound t ss ps n → IsStepping t ss ps 0
+pub IsStepping-start : (t : List ℕ) (ss : List Shape) (ps : List Attributes) (n : ℕ) → IsClusteredText t ss ps n → IsStepping t ss ps 0
 IsStepping-start t ss ps n h = record { cuts = h.cuts; aligned = h.aligned; fits = omega (arith, h.len, h.fits) }
 
-pub IsSound-push : (t u : List ℕ) (ss : List Shape) (s : Shape) (ps : List Attributes) (a : Attributes) (n m : ℕ) → IsUtf8 u → clean u ≡ u → IsSound t ss ps n → cell_len s u ≡ length u → m ≡ n + columns (record { text = u; wide = s.wide; attrs = a }) → m < 2 ^ 64 → IsSound (t ++ u) (ss ++ s ∷ []) (ps ++ a ∷ []) m
+pub IsSound-push : (t u : List ℕ) (ss : List Shape) (s : Shape) (ps : List Attributes) (a : Attributes) (n m : ℕ) → IsUtf8 u → clean u ≡ u → IsClusteredText t ss ps n → cell_len s u ≡ length u → m ≡ n + columns (record { text = u; wide = s.wide; attrs = a }) → m < 2 ^ 64 → IsClusteredText (t ++ u) (ss ++ s ∷ []) (ps ++ a ∷ []) m
 IsSound-push t u ss s ps a n m v w h b e f =
     let c : CellValue = record { text = u; wide = s.wide; attrs = a } in
     let cells : cells_from (t ++ u) (ss ++ s ∷ []) (ps ++ a ∷ []) ≡ cells_from t ss ps ++ with_half c = cells_from-push t u ss s ps a h.cuts h.aligned b in

@@ -6,12 +6,13 @@ use Rattle.termwiz_storage.proofs.VisibleAt.{cell_at-before, cell_at-first, cell
 use Rattle.termwiz_storage.proofs.Widths.{columns_bounds}
 use Rattle.termwiz_storage.specs.Stored.{stored, visible_from, visible, cell_at, hides, IsKept}
 use Rattle.termwiz_storage.specs.Used.{IsUsedTo, IsFilledTo}
+use Rattle.termwiz_storage.specs.VisibleCell.{VisibleCell}
 
 -- e is where the last visible cell that isn't blank ends, or k where there is none
-pub data EndsAt : ℕ → List (ℕ × CellValue) → ℕ → Type 0 where
+pub data EndsAt : ℕ → List VisibleCell → ℕ → Type 0 where
   nothing : {k : ℕ} → EndsAt k [] k
-  blank_cell : {k i e : ℕ} {c : CellValue} {ps : List (ℕ × CellValue)} → c ≡ blank → EndsAt k ps e → EndsAt k ((i, c) ∷ ps) e
-  other_cell : {k i e : ℕ} {c : CellValue} {ps : List (ℕ × CellValue)} → c ≢ blank → EndsAt (i + (columns c)) ps e → EndsAt k ((i, c) ∷ ps) e
+  blank_cell : {k i e : ℕ} {c : CellValue} {ps : List VisibleCell} → c ≡ blank → EndsAt k ps e → EndsAt k ((i, c) ∷ ps) e
+  other_cell : {k i e : ℕ} {c : CellValue} {ps : List VisibleCell} → c ≢ blank → EndsAt (i + (columns c)) ps e → EndsAt k ((i, c) ∷ ps) e
 
 -- from e on all is blank
 blank_after : (k i s e : ℕ) (cs : List CellValue) → EndsAt k (visible_from i s cs) e → k ≤ i + s → (s ≡ 0) ⊎ (i + s ≤ k) → (k ≤ e) × ((x : ℕ) → e ≤ x → i ≤ x → x < i + length cs → cell_at (visible_from i s cs) x ≡ Some blank)
@@ -49,7 +50,7 @@ least k i zero e (c ∷ cs) j (blank_cell q h) l f =
     omega arith
 least k i zero e (c ∷ cs) j (other_cell n h) l f =
     let b2 : (0 < columns c) × (columns c ≤ 2) = columns_bounds c in
-    let ps : List (ℕ × CellValue) = visible_from (i + 1) ((columns c) - 1) cs in
+    let ps : List VisibleCell = visible_from (i + 1) ((columns c) - 1) cs in
     elim (cases_lt j (i + (columns c))) [
       | inr g ↦
           let r : min e (i + 1 + length cs) ≤ j = least (i + (columns c)) (i + 1) ((columns c) - 1) e cs j h g (λ x u v t. sym (cell_at-later i x c ps (omega arith)) ∙ f x u (omega arith) (omega arith)) in

@@ -15,6 +15,7 @@ use Rattle.termwiz_storage.specs.LastCell.{last_attrs}
 use Rattle.termwiz_storage.specs.Stored.{cell_at, stored, visible, visible_from, IsKept}
 use Rattle.termwiz_storage.specs.Wrapped.{last_index}
 use Rattle.termwiz_storage.proofs.Clustered.{visible-cells_from}
+use Rattle.termwiz_storage.specs.VisibleCell.{VisibleCell}
 
 -- ---- the last of a list
 
@@ -63,12 +64,12 @@ last_attrs-runs cs t ss rs h e =
     ap (option_map (λ (r : AttrsRun). r.attrs)) (slice_get-last rs)
     ∙ sym (last_run None rs)
     ∙ ap (last_or None) (sym (attrs-shown 0 t ss (attrs_of rs) e))
-    ∙ last_or-map (λ (p : ℕ × CellValue). p.1.attrs) None (shown_cells 0 t ss (attrs_of rs))
+    ∙ last_or-map (λ (p : VisibleCell). p.1.attrs) None (shown_cells 0 t ss (attrs_of rs))
     ∙ ap last_attrs (visible-cells_from cs t ss (attrs_of rs) h)
 
 -- ---- where the last visible cell stands
 
-abbrev last_cell : Option (ℕ × CellValue) → List (ℕ × CellValue) → Option CellValue
+abbrev last_cell : Option VisibleCell → List VisibleCell → Option CellValue
 last_cell o ps = option_map (λ p. p.1) (last_or o ps)
 
 -- a walk that passes over all cells shows none
@@ -78,7 +79,7 @@ walk_none i zero (c ∷ cs) l = absurd (omega arith)
 walk_none i (suc s) (c ∷ cs) l = walk_none (i + 1) s cs (omega arith)
 
 -- the last index is that of the rest, where there is a rest
-pub last_index-cons : (i s : ℕ) (p : ℕ × CellValue) (cs : List CellValue) → s < length cs → last_index (p ∷ visible_from i s cs) ≡ last_index (visible_from i s cs)
+pub last_index-cons : (i s : ℕ) (p : VisibleCell) (cs : List CellValue) → s < length cs → last_index (p ∷ visible_from i s cs) ≡ last_index (visible_from i s cs)
 last_index-cons i s p [] l = absurd (omega arith)
 last_index-cons i zero p (c ∷ cs) l = refl
 last_index-cons i (suc s) p (c ∷ cs) l = last_index-cons (i + 1) s p cs (omega arith)
@@ -91,7 +92,7 @@ walk_reaches i zero (c ∷ cs) l = elim (cases_lt (columns c - 1) (length cs)) [
   | inr u ↦ rw (walk_none (i + 1) (columns c - 1) cs u) (omega arith)
 ]
 
-last_stored : (o : Option (ℕ × CellValue)) (i s k : ℕ) (cs : List CellValue) → s < length cs → last_index (visible_from i s cs) ≡ i + k → last_cell o (visible_from i s cs) ≡ Some (stored cs k)
+last_stored : (o : Option VisibleCell) (i s k : ℕ) (cs : List CellValue) → s < length cs → last_index (visible_from i s cs) ≡ i + k → last_cell o (visible_from i s cs) ≡ Some (stored cs k)
 last_stored o i s k [] l e = absurd (omega arith)
 last_stored o i (suc s) zero (c ∷ cs) l e = absurd (omega (arith, walk_reaches (i + 1) s cs (omega arith)))
 last_stored o i (suc s) (suc k) (c ∷ cs) l e = last_stored o (i + 1) s k cs (omega arith) (omega (arith, e))
@@ -104,7 +105,7 @@ last_stored o i zero (suc k) (c ∷ cs) l e = elim (cases_lt (columns c - 1) (le
   | inr u ↦ let none : i ≡ i + suc k = rw (walk_none (i + 1) (columns c - 1) cs u) at e in absurd (omega (arith, none))
 ]
 
-attrs-cell : (o : Option (ℕ × CellValue)) (c : CellValue) → option_map (λ p. p.1) o ≡ Some c → option_map (λ p. p.1.attrs) o ≡ Some c.attrs
+attrs-cell : (o : Option VisibleCell) (c : CellValue) → option_map (λ p. p.1) o ≡ Some c → option_map (λ p. p.1.attrs) o ≡ Some c.attrs
 attrs-cell None c h = cc
 attrs-cell (Some p) c h = ap (option_map (λ (d : CellValue). d.attrs)) h
 
@@ -116,7 +117,7 @@ last_attrs-stored cs l =
 -- ---- a list that doesn't end with a default blank
 
 -- the visible cell in the last column is the last one
-at_end : (o : Option (ℕ × CellValue)) (i s n : ℕ) (cs : List CellValue) (c : CellValue) → length cs ≡ suc n → cell_at (visible_from i s cs) (i + n) ≡ Some c → last_cell o (visible_from i s cs) ≡ Some c
+at_end : (o : Option VisibleCell) (i s n : ℕ) (cs : List CellValue) (c : CellValue) → length cs ≡ suc n → cell_at (visible_from i s cs) (i + n) ≡ Some c → last_cell o (visible_from i s cs) ≡ Some c
 at_end o i s n [] c e h = absurd (omega arith)
 at_end o i zero zero (x ∷ []) c e h = rw (eq-eqb i (i + 0) (omega arith)) at h
 at_end o i zero (suc n) (x ∷ []) c e h = absurd (omega arith)
@@ -145,7 +146,7 @@ IsKept-whole cs h = record {
   ];
 }
 
-text-blank : (b : Option ℕ) (o : Option (ℕ × CellValue)) (ps : List (ℕ × CellValue)) → (option_map (λ p. p.1) o ≡ Some blank → b ≡ Some 32) → last_cell o ps ≡ Some blank → last_or b (texts_of ps) ≡ Some 32
+text-blank : (b : Option ℕ) (o : Option VisibleCell) (ps : List VisibleCell) → (option_map (λ p. p.1) o ≡ Some blank → b ≡ Some 32) → last_cell o ps ≡ Some blank → last_or b (texts_of ps) ≡ Some 32
 text-blank b o [] f h = f h
 text-blank b o (p ∷ ps) f h =
     last_or-append b p.1.text (texts_of ps)

@@ -11,8 +11,9 @@ use Rattle.termwiz_storage.specs.Clustered.{IsWhole, cell_len, cells_from, first
 use Rattle.termwiz_storage.specs.Stored.{is_linked, visible}
 use Rattle.termwiz_storage.proofs.Clustered.{visible-cells_from, with_halves-visible}
 use Rattle.termwiz_storage.proofs.Whole.{whole-from, whole-is}
+use Rattle.termwiz_storage.specs.VisibleCell.{VisibleCell}
 
-abbrev pub shown_linked : ℕ × CellValue → Bool
+abbrev pub shown_linked : VisibleCell → Bool
 shown_linked p = is_linked p.1
 
 or_twice : (a b : Bool) → (a || (a || b)) ≡ (a || b)
@@ -24,7 +25,7 @@ linked_step true x a cs = or_twice (is_linked (record { text = x; wide = true; a
 linked_step false x a cs = refl
 
 -- a half is linked where its cell is
-linked-with_halves : (ps : List (ℕ × CellValue)) → list_any shown_linked ps ≡ list_any is_linked (with_halves ps)
+linked-with_halves : (ps : List VisibleCell) → list_any shown_linked ps ≡ list_any is_linked (with_halves ps)
 linked-with_halves [] = refl
 linked-with_halves (p ∷ ps) = sym (linked_step p.1.wide p.1.text p.1.attrs (with_halves ps) ∙ ap (λ (b : Bool). is_linked p.1 || b) (sym (linked-with_halves ps)))
 

@@ -15,7 +15,7 @@ use Rattle.termwiz_cell.specs.CellValue.{CellValue, clean, is_control, is_wide, 
 use Rattle.termwiz_storage.specs.declared.line.clusterline.runs.Shape.{Shape}
 use Rattle.termwiz_storage.specs.CellTexts.{cell_texts}
 use Rattle.termwiz_storage.specs.Stored.{visible_from}
-use Rattle.termwiz_storage.specs.Clustered.{cell_len, cells_from, IsSound, IsWhole}
+use Rattle.termwiz_storage.specs.Clustered.{cell_len, cells_from, IsClusteredText, IsWhole}
 use Rattle.termwiz_storage.specs.PlainCells.{is_plain_with, begins_plain, ArePlain, IsPlainFirst}
 use Rattle.termwiz_storage.proofs.Clustered.{IsSound-push, cells_from-push}
 use Rattle.termwiz_storage.proofs.Whole.{behind_narrow}
@@ -65,10 +65,10 @@ len_plain b h =
 
 -- a text with one more run, of k cells
 pub record HasRun (t : List ℕ) (ss : List Shape) (ps : List Attributes) (k m : ℕ) (a : Attributes) (cs old : List CellValue) : Type 0 where
-  pub sound : IsSound (t ++ cell_texts cs) (ss ++ replicate k plain_shape) (ps ++ replicate k a) m
+  pub sound : IsClusteredText (t ++ cell_texts cs) (ss ++ replicate k plain_shape) (ps ++ replicate k a) m
   pub cells : cells_from (t ++ cell_texts cs) (ss ++ replicate k plain_shape) (ps ++ replicate k a) ≡ old ++ cs
 
-has_run : (cs : List CellValue) (t : List ℕ) (ss : List Shape) (ps : List Attributes) (n m : ℕ) (a : Attributes) (old : List CellValue) → ArePlain a cs → IsSound t ss ps n → cells_from t ss ps ≡ old → m ≡ n + length cs → m < 2 ^ 64 → HasRun t ss ps (length cs) m a cs old
+has_run : (cs : List CellValue) (t : List ℕ) (ss : List Shape) (ps : List Attributes) (n m : ℕ) (a : Attributes) (old : List CellValue) → ArePlain a cs → IsClusteredText t ss ps n → cells_from t ss ps ≡ old → m ≡ n + length cs → m < 2 ^ 64 → HasRun t ss ps (length cs) m a cs old
 has_run [] t ss ps n m a old p h e k l = record {
   sound = rw (append-nil t, append-nil ss, append-nil ps, k, add-zero) h;
   cells = rw (append-nil t, append-nil ss, append-nil ps, append-nil old) e;
@@ -79,7 +79,7 @@ has_run (c ∷ cs) t ss ps n m a old p h e k l =
     let b : ℕ = own.0 in
     let text : c.text ≡ b ∷ [] = ap (λ (c : CellValue). c.text) own.1 in
     let len = len_plain b own.2 in
-    let sound : IsSound (t ++ b ∷ []) (ss ++ plain_shape ∷ []) (ps ++ a ∷ []) (n + 1) = IsSound-push t (b ∷ []) ss plain_shape ps a n (n + 1) (utf8_one b own.2) (clean_plain b own.2) h len refl (omega arith) in
+    let sound : IsClusteredText (t ++ b ∷ []) (ss ++ plain_shape ∷ []) (ps ++ a ∷ []) (n + 1) = IsSound-push t (b ∷ []) ss plain_shape ps a n (n + 1) (utf8_one b own.2) (clean_plain b own.2) h len refl (omega arith) in
     let cells : cells_from (t ++ b ∷ []) (ss ++ plain_shape ∷ []) (ps ++ a ∷ []) ≡ old ++ c ∷ [] = cells_from-push t (b ∷ []) ss plain_shape ps a h.cuts h.aligned len ∙ ap₂ (λ (x : List CellValue) (y : CellValue). x ++ y ∷ []) e (sym own.1) in
     let more : HasRun (t ++ b ∷ []) (ss ++ plain_shape ∷ []) (ps ++ a ∷ []) (length cs) m a cs (old ++ c ∷ []) = has_run cs (t ++ b ∷ []) (ss ++ plain_shape ∷ []) (ps ++ a ∷ []) (n + 1) m a (old ++ c ∷ []) parts.1 sound cells (omega arith) l in
     let texts : (t ++ b ∷ []) ++ cell_texts cs ≡ t ++ cell_texts (c ∷ cs) = append_assoc t (b ∷ []) (cell_texts cs) ∙ ap (λ (z : List ℕ). t ++ (z ++ cell_texts cs)) (sym text) in
@@ -90,7 +90,7 @@ has_run (c ∷ cs) t ss ps n m a old p h e k l =
       cells = rw (← texts, ← shapes, ← attrs) (more.cells ∙ append_assoc old (c ∷ []) cs);
     }
 
-pub has_plain_run : (cs : List CellValue) (t : List ℕ) (ss : List Shape) (ps : List Attributes) (n k : ℕ) (a : Attributes) (old : List CellValue) → ArePlain a cs → IsSound t ss ps n → cells_from t ss ps ≡ old → length cs ≡ k → n + k < 2 ^ 64 → HasRun t ss ps k (n + k) a cs old
+pub has_plain_run : (cs : List CellValue) (t : List ℕ) (ss : List Shape) (ps : List Attributes) (n k : ℕ) (a : Attributes) (old : List CellValue) → ArePlain a cs → IsClusteredText t ss ps n → cells_from t ss ps ≡ old → length cs ≡ k → n + k < 2 ^ 64 → HasRun t ss ps k (n + k) a cs old
 has_plain_run cs t ss ps n k a old p h e l f =
     subst (λ (j : ℕ). HasRun t ss ps j (n + k) a cs old) l (has_run cs t ss ps n (n + k) a old p h e (omega arith) f)
 

@@ -7,6 +7,7 @@ use Rattle.termwiz_storage.specs.Edits.{with_half, with_halves}
 use Rattle.termwiz_storage.specs.Stored.{hides, stored, visible_from, visible}
 use Rattle.termwiz_storage.proofs.Widths.{columns-narrow, columns-wide}
 use Rattle.termwiz_storage.proofs.Wrapped.{hides-behind_narrow, hides-behind_wide}
+use Rattle.termwiz_storage.specs.VisibleCell.{VisibleCell}
 
 with_half-wide : (c : CellValue) → is_wide c ≡ true → with_half c ≡ c ∷ half c ∷ []
 with_half-wide c w = cond-true (is_wide c) (c ∷ half c ∷ []) (c ∷ []) w
@@ -72,7 +73,7 @@ wide_before c cs w h = record {
   complete = hides-behind_wide c (half c) cs (length cs) w ∙ h.complete;
 }
 
-whole-with_halves : (ps : List (ℕ × CellValue)) → IsWhole (with_halves ps)
+whole-with_halves : (ps : List VisibleCell) → IsWhole (with_halves ps)
 whole-with_halves [] = record { halves = λ k l e. absurd (omega arith); complete = refl }
 whole-with_halves (p ∷ ps) = elim (cases_Bool (is_wide p.1)) [
   | inl w ↦ subst (λ (z : List CellValue). IsWhole (z ++ with_halves ps)) (sym (with_half-wide p.1 w)) (wide_before p.1 (with_halves ps) w (whole-with_halves ps))

@@ -4,8 +4,9 @@ use Rattle.termwiz_cell.specs.Attributes.{Attributes}
 use Rattle.termwiz_cell.specs.CellValue.{CellValue, columns}
 use Rattle.termwiz_storage.specs.declared.line.cellref.CellRef.{CellRef}
 use Rattle.termwiz_storage.specs.declared.line.cellref.CellRef.TheVariants.{CellRef as StoredRef, ClusterRef}
+use Rattle.termwiz_storage.specs.VisibleCell.{VisibleCell}
 
-abbrev pub indexed_cell : CellRef → ℕ × CellValue
+abbrev pub indexed_cell : CellRef → VisibleCell
 indexed_cell (StoredRef i c) = (i, c.now)
 indexed_cell (ClusterRef i t w a) = (i, record { text = t.now; wide = nat_lt 1 w; attrs = a.now })
 

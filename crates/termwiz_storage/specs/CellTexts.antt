@@ -1,10 +1,11 @@
 -- The texts of cells.
 use Rattle.std.specs.Prelude.{ℕ, List, take}
+use Rattle.termwiz_storage.specs.VisibleCell.{VisibleCell}
 use Rattle.std.specs.List.{flat_map}
 use Rattle.termwiz_cell.specs.CellValue.{CellValue}
 
 -- those of visible cells with their columns, one after another
-abbrev pub texts_of : List (ℕ × CellValue) → List ℕ
+abbrev pub texts_of : List VisibleCell → List ℕ
 texts_of cells = flat_map (λ p. p.1.text) cells
 
 -- those of cells

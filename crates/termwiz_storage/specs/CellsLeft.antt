@@ -1,12 +1,13 @@
 -- The visible cells that an iterator has left, each with its column.
 use Rattle.std.specs.Prelude.{◌≡◌, ℕ, List, [], ◌∷◌, Option, Some, None}
-use Rattle.termwiz_cell.specs.CellValue.{CellValue, clean, columns}
+use Rattle.termwiz_cell.specs.CellValue.{clean, columns}
 use Rattle.termwiz_storage.specs.CellRef.{indexed_cell, ref_cell, ref_width}
 use Rattle.termwiz_storage.specs.declared.line.cellref.CellRef.{CellRef}
 use Rattle.termwiz_storage.specs.declared.line.cellref.VisibleCellIter.{VisibleCellIter}
 use Rattle.termwiz_storage.specs.declared.line.cellref.VisibleCellIter.TheVariants.{V, Cluster}
+use Rattle.termwiz_storage.specs.VisibleCell.{VisibleCell}
 
-abbrev pub cells_left : VisibleCellIter → List (ℕ × CellValue)
+abbrev pub cells_left : VisibleCellIter → List VisibleCell
 cells_left (V s) = s
 cells_left (Cluster s) = s
 
@@ -16,6 +17,6 @@ pub record IsOfCell (r : CellRef) : Type 0 where
   pub clean : clean (ref_cell r).text ≡ (ref_cell r).text
 
 -- the first cell that is left comes, and what it tells is true of a cell; None where none is left
-abbrev pub YieldsCell : {S : Type 0} → (S → List (ℕ × CellValue)) → S → Option CellRef → S → Type 0
+abbrev pub YieldsCell : {S : Type 0} → (S → List VisibleCell) → S → Option CellRef → S → Type 0
 YieldsCell rest s None t = (rest s ≡ []) × (rest t ≡ [])
 YieldsCell rest s (Some r) t = (rest s ≡ indexed_cell r ∷ rest t) × IsOfCell r

@@ -7,6 +7,7 @@ use Rattle.termwiz_storage.specs.declared.line.clusterline.runs.Shape.{Shape}
 use Rattle.termwiz_storage.specs.CellTexts.{texts_of}
 use Rattle.termwiz_storage.specs.Edits.{with_half}
 use Rattle.termwiz_storage.specs.Stored.{hides, stored, visible}
+use Rattle.termwiz_storage.specs.VisibleCell.{VisibleCell}
 
 -- each hidden cell is a blank with the attributes of the cell that hides it, and no visible wide cell lacks its half
 pub record IsWhole (cs : List CellValue) : Type 0 where
@@ -37,7 +38,7 @@ cells_from t (s ∷ ss) [] = []
 cells_from t (s ∷ ss) (a ∷ ps) = with_half (first_cell t s a) ++ cells_from (drop (cell_len s t) t) ss ps
 
 -- the same without the halves, each at its column, the first at column i
-abbrev pub shown_cells : ℕ → List ℕ → List Shape → List Attributes → List (ℕ × CellValue)
+abbrev pub shown_cells : ℕ → List ℕ → List Shape → List Attributes → List VisibleCell
 shown_cells i t [] ps = []
 shown_cells i t (s ∷ ss) [] = []
 shown_cells i t (s ∷ ss) (a ∷ ps) = (i, first_cell t s a) ∷ shown_cells (i + columns (first_cell t s a)) (drop (cell_len s t) t) ss ps
@@ -53,7 +54,7 @@ AreCuts t [] = t ≡ []
 AreCuts t (s ∷ ss) = IsCellText t (cell_len s t) × AreCuts (drop (cell_len s t) t) ss
 
 -- a text, with the shapes and the attributes of cells that take n columns, fewer than 2^64
-pub record IsSound (t : List ℕ) (ss : List Shape) (ps : List Attributes) (n : ℕ) : Type 0 where
+pub record IsClusteredText (t : List ℕ) (ss : List Shape) (ps : List Attributes) (n : ℕ) : Type 0 where
   pub cuts : AreCuts t ss
   pub aligned : length ss ≡ length ps
   pub len : n ≡ length (cells_from t ss ps)

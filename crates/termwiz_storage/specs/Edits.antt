@@ -4,6 +4,7 @@ use Rattle.std.specs.List.{filter, insert, insert_slice, remove}
 use Rattle.termwiz_cell.specs.Attributes.{Attributes}
 use Rattle.termwiz_cell.specs.CellValue.{CellValue, blank, blank_of, half, is_wide}
 use Rattle.termwiz_storage.specs.Stored.{padded, torn, visible}
+use Rattle.termwiz_storage.specs.VisibleCell.{VisibleCell}
 
 -- the cell at column x is removed, where there is one; a wide cell before it that this cuts becomes a blank with its attributes
 abbrev pub removed : ℕ → List CellValue → List CellValue
@@ -34,12 +35,12 @@ abbrev pub inserted : ℕ → CellValue → ℕ → List CellValue → List Cell
 inserted x c m cs = insert_slice (padded x (removed_at_margin m cs)) x (with_half c)
 
 -- visible cells as they are stored
-abbrev pub with_halves : List (ℕ × CellValue) → List CellValue
+abbrev pub with_halves : List VisibleCell → List CellValue
 with_halves [] = []
 with_halves (p ∷ ps) = with_half p.1 ++ with_halves ps
 
 -- whether a visible cell begins in one of the columns from a to b - 1
-abbrev pub begins_within : ℕ → ℕ → ℕ × CellValue → Bool
+abbrev pub begins_within : ℕ → ℕ → VisibleCell → Bool
 begins_within a b p = nat_le a p.0 && nat_lt p.0 b
 
 -- the visible cells that begin in the columns from a to b - 1, as they are stored

@@ -15,3 +15,4 @@ pub mod CellTexts
 pub mod CellRuns
 pub mod Clustered
 pub mod PlainCells
+pub mod VisibleCell

@@ -5,9 +5,9 @@ use Rattle.termwiz_storage.specs.CellLists.{cells_eq}
 use Rattle.termwiz_storage.specs.declared.line.storage.CellStorage.{CellStorage}
 use Rattle.termwiz_storage.specs.declared.line.storage.CellStorage.TheVariants.{V, Cluster}
 
-abbrev pub cells_of : CellStorage → List CellValue
-cells_of (V s) = s
-cells_of (Cluster s) = s
+abbrev pub cells_in : CellStorage → List CellValue
+cells_in (V s) = s
+cells_in (Cluster s) = s
 
 -- each cell is stored in a place of its own
 abbrev pub is_vector : CellStorage → Bool
@@ -16,4 +16,4 @@ is_vector (Cluster s) = false
 
 -- `==` of storages looks at the cells alone
 abbrev pub same_cells : CellStorage → CellStorage → Bool
-same_cells a b = cells_eq (cells_of a) (cells_of b)
+same_cells a b = cells_eq (cells_in a) (cells_in b)

@@ -2,9 +2,10 @@
 use Rattle.std.specs.Prelude.{ℕ, Bool, List, [], ◌∷◌, ◌++◌, map, take, drop}
 use Rattle.termwiz_cell.specs.CellValue.{CellValue}
 use Rattle.termwiz_storage.specs.Stored.{visible, padded}
+use Rattle.termwiz_storage.specs.VisibleCell.{VisibleCell}
 
 -- the index of the last of visible cells, 0 of none
-abbrev pub last_index : List (ℕ × CellValue) → ℕ
+abbrev pub last_index : List VisibleCell → ℕ
 last_index [] = 0
 last_index (c ∷ []) = c.0
 last_index (c ∷ d ∷ ds) = last_index (d ∷ ds)

@@ -4,7 +4,7 @@ use Rattle.std.proofs.lemmas.Bool.{cases_Bool, eq-eqb}
 use Rattle.termwiz_cell.specs.ChangeValue.{ChangeValue, change_value}
 use Rattle.termwiz_screen.proofs.Logs.{flushed_number}
 use Rattle.termwiz_screen.specs.FullScreenValue.{full_value}
-use Rattle.termwiz_screen.specs.Log.{next_number, due, worth}
+use Rattle.termwiz_screen.specs.Log.{next_number, due, delta_limit}
 use Rattle.termwiz_screen.specs.Picture.{Pictures, screens, full_screens, played}
 use Rattle.termwiz_screen.specs.Printable.{HasSize}
 use Rattle.termwiz_screen.specs.ScreenValue.{screen_value}
@@ -20,7 +20,7 @@ module _ {W : Type 0} (f : W → List ℕ → ℕ) (s : SurfaceValue W) (old : V
   -- a viewer whose number is known has the surface's size, so it asks with that number
   asks_known : knows s old.last ≡ true → asks_with old s ≡ old.last
   asks_known known =
-      let told = known_tells (worth s.width s.height) s.log old.last known in
+      let told = known_tells (delta_limit s.width s.height) s.log old.last known in
       let led = follows.leads.leads told.0 told.1 in
       let same : has_size_of old s ≡ true = rw (eq-eqb _ _ led.0, eq-eqb _ _ led.1) refl in
       rw same refl
@@ -80,10 +80,10 @@ module _ {W : Type 0} (f : W → List ℕ → ℕ) (s : SurfaceValue W) (old : V
     }
 
   known_leads : knows s old.last ≡ true → played screens (f s.widths) (screen_of old.surface) (due s.log old.last) ≡ screen_of s
-  known_leads known = let told = known_tells (worth s.width s.height) s.log old.last known in (follows.leads.leads told.0 told.1).2
+  known_leads known = let told = known_tells (delta_limit s.width s.height) s.log old.last known in (follows.leads.leads told.0 told.1).2
 
   known_leads_fully : s.full ≡ true → knows s old.last ≡ true → played full_screens (f s.widths) (full_of old.surface) (due s.log old.last) ≡ full_of s
-  known_leads_fully full known = let told = known_tells (worth s.width s.height) s.log old.last known in ((follows.full full).leads told.0 told.1).2
+  known_leads_fully full known = let told = known_tells (delta_limit s.width s.height) s.log old.last known in ((follows.full full).leads told.0 told.1).2
 
 module _ {W : Type 0} (f : W → List ℕ → ℕ) where
   pub followed_leads_on : FollowedLeadOn f

@@ -36,7 +36,7 @@ pub use Rattle.termwiz_screen.specs.Kept
 pub use Rattle.termwiz_screen.specs.FullScreen
 pub use Rattle.termwiz_screen.specs.Picture
 pub use Rattle.termwiz_screen.specs.FullScreenValue
-pub use Rattle.termwiz_screen.specs.Regions
+pub use Rattle.termwiz_screen.specs.ScrollRegions
 pub use Rattle.termwiz_screen.specs.Resized
 pub use Rattle.termwiz_screen.specs.Prints
 pub use Rattle.termwiz_screen.specs.Diff
@@ -70,7 +70,7 @@ pub use Rattle.termwiz_screen.specs.FullScreenValue.{full_value}
 pub use Rattle.termwiz_screen.specs.Picture.{screens, full_screens}
 pub use Rattle.termwiz_screen.specs.Step.{step, step_kept, replay, replay_kept, regions_fit}
 pub use Rattle.termwiz_screen.specs.Resized.{resized_screen, resized_kept}
-pub use Rattle.termwiz_screen.specs.Log.{LogValue, next_number, due, worth, is_known, appended, flushed, restarted}
+pub use Rattle.termwiz_screen.specs.Log.{LogValue, next_number, due, delta_limit, is_known, appended, flushed, restarted}
 pub use Rattle.termwiz_screen.specs.Stream.{IsStream, IsFullStream, Lends, most_entries, stream_of}
 pub use Rattle.termwiz_screen.specs.Repaint.{repaint_in}
 pub use Rattle.termwiz_screen.specs.Printable.{HasSize, IsPrintable, ArePrintable}
@@ -86,7 +86,7 @@ pub use Rattle.termwiz_line.specs.LineEq.{line_contents, line_eq}
 pub use Rattle.termwiz_line.specs.LineFlags.{LineFlags, no_flags, with_sizes}
 pub use Rattle.termwiz_line.specs.LineEdits.{HasCells, IsEditedAt, IsMade, IsTakenFrom}
 pub use Rattle.termwiz_line.specs.Filled.{IsFilled, IsPartlyFilled}
-pub use Rattle.termwiz_line.specs.Texts.{stored_text, wrapped_text, placed, cells_of_text, texts_between, Overlays, IsPartlyOverlaid}
+pub use Rattle.termwiz_line.specs.Texts.{stored_text, wrapped_text, at_columns, cells_of_text, texts_between, Overlays, IsPartlyOverlaid}
 pub use Rattle.termwiz_line.specs.Lending.{KeepsLine}
 pub use Rattle.termwiz_line.specs.Clicks.{AnswersAs, IsLower, IsUpper}
 pub use Rattle.termwiz_line.specs.Wraps.{IsWrapped, FitsWidth}

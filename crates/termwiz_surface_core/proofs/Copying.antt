@@ -7,7 +7,7 @@ use Rattle.std.proofs.lemmas.List.{length-map}
 use Rattle.termwiz_cell.specs.ChangeValue.{ChangeValue, change_value}
 use Rattle.termwiz_cell.specs.declared.change.Change.{Change}
 use Rattle.termwiz_surface_core.specs.Adding.{Adds}
-use Rattle.termwiz_screen.specs.Diff.{all_drawing, restoring}
+use Rattle.termwiz_screen.specs.Diff.{all_diff_entries, restoring}
 use Rattle.termwiz_screen.specs.Log.{next_number}
 use Rattle.termwiz_screen.specs.Screen.{Screen}
 use Rattle.termwiz_screen.specs.Step.{replay, regions_fit}
@@ -43,7 +43,7 @@ module _ {W : Type 0} (f : List ℕ → ℕ) (old new : SurfaceValue W) where
         at (Ok n) b = subst P (sym b.3.screen_is) p
         at (Err e) b = tt
 
-  module _ (result : Result ℕ SurfaceError) (told : ℕ) (changes : List ChangeValue) (drawing : all_drawing changes ≡ true) where
+  module _ (result : Result ℕ SurfaceError) (told : ℕ) (changes : List ChangeValue) (drawing : all_diff_entries changes ≡ true) where
     pub copied_no_scroll : Adds f old changes told result new → result ≡ Err ScrollRegion → ⊥
     copied_no_scroll = no_scroll result told changes (drawings_fit old.height changes drawing)
 

@@ -6,7 +6,7 @@ use Rattle.std.proofs.lemmas.Bool.{cases_eq, cases_lt}
 use Rattle.termwiz_cell.specs.CellValue.{CellValue, blank, columns}
 use Rattle.termwiz_line.specs.LineFlags.{LineFlags}
 use Rattle.termwiz_line.specs.Row.{row_of, paint}
-use Rattle.termwiz_screen.specs.Regions.{region_up, region_down}
+use Rattle.termwiz_screen.specs.ScrollRegions.{region_up, region_down}
 use Rattle.termwiz_screen.specs.Rows.{painted_in, ArePartlyReset}
 use Rattle.termwiz_screen.specs.Log.{LogValue, next_number}
 use Rattle.termwiz_screen.specs.Screen.{row_at}

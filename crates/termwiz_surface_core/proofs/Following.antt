@@ -11,7 +11,7 @@ use Rattle.termwiz_cell.specs.ChangeValue.{ChangeValue}
 use Rattle.termwiz_surface_core.specs.Adding.{Adds, Makes, with_log}
 use Rattle.termwiz_surface_core.specs.Copies.{AddsDiff, AddsNothing}
 use Rattle.termwiz_surface_core.specs.Following.{ViewerValue, LeadsTo, Follows, has_size_of, asks_with, number_in_size, IsFitted}
-use Rattle.termwiz_screen.specs.Log.{LogValue, next_number, due, reaches, is_known, worth, appended, flushed, restarted}
+use Rattle.termwiz_screen.specs.Log.{LogValue, next_number, due, reaches, is_known, delta_limit, appended, flushed, restarted}
 use Rattle.termwiz_screen.specs.Printable.{HasSize}
 use Rattle.termwiz_screen.specs.Prints.{Print}
 use Rattle.termwiz_surface_core.specs.Resizing.{HasResized, Resizes}
@@ -92,8 +92,8 @@ module _ {P : Type 0} (pictures : Pictures P) (f : List ℕ → ℕ) where
   -- an answer leads to the surface's screen
   pub Leads-stream : (v s : P) (n : ℕ) (log : LogValue) (cs : List ChangeValue) → pictures.IsSized (pictures.screen s).width (pictures.screen s).height v → LeadsTo pictures f v n s log → Brings pictures f s log n cs → played pictures f v cs ≡ s
   Leads-stream v s n log cs size l a =
-      elim (is_known (worth (pictures.screen s).width (pictures.screen s).height) log n) as (λ b. is_known (worth (pictures.screen s).width (pictures.screen s).height) log n ≡ b → played pictures f v cs ≡ s) [
-        | true ↦ λ e. let k = known_tells (worth (pictures.screen s).width (pictures.screen s).height) log n e in ap (played pictures f v) (a.known e) ∙ (l.leads k.0 k.1).2
+      elim (is_known (delta_limit (pictures.screen s).width (pictures.screen s).height) log n) as (λ b. is_known (delta_limit (pictures.screen s).width (pictures.screen s).height) log n ≡ b → played pictures f v cs ≡ s) [
+        | true ↦ λ e. let k = known_tells (delta_limit (pictures.screen s).width (pictures.screen s).height) log n e in ap (played pictures f v) (a.known e) ∙ (l.leads k.0 k.1).2
         | false ↦ λ e. a.repaint e v size
       ] refl
 

@@ -16,11 +16,11 @@ use Rattle.termwiz_storage.proofs.SetCell.{length-set_cell}
 use Rattle.termwiz_storage.proofs.Widths.{columns_bounds}
 use Rattle.termwiz_screen.specs.Kept.{Kept}
 use Rattle.termwiz_screen.specs.Screen.{Screen, row_at}
-use Rattle.termwiz_screen.specs.Print.{print_one, put, put_kept, printed_cell, one_kept, kept_after, wraps, wrapped, wrapped_kept}
+use Rattle.termwiz_screen.specs.Print.{print_one, put_at_cursor, put_kept, printed_cell, one_kept, kept_after, wraps, wrapped, wrapped_kept}
 use Rattle.termwiz_screen.specs.Runs.{AreNarrow, AreWide}
-use Rattle.termwiz_surface_core.specs.Printing.{Prints, PrintsSome}
+use Rattle.termwiz_surface_core.specs.Printing.{PrintsGraphemes, PrintsFirst}
 use Rattle.termwiz_screen.specs.Rows.{painted_in}
-use Rattle.termwiz_surface_core.specs.SurfaceValue.{SurfaceValue, IsSound, Draws, screen_of, kept_of}
+use Rattle.termwiz_surface_core.specs.SurfaceValue.{SurfaceValue, IsSound, Becomes, screen_of, kept_of}
 use Rattle.termwiz_screen.proofs.Stored.{IsLawful}
 use Rattle.termwiz_screen.proofs.Runs.{PrintsCell, PrintsCell-plain, screen-from_wrap, kept-from_wrap, kept_after-append}
 use Rattle.termwiz_screen.proofs.LetterRuns.{PrintsCell-letter}
@@ -65,14 +65,14 @@ module _ {W : Type 0} (f : List ℕ → ℕ) (lawful : IsLawful f) where
       stays : wraps (screen_of s) ≡ false
       stays = ne_eqb s.x s.width (let l : s.x < s.width = inside in omega arith)
 
-      printed : print_one f (screen_of s) g ≡ put (screen_of s) c
+      printed : print_one f (screen_of s) g ≡ put_at_cursor (screen_of s) c
       printed =
-          let placed : print_one f (screen_of s) g ≡ put (screen_of s) (printed_cell f s.pen g) = rw (prints.is_text, stays) refl in
-          placed ∙ ap (put (screen_of s)) prints.cell_is
+          let placed : print_one f (screen_of s) g ≡ put_at_cursor (screen_of s) (printed_cell f s.pen g) = rw (prints.is_text, stays) refl in
+          placed ∙ ap (put_at_cursor (screen_of s)) prints.cell_is
 
       screen_more : screen_of (one_more s c) ≡ print_one f (screen_of s) g
       screen_more =
-          let shown : screen_of (one_more s c) ≡ put (screen_of s) c = rw (rows-put f s c sound inside) refl in
+          let shown : screen_of (one_more s c) ≡ put_at_cursor (screen_of s) c = rw (rows-put f s c sound inside) refl in
           shown ∙ sym printed
 
       kept_more : kept_of (one_more s c) ≡ one_kept f (screen_of s) g (kept_of s)
@@ -139,7 +139,7 @@ IsPrinted-letters f lawful ls s sound fits letters wide = IsPrinted-run encode_u
 
 -- a run that is printed after the wrap is printed
 pub prints-after_wrap : {W : Type 0} (f : List ℕ → ℕ) (piece : ℕ → List ℕ) (cell : ℕ → CellValue) (old mid new : SurfaceValue W) (bs : List ℕ) → 0 < length bs → All (λ b. PrintsCell f old.pen (piece b) (cell b)) bs
-    → Draws old (wrapped (screen_of old)) (wrapped_kept (screen_of old) (kept_of old)) mid → mid.x < mid.width → Prints f mid (map piece bs) new → Prints f old (map piece bs) new
+    → Becomes old (wrapped (screen_of old)) (wrapped_kept (screen_of old) (kept_of old)) mid → mid.x < mid.width → PrintsGraphemes f mid (map piece bs) new → PrintsGraphemes f old (map piece bs) new
 prints-after_wrap f piece cell old mid new [] some prints d inside p = absurd (omega arith)
 prints-after_wrap f piece cell old mid new (b ∷ bs) some prints d inside p =
     let is_text = (prints 0 0 (omega arith)).is_text in
@@ -154,7 +154,7 @@ prints-after_wrap f piece cell old mid new (b ∷ bs) some prints d inside p =
       kept_is = p.kept_is ∙ ap₂ (λ (z : Screen) (k : Kept). kept_after f z k (map piece (b ∷ bs))) d.screen_is d.kept_is ∙ kept-from_wrap f (screen_of old) (kept_of old) (piece b) (map piece bs) is_text settled;
     }
 
-module _ {W : Type 0} (f : List ℕ → ℕ) (old new : SurfaceValue W) (text rest : List ℕ) (p : PrintsSome f old text rest new) where
+module _ {W : Type 0} (f : List ℕ → ℕ) (old new : SurfaceValue W) (text rest : List ℕ) (p : PrintsFirst f old text rest new) where
   -- printing what is left leads where printing the whole led
   pub screen-left : fold (print_one f) (screen_of new) (graphemes true rest) ≡ fold (print_one f) (screen_of old) (graphemes true text)
   screen-left =

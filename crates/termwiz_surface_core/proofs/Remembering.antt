@@ -15,7 +15,7 @@ use Rattle.termwiz_surface_core.specs.Answer.{AnswerValue, IsGiven, Carries, is_
 use Rattle.termwiz_surface_core.specs.Following.{LeadsTo}
 use Rattle.termwiz_surface_core.specs.SurfaceValue.{full_of, SameFrame, SurfaceValue, screen_of}
 use Rattle.termwiz_surface_core.specs.History.{Names, IsPast, GoesOn, KeepsNames}
-use Rattle.termwiz_screen.specs.Log.{LogValue, next_number, due, is_known, worth, appended, flushed, restarted}
+use Rattle.termwiz_screen.specs.Log.{LogValue, next_number, due, is_known, delta_limit, appended, flushed, restarted}
 use Rattle.termwiz_screen.specs.Picture.{Pictures, screens, full_screens, played}
 use Rattle.termwiz_screen.specs.Print.{print_one, print_piece, piece_of, wraps, wrapped}
 use Rattle.termwiz_screen.specs.Screen.{Screen}
@@ -171,7 +171,7 @@ module _ {P : Type 0} (pictures : Pictures P) (f : List ℕ → ℕ) where
 
   pub given-carries : (past : ℕ → P) (p : P) (log : LogValue) (n : ℕ) (a : AnswerValue) → IsPast pictures f past p log → IsGiven pictures f p log n a → Carries pictures f past a p
   given-carries past p log n a is g =
-      let most = worth (pictures.screen p).width (pictures.screen p).height in
+      let most = delta_limit (pictures.screen p).width (pictures.screen p).height in
       elim (is_known most log n) as (λ b. is_known most log n ≡ b → Carries pictures f past a p) [
         | true ↦ λ e.
             let d = g.delta e in
@@ -211,7 +211,7 @@ module _ {P : Type 0} (pictures : Pictures P) (f : List ℕ → ℕ) where
 
   -- a stream that is lent where the number is known, and made where it isn't, is an answer
   pub is-given : (p : P) (log : LogValue) (n : ℕ) (a : AnswerValue) → a.width ≡ (pictures.screen p).width → a.height ≡ (pictures.screen p).height → a.number ≡ next_number log → a.base ≡ (if a.is_repaint then 0 else n)
-      → is_known (worth (pictures.screen p).width (pictures.screen p).height) log n ≡ not a.is_repaint → Brings pictures f p log n a.changes → IsGiven pictures f p log n a
+      → is_known (delta_limit (pictures.screen p).width (pictures.screen p).height) log n ≡ not a.is_repaint → Brings pictures f p log n a.changes → IsGiven pictures f p log n a
   is-given p log n a w h number base known stream = record {
     width = w;
     height = h;

@@ -2,7 +2,7 @@
 use Rattle.std.specs.Prelude.{◌≡◌, ℕ, ◌+◌, ◌<◌, ◌≤◌, ◌^◌, true, false, List, length, Result, Ok, Err}
 use Rattle.termwiz_cell.specs.ChangeValue.{ChangeValue}
 use Rattle.termwiz_screen.specs.Log.{LogValue, next_number, appended, restarted}
-use Rattle.termwiz_surface_core.specs.SurfaceValue.{SurfaceValue, screen_of, kept_of, IsSound, SameFrame, Draws}
+use Rattle.termwiz_surface_core.specs.SurfaceValue.{SurfaceValue, screen_of, kept_of, IsSound, SameFrame, Becomes}
 use Rattle.termwiz_screen.specs.Step.{replay, replay_kept, regions_fit}
 use Rattle.termwiz_surface_core.specs.declared.surface.SurfaceError.{SurfaceError}
 use Rattle.termwiz_surface_core.specs.declared.surface.SurfaceError.TheVariants.{ScrollRegion, Numbers, Memory}
@@ -21,7 +21,7 @@ module _ {W : Type 0} where
 
   -- the changes are made, and logged
   abbrev pub Makes : (List ℕ → ℕ) → SurfaceValue W → List ChangeValue → SurfaceValue W → Type 0
-  Makes measure old changes new = Draws (with_log old (appended old.log changes)) (replay measure (screen_of old) changes) (replay_kept measure (screen_of old) (kept_of old) changes) new
+  Makes measure old changes new = Becomes (with_log old (appended old.log changes)) (replay measure (screen_of old) changes) (replay_kept measure (screen_of old) (kept_of old) changes) new
 
   -- a list of changes is made, and this number told, or refused
   abbrev pub Adds : (List ℕ → ℕ) → SurfaceValue W → List ChangeValue → ℕ → Result ℕ SurfaceError → SurfaceValue W → Type 0

@@ -2,7 +2,7 @@
 use Rattle.std.specs.Prelude.{◌≡◌, ℕ, ◌≤◌, Bool, true, false, not, ◌&&◌, ◌==◌, List}
 use Rattle.termwiz_cell.specs.ChangeValue.{ChangeValue}
 use Rattle.termwiz_surface_core.specs.History.{Names}
-use Rattle.termwiz_screen.specs.Log.{LogValue, next_number, due, is_known, worth}
+use Rattle.termwiz_screen.specs.Log.{LogValue, next_number, due, is_known, delta_limit}
 use Rattle.termwiz_screen.specs.Picture.{Pictures, played}
 
 pub record AnswerValue : Type 0 where
@@ -20,8 +20,8 @@ pub record IsGiven {P : Type 0} (pictures : Pictures P) (measure : List ℕ → 
   pub width : a.width ≡ (pictures.screen p).width
   pub height : a.height ≡ (pictures.screen p).height
   pub number : a.number ≡ next_number log
-  pub delta : is_known (worth (pictures.screen p).width (pictures.screen p).height) log n ≡ true → (a.is_repaint ≡ false) × (a.base ≡ n) × (a.changes ≡ due log n)
-  pub repaint : is_known (worth (pictures.screen p).width (pictures.screen p).height) log n ≡ false
+  pub delta : is_known (delta_limit (pictures.screen p).width (pictures.screen p).height) log n ≡ true → (a.is_repaint ≡ false) × (a.base ≡ n) × (a.changes ≡ due log n)
+  pub repaint : is_known (delta_limit (pictures.screen p).width (pictures.screen p).height) log n ≡ false
       → (a.is_repaint ≡ true) × (a.base ≡ 0) × ((t : P) → pictures.IsSized (pictures.screen p).width (pictures.screen p).height t → played pictures measure t a.changes ≡ p)
 
 -- the answer was given when the surface had the picture p: its number names that, and it leads there, a repaint from any picture of its size, a delta from the one that its base names

@@ -1,7 +1,7 @@
 -- What a surface answers whoever asks it by a number.
 use Rattle.std.specs.Prelude.{◌≡◌, ℕ, Bool, List}
 use Rattle.termwiz_cell.specs.ChangeValue.{ChangeValue}
-use Rattle.termwiz_screen.specs.Log.{is_known, worth}
+use Rattle.termwiz_screen.specs.Log.{is_known, delta_limit}
 use Rattle.termwiz_screen.specs.Printable.{HasSize}
 use Rattle.termwiz_screen.specs.Repaint.{repaint_in}
 use Rattle.termwiz_screen.specs.Screen.{Screen}
@@ -12,7 +12,7 @@ use Rattle.termwiz_surface_core.specs.SurfaceValue.{SurfaceValue, screen_of, kep
 module _ {W : Type 0} where
   -- it answers this number by the changes that are due, and any other by a repaint
   abbrev pub knows : SurfaceValue W → ℕ → Bool
-  knows s n = is_known (worth s.width s.height) s.log n
+  knows s n = is_known (delta_limit s.width s.height) s.log n
 
   -- its repaint
   abbrev pub own_repaint : SurfaceValue W → List ChangeValue

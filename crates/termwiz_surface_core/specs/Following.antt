@@ -5,7 +5,7 @@ use Rattle.std.specs.declared.borrow.CowSlice.{CowSlice}
 use Rattle.termwiz_cell.specs.ChangeValue.{ChangeValue}
 use Rattle.termwiz_cell.specs.declared.change.Change.{Change}
 use Rattle.termwiz_surface_core.specs.Adding.{Adds, Makes}
-use Rattle.termwiz_screen.specs.Log.{LogValue, next_number, due, is_known, worth, restarted}
+use Rattle.termwiz_screen.specs.Log.{LogValue, next_number, due, is_known, delta_limit, restarted}
 use Rattle.termwiz_surface_core.specs.Resizing.{HasResized}
 use Rattle.termwiz_screen.specs.Screen.{Screen}
 use Rattle.termwiz_screen.specs.Step.{regions_fit}
@@ -83,19 +83,19 @@ module _ {W : Type 0} where
     pub stream : IsStream measure (screen_of s) s.log n changes
     pub full : s.full ≡ true → IsFullStream measure (full_of s) s.log n changes
     pub regions : regions_fit s.height changes ≡ true
-    pub short : is_known (worth s.width s.height) s.log n ≡ false → length changes ≤ most_entries s.full s.width s.height
+    pub short : is_known (delta_limit s.width s.height) s.log n ≡ false → length changes ≤ most_entries s.full s.width s.height
 
   -- the viewer's own number has no room for another size's and those of the changes that it asks for
   pub record HasNoRoom (old : ViewerValue W) (s : SurfaceValue W) : Type 0 where
     pub count : ℕ
-    pub known : is_known (worth s.width s.height) s.log (asks_with old s) ≡ true → count ≡ length (due s.log (asks_with old s))
-    pub repaint : is_known (worth s.width s.height) s.log (asks_with old s) ≡ false → count ≤ most_entries s.full s.width s.height
+    pub known : is_known (delta_limit s.width s.height) s.log (asks_with old s) ≡ true → count ≡ length (due s.log (asks_with old s))
+    pub repaint : is_known (delta_limit s.width s.height) s.log (asks_with old s) ≡ false → count ≤ most_entries s.full s.width s.height
     pub no_room : 2 ^ 64 ≤ number_in_size old s + count
 
   -- it has room for another size's, and for those of what is due where that is known
   pub record HasRoom (old : ViewerValue W) (s : SurfaceValue W) : Type 0 where
     pub size : number_in_size old s < 2 ^ 64
-    pub known : is_known (worth s.width s.height) s.log (asks_with old s) ≡ true → number_in_size old s + length (due s.log (asks_with old s)) < 2 ^ 64
+    pub known : is_known (delta_limit s.width s.height) s.log (asks_with old s) ≡ true → number_in_size old s + length (due s.log (asks_with old s)) < 2 ^ 64
 
   -- the viewer asks in the surface's size, for changes that its own number has room for
   abbrev pub Fetches : (List ℕ → ℕ) → SurfaceValue W → ViewerValue W → Result (ℕ × CowSlice Change Global) SurfaceError → ViewerValue W → Type 0

@@ -3,17 +3,17 @@ use Rattle.std.specs.Prelude.{◌≡◌, ℕ, ◌<◌, true, List, ◌++◌, fol
 use Rattle.std.specs.Str.{IsUtf8}
 use Rattle.unicode_segmentation.specs.Grapheme.{graphemes}
 use Rattle.termwiz_screen.specs.Print.{print_one, kept_after}
-use Rattle.termwiz_surface_core.specs.SurfaceValue.{SurfaceValue, screen_of, kept_of, Draws}
+use Rattle.termwiz_surface_core.specs.SurfaceValue.{SurfaceValue, screen_of, kept_of, Becomes}
 
 module _ {W : Type 0} where
   -- the graphemes are printed
-  abbrev pub Prints : (List ℕ → ℕ) → SurfaceValue W → List (List ℕ) → SurfaceValue W → Type 0
-  Prints measure old gs new = Draws old (fold (print_one measure) (screen_of old) gs) (kept_after measure (screen_of old) (kept_of old) gs) new
+  abbrev pub PrintsGraphemes : (List ℕ → ℕ) → SurfaceValue W → List (List ℕ) → SurfaceValue W → Type 0
+  PrintsGraphemes measure old gs new = Becomes old (fold (print_one measure) (screen_of old) gs) (kept_after measure (screen_of old) (kept_of old) gs) new
 
   -- the graphemes that the text begins with are printed, and the rest is left
-  pub record PrintsSome (measure : List ℕ → ℕ) (old : SurfaceValue W) (text rest : List ℕ) (new : SurfaceValue W) : Type 0 where
+  pub record PrintsFirst (measure : List ℕ → ℕ) (old : SurfaceValue W) (text rest : List ℕ) (new : SurfaceValue W) : Type 0 where
     pub printed : List (List ℕ)
     pub graphemes_are : graphemes true text ≡ printed ++ graphemes true rest
-    pub prints : Prints measure old printed new
+    pub prints : PrintsGraphemes measure old printed new
     pub shrinks : length rest < length text
     pub is_text : IsUtf8 rest

@@ -95,7 +95,7 @@ module _ {W : Type 0} where
     pub log : new.log ≡ old.log
 
   -- the surface has this screen now, keeps this beside it, and has its old width value, size, kind and log
-  pub record Draws (old : SurfaceValue W) (screen : Screen) (kept : Kept) (new : SurfaceValue W) : Type 0 where
+  pub record Becomes (old : SurfaceValue W) (screen : Screen) (kept : Kept) (new : SurfaceValue W) : Type 0 where
     pub widths : new.widths ≡ old.widths
     pub width : new.width ≡ old.width
     pub height : new.height ≡ old.height

@@ -10,7 +10,7 @@ ghost use Rattle.termwiz_screen.specs.Clear.{eos_lengths, screen_lengths};
 ghost use Rattle.termwiz_screen.specs.Place.{placed};
 ghost use Rattle.termwiz_screen.specs.Step.{step, step_kept, replay, replay_kept, region_fits};
 ghost use Rattle.termwiz_screen.specs.Step.{regions_fit};
-ghost use Rattle.termwiz_screen.specs.Regions.{region_up, region_down};
+ghost use Rattle.termwiz_screen.specs.ScrollRegions.{region_up, region_down};
 ghost use Rattle.termwiz_screen.specs.Kept.{with_line_attribute};
 ghost use Rattle.termwiz_line.specs.LineFlags.{no_flags};
 ghost use Rattle.termwiz_cell.specs.AttributeChangeValue.{attribute_change_value, with_attribute};
@@ -51,12 +51,12 @@ pub use termwiz_screen::full::FullScreen;
 use termwiz_screen::log::Log;
 use termwiz_screen::pen::{background_only, blank_with};
 use termwiz_screen::place::{column_at, row_at};
-use termwiz_screen::region::regions_fit;
 use termwiz_screen::rows::{
     blank_rows, chars_of, fill_row, fill_rows, resized_lines, scroll_region_down, scroll_region_up,
     set_line_attribute,
 };
 pub use termwiz_screen::screen::Screen;
+use termwiz_screen::scroll_region::regions_fit;
 use thiserror::Error;
 
 /// Why a list of changes, or another size, is refused. The errors have numbers, and are told in
@@ -198,7 +198,7 @@ impl<W: Widths> Clone for Surface<W> {
 impl<W: Widths> Surface<W> {
     ghost use Rattle.termwiz_surface_core.specs.SurfaceValue.{SurfaceValue, IsSound, blank_surface};
     ghost use Rattle.termwiz_surface_core.specs.SurfaceValue.{screen_of, lengths_of, kept_of};
-    ghost use Rattle.termwiz_surface_core.specs.SurfaceValue.{SameFrame, Draws};
+    ghost use Rattle.termwiz_surface_core.specs.SurfaceValue.{SameFrame, Becomes};
 
     /// A surface of this width in columns and this height in rows: default blanks, with the cursor
     /// home and shown, default attributes as pen and the number 0.
@@ -370,7 +370,7 @@ impl<W: Widths> Surface<W> {
     #[inline(never)]
     fn clear_to_end_of_line(&mut self, color: &ColorAttribute) -> Result<(), AllocError>
         ensures ok { OnOk result (let s = screen_of self.old in
-            Draws self.old (clear_eol s (with_background color.now))
+            Becomes self.old (clear_eol s (with_background color.now))
             (record (kept_of self.old) {
               lengths = eol_lengths s (with_background color.now) (lengths_of self.old);
             }) self.new) }
@@ -387,7 +387,7 @@ impl<W: Widths> Surface<W> {
     #[inline(never)]
     fn clear_to_end_of_screen(&mut self, color: &ColorAttribute) -> Result<(), AllocError>
         ensures ok { OnOk result (let s = screen_of self.old in
-            Draws self.old (clear_eos s (with_background color.now))
+            Becomes self.old (clear_eos s (with_background color.now))
             (record (kept_of self.old) {
               lengths = eos_lengths s (with_background color.now) (lengths_of self.old);
             }) self.new) }
@@ -404,7 +404,7 @@ impl<W: Widths> Surface<W> {
     #[inline(never)]
     fn clear_screen(&mut self, color: &ColorAttribute) -> Result<(), AllocError>
         ensures ok { OnOk result (let s = screen_of self.old in
-            Draws self.old (clear_screen s (with_background color.now))
+            Becomes self.old (clear_screen s (with_background color.now))
             (record (kept_of self.old) {
               lengths = screen_lengths s (with_background color.now) (lengths_of self.old);
             }) self.new) }
@@ -421,7 +421,7 @@ impl<W: Widths> Surface<W> {
 
     #[inline(never)]
     fn change_pen(&mut self, change: &AttributeChange) -> Result<(), AllocError>
-        ensures ok { OnOk result (Draws self.old
+        ensures ok { OnOk result (Becomes self.old
             (record (screen_of self.old) {
               pen = with_attribute self.old.pen (attribute_change_value change.now);
             })
@@ -433,7 +433,7 @@ impl<W: Widths> Surface<W> {
     }
 
     fn place_cursor(&mut self, x: Position, y: Position)
-        ensures { Draws self.old (placed (screen_of self.old) x y) (kept_of self.old) self.new }
+        ensures { Becomes self.old (placed (screen_of self.old) x y) (kept_of self.old) self.new }
     {
         self.x = column_at(x, self.x, self.width);
         self.y = row_at(y, self.y, self.height);
@@ -448,7 +448,7 @@ impl<W: Widths> Surface<W> {
     ) -> Result<(), AllocError>
         requires { first + size ≤ self.old.height }
         ensures ok { OnOk result (let s = screen_of self.old in let k = kept_of self.old in
-            Draws self.old
+            Becomes self.old
             (record s { rows = region_up (replicate s.width blank) s.rows first size count })
             (record k {
               lengths = region_up s.width k.lengths first size count;
@@ -469,7 +469,7 @@ impl<W: Widths> Surface<W> {
     ) -> Result<(), AllocError>
         requires { first + size ≤ self.old.height }
         ensures ok { OnOk result (let s = screen_of self.old in let k = kept_of self.old in
-            Draws self.old
+            Becomes self.old
             (record s { rows = region_down (replicate s.width blank) s.rows first size count })
             (record k {
               lengths = region_down s.width k.lengths first size count;
@@ -484,7 +484,7 @@ impl<W: Widths> Surface<W> {
     // Says how the cursor's row is shown.
     fn set_line_attribute(&mut self, attribute: LineAttribute)
         ensures { let k = kept_of self.old in
-            Draws self.old (screen_of self.old)
+            Becomes self.old (screen_of self.old)
             (record k {
               flags = slice_set k.flags self.old.y
                   (with_line_attribute attribute (get_or k.flags self.old.y no_flags));
@@ -495,7 +495,7 @@ impl<W: Widths> Surface<W> {
 
     #[inline(never)]
     fn set_title(&mut self, title: &str) -> Result<(), AllocError>
-        ensures ok { OnOk result (Draws self.old (screen_of self.old)
+        ensures ok { OnOk result (Becomes self.old (screen_of self.old)
             (record (kept_of self.old) { title = title.now }) self.new) }
         ensures err { OnErr result (self.new ≡ self.old) }
     {
@@ -507,7 +507,7 @@ impl<W: Widths> Surface<W> {
         requires { region_fits self.old.height (change_value change.now) ≡ true }
         ensures ok { OnOk result (let f = measure W.width_of self.old.widths in
             let s = screen_of self.old in
-            Draws self.old (step f s (change_value change.now))
+            Becomes self.old (step f s (change_value change.now))
             (step_kept f s (kept_of self.old) (change_value change.now)) self.new) }
         ensures err { OnErr result (SameFrame self.old self.new) }
     {
@@ -542,7 +542,7 @@ impl<W: Widths> Surface<W> {
         requires { regions_fit self.old.height (map change_value changes.now) ≡ true }
         ensures ok { OnOk result (let f = measure W.width_of self.old.widths in
             let s = screen_of self.old in
-            Draws self.old (replay f s (map change_value changes.now))
+            Becomes self.old (replay f s (map change_value changes.now))
             (replay_kept f s (kept_of self.old) (map change_value changes.now)) self.new) }
         ensures err { OnErr result (SameFrame self.old self.new) }
         ensures empty { OnErr result (0 < length changes.now) }

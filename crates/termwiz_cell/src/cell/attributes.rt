@@ -29,13 +29,13 @@ pub struct CellAttributes {
 
 impl Model for CellAttributes {
     ghost use Rattle.termwiz_cell.specs.Attributes.{Attributes};
-    ghost use Rattle.termwiz_cell.specs.AttributesLayout.{attributes_of, IsSound};
+    ghost use Rattle.termwiz_cell.specs.AttributesLayout.{attributes_of, IsCanonical};
 
     ghost Value = { Attributes };
 
     ghost view = { attributes_of };
 
-    ghost invariant = { IsSound };
+    ghost invariant = { IsCanonical };
 }
 
 impl CellAttributes {

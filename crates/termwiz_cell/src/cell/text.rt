@@ -2,7 +2,7 @@
 ghost use Rattle.std.specs.Prelude.{◌≡◌, ◌↔◌, ◌≤◌, ◌&&◌, ◌∷◌, [], length, true, false, IsTrue};
 ghost use Rattle.std.specs.Prelude.{IfOk, IsOk, IfSome, bytes_eq, string_bytes};
 ghost use Rattle.std.specs.Bool.{beq};
-ghost use Rattle.termwiz_cell.specs.CellLayout.{text_in, wide_in, IsStored};
+ghost use Rattle.termwiz_cell.specs.CellLayout.{text_in, wide_in, HasTextForm};
 ghost use Rattle.termwiz_cell.specs.CellValue.{clean, space};
 ghost use Rattle.termwiz_text.specs.Plain.{is_plain};
 
@@ -55,7 +55,7 @@ impl CellText {
     pub(super) fn blank() -> CellText
         ensures text { text_in result ≡ space }
         ensures narrow { wide_in result ≡ false }
-        ensures stored { IsStored result }
+        ensures stored { HasTextForm result }
     {
         CellText::plain(b' ')
     }
@@ -66,7 +66,7 @@ impl CellText {
         requires { is_plain byte ≡ true }
         ensures text { text_in result ≡ byte ∷ [] }
         ensures narrow { wide_in result ≡ false }
-        ensures stored { IsStored result }
+        ensures stored { HasTextForm result }
     {
         CellText::Narrow(ShortText::plain(byte))
     }
@@ -76,7 +76,7 @@ impl CellText {
         requires { clean text.now ≡ text.now }
         ensures text { IfOk result (λ stored. text_in stored ≡ text.now) }
         ensures wide { IfOk result (λ stored. wide_in stored ≡ wide) }
-        ensures stored { IfOk result (λ stored. IsStored stored) }
+        ensures stored { IfOk result (λ stored. HasTextForm stored) }
         ensures succeeds { length text.now ≤ 7 → IsOk result }
     {
         if text.len() <= 7 {
@@ -91,7 +91,7 @@ impl CellText {
     }
 
     pub(super) fn str(&self) -> &str
-        requires { IsStored self.now }
+        requires { HasTextForm self.now }
         ensures text { result.now ≡ text_in self.now }
         ensures clean { clean result.now ≡ result.now }
     {
@@ -114,7 +114,7 @@ impl CellText {
 
     /// Whether this is a space of one column.
     pub(super) fn is_blank(&self) -> bool
-        requires { IsStored self.now }
+        requires { HasTextForm self.now }
         ensures { IsTrue result ↔ ((text_in self.now ≡ space) × (wide_in self.now ≡ false)) }
     {
         match self {
@@ -128,8 +128,8 @@ impl CellText {
     #[inline(always)]
     #[tactic(auto, using(crate::proofs::TextForms::short_differs_from_long, crate::proofs::TextForms::long_differs_from_short))]
     pub(super) fn is_same(&self, other: &CellText) -> bool
-        requires self_stored { IsStored self.now }
-        requires other_stored { IsStored other.now }
+        requires self_stored { HasTextForm self.now }
+        requires other_stored { HasTextForm other.now }
         ensures { result
             ≡ (bytes_eq (text_in self.now) (text_in other.now)
             && beq (wide_in self.now) (wide_in other.now)) }
@@ -148,10 +148,10 @@ impl CellText {
     /// A copy, where the text stands in the value itself, and else `None`.
     #[inline(always)]
     pub(super) fn short_copy(&self) -> Option<CellText>
-        requires { IsStored self.now }
+        requires { HasTextForm self.now }
         ensures text { IfSome result (λ copy. text_in copy ≡ text_in self.now) }
         ensures wide { IfSome result (λ copy. wide_in copy ≡ wide_in self.now) }
-        ensures stored { IfSome result (λ copy. IsStored copy) }
+        ensures stored { IfSome result (λ copy. HasTextForm copy) }
     {
         match self {
             CellText::Narrow(short) => Some(CellText::Narrow(*short)),
@@ -162,10 +162,10 @@ impl CellText {
 
     /// A copy. It can only fail where the text is longer than seven bytes.
     pub(super) fn copied(&self) -> Result<CellText, AllocError>
-        requires { IsStored self.now }
+        requires { HasTextForm self.now }
         ensures text { IfOk result (λ copy. text_in copy ≡ text_in self.now) }
         ensures wide { IfOk result (λ copy. wide_in copy ≡ wide_in self.now) }
-        ensures stored { IfOk result (λ copy. IsStored copy) }
+        ensures stored { IfOk result (λ copy. HasTextForm copy) }
         ensures succeeds { length (text_in self.now) ≤ 7 → IsOk result }
     {
         match self {
@@ -184,7 +184,7 @@ fn long_text(alloc: Global, text: &str, wide: bool) -> Result<CellText, AllocErr
     requires long { 8 ≤ length text.now }
     ensures text { IfOk result (λ stored. text_in stored ≡ text.now) }
     ensures wide { IfOk result (λ stored. wide_in stored ≡ wide) }
-    ensures stored { IfOk result (λ stored. IsStored stored) }
+    ensures stored { IfOk result (λ stored. HasTextForm stored) }
 {
     let text = String::from_str(alloc, text)?;
     Ok(CellText::Long(Box::new(alloc, LongText { text, wide })?))

@@ -6,7 +6,7 @@ ghost use Rattle.std.specs.Int.{int_rem_euclid, w64};
 ghost use Rattle.std.specs.Int.RustNames.{FitsSigned, int_rem};
 ghost use Rattle.unicode_segmentation.specs.Grapheme.{graphemes};
 ghost use Rattle.termwiz_cell.specs.ChangeValue.{change_value, is_text};
-ghost use Rattle.termwiz_cell.specs.Width.{unversioned};
+ghost use Rattle.termwiz_cell.specs.Measure.{measure};
 ghost use Rattle.termwiz_cell.specs.Sequence.{aim, cell_place, grapheme_place, position_place};
 ghost use Rattle.termwiz_cell.specs.Sequence.{printed_columns, text_place};
 ghost use Rattle.termwiz_cell.specs.declared.change.sequence.SequenceError.TheVariants.{Range};
@@ -96,7 +96,7 @@ impl<W: Widths> Model for ChangeSequence<W> {
 fn columns_of<W: Widths>(widths: &W, grapheme: &str) -> usize
     requires alone { graphemes true grapheme.now ≡ grapheme.now ∷ [] }
     requires no_break { bytes_eq grapheme.now (13 ∷ 10 ∷ []) ≡ false }
-    ensures { result ≡ printed_columns (unversioned (W.width_of widths.now)) grapheme.now }
+    ensures { result ≡ printed_columns (measure W.width_of widths.now) grapheme.now }
 {
     match grapheme.as_bytes() {
         [byte] if *byte < 0x20 || *byte == 0x7f => 1,
@@ -134,7 +134,7 @@ fn after_grapheme<W: Widths>(
     requires few { columns < 2 ^ 32 }
     requires row { at.1 ≤ℤ pos (2 ^ 65) }
     ensures place { result
-        ≡ grapheme_place (unversioned (W.width_of widths.now)) columns at grapheme.now }
+        ≡ grapheme_place (measure W.width_of widths.now) columns at grapheme.now }
     ensures column { result.0 ≤ columns }
     ensures row { result.1 ≤ℤ (at.1 +ℤ pos 1) }
 {
@@ -153,7 +153,7 @@ fn after_text<W: Widths>(widths: &W, columns: usize, x: usize, y: i128, text: &s
     requires few { columns < 2 ^ 32 }
     requires row { y ≤ℤ pos (2 ^ 63) }
     ensures place { result
-        ≡ text_place (unversioned (W.width_of widths.now)) columns (x, y) text.now }
+        ≡ text_place (measure W.width_of widths.now) columns (x, y) text.now }
     ensures column { result.0 ≤ columns }
     ensures row { result.1 ≤ℤ pos (2 ^ 65) }
 {
@@ -279,11 +279,11 @@ impl<W: Widths> ChangeSequence<W> {
     // Where a text takes the cursor.
     fn after_text(&self, text: &str) -> Result<(usize, isize), SequenceError>
         ensures ok { IfOk result (λ at.
-            at ≡ text_place (unversioned (W.width_of self.now.widths)) self.now.columns
+            at ≡ text_place (measure W.width_of self.now.widths) self.now.columns
             self.now.cursor text.now) }
         ensures column { IfOk result (λ at. at.0 ≤ self.now.columns) }
         ensures err { IfErr result (λ error. (error ≡ Range)
-            × (FitsSigned w64 (text_place (unversioned (W.width_of self.now.widths))
+            × (FitsSigned w64 (text_place (measure W.width_of self.now.widths)
             self.now.columns self.now.cursor text.now).1 → ⊥)) }
     {
         let (x, y) = after_text(&self.widths, self.columns, self.x, self.y as i128, text);
@@ -304,12 +304,12 @@ impl<W: Widths> ChangeSequence<W> {
     // Where a change takes the cursor.
     fn after_change(&self, change: &Change) -> Result<(usize, isize), SequenceError>
         ensures ok { IfOk result (λ at.
-            at ≡ place_after (unversioned (W.width_of self.now.widths)) self.now
+            at ≡ place_after (measure W.width_of self.now.widths) self.now
             (change_value change.now)) }
         ensures column { IfOk result (λ at. at.0 ≤ self.now.columns) }
         ensures err { IfErr result (λ error. (error ≡ Range)
             × (is_text (change_value change.now) ≡ true)
-            × (RowFits (unversioned (W.width_of self.now.widths)) self.now
+            × (RowFits (measure W.width_of self.now.widths) self.now
             (change_value change.now) → ⊥)) }
     {
         match change {
@@ -345,7 +345,7 @@ impl<W: Widths> ChangeSequence<W> {
     /// `Range`: a text takes the row past the greatest `isize`. `Memory`: a growth was refused.
     /// After both nothing has changed.
     pub fn add(&mut self, change: Change) -> Result<(), SequenceError>
-        ensures { AddsOne (unversioned (W.width_of self.old.widths)) self.old
+        ensures { AddsOne (measure W.width_of self.old.widths) self.old
             (change_value change) result self.new }
     {
         let (x, y) = self.after_change(&change)?;
@@ -359,7 +359,7 @@ impl<W: Widths> ChangeSequence<W> {
 
     /// Adds the changes in order. On an error those before the refused one stay.
     pub fn add_changes(&mut self, changes: Vec<Change>) -> Result<(), SequenceError>
-        ensures { AddsAll (unversioned (W.width_of self.old.widths)) self.old
+        ensures { AddsAll (measure W.width_of self.old.widths) self.old
             (map change_value changes.items) result self.new }
     {
         for change in changes {
@@ -376,7 +376,7 @@ impl<W: Widths> ChangeSequence<W> {
     /// - `Range`: a distance is no `isize`. `Memory`: a growth was refused. After both nothing has
     ///   changed.
     pub fn move_to(&mut self, place: (usize, isize)) -> Result<(), SequenceError>
-        ensures { MovesTo (unversioned (W.width_of self.old.widths)) self.old place result
+        ensures { MovesTo (measure W.width_of self.old.widths) self.old place result
             self.new }
     {
         let change = self.move_by(place)?;

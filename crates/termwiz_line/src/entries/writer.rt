@@ -4,9 +4,9 @@ ghost use Rattle.std.specs.Prelude.{not, length, ◌≤◌, ◌==◌, IfOk, OnOk
 ghost use Rattle.termwiz_text.specs.Plain as plain;
 ghost use Rattle.termwiz_cell.specs.Attributes as attributes;
 ghost use Rattle.termwiz_cell.specs.Attributes.{attributes_eq};
-ghost use Rattle.termwiz_cell.specs.CellValue.{CellValue};
 ghost use Rattle.termwiz_cell.specs.ChangeValue.{change_value, is_text};
 ghost use Rattle.termwiz_storage.specs.CellsLeft.{cells_left};
+ghost use Rattle.termwiz_storage.specs.VisibleCell.{VisibleCell};
 ghost use Rattle.std.specs.Option.{option_copied};
 ghost use Rattle.termwiz_line.specs.Entries as spec;
 ghost use Rattle.termwiz_line.specs.LastChange.{last_is};
@@ -83,7 +83,7 @@ impl<'a> RowWriter<'a> {
     #[inline(always)]
     pub fn cell(&mut self, text: &str, attrs: &'a CellAttributes) -> Result<(), AllocError>
         ensures { OnOk result (
-            (from : spec.Penned) (cells : List (ℕ × CellValue)) (p : ℕ × CellValue) →
+            (from : spec.Penned) (cells : List VisibleCell) (p : VisibleCell) →
             p.1.text ≡ text.now → p.1.attrs ≡ attrs.now → IsWritten from cells self.old →
             IsWritten from (cells ++ p ∷ []) self.new) }
     {
@@ -98,7 +98,7 @@ impl<'a> RowWriter<'a> {
     #[inline(always)]
     pub fn spaces(&mut self, count: usize, attrs: &'a CellAttributes) -> Result<(), AllocError>
         ensures { OnOk result (
-            (from : spec.Penned) (cells more : List (ℕ × CellValue)) →
+            (from : spec.Penned) (cells more : List VisibleCell) →
             spec.all_spaces attrs.now more ≡ true → length more ≡ count →
             IsWritten from cells self.old → IsWritten from (cells ++ more) self.new) }
     {
@@ -159,7 +159,7 @@ impl<'a> RowWriter<'a> {
     #[inline(always)]
     fn print(&mut self, text: &str, attrs: &'a CellAttributes) -> Result<(), AllocError>
         ensures printed { OnOk result (
-            (p : ℕ × CellValue) → p.1.text ≡ text.now → p.1.attrs ≡ attrs.now →
+            (p : VisibleCell) → p.1.text ≡ text.now → p.1.attrs ≡ attrs.now →
             self.new.printed ≡ spec.cell_out self.old.printed p) }
         ensures spaces { self.new.spaces ≡ self.old.spaces }
         ensures space_attrs { self.new.space_attrs ≡ self.old.space_attrs }
@@ -181,7 +181,7 @@ impl<'a> RowWriter<'a> {
         requires between { self.old.spaces ≡ 0 }
         requires apart { last_is is_text self.old.printed.entries ≡ false }
         ensures row { OnOk result (
-            (more : List (ℕ × CellValue)) → spec.all_spaces attrs.now more ≡ true →
+            (more : List VisibleCell) → spec.all_spaces attrs.now more ≡ true →
             length more ≡ spaces →
             self.new.printed
             ≡ behind self.old.printed.entries (spec.row_entries self.old.printed.pen
@@ -197,7 +197,7 @@ impl<'a> RowWriter<'a> {
     // for each cell.
     fn cells(&mut self, cells: VisibleCellIter<'a>) -> Result<(), AllocError>
         ensures { OnOk result (
-            (from : spec.Penned) (before : List (ℕ × CellValue)) → IsWritten from before self.old →
+            (from : spec.Penned) (before : List VisibleCell) → IsWritten from before self.old →
             IsWritten from (before ++ cells_left cells.entry) self.new) }
     {
         match cells {
@@ -210,7 +210,7 @@ impl<'a> RowWriter<'a> {
     // written in a loop of their own, which asks only what they need.
     fn stored_cells(&mut self, cells: VecStorageIter<'a>) -> Result<(), AllocError>
         ensures { OnOk result (
-            (from : spec.Penned) (before : List (ℕ × CellValue)) → IsWritten from before self.old →
+            (from : spec.Penned) (before : List VisibleCell) → IsWritten from before self.old →
             IsWritten from (before ++ cells.entry) self.new) }
     {
         let mut left = cells;
@@ -226,7 +226,7 @@ impl<'a> RowWriter<'a> {
     #[inline(always)]
     fn plain_cells(&mut self, left: &mut VecStorageIter<'a>) -> Result<(), AllocError>
         ensures written { OnOk result (
-            (from : spec.Penned) (all : List (ℕ × CellValue)) →
+            (from : spec.Penned) (all : List VisibleCell) →
             IsUnderWay from all left.old self.old → IsUnderWay from all left.new self.new) }
         ensures shorter { length left.new ≤ length left.old }
     {
@@ -251,7 +251,7 @@ impl<'a> RowWriter<'a> {
         requires text { last_is ends_printable self.old.printed.entries ≡ true }
         requires pen { pen.now ≡ self.old.printed.pen }
         ensures written { OnOk result (
-            (from : spec.Penned) (all : List (ℕ × CellValue)) →
+            (from : spec.Penned) (all : List VisibleCell) →
             IsUnderWay from all left.old self.old → IsUnderWay from all left.new self.new) }
         ensures shorter { length left.new ≤ length left.old }
     {
@@ -276,7 +276,7 @@ impl<'a> RowWriter<'a> {
         requires plain { plain.is_plain byte ≡ true }
         requires text { IsInText self.old }
         ensures cell { OnOk result (
-            (from : spec.Penned) (cells : List (ℕ × CellValue)) (p : ℕ × CellValue) →
+            (from : spec.Penned) (cells : List VisibleCell) (p : VisibleCell) →
             p.1.text ≡ byte ∷ [] → p.1.attrs ≡ self.old.printed.pen →
             IsWritten from cells self.old → IsWritten from (cells ++ p ∷ []) self.new) }
         ensures text { OnOk result (IsInText self.new) }
@@ -294,7 +294,7 @@ impl<'a> RowWriter<'a> {
     #[inline(always)]
     fn walk(&mut self, cells: VisibleCellIter<'a>) -> Result<(), AllocError>
         ensures { OnOk result (
-            (from : spec.Penned) (before : List (ℕ × CellValue)) → IsWritten from before self.old →
+            (from : spec.Penned) (before : List VisibleCell) → IsWritten from before self.old →
             IsWritten from (before ++ cells_left cells.entry) self.new) }
     {
         for cell in cells {
@@ -305,7 +305,8 @@ impl<'a> RowWriter<'a> {
 
     // Whether the spaces held back are left out where the row ends.
     fn leaves_out(&self) -> bool
-        ensures { result ≡ (nat_lt 0 self.now.spaces && attributes.is_plain self.now.space_attrs) }
+        ensures { result ≡ (nat_lt 0 self.now.spaces
+            && attributes.has_only_background self.now.space_attrs) }
     {
         self.spaces > 0 && is_plain(self.space_attrs)
     }
@@ -314,7 +315,7 @@ impl<'a> RowWriter<'a> {
     // more than a background.
     fn end_row(&mut self) -> Result<(), AllocError>
         ensures row { OnOk result (
-            (from : spec.Penned) (cells : List (ℕ × CellValue)) →
+            (from : spec.Penned) (cells : List VisibleCell) →
             last_is is_text from.entries ≡ false → IsWritten from cells self.old →
             self.new.printed ≡ behind from.entries (spec.row_entries from.pen cells)) }
         ensures between { OnOk result (self.new.spaces ≡ 0) }
@@ -362,7 +363,7 @@ fn push_tail<'a>(
     pen: &'a CellAttributes,
     end: &'a CellAttributes,
 ) -> Result<&'a CellAttributes, AllocError>
-    ensures { IfOk result (λ after. (kept : List (ℕ × CellValue)) →
+    ensures { IfOk result (λ after. (kept : List VisibleCell) →
         spec.is_empty kept ≡ not (last_is is_text entries.old) →
         record { entries = entries.new; pen = after.now }
         ≡ spec.with_tail (record { entries = entries.old; pen = pen.now }) kept end.now) }

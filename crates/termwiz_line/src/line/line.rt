@@ -9,7 +9,7 @@ ghost use Rattle.termwiz_storage.specs.Halves.{resized};
 ghost use Rattle.termwiz_storage.specs.CellLists.{cells_eq};
 ghost use Rattle.termwiz_storage.specs.Clustered.{IsWhole};
 ghost use Rattle.termwiz_storage.specs.CellsLeft.{cells_left};
-ghost use Rattle.termwiz_storage.specs.Storage.{cells_of, is_vector};
+ghost use Rattle.termwiz_storage.specs.Storage.{cells_in, is_vector};
 ghost use Rattle.termwiz_line.specs.LineFlags.{no_flags};
 ghost use Rattle.termwiz_line.specs.InWidth.{in_width};
 ghost use Rattle.termwiz_line.specs.LineValue.{IsEdited, IsUnchanged};
@@ -81,8 +81,8 @@ pub struct Line {
 
 impl Model for Line {
     ghost use Rattle.std.specs.Prelude.{◌≡◌};
-    ghost use Rattle.termwiz_storage.specs.Storage.{cells_of, is_vector};
-    ghost use Rattle.termwiz_line.specs.LineFlags.{flags_of, bits_of};
+    ghost use Rattle.termwiz_storage.specs.Storage.{cells_in, is_vector};
+    ghost use Rattle.termwiz_line.specs.LineFlags.{flags_of, flag_bits};
     ghost use Rattle.termwiz_line.specs.LineValue.{LineValue};
     ghost use Rattle.termwiz_line.specs.Zones.{AreUpToDate};
 
@@ -90,15 +90,15 @@ impl Model for Line {
 
     ghost view = { λ l.
         record {
-          cells = cells_of l.storage;
+          cells = cells_in l.storage;
           seqno = l.seqno;
           flags = flags_of l.bits.0;
           is_vector = is_vector l.storage;
         } };
 
     // There are no other bits, and zones that are kept are those of the cells.
-    ghost invariant = { λ l. (bits_of (flags_of l.bits.0) ≡ l.bits.0)
-        × AreUpToDate l.zones (cells_of l.storage) };
+    ghost invariant = { λ l. (flag_bits (flags_of l.bits.0) ≡ l.bits.0)
+        × AreUpToDate l.zones (cells_in l.storage) };
 }
 
 impl Line {
@@ -157,7 +157,7 @@ impl Line {
     fn of(alloc: Global, storage: CellStorage, seqno: SequenceNo) -> Line
         ensures { result
             ≡ record {
-              cells = cells_of storage;
+              cells = cells_in storage;
               seqno = seqno;
               flags = no_flags;
               is_vector = is_vector storage;

@@ -1,6 +1,6 @@
 //! The flags of a line, as bits of a number.
 ghost use Rattle.std.specs.Prelude.{⊤, ◌≡◌, [], ◌∷◌, codes};
-ghost use Rattle.termwiz_line.specs.LineFlags.{bits_of, flags_of, with_direction, with_sizes};
+ghost use Rattle.termwiz_line.specs.LineFlags.{flag_bits, flags_of, with_direction, with_sizes};
 
 use bitflags::{Flag, Flags, bitflag_items};
 
@@ -47,10 +47,10 @@ impl Flags for LineBits {
 impl LineBits {
     /// Says how large the cells are shown.
     pub(super) fn set_sizes(&mut self, double_width: bool, top: bool, bottom: bool)
-        requires { bits_of (flags_of self.old.0) ≡ self.old.0 }
+        requires { flag_bits (flags_of self.old.0) ≡ self.old.0 }
         ensures sizes { flags_of self.new.0
             ≡ with_sizes double_width top bottom (flags_of self.old.0) }
-        ensures no_others { bits_of (flags_of self.new.0) ≡ self.new.0 }
+        ensures no_others { flag_bits (flags_of self.new.0) ≡ self.new.0 }
     {
         self.set(LineBits::DOUBLE_WIDTH, double_width);
         self.set(LineBits::DOUBLE_HEIGHT_TOP, top);
@@ -59,20 +59,20 @@ impl LineBits {
 
     /// Says whether the bidirectional algorithm may lay out the text.
     pub(super) fn set_bidi_enabled(&mut self, enabled: bool)
-        requires { bits_of (flags_of self.old.0) ≡ self.old.0 }
+        requires { flag_bits (flags_of self.old.0) ≡ self.old.0 }
         ensures enabled { flags_of self.new.0
             ≡ record (flags_of self.old.0) { bidi_enabled = enabled } }
-        ensures no_others { bits_of (flags_of self.new.0) ≡ self.new.0 }
+        ensures no_others { flag_bits (flags_of self.new.0) ≡ self.new.0 }
     {
         self.set(LineBits::BIDI_ENABLED, enabled);
     }
 
     /// Says what decides the direction of the text.
     pub(super) fn set_direction(&mut self, right_to_left: bool, auto: bool)
-        requires { bits_of (flags_of self.old.0) ≡ self.old.0 }
+        requires { flag_bits (flags_of self.old.0) ≡ self.old.0 }
         ensures direction { flags_of self.new.0
             ≡ with_direction right_to_left auto (flags_of self.old.0) }
-        ensures no_others { bits_of (flags_of self.new.0) ≡ self.new.0 }
+        ensures no_others { flag_bits (flags_of self.new.0) ≡ self.new.0 }
     {
         self.set(LineBits::RTL, right_to_left);
         self.set(LineBits::AUTO_DETECT_DIRECTION, auto);

@@ -31,10 +31,10 @@ pub(super) struct DiffWriter<'a> {
 }
 
 impl<'a> Model for DiffWriter<'a> {
-    ghost use Rattle.termwiz_screen.specs.Diff.{Drawn};
+    ghost use Rattle.termwiz_screen.specs.Diff.{PrintedOut};
     ghost use Rattle.termwiz_screen.specs.Ends.{end_value};
 
-    ghost Value = { Drawn };
+    ghost Value = { PrintedOut };
 
     ghost view = { λ w. record { entries = w.entries; end = end_value w.end } };
 }
@@ -42,7 +42,7 @@ impl<'a> Model for DiffWriter<'a> {
 impl<'a> DiffWriter<'a> {
     /// A writer of nothing yet.
     pub(super) fn new(alloc: Global) -> DiffWriter<'a>
-        ensures { result ≡ spec.nothing_drawn }
+        ensures { result ≡ spec.nothing_printed }
     {
         DiffWriter {
             entries: EntryList::new(alloc),

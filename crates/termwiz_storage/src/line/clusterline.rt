@@ -49,7 +49,7 @@ impl Model for ClusteredLine {
     ghost use Rattle.std.specs.Prelude.{List, string_bytes};
     ghost use Rattle.termwiz_cell.specs.CellValue.{CellValue};
     ghost use Rattle.termwiz_storage.specs.CellRuns.{attrs_of, shapes_of};
-    ghost use Rattle.termwiz_storage.specs.Clustered.{IsSound, cells_from};
+    ghost use Rattle.termwiz_storage.specs.Clustered.{IsClusteredText, cells_from};
 
     ghost Value = { List CellValue };
 
@@ -57,7 +57,8 @@ impl Model for ClusteredLine {
         cells_from (string_bytes s.text) (shapes_of s.shapes.items) (attrs_of s.attrs.items) };
 
     ghost invariant = { λ s.
-        IsSound (string_bytes s.text) (shapes_of s.shapes.items) (attrs_of s.attrs.items) s.len };
+        IsClusteredText (string_bytes s.text) (shapes_of s.shapes.items) (attrs_of s.attrs.items)
+        s.len };
 }
 
 impl ClusteredLine {
@@ -479,10 +480,10 @@ pub struct ClusterLineIter<'a> {
 
 impl<'a> Model for ClusterLineIter<'a> {
     ghost use Rattle.std.specs.Prelude.{ℕ, List, length, ◌+◌, ◌^◌, ◌<◌};
-    ghost use Rattle.termwiz_cell.specs.CellValue.{CellValue};
     ghost use Rattle.termwiz_storage.specs.Clustered.{IsStepping, shown_cells};
+    ghost use Rattle.termwiz_storage.specs.VisibleCell.{VisibleCell};
 
-    ghost Value = { List (ℕ × CellValue) };
+    ghost Value = { List VisibleCell };
 
     ghost view = { λ s. shown_cells s.idx s.text.now s.shapes s.attrs };
 

@@ -18,7 +18,7 @@ ghost use Rattle.termwiz_storage.specs.CellsLeft.{cells_left, IsOfCell};
 ghost use Rattle.termwiz_storage.specs.Clustered.{IsWhole};
 ghost use Rattle.termwiz_storage.specs.Stored.{cell_at, visible, fill, set_cell, set_run, IsKept};
 ghost use Rattle.termwiz_storage.specs.Halves.{resized};
-ghost use Rattle.termwiz_storage.specs.Storage.{cells_of, is_vector, same_cells};
+ghost use Rattle.termwiz_storage.specs.Storage.{cells_in, is_vector, same_cells};
 ghost use Rattle.termwiz_storage.specs.Letters.{set_letters};
 ghost use Rattle.termwiz_storage.specs.Stored.{is_linked};
 ghost use Rattle.termwiz_storage.specs.Lending.{LendsVector};
@@ -51,7 +51,7 @@ pub enum CellStorage {
 impl CellStorage {
     /// A vector of these cells.
     pub fn vector(cells: Vec<Cell>) -> CellStorage
-        ensures cells { cells_of result ≡ cells.items }
+        ensures cells { cells_in result ≡ cells.items }
         ensures vector { is_vector result ≡ true }
     {
         CellStorage::V(VecStorage::new(cells))
@@ -59,7 +59,7 @@ impl CellStorage {
 
     /// No cells, in a text.
     pub fn clustered(alloc: Global) -> CellStorage
-        ensures cells { cells_of result ≡ [] }
+        ensures cells { cells_in result ≡ [] }
         ensures clustered { is_vector result ≡ false }
     {
         CellStorage::Cluster(ClusteredLine::new(alloc))
@@ -67,7 +67,7 @@ impl CellStorage {
 
     /// How many cells are stored, hidden ones among them.
     pub fn len(&self) -> usize
-        ensures { result ≡ length (cells_of self.now) }
+        ensures { result ≡ length (cells_in self.now) }
     {
         match self {
             CellStorage::V(storage) => storage.len(),
@@ -77,7 +77,7 @@ impl CellStorage {
 
     /// Whether no cell is stored.
     pub fn is_empty(&self) -> bool
-        ensures { IsTrue result ↔ (cells_of self.now ≡ []) }
+        ensures { IsTrue result ↔ (cells_in self.now ≡ []) }
     {
         match self {
             CellStorage::V(storage) => storage.is_empty(),
@@ -88,7 +88,7 @@ impl CellStorage {
     /// The stored cells of a vector, hidden ones among them. A text has none to lend.
     pub fn cells(&self) -> Option<&[Cell]>
         ensures { option_map (λ cells. cells.now) result
-            ≡ (if is_vector self.now then Some (cells_of self.now) else None) }
+            ≡ (if is_vector self.now then Some (cells_in self.now) else None) }
     {
         match self {
             CellStorage::V(storage) => Some(storage.cells()),
@@ -100,7 +100,7 @@ impl CellStorage {
     /// none to lend.
     pub fn text(&self) -> Option<&str>
         ensures { option_map (λ text. text.now) result
-            ≡ (if is_vector self.now then None else Some (texts_of (visible (cells_of self.now)))) }
+            ≡ (if is_vector self.now then None else Some (texts_of (visible (cells_in self.now)))) }
     {
         match self {
             CellStorage::V(_) => None,
@@ -110,7 +110,7 @@ impl CellStorage {
 
     /// The visible cells, in order.
     pub fn iter(&self) -> VisibleCellIter<'_>
-        ensures { cells_left result ≡ visible (cells_of self.now) }
+        ensures { cells_left result ≡ visible (cells_in self.now) }
     {
         match self {
             CellStorage::V(storage) => VisibleCellIter::V(storage.iter()),
@@ -128,12 +128,12 @@ impl CellStorage {
     /// - On an error the cells are as before. It comes also for a cell past the greatest column,
     ///   and for one of 2^32 bytes or more that is appended to a text.
     pub fn set_cell(&mut self, i: usize, cell: Cell) -> Result<(), AllocError>
-        ensures ok { OnOk result (cells_of self.new ≡ set_cell i cell (cells_of self.old)) }
-        ensures err { OnErr result (cells_of self.new ≡ cells_of self.old) }
+        ensures ok { OnOk result (cells_in self.new ≡ set_cell i cell (cells_in self.old)) }
+        ensures err { OnErr result (cells_in self.new ≡ cells_in self.old) }
         ensures vector { is_vector self.old ≡ true → is_vector self.new ≡ true }
-        ensures appended { is_vector self.old ≡ false → i ≡ length (cells_of self.old) →
+        ensures appended { is_vector self.old ≡ false → i ≡ length (cells_in self.old) →
             OnOk result (is_vector self.new ≡ false) }
-        ensures made { i ≢ length (cells_of self.old) → OnOk result (is_vector self.new ≡ true) }
+        ensures made { i ≢ length (cells_in self.old) → OnOk result (is_vector self.new ≡ true) }
     {
         if let CellStorage::Cluster(line) = self {
             if line.len() == i {
@@ -151,8 +151,8 @@ impl CellStorage {
     #[inline(always)]
     pub fn set_cell_within(&mut self, i: usize, cell: Cell, len: usize) -> Result<(), AllocError>
         ensures ok { OnOk result (
-            cells_of self.new ≡ take len (set_cell i cell (cells_of self.old))) }
-        ensures err { OnErr result (cells_of self.new ≡ cells_of self.old) }
+            cells_in self.new ≡ take len (set_cell i cell (cells_in self.old))) }
+        ensures err { OnErr result (cells_in self.new ≡ cells_in self.old) }
         ensures vector { is_vector self.old ≡ true → is_vector self.new ≡ true }
         ensures made { OnOk result (is_vector self.new ≡ true) }
     {
@@ -168,8 +168,8 @@ impl CellStorage {
     #[inline(never)]
     fn set_in_text_within(&mut self, i: usize, cell: Cell, len: usize) -> Result<(), AllocError>
         ensures ok { OnOk result (
-            cells_of self.new ≡ take len (set_cell i cell (cells_of self.old))) }
-        ensures err { OnErr result (cells_of self.new ≡ cells_of self.old) }
+            cells_in self.new ≡ take len (set_cell i cell (cells_in self.old))) }
+        ensures err { OnErr result (cells_in self.new ≡ cells_in self.old) }
         ensures vector { is_vector self.old ≡ true → is_vector self.new ≡ true }
         ensures made { OnOk result (is_vector self.new ≡ true) }
     {
@@ -185,8 +185,8 @@ impl CellStorage {
         requires plain { list_all is_plain run.now ≡ true }
         requires unboxed { needs_box attrs.now ≡ false }
         ensures ok { OnOk result (
-            cells_of self.new ≡ set_run i run.now attrs.now (cells_of self.old)) }
-        ensures err { OnErr result (cells_of self.new ≡ cells_of self.old) }
+            cells_in self.new ≡ set_run i run.now attrs.now (cells_in self.old)) }
+        ensures err { OnErr result (cells_in self.new ≡ cells_in self.old) }
         ensures vector { is_vector self.old ≡ true → is_vector self.new ≡ true }
         ensures made { OnOk result (is_vector self.new ≡ true) }
     {
@@ -211,8 +211,8 @@ impl CellStorage {
         requires letters { AreLetters run.now }
         requires unboxed { needs_box attrs.now ≡ false }
         ensures ok { OnOk result (
-            cells_of self.new ≡ set_letters i (chars run.now) attrs.now (cells_of self.old)) }
-        ensures err { OnErr result (cells_of self.new ≡ cells_of self.old) }
+            cells_in self.new ≡ set_letters i (chars run.now) attrs.now (cells_in self.old)) }
+        ensures err { OnErr result (cells_in self.new ≡ cells_in self.old) }
         ensures vector { is_vector self.old ≡ true → is_vector self.new ≡ true }
         ensures made { OnOk result (is_vector self.new ≡ true) }
     {
@@ -228,8 +228,8 @@ impl CellStorage {
     /// On an error the cells are as before.
     pub fn set_blanks(&mut self, from: usize, to: usize) -> Result<(), AllocError>
         ensures ok { OnOk result (
-            cells_of self.new ≡ fill (to - from) from blank (cells_of self.old)) }
-        ensures err { OnErr result (cells_of self.new ≡ cells_of self.old) }
+            cells_in self.new ≡ fill (to - from) from blank (cells_in self.old)) }
+        ensures err { OnErr result (cells_in self.new ≡ cells_in self.old) }
         ensures vector { is_vector self.old ≡ true → is_vector self.new ≡ true }
         ensures made { OnOk result (is_vector self.new ≡ true) }
     {
@@ -240,9 +240,9 @@ impl CellStorage {
     /// Makes the list this many default blanks, in a vector. It can only fail where the list grows,
     /// or a text becomes a vector. On an error the cells are as before.
     pub fn blank_out(&mut self, len: usize) -> Result<(), AllocError>
-        ensures ok { OnOk result (cells_of self.new ≡ replicate len blank) }
-        ensures err { OnErr result (cells_of self.new ≡ cells_of self.old) }
-        ensures succeeds { is_vector self.old ≡ true → len ≤ length (cells_of self.old) →
+        ensures ok { OnOk result (cells_in self.new ≡ replicate len blank) }
+        ensures err { OnErr result (cells_in self.new ≡ cells_in self.old) }
+        ensures succeeds { is_vector self.old ≡ true → len ≤ length (cells_in self.old) →
             IsOk result }
         ensures vector { is_vector self.old ≡ true → is_vector self.new ≡ true }
         ensures made { OnOk result (is_vector self.new ≡ true) }
@@ -261,9 +261,9 @@ impl CellStorage {
     /// - It can only fail where the list grows, or a text becomes a vector. On an error the cells
     ///   are as before.
     pub fn resize(&mut self, len: usize) -> Result<(), AllocError>
-        ensures ok { OnOk result (cells_of self.new ≡ resized len (cells_of self.old)) }
-        ensures err { OnErr result (cells_of self.new ≡ cells_of self.old) }
-        ensures succeeds { is_vector self.old ≡ true → len ≤ length (cells_of self.old) →
+        ensures ok { OnOk result (cells_in self.new ≡ resized len (cells_in self.old)) }
+        ensures err { OnErr result (cells_in self.new ≡ cells_in self.old) }
+        ensures succeeds { is_vector self.old ≡ true → len ≤ length (cells_in self.old) →
             IsOk result }
         ensures vector { is_vector self.old ≡ true → is_vector self.new ≡ true }
         ensures made { OnOk result (is_vector self.new ≡ true) }
@@ -275,8 +275,8 @@ impl CellStorage {
     /// Cuts the list to at most this many cells. A text becomes a vector, also where nothing is
     /// cut, and only that can fail. On an error the cells are as before.
     pub fn truncate(&mut self, len: usize) -> Result<(), AllocError>
-        ensures ok { OnOk result (cells_of self.new ≡ take len (cells_of self.old)) }
-        ensures err { OnErr result (cells_of self.new ≡ cells_of self.old) }
+        ensures ok { OnOk result (cells_in self.new ≡ take len (cells_in self.old)) }
+        ensures err { OnErr result (cells_in self.new ≡ cells_in self.old) }
         ensures succeeds { is_vector self.old ≡ true → IsOk result }
         ensures vector { is_vector self.old ≡ true → is_vector self.new ≡ true }
         ensures made { OnOk result (is_vector self.new ≡ true) }
@@ -290,9 +290,9 @@ impl CellStorage {
     /// With a vector that has cells it never fails. On an error the cells are as before.
     pub fn set_last_wrapped(&mut self, wrapped: bool) -> Result<(), AllocError>
         ensures ok { OnOk result (
-            cells_of self.new ≡ set_last_wrapped wrapped (cells_of self.old)) }
-        ensures err { OnErr result (cells_of self.new ≡ cells_of self.old) }
-        ensures succeeds { is_vector self.old ≡ true → 0 < length (cells_of self.old) →
+            cells_in self.new ≡ set_last_wrapped wrapped (cells_in self.old)) }
+        ensures err { OnErr result (cells_in self.new ≡ cells_in self.old) }
+        ensures succeeds { is_vector self.old ≡ true → 0 < length (cells_in self.old) →
             IsOk result }
         ensures form { is_vector self.new ≡ is_vector self.old }
     {
@@ -306,7 +306,7 @@ impl CellStorage {
     /// How many cells are left without the visible default blanks that end the list. The hidden
     /// cell behind a wide one is none of these.
     pub fn kept_len(&self) -> usize
-        ensures { IsKept (cells_of self.now) result }
+        ensures { IsKept (cells_in self.now) result }
     {
         match self {
             CellStorage::V(storage) => storage.kept_len(),
@@ -316,7 +316,7 @@ impl CellStorage {
 
     /// The attributes of the last visible cell, where there is one.
     pub fn last_attrs(&self) -> Option<&CellAttributes>
-        ensures { option_copied result ≡ last_attrs (visible (cells_of self.now)) }
+        ensures { option_copied result ≡ last_attrs (visible (cells_in self.now)) }
     {
         match self {
             CellStorage::V(storage) => storage.last_attrs(),
@@ -326,7 +326,7 @@ impl CellStorage {
 
     /// The visible cell that begins at a column.
     pub fn get_cell(&self, i: usize) -> Option<CellRef<'_>>
-        ensures cell { option_map ref_cell result ≡ cell_at (visible (cells_of self.now)) i }
+        ensures cell { option_map ref_cell result ≡ cell_at (visible (cells_in self.now)) i }
         ensures index { IfSome result (λ cell. ref_index cell ≡ i) }
         ensures told { IfSome result IsOfCell }
     {
@@ -338,7 +338,7 @@ impl CellStorage {
 
     /// Whether a stored cell has a link.
     pub fn has_hyperlink(&self) -> bool
-        ensures { result ≡ list_any is_linked (cells_of self.now) }
+        ensures { result ≡ list_any is_linked (cells_in self.now) }
     {
         match self {
             CellStorage::V(storage) => storage.has_hyperlink(),
@@ -348,7 +348,7 @@ impl CellStorage {
 
     /// A copy of the cells in a vector, cut to this many cells, or grown to them as by `resize`.
     pub fn resized_copy(&self, len: usize) -> Result<CellStorage, AllocError>
-        ensures cells { IfOk result (λ copy. cells_of copy ≡ resized len (cells_of self.now)) }
+        ensures cells { IfOk result (λ copy. cells_in copy ≡ resized len (cells_in self.now)) }
         ensures vector { IfOk result (λ copy. is_vector copy ≡ true) }
     {
         match self {
@@ -370,7 +370,7 @@ impl CellStorage {
     #[inline(never)]
     pub fn coerce_vec(&mut self) -> Result<&mut VecStorage, AllocError>
         ensures* writes_back { sem 𝓛 (LendsVector self.entry result) }
-        ensures value { IfOk result (λ v. v.now ≡ cells_of self.old) }
+        ensures value { IfOk result (λ v. v.now ≡ cells_in self.old) }
         ensures succeeds { is_vector self.old ≡ true → IsOk result }
     {
         if let CellStorage::Cluster(line) = self {
@@ -389,8 +389,8 @@ impl CellStorage {
     ///   hides it, or where the last visible cell is wide and lacks its half.
     /// - On an error, which a visible cell of 2^32 bytes or more gives too, nothing changed.
     pub fn compress(&mut self, alloc: Global) -> Result<(), AllocError>
-        ensures cells { cells_of self.new ≡ cells_of self.old }
-        ensures clustered { OnOk result (is_vector self.new ≡ false ↔ IsWhole (cells_of self.old)) }
+        ensures cells { cells_in self.new ≡ cells_in self.old }
+        ensures clustered { OnOk result (is_vector self.new ≡ false ↔ IsWhole (cells_in self.old)) }
         ensures err { OnErr result (self.new ≡ self.old) }
     {
         match self {
@@ -436,25 +436,25 @@ impl Clone for CellStorage {
 impl PartialEq for CellStorage {
     ghost eq = { same_cells };
 
-    ghost laws = { on_per cells_of (partial_equiv_from_equiv (decided cells_eq cells_eq-Decides)) };
+    ghost laws = { on_per cells_in (partial_equiv_from_equiv (decided cells_eq cells_eq-Decides)) };
 
     fn eq(&self, other: &CellStorage) -> bool
         ensures value { result ≡ same_cells self.now other.now }
-        ensures same { IsTrue result ↔ (cells_of self.now ≡ cells_of other.now) }
+        ensures same { IsTrue result ↔ (cells_in self.now ≡ cells_in other.now) }
     {
         self.has_same_cells(other)
     }
 }
 
 impl Eq for CellStorage {
-    ghost laws = { on_equiv cells_of (decided cells_eq cells_eq-Decides) };
+    ghost laws = { on_equiv cells_in (decided cells_eq cells_eq-Decides) };
 }
 
 impl CellStorage {
     // Whether each hidden cell is the half of the one that hides it, and no visible wide cell lacks
     // its half. The reader of a text's length knows it.
     fn is_whole(&self) -> bool
-        ensures { IsTrue result ↔ IsWhole (cells_of self.now) }
+        ensures { IsTrue result ↔ IsWhole (cells_in self.now) }
     {
         match self {
             CellStorage::V(storage) => is_whole(storage.cells()),
@@ -466,7 +466,7 @@ impl CellStorage {
     }
 
     fn has_same_cells(&self, other: &CellStorage) -> bool
-        ensures { IsTrue result ↔ (cells_of self.now ≡ cells_of other.now) }
+        ensures { IsTrue result ↔ (cells_in self.now ≡ cells_in other.now) }
     {
         match (self, other) {
             (CellStorage::V(a), CellStorage::V(b)) => *a == *b,
@@ -478,7 +478,7 @@ impl CellStorage {
 
 // Whether both are the same list.
 fn has_cells_of(line: &ClusteredLine, other: &CellStorage) -> bool
-    ensures { IsTrue result ↔ (line.now ≡ cells_of other.now) }
+    ensures { IsTrue result ↔ (line.now ≡ cells_in other.now) }
 {
     if line.len() != other.len() || !other.is_whole() {
         return false;

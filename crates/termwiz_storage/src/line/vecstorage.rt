@@ -661,8 +661,9 @@ impl<'a> Model for VecStorageIter<'a> {
     ghost use Rattle.std.specs.Slice.Iter.{iter_rest};
     ghost use Rattle.termwiz_cell.specs.CellValue.{CellValue};
     ghost use Rattle.termwiz_storage.specs.Stored.{visible_from, hides, torn};
+    ghost use Rattle.termwiz_storage.specs.VisibleCell.{VisibleCell};
 
-    ghost Value = { List (ℕ × CellValue) };
+    ghost Value = { List VisibleCell };
 
     ghost view = { λ s. visible_from s.idx 0 (iter_rest s.cells) };
 

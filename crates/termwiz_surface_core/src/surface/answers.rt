@@ -21,7 +21,7 @@ use std::borrow::CowSlice;
 use termwiz_cell::cell::Cell;
 use termwiz_cell::change::{Change, SequenceNo};
 use termwiz_cell::emoji::Widths;
-use termwiz_screen::log::worth;
+use termwiz_screen::log::delta_limit;
 use termwiz_screen::repaint::full::{fully_framed, fully_started};
 use termwiz_screen::repaint::{all_rows, framed, started};
 
@@ -98,7 +98,7 @@ impl<W: Widths> Surface<W> {
             StreamsFullyFrom (measure W.width_of) self.now seq (stream_of answer.1)) }
     {
         let number = self.log.next_number();
-        match self.log.due(seq, worth(self.width, self.height)) {
+        match self.log.due(seq, delta_limit(self.width, self.height)) {
             Some(due) => Ok((number, CowSlice::Borrowed(due))),
             None => Ok((number, CowSlice::Owned(self.repaint()?))),
         }

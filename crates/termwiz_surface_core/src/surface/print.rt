@@ -9,12 +9,13 @@ ghost use Rattle.unicode_segmentation.specs.Grapheme.{graphemes};
 ghost use Rattle.termwiz_cell.specs.Measure.{measure};
 ghost use Rattle.termwiz_cell.specs.Attributes.{needs_box};
 ghost use Rattle.termwiz_screen.specs.Print.{columns_left, down, down_kept, one_kept, print};
-ghost use Rattle.termwiz_screen.specs.Print.{print_kept, print_one, put, put_kept, wrapped};
+ghost use Rattle.termwiz_screen.specs.Print.{print_kept, print_one, put_at_cursor, put_kept};
+ghost use Rattle.termwiz_screen.specs.Print.{wrapped};
 ghost use Rattle.termwiz_screen.specs.Print.{wrapped_kept};
-ghost use Rattle.termwiz_surface_core.specs.SurfaceValue.{Draws, SameFrame, kept_of, screen_of};
+ghost use Rattle.termwiz_surface_core.specs.SurfaceValue.{Becomes, SameFrame, kept_of, screen_of};
 ghost use Rattle.termwiz_screen.specs.Measured.{IsMeasured};
 ghost use Rattle.termwiz_screen.specs.Runs.{AreNarrow, AreWide};
-ghost use Rattle.termwiz_surface_core.specs.Printing.{Prints, PrintsSome};
+ghost use Rattle.termwiz_surface_core.specs.Printing.{PrintsGraphemes, PrintsFirst};
 
 use super::Surface;
 use std::alloc::AllocError;
@@ -26,7 +27,7 @@ use termwiz_text::{begins_letter, letter_count, split_first_grapheme};
 
 impl<W: Widths> Surface<W> {
     fn line_feed(&mut self) -> Result<(), AllocError>
-        ensures ok { OnOk result (Draws self.old (down (screen_of self.old))
+        ensures ok { OnOk result (Becomes self.old (down (screen_of self.old))
             (down_kept (screen_of self.old) (kept_of self.old)) self.new) }
         ensures err { OnErr result (self.new ≡ self.old) }
     {
@@ -43,7 +44,7 @@ impl<W: Widths> Surface<W> {
         requires inside { self.old.x < self.old.width }
         requires measured { IsMeasured (measure W.width_of self.old.widths) cell }
         ensures ok { OnOk result (let s = screen_of self.old in
-            Draws self.old (put s cell) (put_kept s cell (kept_of self.old)) self.new) }
+            Becomes self.old (put_at_cursor s cell) (put_kept s cell (kept_of self.old)) self.new) }
         ensures err { OnErr result (self.new ≡ self.old) }
     {
         let end = self.x + cell.width();
@@ -54,7 +55,7 @@ impl<W: Widths> Surface<W> {
 
     // Goes to the next row, where a wrap is pending.
     fn wrap(&mut self) -> Result<(), AllocError>
-        ensures ok { OnOk result (Draws self.old (wrapped (screen_of self.old))
+        ensures ok { OnOk result (Becomes self.old (wrapped (screen_of self.old))
             (wrapped_kept (screen_of self.old) (kept_of self.old)) self.new) }
         ensures inside { OnOk result (self.new.x < self.new.width) }
         ensures err { OnErr result (self.new ≡ self.old) }
@@ -70,7 +71,7 @@ impl<W: Widths> Surface<W> {
         requires { graphemes true grapheme.now ≡ grapheme.now ∷ [] }
         ensures ok { OnOk result (let f = measure W.width_of self.old.widths in
             let s = screen_of self.old in
-            Draws self.old (print_one f s grapheme.now)
+            Becomes self.old (print_one f s grapheme.now)
             (one_kept f s grapheme.now (kept_of self.old)) self.new) }
         ensures err { OnErr result (SameFrame self.old self.new) }
     {
@@ -110,7 +111,7 @@ impl<W: Widths> Surface<W> {
         requires narrow { AreNarrow (measure W.width_of self.old.widths) run.now }
         requires unboxed { needs_box self.old.pen ≡ false }
         requires fits { self.old.x + length run.now ≤ self.old.width }
-        ensures ok { OnOk result (Prints (measure W.width_of self.old.widths)
+        ensures ok { OnOk result (PrintsGraphemes (measure W.width_of self.old.widths)
             self.old (map (λ c. c ∷ []) run.now) self.new) }
         ensures err { OnErr result (self.new ≡ self.old) }
     {
@@ -126,7 +127,7 @@ impl<W: Widths> Surface<W> {
         requires narrow { AreNarrow (measure W.width_of self.old.widths) run.now }
         requires unboxed { needs_box self.old.pen ≡ false }
         requires fits { length run.now ≤ columns_left (screen_of self.old) }
-        ensures ok { OnOk result (Prints (measure W.width_of self.old.widths)
+        ensures ok { OnOk result (PrintsGraphemes (measure W.width_of self.old.widths)
             self.old (map (λ c. c ∷ []) run.now) self.new) }
         ensures err { OnErr result (SameFrame self.old self.new) }
     {
@@ -141,7 +142,7 @@ impl<W: Widths> Surface<W> {
         requires wide { AreWide (measure W.width_of self.old.widths) (chars run.now) }
         requires unboxed { needs_box self.old.pen ≡ false }
         requires fits { self.old.x + 2 * length (chars run.now) ≤ self.old.width }
-        ensures ok { OnOk result (Prints (measure W.width_of self.old.widths)
+        ensures ok { OnOk result (PrintsGraphemes (measure W.width_of self.old.widths)
             self.old (map encode_utf8 (chars run.now)) self.new) }
         ensures err { OnErr result (self.new ≡ self.old) }
     {
@@ -157,7 +158,7 @@ impl<W: Widths> Surface<W> {
         requires wide { AreWide (measure W.width_of self.old.widths) (chars run.now) }
         requires unboxed { needs_box self.old.pen ≡ false }
         requires fits { 2 * length (chars run.now) ≤ columns_left (screen_of self.old) }
-        ensures ok { OnOk result (Prints (measure W.width_of self.old.widths)
+        ensures ok { OnOk result (PrintsGraphemes (measure W.width_of self.old.widths)
             self.old (map encode_utf8 (chars run.now)) self.new) }
         ensures err { OnErr result (SameFrame self.old self.new) }
     {
@@ -170,7 +171,7 @@ impl<W: Widths> Surface<W> {
     // and gives what is left.
     fn print_first<'a>(&mut self, text: &'a str) -> Result<&'a str, AllocError>
         requires { 0 < length text.now }
-        ensures ok { IfOk result (λ rest. PrintsSome (measure W.width_of self.old.widths)
+        ensures ok { IfOk result (λ rest. PrintsFirst (measure W.width_of self.old.widths)
             self.old text.now rest.now self.new) }
         ensures err { OnErr result (SameFrame self.old self.new) }
     {
@@ -198,7 +199,7 @@ impl<W: Widths> Surface<W> {
     pub(super) fn print_text(&mut self, text: &str) -> Result<(), AllocError>
         ensures ok { OnOk result (let f = measure W.width_of self.old.widths in
             let s = screen_of self.old in
-            Draws self.old (print f s text.now)
+            Becomes self.old (print f s text.now)
             (print_kept f s text.now (kept_of self.old)) self.new) }
         ensures err { OnErr result (SameFrame self.old self.new) }
     {

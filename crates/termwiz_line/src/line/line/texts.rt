@@ -5,14 +5,15 @@ ghost use Rattle.std.specs.Cow.{cow_str_bytes, IsBorrowedStr};
 ghost use Rattle.std.specs.List.{All, list_any};
 ghost use Rattle.termwiz_cell.specs.Attributes.{default_attributes};
 ghost use Rattle.termwiz_cell.specs.CellValue.{columns, measured, space};
-ghost use Rattle.termwiz_cell.specs.Width.{at_version, unversioned};
+ghost use Rattle.termwiz_cell.specs.Measure.{measure};
+ghost use Rattle.termwiz_cell.specs.Width.{at_version};
 ghost use Rattle.termwiz_storage.specs.CellRef.{indexed_cell, ref_cell, ref_index};
 ghost use Rattle.termwiz_storage.specs.CellsLeft.{IsOfCell, cells_left};
 ghost use Rattle.termwiz_storage.specs.Stored.{cell_at, is_linked, visible};
 ghost use Rattle.termwiz_line.specs.LineEdits.{IsMade};
 ghost use Rattle.termwiz_line.specs.LineFlags.{no_flags};
 ghost use Rattle.termwiz_line.specs.LineValue.{AppendsAt, EditsElsewhere};
-ghost use Rattle.termwiz_line.specs.Texts.{IsPartlyOverlaid, Overlays, cells_of_text, placed};
+ghost use Rattle.termwiz_line.specs.Texts.{IsPartlyOverlaid, Overlays, cells_of_text, at_columns};
 ghost use Rattle.termwiz_line.specs.Texts.{stored_text, text_within, texts_of, texts_between};
 ghost use Rattle.termwiz_line.specs.Texts.{wrapped_text};
 
@@ -56,7 +57,7 @@ impl Line {
     pub fn from_plain<W: Widths>(alloc: Global, text: &str, widths: &W) -> Result<Line, AllocError>
         ensures { IfOk result (λ line.
             line ≡ record {
-              cells = stored_text (unversioned (W.width_of widths.now))
+              cells = stored_text (measure W.width_of widths.now)
                   default_attributes text.now;
               seqno = 0;
               flags = no_flags;
@@ -83,7 +84,7 @@ impl Line {
         widths: &W,
     ) -> Result<Line, AllocError>
         ensures { IfOk result (
-            IsMade (wrapped_text (unversioned (W.width_of widths.now)) attrs.now text.now) seqno) }
+            IsMade (wrapped_text (measure W.width_of widths.now) attrs.now text.now) seqno) }
     {
         let mut line = Line::from_text(alloc, text, attrs, seqno, None, widths)?;
         if line.len() > 0 {
@@ -109,11 +110,11 @@ impl Line {
         widths: &W,
     ) -> Result<(), AllocError>
         ensures ok { OnOk result (
-            Overlays self.old (placed start (cells_of_text
-            (unversioned (W.width_of widths.now)) attr.now text.now)) seqno self.new) }
+            Overlays self.old (at_columns start (cells_of_text
+            (measure W.width_of widths.now) attr.now text.now)) seqno self.new) }
         ensures err { OnErr result (
-            IsPartlyOverlaid self.old (placed start (cells_of_text
-            (unversioned (W.width_of widths.now)) attr.now text.now)) seqno self.new) }
+            IsPartlyOverlaid self.old (at_columns start (cells_of_text
+            (measure W.width_of widths.now) attr.now text.now)) seqno self.new) }
         ensures appended { OnOk result (AppendsAt start self.old self.new) }
         ensures made { text.now ≢ [] → OnOk result (EditsElsewhere start self.old self.new) }
     {

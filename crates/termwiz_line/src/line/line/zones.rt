@@ -3,7 +3,7 @@ ghost use Rattle.std.specs.Prelude.{◌≡◌, None, ◌<◌, ◌^◌, ◌↔◌
 ghost use Rattle.std.specs.Borrow.{sem};
 ghost use Rattle.termwiz_storage.specs.CellRef.{indexed_cell};
 ghost use Rattle.termwiz_storage.specs.CellsLeft.{cells_left};
-ghost use Rattle.termwiz_storage.specs.Storage.{cells_of};
+ghost use Rattle.termwiz_storage.specs.Storage.{cells_in};
 ghost use Rattle.termwiz_storage.specs.Stored.{visible};
 ghost use Rattle.termwiz_line.specs.Lending.{KeepsLine};
 ghost use Rattle.termwiz_line.specs.Trim.{IsTrimmed};
@@ -57,7 +57,7 @@ pub(super) fn drop_zones(zones: &mut Option<Vec<ZoneRange>>)
 
 // The zones of the visible cells.
 fn zones_of(alloc: Global, storage: &CellStorage) -> Result<Vec<ZoneRange>, AllocError>
-    ensures { IfOk result (λ zones. AreZones (visible (cells_of storage.now)) zones.items) }
+    ensures { IfOk result (λ zones. AreZones (visible (cells_in storage.now)) zones.items) }
 {
     let len = storage.len();
     let kept = kept_count(storage.iter());

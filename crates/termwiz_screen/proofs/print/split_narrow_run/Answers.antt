@@ -1,13 +1,13 @@
 use Rattle.std.proofs.Common.{◌≡◌, ◌≤◌, ℕ, List, [], ◌∷◌, take, subst, sym, ◌∙◌, arith}
 use Rattle.std.proofs.lemmas.List.{take_all}
-use Rattle.termwiz_cell.specs.Width.{unversioned}
+use Rattle.termwiz_cell.specs.Measure.{measure}
 use Rattle.termwiz_screen.specs.Runs.{AreNarrow}
 use Rattle.termwiz_screen.proofs.Runs.{all-shorter}
 use Rattle.termwiz_screen.proofs.print.split_narrow_run.Goals as goal
 
 pub returns-then-narrow-run : goal.returns-then-narrow-run
 returns-then-narrow-run g c =
-    let f : List ℕ → ℕ = unversioned (g.W.Widths.width_of c.args.widths.now) in
+    let f : List ℕ → ℕ = measure g.W.Widths.width_of c.args.widths.now in
     let first = c.split_plain_run.ensures in
     let again = c.split_plain_run-then-narrow-run.ensures in
     record {
@@ -20,7 +20,7 @@ returns-then-narrow-run g c =
 
 pub returns : goal.returns
 returns g c =
-    let f : List ℕ → ℕ = unversioned (g.W.Widths.width_of c.args.widths.now) in
+    let f : List ℕ → ℕ = measure g.W.Widths.width_of c.args.widths.now in
     let run : List ℕ = c.split_plain_run.result.0.now in
     let first = c.split_plain_run.ensures in
     let all : take c.narrow_len-narrow.result run ≡ run = take_all c.narrow_len-narrow.result run (omega arith) in

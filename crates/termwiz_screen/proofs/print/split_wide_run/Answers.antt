@@ -3,14 +3,14 @@ use Rattle.std.proofs.lemmas.List.{take_all}
 use Rattle.std.proofs.lemmas.Str.{chars-append}
 use Rattle.std.specs.Prelude.{encode_utf8}
 use Rattle.std.specs.Str.{chars, IsUtf8}
-use Rattle.termwiz_cell.specs.Width.{unversioned}
+use Rattle.termwiz_cell.specs.Measure.{measure}
 use Rattle.termwiz_screen.specs.Runs.{AreWide}
 use Rattle.termwiz_screen.proofs.Runs.{all-shorter}
 use Rattle.termwiz_screen.proofs.print.split_wide_run.Goals as goal
 
 pub returns-then-wide-letter_count : goal.returns-then-wide-letter_count
 returns-then-wide-letter_count g c =
-    let f : List ℕ → ℕ = unversioned (g.W.Widths.width_of c.args.widths.now) in
+    let f : List ℕ → ℕ = measure g.W.Widths.width_of c.args.widths.now in
     let run : List ℕ = c.split_letter_run.result.0.now in
     let rest : List ℕ = c.split_letter_run.result.1.now in
     let short : List ℕ = c.split_letter_run-then-wide-letter_count.result.0.now in
@@ -30,7 +30,7 @@ returns-then-wide-letter_count g c =
 
 pub returns : goal.returns
 returns g c =
-    let f : List ℕ → ℕ = unversioned (g.W.Widths.width_of c.args.widths.now) in
+    let f : List ℕ → ℕ = measure g.W.Widths.width_of c.args.widths.now in
     let letters : List ℕ = chars c.split_letter_run.result.0.now in
     let first = c.split_letter_run.ensures in
     let all : take c.wide_len-wide.result letters ≡ letters = take_all c.wide_len-wide.result letters (omega arith) in

@@ -3,7 +3,7 @@ use Rattle.std.specs.Option.{option_copied}
 use Rattle.std.specs.VecDeque.{deque_len}
 use Rattle.std.proofs.lemmas.Bool.{and_parts, not-true}
 use Rattle.std.proofs.lemmas.Result.{IfOk-weaker}
-use Rattle.termwiz_cell.specs.Attributes.{is_plain}
+use Rattle.termwiz_cell.specs.Attributes.{has_only_background}
 use Rattle.termwiz_cell.specs.ChangeValue.{ChangeValue}
 use Rattle.termwiz_line.specs.Entries.{Penned}
 use Rattle.termwiz_line.specs.LastChange.{last_is}
@@ -11,7 +11,7 @@ use Rattle.termwiz_line.specs.PennedValue.{penned_value}
 use Rattle.termwiz_line.specs.Row.{row_of}
 use Rattle.termwiz_line.specs.Writing.{behind}
 use Rattle.termwiz_screen.specs.ScreenValue.{cells_of}
-use Rattle.termwiz_screen.specs.Drawing.{clears, AreApart, IsDrawnUpto}
+use Rattle.termwiz_screen.specs.Drawing.{clears, AreApart, IsWrittenUpto}
 use Rattle.termwiz_screen.specs.Repaint.{first_blank, ends_with, is_clear_of, rows_upto, all_rows}
 use Rattle.termwiz_screen.proofs.Lines.{length-cells_of}
 use Rattle.termwiz_screen.proofs.LastChanges.{clears_is, ends_behind_first}
@@ -21,7 +21,7 @@ use Rattle.termwiz_screen.proofs.repaint.joined_rows.Goals as goal
 use Rattle.termwiz_screen.proofs.repaint.joined_rows.Goals.{else-above-len-via-then-above-len+else-joined-len, else-above-len-via-else-above-len}
 
 pub rows_above-above-requires-clause-other : goal.rows_above-above-requires-clause-other
-rows_above-above-requires-clause-other c = not-true _ (and_parts (is_plain c.args.attrs.now) _ c.requires.clearable).1
+rows_above-above-requires-clause-other c = not-true _ (and_parts (has_only_background c.args.attrs.now) _ c.requires.clearable).1
 
 pub write_rows-requires-then-joined-len-clause-order : goal.write_rows-requires-then-joined-len-clause-order
 write_rows-requires-then-joined-len-clause-order c = omega (arith, c.joined_row-joined.ensures, row_before (clears c.args.attrs.now (option_copied c.last.result)) c.rows_above-above.result)
@@ -37,12 +37,12 @@ returns-then-joined-len c =
     let row = c.joined_row-joined.result in
     let upto = rows_upto w rows (row + 1) in
     let is_above = c.rows_above-above.ensures.above in
-    let parts = and_parts (is_plain attrs) _ c.requires.clearable in
+    let parts = and_parts (has_only_background attrs) _ c.requires.clearable in
     let first : first_blank w attrs rows h ≤ above = omega (arith, is_above) in
     let inside : above < h = omega (arith, long) in
     IfOk-weaker c.clear_below.result
     (λ drawn. penned_value drawn ≡ cleared_below attrs (penned_value c.in_ok-drawn.drawn))
-    (λ drawn. (first : List ChangeValue) → AreApart first → IsDrawnUpto first w rows 0 c.args.writer → penned_value drawn ≡ behind first (all_rows w h rows))
+    (λ drawn. (first : List ChangeValue) → AreApart first → IsWrittenUpto first w rows 0 c.args.writer → penned_value drawn ≡ behind first (all_rows w h rows))
     (λ drawn e before apart_so none.
     let upper = c.in_ok-write_rows.ensures.upto before none in
     let clears_above = clears_is attrs c.write_rows.new.writer.printed.entries (option_copied c.last.result) c.last.ensures
@@ -69,7 +69,7 @@ returns c =
     ] in
     IfOk-weaker c.into_penned-2.result
     (λ drawn. penned_value drawn ≡ c.write_rows-2.new.writer.printed)
-    (λ drawn. (first : List ChangeValue) → AreApart first → IsDrawnUpto first w rows 0 c.args.writer → penned_value drawn ≡ behind first (all_rows w h rows))
+    (λ drawn. (first : List ChangeValue) → AreApart first → IsWrittenUpto first w rows 0 c.args.writer → penned_value drawn ≡ behind first (all_rows w h rows))
     (λ drawn e before apart_so none.
     let upper = c.in_ok-write_rows.ensures.upto before none in
     let clears_above = clears_is attrs c.write_rows.new.writer.printed.entries (option_copied c.last.result) c.last.ensures

@@ -1,7 +1,7 @@
 use Rattle.std.proofs.Common.{◌+◌, ◌<◌, map, length, arith, subst, sym, ap, ◌∙◌}
 use Rattle.termwiz_line.specs.Row.{row_of}
 use Rattle.termwiz_screen.specs.ScreenValue.{cells_of}
-use Rattle.termwiz_screen.specs.Drawing.{IsDrawnUpto}
+use Rattle.termwiz_screen.specs.Drawing.{IsWrittenUpto}
 use Rattle.termwiz_screen.specs.Padding.{IsPaddable}
 use Rattle.termwiz_screen.proofs.Lines.{length-cells_of, cells-read, row-read}
 use Rattle.termwiz_screen.proofs.JoinedRows.{no_text, row_drawn}
@@ -30,7 +30,7 @@ loop-i-preserved c =
     record {
       before = record { between = ap (λ v. v.spaces) c.expect_rows.ensures ∙ c.in_ok-write_row.ensures.between; apart = λ e. absurd (omega (arith, e)) };
       upto = λ first drawn.
-          subst (IsDrawnUpto first w (map (row_of w) (cells_of ls)) (i + 1)) (sym c.expect_rows.ensures)
+          subst (IsWrittenUpto first w (map (row_of w) (cells_of ls)) (i + 1)) (sym c.expect_rows.ensures)
           (row_drawn w (map (row_of w) (cells_of ls)) c.loop-i.writer c.push_next_line.new.writer c.write_row.new.writer first i (row_of w c.index.result.now.cells) (c.loop-i.invariant.upto first drawn)
           c.in_ok-push_next_line.ensures.printed c.in_ok-write_row.ensures.row (row-read w ls i c.index.result.now inside c.index.ensures));
     }

@@ -1,5 +1,5 @@
 use Rattle.std.proofs.Common.{◌≡◌, ◌+◌, ◌-◌, ◌≤◌, refl, sym, ◌∙◌, ap, ap₂, arith}
-use Rattle.termwiz_screen.specs.Regions.{region_reversed}
+use Rattle.termwiz_screen.specs.ScrollRegions.{region_reversed}
 use Rattle.termwiz_screen.proofs.ReversedRegions.{reversed_few, reversed_more}
 use Rattle.termwiz_screen.proofs.rows.reverse_region.Goals as goal
 

@@ -1,6 +1,6 @@
 use Rattle.std.proofs.Common.{◌≡◌, ℕ, ◌+◌}
 use Rattle.std.specs.VecDeque.{deque_len}
-use Rattle.termwiz_screen.specs.Regions.{region_reversed}
+use Rattle.termwiz_screen.specs.ScrollRegions.{region_reversed}
 use Rattle.termwiz_screen.proofs.rows.reverse_region.Given as goal
 
 -- what is left to do leads to the whole

@@ -1,6 +1,6 @@
 use Rattle.std.proofs.Common.{◌≡◌, ◌+◌, ◌-◌, ◌≤◌, length, replicate, refl, ◌∙◌, arith}
 use Rattle.termwiz_cell.specs.CellValue.{blank}
-use Rattle.termwiz_screen.specs.Regions.{region_down}
+use Rattle.termwiz_screen.specs.ScrollRegions.{region_down}
 use Rattle.termwiz_screen.specs.ScreenValue.{numberless}
 use Rattle.termwiz_screen.proofs.Regions.{scrolled_down}
 use Rattle.termwiz_screen.proofs.ScrolledRows.{cells-down, flags-down, vectors-down}

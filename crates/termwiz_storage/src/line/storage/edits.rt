@@ -5,7 +5,7 @@ ghost use Rattle.termwiz_cell.specs.CellValue.{blank_of};
 ghost use Rattle.termwiz_storage.specs.Stored.{visible};
 ghost use Rattle.termwiz_storage.specs.Edits.{columns_between, erased, erased_within, inserted};
 ghost use Rattle.termwiz_storage.specs.Edits.{removed, with_halves};
-ghost use Rattle.termwiz_storage.specs.Storage.{cells_of, is_vector};
+ghost use Rattle.termwiz_storage.specs.Storage.{cells_in, is_vector};
 
 use crate::line::storage::{CellStorage, expanded};
 use crate::line::vecstorage::VecStorage;
@@ -15,7 +15,7 @@ use termwiz_cell::cell::{Cell, CellAttributes};
 impl CellStorage {
     /// A vector of this many copies of a cell.
     pub fn copies(alloc: Global, len: usize, cell: Cell) -> Result<CellStorage, AllocError>
-        ensures cells { IfOk result (λ storage. cells_of storage ≡ replicate len cell) }
+        ensures cells { IfOk result (λ storage. cells_in storage ≡ replicate len cell) }
         ensures vector { IfOk result (λ storage. is_vector storage ≡ true) }
     {
         let storage = VecStorage::copies(alloc, len, cell)?;
@@ -30,8 +30,8 @@ impl CellStorage {
         len: usize,
         attrs: CellAttributes,
     ) -> Result<(), AllocError>
-        ensures ok { OnOk result (cells_of self.new ≡ replicate len (blank_of attrs)) }
-        ensures err { OnErr result (cells_of self.new ≡ cells_of self.old) }
+        ensures ok { OnOk result (cells_in self.new ≡ replicate len (blank_of attrs)) }
+        ensures err { OnErr result (cells_in self.new ≡ cells_in self.old) }
         ensures vector { is_vector self.old ≡ true → is_vector self.new ≡ true }
         ensures made { OnOk result (is_vector self.new ≡ true) }
     {
@@ -47,8 +47,8 @@ impl CellStorage {
     /// becomes a blank with its attributes; the half of a wide cell that is removed stays.
     /// With a vector it never fails. On an error the cells are as before.
     pub fn remove_cell(&mut self, x: usize) -> Result<(), AllocError>
-        ensures ok { OnOk result (cells_of self.new ≡ removed x (cells_of self.old)) }
-        ensures err { OnErr result (cells_of self.new ≡ cells_of self.old) }
+        ensures ok { OnOk result (cells_in self.new ≡ removed x (cells_in self.old)) }
+        ensures err { OnErr result (cells_in self.new ≡ cells_in self.old) }
         ensures succeeds { is_vector self.old ≡ true → IsOk result }
         ensures vector { is_vector self.old ≡ true → is_vector self.new ≡ true }
         ensures made { OnOk result (is_vector self.new ≡ true) }
@@ -61,8 +61,8 @@ impl CellStorage {
     /// default blank.
     /// With a vector it never fails. On an error the cells are as before.
     pub fn erase_cell(&mut self, x: usize) -> Result<(), AllocError>
-        ensures ok { OnOk result (cells_of self.new ≡ erased x (cells_of self.old)) }
-        ensures err { OnErr result (cells_of self.new ≡ cells_of self.old) }
+        ensures ok { OnOk result (cells_in self.new ≡ erased x (cells_in self.old)) }
+        ensures err { OnErr result (cells_in self.new ≡ cells_in self.old) }
         ensures succeeds { is_vector self.old ≡ true → IsOk result }
         ensures vector { is_vector self.old ≡ true → is_vector self.new ≡ true }
         ensures made { OnOk result (is_vector self.new ≡ true) }
@@ -83,8 +83,8 @@ impl CellStorage {
     ) -> Result<(), AllocError>
         requires { 1 ≤ margin }
         ensures ok { OnOk result (
-            cells_of self.new ≡ erased_within x margin attrs (cells_of self.old)) }
-        ensures err { OnErr result (cells_of self.new ≡ cells_of self.old) }
+            cells_in self.new ≡ erased_within x margin attrs (cells_in self.old)) }
+        ensures err { OnErr result (cells_in self.new ≡ cells_in self.old) }
         ensures vector { is_vector self.old ≡ true → is_vector self.new ≡ true }
         ensures made { OnOk result (is_vector self.new ≡ true) }
     {
@@ -101,8 +101,8 @@ impl CellStorage {
     /// - On an error, which a cell past the greatest column gives too, the cells are as before.
     pub fn insert_cell(&mut self, x: usize, cell: Cell, margin: usize) -> Result<(), AllocError>
         requires { 1 ≤ margin }
-        ensures ok { OnOk result (cells_of self.new ≡ inserted x cell margin (cells_of self.old)) }
-        ensures err { OnErr result (cells_of self.new ≡ cells_of self.old) }
+        ensures ok { OnOk result (cells_in self.new ≡ inserted x cell margin (cells_in self.old)) }
+        ensures err { OnErr result (cells_in self.new ≡ cells_in self.old) }
         ensures vector { is_vector self.old ≡ true → is_vector self.new ≡ true }
         ensures made { OnOk result (is_vector self.new ≡ true) }
     {
@@ -113,9 +113,9 @@ impl CellStorage {
     /// Keeps the stored cells before a column, and hands out the rest in a vector. On an error the
     /// cells are as before.
     pub fn split_off(&mut self, at: usize) -> Result<CellStorage, AllocError>
-        ensures kept { OnOk result (cells_of self.new ≡ take at (cells_of self.old)) }
-        ensures rest { IfOk result (λ rest. cells_of rest ≡ drop at (cells_of self.old)) }
-        ensures err { OnErr result (cells_of self.new ≡ cells_of self.old) }
+        ensures kept { OnOk result (cells_in self.new ≡ take at (cells_in self.old)) }
+        ensures rest { IfOk result (λ rest. cells_in rest ≡ drop at (cells_in self.old)) }
+        ensures err { OnErr result (cells_in self.new ≡ cells_in self.old) }
         ensures vector { is_vector self.old ≡ true → is_vector self.new ≡ true }
         ensures made { OnOk result (is_vector self.new ≡ true) }
         ensures rest_vector { IfOk result (λ rest. is_vector rest ≡ true) }
@@ -128,8 +128,8 @@ impl CellStorage {
     /// the cells are as before.
     pub fn append_visible(&mut self, other: &CellStorage) -> Result<(), AllocError>
         ensures ok { OnOk result (
-            cells_of self.new ≡ cells_of self.old ++ with_halves (visible (cells_of other.now))) }
-        ensures err { OnErr result (cells_of self.new ≡ cells_of self.old) }
+            cells_in self.new ≡ cells_in self.old ++ with_halves (visible (cells_in other.now))) }
+        ensures err { OnErr result (cells_in self.new ≡ cells_in self.old) }
         ensures vector { is_vector self.old ≡ true → is_vector self.new ≡ true }
         ensures made { OnOk result (is_vector self.new ≡ true) }
     {
@@ -145,7 +145,7 @@ impl CellStorage {
     /// among them, the half of each wide one behind it.
     pub fn columns(&self, from: usize, to: usize) -> Result<CellStorage, AllocError>
         ensures cells { IfOk result (λ cells.
-            cells_of cells ≡ columns_between from to (cells_of self.now)) }
+            cells_in cells ≡ columns_between from to (cells_in self.now)) }
         ensures vector { IfOk result (λ cells. is_vector cells ≡ true) }
     {
         match self {

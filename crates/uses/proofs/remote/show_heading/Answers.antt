@@ -1,5 +1,5 @@
 use Rattle.std.proofs.Common.{◌≡◌, get_or, sym, ap, ◌∙◌, subst}
-use Rattle.termwiz_surface.specs.{DoubleWidthLine, FullScreen, Kept, SingleWidthLine, kept_of, replay, replay_kept, screen_of, unversioned}
+use Rattle.termwiz_surface.specs.{DoubleWidthLine, FullScreen, Kept, SingleWidthLine, kept_of, measure, replay, replay_kept, screen_of}
 use Rattle.uses.proofs.HeadingRow.{row_is_wide}
 use Rattle.uses.proofs.remote.show_heading.Goals as goal
 
@@ -9,7 +9,7 @@ returns-clause-shown g c =
 
 pub returns-clause-title : goal.returns-clause-title
 returns-clause-title g c =
-    let width = unversioned (g.W.Widths.width_of c.args.session.now.widths) in
+    let width = measure g.W.Widths.width_of c.args.session.now.widths in
     let old = c.args.session.now in
     ap (λ (f : FullScreen). f.title) (returns-clause-shown g c)
     ∙ ap (λ (k : Kept). k.title) c.in_ok-add_changes.ensures.adds.3.kept_is
@@ -17,12 +17,12 @@ returns-clause-title g c =
 
 pub returns-clause-wide : goal.returns-clause-wide
 returns-clause-wide g c =
-    let width = unversioned (g.W.Widths.width_of c.args.session.now.widths) in
+    let width = measure g.W.Widths.width_of c.args.session.now.widths in
     let old = c.args.session.now in
     let made = c.in_ok-add_changes.ensures.adds.3 in
     let screen = made.screen_is ∙ ap (replay width (screen_of old)) c.in_ok-changes.ensures in
     let kept = made.kept_is ∙ ap (replay_kept width (screen_of old) (kept_of old)) c.in_ok-changes.ensures in
     let session = c.add_changes.new.self in
-    let measure = unversioned (g.W.Widths.width_of session.widths) in
+    let f = measure g.W.Widths.width_of session.widths in
     subst (λ (f : FullScreen). get_or f.lines f.screen.y SingleWidthLine ≡ DoubleWidthLine) (sym (returns-clause-shown g c))
-    (row_is_wide width old session c.args.heading.now measure c.dimensions-size.ensures.sound screen kept)
+    (row_is_wide width old session c.args.heading.now f c.dimensions-size.ensures.sound screen kept)

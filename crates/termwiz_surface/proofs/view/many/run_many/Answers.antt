@@ -2,7 +2,7 @@ use Rattle.std.proofs.Common.{[], refl, sym, ◌∙◌}
 use Rattle.std.proofs.lemmas.Iterator.Consumers.{YieldsList-end}
 use Rattle.std.proofs.lemmas.Iterator.Adapters.{YieldsList-from_vec}
 use Rattle.std.proofs.lemmas.List.{map-id}
-use Rattle.termwiz_cell.specs.Width.{unversioned}
+use Rattle.termwiz_cell.specs.Measure.{measure}
 use Rattle.termwiz_surface.specs.ManySchedule.{first_many, Ended}
 use Rattle.termwiz_surface.specs.ManySteps.{many_state}
 use Rattle.termwiz_surface.proofs.ManyRuns.{RunsMany-push, remembers-blank}
@@ -11,7 +11,7 @@ use Rattle.termwiz_surface.proofs.view.many.run_many.Goals as goal
 pub loop-event-init : goal.loop-event-init
 loop-event-init g c =
     rw (c.in_ok-seats.ensures, c.in_ok-surface.ensures, c.new-outcomes.ensures.items, c.new-answers.ensures.items)
-    ([], remembers-blank (λ widths. unversioned (g.W.Widths.width_of widths)) _ c.args.viewers refl, Ended (first_many c.args.widths c.args.width c.args.height c.args.viewers))
+    ([], remembers-blank (measure g.W.Widths.width_of) _ c.args.viewers refl, Ended (first_many c.args.widths c.args.width c.args.height c.args.viewers))
 
 pub loop-event-preserved : goal.loop-event-preserved
 loop-event-preserved g c =

@@ -1,5 +1,5 @@
 use Rattle.std.proofs.Common.{List}
-use Rattle.termwiz_cell.specs.Width.{unversioned}
+use Rattle.termwiz_cell.specs.Measure.{measure}
 use Rattle.termwiz_surface.specs.ManySchedule.{Held, RunsMany, first_many}
 use Rattle.termwiz_surface.specs.ManySteps.{Remembers, many_state}
 use Rattle.termwiz_surface.proofs.view.many.run_many.Given as goal
@@ -7,5 +7,5 @@ use Rattle.termwiz_surface.proofs.view.many.run_many.Given as goal
 -- the outcomes so far are those of a run to here, and what the numbers so far name holds of all viewers and answers
 abbrev pub invariant-loop-event : goal.invariant-loop-event
 invariant-loop-event g l =
-    (held : List Held) × Remembers (λ widths. unversioned (g.W.Widths.width_of widths)) l.surface l.seats.items l.answers.items held
-    × RunsMany (λ widths. unversioned (g.W.Widths.width_of widths)) (first_many l.fn.widths l.width l.height l.viewers) l.yielded l.outcomes.items (many_state l.surface l.seats.items held)
+    (held : List Held) × Remembers (measure g.W.Widths.width_of) l.surface l.seats.items l.answers.items held
+    × RunsMany (measure g.W.Widths.width_of) (first_many l.fn.widths l.width l.height l.viewers) l.yielded l.outcomes.items (many_state l.surface l.seats.items held)

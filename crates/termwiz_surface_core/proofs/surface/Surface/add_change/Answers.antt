@@ -1,6 +1,6 @@
 use Rattle.std.proofs.Common.{[], ◌∷◌, ap, sym, ◌∙◌}
 use Rattle.termwiz_cell.specs.ChangeValue.{change_value}
-use Rattle.termwiz_cell.specs.Width.{unversioned}
+use Rattle.termwiz_cell.specs.Measure.{measure}
 use Rattle.termwiz_screen.specs.Log.{restarted}
 use Rattle.termwiz_surface_core.specs.SurfaceValue.{SurfaceValue}
 use Rattle.termwiz_surface_core.proofs.Following.{Follows-made}
@@ -8,7 +8,7 @@ use Rattle.termwiz_surface_core.proofs.Remembering.{keeps_made, keeps_unmade}
 use Rattle.termwiz_surface_core.proofs.surface.Surface.add_change.Goals as goal
 
 pub returns-clause-followed : goal.returns-clause-followed
-returns-clause-followed g c v = Follows-made (λ widths. unversioned (g.W.Widths.width_of widths)) v c.args.self.now c.make_one.new.self (change_value c.args.change ∷ []) c.make_one.result (sym c.is_err.ensures.value ∙ c.if-is_err.false) c.make_one.ensures.ok
+returns-clause-followed g c v = Follows-made (measure g.W.Widths.width_of) v c.args.self.now c.make_one.new.self (change_value c.args.change ∷ []) c.make_one.result (sym c.is_err.ensures.value ∙ c.if-is_err.false) c.make_one.ensures.ok
 
 pub returns-then-is_err-clause-remembered : goal.returns-then-is_err-clause-remembered
 returns-then-is_err-clause-remembered g c =

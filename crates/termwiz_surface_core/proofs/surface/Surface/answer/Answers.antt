@@ -6,7 +6,7 @@ use Rattle.std.specs.declared.borrow.CowSlice.TheVariants.{Borrowed, Owned}
 use Rattle.std.proofs.lemmas.Bool.{cases_Bool}
 use Rattle.termwiz_cell.proofs.Lists.{map-clone}
 use Rattle.termwiz_cell.specs.ChangeValue.{change_value}
-use Rattle.termwiz_screen.specs.Log.{is_known, worth}
+use Rattle.termwiz_screen.specs.Log.{is_known, delta_limit}
 use Rattle.termwiz_surface_core.specs.SurfaceValue.{full_of, SurfaceValue, screen_of}
 use Rattle.termwiz_screen.specs.Picture.{screens, full_screens}
 use Rattle.termwiz_screen.specs.Step.{regions_fit}
@@ -25,8 +25,8 @@ module _ (g : given.Over) (c : goal.Joined-is_repaint g) where
   copies : map change_value c.in_ok-changes.changes.items ≡ stream_of c.in_ok-number.changes
   copies = elim c.in_ok-changes.ensures.ok [ inl e ↦ ap (map change_value) e | inr z ↦ map-clone _ change_value (λ x y e. e) _ _ z ]
 
-  known : is_known (worth c.args.self.now.width c.args.self.now.height) c.args.self.now.log c.args.seq ≡ not c.is_owned-is_repaint.result
-  known = elim (cases_Bool (is_known (worth c.args.self.now.width c.args.self.now.height) c.args.self.now.log c.args.seq)) [
+  known : is_known (delta_limit c.args.self.now.width c.args.self.now.height) c.args.self.now.log c.args.seq ≡ not c.is_owned-is_repaint.result
+  known = elim (cases_Bool (is_known (delta_limit c.args.self.now.width c.args.self.now.height) c.args.self.now.log c.args.seq)) [
     | inl e ↦ elim (cases_Bool c.is_owned-is_repaint.result) [
       | inl made ↦ absurd (lent_or_made c.in_ok-number.changes (c.in_ok-number.ensures.due e).borrowed (c.is_owned-is_repaint.ensures.made made))
       | inr lent ↦ rw lent e

@@ -1,6 +1,6 @@
 use Rattle.std.proofs.Common.{◌≡◌, true, drop, map}
 use Rattle.termwiz_cell.specs.ChangeValue.{change_value}
-use Rattle.termwiz_cell.specs.Width.{unversioned}
+use Rattle.termwiz_cell.specs.Measure.{measure}
 use Rattle.termwiz_screen.specs.Step.{regions_fit, replay, replay_kept}
 use Rattle.termwiz_surface_core.specs.SurfaceValue.{SameFrame, screen_of, kept_of}
 use Rattle.termwiz_surface_core.proofs.surface.Surface.apply_all.Given as goal
@@ -8,7 +8,7 @@ use Rattle.termwiz_surface_core.proofs.surface.Surface.apply_all.Given as goal
 -- what is left to do leads to the whole
 abbrev pub invariant-loop-change : goal.invariant-loop-change
 invariant-loop-change g l =
-    let f = unversioned (g.W.Widths.width_of l.fn.self.widths) in
+    let f = measure g.W.Widths.width_of l.fn.self.widths in
     record {
       fit : regions_fit l.fn.self.height (map change_value (drop l.change-index l.changes)) ≡ true;
       frame : SameFrame l.fn.self l.self;

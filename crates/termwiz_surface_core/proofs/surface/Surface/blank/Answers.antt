@@ -1,6 +1,6 @@
 use Rattle.std.proofs.Common.{[], length, ap, ◌∙◌, refl, arith, replicate, subst, sym}
 use Rattle.std.proofs.lemmas.List.{length-replicate, get_or-replicate}
-use Rattle.termwiz_cell.specs.Width.{unversioned}
+use Rattle.termwiz_cell.specs.Measure.{measure}
 use Rattle.std.specs.Prelude.{None}
 use Rattle.termwiz_cell.specs.CellValue.{blank}
 use Rattle.termwiz_screen.specs.Log.{next_number}
@@ -22,7 +22,7 @@ invariant_of-result g c = (
     row = c.requires.some_row;
     number_fits = omega (arith, ap next_number c.new-2.ensures);
     regions = rw c.new-2.ensures refl;
-    stored_so = λ j l. subst (IsStored (unversioned (g.W.Widths.width_of c.args.widths)) c.args.width) (sym (get_or-replicate c.args.height j (replicate c.args.width blank) [] l)) (IsStored-blank (unversioned (g.W.Widths.width_of c.args.widths)) c.args.width (record { space = g.met.W.Widths.space_has_one c.args.widths None }) c.requires.some_column);
+    stored_so = λ j l. subst (IsStored (measure g.W.Widths.width_of c.args.widths) c.args.width) (sym (get_or-replicate c.args.height j (replicate c.args.width blank) [] l)) (IsStored-blank (measure g.W.Widths.width_of c.args.widths) c.args.width (record { space = g.met.W.Widths.space_has_one c.args.widths None }) c.requires.some_column);
   }),
   c.in_ok-rows.ensures.vectors,
 )

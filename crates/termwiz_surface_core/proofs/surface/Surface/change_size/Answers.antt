@@ -1,6 +1,6 @@
 use Rattle.std.proofs.Common.{◌≡◌, ◌+◌, ◌-◌, ◌<◌, ◌^◌, min, length, refl, sym, ap, ◌∙◌, subst, arith}
 use Rattle.std.specs.Prelude.{None, string_bytes}
-use Rattle.termwiz_cell.specs.Width.{unversioned}
+use Rattle.termwiz_cell.specs.Measure.{measure}
 use Rattle.termwiz_screen.specs.ScreenValue.{cells_of}
 use Rattle.termwiz_screen.specs.Log.{next_number}
 use Rattle.termwiz_surface_core.specs.SurfaceValue.{SurfaceValue}
@@ -22,7 +22,7 @@ invariant_of-self-2 g c =
         sides = sides-full c.resize_rows.new.rows.items (ap length c.in_ok-resize_rows.ensures.ok ∙ length-resized_stored c.args.width c.args.height (cells_of s.rows.items));
         column = omega (arith, c.requires.some_column);
         row = omega (arith, c.requires.some_row);
-        stored_so = stored-resized (unversioned (g.W.Widths.width_of s.widths)) s.width c.args.width c.args.height s.height (cells_of s.rows.items) (record { space = g.met.W.Widths.space_has_one s.widths None }) c.requires.some_column form.full form.stored_so;
+        stored_so = stored-resized (measure g.W.Widths.width_of s.widths) s.width c.args.width c.args.height s.height (cells_of s.rows.items) (record { space = g.met.W.Widths.space_has_one s.widths None }) c.requires.some_column form.full form.stored_so;
         regions = refl;
         number_fits = restarted_fits s.log (subst (λ (v : SurfaceValue _). next_number v.log + 1 < 2 ^ 64) (sym c.self.view_is) c.requires.number);
       }),
@@ -44,14 +44,14 @@ returns-clause-ok g c =
       screen_is = λ i. record {
         width = c.args.width;
         height = c.args.height;
-        rows = shown-resized (unversioned (g.W.Widths.width_of s.widths)) s.width c.args.width c.args.height s.height (cells_of s.rows.items) (record { space = g.met.W.Widths.space_has_one s.widths None }) c.requires.some_column form.full form.stored_so i;
+        rows = shown-resized (measure g.W.Widths.width_of s.widths) s.width c.args.width c.args.height s.height (cells_of s.rows.items) (record { space = g.met.W.Widths.space_has_one s.widths None }) c.requires.some_column form.full form.stored_so i;
         x = x_is i;
         y = y_is i;
         visibility = s.visibility;
         pen = s.pen;
       };
       kept_is = λ i. record {
-        lengths = lengths-resized (unversioned (g.W.Widths.width_of s.widths)) s.width c.args.width c.args.height s.height (cells_of s.rows.items) (record { space = g.met.W.Widths.space_has_one s.widths None }) c.requires.some_column form.full form.stored_so i;
+        lengths = lengths-resized (measure g.W.Widths.width_of s.widths) s.width c.args.width c.args.height s.height (cells_of s.rows.items) (record { space = g.met.W.Widths.space_has_one s.widths None }) c.requires.some_column form.full form.stored_so i;
         flags = c.in_ok-resize_rows.ensures.flags i;
         title = string_bytes s.title;
         shape = s.shape;

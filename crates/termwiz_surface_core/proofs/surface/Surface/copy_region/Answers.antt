@@ -1,6 +1,6 @@
 use Rattle.std.proofs.Common.{map}
 use Rattle.termwiz_cell.specs.ChangeValue.{change_value}
-use Rattle.termwiz_cell.specs.Width.{unversioned}
+use Rattle.termwiz_cell.specs.Measure.{measure}
 use Rattle.termwiz_surface_core.specs.Copies.{copied_region}
 use Rattle.termwiz_screen.specs.DiffRegions.{CrossNone, HaveRegion}
 use Rattle.termwiz_screen.specs.Screen.{Screen}
@@ -12,10 +12,10 @@ pub returns-clause-region : goal.returns-clause-region
 returns-clause-region g c =
     let a = screen_of c.args.self.now in
     let r = copied_region a c.args.src_x c.args.src_y c.args.width c.args.height c.args.dest_x c.args.dest_y in
-    added_screen (unversioned (g.W.Widths.width_of c.args.self.now.widths)) c.args.self.now c.add_changes.new.self c.add_changes.result _ (map change_value c.in_ok-changes.changes.items) c.add_changes.ensures.adds
+    added_screen (measure g.W.Widths.width_of c.args.self.now.widths) c.args.self.now c.add_changes.new.self c.add_changes.result _ (map change_value c.in_ok-changes.changes.items) c.add_changes.ensures.adds
     (λ (s : Screen). CrossNone a.width a.width a.rows a.rows r → HaveRegion a.width s.rows a.rows a.rows r)
-    (c.in_ok-changes.ensures.region (λ i. unversioned (g.W.Widths.width_of c.args.self.now.widths)))
+    (c.in_ok-changes.ensures.region (λ i. measure g.W.Widths.width_of c.args.self.now.widths))
 
 pub returns-clause-no_scroll : goal.returns-clause-no_scroll
 returns-clause-no_scroll g c =
-    copied_no_scroll (unversioned (g.W.Widths.width_of c.args.self.now.widths)) c.args.self.now c.add_changes.new.self c.add_changes.result _ (map change_value c.in_ok-changes.changes.items) c.in_ok-changes.ensures.diff.drawing c.add_changes.ensures.adds
+    copied_no_scroll (measure g.W.Widths.width_of c.args.self.now.widths) c.args.self.now c.add_changes.new.self c.add_changes.result _ (map change_value c.in_ok-changes.changes.items) c.in_ok-changes.ensures.diff.drawing c.add_changes.ensures.adds

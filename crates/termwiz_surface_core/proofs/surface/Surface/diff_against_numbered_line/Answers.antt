@@ -3,7 +3,7 @@ use Rattle.std.proofs.lemmas.Result.{IfOk-weaker}
 use Rattle.std.specs.Prelude.{None}
 use Rattle.std.specs.VecDeque.{deque_len}
 use Rattle.termwiz_cell.specs.ChangeValue.{change_value}
-use Rattle.termwiz_cell.specs.Width.{unversioned}
+use Rattle.termwiz_cell.specs.Measure.{measure}
 use Rattle.termwiz_line.specs.Row.{row_of}
 use Rattle.termwiz_screen.specs.Diff.{band, diff, need}
 use Rattle.termwiz_screen.specs.DiffLists.{IsDiff}
@@ -29,7 +29,7 @@ pub returns-clause-diff : goal.returns-clause-diff
 returns-clause-diff g c = λ printable.
     let v = c.args.self.now in
     let a = screen_of v in
-    let f = unversioned (g.W.Widths.width_of v.widths) in
+    let f = measure g.W.Widths.width_of v.widths in
     let cells = c.args.other_line.now.cells in
     let row = c.args.row_num in
     let b = row_of v.width cells ∷ [] in
@@ -42,6 +42,6 @@ returns-clause-diff g c = λ printable.
 pub returns-clause-row : goal.returns-clause-row
 returns-clause-row g c = λ printable.
     let v = c.args.self.now in
-    let f = unversioned (g.W.Widths.width_of v.widths) in
-    let own = sound_rows f v (subst (λ (s : SurfaceValue _). IsSound (unversioned (g.W.Widths.width_of s.widths)) s) c.self.view_is c.self.invariant.0) in
+    let f = measure g.W.Widths.width_of v.widths in
+    let own = sound_rows f v (subst (λ (s : SurfaceValue _). IsSound (measure g.W.Widths.width_of s.widths) s) c.self.view_is c.self.invariant.0) in
     IfOk-weaker c.diff_line.result _ _ (λ l d. line_gives f (screen_of v) own (λ line. line.now.cells) c.args.other_line c.args.row_num (map change_value l.items) d) (returns-clause-diff g c printable)

@@ -3,7 +3,7 @@ use Rattle.std.proofs.lemmas.Result.{IfOk-weaker}
 use Rattle.std.specs.Prelude.{None}
 use Rattle.std.specs.VecDeque.{deque_len}
 use Rattle.termwiz_cell.specs.ChangeValue.{change_value}
-use Rattle.termwiz_cell.specs.Width.{unversioned}
+use Rattle.termwiz_cell.specs.Measure.{measure}
 use Rattle.termwiz_line.specs.Row.{row_of}
 use Rattle.termwiz_screen.specs.Diff.{band, diff, need}
 use Rattle.termwiz_screen.specs.DiffLists.{IsDiff}
@@ -28,7 +28,7 @@ pub returns-clause-diff : goal.returns-clause-diff
 returns-clause-diff g c = λ printable.
     let v = c.args.self.now in
     let a = screen_of v in
-    let f = unversioned (g.W.Widths.width_of v.widths) in
+    let f = measure g.W.Widths.width_of v.widths in
     let lines = c.args.other_lines.items in
     let b = map (λ line. row_of v.width line.now.cells) lines in
     let n = min v.height (length lines) in
@@ -40,6 +40,6 @@ returns-clause-diff g c = λ printable.
 pub returns-clause-rows : goal.returns-clause-rows
 returns-clause-rows g c = λ printable.
     let v = c.args.self.now in
-    let f = unversioned (g.W.Widths.width_of v.widths) in
-    let own = sound_rows f v (subst (λ (s : SurfaceValue _). IsSound (unversioned (g.W.Widths.width_of s.widths)) s) c.self.view_is c.self.invariant.0) in
+    let f = measure g.W.Widths.width_of v.widths in
+    let own = sound_rows f v (subst (λ (s : SurfaceValue _). IsSound (measure g.W.Widths.width_of s.widths) s) c.self.view_is c.self.invariant.0) in
     IfOk-weaker c.diff_lines.result _ _ (λ l d. lines_gives f (screen_of v) own (λ line. line.now.cells) c.args.other_lines.items (map change_value l.items) d) (returns-clause-diff g c printable)

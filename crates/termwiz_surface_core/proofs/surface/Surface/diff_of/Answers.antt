@@ -1,7 +1,7 @@
 use Rattle.std.proofs.Common.{◌≡◌, map, sym, ap₂, ◌∙◌, subst}
 use Rattle.std.proofs.lemmas.Result.{IfOk-weaker}
 use Rattle.std.specs.VecDeque.{deque_len}
-use Rattle.termwiz_cell.specs.Width.{unversioned}
+use Rattle.termwiz_cell.specs.Measure.{measure}
 use Rattle.termwiz_line.specs.Row.{row_of}
 use Rattle.termwiz_screen.specs.Diff.{cut, diff, need}
 use Rattle.termwiz_screen.specs.DiffLists.{IsDiff}
@@ -26,19 +26,19 @@ returns-clause-list g c =
 
 pub returns-clause-own : goal.returns-clause-own
 returns-clause-own g c =
-    sound_rows (unversioned (g.W.Widths.width_of c.args.self.now.widths)) c.args.self.now (subst (λ (s : SurfaceValue _). IsSound (unversioned (g.W.Widths.width_of s.widths)) s) c.self.view_is c.self.invariant.0)
+    sound_rows (measure g.W.Widths.width_of c.args.self.now.widths) c.args.self.now (subst (λ (s : SurfaceValue _). IsSound (measure g.W.Widths.width_of s.widths) s) c.self.view_is c.self.invariant.0)
 
 pub returns-clause-other : goal.returns-clause-other
 returns-clause-other g c =
-    sound_rows (unversioned (g.W.Widths.width_of c.args.other.now.widths)) c.args.other.now (subst (λ (s : SurfaceValue _). IsSound (unversioned (g.W.Widths.width_of s.widths)) s) c.other.view_is c.other.invariant.0)
+    sound_rows (measure g.W.Widths.width_of c.args.other.now.widths) c.args.other.now (subst (λ (s : SurfaceValue _). IsSound (measure g.W.Widths.width_of s.widths) s) c.other.view_is c.other.invariant.0)
 
 pub returns-clause-diff : goal.returns-clause-diff
 returns-clause-diff g c =
     let a = c.args.self.now in
     let b = c.args.other.now in
-    let f = unversioned (g.W.Widths.width_of a.widths) in
-    let h = unversioned (g.W.Widths.width_of b.widths) in
-    let sound = subst (λ (s : SurfaceValue _). IsSound (unversioned (g.W.Widths.width_of s.widths)) s) c.other.view_is c.other.invariant.0 in
+    let f = measure g.W.Widths.width_of a.widths in
+    let h = measure g.W.Widths.width_of b.widths in
+    let sound = subst (λ (s : SurfaceValue _). IsSound (measure g.W.Widths.width_of s.widths) s) c.other.view_is c.other.invariant.0 in
     let r = region_value c.args.region in
     IfOk-weaker c.diff_rows.result _ _
     (λ l e. subst (λ es. IsDiff f (screen_of a) (f ≡ h) (need (screen_of a).rows (screen_of b).rows (cut r a.width a.height b.width b.height)) es) (sym e) (sound_diff h b sound f (screen_of a) r))

@@ -1,7 +1,7 @@
 use Rattle.std.proofs.Common.{◌≡◌, map, ap, ◌∙◌, subst}
 use Rattle.std.proofs.lemmas.Result.{IfOk-weaker}
 use Rattle.termwiz_cell.specs.ChangeValue.{change_value}
-use Rattle.termwiz_cell.specs.Width.{unversioned}
+use Rattle.termwiz_cell.specs.Measure.{measure}
 use Rattle.termwiz_screen.specs.Diff.{cut, diff, need, whole}
 use Rattle.termwiz_screen.specs.DiffLists.{IsDiff}
 use Rattle.termwiz_screen.specs.RegionValue.{region_value}
@@ -13,8 +13,8 @@ pub returns-clause-rows : goal.returns-clause-rows
 returns-clause-rows g c = λ w h e.
     let a = c.args.self.now in
     let b = c.args.other.now in
-    let f = unversioned (g.W.Widths.width_of a.widths) in
-    let k = unversioned (g.W.Widths.width_of b.widths) in
+    let f = measure g.W.Widths.width_of a.widths in
+    let k = measure g.W.Widths.width_of b.widths in
     let all : region_value c.band.result ≡ whole a.width a.height = c.band.ensures ∙ ap (λ (s : SurfaceValue _). whole s.width s.height) c.self.view_is in
     IfOk-weaker c.diff_of.result _ _
     (λ l d. same_rows f k (screen_of a) (screen_of b) (map change_value l.items) c.diff_of.ensures.own c.diff_of.ensures.other w h e
@@ -34,8 +34,8 @@ pub returns-clause-equal : goal.returns-clause-equal
 returns-clause-equal g c = λ e w h.
     let a = c.args.self.now in
     let b = c.args.other.now in
-    let f = unversioned (g.W.Widths.width_of a.widths) in
-    let k = unversioned (g.W.Widths.width_of b.widths) in
+    let f = measure g.W.Widths.width_of a.widths in
+    let k = measure g.W.Widths.width_of b.widths in
     IfOk-weaker c.diff_of.result _ _
     (λ l d. equal_rows f k (screen_of a) (screen_of b) (map change_value l.items) c.diff_of.ensures.own c.diff_of.ensures.other w h e d)
     (returns-clause-entries g c)

@@ -1,5 +1,5 @@
 use Rattle.std.proofs.Common.{subst}
-use Rattle.termwiz_cell.specs.Width.{unversioned}
+use Rattle.termwiz_cell.specs.Measure.{measure}
 use Rattle.termwiz_screen.specs.FullScreen.{HasFullSize}
 use Rattle.termwiz_surface_core.specs.SurfaceValue.{SurfaceValue, screen_of, full_of}
 use Rattle.termwiz_screen.specs.Printable.{HasSize, IsPrintable}
@@ -13,4 +13,4 @@ pub returns-clause-fully_sized : goal.returns-clause-fully_sized
 returns-clause-fully_sized g c = subst (λ (v : SurfaceValue _). HasFullSize v.width v.height (full_of v)) c.self.view_is (sound_has_full_size _ _ c.self.invariant.0)
 
 pub returns-clause-printable : goal.returns-clause-printable
-returns-clause-printable g c = subst (λ (v : SurfaceValue _). IsPrintable (unversioned (g.W.Widths.width_of v.widths)) (screen_of v)) c.self.view_is (sound_is_printable _ _ c.self.invariant.0)
+returns-clause-printable g c = subst (λ (v : SurfaceValue _). IsPrintable (measure g.W.Widths.width_of v.widths) (screen_of v)) c.self.view_is (sound_is_printable _ _ c.self.invariant.0)

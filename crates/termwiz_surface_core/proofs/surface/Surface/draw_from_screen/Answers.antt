@@ -1,7 +1,7 @@
 use Rattle.std.proofs.Common.{◌≡◌, inl, map, refl, length, ◌+◌, ◌-◌, subst, List, ℕ}
 use Rattle.std.specs.Prelude.{OnOk}
 use Rattle.termwiz_cell.specs.ChangeValue.{ChangeValue, change_value}
-use Rattle.termwiz_cell.specs.Width.{unversioned}
+use Rattle.termwiz_cell.specs.Measure.{measure}
 use Rattle.termwiz_surface_core.specs.Adding.{Adds}
 use Rattle.termwiz_surface_core.specs.Copies.{drawn_region}
 use Rattle.termwiz_screen.specs.Diff.{restoring}
@@ -16,7 +16,7 @@ use Rattle.termwiz_surface_core.proofs.surface.Surface.draw_from_screen.Goals as
 
 module _ (g : given.Over) (c : goal.After-add_changes g) where
   abbrev f : List ℕ → ℕ
-  f = unversioned (g.W.Widths.width_of c.args.self.now.widths)
+  f = measure g.W.Widths.width_of c.args.self.now.widths
 
   abbrev changes : List ChangeValue
   changes = map change_value c.in_ok-changes.changes.items
@@ -26,7 +26,7 @@ module _ (g : given.Over) (c : goal.After-add_changes g) where
 
   shows : (P : Screen → Type 0) → P (record (screen_of c.args.self.now) { rows = (replay f (screen_of c.args.self.now) changes).rows }) → OnOk c.add_changes.result (P (screen_of c.add_changes.new.self))
   shows =
-      let sound = subst (λ (v : SurfaceValue _). IsSound (unversioned (g.W.Widths.width_of v.widths)) v) c.self.view_is c.self.invariant.0 in
+      let sound = subst (λ (v : SurfaceValue _). IsSound (measure g.W.Widths.width_of v.widths) v) c.self.view_is c.self.invariant.0 in
       drawn_screen f c.args.self.now c.add_changes.new.self c.add_changes.result _ changes c.in_ok-changes.ensures.diff.drawing sound adds
 
 pub returns-clause-drawn : goal.returns-clause-drawn
@@ -43,7 +43,7 @@ returns-clause-region g c =
     let b = screen_of c.args.other.now in
     let r = drawn_region a b c.args.x c.args.y in
     let size = c.dimensions-width.ensures in
-    shows g c (λ (s : Screen). f g c ≡ unversioned (g.W.Widths.width_of c.args.other.now.widths) → CrossNone a.width b.width a.rows b.rows r → HaveRegion a.width s.rows a.rows b.rows r)
+    shows g c (λ (s : Screen). f g c ≡ measure g.W.Widths.width_of c.args.other.now.widths → CrossNone a.width b.width a.rows b.rows r → HaveRegion a.width s.rows a.rows b.rows r)
     (rw (size.width, size.height) at c.in_ok-changes.ensures.region)
 
 pub returns-clause-no_scroll : goal.returns-clause-no_scroll

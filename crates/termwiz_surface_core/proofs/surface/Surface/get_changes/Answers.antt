@@ -2,8 +2,8 @@ use Rattle.std.proofs.Common.{◌≡◌, ◌-◌, true, map, ◌≤◌, false, l
 use Rattle.std.proofs.lemmas.Bool.{true≢false}
 use Rattle.std.specs.Prelude.{None}
 use Rattle.termwiz_cell.specs.ChangeValue.{change_value}
-use Rattle.termwiz_cell.specs.Width.{unversioned}
-use Rattle.termwiz_screen.specs.Log.{due, is_known, worth}
+use Rattle.termwiz_cell.specs.Measure.{measure}
+use Rattle.termwiz_screen.specs.Log.{due, is_known, delta_limit}
 use Rattle.termwiz_screen.specs.Step.{replay, regions_fit}
 use Rattle.termwiz_surface_core.specs.SurfaceValue.{SurfaceValue, IsSound, screen_of, kept_of}
 use Rattle.termwiz_screen.specs.FullScreen.{full_replay}
@@ -16,22 +16,22 @@ use Rattle.termwiz_surface_core.proofs.surface.Surface.get_changes.Given as give
 use Rattle.termwiz_surface_core.proofs.surface.Surface.get_changes.Goals as goal
 
 module _ (g : given.Over) (c : goal.In_ok-repaint-in-None g) where
-  pub unknown : is_known (worth c.args.self.now.width c.args.self.now.height) c.args.self.now.log c.args.seq ≡ false
+  pub unknown : is_known (delta_limit c.args.self.now.width c.args.self.now.height) c.args.self.now.log c.args.seq ≡ false
   unknown =
-      subst (λ (v : SurfaceValue _). is_known (worth v.width v.height) v.log c.args.seq ≡ false) c.self.view_is
-      (sym (known-least c.self.inside.log c.args.seq (worth c.self.inside.width c.self.inside.height) c.self.invariant.0.number_fits)
-      ∙ sym (ap (λ most. is_known most c.self.inside.log c.args.seq) c.worth.ensures) ∙ c.in-None.ensures.none refl)
+      subst (λ (v : SurfaceValue _). is_known (delta_limit v.width v.height) v.log c.args.seq ≡ false) c.self.view_is
+      (sym (known-least c.self.inside.log c.args.seq (delta_limit c.self.inside.width c.self.inside.height) c.self.invariant.0.number_fits)
+      ∙ sym (ap (λ most. is_known most c.self.inside.log c.args.seq) c.delta_limit.ensures) ∙ c.in-None.ensures.none refl)
 
 pub returns-in_ok-repaint-in-None-clause-due : goal.returns-in_ok-repaint-in-None-clause-due
 returns-in_ok-repaint-in-None-clause-due g c = λ known. absurd (true≢false (sym known ∙ unknown g c))
 
 module _ (g : given.Over) (c : goal.In_ok-repaint-in-None g) where
-  pub sound : IsSound (unversioned (g.W.Widths.width_of c.args.self.now.widths)) c.args.self.now
-  sound = subst (λ (v : SurfaceValue _). IsSound (unversioned (g.W.Widths.width_of v.widths)) v) c.self.view_is c.self.invariant.0
+  pub sound : IsSound (measure g.W.Widths.width_of c.args.self.now.widths) c.args.self.now
+  sound = subst (λ (v : SurfaceValue _). IsSound (measure g.W.Widths.width_of v.widths) v) c.self.view_is c.self.invariant.0
 
 pub returns-in_ok-repaint-in-None-clause-repaint : goal.returns-in_ok-repaint-in-None-clause-repaint
 returns-in_ok-repaint-in-None-clause-repaint g c =
-    let width = unversioned (g.W.Widths.width_of c.args.self.now.widths) in
+    let width = measure g.W.Widths.width_of c.args.self.now.widths in
     let v = c.args.self.now in
     λ known s size. ap (replay width s) c.in_ok-repaint-in-None.ensures ∙ sound_repaint width v (sound g c) (g.met.W.Widths.space_has_one v.widths None) v.full s size
 
@@ -46,7 +46,7 @@ returns-in_ok-repaint-in-None-clause-stream g c = record {
 
 pub returns-in_ok-repaint-in-None-clause-full : goal.returns-in_ok-repaint-in-None-clause-full
 returns-in_ok-repaint-in-None-clause-full g c =
-    let width = unversioned (g.W.Widths.width_of c.args.self.now.widths) in
+    let width = measure g.W.Widths.width_of c.args.self.now.widths in
     let v = c.args.self.now in
     λ full. record {
       known = λ known. absurd (true≢false (sym known ∙ unknown g c));
@@ -58,7 +58,7 @@ returns-in_ok-repaint-in-None-clause-full g c =
 pub returns-in_ok-repaint-in-None-clause-short : goal.returns-in_ok-repaint-in-None-clause-short
 returns-in_ok-repaint-in-None-clause-short g c =
     let v = c.args.self.now in
-    λ known. subst (λ changes. length changes ≤ most_entries v.full v.width v.height) (sym c.in_ok-repaint-in-None.ensures) (sound_short (unversioned (g.W.Widths.width_of v.widths)) v (sound g c) v.full)
+    λ known. subst (λ changes. length changes ≤ most_entries v.full v.width v.height) (sym c.in_ok-repaint-in-None.ensures) (sound_short (measure g.W.Widths.width_of v.widths) v (sound g c) v.full)
 
 pub returns-in_ok-repaint-in-None-clause-regions : goal.returns-in_ok-repaint-in-None-clause-regions
 returns-in_ok-repaint-in-None-clause-regions g c =
@@ -72,11 +72,11 @@ returns-in-Some-clause-regions g c =
     (ap (regions_fit s.height) c.in-Some.ensures.some.1 ∙ regions-drop s.height (c.args.seq - s.log.first) s.log.changes c.self.invariant.0.regions)
 
 module _ (g : given.Over) (c : goal.In-Some g) where
-  is_so : is_known (worth c.args.self.now.width c.args.self.now.height) c.args.self.now.log c.args.seq ≡ true
+  is_so : is_known (delta_limit c.args.self.now.width c.args.self.now.height) c.args.self.now.log c.args.seq ≡ true
   is_so =
-      subst (λ (v : SurfaceValue _). is_known (worth v.width v.height) v.log c.args.seq ≡ true) c.self.view_is
-      (sym (known-least c.self.inside.log c.args.seq (worth c.self.inside.width c.self.inside.height) c.self.invariant.0.number_fits)
-      ∙ sym (ap (λ most. is_known most c.self.inside.log c.args.seq) c.worth.ensures) ∙ c.in-Some.ensures.some.0)
+      subst (λ (v : SurfaceValue _). is_known (delta_limit v.width v.height) v.log c.args.seq ≡ true) c.self.view_is
+      (sym (known-least c.self.inside.log c.args.seq (delta_limit c.self.inside.width c.self.inside.height) c.self.invariant.0.number_fits)
+      ∙ sym (ap (λ most. is_known most c.self.inside.log c.args.seq) c.delta_limit.ensures) ∙ c.in-Some.ensures.some.0)
 
   lent : map change_value c.in-Some.due.now ≡ due c.args.self.now.log c.args.seq
   lent = c.in-Some.ensures.some.1 ∙ ap (λ (v : SurfaceValue _). due v.log c.args.seq) c.self.view_is

@@ -1,7 +1,7 @@
 use Rattle.std.proofs.Common.{◌≡◌, ◌+◌, false, length, ap, refl}
 use Rattle.std.specs.Prelude.{nat_lt}
 use Rattle.std.proofs.lemmas.Bool.{le-ltb}
-use Rattle.termwiz_cell.specs.Width.{unversioned}
+use Rattle.termwiz_cell.specs.Measure.{measure}
 use Rattle.std.specs.Prelude.{None, string_bytes}
 use Rattle.termwiz_screen.specs.ScreenValue.{cells_of}
 use Rattle.termwiz_screen.proofs.Sides.{sides-full}
@@ -10,7 +10,7 @@ use Rattle.termwiz_surface_core.proofs.surface.Surface.line_feed.Goals as goal
 
 pub invariant_of-self-2 : goal.invariant_of-self-2
 invariant_of-self-2 g c = (
-  rw c.in_ok-scroll_rows.ensures.ok (any_flags _ _ _ (sides-full c.scroll_rows.new.rows.items (ap length c.in_ok-scroll_rows.ensures.ok)) (IsSound-scrolled (unversioned (g.W.Widths.width_of c.self.inside.widths)) _ (record { space = g.met.W.Widths.space_has_one c.self.inside.widths None }) c.self.invariant.0)),
+  rw c.in_ok-scroll_rows.ensures.ok (any_flags _ _ _ (sides-full c.scroll_rows.new.rows.items (ap length c.in_ok-scroll_rows.ensures.ok)) (IsSound-scrolled (measure g.W.Widths.width_of c.self.inside.widths) _ (record { space = g.met.W.Widths.space_has_one c.self.inside.widths None }) c.self.invariant.0)),
   c.in_ok-scroll_rows.ensures.vectors c.self.invariant.1,
 )
 

@@ -2,9 +2,9 @@ use Rattle.std.proofs.Common.{◌≡◌, ◌∙◌, ℕ, suc, true, List, [], �
 use Rattle.std.specs.Prelude.{◌==◌}
 use Rattle.std.proofs.lemmas.Bool.{eqb-true}
 use Rattle.unicode_segmentation.specs.Grapheme.{graphemes}
-use Rattle.termwiz_cell.specs.Width.{unversioned}
+use Rattle.termwiz_cell.specs.Measure.{measure}
 use Rattle.termwiz_screen.specs.Print.{print_one, kept_after}
-use Rattle.termwiz_surface_core.specs.Printing.{PrintsSome}
+use Rattle.termwiz_surface_core.specs.Printing.{PrintsFirst}
 use Rattle.termwiz_surface_core.specs.SurfaceValue.{screen_of, kept_of}
 use Rattle.termwiz_cell.proofs.Graphemes.{graphemes-nothing}
 use Rattle.termwiz_surface_core.proofs.Printing.{screen-left, kept-left}
@@ -13,7 +13,7 @@ use Rattle.termwiz_surface_core.proofs.surface.Surface.print_text.Goals as goal
 pub pieces-preserved : goal.pieces-preserved
 pieces-preserved g c =
     let before = c.pieces.invariant in
-    let some : PrintsSome (unversioned (g.W.Widths.width_of c.args.self.now.widths)) c.pieces.self c.pieces.rest.now c.in_ok-rest.rest.now c.print_first.new.self = subst (λ (w : _). PrintsSome (unversioned (g.W.Widths.width_of w)) c.pieces.self c.pieces.rest.now c.in_ok-rest.rest.now c.print_first.new.self) before.frame.widths c.in_ok-rest.ensures.ok in
+    let some : PrintsFirst (measure g.W.Widths.width_of c.args.self.now.widths) c.pieces.self c.pieces.rest.now c.in_ok-rest.rest.now c.print_first.new.self = subst (λ (w : _). PrintsFirst (measure g.W.Widths.width_of w) c.pieces.self c.pieces.rest.now c.in_ok-rest.rest.now c.print_first.new.self) before.frame.widths c.in_ok-rest.ensures.ok in
     record {
       is_text = some.is_text;
       frame = record {
@@ -33,7 +33,7 @@ none_left (b ∷ t) e = let no : suc (length t) ≡ 0 = eqb-true _ _ (sym e) in 
 
 pub returns-clause-ok : goal.returns-clause-ok
 returns-clause-ok g c =
-    let f : List ℕ → ℕ = unversioned (g.W.Widths.width_of c.args.self.now.widths) in
+    let f : List ℕ → ℕ = measure g.W.Widths.width_of c.args.self.now.widths in
     let before = c.pieces.invariant in
     let empty : c.pieces.rest.now ≡ [] = none_left c.pieces.rest.now c.pieces-test.ensures in
     let nothing : graphemes true c.pieces.rest.now ≡ [] = ap (graphemes true) empty ∙ graphemes-nothing in

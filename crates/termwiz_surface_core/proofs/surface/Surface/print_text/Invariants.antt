@@ -1,7 +1,7 @@
 use Rattle.std.proofs.Common.{◌≡◌, fold, length, true}
 use Rattle.std.specs.Str.{IsUtf8}
 use Rattle.unicode_segmentation.specs.Grapheme.{graphemes}
-use Rattle.termwiz_cell.specs.Width.{unversioned}
+use Rattle.termwiz_cell.specs.Measure.{measure}
 use Rattle.termwiz_screen.specs.Print.{print, print_one, kept_after, print_kept}
 use Rattle.termwiz_surface_core.specs.SurfaceValue.{SameFrame, screen_of, kept_of}
 use Rattle.termwiz_surface_core.proofs.surface.Surface.print_text.Given as goal
@@ -9,7 +9,7 @@ use Rattle.termwiz_surface_core.proofs.surface.Surface.print_text.Given as goal
 -- what is left to print leads to the whole print
 abbrev pub invariant-pieces : goal.invariant-pieces
 invariant-pieces g l =
-    let f = unversioned (g.W.Widths.width_of l.fn.self.widths) in
+    let f = measure g.W.Widths.width_of l.fn.self.widths in
     record {
       is_text : IsUtf8 l.rest;
       frame : SameFrame l.fn.self l.self;

@@ -1,7 +1,7 @@
 use Rattle.std.proofs.Common.{◌≡◌, ◌+◌, ◌<◌, ℕ, List, min, ap, refl, sym, subst, ◌∙◌}
 use Rattle.std.specs.Prelude.{None, string_bytes}
 use Rattle.termwiz_cell.specs.CellValue.{columns}
-use Rattle.termwiz_cell.specs.Width.{unversioned}
+use Rattle.termwiz_cell.specs.Measure.{measure}
 use Rattle.termwiz_surface_core.specs.SurfaceValue.{SurfaceValue}
 use Rattle.termwiz_screen.specs.Measured.{IsMeasured}
 use Rattle.termwiz_surface_core.proofs.Drawn.{IsSound-put, rows-put, lengths-put}
@@ -10,13 +10,13 @@ use Rattle.termwiz_surface_core.proofs.surface.Surface.put.Goals as goal
 
 module _ (g : given.Over) (c : goal.After-self-1 g) where
   abbrev width : List ℕ → ℕ
-  width = unversioned (g.W.Widths.width_of c.self.inside.widths)
+  width = measure g.W.Widths.width_of c.self.inside.widths
 
   inside : c.self.inside.x < c.self.inside.width
   inside = subst (λ (s : SurfaceValue _). s.x < s.width) (sym c.self.view_is) c.requires.inside
 
   measured_so : IsMeasured width c.args.cell
-  measured_so = subst (λ (s : SurfaceValue _). IsMeasured (unversioned (g.W.Widths.width_of s.widths)) c.args.cell) (sym c.self.view_is) c.requires.measured
+  measured_so = subst (λ (s : SurfaceValue _). IsMeasured (measure g.W.Widths.width_of s.widths) c.args.cell) (sym c.self.view_is) c.requires.measured
 
   x_is : c.min-self-inside.result ≡ min (c.self.inside.x + columns c.args.cell) c.self.inside.width
   x_is = c.min-self-inside.ensures ∙ ap (λ n. min (c.self.inside.x + n) c.self.inside.width) c.width.ensures.value

@@ -1,7 +1,7 @@
 use Rattle.std.proofs.Common.{◌≡◌, List, ap, map, refl, sym, subst, ◌∙◌}
 use Rattle.std.specs.List.{All}
 use Rattle.std.proofs.lemmas.List.Elements.{All-map}
-use Rattle.termwiz_cell.specs.Width.{unversioned}
+use Rattle.termwiz_cell.specs.Measure.{measure}
 use Rattle.termwiz_storage.specs.Halves.{resized}
 use Rattle.termwiz_cell.specs.CellValue.{CellValue}
 use Rattle.termwiz_line.specs.LineFlags.{no_flags}
@@ -19,7 +19,7 @@ module _ (g : given.Over) (c : goal.After-result-1 g) where
 
 pub returns-clause-shown : goal.returns-clause-shown
 returns-clause-shown g c =
-    let rows_are : cells_of c.in_ok-rows.rows.items ≡ map (row_of c.self.inside.width) (cells_of c.self.inside.rows.items) = ap cells_of (made g c) ∙ rows-resized (unversioned (g.W.Widths.width_of c.self.inside.widths)) _ c.self.invariant.0 in
+    let rows_are : cells_of c.in_ok-rows.rows.items ≡ map (row_of c.self.inside.width) (cells_of c.self.inside.rows.items) = ap cells_of (made g c) ∙ rows-resized (measure g.W.Widths.width_of c.self.inside.widths) _ c.self.invariant.0 in
     let pen_is : c.in_ok-pen.pen ≡ c.self.inside.pen = c.in_ok-pen.ensures.cases in
     (λ i. record {
       width = c.self.inside.width;

@@ -1,6 +1,6 @@
 use Rattle.std.proofs.Common.{◌+◌, ◌≤◌, length, ap, refl, sym, subst}
 use Rattle.std.specs.Prelude.{None, string_bytes}
-use Rattle.termwiz_cell.specs.Width.{unversioned}
+use Rattle.termwiz_cell.specs.Measure.{measure}
 use Rattle.termwiz_screen.specs.ScreenValue.{cells_of}
 use Rattle.termwiz_surface_core.specs.SurfaceValue.{SurfaceValue}
 use Rattle.termwiz_screen.proofs.Sides.{sides-full}
@@ -10,7 +10,7 @@ use Rattle.termwiz_surface_core.proofs.surface.Surface.scroll_region_down.Goals 
 
 pub invariant_of-self : goal.invariant_of-self
 invariant_of-self g c = (
-  any_flags _ _ _ (sides-full c.scroll_region_down.new.rows.items refl) (IsSound-partly_reset (unversioned (g.W.Widths.width_of c.self.inside.widths)) _ (record { space = g.met.W.Widths.space_has_one c.self.inside.widths None }) c.self.invariant.0 _ c.in_err-scroll_region_down.ensures.err),
+  any_flags _ _ _ (sides-full c.scroll_region_down.new.rows.items refl) (IsSound-partly_reset (measure g.W.Widths.width_of c.self.inside.widths) _ (record { space = g.met.W.Widths.space_has_one c.self.inside.widths None }) c.self.invariant.0 _ c.in_err-scroll_region_down.ensures.err),
   c.in_err-scroll_region_down.ensures.vectors c.self.invariant.1,
 )
 
@@ -18,7 +18,7 @@ pub invariant_of-self-2 : goal.invariant_of-self-2
 invariant_of-self-2 g c =
     let inside : c.args.first + c.args.size ≤ c.self.inside.height = subst (λ (s : SurfaceValue _). c.args.first + c.args.size ≤ s.height) (sym c.self.view_is) c.requires in (
       rw c.in_ok-scroll_region_down.ensures.ok
-          (any_flags _ _ _ (sides-full c.scroll_region_down.new.rows.items (ap length c.in_ok-scroll_region_down.ensures.ok)) (IsSound-down (unversioned (g.W.Widths.width_of c.self.inside.widths)) _ (record { space = g.met.W.Widths.space_has_one c.self.inside.widths None }) c.self.invariant.0 c.args.first c.args.size c.args.count inside)),
+          (any_flags _ _ _ (sides-full c.scroll_region_down.new.rows.items (ap length c.in_ok-scroll_region_down.ensures.ok)) (IsSound-down (measure g.W.Widths.width_of c.self.inside.widths) _ (record { space = g.met.W.Widths.space_has_one c.self.inside.widths None }) c.self.invariant.0 c.args.first c.args.size c.args.count inside)),
       c.in_ok-scroll_region_down.ensures.vectors c.self.invariant.1,
     )
 

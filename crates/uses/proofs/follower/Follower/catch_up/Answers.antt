@@ -1,5 +1,5 @@
 use Rattle.std.proofs.Common.{◌≡◌, ℕ, true, List, refl, sym, ap, ◌∙◌, subst, arith}
-use Rattle.termwiz_surface.specs.{Follows, HasFullSize, HasSize, IsFullStream, IsStream, SurfaceValue, ViewerValue, full_of, full_replay, full_screen, kept_of, replay, screen_of, stream_of, unversioned}
+use Rattle.termwiz_surface.specs.{Follows, HasFullSize, HasSize, IsFullStream, IsStream, SurfaceValue, ViewerValue, full_of, full_replay, full_screen, kept_of, measure, replay, screen_of, stream_of}
 use Rattle.uses.proofs.follower.Follower.catch_up.Goals as goal
 
 module _ {W : Type 0} where
@@ -13,12 +13,12 @@ module _ {W : Type 0} where
 
 pub returns-in_err-copied-clause-follows : goal.returns-in_err-copied-clause-follows
 returns-in_err-copied-clause-follows g c =
-    let f = λ (widths : g.row.W.Denot). unversioned (g.W.Widths.width_of widths) in
+    let f = measure g.W.Widths.width_of in
     unnumbered f _ c.args.surface.now (ap (λ (u : ViewerValue _). f u.surface.widths) c.self.view_is ∙ c.requires.follows.one_measure) refl
 
 pub returns-in_err-add_changes-clause-follows : goal.returns-in_err-add_changes-clause-follows
 returns-in_err-add_changes-clause-follows g c =
-    let f = λ (widths : g.row.W.Denot). unversioned (g.W.Widths.width_of widths) in
+    let f = measure g.W.Widths.width_of in
     -- whoever followed what was shown follows it after the refused list, so its width value is as it was
     let other : ViewerValue _ = record { surface = c.self.inside.shown; last = 0 } in
     let stay = c.in_err-add_changes.ensures.followed other (unnumbered f other c.self.inside.shown refl refl) in
@@ -26,7 +26,7 @@ returns-in_err-add_changes-clause-follows g c =
 
 pub returns-clause-shown : goal.returns-clause-shown
 returns-clause-shown g c =
-    let f = λ (widths : g.row.W.Denot). unversioned (g.W.Widths.width_of widths) in
+    let f = measure g.W.Widths.width_of in
     let s = c.args.surface.now in
     let v = c.args.self.now in
     let shown : c.self.inside.shown ≡ v.surface = ap (λ (u : ViewerValue _). u.surface) c.self.view_is in
@@ -43,7 +43,7 @@ returns-clause-shown g c =
 -- of a full surface it shows the full screen
 pub returns-clause-follows : goal.returns-clause-follows
 returns-clause-follows g c =
-    let f = λ (widths : g.row.W.Denot). unversioned (g.W.Widths.width_of widths) in
+    let f = measure g.W.Widths.width_of in
     let s = c.args.surface.now in
     let v = c.args.self.now in
     let shown : c.self.inside.shown ≡ v.surface = ap (λ (u : ViewerValue _). u.surface) c.self.view_is in

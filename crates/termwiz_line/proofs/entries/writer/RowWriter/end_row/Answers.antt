@@ -2,7 +2,7 @@ use Rattle.std.proofs.Common.{not, ap, sym, ◌∙◌, ltb-true}
 use Rattle.std.specs.Prelude.{nat_lt}
 use Rattle.std.proofs.lemmas.Bool.{and_parts}
 use Rattle.std.proofs.lemmas.Result.{on_ok_weaker}
-use Rattle.termwiz_cell.specs.Attributes.{is_plain}
+use Rattle.termwiz_cell.specs.Attributes.{has_only_background}
 use Rattle.termwiz_cell.specs.ChangeValue.{is_text}
 use Rattle.termwiz_line.specs.Entries.{with_tail}
 use Rattle.termwiz_line.specs.LastChange.{last_is}
@@ -20,7 +20,7 @@ returns-then-not-leaves_out-clause-row c =
 pub returns-clause-row : goal.returns-clause-row
 returns-clause-row c =
     let w = c.args.self.now in
-    let held = and_parts (nat_lt 0 w.spaces) (is_plain w.space_attrs) (sym c.leaves_out.ensures ∙ c.if-not-leaves_out.false) in
+    let held = and_parts (nat_lt 0 w.spaces) (has_only_background w.space_attrs) (sym c.leaves_out.ensures ∙ c.if-not-leaves_out.false) in
     λ from cells apart z. row_left_out from cells w apart z _ (ltb-true 0 w.spaces held.0) held.1
     (λ kept e. c.in_ok-self-inside.ensures kept (e ∙ ap (λ (v : Writing). not (last_is is_text v.printed.entries)) (sym c.self.view_is))
     ∙ ap (λ (v : Writing). with_tail v.printed kept v.space_attrs) c.self.view_is)

@@ -1,5 +1,6 @@
 use Rattle.std.proofs.Common.{◌++◌, ◌∷◌, [], ℕ, List, length, refl, ap, sym, ◌∙◌, append_assoc, arith}
-use Rattle.termwiz_cell.specs.CellValue.{CellValue, plain_cell}
+use Rattle.termwiz_storage.specs.VisibleCell.{VisibleCell}
+use Rattle.termwiz_cell.specs.CellValue.{plain_cell}
 use Rattle.termwiz_line.specs.GrowingText.{ends_printable}
 use Rattle.termwiz_line.specs.LastChange.{last_is}
 use Rattle.termwiz_line.specs.Writing.{Writing}
@@ -24,8 +25,8 @@ pub loop-byte-preserved : goal.loop-byte-preserved
 loop-byte-preserved c =
     let now = c.loop-byte.invariant in
     let first = c.in-Some.ensures in
-    let p : ℕ × CellValue = (first.column, plain_cell c.in-Some.byte c.args.pen.now) in
-    let left : List (ℕ × CellValue) = c.next_plain.new.self in
+    let p : VisibleCell = (first.column, plain_cell c.in-Some.byte c.args.pen.now) in
+    let left : List VisibleCell = c.next_plain.new.self in
     record {
       written = λ from all start.
           let u = now.written from all start in

@@ -1,7 +1,7 @@
 use Rattle.std.proofs.Common.{ℕ, ◌∷◌}
-use Rattle.termwiz_cell.specs.CellValue.{CellValue}
 use Rattle.termwiz_storage.specs.CellRef.{indexed_cell}
 use Rattle.termwiz_storage.specs.CellsLeft.{cells_left}
+use Rattle.termwiz_storage.specs.VisibleCell.{VisibleCell}
 use Rattle.termwiz_line.specs.Clicks.{IsLower}
 use Rattle.termwiz_line.proofs.Clicking.{IsLowering, is_word, is_no_word, or_click, or_click_is, none_is, some_is, lower-start, lower-skip, lower-resets, lower-begins, lower-goes_on, lower-done}
 use Rattle.termwiz_line.proofs.line.line.clicks.lower_end.Goals as goal
@@ -11,7 +11,7 @@ loop-cell-init g c = record { can = tt; finite = tt; at_most = tt; agreed = λ w
 
 pub loop-cell-preserved-then-not-is_in_word : goal.loop-cell-preserved-then-not-is_in_word
 loop-cell-preserved-then-not-is_in_word g c =
-    let x : ℕ × CellValue = indexed_cell c.in-Some.cell in
+    let x : VisibleCell = indexed_cell c.in-Some.cell in
     let h = rw c.cell_index-index.ensures at c.if-index-click.true in
     record {
       can = tt;
@@ -22,7 +22,7 @@ loop-cell-preserved-then-not-is_in_word g c =
 
 pub loop-cell-preserved-then-is_none : goal.loop-cell-preserved-then-is_none
 loop-cell-preserved-then-is_none g c =
-    let x : ℕ × CellValue = indexed_cell c.in-Some.cell in
+    let x : VisibleCell = indexed_cell c.in-Some.cell in
     let h = rw c.cell_index-index.ensures at c.if-index-click.true in
     rw c.cell_index-index.ensures (record {
       can = tt;
@@ -35,7 +35,7 @@ loop-cell-preserved-then-is_none g c =
 
 pub loop-cell-preserved-else-is_none : goal.loop-cell-preserved-else-is_none
 loop-cell-preserved-else-is_none g c =
-    let x : ℕ × CellValue = indexed_cell c.in-Some.cell in
+    let x : VisibleCell = indexed_cell c.in-Some.cell in
     let h = rw c.cell_index-index.ensures at c.if-index-click.true in
     record {
       can = tt;
@@ -46,7 +46,7 @@ loop-cell-preserved-else-is_none g c =
 
 pub loop-cell-preserved : goal.loop-cell-preserved
 loop-cell-preserved g c =
-    let x : ℕ × CellValue = indexed_cell c.in-Some.cell in
+    let x : VisibleCell = indexed_cell c.in-Some.cell in
     let h = rw c.cell_index-index.ensures at c.if-index-click.false in
     record {
       can = tt;

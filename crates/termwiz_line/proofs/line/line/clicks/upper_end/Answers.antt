@@ -1,35 +1,35 @@
 use Rattle.std.proofs.Common.{ℕ, ◌<◌, arith}
 use Rattle.std.proofs.lemmas.List.Elements.{All-head, All-tail}
-use Rattle.termwiz_cell.specs.CellValue.{CellValue}
 use Rattle.termwiz_storage.specs.CellRef.{indexed_cell}
 use Rattle.termwiz_storage.specs.CellsLeft.{cells_left}
+use Rattle.termwiz_storage.specs.VisibleCell.{VisibleCell}
 use Rattle.termwiz_line.proofs.Clicking.{is_word, is_no_word, upper-skip, upper-grows, upper-stops, upper-done}
 use Rattle.termwiz_line.proofs.line.line.clicks.upper_end.Goals as goal
 
 pub loop-cell-preserved-then-index-click : goal.loop-cell-preserved-then-index-click
 loop-cell-preserved-then-index-click g c =
-    let x : ℕ × CellValue = indexed_cell c.in-Some.cell in
+    let x : VisibleCell = indexed_cell c.in-Some.cell in
     let i = rw c.in-Some.ensures.steps.0 at c.loop-cell.invariant.indices in
     let h = rw c.cell_index-index.ensures at c.if-index-click.true in
     rw c.cell_index-index.ensures (record {
       can = tt;
       finite = tt;
       at_least = omega arith;
-      at_most = let b : x.0 < c.args.len = All-head (λ (p : ℕ × CellValue). p.0 < c.args.len) x (cells_left c.next.new.self) i in omega (arith, b);
-      indices = All-tail (λ (p : ℕ × CellValue). p.0 < c.args.len) x (cells_left c.next.new.self) i;
+      at_most = let b : x.0 < c.args.len = All-head (λ (p : VisibleCell). p.0 < c.args.len) x (cells_left c.next.new.self) i in omega (arith, b);
+      indices = All-tail (λ (p : VisibleCell). p.0 < c.args.len) x (cells_left c.next.new.self) i;
       agreed = λ word a. upper-grows word (cells_left c.args.cells) (cells_left c.next.new.self) c.args.click c.loop-cell.upper x h (is_word word x (c.is_in_word.ensures word a) c.if-not-is_in_word.false) (rw c.in-Some.ensures.steps.0 at (c.loop-cell.invariant.agreed word a));
     })
 
 pub loop-cell-preserved : goal.loop-cell-preserved
 loop-cell-preserved g c =
-    let x : ℕ × CellValue = indexed_cell c.in-Some.cell in
+    let x : VisibleCell = indexed_cell c.in-Some.cell in
     let h = rw c.cell_index-index.ensures at c.if-index-click.false in
     record {
       can = tt;
       finite = tt;
       at_least = c.loop-cell.invariant.at_least;
       at_most = c.loop-cell.invariant.at_most;
-      indices = All-tail (λ (p : ℕ × CellValue). p.0 < c.args.len) x (cells_left c.next.new.self) (rw c.in-Some.ensures.steps.0 at c.loop-cell.invariant.indices);
+      indices = All-tail (λ (p : VisibleCell). p.0 < c.args.len) x (cells_left c.next.new.self) (rw c.in-Some.ensures.steps.0 at c.loop-cell.invariant.indices);
       agreed = λ word a. upper-skip word (cells_left c.args.cells) (cells_left c.next.new.self) c.args.click c.loop-cell.upper x h (rw c.in-Some.ensures.steps.0 at (c.loop-cell.invariant.agreed word a));
     }
 
@@ -38,6 +38,6 @@ returns-in-None-clause-agreed g c word a = upper-done word (cells_left c.args.ce
 
 pub returns-then-not-is_in_word-clause-agreed : goal.returns-then-not-is_in_word-clause-agreed
 returns-then-not-is_in_word-clause-agreed g c word a =
-    let x : ℕ × CellValue = indexed_cell c.in-Some.cell in
+    let x : VisibleCell = indexed_cell c.in-Some.cell in
     let h = rw c.cell_index-index.ensures at c.if-index-click.true in
     upper-stops word (cells_left c.args.cells) (cells_left c.next.new.self) c.args.click c.loop-cell.upper x h (is_no_word word x (c.is_in_word.ensures word a) c.if-not-is_in_word.true) (rw c.in-Some.ensures.steps.0 at (c.loop-cell.invariant.agreed word a))

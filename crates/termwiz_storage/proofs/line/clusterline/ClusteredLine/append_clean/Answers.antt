@@ -2,7 +2,7 @@ use Rattle.std.proofs.Common.{◌≡◌, ℕ, Bool, ◌+◌, ◌∙◌, ap, sym,
 use Rattle.std.proofs.lemmas.Bool.{cond-true, cond-false}
 use Rattle.termwiz_cell.specs.CellValue.{columns}
 use Rattle.termwiz_storage.specs.CellRuns.{attrs_of, shapes_of}
-use Rattle.termwiz_storage.specs.Clustered.{IsSound}
+use Rattle.termwiz_storage.specs.Clustered.{IsClusteredText}
 use Rattle.termwiz_storage.proofs.Clustered.{IsSound-push, cells_from-push}
 use Rattle.termwiz_storage.proofs.line.clusterline.ClusteredLine.append_clean.Goals.{then-wide, else-wide}
 use Rattle.termwiz_storage.proofs.line.clusterline.ClusteredLine.append_clean.Goals as goal
@@ -20,6 +20,6 @@ invariant_of-self-2 c =
 pub returns-clause-ok : goal.returns-clause-ok
 returns-clause-ok c =
     let s = c.self.inside in
-    let h : IsSound (string_bytes s.text) (shapes_of s.shapes.items) (attrs_of s.attrs.items) s.len = c.self.invariant in
+    let h : IsClusteredText (string_bytes s.text) (shapes_of s.shapes.items) (attrs_of s.attrs.items) s.len = c.self.invariant in
     rw (c.push_text.ensures, c.push_shape.ensures, c.in_ok-push_attrs.ensures.ok, c.in_ok-reserve.ensures.items, c.in_ok-reserve-2.ensures.bytes, ← c.self.view_is, ← c.shape_of.ensures.wide)
     (cells_from-push (string_bytes s.text) c.args.text.now (shapes_of s.shapes.items) _ (attrs_of s.attrs.items) c.args.attrs.now h.cuts h.aligned c.shape_of.ensures.len)

@@ -4,7 +4,7 @@ use Rattle.termwiz_cell.specs.CellValue.{CellValue}
 use Rattle.termwiz_storage.specs.declared.line.clusterline.runs.ShapeRun.{ShapeRun}
 use Rattle.termwiz_storage.specs.CellRuns.{attrs_of, shapes_of}
 use Rattle.termwiz_storage.specs.CellTexts.{texts_of}
-use Rattle.termwiz_storage.specs.Clustered.{IsSound}
+use Rattle.termwiz_storage.specs.Clustered.{IsClusteredText}
 use Rattle.termwiz_storage.specs.Stored.{visible}
 use Rattle.termwiz_storage.proofs.ByteCells.{enough_columns, length-visible}
 use Rattle.termwiz_storage.proofs.line.clusterline.ClusteredLine.has_byte_cells.Goals as goal
@@ -18,7 +18,7 @@ cell_count-requires c =
 pub returns-then-text-self : goal.returns-then-text-self
 returns-then-text-self c =
     let s = c.self.inside in
-    let h : IsSound (string_bytes s.text) (shapes_of s.shapes.items) (attrs_of s.attrs.items) s.len = c.self.invariant in
+    let h : IsClusteredText (string_bytes s.text) (shapes_of s.shapes.items) (attrs_of s.attrs.items) s.len = c.self.invariant in
     let cs : List CellValue = c.args.self.now in
     let len : s.len ≡ length cs = h.len ∙ ap length c.self.view_is in
     let cells : length (visible cs) ≡ length (shapes_of s.shapes.items) = length-visible cs (string_bytes s.text) (shapes_of s.shapes.items) (attrs_of s.attrs.items) s.len c.self.view_is h in

@@ -6,14 +6,15 @@ use Rattle.termwiz_storage.specs.CellRef.{indexed_cell}
 use Rattle.termwiz_storage.proofs.CellRefs.{ref_cell-is, contents-is}
 use Rattle.termwiz_storage.proofs.Kept.{EndsAt, blank_cell, other_cell, nothing, IsKept-ends}
 use Rattle.termwiz_storage.proofs.line.clusterline.ClusteredLine.walked_len.Goals as goal
+use Rattle.termwiz_storage.specs.VisibleCell.{VisibleCell}
 
 pub returns : goal.returns
 returns c =
     let h = c.loop-cell.invariant.end_is in
     let cs : List CellValue = c.args.self.now in
     let walk : c.into_iter-cell-iterator.result ≡ visible cs = c.into_iter-cell-iterator.ensures.into_iter_gives ∙ c.iter-cell-items.ensures in
-    let end : EndsAt 0 c.into_iter-cell-iterator.result h.0 = h.2 h.0 (subst (λ (z : List (ℕ × CellValue)). EndsAt h.0 z h.0) (sym c.in-None.ensures.steps.0) nothing) in
-    let kept : IsKept cs (min h.0 (length cs)) = IsKept-ends cs h.0 (subst (λ (z : List (ℕ × CellValue)). EndsAt 0 z h.0) walk end) in
+    let end : EndsAt 0 c.into_iter-cell-iterator.result h.0 = h.2 h.0 (subst (λ (z : List VisibleCell). EndsAt h.0 z h.0) (sym c.in-None.ensures.steps.0) nothing) in
+    let kept : IsKept cs (min h.0 (length cs)) = IsKept-ends cs h.0 (subst (λ (z : List VisibleCell). EndsAt 0 z h.0) walk end) in
     let len : c.self.inside.len ≡ length cs = c.self.invariant.len ∙ ap length c.self.view_is in
     let n : c.min.result ≡ min h.0 (length cs) = omega (arith, h.1, c.self.invariant.fits) in
     rw n kept
@@ -24,14 +25,14 @@ loop-cell-init c = record { can = tt; finite = tt; end_is = (0, omega arith, λ 
 pub loop-cell-preserved : goal.loop-cell-preserved
 loop-cell-preserved c =
     let h = c.loop-cell.invariant.end_is in
-    record { can = tt; finite = tt; end_is = (h.0, h.1, λ e t. h.2 e (subst (λ (z : List (ℕ × CellValue)). EndsAt h.0 z e) (sym c.in-Some.ensures.steps.0) (blank_cell (ref_cell-is c.in-Some.cell blank c.in-Some.ensures.steps.1.width (c.is_blank.ensures.0 (search rules))) t))) }
+    record { can = tt; finite = tt; end_is = (h.0, h.1, λ e t. h.2 e (subst (λ (z : List VisibleCell). EndsAt h.0 z e) (sym c.in-Some.ensures.steps.0) (blank_cell (ref_cell-is c.in-Some.cell blank c.in-Some.ensures.steps.1.width (c.is_blank.ensures.0 (search rules))) t))) }
 
 pub loop-cell-preserved-then-not-is_blank : goal.loop-cell-preserved-then-not-is_blank
 loop-cell-preserved-then-not-is_blank c =
     let h = c.loop-cell.invariant.end_is in
-    let p : ℕ × CellValue = indexed_cell c.in-Some.cell in
+    let p : VisibleCell = indexed_cell c.in-Some.cell in
     record {
       can = tt;
       finite = tt;
-      end_is = (p.0 + columns p.1, c.saturating_add-kept.ensures ∙ rw (c.cell_index.ensures, c.width.ensures, c.in-Some.ensures.steps.1.width) refl, λ e t. h.2 e (subst (λ (z : List (ℕ × CellValue)). EndsAt h.0 z e) (sym c.in-Some.ensures.steps.0) (other_cell (λ e. iff_false c.is_blank.ensures c.if-not-is_blank.true (contents-is c.in-Some.cell blank c.in-Some.ensures.steps.1.width e)) t)));
+      end_is = (p.0 + columns p.1, c.saturating_add-kept.ensures ∙ rw (c.cell_index.ensures, c.width.ensures, c.in-Some.ensures.steps.1.width) refl, λ e t. h.2 e (subst (λ (z : List VisibleCell). EndsAt h.0 z e) (sym c.in-Some.ensures.steps.0) (other_cell (λ e. iff_false c.is_blank.ensures c.if-not-is_blank.true (contents-is c.in-Some.cell blank c.in-Some.ensures.steps.1.width e)) t)));
     }

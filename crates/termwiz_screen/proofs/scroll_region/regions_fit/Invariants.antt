@@ -1,7 +1,7 @@
 use Rattle.std.proofs.Common.{◌≡◌, drop, map}
 use Rattle.termwiz_cell.specs.ChangeValue.{change_value}
 use Rattle.termwiz_screen.specs.Step.{regions_fit}
-use Rattle.termwiz_screen.proofs.region.regions_fit.Given as goal
+use Rattle.termwiz_screen.proofs.scroll_region.regions_fit.Given as goal
 
 -- what is left decides it
 abbrev pub invariant-loop-change : goal.invariant-loop-change

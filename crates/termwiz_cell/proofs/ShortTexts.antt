@@ -11,12 +11,13 @@ use Rattle.termwiz_cell.specs.declared.cell.short_text.ShortText.TheInside.{Insi
 use Rattle.termwiz_cell.specs.ShortTextLayout.{IsShort, short_bytes, fields_of, fields_of-short_bytes}
 
 -- a text before what is left of seven zeros
-pub IsShort-padded : (text : List ℕ) → length text ≤ 7 → IsUtf8 text → IsShort (record { bytes = text ++ drop (length text) (replicate 7 0); len = length text })
+pub IsShort-padded : (text : List ℕ) → length text ≤ 7 → IsUtf8 text → IsShort (record { aligned = []; bytes = text ++ drop (length text) (replicate 7 0); len = length text })
 IsShort-padded text fits utf8 = record {
   fits = fits;
   room = length-append text _ ∙ ap (λ t. length text + length t) (drop-replicate (length text) 7 0) ∙ ap (λ n. length text + n) (length-replicate (7 - length text) 0) ∙ omega (arith, fits);
   text = ∣ subst IsUtf8 (sym (take_at text _ _ refl)) utf8 ∣₁;
   zeros = drop_at text _ _ refl ∙ drop-replicate (length text) 7 0;
+  aligned = refl;
 }
 
 -- texts of equal length are equal where all their bytes are

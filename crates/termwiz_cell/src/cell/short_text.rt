@@ -9,6 +9,8 @@ use std::str;
 /// equal bytes.
 #[derive(Clone, Copy)]
 pub(super) struct ShortText {
+    // It takes no room, and has the value stand where it is copied as one word.
+    aligned: [u64; 0],
     bytes: [u8; 7],
     len: u8,
 }
@@ -38,6 +40,7 @@ impl ShortText {
         ensures { result ≡ byte ∷ [] }
     {
         ShortText {
+            aligned: [],
             bytes: [byte, 0, 0, 0, 0, 0, 0],
             len: 1,
         }
@@ -52,10 +55,12 @@ impl ShortText {
     {
         match text.as_bytes() {
             [a] => ShortText {
+                aligned: [],
                 bytes: [*a, 0, 0, 0, 0, 0, 0],
                 len: 1,
             },
             [a, b, c] => ShortText {
+                aligned: [],
                 bytes: [*a, *b, *c, 0, 0, 0, 0],
                 len: 3,
             },
@@ -72,6 +77,7 @@ impl ShortText {
         let mut bytes = [0; 7];
         bytes[..text.len()].copy_from_slice(text.as_bytes());
         ShortText {
+            aligned: [],
             bytes,
             len: text.len() as u8,
         }
@@ -84,9 +90,20 @@ impl ShortText {
         unsafe { str::from_utf8_unchecked(&self.bytes[..self.len as usize]) }
     }
 
-    /// Whether both are the same text.
+    /// Whether both are the same text. Those of one byte are told apart by it alone.
     #[inline(always)]
     pub(super) fn is_same(&self, other: &ShortText) -> bool
+        ensures { result ≡ bytes_eq self.now other.now }
+    {
+        if self.len == 1 && other.len == 1 {
+            return self.bytes[0] == other.bytes[0];
+        }
+        self.has_same_bytes(other)
+    }
+
+    // The same, whatever the lengths.
+    #[inline(never)]
+    fn has_same_bytes(&self, other: &ShortText) -> bool
         ensures { result ≡ bytes_eq self.now other.now }
     {
         self.len == other.len && self.bytes == other.bytes

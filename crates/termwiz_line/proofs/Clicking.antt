@@ -11,10 +11,10 @@ use Rattle.termwiz_line.proofs.Ends.{All-beginning, All-end, All-last, last_same
 use Rattle.termwiz_line.proofs.Zoning.{last_index-push}
 
 -- a cell of a word, and another one, by what a predicate answered for it
-pub is_word : (word : List ℕ → Bool) (x : VisibleCell) {answer : Bool} → answer ≡ word x.1.text → answer ≡ true → IsWord word x
+pub is_word : (word : List ℕ → Bool) (x : VisibleCell) {answer : Bool} → answer ≡ word x.cell.text → answer ≡ true → IsWord word x
 is_word word x e t = sym e ∙ t
 
-pub is_no_word : (word : List ℕ → Bool) (x : VisibleCell) {answer : Bool} → answer ≡ word x.1.text → answer ≡ false → IsWord word x → ⊥
+pub is_no_word : (word : List ℕ → Bool) (x : VisibleCell) {answer : Bool} → answer ≡ word x.cell.text → answer ≡ false → IsWord word x → ⊥
 is_no_word word x e f w = cc
 
 le_true : (a b : ℕ) → a ≤ b → nat_le a b ≡ true
@@ -23,19 +23,19 @@ le_true a b h = grind (arith, nat_tests)
 le_false : (a b : ℕ) → b < a → nat_le a b ≡ false
 le_false a b h = grind (arith, nat_tests)
 
-from_here : (c : ℕ) (x : VisibleCell) (xs : List VisibleCell) → c ≤ x.0 → from_column c (x ∷ xs) ≡ x ∷ from_column c xs
-from_here c x xs h = rw (le_true c x.0 h) refl
+from_here : (c : ℕ) (x : VisibleCell) (xs : List VisibleCell) → c ≤ x.column → from_column c (x ∷ xs) ≡ x ∷ from_column c xs
+from_here c x xs h = rw (le_true c x.column h) refl
 
-from_before : (c : ℕ) (x : VisibleCell) (xs : List VisibleCell) → x.0 < c → from_column c (x ∷ xs) ≡ from_column c xs
-from_before c x xs h = rw (le_false c x.0 h) refl
+from_before : (c : ℕ) (x : VisibleCell) (xs : List VisibleCell) → x.column < c → from_column c (x ∷ xs) ≡ from_column c xs
+from_before c x xs h = rw (le_false c x.column h) refl
 
-up_to_here : (c : ℕ) (x : VisibleCell) (xs : List VisibleCell) → x.0 ≤ c → up_to_column c (x ∷ xs) ≡ x ∷ up_to_column c xs
-up_to_here c x xs h = rw (le_true x.0 c h) refl
+up_to_here : (c : ℕ) (x : VisibleCell) (xs : List VisibleCell) → x.column ≤ c → up_to_column c (x ∷ xs) ≡ x ∷ up_to_column c xs
+up_to_here c x xs h = rw (le_true x.column c h) refl
 
-up_to_after : (c : ℕ) (x : VisibleCell) (xs : List VisibleCell) → c < x.0 → up_to_column c (x ∷ xs) ≡ up_to_column c xs
-up_to_after c x xs h = rw (le_false x.0 c h) refl
+up_to_after : (c : ℕ) (x : VisibleCell) (xs : List VisibleCell) → c < x.column → up_to_column c (x ∷ xs) ≡ up_to_column c xs
+up_to_after c x xs h = rw (le_false x.column c h) refl
 
-end_after-push : (c : ℕ) (run : List VisibleCell) (x : VisibleCell) → end_after c (run ++ x ∷ []) ≡ x.0 + 1
+end_after-push : (c : ℕ) (run : List VisibleCell) (x : VisibleCell) → end_after c (run ++ x ∷ []) ≡ x.column + 1
 end_after-push c [] x = refl
 end_after-push c (y ∷ ys) x = ap (λ z. z + 1) (last_index-push (y ∷ ys) x)
 
@@ -50,10 +50,10 @@ pub record IsUppering (word : List ℕ → Bool) (cells left : List VisibleCell)
 pub upper-start : (word : List ℕ → Bool) (cells : List VisibleCell) (c : ℕ) → IsUppering word cells cells c c
 upper-start word cells c = record { run = []; whole = refl; all = All-nil (IsWord word); upper_is = refl }
 
-pub upper-skip : (word : List ℕ → Bool) (cells left : List VisibleCell) (c upper : ℕ) (x : VisibleCell) → x.0 < c → IsUppering word cells (x ∷ left) c upper → IsUppering word cells left c upper
+pub upper-skip : (word : List ℕ → Bool) (cells left : List VisibleCell) (c upper : ℕ) (x : VisibleCell) → x.column < c → IsUppering word cells (x ∷ left) c upper → IsUppering word cells left c upper
 upper-skip word cells left c upper x h u = record { run = u.run; whole = u.whole ∙ ap (λ z. u.run ++ z) (from_before c x left h); all = u.all; upper_is = u.upper_is }
 
-pub upper-grows : (word : List ℕ → Bool) (cells left : List VisibleCell) (c upper : ℕ) (x : VisibleCell) → c ≤ x.0 → IsWord word x → IsUppering word cells (x ∷ left) c upper → IsUppering word cells left c (x.0 + 1)
+pub upper-grows : (word : List ℕ → Bool) (cells left : List VisibleCell) (c upper : ℕ) (x : VisibleCell) → c ≤ x.column → IsWord word x → IsUppering word cells (x ∷ left) c upper → IsUppering word cells left c (x.column + 1)
 upper-grows word cells left c upper x h w u = record {
   run = u.run ++ x ∷ [];
   whole = u.whole ∙ ap (λ z. u.run ++ z) (from_here c x left h) ∙ sym (append_assoc u.run (x ∷ []) (from_column c left));
@@ -67,7 +67,7 @@ not_longer word run x xs (y ∷ ys) others n e m a =
     let s : y ≡ x = cc in
     n (subst (IsWord word) s (All-head (IsWord word) y ys (All-end (IsWord word) run (y ∷ ys) a)))
 
-pub upper-stops : (word : List ℕ → Bool) (cells left : List VisibleCell) (c upper : ℕ) (x : VisibleCell) → c ≤ x.0 → (IsWord word x → ⊥) → IsUppering word cells (x ∷ left) c upper → IsUpper word cells c upper
+pub upper-stops : (word : List ℕ → Bool) (cells left : List VisibleCell) (c upper : ℕ) (x : VisibleCell) → c ≤ x.column → (IsWord word x → ⊥) → IsUppering word cells (x ∷ left) c upper → IsUpper word cells c upper
 upper-stops word cells left c upper x h n u = record {
   run = u.run;
   is_longest = record {
@@ -90,7 +90,7 @@ upper-done word cells c upper u = record {
 
 abbrev pub start_known : List VisibleCell → Option ℕ
 start_known [] = None
-start_known (x ∷ xs) = Some x.0
+start_known (x ∷ xs) = Some x.column
 
 pub record IsLowering (word : List ℕ → Bool) (cells left : List VisibleCell) (c : ℕ) (start : Option ℕ) : Type 0 where
   pub rest : List VisibleCell
@@ -100,7 +100,7 @@ pub record IsLowering (word : List ℕ → Bool) (cells left : List VisibleCell)
   pub stopped : (others : List VisibleCell) (x : VisibleCell) → rest ≡ others ++ x ∷ [] → IsWord word x → ⊥
   pub start_is : start ≡ start_known run
 
-begun : (run : List VisibleCell) (x : VisibleCell) → None ≡ start_known run → Some x.0 ≡ start_known (run ++ x ∷ [])
+begun : (run : List VisibleCell) (x : VisibleCell) → None ≡ start_known run → Some x.column ≡ start_known (run ++ x ∷ [])
 begun [] x e = refl
 begun (y ∷ ys) x e = cc
 
@@ -137,10 +137,10 @@ known_start c (x ∷ xs) = refl
 pub lower-start : (word : List ℕ → Bool) (cells : List VisibleCell) (c : ℕ) → IsLowering word cells cells c None
 lower-start word cells c = record { rest = []; run = []; whole = refl; all = All-nil (IsWord word); stopped = λ others x e w. not_nil-append others x [] (sym e); start_is = refl }
 
-pub lower-skip : (word : List ℕ → Bool) (cells left : List VisibleCell) (c : ℕ) (start : Option ℕ) (x : VisibleCell) → c < x.0 → IsLowering word cells (x ∷ left) c start → IsLowering word cells left c start
+pub lower-skip : (word : List ℕ → Bool) (cells left : List VisibleCell) (c : ℕ) (start : Option ℕ) (x : VisibleCell) → c < x.column → IsLowering word cells (x ∷ left) c start → IsLowering word cells left c start
 lower-skip word cells left c start x h u = record { rest = u.rest; run = u.run; whole = u.whole ∙ ap (λ z. (u.rest ++ u.run) ++ z) (up_to_after c x left h); all = u.all; stopped = u.stopped; start_is = u.start_is }
 
-pub lower-resets : (word : List ℕ → Bool) (cells left : List VisibleCell) (c : ℕ) (start : Option ℕ) (x : VisibleCell) → x.0 ≤ c → (IsWord word x → ⊥) → IsLowering word cells (x ∷ left) c start → IsLowering word cells left c None
+pub lower-resets : (word : List ℕ → Bool) (cells left : List VisibleCell) (c : ℕ) (start : Option ℕ) (x : VisibleCell) → x.column ≤ c → (IsWord word x → ⊥) → IsLowering word cells (x ∷ left) c start → IsLowering word cells left c None
 lower-resets word cells left c start x h n u = record {
   rest = (u.rest ++ u.run) ++ x ∷ [];
   run = [];
@@ -150,10 +150,10 @@ lower-resets word cells left c start x h n u = record {
   start_is = refl;
 }
 
-lower_push : (c : ℕ) (rest run left : List VisibleCell) (x : VisibleCell) → x.0 ≤ c → (rest ++ run) ++ up_to_column c (x ∷ left) ≡ (rest ++ (run ++ x ∷ [])) ++ up_to_column c left
+lower_push : (c : ℕ) (rest run left : List VisibleCell) (x : VisibleCell) → x.column ≤ c → (rest ++ run) ++ up_to_column c (x ∷ left) ≡ (rest ++ (run ++ x ∷ [])) ++ up_to_column c left
 lower_push c rest run left x h = ap (λ z. (rest ++ run) ++ z) (up_to_here c x left h) ∙ sym (append_assoc (rest ++ run) (x ∷ []) (up_to_column c left)) ∙ ap (λ z. z ++ up_to_column c left) (append_assoc rest run (x ∷ []))
 
-pub lower-begins : (word : List ℕ → Bool) (cells left : List VisibleCell) (c : ℕ) (x : VisibleCell) → x.0 ≤ c → IsWord word x → IsLowering word cells (x ∷ left) c None → IsLowering word cells left c (Some x.0)
+pub lower-begins : (word : List ℕ → Bool) (cells left : List VisibleCell) (c : ℕ) (x : VisibleCell) → x.column ≤ c → IsWord word x → IsLowering word cells (x ∷ left) c None → IsLowering word cells left c (Some x.column)
 lower-begins word cells left c x h w u = record {
   rest = u.rest;
   run = u.run ++ x ∷ [];
@@ -163,7 +163,7 @@ lower-begins word cells left c x h w u = record {
   start_is = begun u.run x u.start_is;
 }
 
-pub lower-grows : (word : List ℕ → Bool) (cells left : List VisibleCell) (c s : ℕ) (x : VisibleCell) → x.0 ≤ c → IsWord word x → IsLowering word cells (x ∷ left) c (Some s) → IsLowering word cells left c (Some s)
+pub lower-grows : (word : List ℕ → Bool) (cells left : List VisibleCell) (c s : ℕ) (x : VisibleCell) → x.column ≤ c → IsWord word x → IsLowering word cells (x ∷ left) c (Some s) → IsLowering word cells left c (Some s)
 lower-grows word cells left c s x h w u = record {
   rest = u.rest;
   run = u.run ++ x ∷ [];
@@ -174,7 +174,7 @@ lower-grows word cells left c s x h w u = record {
 }
 
 -- whether a start is known or not
-pub lower-goes_on : (word : List ℕ → Bool) (cells left : List VisibleCell) (c : ℕ) (start : Option ℕ) (x : VisibleCell) → (start ≡ None → ⊥) → x.0 ≤ c → IsWord word x → IsLowering word cells (x ∷ left) c start → IsLowering word cells left c start
+pub lower-goes_on : (word : List ℕ → Bool) (cells left : List VisibleCell) (c : ℕ) (start : Option ℕ) (x : VisibleCell) → (start ≡ None → ⊥) → x.column ≤ c → IsWord word x → IsLowering word cells (x ∷ left) c start → IsLowering word cells left c start
 lower-goes_on word cells left c None x n h w u = absurd (n refl)
 lower-goes_on word cells left c (Some s) x n h w u = lower-grows word cells left c s x h w u
 

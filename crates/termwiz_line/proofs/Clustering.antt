@@ -40,7 +40,7 @@ IsCluster shown = IsBoth (AreEqualBy (look_of shown)) IsWordOrSpaces
 module _ (shown : List ℕ → Presentation × Option Presentation) where
   cluster_of-push : (p : List VisibleCell) (x : VisibleCell) → p ≢ [] → cluster_of shown (p ++ x ∷ []) ≡ with_cell (cluster_of shown p) x
   cluster_of-push [] x n = absurd (n refl)
-  cluster_of-push (c ∷ cs) x n = rw (← flat_map_more (λ q. q.1.text) [] (c ∷ cs) x, ← flat_map_more cell_of_bytes [] (c ∷ cs) x, columns_of-push (c ∷ cs) x) refl
+  cluster_of-push (c ∷ cs) x n = rw (← flat_map_more (λ q. q.cell.text) [] (c ∷ cs) x, ← flat_map_more cell_of_bytes [] (c ∷ cs) x, columns_of-push (c ∷ cs) x) refl
 
   closed : AreClosed (IsCluster shown)
   closed = IsBoth-closed (AreEqualBy (look_of shown)) IsWordOrSpaces (AreEqualBy-closed (look_of shown)) IsWordOrSpaces-closed

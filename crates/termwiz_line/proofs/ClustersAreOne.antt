@@ -27,11 +27,11 @@ clusters_are_one shown cells a b x y =
 -- there are as many as bytes
 length-cells : (cells : List VisibleCell) → length (cells_of_bytes cells) ≡ length (texts_of cells)
 length-cells [] = refl
-length-cells (c ∷ cs) = omega (arith, length-cells cs, length-append (cell_of_bytes c) (cells_of_bytes cs), length-append c.1.text (texts_of cs), length-replicate {A = ℕ × ℕ} (length c.1.text) (c.0, columns c.1))
+length-cells (c ∷ cs) = omega (arith, length-cells cs, length-append (cell_of_bytes c) (cells_of_bytes cs), length-append c.cell.text (texts_of cs), length-replicate {A = ℕ × ℕ} (length c.cell.text) (c.column, columns c.cell))
 
 pub bytes_tell_their_cells : BytesTellTheirCells
 bytes_tell_their_cells before c after k h =
     let all : List (ℕ × ℕ) = cell_of_bytes c ++ cells_of_bytes after in
-    let n : length (cell_of_bytes c) ≡ length c.1.text = length-replicate {A = ℕ × ℕ} (length c.1.text) (c.0, columns c.1) in
-    let read : get_or (cells_of_bytes before ++ all) (length (cells_of_bytes before) + k) (0, 0) ≡ (c.0, columns c.1) = get_or-append-add (cells_of_bytes before) all k (0, 0) ∙ get_or_append_left (cell_of_bytes c) (cells_of_bytes after) (0, 0) k (omega (arith, h, n)) ∙ get_or-replicate (length c.1.text) k (c.0, columns c.1) (0, 0) h in
+    let n : length (cell_of_bytes c) ≡ length c.cell.text = length-replicate {A = ℕ × ℕ} (length c.cell.text) (c.column, columns c.cell) in
+    let read : get_or (cells_of_bytes before ++ all) (length (cells_of_bytes before) + k) (0, 0) ≡ (c.column, columns c.cell) = get_or-append-add (cells_of_bytes before) all k (0, 0) ∙ get_or_append_left (cell_of_bytes c) (cells_of_bytes after) (0, 0) k (omega (arith, h, n)) ∙ get_or-replicate (length c.cell.text) k (c.column, columns c.cell) (0, 0) h in
     rw (flat_map-append cell_of_bytes before (c ∷ after), ← length-cells before) read

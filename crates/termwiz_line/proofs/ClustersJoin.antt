@@ -26,7 +26,7 @@ parts_join {A} IsPiece (r ∷ rs) _ (next_run {parts = p} {others = o} cut rest)
 module _ (shown : List ℕ → Presentation × Option Presentation) where
   texts_join : (parts : List (List VisibleCell)) → flat_map (λ k. k.text) (map (cluster_of shown) parts) ≡ texts_of (joined parts)
   texts_join [] = refl
-  texts_join (p ∷ ps) = rw (texts_join ps, flat_map-append (λ (c : VisibleCell). c.1.text) p (joined ps)) refl
+  texts_join (p ∷ ps) = rw (texts_join ps, flat_map-append (λ (c : VisibleCell). c.cell.text) p (joined ps)) refl
 
   widths_join : (parts : List (List VisibleCell)) → sum_by (λ k. k.width) (map (cluster_of shown) parts) ≡ columns_taken (joined parts)
   widths_join [] = refl

@@ -5,7 +5,7 @@ use Rattle.std.specs.Prelude.{nat_lt}
 use Rattle.termwiz_cell.specs.CellValue.{columns, CellValue, half, is_wide}
 use Rattle.termwiz_storage.specs.Stored.{visible_from, cell_at, visible, stored}
 use Rattle.termwiz_storage.proofs.Widths.{columns-wide, columns-narrow}
-use Rattle.termwiz_storage.specs.VisibleCell.{VisibleCell}
+use Rattle.termwiz_storage.specs.VisibleCell.{VisibleCell, at_column}
 
 -- the columns of a list of stored cells: each shows a cell, or is covered by the cell to its left
 abbrev pub columns_from : ℕ → List CellValue → List (Option CellValue)
@@ -16,7 +16,7 @@ columns_from (suc k) (c ∷ cs) = None ∷ columns_from k cs
 -- the cells that columns show, with their indices
 abbrev pub shown_from : ℕ → List (Option CellValue) → List VisibleCell
 shown_from i [] = []
-shown_from i (Some c ∷ os) = (i, c) ∷ shown_from (i + 1) os
+shown_from i (Some c ∷ os) = at_column i c ∷ shown_from (i + 1) os
 shown_from i (None ∷ os) = shown_from (i + 1) os
 
 -- each stored cell after a wide one is its half
@@ -26,7 +26,7 @@ pub record IsFormed (cs : List CellValue) : Type 0 where
 -- the visible cells are what the columns_from show
 pub shown-columns : (i k : ℕ) (cs : List CellValue) → shown_from i (columns_from k cs) ≡ visible_from i k cs
 shown-columns i k [] = refl
-shown-columns i zero (c ∷ cs) = ap (λ t. (i, c) ∷ t) (shown-columns (i + 1) ((columns c) - 1) cs)
+shown-columns i zero (c ∷ cs) = ap (λ t. at_column i c ∷ t) (shown-columns (i + 1) ((columns c) - 1) cs)
 shown-columns i (suc k) (c ∷ cs) = shown-columns (i + 1) k cs
 
 pub IsFormed-tail : (c : CellValue) (cs : List CellValue) → IsFormed (c ∷ cs) → IsFormed cs

@@ -7,12 +7,12 @@ use Rattle.termwiz_storage.specs.Stored.{visible, visible_from, padded}
 use Rattle.termwiz_storage.specs.Wrapped.{last_index, with_wrapped, wrapped_from, set_last_wrapped}
 use Rattle.termwiz_storage.proofs.Halves.{length-padded}
 use Rattle.termwiz_storage.proofs.LastCell.{last_index-cons, walk_none}
-use Rattle.termwiz_storage.specs.VisibleCell.{VisibleCell}
+use Rattle.termwiz_storage.specs.VisibleCell.{VisibleCell, at_column}
 use Rattle.termwiz_line.specs.Wrapped.{last_is_wrapped}
 
 -- there is a last cell, and b tells whether it is marked
 data EndsMarked (b : Bool) : List VisibleCell → Type 0 where
-  here : {p : VisibleCell} → p.1.attrs.wrapped ≡ b → EndsMarked b (p ∷ [])
+  here : {p : VisibleCell} → p.cell.attrs.wrapped ≡ b → EndsMarked b (p ∷ [])
   later : {p : VisibleCell} {ps : List VisibleCell} → EndsMarked b ps → EndsMarked b (p ∷ ps)
 
 last_is : (b : Bool) (ps : List VisibleCell) → EndsMarked b ps → last_is_wrapped ps ≡ b
@@ -36,7 +36,7 @@ marked_from b i s zero cs l h = all_marked b i s cs l
 marked_from b i s (suc k) [] l h = absurd (omega arith)
 marked_from b i (suc s) (suc k) (c ∷ cs) l h = marked_from b (i + 1) s k cs (omega arith) (omega (arith, h))
 marked_from b i zero (suc k) (c ∷ cs) l h = elim (cases_lt (columns c - 1) (length cs)) [
-  | inl u ↦ later (marked_from b (i + 1) (columns c - 1) k cs u (omega (arith, h, last_index-cons (i + 1) (columns c - 1) (i, c) cs u)))
+  | inl u ↦ later (marked_from b (i + 1) (columns c - 1) k cs u (omega (arith, h, last_index-cons (i + 1) (columns c - 1) (at_column i c) cs u)))
   | inr u ↦
       let none : visible_from (i + 1) (columns c - 1) cs ≡ [] = walk_none (i + 1) (columns c - 1) cs u in
       let same : i + suc k ≤ i = rw none at h in

@@ -11,7 +11,7 @@ abbrev pub is_marked : Option Attributes → Bool
 is_marked None = false
 is_marked (Some a) = a.wrapped
 
-behind : (p : VisibleCell) (ps : List VisibleCell) → last_is_wrapped (p ∷ ps) ≡ is_marked (option_map (λ q. q.1.attrs) (last_or (Some p) ps))
+behind : (p : VisibleCell) (ps : List VisibleCell) → last_is_wrapped (p ∷ ps) ≡ is_marked (option_map (λ q. q.cell.attrs) (last_or (Some p) ps))
 behind p [] = refl
 behind p (q ∷ qs) = behind q qs
 

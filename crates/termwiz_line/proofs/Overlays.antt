@@ -30,9 +30,9 @@ pushed-more done {new} {all} c cs e h =
     ∙ ap (λ (z : List CellValue). done ++ (with_half c ++ z)) (halves-anywhere 0 (0 + columns c) cs)
     ∙ h
 
-overlaid-more : (ps : List VisibleCell) (p : VisibleCell) (cs : List CellValue) → overlaid (ps ++ p ∷ []) cs ≡ set_cell p.0 p.1 (overlaid ps cs)
+overlaid-more : (ps : List VisibleCell) (p : VisibleCell) (cs : List CellValue) → overlaid (ps ++ p ∷ []) cs ≡ set_cell p.column p.cell (overlaid ps cs)
 overlaid-more [] p cs = refl
-overlaid-more (q ∷ ps) p cs = overlaid-more ps p (set_cell q.0 q.1 cs)
+overlaid-more (q ∷ ps) p cs = overlaid-more ps p (set_cell q.column q.cell cs)
 
 -- some first ones of the cells are set, and these are left
 pub record IsOverlaying (old : LineValue) (all left : List VisibleCell) (seqno : ℕ) (now : LineValue) : Type 0 where
@@ -44,12 +44,12 @@ pub overlaying-none : (old : LineValue) (all : List VisibleCell) (seqno : ℕ) �
 overlaying-none old all seqno = record { set = []; whole = refl; overlays = record { cells_are = refl; number = refl; flags = refl; vector = λ v. v } }
 
 pub overlaying-more : {old now new : LineValue} {all left : List VisibleCell} {seqno : ℕ} (p : VisibleCell)
-    → IsOverlaying old all (p ∷ left) seqno now → IsEdited now (set_cell p.0 p.1 now.cells) seqno new → IsOverlaying old all left seqno new
+    → IsOverlaying old all (p ∷ left) seqno now → IsEdited now (set_cell p.column p.cell now.cells) seqno new → IsOverlaying old all left seqno new
 overlaying-more {old} {now} {new} {all} {left} {seqno} p h t = record {
   set = h.set ++ p ∷ [];
   whole = append_assoc h.set (p ∷ []) left ∙ h.whole;
   overlays = record {
-    cells_are = t.cells_are ∙ ap (set_cell p.0 p.1) h.overlays.cells_are ∙ sym (overlaid-more h.set p old.cells);
+    cells_are = t.cells_are ∙ ap (set_cell p.column p.cell) h.overlays.cells_are ∙ sym (overlaid-more h.set p old.cells);
     number = (
         let more : length (h.set ++ p ∷ []) ≡ suc (length h.set) = length-append h.set (p ∷ []) ∙ omega arith in
         let some : nat_lt 0 (length (h.set ++ p ∷ [])) ≡ true = lt-ltb 0 _ (omega (arith, more)) in

@@ -8,7 +8,7 @@ use Rattle.termwiz_cell.specs.CellValue.{CellValue, blank, half, is_wide}
 use Rattle.termwiz_storage.specs.Stored.{stored, padded, visible, visible_from, hides}
 use Rattle.termwiz_storage.proofs.Halves.{length-padded}
 use Rattle.termwiz_storage.proofs.SetCell.{stored-padded}
-use Rattle.termwiz_storage.specs.VisibleCell.{VisibleCell}
+use Rattle.termwiz_storage.specs.VisibleCell.{VisibleCell, at_column}
 use Rattle.termwiz_line.specs.RowLaws.{first_cells}
 use Rattle.termwiz_line.proofs.RowVisible.{visible_fixes}
 use Rattle.termwiz_line.specs.Row.{IsRow, is_hidden, visible_upto, settled_at, row_of}
@@ -60,7 +60,7 @@ walk_from cs k = visible_from k (cond (hides cs k) 1 0) (drop k cs)
 
 -- the cell at a column, where it is not hidden
 abbrev met : Bool → ℕ → CellValue → List VisibleCell
-met h k c = cond h [] ((k, c) ∷ [])
+met h k c = cond h [] (at_column k c ∷ [])
 
 walk_step : (k : ℕ) (h : Bool) (c : CellValue) (rest : List CellValue) → visible_from k (cond h 1 0) (c ∷ rest) ≡ met h k c ++ visible_from (suc k) (cond (is_wide c && not h) 1 0) rest
 walk_step k true c rest = ap₂ (λ i skip. visible_from i skip rest) (add-one k) (nothing (is_wide c))
@@ -68,7 +68,7 @@ walk_step k true c rest = ap₂ (λ i skip. visible_from i skip rest) (add-one k
     nothing : (b : Bool) → zero ≡ cond {A = ℕ} (b && false) 1 0
     nothing true = refl
     nothing false = refl
-walk_step k false c rest = ap₂ (λ i skip. (k, c) ∷ visible_from i skip rest) (add-one k) (behind (is_wide c))
+walk_step k false c rest = ap₂ (λ i skip. at_column k c ∷ visible_from i skip rest) (add-one k) (behind (is_wide c))
   where
     behind : (b : Bool) → cond {A = ℕ} b 2 1 - 1 ≡ cond {A = ℕ} (b && true) 1 0
     behind true = refl

@@ -5,18 +5,18 @@ use Rattle.std.proofs.lemmas.List.Sums.{fold_push}
 use Rattle.std.proofs.lemmas.Bool.{cases_lt, cases_order, cases_Bool, false≢true}
 use Rattle.termwiz_cell.specs.CellValue.{CellValue, blank, half, is_wide}
 use Rattle.termwiz_storage.specs.Stored.{stored}
-use Rattle.termwiz_storage.specs.VisibleCell.{VisibleCell}
+use Rattle.termwiz_storage.specs.VisibleCell.{VisibleCell, at_column}
 use Rattle.termwiz_line.specs.Row.{IsRow, is_hidden, visible_upto, paint}
 use Rattle.termwiz_line.proofs.RowPainting.{length-paint, paint_here, paint_second, paint_other}
 
 -- paints in order, each a column and a cell
 abbrev pub paint_all : List CellValue → List VisibleCell → List CellValue
-paint_all r ps = fold (λ s p. paint s p.0 p.1) r ps
+paint_all r ps = fold (λ s p. paint s p.column p.cell) r ps
 
 pub visible_hidden : (r : List CellValue) (k : ℕ) → is_hidden r k ≡ true → visible_upto r (suc k) ≡ visible_upto r k
 visible_hidden r k h = rw (h, append-nil)
 
-pub visible_shown : (r : List CellValue) (k : ℕ) → is_hidden r k ≡ false → visible_upto r (suc k) ≡ visible_upto r k ++ (k, stored r k) ∷ []
+pub visible_shown : (r : List CellValue) (k : ℕ) → is_hidden r k ≡ false → visible_upto r (suc k) ≡ visible_upto r k ++ at_column k (stored r k) ∷ []
 visible_shown r k h = rw h
 
 -- how far a walk over b has settled once it stands at column k: one column more where that column is hidden
@@ -101,7 +101,7 @@ paint_visible w a b ra rb (suc k) l = step (paint_visible w a b ra rb k (omega a
     step i = elim (cases_Bool (is_hidden b k)) [
       | inl t ↦ subst (λ v. Between w a b (suc k) (paint_all a v)) (sym (visible_hidden b k t)) (between_hidden w a b k (paint_all a (visible_upto b k)) rb l t i)
       | inr f ↦ subst (λ v. Between w a b (suc k) (paint_all a v)) (sym (visible_shown b k f))
-          (subst (Between w a b (suc k)) (sym (fold_push (λ s p. paint s p.0 p.1) a (visible_upto b k) (k, stored b k)))
+          (subst (Between w a b (suc k)) (sym (fold_push (λ s p. paint s p.column p.cell) a (visible_upto b k) (at_column k (stored b k))))
           (between_painted w a b k (paint_all a (visible_upto b k)) rb l f i))
     ]
 

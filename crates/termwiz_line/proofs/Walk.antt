@@ -5,7 +5,7 @@ use Rattle.std.proofs.lemmas.List.Elements.{All-nil, All-cons}
 use Rattle.termwiz_cell.specs.CellValue.{CellValue, columns}
 use Rattle.termwiz_storage.specs.Stored.{visible_from}
 use Rattle.termwiz_storage.proofs.Widths.{columns_bounds}
-use Rattle.termwiz_storage.specs.VisibleCell.{VisibleCell}
+use Rattle.termwiz_storage.specs.VisibleCell.{VisibleCell, at_column}
 use Rattle.termwiz_line.specs.RowLaws.{AreGrowing}
 
 pub walk_grows : (i skip : ℕ) (cs : List CellValue) → (length (visible_from i skip cs) ≤ length cs) × AreGrowing (i + skip) (visible_from i skip cs)
@@ -18,7 +18,7 @@ walk_grows i (suc k) (c ∷ cs) =
     let rest = walk_grows (i + 1) k cs in
     (omega (arith, rest.0), subst (λ n. AreGrowing n (visible_from (i + 1) k cs)) (omega arith) rest.1)
 
-pub walk_within : (n i skip : ℕ) (cs : List CellValue) → i + length cs ≤ n → All (λ p. p.0 < n) (visible_from i skip cs)
-walk_within n i skip [] h = All-nil (λ (p : VisibleCell). p.0 < n)
-walk_within n i zero (c ∷ cs) h = All-cons (λ (p : VisibleCell). p.0 < n) (i, c) (visible_from (i + 1) (columns c - 1) cs) (omega arith) (walk_within n (i + 1) (columns c - 1) cs (omega arith))
+pub walk_within : (n i skip : ℕ) (cs : List CellValue) → i + length cs ≤ n → All (λ p. p.column < n) (visible_from i skip cs)
+walk_within n i skip [] h = All-nil (λ (p : VisibleCell). p.column < n)
+walk_within n i zero (c ∷ cs) h = All-cons (λ (p : VisibleCell). p.column < n) (at_column i c) (visible_from (i + 1) (columns c - 1) cs) (omega arith) (walk_within n (i + 1) (columns c - 1) cs (omega arith))
 walk_within n i (suc k) (c ∷ cs) h = walk_within n (i + 1) k cs (omega arith)

@@ -17,7 +17,7 @@ use Rattle.termwiz_line.proofs.Decided.{decided}
 use Rattle.termwiz_line.proofs.Ends.{All-beginning, All-last, last_same, init_same, split_last, not_nil-append}
 
 pub is_space_or_not : (c : VisibleCell) → IsSpace c ⊎ IsNoSpace c
-is_space_or_not c = decided (bytes_eq c.1.text space) (bytes_decides c.1.text space)
+is_space_or_not c = decided (bytes_eq c.cell.text space) (bytes_decides c.cell.text space)
 
 first_is : (P : VisibleCell → Type 0) (p : List VisibleCell) → p ≢ [] → All P p → (Q : VisibleCell → Type 0) → All Q p → (c : VisibleCell) × P c × Q c
 first_is P [] n h Q k = absurd (n refl)

@@ -23,17 +23,17 @@ length-with_half c = elim (cases_Bool (is_wide c)) [ inl w ↦ rw w refl | inr w
 
 length-with_halves : (p : List VisibleCell) → length (with_halves p) ≡ columns_taken p
 length-with_halves [] = refl
-length-with_halves (c ∷ cs) = omega (arith, length-append (with_half c.1) (with_halves cs), length-with_half c.1, length-with_halves cs)
+length-with_halves (c ∷ cs) = omega (arith, length-append (with_half c.cell) (with_halves cs), length-with_half c.cell, length-with_halves cs)
 
 columns_of-mark_last : (p : List VisibleCell) → columns_taken (mark_last p) ≡ columns_taken p
 columns_of-mark_last [] = refl
 columns_of-mark_last (c ∷ []) = refl
-columns_of-mark_last (c ∷ d ∷ ds) = ap (λ n. columns c.1 + n) (columns_of-mark_last (d ∷ ds))
+columns_of-mark_last (c ∷ d ∷ ds) = ap (λ n. columns c.cell + n) (columns_of-mark_last (d ∷ ds))
 
 fits : (width : ℕ) (p : List VisibleCell) → 2 ≤ width → FitsOrAlone width p → columns_taken p ≤ width
 fits width p l (inl h) = h
 fits width [] l (inr h) = absurd (omega arith)
-fits width (c ∷ []) l (inr h) = omega (arith, (columns_bounds c.1).1)
+fits width (c ∷ []) l (inr h) = omega (arith, (columns_bounds c.cell).1)
 fits width (c ∷ d ∷ ds) l (inr h) = absurd (omega arith)
 
 all_short : (width seqno : ℕ) (ps : List (List VisibleCell)) → 2 ≤ width → AreLongest (FitsOrAlone width) ps → All (λ l. length l.cells ≤ width) (map (line_of seqno) (marked_pieces ps))
@@ -50,20 +50,20 @@ shown-first i text false attrs cs h = ap (λ z. with_wrapped false (record { tex
 
 shown-with_halves : (i : ℕ) (p : List VisibleCell) → unmarked (visible_from i 0 (with_halves p)) ≡ unmarked p
 shown-with_halves i [] = refl
-shown-with_halves i (c ∷ cs) = shown-first i c.1.text c.1.wide c.1.attrs cs (λ j. shown-with_halves j cs)
+shown-with_halves i (c ∷ cs) = shown-first i c.cell.text c.cell.wide c.cell.attrs cs (λ j. shown-with_halves j cs)
 
 unmarked-mark_last : (p : List VisibleCell) → unmarked (mark_last p) ≡ unmarked p
 unmarked-mark_last [] = refl
 unmarked-mark_last (c ∷ []) = refl
-unmarked-mark_last (c ∷ d ∷ ds) = ap (λ z. with_wrapped false c.1 ∷ z) (unmarked-mark_last (d ∷ ds))
+unmarked-mark_last (c ∷ d ∷ ds) = ap (λ z. with_wrapped false c.cell ∷ z) (unmarked-mark_last (d ∷ ds))
 
 all_shown : (seqno : ℕ) (ps : List (List VisibleCell)) → joined (map (λ l. unmarked (visible l.cells)) (map (line_of seqno) (marked_pieces ps))) ≡ unmarked (joined ps)
 all_shown seqno [] = refl
-all_shown seqno (p ∷ []) = ap (λ z. z ++ []) (shown-with_halves 0 p) ∙ sym (map-append (λ (q : VisibleCell). with_wrapped false q.1) p [])
+all_shown seqno (p ∷ []) = ap (λ z. z ++ []) (shown-with_halves 0 p) ∙ sym (map-append (λ (q : VisibleCell). with_wrapped false q.cell) p [])
 all_shown seqno (p ∷ q ∷ qs) =
     ap (λ z. z ++ joined (map (λ l. unmarked (visible l.cells)) (map (line_of seqno) (marked_pieces (q ∷ qs))))) (shown-with_halves 0 (mark_last p) ∙ unmarked-mark_last p)
     ∙ ap (λ z. unmarked p ++ z) (all_shown seqno (q ∷ qs))
-    ∙ sym (map-append (λ (c : VisibleCell). with_wrapped false c.1) p (joined (q ∷ qs)))
+    ∙ sym (map-append (λ (c : VisibleCell). with_wrapped false c.cell) p (joined (q ∷ qs)))
 
 pub fits_width : (width seqno : ℕ) (line : LineValue) (lines : List LineValue) → 2 ≤ width → IsWrapped width seqno line lines → FitsWidth width line lines
 fits_width width seqno line lines l w = record {

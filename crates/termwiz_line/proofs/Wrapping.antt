@@ -15,9 +15,9 @@ columns_of-append (c ∷ cs) q = omega (arith, columns_of-append cs q)
 
 with_halves-append : (p q : List VisibleCell) → with_halves (p ++ q) ≡ with_halves p ++ with_halves q
 with_halves-append [] q = refl
-with_halves-append (c ∷ cs) q = ap (λ z. with_half c.1 ++ z) (with_halves-append cs q) ∙ sym (append_assoc (with_half c.1) (with_halves cs) (with_halves q))
+with_halves-append (c ∷ cs) q = ap (λ z. with_half c.cell ++ z) (with_halves-append cs q) ∙ sym (append_assoc (with_half c.cell) (with_halves cs) (with_halves q))
 
-mark_last-push : (p : List VisibleCell) (c : VisibleCell) → mark_last (p ++ c ∷ []) ≡ p ++ (c.0, with_wrapped true c.1) ∷ []
+mark_last-push : (p : List VisibleCell) (c : VisibleCell) → mark_last (p ++ c ∷ []) ≡ p ++ record c { cell = with_wrapped true c.cell } ∷ []
 mark_last-push [] c = refl
 mark_last-push (d ∷ []) c = refl
 mark_last-push (d ∷ e ∷ es) c = ap (λ z. d ∷ z) (mark_last-push (e ∷ es) c)
@@ -51,18 +51,18 @@ pub record IsWrapping (width seqno : ℕ) (first : VisibleCell) (rest left : Lis
   pub under_way : IsUnderWay (FitsOrAlone width) first rest before (now ++ last ∷ []) left
   pub lines_are : lines ≡ map (λ p. line_of seqno (mark_last p)) before
   pub line_is : line ≡ with_halves now
-  pub used_is : used ≡ columns_taken now + columns last.1
+  pub used_is : used ≡ columns_taken now + columns last.cell
 
-pub wrapping-start : (width seqno : ℕ) (first : VisibleCell) (rest : List VisibleCell) (used : ℕ) → used ≡ columns first.1 → IsWrapping width seqno first rest rest [] [] first used
+pub wrapping-start : (width seqno : ℕ) (first : VisibleCell) (rest : List VisibleCell) (used : ℕ) → used ≡ columns first.cell → IsWrapping width seqno first rest rest [] [] first used
 wrapping-start width seqno first rest used u = record { before = []; now = []; under_way = under_way-start (FitsOrAlone width) (closed width) first rest; lines_are = refl; line_is = refl; used_is = omega (arith, u) }
 
-pub columns_of-push : (p : List VisibleCell) (c : VisibleCell) → columns_taken (p ++ c ∷ []) ≡ columns_taken p + columns c.1
+pub columns_of-push : (p : List VisibleCell) (c : VisibleCell) → columns_taken (p ++ c ∷ []) ≡ columns_taken p + columns c.cell
 columns_of-push p c = omega (arith, columns_of-append p (c ∷ []))
 
-with_halves-push : (p : List VisibleCell) (c : VisibleCell) → with_halves (p ++ c ∷ []) ≡ with_halves p ++ with_half c.1
-with_halves-push p c = with_halves-append p (c ∷ []) ∙ ap (λ z. with_halves p ++ z) (append-nil (with_half c.1))
+with_halves-push : (p : List VisibleCell) (c : VisibleCell) → with_halves (p ++ c ∷ []) ≡ with_halves p ++ with_half c.cell
+with_halves-push p c = with_halves-append p (c ∷ []) ∙ ap (λ z. with_halves p ++ z) (append-nil (with_half c.cell))
 
-pub wrapping-grows : (width seqno : ℕ) (first : VisibleCell) (rest left : List VisibleCell) (lines : List LineValue) (line : List CellValue) (last x : VisibleCell) (used : ℕ) → used + columns x.1 ≤ width → IsWrapping width seqno first rest (x ∷ left) lines line last used → IsWrapping width seqno first rest left lines (line ++ with_half last.1) x (used + columns x.1)
+pub wrapping-grows : (width seqno : ℕ) (first : VisibleCell) (rest left : List VisibleCell) (lines : List LineValue) (line : List CellValue) (last x : VisibleCell) (used : ℕ) → used + columns x.cell ≤ width → IsWrapping width seqno first rest (x ∷ left) lines line last used → IsWrapping width seqno first rest left lines (line ++ with_half last.cell) x (used + columns x.cell)
 wrapping-grows width seqno first rest left lines line last x used h z = record {
   before = z.before;
   now = z.now ++ last ∷ [];
@@ -72,14 +72,14 @@ wrapping-grows width seqno first rest left lines line last x used h z = record {
   used_is = omega (arith, z.used_is, columns_of-push z.now last);
 }
 
-done_line : (now : List VisibleCell) (last : VisibleCell) (line : List CellValue) → line ≡ with_halves now → line ++ with_half (with_wrapped true last.1) ≡ with_halves (mark_last (now ++ last ∷ []))
-done_line now last line e = rw (e, mark_last-push now last) (sym (with_halves-push now (last.0, with_wrapped true last.1)))
+done_line : (now : List VisibleCell) (last : VisibleCell) (line : List CellValue) → line ≡ with_halves now → line ++ with_half (with_wrapped true last.cell) ≡ with_halves (mark_last (now ++ last ∷ []))
+done_line now last line e = rw (e, mark_last-push now last) (sym (with_halves-push now (record last { cell = with_wrapped true last.cell })))
 
-too_long : (width : ℕ) (now : List VisibleCell) (last x : VisibleCell) (used : ℕ) → used ≡ columns_taken now + columns last.1 → (used + columns x.1 ≤ width → ⊥) → FitsOrAlone width ((now ++ last ∷ []) ++ x ∷ []) → ⊥
+too_long : (width : ℕ) (now : List VisibleCell) (last x : VisibleCell) (used : ℕ) → used ≡ columns_taken now + columns last.cell → (used + columns x.cell ≤ width → ⊥) → FitsOrAlone width ((now ++ last ∷ []) ++ x ∷ []) → ⊥
 too_long width now last x used u n (inl h) = n (omega (arith, h, u, columns_of-push (now ++ last ∷ []) x, columns_of-push now last))
 too_long width now last x used u n (inr h) = absurd (omega (arith, h, length-append (now ++ last ∷ []) (x ∷ []), length-append now (last ∷ [])))
 
-pub wrapping-ends : (width seqno : ℕ) (first : VisibleCell) (rest left : List VisibleCell) (lines : List LineValue) (line : List CellValue) (last x : VisibleCell) (used more : ℕ) → more ≡ columns x.1 → (used + columns x.1 ≤ width → ⊥) → IsWrapping width seqno first rest (x ∷ left) lines line last used → IsWrapping width seqno first rest left (lines ++ new_line seqno (line ++ with_half (with_wrapped true last.1)) ∷ []) [] x more
+pub wrapping-ends : (width seqno : ℕ) (first : VisibleCell) (rest left : List VisibleCell) (lines : List LineValue) (line : List CellValue) (last x : VisibleCell) (used more : ℕ) → more ≡ columns x.cell → (used + columns x.cell ≤ width → ⊥) → IsWrapping width seqno first rest (x ∷ left) lines line last used → IsWrapping width seqno first rest left (lines ++ new_line seqno (line ++ with_half (with_wrapped true last.cell)) ∷ []) [] x more
 wrapping-ends width seqno first rest left lines line last x used more m n z = record {
   before = z.before ++ (z.now ++ last ∷ []) ∷ [];
   now = [];
@@ -89,12 +89,12 @@ wrapping-ends width seqno first rest left lines line last x used more m n z = re
   used_is = omega (arith, m);
 }
 
-pub wrapping-done : (width seqno : ℕ) (first : VisibleCell) (rest : List VisibleCell) (lines : List LineValue) (line : List CellValue) (last : VisibleCell) (used : ℕ) → IsWrapping width seqno first rest [] lines line last used → AreLinesOf width seqno (first ∷ rest) (lines ++ new_line seqno (line ++ with_half last.1) ∷ [])
+pub wrapping-done : (width seqno : ℕ) (first : VisibleCell) (rest : List VisibleCell) (lines : List LineValue) (line : List CellValue) (last : VisibleCell) (used : ℕ) → IsWrapping width seqno first rest [] lines line last used → AreLinesOf width seqno (first ∷ rest) (lines ++ new_line seqno (line ++ with_half last.cell) ∷ [])
 wrapping-done width seqno first rest lines line last used z = record {
   pieces = z.before ++ (z.now ++ last ∷ []) ∷ [];
   cut = under_way-done (FitsOrAlone width) (closed width) first rest z.before (z.now ++ last ∷ []) z.under_way;
   lines_are =
       let m = marked-push z.before (z.now ++ last ∷ []) in
-      let l : line ++ with_half last.1 ≡ with_halves (z.now ++ last ∷ []) = rw z.line_is (sym (with_halves-push z.now last)) in
+      let l : line ++ with_half last.cell ≡ with_halves (z.now ++ last ∷ []) = rw z.line_is (sym (with_halves-push z.now last)) in
       rw (m, z.lines_are, l) (sym (map-append (line_of seqno) (map mark_last z.before) ((z.now ++ last ∷ []) ∷ []) ∙ ap (λ q. q ++ line_of seqno (z.now ++ last ∷ []) ∷ []) (map-map (line_of seqno) mark_last z.before)));
 }

@@ -1,6 +1,6 @@
 -- Rows that are written cell by cell, with spaces held back.
 use Rattle.std.proofs.Common.{◌≡◌, ℕ, zero, suc, ◌+◌, ◌-◌, ◌<◌, Bool, true, false, cond, not, ◌&&◌, List, [], ◌∷◌, ◌++◌, length, refl, sym, ap, ap₂, ◌∙◌, subst, arith, ltb-true, append_assoc, append-nil, inl, inr, bytes_eq}
-use Rattle.termwiz_storage.specs.VisibleCell.{VisibleCell}
+use Rattle.termwiz_storage.specs.VisibleCell.{VisibleCell, at_column}
 use Rattle.std.specs.Prelude.{nat_lt}
 use Rattle.std.specs.Cmp.Lexicographic.{bytes_decides}
 use Rattle.std.proofs.lemmas.Bool.{cases_Bool, and_from, and_left, and_right, and_parts, cond-false, true≢false, lt-ltb, ltb-false}
@@ -34,13 +34,13 @@ untrimmed a (p ∷ []) h = cond-false (all_spaces a (p ∷ [])) [] (p ∷ []) (a
 untrimmed a (p ∷ (q ∷ ps)) h = cond-false (all_spaces a (p ∷ (q ∷ ps))) [] (p ∷ trimmed a (q ∷ ps)) (all_not a p (q ∷ ps) h) ∙ ap (λ l. p ∷ l) (untrimmed a (q ∷ ps) h)
 
 -- the text and the attributes of a space
-space_parts : (a : Attributes) (p : VisibleCell) → is_space_of a p ≡ true → (p.1.text ≡ space) × (p.1.attrs ≡ a)
+space_parts : (a : Attributes) (p : VisibleCell) → is_space_of a p ≡ true → (p.cell.text ≡ space) × (p.cell.attrs ≡ a)
 space_parts a p h =
-    let parts = and_parts (bytes_eq p.1.text space) (attributes_eq p.1.attrs a) h in
-    ((bytes_decides p.1.text space).0 parts.0, (attributes_eq-Decides p.1.attrs a).0 parts.1)
+    let parts = and_parts (bytes_eq p.cell.text space) (attributes_eq p.cell.attrs a) h in
+    ((bytes_decides p.cell.text space).0 parts.0, (attributes_eq-Decides p.cell.attrs a).0 parts.1)
 
 -- printing sees the text and the attributes alone
-pub cell_out_like : (d : Penned) (p q : VisibleCell) → p.1.text ≡ q.1.text → p.1.attrs ≡ q.1.attrs → cell_out d p ≡ cell_out d q
+pub cell_out_like : (d : Penned) (p q : VisibleCell) → p.cell.text ≡ q.cell.text → p.cell.attrs ≡ q.cell.attrs → cell_out d p ≡ cell_out d q
 cell_out_like d p q t a i = record { entries = add_text (d.entries ++ pen_entry d.pen (a i)) (t i); pen = a i }
 
 pub and_cells-append : (d : Penned) (ps qs : List VisibleCell) → and_cells d (ps ++ qs) ≡ and_cells (and_cells d ps) qs
@@ -52,10 +52,10 @@ and_spaces d a [] h = refl
 and_spaces d a (p ∷ ps) h =
     let parts = and_parts (is_space_of a p) (all_spaces a ps) h in
     let this = space_parts a p parts.0 in
-    ap (λ e. and_cells e ps) (cell_out_like d p (0, blank_of a) this.0 this.1) ∙ and_spaces (cell_out d (0, blank_of a)) a ps parts.1
+    ap (λ e. and_cells e ps) (cell_out_like d p (at_column 0 (blank_of a)) this.0 this.1) ∙ and_spaces (cell_out d (at_column 0 (blank_of a))) a ps parts.1
 
 more_spaces : (m n : ℕ) (a : Attributes) → spaces_of (m + n) a ≡ spaces_of m a ++ spaces_of n a
-more_spaces m n a = sym (replicate-append-replicate m n (0, blank_of a))
+more_spaces m n a = sym (replicate-append-replicate m n (at_column 0 (blank_of a)))
 
 pub trimmed_spaces : (a : Attributes) (ps qs : List VisibleCell) → all_spaces a qs ≡ true → trimmed a (ps ++ qs) ≡ trimmed a ps
 trimmed_spaces a ps [] h = ap (trimmed a) (append-nil ps)
@@ -75,9 +75,9 @@ held_is : (n : ℕ) (b : Bool) → 0 < n → (nat_lt 0 n && b) ≡ b
 held_is n b l = ap (λ t. t && b) (lt-ltb 0 n l)
 
 -- one of the spaces is printed
-pub one_space : (d : Penned) (n : ℕ) (a : Attributes) → 0 < n → and_cells (cell_out d (0, blank_of a)) (spaces_of (n - 1) a) ≡ and_cells d (spaces_of n a)
+pub one_space : (d : Penned) (n : ℕ) (a : Attributes) → 0 < n → and_cells (cell_out d (at_column 0 (blank_of a))) (spaces_of (n - 1) a) ≡ and_cells d (spaces_of n a)
 one_space d zero a l = absurd (omega arith)
-one_space d (suc n) a l = let one : suc n - 1 ≡ n = omega arith in ap (λ k. and_cells (cell_out d (0, blank_of a)) (spaces_of k a)) one
+one_space d (suc n) a l = let one : suc n - 1 ≡ n = omega arith in ap (λ k. and_cells (cell_out d (at_column 0 (blank_of a))) (spaces_of k a)) one
 
 -- nothing is written yet
 pub written_nothing : (w : Writing) → w.spaces ≡ 0 → IsWritten w.printed [] w
@@ -89,7 +89,7 @@ written_nothing w e = record {
 
 module _ (from : Penned) (cells : List VisibleCell) (w v : Writing) (z : IsWritten from cells w) where
   -- a cell that is no space
-  pub written_cell : (p : VisibleCell) → bytes_eq p.1.text space ≡ false → v.spaces ≡ 0 → v.printed ≡ cell_out (and_cells w.printed (spaces_of w.spaces w.space_attrs)) p → IsWritten from (cells ++ p ∷ []) v
+  pub written_cell : (p : VisibleCell) → bytes_eq p.cell.text space ≡ false → v.spaces ≡ 0 → v.printed ≡ cell_out (and_cells w.printed (spaces_of w.spaces w.space_attrs)) p → IsWritten from (cells ++ p ∷ []) v
   written_cell p n e h = record {
     printed = all ∙ ap (and_cells from) (sym (untrimmed v.space_attrs (cells ++ p ∷ []) (ends v.space_attrs)));
     whole = ap (λ k. and_cells v.printed (spaces_of k v.space_attrs)) e ∙ all;
@@ -100,7 +100,7 @@ module _ (from : Penned) (cells : List VisibleCell) (w v : Writing) (z : IsWritt
       all = h ∙ ap (λ d. cell_out d p) z.whole ∙ sym (and_cells-append from cells (p ∷ []))
 
       ends : (a : Attributes) → ends_in_space a (cells ++ p ∷ []) ≡ false
-      ends a = ends_push a cells p ∙ and_left (bytes_eq p.1.text space) (attributes_eq p.1.attrs a) n
+      ends a = ends_push a cells p ∙ and_left (bytes_eq p.cell.text space) (attributes_eq p.cell.attrs a) n
 
   -- more of the spaces held back
   pub written_spaces : (more : List VisibleCell) → all_spaces w.space_attrs more ≡ true → v.printed ≡ w.printed → v.spaces ≡ w.spaces + length more → v.space_attrs ≡ w.space_attrs → 0 < w.spaces → 0 < length more → IsWritten from (cells ++ more) v
@@ -156,25 +156,25 @@ self_eq : (a : Attributes) → attributes_eq a a ≡ true
 self_eq a = (attributes_eq-Decides a a).1 refl
 
 -- a cell in the pen that stands
-pub out_in_pen : (d : Penned) (p : VisibleCell) (text : List ℕ) (es : List ChangeValue) → p.1.text ≡ text → p.1.attrs ≡ d.pen → es ≡ add_text d.entries text → record { entries = es; pen = d.pen } ≡ cell_out d p
+pub out_in_pen : (d : Penned) (p : VisibleCell) (text : List ℕ) (es : List ChangeValue) → p.cell.text ≡ text → p.cell.attrs ≡ d.pen → es ≡ add_text d.entries text → record { entries = es; pen = d.pen } ≡ cell_out d p
 out_in_pen d p text es t a e =
-    let pen : pen_entry d.pen p.1.attrs ≡ [] = ap (pen_entry d.pen) a ∙ ap (λ b. cond b [] (change.AllAttributes d.pen ∷ [])) (self_eq d.pen) in
-    let entries : es ≡ add_text (d.entries ++ pen_entry d.pen p.1.attrs) p.1.text =
+    let pen : pen_entry d.pen p.cell.attrs ≡ [] = ap (pen_entry d.pen) a ∙ ap (λ b. cond b [] (change.AllAttributes d.pen ∷ [])) (self_eq d.pen) in
+    let entries : es ≡ add_text (d.entries ++ pen_entry d.pen p.cell.attrs) p.cell.text =
     e ∙ sym ((λ i. add_text (d.entries ++ pen i) (t i)) ∙ ap (λ l. add_text l text) (append-nil d.entries)) in
     λ i. record { entries = entries i; pen = sym a i }
 
 -- printed spaces are printable ASCII
 pub spaces_in_text : (n : ℕ) (d : Penned) (a : Attributes) → last_is ends_printable d.entries ≡ true → d.pen ≡ a → (last_is ends_printable (and_cells d (spaces_of n a)).entries ≡ true) × ((and_cells d (spaces_of n a)).pen ≡ a)
 spaces_in_text zero d a h e = (h, e)
-spaces_in_text (suc n) d a h e = spaces_in_text n (cell_out d (0, blank_of a)) a (ends_with_plain (d.entries ++ pen_entry d.pen a) 32 refl) refl
+spaces_in_text (suc n) d a h e = spaces_in_text n (cell_out d (at_column 0 (blank_of a))) a (ends_with_plain (d.entries ++ pen_entry d.pen a) 32 refl) refl
 
 -- rows behind other entries, which end in no text
 cell_behind : (es : List ChangeValue) (d : Penned) (p : VisibleCell) → last_is is_text es ≡ false → cell_out (behind es d) p ≡ behind es (cell_out d p)
 cell_behind es d p h =
-    let pen = pen_entry d.pen p.1.attrs in
-    let texts : add_text ((es ++ d.entries) ++ pen) p.1.text ≡ es ++ add_text (d.entries ++ pen) p.1.text =
-    ap (λ l. add_text l p.1.text) (append_assoc es d.entries pen) ∙ add_text_behind es (d.entries ++ pen) p.1.text h in
-    λ i. record { entries = texts i; pen = p.1.attrs }
+    let pen = pen_entry d.pen p.cell.attrs in
+    let texts : add_text ((es ++ d.entries) ++ pen) p.cell.text ≡ es ++ add_text (d.entries ++ pen) p.cell.text =
+    ap (λ l. add_text l p.cell.text) (append_assoc es d.entries pen) ∙ add_text_behind es (d.entries ++ pen) p.cell.text h in
+    λ i. record { entries = texts i; pen = p.cell.attrs }
 
 cells_behind : (es : List ChangeValue) (d : Penned) (ps : List VisibleCell) → last_is is_text es ≡ false → and_cells (behind es d) ps ≡ behind es (and_cells d ps)
 cells_behind es d [] h = refl
@@ -195,11 +195,11 @@ tail_behind es d kept a =
 -- a printed cell leaves a text
 texts_stay : (d : Penned) (ps : List VisibleCell) → last_is is_text d.entries ≡ true → last_is is_text (and_cells d ps).entries ≡ true
 texts_stay d [] h = h
-texts_stay d (p ∷ ps) h = texts_stay (cell_out d p) ps (ends_with_added (d.entries ++ pen_entry d.pen p.1.attrs) p.1.text)
+texts_stay d (p ∷ ps) h = texts_stay (cell_out d p) ps (ends_with_added (d.entries ++ pen_entry d.pen p.cell.attrs) p.cell.text)
 
 nothing_printed : (from : Penned) (ps : List VisibleCell) → last_is is_text from.entries ≡ false → is_empty ps ≡ not (last_is is_text (and_cells from ps).entries)
 nothing_printed from [] h = sym (ap not h)
-nothing_printed from (p ∷ ps) h = sym (ap not (texts_stay (cell_out from p) ps (ends_with_added (from.entries ++ pen_entry from.pen p.1.attrs) p.1.text)))
+nothing_printed from (p ∷ ps) h = sym (ap not (texts_stay (cell_out from p) ps (ends_with_added (from.entries ++ pen_entry from.pen p.cell.attrs) p.cell.text)))
 
 -- the attributes of a space at the end
 ends_as : (a : Attributes) (ps : List VisibleCell) → ends_in_space a ps ≡ true → (ends_plain ps ≡ has_only_background a) × ((b : Attributes) → pen_behind b ps ≡ a)
@@ -207,11 +207,11 @@ ends_as a [] h = absurd (true≢false (sym h))
 ends_as a (p ∷ []) h =
     let this = (space_parts a p h).1 in
     (ap (λ b. is_space_of b p && has_only_background b) this ∙ ap (λ t. t && has_only_background a) h, λ b. this)
-ends_as a (p ∷ (q ∷ ps)) h = let rest = ends_as a (q ∷ ps) h in (rest.0, λ b. rest.1 p.1.attrs)
+ends_as a (p ∷ (q ∷ ps)) h = let rest = ends_as a (q ∷ ps) h in (rest.0, λ b. rest.1 p.cell.attrs)
 
 ends_otherwise : (ps : List VisibleCell) → ((a : Attributes) → ends_in_space a ps ≡ false) → ends_plain ps ≡ false
 ends_otherwise [] h = refl
-ends_otherwise (p ∷ []) h = and_left (is_space_of p.1.attrs p) (has_only_background p.1.attrs) (h p.1.attrs)
+ends_otherwise (p ∷ []) h = and_left (is_space_of p.cell.attrs p) (has_only_background p.cell.attrs) (h p.cell.attrs)
 ends_otherwise (p ∷ (q ∷ ps)) h = ends_otherwise (q ∷ ps) h
 
 module _ (from : Penned) (cells : List VisibleCell) (w : Writing) (apart : last_is is_text from.entries ≡ false) (z : IsWritten from cells w) where

@@ -10,12 +10,12 @@ use Rattle.termwiz_line.proofs.EqualBy.{AreEqualBy-closed, AreEqualBy-takes, Are
 use Rattle.termwiz_line.proofs.Ends.{not_nil-append}
 use Rattle.termwiz_line.proofs.Cuts.{IsUnderWay, under_way-start, under_way-grows, under_way-ends, under_way-done}
 
-pub last_index-push : (p : List VisibleCell) (x : VisibleCell) → last_index (p ++ x ∷ []) ≡ x.0
+pub last_index-push : (p : List VisibleCell) (x : VisibleCell) → last_index (p ++ x ∷ []) ≡ x.column
 last_index-push [] x = refl
 last_index-push (c ∷ []) x = refl
 last_index-push (c ∷ d ∷ ds) x = last_index-push (d ∷ ds) x
 
-zone_of-push : (p : List VisibleCell) (x : VisibleCell) → p ≢ [] → zone_of (p ++ x ∷ []) ≡ record { semantic_type = semantic_of p; range = record { start = first_index p; end = x.0 } }
+zone_of-push : (p : List VisibleCell) (x : VisibleCell) → p ≢ [] → zone_of (p ++ x ∷ []) ≡ record { semantic_type = semantic_of p; range = record { start = first_index p; end = x.column } }
 zone_of-push [] x s = absurd (s refl)
 zone_of-push (c ∷ cs) x s = rw (last_index-push (c ∷ cs) x) refl
 
@@ -31,7 +31,7 @@ pub record IsZoning (first : VisibleCell) (rest left : List VisibleCell) (zones 
 pub zoning-start : (first : VisibleCell) (rest : List VisibleCell) → IsZoning first rest rest [] (zone_of (first ∷ []))
 zoning-start first rest = record { before = []; now = first ∷ []; some = λ e. cc; under_way = under_way-start (AreEqualBy semantic) (AreEqualBy-closed semantic) first rest; zones_are = refl; zone_is = refl }
 
-pub zoning-grows : (first : VisibleCell) (rest left : List VisibleCell) (zones : List ZoneRange) (zone : ZoneRange) (x : VisibleCell) → x.1.attrs.semantic_type ≡ zone.semantic_type → IsZoning first rest (x ∷ left) zones zone → IsZoning first rest left zones (record { semantic_type = zone.semantic_type; range = record { start = zone.range.start; end = x.0 } })
+pub zoning-grows : (first : VisibleCell) (rest left : List VisibleCell) (zones : List ZoneRange) (zone : ZoneRange) (x : VisibleCell) → x.cell.attrs.semantic_type ≡ zone.semantic_type → IsZoning first rest (x ∷ left) zones zone → IsZoning first rest left zones (record { semantic_type = zone.semantic_type; range = record { start = zone.range.start; end = x.column } })
 zoning-grows first rest left zones zone x e z = record {
   before = z.before;
   now = z.now ++ x ∷ [];
@@ -41,7 +41,7 @@ zoning-grows first rest left zones zone x e z = record {
   zone_is = rw z.zone_is (sym (zone_of-push z.now x z.some));
 }
 
-pub zoning-ends : (first : VisibleCell) (rest left : List VisibleCell) (zones : List ZoneRange) (zone : ZoneRange) (x : VisibleCell) → (x.1.attrs.semantic_type ≡ zone.semantic_type → ⊥) → IsZoning first rest (x ∷ left) zones zone → IsZoning first rest left (zones ++ zone ∷ []) (zone_of (x ∷ []))
+pub zoning-ends : (first : VisibleCell) (rest left : List VisibleCell) (zones : List ZoneRange) (zone : ZoneRange) (x : VisibleCell) → (x.cell.attrs.semantic_type ≡ zone.semantic_type → ⊥) → IsZoning first rest (x ∷ left) zones zone → IsZoning first rest left (zones ++ zone ∷ []) (zone_of (x ∷ []))
 zoning-ends first rest left zones zone x n z = record {
   before = z.before ++ z.now ∷ [];
   now = x ∷ [];

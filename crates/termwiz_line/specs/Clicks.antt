@@ -11,7 +11,7 @@ abbrev pub AnswersAs : (List ℕ → Bool → Type 0) → (List ℕ → Bool) �
 AnswersAs returns word = (text : List ℕ) (answer : Bool) → returns text answer → answer ≡ word text
 
 abbrev pub IsWord : (List ℕ → Bool) → VisibleCell → Type 0
-IsWord word c = word c.1.text ≡ true
+IsWord word c = word c.cell.text ≡ true
 
 -- the longest beginning whose elements all have P
 pub record IsLongestBeginning {A : Type 0} (P : A → Type 0) (xs run : List A) : Type 0 where
@@ -35,14 +35,14 @@ end_after c (x ∷ xs) = last_index (x ∷ xs) + 1
 -- the column of a run's first cell, or c where there is none
 abbrev pub start_of : ℕ → List VisibleCell → ℕ
 start_of c [] = c
-start_of c (x ∷ xs) = x.0
+start_of c (x ∷ xs) = x.column
 
 -- the visible cells at c or later, and at c or earlier
 abbrev pub from_column : ℕ → List VisibleCell → List VisibleCell
-from_column c cells = filter (λ p. nat_le c p.0) cells
+from_column c cells = filter (λ p. nat_le c p.column) cells
 
 abbrev pub up_to_column : ℕ → List VisibleCell → List VisibleCell
-up_to_column c cells = filter (λ p. nat_le p.0 c) cells
+up_to_column c cells = filter (λ p. nat_le p.column c) cells
 
 -- upper ends the longest run of word cells that starts with the first visible cell at c or later
 pub record IsUpper (word : List ℕ → Bool) (cells : List VisibleCell) (c upper : ℕ) : Type 0 where

@@ -23,7 +23,7 @@ shown_as p = unwrap_or p.1 p.0
 
 -- what is one for all cells of a cluster: the attributes without the mark, and the presentation
 abbrev pub look_of : (List ℕ → Presentation × Option Presentation) → VisibleCell → Attributes × Presentation
-look_of shown c = (unmarked_attributes c.1.attrs, shown_as (shown c.1.text))
+look_of shown c = (unmarked_attributes c.cell.attrs, shown_as (shown c.cell.text))
 
 abbrev pub IsNoSpace : VisibleCell → Type 0
 IsNoSpace c = IsSpace c → ⊥
@@ -46,7 +46,7 @@ pub record ClusterValue : Type 0 where
 
 -- the column and the width of a cell, once for each byte of its text
 abbrev pub cell_of_bytes : VisibleCell → List (ℕ × ℕ)
-cell_of_bytes c = replicate (length c.1.text) (c.0, columns c.1)
+cell_of_bytes c = replicate (length c.cell.text) (c.column, columns c.cell)
 
 -- the column and the width of each byte's cell
 abbrev pub cells_of_bytes : List VisibleCell → List (ℕ × ℕ)
@@ -69,7 +69,7 @@ cluster_of shown p = record {
 
 -- the cluster with one more cell
 abbrev pub with_cell : ClusterValue → VisibleCell → ClusterValue
-with_cell k c = record k { text = k.text ++ c.1.text; width = k.width + columns c.1; cells_of_bytes = k.cells_of_bytes ++ cell_of_bytes c }
+with_cell k c = record k { text = k.text ++ c.cell.text; width = k.width + columns c.cell; cells_of_bytes = k.cells_of_bytes ++ cell_of_bytes c }
 
 -- each run is cut into longest parts, and these are the parts of all
 pub data AreCutInto {A : Type 0} (IsPiece : List A → Type 0) : List (List A) → List (List A) → Type 0 where

@@ -33,4 +33,4 @@ ClustersJoin = (shown : List ℕ → Presentation × Option Presentation) (cells
 
 -- each byte of a cell's text tells the column and the width of that cell
 abbrev pub BytesTellTheirCells : Type 0
-BytesTellTheirCells = (before : List VisibleCell) (c : VisibleCell) (after : List VisibleCell) (k : ℕ) → k < length c.1.text → get_or (cells_of_bytes (before ++ c ∷ after)) (length (texts_of before) + k) (0, 0) ≡ (c.0, columns c.1)
+BytesTellTheirCells = (before : List VisibleCell) (c : VisibleCell) (after : List VisibleCell) (k : ℕ) → k < length c.cell.text → get_or (cells_of_bytes (before ++ c ∷ after)) (length (texts_of before) + k) (0, 0) ≡ (c.column, columns c.cell)

@@ -33,14 +33,14 @@ pen_entry old new = cond (attributes_eq old new) [] (change.AllAttributes new �
 
 -- a visible cell is printed
 abbrev pub cell_out : Penned → VisibleCell → Penned
-cell_out d p = record { entries = add_text (d.entries ++ pen_entry d.pen p.1.attrs) p.1.text; pen = p.1.attrs }
+cell_out d p = record { entries = add_text (d.entries ++ pen_entry d.pen p.cell.attrs) p.cell.text; pen = p.cell.attrs }
 
 abbrev pub cells_out : Attributes → List VisibleCell → Penned
 cells_out pen cells = fold cell_out (record { entries = []; pen = pen }) cells
 
 -- the cell shows one space with these attributes
 abbrev pub is_space_of : Attributes → VisibleCell → Bool
-is_space_of a p = bytes_eq p.1.text space && attributes_eq p.1.attrs a
+is_space_of a p = bytes_eq p.cell.text space && attributes_eq p.cell.attrs a
 
 abbrev pub all_spaces : Attributes → List VisibleCell → Bool
 all_spaces a [] = true
@@ -54,7 +54,7 @@ trimmed a (p ∷ ps) = cond (all_spaces a (p ∷ ps)) [] (p ∷ trimmed a ps)
 -- the attributes of the last cell, or the pen where there is none
 abbrev pub pen_behind : Attributes → List VisibleCell → Attributes
 pen_behind a [] = a
-pen_behind a (p ∷ ps) = pen_behind p.1.attrs ps
+pen_behind a (p ∷ ps) = pen_behind p.cell.attrs ps
 
 abbrev pub is_empty : List VisibleCell → Bool
 is_empty [] = true
@@ -73,7 +73,7 @@ with_tail d kept a = record {
 -- the last cell is a space whose attributes are default but for the background
 abbrev pub ends_plain : List VisibleCell → Bool
 ends_plain [] = false
-ends_plain (p ∷ []) = is_space_of p.1.attrs p && has_only_background p.1.attrs
+ends_plain (p ∷ []) = is_space_of p.cell.attrs p && has_only_background p.cell.attrs
 ends_plain (p ∷ (q ∷ ps)) = ends_plain (q ∷ ps)
 
 -- the changes that print these visible cells from a pen on: a pen for each run of equal attributes, then the run's texts;

@@ -5,7 +5,7 @@ use Rattle.std.specs.Prelude.{◌≡◌, ℕ, zero, suc, ◌<◌, Bool, true, fa
 use Rattle.std.specs.List.{range_with_len}
 use Rattle.termwiz_cell.specs.CellValue.{CellValue, half, is_wide}
 use Rattle.termwiz_storage.specs.Stored.{stored, hides}
-use Rattle.termwiz_storage.specs.VisibleCell.{VisibleCell}
+use Rattle.termwiz_storage.specs.VisibleCell.{VisibleCell, at_column}
 
 abbrev pub settled_at : List CellValue → ℕ → CellValue
 settled_at cs zero = stored cs zero
@@ -32,7 +32,7 @@ is_hidden r (suc k) = is_wide (stored r k)
 -- the visible cells of a row before column k, each with its column
 abbrev pub visible_upto : List CellValue → ℕ → List VisibleCell
 visible_upto r zero = []
-visible_upto r (suc k) = visible_upto r k ++ cond (is_hidden r k) [] ((k, stored r k) ∷ [])
+visible_upto r (suc k) = visible_upto r k ++ cond (is_hidden r k) [] (at_column k (stored r k) ∷ [])
 
 -- what stands at column k after painting x at column c: x, its second half, what is left of a wide cell that x's first column
 -- breaks, or the old cell, which is a blank where x breaks a wide one from the right

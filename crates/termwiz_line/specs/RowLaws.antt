@@ -39,7 +39,7 @@ VisibleFixesRowOf = (w : ℕ) (cs ds : List CellValue) → visible (first_cells 
 -- each index is at least where the cell before it ends, the first at least i
 abbrev pub AreGrowing : ℕ → List VisibleCell → Type 0
 AreGrowing i [] = Unit {0}
-AreGrowing i (p ∷ ps) = (i ≤ p.0) × AreGrowing (p.0 + columns p.1) ps
+AreGrowing i (p ∷ ps) = (i ≤ p.column) × AreGrowing (p.column + columns p.cell) ps
 
 -- the walk of stored cells meets no more cells than there are, at growing indices
 abbrev pub WalkGrows : Type 0

@@ -1,6 +1,6 @@
 -- The cells of a text, and the texts of cells.
 use Rattle.std.specs.Prelude.{◌≡◌, ℕ, ◌+◌, List, [], ◌∷◌, ◌++◌, ◌==◌, length, map, true, if◌then◌else◌}
-use Rattle.termwiz_storage.specs.VisibleCell.{VisibleCell}
+use Rattle.termwiz_storage.specs.VisibleCell.{VisibleCell, at_column}
 use Rattle.std.specs.List.{flat_map}
 use Rattle.unicode_segmentation.specs.Grapheme.{graphemes}
 use Rattle.termwiz_cell.specs.Attributes.{Attributes}
@@ -15,7 +15,7 @@ use Rattle.termwiz_line.specs.LineValue.{LineValue}
 -- cells at their columns, each behind the last one, the first at column x
 abbrev pub at_columns : ℕ → List CellValue → List VisibleCell
 at_columns x [] = []
-at_columns x (c ∷ cs) = (x, c) ∷ at_columns (x + columns c) cs
+at_columns x (c ∷ cs) = at_column x c ∷ at_columns (x + columns c) cs
 
 -- the cells of a text's graphemes, with these attributes
 abbrev pub cells_of_text : (List ℕ → ℕ) → Attributes → List ℕ → List CellValue
@@ -31,7 +31,7 @@ wrapped_text measure a text = if length (stored_text measure a text) == 0 then [
 
 -- the text of a visible cell that begins in the columns from a to b - 1
 abbrev pub text_within : ℕ → ℕ → VisibleCell → List ℕ
-text_within a b p = if begins_within a b p then p.1.text else []
+text_within a b p = if begins_within a b p then p.cell.text else []
 
 -- the texts of those of the visible cells that begin in these columns
 abbrev pub texts_between : ℕ → ℕ → List VisibleCell → List ℕ
@@ -40,7 +40,7 @@ texts_between a b cells = flat_map (text_within a b) cells
 -- each cell is set at its column, in order
 abbrev pub overlaid : List VisibleCell → List CellValue → List CellValue
 overlaid [] cs = cs
-overlaid (p ∷ ps) cs = overlaid ps (set_cell p.0 p.1 cs)
+overlaid (p ∷ ps) cs = overlaid ps (set_cell p.column p.cell cs)
 
 -- the cells are set at their columns, in order; the line takes the number with the first
 pub record Overlays (old : LineValue) (cells : List VisibleCell) (seqno : ℕ) (new : LineValue) : Type 0 where

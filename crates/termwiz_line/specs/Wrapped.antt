@@ -5,5 +5,5 @@ use Rattle.termwiz_storage.specs.VisibleCell.{VisibleCell}
 -- whether the last of visible cells has it
 abbrev pub last_is_wrapped : List VisibleCell → Bool
 last_is_wrapped [] = false
-last_is_wrapped (c ∷ []) = c.1.attrs.wrapped
+last_is_wrapped (c ∷ []) = c.cell.attrs.wrapped
 last_is_wrapped (c ∷ d ∷ ds) = last_is_wrapped (d ∷ ds)

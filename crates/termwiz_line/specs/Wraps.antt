@@ -12,12 +12,12 @@ use Rattle.termwiz_line.specs.Pieces.{IsCut, joined}
 use Rattle.termwiz_line.specs.Trim.{IsTrimmed}
 
 abbrev pub IsSpace : VisibleCell → Type 0
-IsSpace c = c.1.text ≡ space
+IsSpace c = c.cell.text ≡ space
 
 -- how many columns the cells take
 abbrev pub columns_taken : List VisibleCell → ℕ
 columns_taken [] = 0
-columns_taken (c ∷ cs) = columns c.1 + columns_taken cs
+columns_taken (c ∷ cs) = columns c.cell + columns_taken cs
 
 -- the cells fit the width, or there is one alone
 abbrev pub FitsOrAlone : ℕ → List VisibleCell → Type 0
@@ -26,7 +26,7 @@ FitsOrAlone width p = (columns_taken p ≤ width) ⊎ (length p ≡ 1)
 -- the last cell is marked_pieces: the text goes on behind it
 abbrev pub mark_last : List VisibleCell → List VisibleCell
 mark_last [] = []
-mark_last (c ∷ []) = (c.0, with_wrapped true c.1) ∷ []
+mark_last (c ∷ []) = record c { cell = with_wrapped true c.cell } ∷ []
 mark_last (c ∷ d ∷ ds) = c ∷ mark_last (d ∷ ds)
 
 -- all pieces but the last end in a marked_pieces cell
@@ -57,7 +57,7 @@ pub record IsWrapped (width seqno : ℕ) (line : LineValue) (lines : List LineVa
 
 -- the visible cells of a line without the mark, without their columns
 abbrev pub unmarked : List VisibleCell → List CellValue
-unmarked cells = map (λ p. with_wrapped false p.1) cells
+unmarked cells = map (λ p. with_wrapped false p.cell) cells
 
 -- where a line is cut, no line is longer than the width, and the lines show one after another what it shows up to the last cell that isn't a space, apart from the marks
 pub record FitsWidth (width : ℕ) (line : LineValue) (lines : List LineValue) : Type 0 where

@@ -1,6 +1,6 @@
 -- Rows of entries that are written cell by cell: spaces at the end of what was written are held back until it is known whether they end the row.
 use Rattle.std.specs.Prelude.{◌≡◌, ℕ, Bool, true, false, ◌&&◌, nat_lt, List, [], ◌∷◌, ◌++◌, fold, replicate}
-use Rattle.termwiz_storage.specs.VisibleCell.{VisibleCell}
+use Rattle.termwiz_storage.specs.VisibleCell.{VisibleCell, at_column}
 use Rattle.termwiz_cell.specs.Attributes.{Attributes, attributes_eq}
 use Rattle.termwiz_cell.specs.CellValue.{blank_of}
 use Rattle.termwiz_cell.specs.ChangeValue.{ChangeValue}
@@ -30,7 +30,7 @@ ends_in_space a (p ∷ (q ∷ ps)) = ends_in_space a (q ∷ ps)
 
 -- some spaces
 abbrev pub spaces_of : ℕ → Attributes → List VisibleCell
-spaces_of n a = replicate n (0, blank_of a)
+spaces_of n a = replicate n (at_column 0 (blank_of a))
 
 -- these cells of a row were written since `from`: those without their last spaces are printed, and with the held spaces it is all of them
 pub record IsWritten (from : Penned) (cells : List VisibleCell) (w : Writing) : Type 0 where

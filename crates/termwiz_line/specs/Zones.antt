@@ -12,11 +12,11 @@ use Rattle.termwiz_line.specs.Pieces.{IsCut, AreEqualBy}
 use Rattle.termwiz_line.specs.Trim.{IsTrimmed}
 
 abbrev pub semantic : VisibleCell → SemanticType
-semantic c = c.1.attrs.semantic_type
+semantic c = c.cell.attrs.semantic_type
 
 abbrev pub first_index : List VisibleCell → ℕ
 first_index [] = 0
-first_index (c ∷ cs) = c.0
+first_index (c ∷ cs) = c.column
 
 abbrev pub semantic_of : List VisibleCell → SemanticType
 semantic_of [] = Output
@@ -33,7 +33,7 @@ pub record AreZonesOf (cells : List VisibleCell) (zones : List ZoneRange) : Type
   pub zones_are : zones ≡ map zone_of pieces
 
 abbrev pub IsBlank : VisibleCell → Type 0
-IsBlank c = c.1 ≡ blank
+IsBlank c = c.cell ≡ blank
 
 -- the zones of visible cells: of those up to the last that isn't a default blank, or of all where all are
 pub record AreZones (cells : List VisibleCell) (zones : List ZoneRange) : Type 0 where

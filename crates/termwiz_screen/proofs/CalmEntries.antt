@@ -8,7 +8,7 @@ use Rattle.termwiz_cell.specs.CellValue.{CellValue, space}
 use Rattle.termwiz_cell.specs.ChangeValue as change
 use Rattle.termwiz_cell.specs.ChangeValue.{ChangeValue}
 use Rattle.termwiz_storage.specs.Stored.{stored}
-use Rattle.termwiz_storage.specs.VisibleCell.{VisibleCell}
+use Rattle.termwiz_storage.specs.VisibleCell.{VisibleCell, at_column}
 use Rattle.termwiz_line.specs.Row.{is_hidden, visible_upto}
 use Rattle.termwiz_line.specs.Entries.{joins, join, add_text, Penned, pen_entry, cell_out, cells_out, pen_behind, is_empty, clear_entry, with_tail, ends_plain, row_entries}
 use Rattle.termwiz_screen.specs.Kept.{Kept}
@@ -70,15 +70,15 @@ module _ (f : List ℕ → ℕ) where
       rw (n, b) (record { title = refl; shape = refl; color = refl; lines = refl })
 
   -- the entries of a visible cell
-  calm-cell : (s : Screen) (d : Penned) (p : VisibleCell) → Calm f s d.entries → (replay f s d.entries).pen ≡ d.pen → (replay f s d.entries).x < (replay f s d.entries).width → IsMeasured f p.1 → Calm f s (cell_out d p).entries
+  calm-cell : (s : Screen) (d : Penned) (p : VisibleCell) → Calm f s d.entries → (replay f s d.entries).pen ≡ d.pen → (replay f s d.entries).x < (replay f s d.entries).width → IsMeasured f p.cell → Calm f s (cell_out d p).entries
   calm-cell s d p c e l m k =
-      let es = d.entries ++ pen_entry d.pen p.1.attrs in
-      let u : replay f s es ≡ record (replay f s d.entries) { pen = p.1.attrs } = fold-append (step f) s d.entries _ ∙ replay_pen f (replay f s d.entries) d.pen p.1.attrs e in
-      subst (λ l. ShowAlike l k) (sym (kept-text es s k p.1.text m.alone))
+      let es = d.entries ++ pen_entry d.pen p.cell.attrs in
+      let u : replay f s es ≡ record (replay f s d.entries) { pen = p.cell.attrs } = fold-append (step f) s d.entries _ ∙ replay_pen f (replay f s d.entries) d.pen p.cell.attrs e in
+      subst (λ l. ShowAlike l k) (sym (kept-text es s k p.cell.text m.alone))
       (alike-more _ _ _
-      (subst (λ (v : Screen). ShowAlike (one_kept f v p.1.text (replay_kept f s k es)) (replay_kept f s k es)) (sym u)
-      (calm-put (record (replay f s d.entries) { pen = p.1.attrs }) p.1.text (replay_kept f s k es) l (no_break f p.1.attrs p.1.text m.is_clean)))
-      (calm-append s d.entries (pen_entry d.pen p.1.attrs) c (calm-pen (replay f s d.entries) d.pen p.1.attrs) k))
+      (subst (λ (v : Screen). ShowAlike (one_kept f v p.cell.text (replay_kept f s k es)) (replay_kept f s k es)) (sym u)
+      (calm-put (record (replay f s d.entries) { pen = p.cell.attrs }) p.cell.text (replay_kept f s k es) l (no_break f p.cell.attrs p.cell.text m.is_clean)))
+      (calm-append s d.entries (pen_entry d.pen p.cell.attrs) c (calm-pen (replay f s d.entries) d.pen p.cell.attrs) k))
 
   -- what follows the texts
   calm-tail : (s : Screen) (d : Penned) (kept : List VisibleCell) (a : Attributes) → Calm f s d.entries → Calm f s (with_tail d kept a).entries
@@ -102,8 +102,8 @@ module _ (f : List ℕ → ℕ) where
         next c (inl h) = subst (λ v. Calm f s (cells_out p v).entries) (sym (visible_hidden r k h)) c
         next c (inr v) =
             let e = row_texts f one s r z ly p ex ep k (omega arith) in
-            subst (λ (d : Penned). Calm f s d.entries) (sym (ap (cells_out p) (visible_shown r k v) ∙ fold_push cell_out (record { entries = []; pen = p }) (visible_upto r k) (k, stored r k)))
-            (calm-cell s before (k, stored r k) c (ap (λ (t : Screen). t.pen) e) (omega (arith, ap (λ (t : Screen). t.x) e, ap (λ (t : Screen). t.width) e, reach_visible r k v)) (z.measured k l v))
+            subst (λ (d : Penned). Calm f s d.entries) (sym (ap (cells_out p) (visible_shown r k v) ∙ fold_push cell_out (record { entries = []; pen = p }) (visible_upto r k) (at_column k (stored r k))))
+            (calm-cell s before (at_column k (stored r k)) c (ap (λ (t : Screen). t.pen) e) (omega (arith, ap (λ (t : Screen). t.x) e, ap (λ (t : Screen). t.width) e, reach_visible r k v)) (z.measured k l v))
 
     pub calm-row : Calm f s (row_entries p (visible_upto r s.width)).entries
     calm-row = done (cases_Bool (ends_plain cells))

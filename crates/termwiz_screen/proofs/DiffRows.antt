@@ -6,6 +6,7 @@ use Rattle.std.proofs.lemmas.Bool.{cases_lt, cases_eq, cases_order, cases_Bool, 
 use Rattle.termwiz_line.specs.Row.{IsRow, is_hidden, paint}
 use Rattle.termwiz_cell.specs.CellValue.{CellValue, blank, half, is_wide, cell_eq, cell_eq-Decides}
 use Rattle.termwiz_storage.specs.Stored.{stored}
+use Rattle.termwiz_storage.specs.VisibleCell.{at_column}
 use Rattle.termwiz_screen.specs.Diff.{shows, row_need}
 use Rattle.termwiz_screen.specs.DiffRegions.{IsIn, NoneCrosses, BothEnd, CrossesNone, HasRegion}
 use Rattle.termwiz_line.proofs.RowPainting.{length-paint, paint_here, paint_second, paint_other}
@@ -171,7 +172,7 @@ region_upto v w a p b q n ra rb la lb cr (suc k) l = step (region_upto v w a p b
       | inl t ↦ rw (t, append-nil) (region_hidden v w a p b q k (paint_all a (row_need a p b q k)) rb (omega arith) t i)
       | inr f ↦ elim (cases_Bool (shows a (p + k) (stored b (q + k)))) [
         | inl t ↦ rw (f, t, append-nil) (region_shown v w a p b q n k (paint_all a (row_need a p b q k)) ra rb la lb cr l f (shows_is a (p + k) (stored b (q + k)) t) i)
-        | inr g ↦ rw (f, g) (subst (RegionUpto v a p b q (suc k)) (sym (fold-append (λ s p. paint s p.0 p.1) a (row_need a p b q k) ((p + k, stored b (q + k)) ∷ [])))
+        | inr g ↦ rw (f, g) (subst (RegionUpto v a p b q (suc k)) (sym (fold-append (λ s p. paint s p.column p.cell) a (row_need a p b q k) (at_column (p + k) (stored b (q + k)) ∷ [])))
             (region_painted v w a p b q n k (paint_all a (row_need a p b q k)) ra rb la lb cr l f i))
       ]
     ]

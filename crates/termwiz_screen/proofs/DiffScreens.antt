@@ -5,7 +5,7 @@ use Rattle.std.proofs.lemmas.List.Sums.{fold-append}
 use Rattle.std.proofs.lemmas.Bool.{cases_lt, cases_eq, cases_Bool}
 use Rattle.termwiz_cell.specs.CellValue.{CellValue, blank, cell_eq-Decides}
 use Rattle.termwiz_storage.specs.Stored.{stored}
-use Rattle.termwiz_storage.specs.VisibleCell.{VisibleCell}
+use Rattle.termwiz_storage.specs.VisibleCell.{VisibleCell, at_column}
 use Rattle.termwiz_line.specs.Row.{is_hidden, paint}
 use Rattle.termwiz_screen.specs.Screen.{row_at}
 use Rattle.termwiz_screen.specs.Prints.{Print, print_on, print_all}
@@ -19,16 +19,16 @@ use Rattle.termwiz_screen.proofs.DiffRows.{row_region}
 
 length_paints : (s : List CellValue) (ps : List VisibleCell) → length (paint_all s ps) ≡ length s
 length_paints s [] = refl
-length_paints s (p ∷ ps) = length_paints (paint s p.0 p.1) ps ∙ length-paint s p.0 p.1
+length_paints s (p ∷ ps) = length_paints (paint s p.column p.cell) ps ∙ length-paint s p.column p.cell
 
 -- prints in one row
 row_prints : (i : ℕ) (ps : List VisibleCell) (s : List (List CellValue)) → i < length s → print_all s (map (in_row i) ps) ≡ set s i (paint_all (row_at s i) ps)
 row_prints i [] s l = sym (set-get_or s i [])
 row_prints i (p ∷ ps) s l =
-    let again : i < length (set s i (paint (row_at s i) p.0 p.1)) = omega (arith, length-set s i (paint (row_at s i) p.0 p.1)) in
-    row_prints i ps (set s i (paint (row_at s i) p.0 p.1)) again
-    ∙ set-set s i (paint (row_at s i) p.0 p.1) (paint_all (row_at (set s i (paint (row_at s i) p.0 p.1)) i) ps)
-    ∙ ap (λ t. set s i (paint_all t ps)) (get_or-set_same s i (paint (row_at s i) p.0 p.1) [] l)
+    let again : i < length (set s i (paint (row_at s i) p.column p.cell)) = omega (arith, length-set s i (paint (row_at s i) p.column p.cell)) in
+    row_prints i ps (set s i (paint (row_at s i) p.column p.cell)) again
+    ∙ set-set s i (paint (row_at s i) p.column p.cell) (paint_all (row_at (set s i (paint (row_at s i) p.column p.cell)) i) ps)
+    ∙ ap (λ t. set s i (paint_all t ps)) (get_or-set_same s i (paint (row_at s i) p.column p.cell) [] l)
 
 module _ (a b : List (List CellValue)) (r : Region) where
   -- the cells that row i of the region needs
@@ -167,8 +167,8 @@ row_printable f v h w i a p b q (suc n) li lp lq z = go (cases_Bool (is_hidden b
     go (inl t) s x = rw (t, append-nil) x
     go (inr t) (inl s) x = rw (t, s, append-nil) x
     go (inr t) (inr s) x = rw (t, s)
-        (subst (CanPrint f v h) (sym (map-append (in_row i) (row_need a p b q n) ((p + n, stored b (q + n)) ∷ [])))
-        (printable-append f v h (map (in_row i) (row_need a p b q n)) (in_row i (p + n, stored b (q + n)) ∷ []) x (li, lp n (omega arith), z.measured (q + n) (lq n (omega arith)) t, tt)))
+        (subst (CanPrint f v h) (sym (map-append (in_row i) (row_need a p b q n) (at_column (p + n) (stored b (q + n)) ∷ [])))
+        (printable-append f v h (map (in_row i) (row_need a p b q n)) (in_row i (at_column (p + n) (stored b (q + n))) ∷ []) x (li, lp n (omega arith), z.measured (q + n) (lq n (omega arith)) t, tt)))
 
 pub need_printable : (f : List ℕ → ℕ) (v h w g : ℕ) (a b : List (List CellValue)) (r : Region) → IsInside r v h w g → ((j : ℕ) → j < g → IsPrintableRow f w (row_at b j)) →
     (i : ℕ) → i ≤ r.height → CanPrint f v h (need_upto a b r i)

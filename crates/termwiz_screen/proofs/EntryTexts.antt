@@ -75,9 +75,9 @@ print_cell f s c l m =
     rw (n, k) (ap (put_at_cursor (record s { pen = c.attrs })) (printed_is f c m))
 
 -- the entries of a visible cell
-pub replay_cell : (f : List ℕ → ℕ) (s : Screen) (d : Penned) (p : VisibleCell) → (replay f s d.entries).pen ≡ d.pen → (replay f s d.entries).x < (replay f s d.entries).width → IsMeasured f p.1 →
-    replay f s (cell_out d p).entries ≡ put_at_cursor (record (replay f s d.entries) { pen = p.1.attrs }) p.1
+pub replay_cell : (f : List ℕ → ℕ) (s : Screen) (d : Penned) (p : VisibleCell) → (replay f s d.entries).pen ≡ d.pen → (replay f s d.entries).x < (replay f s d.entries).width → IsMeasured f p.cell →
+    replay f s (cell_out d p).entries ≡ put_at_cursor (record (replay f s d.entries) { pen = p.cell.attrs }) p.cell
 replay_cell f s d p e l m =
-    replay_text f (d.entries ++ pen_entry d.pen p.1.attrs) s p.1.text m.alone
-    ∙ ap (λ v. print_one f v p.1.text) (fold-append (step f) s d.entries _ ∙ replay_pen f (replay f s d.entries) d.pen p.1.attrs e)
-    ∙ print_cell f (replay f s d.entries) p.1 l m
+    replay_text f (d.entries ++ pen_entry d.pen p.cell.attrs) s p.cell.text m.alone
+    ∙ ap (λ v. print_one f v p.cell.text) (fold-append (step f) s d.entries _ ∙ replay_pen f (replay f s d.entries) d.pen p.cell.attrs e)
+    ∙ print_cell f (replay f s d.entries) p.cell l m

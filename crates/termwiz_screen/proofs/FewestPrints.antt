@@ -4,7 +4,7 @@ use Rattle.std.proofs.lemmas.List.{length-append, length-map, length-set, get_or
 use Rattle.std.proofs.lemmas.Bool.{cases_eq, cases_lt, cases_Bool, false≢true, and_from, not_from_false}
 use Rattle.termwiz_cell.specs.CellValue.{CellValue, is_wide, columns, cell_eq, cell_eq-Decides}
 use Rattle.termwiz_storage.specs.Stored.{stored}
-use Rattle.termwiz_storage.specs.VisibleCell.{VisibleCell}
+use Rattle.termwiz_storage.specs.VisibleCell.{VisibleCell, at_column}
 use Rattle.termwiz_line.specs.Row.{IsRow, is_hidden, paint}
 use Rattle.termwiz_screen.specs.Prints.{Print, print_on, print_all}
 use Rattle.termwiz_screen.specs.Diff.{shows, row_need, in_row, need_upto, need, whole}
@@ -45,9 +45,9 @@ length_need : (a b : List CellValue) (k : ℕ) → length (first_need a b (suc k
 unfolding needs
 length_need a b k =
     length-append (first_need a b k) _
-    ∙ ap (λ n. length (first_need a b k) + n) (ap (λ j. length {A = VisibleCell} (cond (is_hidden b j || shows a j (stored b j)) [] ((j, stored b j) ∷ []))) (zero-add k) ∙ one (is_hidden b k) (shows a k (stored b k)))
+    ∙ ap (λ n. length (first_need a b k) + n) (ap (λ j. length {A = VisibleCell} (cond (is_hidden b j || shows a j (stored b j)) [] (at_column j (stored b j) ∷ []))) (zero-add k) ∙ one (is_hidden b k) (shows a k (stored b k)))
   where
-    one : (h t : Bool) → length {A = VisibleCell} (cond (h || t) [] ((k, stored b k) ∷ [])) ≡ cond h 0 (cond t 0 1)
+    one : (h t : Bool) → length {A = VisibleCell} (cond (h || t) [] (at_column k (stored b k) ∷ [])) ≡ cond h 0 (cond t 0 1)
     one true t = refl
     one false true = refl
     one false false = refl

@@ -5,7 +5,7 @@ use Rattle.std.proofs.lemmas.List.Sums.{fold-append}
 use Rattle.std.proofs.lemmas.Bool.{cases_Bool, cases_lt}
 use Rattle.termwiz_cell.specs.CellValue.{CellValue, blank, is_wide, cell_eq, cell_eq-Decides}
 use Rattle.termwiz_storage.specs.Stored.{stored, hides}
-use Rattle.termwiz_storage.specs.VisibleCell.{VisibleCell}
+use Rattle.termwiz_storage.specs.VisibleCell.{VisibleCell, at_column}
 use Rattle.termwiz_line.specs.Row.{HasHalves, is_hidden, row_of, settled_at}
 use Rattle.termwiz_line.proofs.RowOf.{hidden_row, row_of_at}
 use Rattle.termwiz_line.proofs.StoredRows.{row_stored}
@@ -25,8 +25,8 @@ blanks_behind own x b q w k m (suc t) z a l =
     let inside : q + (m + t) < w = omega arith in
     ap (row_need own x b q) next
     ∙ needed_shown own x b q (m + t) (q + (m + t)) blank refl (z.starts (q + (m + t)) (omega arith) inside) (z.blanks (q + (m + t)) (omega arith) inside)
-    ∙ ap₂ (λ ps j. ps ++ cond (shows own j blank) [] ((j, blank) ∷ [])) (blanks_behind own x b q w k m t z a (omega arith)) place
-    ∙ append_assoc (row_need own x b q m) (row_need own (x + m) [] 0 t) (cond (shows own (x + m + t) blank) [] ((x + m + t, blank) ∷ []))
+    ∙ ap₂ (λ ps j. ps ++ cond (shows own j blank) [] (at_column j blank ∷ [])) (blanks_behind own x b q w k m t z a (omega arith)) place
+    ∙ append_assoc (row_need own x b q m) (row_need own (x + m) [] 0 t) (cond (shows own (x + m + t) blank) [] (at_column (x + m + t) blank ∷ []))
     ∙ ap (λ ps. row_need own x b q m ++ ps) (sym (needed_nothing own (x + m) t))
 
 -- behind its stored cells, and behind the half of the last, a row shows blanks
@@ -42,7 +42,7 @@ blanks_past own p t (suc j) (inl e) = absurd (omega (arith, e))
 blanks_past own p t (suc j) (inr l) =
     let next : t + suc j ≡ suc (t + j) = omega arith in
     ap (row_need own p [] 0) next ∙ needed_nothing own p (t + j)
-    ∙ ap₂ (λ ps s. ps ++ cond s [] ((p + (t + j), blank) ∷ [])) (blanks_past own p t j (inr l)) (shows_past own (p + (t + j)) (omega arith))
+    ∙ ap₂ (λ ps s. ps ++ cond s [] (at_column (p + (t + j)) blank ∷ [])) (blanks_past own p t j (inr l)) (shows_past own (p + (t + j)) (omega arith))
     ∙ append-nil (row_need own p [] 0 t)
 
 -- the other's visible cells up to a column, and blanks behind them
@@ -87,11 +87,11 @@ nothing_needed cs v w x (suc n) a b = ap₂ (λ ps qs. ps ++ qs) (nothing_needed
     other_cell = row_of_at w cs (x + n) (omega arith)
 
     last : (hides cs (x + n) ≡ true) ⊎ (hides cs (x + n) ≡ false) →
-        cond {A = List VisibleCell} (is_hidden (row_of w cs) (x + n) || shows (row_of v cs) (x + n) (stored (row_of w cs) (x + n))) [] ((x + n, stored (row_of w cs) (x + n)) ∷ []) ≡ []
-    last (inl h) = ap (λ s. cond {A = List VisibleCell} (s || shows (row_of v cs) (x + n) (stored (row_of w cs) (x + n))) [] ((x + n, stored (row_of w cs) (x + n)) ∷ [])) (other_hidden ∙ h)
+        cond {A = List VisibleCell} (is_hidden (row_of w cs) (x + n) || shows (row_of v cs) (x + n) (stored (row_of w cs) (x + n))) [] (at_column (x + n) (stored (row_of w cs) (x + n)) ∷ []) ≡ []
+    last (inl h) = ap (λ s. cond {A = List VisibleCell} (s || shows (row_of v cs) (x + n) (stored (row_of w cs) (x + n))) [] (at_column (x + n) (stored (row_of w cs) (x + n)) ∷ [])) (other_hidden ∙ h)
     last (inr h) =
-        (λ i. cond {A = List VisibleCell} ((other_hidden ∙ h) i || (not ((own_hidden ∙ h) i) && cell_eq (own_cell i) (other_cell i))) [] ((x + n, stored (row_of w cs) (x + n)) ∷ []))
-        ∙ ap (λ s. cond {A = List VisibleCell} s [] ((x + n, stored (row_of w cs) (x + n)) ∷ [])) ((cell_eq-Decides (settled_at cs (x + n)) (settled_at cs (x + n))).1 refl)
+        (λ i. cond {A = List VisibleCell} ((other_hidden ∙ h) i || (not ((own_hidden ∙ h) i) && cell_eq (own_cell i) (other_cell i))) [] (at_column (x + n) (stored (row_of w cs) (x + n)) ∷ []))
+        ∙ ap (λ s. cond {A = List VisibleCell} s [] (at_column (x + n) (stored (row_of w cs) (x + n)) ∷ [])) ((cell_eq-Decides (settled_at cs (x + n)) (settled_at cs (x + n))).1 refl)
 
 -- stored cells with halves need what their row needs
 own_hidden : (v : ℕ) (own : List CellValue) (k : ℕ) → HasHalves v own → k < v → is_hidden own k ≡ is_hidden (row_of v own) k
@@ -105,7 +105,7 @@ own_row own v x b q (suc n) h l =
     let hidden = own_hidden v own (x + n) h inside in
     let cell = sym (row_stored v own (x + n) (record { halves = h.halves }) inside) in
     let before = own_row own v x b q n h (omega arith) in
-    λ i. before i ++ cond (is_hidden b (q + n) || (not (hidden i) && cell_eq (cell i) (stored b (q + n)))) [] ((x + n, stored b (q + n)) ∷ [])
+    λ i. before i ++ cond (is_hidden b (q + n) || (not (hidden i) && cell_eq (cell i) (stored b (q + n)))) [] (at_column (x + n) (stored b (q + n)) ∷ [])
 
 -- one more row
 pub more_rows : (a b : List (List CellValue)) (r : Region) (i : ℕ) (d e g : PrintedOut) → e ≡ fold print_out d (need_upto a b r i) →

@@ -10,7 +10,7 @@ use Rattle.termwiz_cell.specs.CellValue.{CellValue, space, blank, blank_of, is_w
 use Rattle.termwiz_cell.specs.ChangeValue as change
 use Rattle.termwiz_cell.specs.ChangeValue.{ChangeValue}
 use Rattle.termwiz_storage.specs.Stored.{stored}
-use Rattle.termwiz_storage.specs.VisibleCell.{VisibleCell}
+use Rattle.termwiz_storage.specs.VisibleCell.{VisibleCell, at_column}
 use Rattle.termwiz_line.specs.Row.{is_hidden, visible_upto, clear}
 use Rattle.termwiz_line.specs.Entries.{Penned, is_space_of, all_spaces, trimmed, pen_behind, ends_plain, cells_out, with_tail, row_entries}
 use Rattle.termwiz_screen.specs.Screen.{Screen, row_at}
@@ -65,26 +65,26 @@ blank_spaces : (w : ℕ) (a : Attributes) (n : ℕ) → n ≤ w → all_spaces a
 blank_spaces w a zero l = refl
 blank_spaces w a (suc n) l =
     ap (all_spaces a) (visible_shown (replicate w (blank_of a)) n (blank_hidden w a n (omega arith)))
-    ∙ all_spaces_push a (visible_upto (replicate w (blank_of a)) n) (n, stored (replicate w (blank_of a)) n) (subst (λ c. is_space_of a (n, c) ≡ true) (sym (get_or-replicate w n (blank_of a) blank (omega arith))) ((attributes_eq-Decides a a).1 refl))
+    ∙ all_spaces_push a (visible_upto (replicate w (blank_of a)) n) (at_column n (stored (replicate w (blank_of a)) n)) (subst (λ c. is_space_of a (at_column n c) ≡ true) (sym (get_or-replicate w n (blank_of a) blank (omega arith))) ((attributes_eq-Decides a a).1 refl))
     ∙ blank_spaces w a n (omega arith)
 
 length-blank_visible : (w : ℕ) (a : Attributes) (n : ℕ) → n ≤ w → length (visible_upto (replicate w (blank_of a)) n) ≡ n
 length-blank_visible w a zero l = refl
 length-blank_visible w a (suc n) l =
     ap length (visible_shown (replicate w (blank_of a)) n (blank_hidden w a n (omega arith)))
-    ∙ omega (arith, length-append (visible_upto (replicate w (blank_of a)) n) ((n, stored (replicate w (blank_of a)) n) ∷ []), length-blank_visible w a n (omega arith))
+    ∙ omega (arith, length-append (visible_upto (replicate w (blank_of a)) n) (at_column n (stored (replicate w (blank_of a)) n) ∷ []), length-blank_visible w a n (omega arith))
 
 -- spaces with attributes a alone: nothing is kept of them
 spaces_last : (a p : Attributes) (ps : List VisibleCell) → 0 < length ps → all_spaces a ps ≡ true → pen_behind p ps ≡ a
 spaces_last a p [] l h = absurd (omega arith)
-spaces_last a p (q ∷ []) l h = (attributes_eq-Decides q.1.attrs a).0 (and_parts _ _ (and_parts (is_space_of a q) true h).0).1
-spaces_last a p (q ∷ (o ∷ ps)) l h = spaces_last a q.1.attrs (o ∷ ps) (omega arith) (and_parts (is_space_of a q) (all_spaces a (o ∷ ps)) h).1
+spaces_last a p (q ∷ []) l h = (attributes_eq-Decides q.cell.attrs a).0 (and_parts _ _ (and_parts (is_space_of a q) true h).0).1
+spaces_last a p (q ∷ (o ∷ ps)) l h = spaces_last a q.cell.attrs (o ∷ ps) (omega arith) (and_parts (is_space_of a q) (all_spaces a (o ∷ ps)) h).1
 
 spaces_plain : (a : Attributes) (ps : List VisibleCell) → 0 < length ps → all_spaces a ps ≡ true → has_only_background a ≡ true → ends_plain ps ≡ true
 spaces_plain a [] l h q = absurd (omega arith)
 spaces_plain a (p ∷ []) l h q =
     let s : is_space_of a p ≡ true = (and_parts (is_space_of a p) true h).0 in
-    let e : p.1.attrs ≡ a = (attributes_eq-Decides p.1.attrs a).0 (and_parts _ _ s).1 in
+    let e : p.cell.attrs ≡ a = (attributes_eq-Decides p.cell.attrs a).0 (and_parts _ _ s).1 in
     subst (λ b. (is_space_of b p && has_only_background b) ≡ true) (sym e) (and_from (is_space_of a p) (has_only_background a) s q)
 spaces_plain a (p ∷ (o ∷ ps)) l h q = spaces_plain a (o ∷ ps) (omega arith) (and_parts (is_space_of a p) (all_spaces a (o ∷ ps)) h).1 q
 

@@ -10,7 +10,7 @@ use Rattle.termwiz_cell.specs.CellValue.{CellValue}
 use Rattle.termwiz_cell.specs.ChangeValue as change
 use Rattle.termwiz_cell.specs.ChangeValue.{ChangeValue}
 use Rattle.termwiz_storage.specs.Stored.{stored}
-use Rattle.termwiz_storage.specs.VisibleCell.{VisibleCell}
+use Rattle.termwiz_storage.specs.VisibleCell.{VisibleCell, at_column}
 use Rattle.termwiz_line.specs.Row.{is_hidden, visible_upto}
 use Rattle.termwiz_line.specs.Entries.{joins, add_text, Penned, pen_entry, cell_out, cells_out, trimmed, pen_behind, is_empty, clear_entry, with_tail, ends_plain, row_entries}
 use Rattle.termwiz_screen.specs.Screen.{Screen, row_at}
@@ -44,9 +44,9 @@ length_cells (p ∷ ps) d =
     omega (
       arith,
       length_cells ps (cell_out d p),
-      length-add_text (d.entries ++ pen_entry d.pen p.1.attrs) p.1.text,
-      length-append d.entries (pen_entry d.pen p.1.attrs),
-      length_optional (attributes_eq d.pen p.1.attrs) (change.AllAttributes p.1.attrs),
+      length-add_text (d.entries ++ pen_entry d.pen p.cell.attrs) p.cell.text,
+      length-append d.entries (pen_entry d.pen p.cell.attrs),
+      length_optional (attributes_eq d.pen p.cell.attrs) (change.AllAttributes p.cell.attrs),
     )
 
 length_tail : (d : Penned) (kept : List VisibleCell) (a : Attributes) → length (with_tail d kept a).entries ≤ length d.entries + 2
@@ -79,7 +79,7 @@ length_row p cells = row (ends_plain cells) (trimmed_shorter p cells)
 
 length_visible : (r : List CellValue) (k : ℕ) → length (visible_upto r k) ≤ k
 length_visible r zero = omega arith
-length_visible r (suc k) = omega (arith, length_visible r k, length-append (visible_upto r k) (cond (is_hidden r k) [] ((k, stored r k) ∷ [])), length_optional {A = VisibleCell} (is_hidden r k) (k, stored r k))
+length_visible r (suc k) = omega (arith, length_visible r k, length-append (visible_upto r k) (cond (is_hidden r k) [] (at_column k (stored r k) ∷ [])), length_optional {A = VisibleCell} (is_hidden r k) (at_column k (stored r k)))
 
 -- the first row has no move before it
 length_rows : (w : ℕ) (rows : List (List CellValue)) (i : ℕ) → length (rows_upto w rows i).entries ≤ 2 * (w * i) + (i - 1)

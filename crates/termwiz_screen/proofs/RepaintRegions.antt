@@ -45,7 +45,7 @@ module _ (h : ℕ) where
 
   cells : (ps : List VisibleCell) (d : Penned) → regions_fit h d.entries ≡ true → regions_fit h (fold cell_out d ps).entries ≡ true
   cells [] d p = p
-  cells (c ∷ cs) d p = cells cs (cell_out d c) (texts (d.entries ++ pen_entry d.pen c.1.attrs) c.1.text (regions-append h d.entries (pen_entry d.pen c.1.attrs) p (pens d.pen c.1.attrs)))
+  cells (c ∷ cs) d p = cells cs (cell_out d c) (texts (d.entries ++ pen_entry d.pen c.cell.attrs) c.cell.text (regions-append h d.entries (pen_entry d.pen c.cell.attrs) p (pens d.pen c.cell.attrs)))
 
   tail : (d : Penned) (kept : List VisibleCell) (a : Attributes) → regions_fit h d.entries ≡ true → regions_fit h (with_tail d kept a).entries ≡ true
   tail d kept a p =

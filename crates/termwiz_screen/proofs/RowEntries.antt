@@ -8,7 +8,7 @@ use Rattle.termwiz_cell.specs.CellValue.{CellValue, space, blank, blank_of, is_w
 use Rattle.termwiz_cell.specs.ChangeValue as change
 use Rattle.termwiz_cell.specs.ChangeValue.{ChangeValue}
 use Rattle.termwiz_storage.specs.Stored.{stored}
-use Rattle.termwiz_storage.specs.VisibleCell.{VisibleCell}
+use Rattle.termwiz_storage.specs.VisibleCell.{VisibleCell, at_column}
 use Rattle.termwiz_line.specs.Row.{is_hidden, visible_upto, paint, clear}
 use Rattle.termwiz_line.specs.Entries.{Penned, pen_entry, cell_out, cells_out, pen_behind, is_empty, clear_entry, with_tail, ends_plain, row_entries}
 use Rattle.termwiz_screen.specs.Screen.{Screen, row_at}
@@ -27,9 +27,9 @@ texts_before s r k pen = record s { rows = set s.rows s.y (paint_all (row_at s.r
 module _ (f : List ℕ → ℕ) (one : f space ≡ 1) (s : Screen) (r : List CellValue) (z : IsPrintableRow f s.width r) (ly : s.y < length s.rows) where
   -- the texts of one column more
   row_next : (k : ℕ) (d : Penned) → k < s.width → is_hidden r k ≡ false → replay f s d.entries ≡ texts_before s r k d.pen →
-      replay f s (cell_out d (k, stored r k)).entries ≡ texts_before s r (suc k) (stored r k).attrs
+      replay f s (cell_out d (at_column k (stored r k))).entries ≡ texts_before s r (suc k) (stored r k).attrs
   row_next k d l v e =
-      replay_cell f s d (k, stored r k) (ap (λ (t : Screen). t.pen) e) (omega (arith, ap (λ (t : Screen). t.x) e, ap (λ (t : Screen). t.width) e, column)) (z.measured k l v)
+      replay_cell f s d (at_column k (stored r k)) (ap (λ (t : Screen). t.pen) e) (omega (arith, ap (λ (t : Screen). t.x) e, ap (λ (t : Screen). t.width) e, column)) (z.measured k l v)
       ∙ ap (λ (t : Screen). put_at_cursor (record t { pen = c.attrs }) c) e
       ∙ λ i. record s { rows = rows_are i; x = x_is (cases_Bool (is_wide c)) i; pen = c.attrs }
     where
@@ -46,7 +46,7 @@ module _ (f : List ℕ → ℕ) (one : f space ≡ 1) (s : Screen) (r : List Cel
       rows_are =
           set-set s.rows s.y old _
           ∙ ap (set s.rows s.y) (ap₂ (λ t n. paint t n c) (get_or-set_same s.rows s.y old [] ly) column
-          ∙ sym (fold_push (λ t p. paint t p.0 p.1) (row_at s.rows s.y) (visible_upto r k) (k, c)) ∙ ap (paint_all (row_at s.rows s.y)) (sym (visible_shown r k v)))
+          ∙ sym (fold_push (λ t p. paint t p.column p.cell) (row_at s.rows s.y) (visible_upto r k) (at_column k c)) ∙ ap (paint_all (row_at s.rows s.y)) (sym (visible_shown r k v)))
 
       x_is : (is_wide c ≡ true) ⊎ (is_wide c ≡ false) → min (min s.width (reach r k) + columns c) s.width ≡ min s.width (reach r (suc k))
       x_is (inl t) = rw t (omega (arith, column))
@@ -70,7 +70,7 @@ module _ (f : List ℕ → ℕ) (one : f space ≡ 1) (s : Screen) (r : List Cel
           (e ∙ row_skip k (cells_out p (visible_upto r k)).pen l h)
       next e (inr v) =
           subst (λ (d : Penned). replay f s d.entries ≡ texts_before s r (suc k) d.pen)
-          (sym (ap (cells_out p) (visible_shown r k v) ∙ fold_push cell_out (record { entries = []; pen = p }) (visible_upto r k) (k, stored r k)))
+          (sym (ap (cells_out p) (visible_shown r k v) ∙ fold_push cell_out (record { entries = []; pen = p }) (visible_upto r k) (at_column k (stored r k))))
           (row_next k (cells_out p (visible_upto r k)) l v e)
 
   module _ (empty : row_at s.rows s.y ≡ replicate s.width blank) where

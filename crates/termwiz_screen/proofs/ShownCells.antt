@@ -10,7 +10,7 @@ use Rattle.std.specs.Cmp.Lexicographic.{pointwise}
 use Rattle.termwiz_cell.specs.Attributes.{Attributes, default_attributes}
 use Rattle.termwiz_cell.specs.CellValue.{CellValue, blank, columns, is_wide, cell_eq, cell_eq-Decides}
 use Rattle.termwiz_storage.specs.Stored.{stored, visible, hides}
-use Rattle.termwiz_storage.specs.VisibleCell.{VisibleCell}
+use Rattle.termwiz_storage.specs.VisibleCell.{VisibleCell, at_column}
 use Rattle.termwiz_line.specs.Row.{IsRow, is_hidden, visible_upto, row_of}
 use Rattle.termwiz_line.specs.Entries.{pen_behind, all_spaces}
 use Rattle.termwiz_screen.specs.Padding.{IsPaddable, blanks_from, all_are}
@@ -29,7 +29,7 @@ same_visible r s (suc k) h =
     let hidden = same_hidden r s k (λ j l. h j (omega arith)) in
     let before = same_visible r s k (λ j l. h j (omega arith)) in
     let here = h k (omega arith) in
-    λ i. before i ++ cond (hidden i) [] ((k, here i) ∷ [])
+    λ i. before i ++ cond (hidden i) [] (at_column k (here i) ∷ [])
 
 module _ (w : ℕ) (cs : List CellValue) (z : IsPaddable w cs) where
   -- past the stored cells the row shows default blanks
@@ -55,8 +55,8 @@ module _ (w : ℕ) (cs : List CellValue) (z : IsPaddable w cs) where
       let inside : k < w = omega arith in
       let shown : is_hidden (row_of w cs) k ≡ false = hidden_row w cs k (omega arith) ∙ past_visible k (omega arith) inside in
       ap (visible_upto (row_of w cs)) (add-suc (length cs) n) ∙ visible_shown (row_of w cs) k shown
-      ∙ ap₂ (λ ps c. ps ++ (k, c) ∷ []) (padded_upto n (omega arith)) (past_blank k (omega arith) inside)
-      ∙ append_assoc (visible cs) (blanks_from (length cs) n) ((k, blank) ∷ [])
+      ∙ ap₂ (λ ps c. ps ++ at_column k c ∷ []) (padded_upto n (omega arith)) (past_blank k (omega arith) inside)
+      ∙ append_assoc (visible cs) (blanks_from (length cs) n) (at_column k blank ∷ [])
 
   pub padded_visible : visible cs ++ blanks_from (length cs) (w - length cs) ≡ visible_upto (row_of w cs) w
   padded_visible =
@@ -69,16 +69,16 @@ module _ (w : ℕ) (cs : List CellValue) (z : IsPaddable w cs) where
 -- blanks are spaces with default attributes
 pub blanks_spaces : (x n : ℕ) → all_spaces default_attributes (blanks_from x n) ≡ true
 blanks_spaces x zero = refl
-blanks_spaces x (suc n) = all_spaces_push default_attributes (blanks_from x n) (x + n, blank) refl ∙ blanks_spaces x n
+blanks_spaces x (suc n) = all_spaces_push default_attributes (blanks_from x n) (at_column (x + n) blank) refl ∙ blanks_spaces x n
 
 pub length-blanks : (x n : ℕ) → length (blanks_from x n) ≡ n
 length-blanks x zero = refl
-length-blanks x (suc n) = length-append (blanks_from x n) ((x + n, blank) ∷ []) ∙ omega (arith, length-blanks x n)
+length-blanks x (suc n) = length-append (blanks_from x n) (at_column (x + n) blank ∷ []) ∙ omega (arith, length-blanks x n)
 
 -- the attributes of the last column
-last_pushed : (p : Attributes) (ps : List VisibleCell) (k : ℕ) (c : CellValue) → pen_behind p (ps ++ (k, c) ∷ []) ≡ c.attrs
+last_pushed : (p : Attributes) (ps : List VisibleCell) (k : ℕ) (c : CellValue) → pen_behind p (ps ++ at_column k c ∷ []) ≡ c.attrs
 last_pushed p [] k c = refl
-last_pushed p (q ∷ ps) k c = last_pushed q.1.attrs ps k c
+last_pushed p (q ∷ ps) k c = last_pushed q.cell.attrs ps k c
 
 last_shown : (w : ℕ) (r : List CellValue) → IsRow w r → (p : Attributes) (k : ℕ) → k < w → pen_behind p (visible_upto r (suc k)) ≡ (stored r k).attrs
 last_shown w r z p zero l = refl
@@ -96,7 +96,7 @@ last_column w cs p z l e =
 -- a row of one cell
 all_appended : (c : CellValue) (ps qs : List VisibleCell) → all_are c (ps ++ qs) ≡ (all_are c ps && all_are c qs)
 all_appended c [] qs = refl
-all_appended c (p ∷ ps) qs = ap (λ b. cell_eq p.1 c && b) (all_appended c ps qs) ∙ sym (and_assoc (cell_eq p.1 c) (all_are c ps) (all_are c qs))
+all_appended c (p ∷ ps) qs = ap (λ b. cell_eq p.cell c && b) (all_appended c ps qs) ∙ sym (and_assoc (cell_eq p.cell c) (all_are c ps) (all_are c qs))
 
 module _ (c : CellValue) (narrow : is_wide c ≡ false) (r : List CellValue) where
   none_hidden : (n : ℕ) → ((k : ℕ) → k < n → stored r k ≡ c) → is_hidden r n ≡ false
@@ -105,14 +105,14 @@ module _ (c : CellValue) (narrow : is_wide c ≡ false) (r : List CellValue) whe
 
   -- what column n adds
   column : ℕ → List VisibleCell
-  column n = cond (is_hidden r n) [] ((n, stored r n) ∷ [])
+  column n = cond (is_hidden r n) [] (at_column n (stored r n) ∷ [])
 
   next_column : (n : ℕ) → ((k : ℕ) → k < n → stored r k ≡ c) → all_are c (column n) ≡ true → (k : ℕ) → k < suc n → stored r k ≡ c
   unfolding column
   next_column n before h k l = elim (cases_eq k n) [ inl e ↦ ap (stored r) e ∙ (cell_eq-Decides (stored r n) c).0 (and_parts (cell_eq (stored r n) c) true shown).0 | inr o ↦ before k (omega arith) ]
     where
-      shown : all_are c ((n, stored r n) ∷ []) ≡ true
-      shown = sym (ap (all_are c) (cond-false (is_hidden r n) [] ((n, stored r n) ∷ []) (none_hidden n before))) ∙ h
+      shown : all_are c (at_column n (stored r n) ∷ []) ≡ true
+      shown = sym (ap (all_are c) (cond-false (is_hidden r n) [] (at_column n (stored r n) ∷ []) (none_hidden n before))) ∙ h
 
   each_column : (n : ℕ) → all_are c (visible_upto r n) ≡ true → (k : ℕ) → k < n → stored r k ≡ c
   unfolding column
@@ -124,10 +124,10 @@ module _ (c : CellValue) (narrow : is_wide c ≡ false) (r : List CellValue) whe
   every_column : (n : ℕ) → ((k : ℕ) → k < n → stored r k ≡ c) → all_are c (visible_upto r n) ≡ true
   every_column zero h = refl
   every_column (suc n) h =
-      all_appended c (visible_upto r n) (cond (is_hidden r n) [] ((n, stored r n) ∷ []))
+      all_appended c (visible_upto r n) (cond (is_hidden r n) [] (at_column n (stored r n) ∷ []))
       ∙ and_from (all_are c (visible_upto r n)) _ (every_column n (λ k l. h k (omega arith))) (last (is_hidden r n))
     where
-      last : (b : Bool) → all_are c (cond b [] ((n, stored r n) ∷ [])) ≡ true
+      last : (b : Bool) → all_are c (cond b [] (at_column n (stored r n) ∷ [])) ≡ true
       last true = refl
       last false = and_from (cell_eq (stored r n) c) true ((cell_eq-Decides (stored r n) c).1 (h n (omega arith))) refl
 

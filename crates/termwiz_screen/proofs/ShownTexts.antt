@@ -2,6 +2,7 @@
 use Rattle.std.proofs.Common.{◌≡◌, ℕ, zero, suc, ◌<◌, ◌≤◌, cond, List, [], ◌∷◌, ◌++◌, length, map, refl, sym, ap, ap₂, ◌∙◌, arith}
 use Rattle.termwiz_cell.specs.CellValue.{CellValue, is_wide}
 use Rattle.termwiz_storage.specs.Stored.{stored, visible}
+use Rattle.termwiz_storage.specs.VisibleCell.{at_column}
 use Rattle.termwiz_line.specs.Row.{is_hidden, visible_upto, row_of}
 use Rattle.termwiz_screen.specs.Screen.{row_at}
 use Rattle.termwiz_line.specs.Texts.{texts_of}
@@ -18,7 +19,7 @@ visible_prefix : (r t : List CellValue) (n : ℕ) → ((k : ℕ) → k < n → s
 visible_prefix r t zero h = refl
 visible_prefix r t (suc k) h =
     ap₂ (λ u v. u ++ v) (visible_prefix r t k (λ j l. h j (omega arith)))
-    (ap₂ (λ b c. cond b [] ((k, c) ∷ [])) (same_hidden r t k (λ j l. h j (omega arith))) (h k (omega arith)))
+    (ap₂ (λ b c. cond b [] (at_column k c ∷ [])) (same_hidden r t k (λ j l. h j (omega arith))) (h k (omega arith)))
 
 -- the visible cells of a stored row are those of its row before its length
 pub visible_stored : (w : ℕ) (cs : List CellValue) → length cs ≤ w → visible cs ≡ visible_upto (row_of w cs) (length cs)

@@ -6,7 +6,7 @@ use Rattle.std.proofs.lemmas.List.Sums.{fold-append}
 use Rattle.std.proofs.lemmas.Bool.{cases_lt, and_from, and_left, not_from_false, false≢true}
 use Rattle.termwiz_cell.specs.CellValue.{CellValue, blank, columns, is_wide}
 use Rattle.termwiz_storage.specs.Stored.{stored, visible, visible_from, hides}
-use Rattle.termwiz_storage.specs.VisibleCell.{VisibleCell}
+use Rattle.termwiz_storage.specs.VisibleCell.{VisibleCell, at_column}
 use Rattle.termwiz_line.specs.Row.{is_hidden, row_of}
 use Rattle.termwiz_line.proofs.RowOf.{hidden_row, row_of_at, settled_visible}
 use Rattle.termwiz_screen.specs.Diff.{shows, row_need, in_row, PrintedOut, print_out}
@@ -64,15 +64,15 @@ behind cs k false more w h e = record {
 -- one more cell
 pub record IsNext (cs : List CellValue) (k : ℕ) (p : VisibleCell) (more : List VisibleCell) : Type 0 where
   pub within : k < length cs
-  pub cell : p.1 ≡ stored cs k
-  pub at : IsAt cs (k + columns p.1) more
+  pub cell : p.cell ≡ stored cs k
+  pub at : IsAt cs (k + columns p.cell) more
 
 pub at_next : (cs : List CellValue) (k : ℕ) (left : List VisibleCell) (p : VisibleCell) (more : List VisibleCell) → IsAt cs k left → left ≡ p ∷ more → IsNext cs k p more
 at_next cs k left p more z e = elim (cases_lt k (length cs)) [
   | inr l ↦ absurd (none (sym e ∙ z.rest ∙ ap (visible_from k 0) (drop_all k cs l)))
   | inl l ↦
-      let same : p ∷ more ≡ (k, stored cs k) ∷ visible_from (k + 1) (columns (stored cs k) - 1) (drop (suc k) cs) = sym e ∙ z.rest ∙ ap (visible_from k 0) (drop-cons cs k blank l) in
-      let cell : p.1 ≡ stored cs k = ap (λ (q : VisibleCell). q.1) (ap (λ ps. get_or ps 0 p) same) in
+      let same : p ∷ more ≡ at_column k (stored cs k) ∷ visible_from (k + 1) (columns (stored cs k) - 1) (drop (suc k) cs) = sym e ∙ z.rest ∙ ap (visible_from k 0) (drop-cons cs k blank l) in
+      let cell : p.cell ≡ stored cs k = ap (λ (q : VisibleCell). q.cell) (ap (λ ps. get_or ps 0 p) same) in
       record {
         within = l;
         cell = cell;
@@ -119,8 +119,8 @@ at_end w cs k left z e = record {
 
 -- one more column of what is needed
 module _ (own : List CellValue) (x : ℕ) (b : List CellValue) (q : ℕ) where
-  pub needed_shown : (m k : ℕ) (c : CellValue) → q + m ≡ k → is_hidden b k ≡ false → stored b k ≡ c → row_need own x b q (suc m) ≡ row_need own x b q m ++ cond (shows own (x + m) c) [] ((x + m, c) ∷ [])
-  needed_shown m k c e h s = λ i. row_need own x b q m ++ cond (hidden i || shows own (x + m) (cell i)) [] ((x + m, cell i) ∷ [])
+  pub needed_shown : (m k : ℕ) (c : CellValue) → q + m ≡ k → is_hidden b k ≡ false → stored b k ≡ c → row_need own x b q (suc m) ≡ row_need own x b q m ++ cond (shows own (x + m) c) [] (at_column (x + m) c ∷ [])
+  needed_shown m k c e h s = λ i. row_need own x b q m ++ cond (hidden i || shows own (x + m) (cell i)) [] (at_column (x + m) (cell i) ∷ [])
     where
       hidden : is_hidden b (q + m) ≡ false
       hidden = ap (is_hidden b) e ∙ h
@@ -129,7 +129,7 @@ module _ (own : List CellValue) (x : ℕ) (b : List CellValue) (q : ℕ) where
       cell = ap (stored b) e ∙ s
 
   needed_hidden : (m : ℕ) → is_hidden b (q + m) ≡ true → row_need own x b q (suc m) ≡ row_need own x b q m
-  needed_hidden m h = (λ i. row_need own x b q m ++ cond (h i || shows own (x + m) (stored b (q + m))) [] ((x + m, stored b (q + m)) ∷ [])) ∙ append-nil (row_need own x b q m)
+  needed_hidden m h = (λ i. row_need own x b q m ++ cond (h i || shows own (x + m) (stored b (q + m))) [] (at_column (x + m) (stored b (q + m)) ∷ [])) ∙ append-nil (row_need own x b q m)
 
 -- more cells are printed
 pub one_more : (row : ℕ) (d e g : PrintedOut) (ps last all : List VisibleCell) → all ≡ ps ++ last → e ≡ fold print_out d (map (in_row row) ps) → g ≡ fold print_out e (map (in_row row) last) →
@@ -143,18 +143,18 @@ hidden_nothing : (k : ℕ) → is_hidden [] k ≡ false
 hidden_nothing zero = refl
 hidden_nothing (suc k) = ap is_wide (get_or_past [] k blank (omega arith))
 
-pub needed_nothing : (own : List CellValue) (p m : ℕ) → row_need own p [] 0 (suc m) ≡ row_need own p [] 0 m ++ cond (shows own (p + m) blank) [] ((p + m, blank) ∷ [])
+pub needed_nothing : (own : List CellValue) (p m : ℕ) → row_need own p [] 0 (suc m) ≡ row_need own p [] 0 m ++ cond (shows own (p + m) blank) [] (at_column (p + m) blank ∷ [])
 needed_nothing own p m =
     let same : 0 + m ≡ m = omega arith in
     needed_shown own p [] 0 m m blank same (hidden_nothing m) (get_or_past [] m blank (omega arith))
 
 -- one more default blank
 pub blank_next : (own : List CellValue) (from k row : ℕ) (c : CellValue) (d e g : PrintedOut) → c ≡ blank → e ≡ fold print_out d (map (in_row row) (row_need own from [] 0 k)) →
-    g ≡ fold print_out e (map (in_row row) (cond (shows own (from + k) c) [] ((from + k, c) ∷ []))) → g ≡ fold print_out d (map (in_row row) (row_need own from [] 0 (k + 1)))
+    g ≡ fold print_out e (map (in_row row) (cond (shows own (from + k) c) [] (at_column (from + k) c ∷ []))) → g ≡ fold print_out d (map (in_row row) (row_need own from [] 0 (k + 1)))
 blank_next own from k row c d e g s u v =
     let next : k + 1 ≡ suc k = omega arith in
-    one_more row d e g (row_need own from [] 0 k) (cond (shows own (from + k) c) [] ((from + k, c) ∷ [])) (row_need own from [] 0 (k + 1))
-    (ap (row_need own from [] 0) next ∙ needed_nothing own from k ∙ ap (λ e. row_need own from [] 0 k ++ cond (shows own (from + k) e) [] ((from + k, e) ∷ [])) (sym s)) u v
+    one_more row d e g (row_need own from [] 0 k) (cond (shows own (from + k) c) [] (at_column (from + k) c ∷ [])) (row_need own from [] 0 (k + 1))
+    (ap (row_need own from [] 0) next ∙ needed_nothing own from k ∙ ap (λ e. row_need own from [] 0 k ++ cond (shows own (from + k) e) [] (at_column (from + k) e ∷ [])) (sym s)) u v
 
 -- the cells so far, and the next one
 module _ (own : List CellValue) (x : ℕ) (cs : List CellValue) (q n w row : ℕ) where
@@ -177,13 +177,13 @@ module _ (own : List CellValue) (x : ℕ) (cs : List CellValue) (q n w row : ℕ
   ]
 
   pub printed_next : (d e g : PrintedOut) (k : ℕ) (c : CellValue) → c ≡ stored cs k → hides cs k ≡ false → q ≤ k → k < q + n → q + n ≤ w →
-      e ≡ fold print_out d (map (in_row row) (row_need own x (row_of w cs) q (min n (k - q)))) → g ≡ fold print_out e (map (in_row row) (cond (shows own (x + (k - q)) c) [] ((x + (k - q), c) ∷ []))) →
+      e ≡ fold print_out d (map (in_row row) (row_need own x (row_of w cs) q (min n (k - q)))) → g ≡ fold print_out e (map (in_row row) (cond (shows own (x + (k - q)) c) [] (at_column (x + (k - q)) c ∷ []))) →
       g ≡ fold print_out d (map (in_row row) (row_need own x (row_of w cs) q (min n (k + columns c - q))))
   printed_next d e g k c s h a b l u v =
       let there : q + (k - q) ≡ k = omega arith in
       let before : k - q ≡ min n (k - q) = omega arith in
       let inside : k < w = omega arith in
-      let last : List VisibleCell = cond (shows own (x + (k - q)) c) [] ((x + (k - q), c) ∷ []) in
+      let last : List VisibleCell = cond (shows own (x + (k - q)) c) [] (at_column (x + (k - q)) c ∷ []) in
       one_more row d e g (row_need own x (row_of w cs) q (min n (k - q))) last (row_need own x (row_of w cs) q (min n (k + columns c - q)))
       (ap (λ (y : CellValue). row_need own x (row_of w cs) q (min n (k + columns y - q))) s
       ∙ needed_two k (is_wide (stored cs k)) refl h a b l

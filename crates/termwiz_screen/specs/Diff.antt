@@ -5,7 +5,7 @@ use Rattle.termwiz_cell.specs.CellValue.{CellValue, columns, cell_eq}
 use Rattle.termwiz_cell.specs.ChangeValue as change
 use Rattle.termwiz_cell.specs.ChangeValue.{ChangeValue}
 use Rattle.termwiz_storage.specs.Stored.{stored}
-use Rattle.termwiz_storage.specs.VisibleCell.{VisibleCell}
+use Rattle.termwiz_storage.specs.VisibleCell.{VisibleCell, at_column}
 use Rattle.termwiz_line.specs.Row.{is_hidden}
 use Rattle.termwiz_line.specs.Entries.{add_text, pen_entry}
 use Rattle.termwiz_screen.specs.Place.{cursor_at}
@@ -19,7 +19,7 @@ shows r k c = not (is_hidden r k) && cell_eq (stored r k) c
 -- of the n columns from q on of b: the cells that start there and that a does not show at their places, from column p on
 abbrev pub row_need : List CellValue → ℕ → List CellValue → ℕ → ℕ → List VisibleCell
 row_need a p b q zero = []
-row_need a p b q (suc k) = row_need a p b q k ++ cond (is_hidden b (q + k) || shows a (p + k) (stored b (q + k))) [] ((p + k, stored b (q + k)) ∷ [])
+row_need a p b q (suc k) = row_need a p b q k ++ cond (is_hidden b (q + k) || shows a (p + k) (stored b (q + k))) [] (at_column (p + k) (stored b (q + k)) ∷ [])
 
 -- a rectangle of own columns and rows, and as large a one of another's
 pub record Region : Type 0 where
@@ -39,7 +39,7 @@ abbrev pub cut : Region → ℕ → ℕ → ℕ → ℕ → Region
 cut r v h w g = record r { width = fitting r.width v r.x w r.other_x; height = fitting r.height h r.y g r.other_y }
 
 abbrev pub in_row : ℕ → VisibleCell → Print
-in_row i p = record { row = i; column = p.0; cell = p.1 }
+in_row i p = record { row = i; column = p.column; cell = p.cell }
 
 -- the cells of the region's first rows of b that a does not show at their places, row by row
 abbrev pub need_upto : List (List CellValue) → List (List CellValue) → Region → ℕ → List Print

@@ -2,6 +2,7 @@
 use Rattle.std.specs.Prelude.{◌≡◌, ℕ, ◌+◌, ◌-◌, ◌<◌, ◌≤◌, true, not, nat_le, ◌⊎◌, List, [], ◌∷◌, map, filter}
 use Rattle.termwiz_cell.specs.CellValue.{CellValue, space}
 use Rattle.termwiz_cell.specs.ChangeValue.{ChangeValue}
+use Rattle.termwiz_storage.specs.VisibleCell.{at_column}
 use Rattle.termwiz_line.specs.Row.{row_of, visible_upto}
 use Rattle.termwiz_screen.specs.Screen.{Screen, row_at}
 use Rattle.termwiz_screen.specs.Step.{replay}
@@ -24,7 +25,7 @@ PrintsAreDiff = (f g : List ℕ → ℕ) (s : Screen) (ps : List Print) → CanP
 -- what is needed, in words: the visible cells of b from column q to q + n that a does not show, each moved to its place in a
 abbrev pub NeedIs : Type 0
 NeedIs = (a : List CellValue) (p : ℕ) (b : List CellValue) (q n : ℕ) →
-    row_need a p b q n ≡ filter (λ c. not (shows a c.0 c.1)) (map (λ c. (p + (c.0 - q), c.1)) (filter (λ c. nat_le q c.0) (visible_upto b (q + n))))
+    row_need a p b q n ≡ filter (λ c. not (shows a c.column c.cell)) (map (λ c. at_column (p + (c.column - q)) c.cell) (filter (λ c. nat_le q c.column) (visible_upto b (q + n))))
 
 -- a region that is cut to what fits lies inside
 abbrev pub CutIsInside : Type 0

@@ -11,6 +11,7 @@ use Rattle.termwiz_storage.specs.declared.line.clusterline.runs.Shape.{Shape}
 use Rattle.termwiz_storage.specs.Clustered.{AreCuts, HasByteCells, IsCellText, IsClusteredText, cell_len, cells_from, first_cell, shown_cells}
 use Rattle.termwiz_storage.specs.Edits.{with_half}
 use Rattle.termwiz_storage.specs.Stored.{cell_at, visible}
+use Rattle.termwiz_storage.specs.VisibleCell.{at_column}
 use Rattle.termwiz_storage.proofs.Clustered.{length-with_half, texts_of-visible, visible-cells_from}
 use Rattle.termwiz_storage.proofs.VisibleAt.{cell_at-first, cell_at-later, cell_at-past}
 use Rattle.termwiz_storage.proofs.Widths.{columns_bounds, columns-wide}
@@ -95,7 +96,7 @@ byte_cell i zero (y ∷ ys) (s ∷ ss) (p ∷ ps) a h e l m g =
     let same : p ≡ a = same_Some p a g in
     let k : i + 0 ≡ i = omega arith in
     let is : c ≡ record { text = take 1 t; wide = false; attrs = a } = λ j. record { text = take (one j) t; wide = narrow j; attrs = same j } in
-    ap (cell_at ((i, c) ∷ shown_cells (i + columns c) (drop (cell_len s t) t) ss ps)) k ∙ cell_at-first i c (shown_cells (i + columns c) (drop (cell_len s t) t) ss ps) ∙ ap Some is
+    ap (cell_at (at_column i c ∷ shown_cells (i + columns c) (drop (cell_len s t) t) ss ps)) k ∙ cell_at-first i c (shown_cells (i + columns c) (drop (cell_len s t) t) ss ps) ∙ ap Some is
 byte_cell i (suc k) (y ∷ ys) (s ∷ ss) (p ∷ ps) a h e l m g =
     let t : List ℕ = y ∷ ys in
     let c : CellValue = first_cell t s p in

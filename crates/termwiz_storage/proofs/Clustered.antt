@@ -11,14 +11,14 @@ use Rattle.termwiz_storage.specs.CellTexts.{texts_of}
 use Rattle.termwiz_storage.specs.Clustered.{cell_len, char_len, first_cell, cells_from, shown_cells, AreCuts, IsCellText, IsClusteredText, IsStepping}
 use Rattle.termwiz_storage.specs.Edits.{with_half, with_halves}
 use Rattle.termwiz_storage.specs.Stored.{visible_from, visible}
-use Rattle.termwiz_storage.specs.VisibleCell.{VisibleCell}
+use Rattle.termwiz_storage.specs.VisibleCell.{VisibleCell, at_column}
 
 -- a cell with its half is one visible cell, and the walk goes on behind it
-visible_step : (b : Bool) (x : List ℕ) (a : Attributes) (i : ℕ) (cs : List CellValue) (shown : ℕ → List VisibleCell) → ((j : ℕ) → shown j ≡ visible_from j 0 cs) → (i, record { text = x; wide = b; attrs = a }) ∷ shown (i + columns (record { text = x; wide = b; attrs = a })) ≡ visible_from i 0 (with_half (record { text = x; wide = b; attrs = a }) ++ cs)
+visible_step : (b : Bool) (x : List ℕ) (a : Attributes) (i : ℕ) (cs : List CellValue) (shown : ℕ → List VisibleCell) → ((j : ℕ) → shown j ≡ visible_from j 0 cs) → at_column i (record { text = x; wide = b; attrs = a }) ∷ shown (i + columns (record { text = x; wide = b; attrs = a })) ≡ visible_from i 0 (with_half (record { text = x; wide = b; attrs = a }) ++ cs)
 visible_step true x a i cs shown h =
     let e : i + 2 ≡ i + 1 + 1 = omega arith in
-    ap (λ (z : List VisibleCell). (i, record { text = x; wide = true; attrs = a }) ∷ z) (rw e (h (i + 1 + 1)))
-visible_step false x a i cs shown h = ap (λ (z : List VisibleCell). (i, record { text = x; wide = false; attrs = a }) ∷ z) (h (i + 1))
+    ap (λ (z : List VisibleCell). at_column i (record { text = x; wide = true; attrs = a }) ∷ z) (rw e (h (i + 1 + 1)))
+visible_step false x a i cs shown h = ap (λ (z : List VisibleCell). at_column i (record { text = x; wide = false; attrs = a }) ∷ z) (h (i + 1))
 
 shown_is_visible : (i : ℕ) (t : List ℕ) (ss : List Shape) (ps : List Attributes) → shown_cells i t ss ps ≡ visible_from i 0 (cells_from t ss ps)
 shown_is_visible i t [] ps = refl

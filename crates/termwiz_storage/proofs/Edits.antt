@@ -10,6 +10,7 @@ use Rattle.termwiz_cell.specs.CellValue.{CellValue, blank, is_wide, columns}
 use Rattle.termwiz_storage.specs.Edits.{begins_within, columns_between, removed_at_margin, with_half, with_halves}
 use Rattle.termwiz_storage.specs.Stored.{visible, visible_from}
 use Rattle.termwiz_storage.specs.Used.{IsUsedTo}
+use Rattle.termwiz_storage.specs.VisibleCell.{at_column}
 
 -- clones of a cell are that cell
 copies_same : (c : CellValue) (cs : List CellValue) → AllClonesOf (λ a b. b ≡ a) c cs → cs ≡ replicate (length cs) c
@@ -116,7 +117,7 @@ left-none a b i hidden cs l = elim (cases_lt i b) [
 -- all cells of a list begin within its length
 columns-from : (b i s : ℕ) (cs : List CellValue) → i + length cs ≤ b → filter (begins_within 0 b) (visible_from i s cs) ≡ visible_from i s cs
 columns-from b i s [] l = refl
-columns-from b i zero (c ∷ cs) l = rw (lt-ltb i b (omega arith), le-leb 0 i (omega arith)) (ap (λ ps. (i, c) ∷ ps) (columns-from b (i + 1) (columns c - 1) cs (omega arith)))
+columns-from b i zero (c ∷ cs) l = rw (lt-ltb i b (omega arith), le-leb 0 i (omega arith)) (ap (λ ps. at_column i c ∷ ps) (columns-from b (i + 1) (columns c - 1) cs (omega arith)))
 columns-from b i (suc s) (c ∷ cs) l = columns-from b (i + 1) s cs (omega arith)
 
 pub columns-all : (b : ℕ) (cs : List CellValue) → b ≡ length cs → columns_between 0 b cs ≡ with_halves (visible cs)
@@ -130,11 +131,11 @@ shown-again i zero (c ∷ cs) =
     rw z (elim (cases_Bool (is_wide c)) [
       | inl w ↦
           let d : CellValue = record { text = c.text; wide = true; attrs = c.attrs } in
-          rw w (ap (λ ps. (i, d) ∷ ps) (shown-again (i + 1) 1 cs))
+          rw w (ap (λ ps. at_column i d ∷ ps) (shown-again (i + 1) 1 cs))
       | inr w ↦
           let d : CellValue = record { text = c.text; wide = false; attrs = c.attrs } in
           let y : i + 1 + 0 ≡ i + 1 = omega arith in
-          rw w (ap (λ ps. (i, d) ∷ ps) (rw y at (shown-again (i + 1) 0 cs)))
+          rw w (ap (λ ps. at_column i d ∷ ps) (rw y at (shown-again (i + 1) 0 cs)))
     ])
 shown-again i (suc s) (c ∷ cs) = let e : i + suc s ≡ i + 1 + s = omega arith in rw e (shown-again (i + 1) s cs)
 

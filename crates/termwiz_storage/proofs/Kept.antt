@@ -6,13 +6,13 @@ use Rattle.termwiz_storage.proofs.VisibleAt.{cell_at-before, cell_at-first, cell
 use Rattle.termwiz_storage.proofs.Widths.{columns_bounds}
 use Rattle.termwiz_storage.specs.Stored.{stored, visible_from, visible, cell_at, hides, IsKept}
 use Rattle.termwiz_storage.specs.Used.{IsUsedTo, IsFilledTo}
-use Rattle.termwiz_storage.specs.VisibleCell.{VisibleCell}
+use Rattle.termwiz_storage.specs.VisibleCell.{VisibleCell, at_column}
 
 -- e is where the last visible cell that isn't blank ends, or k where there is none
 pub data EndsAt : ℕ → List VisibleCell → ℕ → Type 0 where
   nothing : {k : ℕ} → EndsAt k [] k
-  blank_cell : {k i e : ℕ} {c : CellValue} {ps : List VisibleCell} → c ≡ blank → EndsAt k ps e → EndsAt k ((i, c) ∷ ps) e
-  other_cell : {k i e : ℕ} {c : CellValue} {ps : List VisibleCell} → c ≢ blank → EndsAt (i + (columns c)) ps e → EndsAt k ((i, c) ∷ ps) e
+  blank_cell : {k i e : ℕ} {c : CellValue} {ps : List VisibleCell} → c ≡ blank → EndsAt k ps e → EndsAt k (at_column i c ∷ ps) e
+  other_cell : {k i e : ℕ} {c : CellValue} {ps : List VisibleCell} → c ≢ blank → EndsAt (i + (columns c)) ps e → EndsAt k (at_column i c ∷ ps) e
 
 -- from e on all is blank
 blank_after : (k i s e : ℕ) (cs : List CellValue) → EndsAt k (visible_from i s cs) e → k ≤ i + s → (s ≡ 0) ⊎ (i + s ≤ k) → (k ≤ e) × ((x : ℕ) → e ≤ x → i ≤ x → x < i + length cs → cell_at (visible_from i s cs) x ≡ Some blank)

@@ -15,7 +15,7 @@ use Rattle.termwiz_storage.specs.LastCell.{last_attrs}
 use Rattle.termwiz_storage.specs.Stored.{cell_at, stored, visible, visible_from, IsKept}
 use Rattle.termwiz_storage.specs.Wrapped.{last_index}
 use Rattle.termwiz_storage.proofs.Clustered.{visible-cells_from}
-use Rattle.termwiz_storage.specs.VisibleCell.{VisibleCell}
+use Rattle.termwiz_storage.specs.VisibleCell.{VisibleCell, at_column}
 
 -- ---- the last of a list
 
@@ -53,7 +53,7 @@ last_run o (r ∷ rs) =
     ∙ ap (λ (a : Option Attributes). last_or a (attrs_of rs)) (last_or-run (option_map (λ (q : AttrsRun). q.attrs) o) r.cells r.attrs r.some)
     ∙ last_run (Some r) rs
 
-attrs-shown : (i : ℕ) (t : List ℕ) (ss : List Shape) (ps : List Attributes) → length ss ≡ length ps → map (λ p. p.1.attrs) (shown_cells i t ss ps) ≡ ps
+attrs-shown : (i : ℕ) (t : List ℕ) (ss : List Shape) (ps : List Attributes) → length ss ≡ length ps → map (λ p. p.cell.attrs) (shown_cells i t ss ps) ≡ ps
 attrs-shown i t [] [] e = refl
 attrs-shown i t [] (a ∷ ps) e = absurd (omega arith)
 attrs-shown i t (s ∷ ss) [] e = absurd (omega arith)
@@ -64,13 +64,13 @@ last_attrs-runs cs t ss rs h e =
     ap (option_map (λ (r : AttrsRun). r.attrs)) (slice_get-last rs)
     ∙ sym (last_run None rs)
     ∙ ap (last_or None) (sym (attrs-shown 0 t ss (attrs_of rs) e))
-    ∙ last_or-map (λ (p : VisibleCell). p.1.attrs) None (shown_cells 0 t ss (attrs_of rs))
+    ∙ last_or-map (λ (p : VisibleCell). p.cell.attrs) None (shown_cells 0 t ss (attrs_of rs))
     ∙ ap last_attrs (visible-cells_from cs t ss (attrs_of rs) h)
 
 -- ---- where the last visible cell stands
 
 abbrev last_cell : Option VisibleCell → List VisibleCell → Option CellValue
-last_cell o ps = option_map (λ p. p.1) (last_or o ps)
+last_cell o ps = option_map (λ p. p.cell) (last_or o ps)
 
 -- a walk that passes over all cells shows none
 pub walk_none : (i s : ℕ) (cs : List CellValue) → length cs ≤ s → visible_from i s cs ≡ []
@@ -88,7 +88,7 @@ walk_reaches : (i s : ℕ) (cs : List CellValue) → s < length cs → i + s ≤
 walk_reaches i s [] l = absurd (omega arith)
 walk_reaches i (suc s) (c ∷ cs) l = omega (arith, walk_reaches (i + 1) s cs (omega arith))
 walk_reaches i zero (c ∷ cs) l = elim (cases_lt (columns c - 1) (length cs)) [
-  | inl u ↦ omega (arith, last_index-cons (i + 1) (columns c - 1) (i, c) cs u, walk_reaches (i + 1) (columns c - 1) cs u)
+  | inl u ↦ omega (arith, last_index-cons (i + 1) (columns c - 1) (at_column i c) cs u, walk_reaches (i + 1) (columns c - 1) cs u)
   | inr u ↦ rw (walk_none (i + 1) (columns c - 1) cs u) (omega arith)
 ]
 
@@ -97,15 +97,15 @@ last_stored o i s k [] l e = absurd (omega arith)
 last_stored o i (suc s) zero (c ∷ cs) l e = absurd (omega (arith, walk_reaches (i + 1) s cs (omega arith)))
 last_stored o i (suc s) (suc k) (c ∷ cs) l e = last_stored o (i + 1) s k cs (omega arith) (omega (arith, e))
 last_stored o i zero zero (c ∷ cs) l e = elim (cases_lt (columns c - 1) (length cs)) [
-  | inl u ↦ absurd (omega (arith, e, last_index-cons (i + 1) (columns c - 1) (i, c) cs u, walk_reaches (i + 1) (columns c - 1) cs u))
+  | inl u ↦ absurd (omega (arith, e, last_index-cons (i + 1) (columns c - 1) (at_column i c) cs u, walk_reaches (i + 1) (columns c - 1) cs u))
   | inr u ↦ rw (walk_none (i + 1) (columns c - 1) cs u) refl
 ]
 last_stored o i zero (suc k) (c ∷ cs) l e = elim (cases_lt (columns c - 1) (length cs)) [
-  | inl u ↦ last_stored (Some (i, c)) (i + 1) (columns c - 1) k cs u (omega (arith, e, last_index-cons (i + 1) (columns c - 1) (i, c) cs u))
+  | inl u ↦ last_stored (Some (at_column i c)) (i + 1) (columns c - 1) k cs u (omega (arith, e, last_index-cons (i + 1) (columns c - 1) (at_column i c) cs u))
   | inr u ↦ let none : i ≡ i + suc k = rw (walk_none (i + 1) (columns c - 1) cs u) at e in absurd (omega (arith, none))
 ]
 
-attrs-cell : (o : Option VisibleCell) (c : CellValue) → option_map (λ p. p.1) o ≡ Some c → option_map (λ p. p.1.attrs) o ≡ Some c.attrs
+attrs-cell : (o : Option VisibleCell) (c : CellValue) → option_map (λ p. p.cell) o ≡ Some c → option_map (λ p. p.cell.attrs) o ≡ Some c.attrs
 attrs-cell None c h = cc
 attrs-cell (Some p) c h = ap (option_map (λ (d : CellValue). d.attrs)) h
 
@@ -125,7 +125,7 @@ at_end o i zero zero (x ∷ y ∷ ys) c e h = absurd (omega arith)
 at_end o i zero (suc n) (x ∷ y ∷ ys) c e h =
     let behind : cell_at (visible_from (i + 1) (columns x - 1) (y ∷ ys)) (i + suc n) ≡ Some c = rw (ne_eqb i (i + suc n) (omega arith)) at h in
     let k : i + suc n ≡ i + 1 + n = omega arith in
-    at_end (Some (i, x)) (i + 1) (columns x - 1) n (y ∷ ys) c (omega arith) (rw k at behind)
+    at_end (Some (at_column i x)) (i + 1) (columns x - 1) n (y ∷ ys) c (omega arith) (rw k at behind)
 at_end o i (suc s) zero (x ∷ []) c e h = cc
 at_end o i (suc s) (suc n) (x ∷ []) c e h = absurd (omega arith)
 at_end o i (suc s) zero (x ∷ y ∷ ys) c e h = absurd (omega arith)
@@ -146,11 +146,11 @@ IsKept-whole cs h = record {
   ];
 }
 
-text-blank : (b : Option ℕ) (o : Option VisibleCell) (ps : List VisibleCell) → (option_map (λ p. p.1) o ≡ Some blank → b ≡ Some 32) → last_cell o ps ≡ Some blank → last_or b (texts_of ps) ≡ Some 32
+text-blank : (b : Option ℕ) (o : Option VisibleCell) (ps : List VisibleCell) → (option_map (λ p. p.cell) o ≡ Some blank → b ≡ Some 32) → last_cell o ps ≡ Some blank → last_or b (texts_of ps) ≡ Some 32
 text-blank b o [] f h = f h
 text-blank b o (p ∷ ps) f h =
-    last_or-append b p.1.text (texts_of ps)
-    ∙ text-blank (last_or b p.1.text) (Some p) ps (λ e. ap (λ (c : CellValue). last_or b c.text) (same_Some p.1 blank e)) h
+    last_or-append b p.cell.text (texts_of ps)
+    ∙ text-blank (last_or b p.cell.text) (Some p) ps (λ e. ap (λ (c : CellValue). last_or b c.text) (same_Some p.cell blank e)) h
 
 pub IsKept-attrs : (cs : List CellValue) → (last_attrs (visible cs) ≡ Some default_attributes → ⊥) → IsKept cs (length cs)
 IsKept-attrs cs n = IsKept-whole cs (λ h. n (attrs-cell (last_or None (visible cs)) blank h))

@@ -14,7 +14,7 @@ use Rattle.termwiz_storage.proofs.Whole.{whole-from, whole-is}
 use Rattle.termwiz_storage.specs.VisibleCell.{VisibleCell}
 
 abbrev pub shown_linked : VisibleCell → Bool
-shown_linked p = is_linked p.1
+shown_linked p = is_linked p.cell
 
 or_twice : (a b : Bool) → (a || (a || b)) ≡ (a || b)
 or_twice true b = refl
@@ -27,7 +27,7 @@ linked_step false x a cs = refl
 -- a half is linked where its cell is
 linked-with_halves : (ps : List VisibleCell) → list_any shown_linked ps ≡ list_any is_linked (with_halves ps)
 linked-with_halves [] = refl
-linked-with_halves (p ∷ ps) = sym (linked_step p.1.wide p.1.text p.1.attrs (with_halves ps) ∙ ap (λ (b : Bool). is_linked p.1 || b) (sym (linked-with_halves ps)))
+linked-with_halves (p ∷ ps) = sym (linked_step p.cell.wide p.cell.text p.cell.attrs (with_halves ps) ∙ ap (λ (b : Bool). is_linked p.cell || b) (sym (linked-with_halves ps)))
 
 pub linked-visible : (cs : List CellValue) → IsWhole cs → list_any shown_linked (visible cs) ≡ list_any is_linked cs
 linked-visible cs h = linked-with_halves (visible cs) ∙ ap (list_any is_linked) (whole-is cs h)

@@ -15,6 +15,7 @@ use Rattle.termwiz_cell.specs.CellValue.{CellValue, clean, is_control, is_wide, 
 use Rattle.termwiz_storage.specs.declared.line.clusterline.runs.Shape.{Shape}
 use Rattle.termwiz_storage.specs.CellTexts.{cell_texts}
 use Rattle.termwiz_storage.specs.Stored.{visible_from}
+use Rattle.termwiz_storage.specs.VisibleCell.{at_column}
 use Rattle.termwiz_storage.specs.Clustered.{cell_len, cells_from, IsClusteredText, IsWhole}
 use Rattle.termwiz_storage.specs.PlainCells.{is_plain_with, begins_plain, ArePlain, IsPlainFirst}
 use Rattle.termwiz_storage.proofs.Clustered.{IsSound-push, cells_from-push}
@@ -46,7 +47,7 @@ plain_first a i b c cs h e =
     record {
       column = i;
       plain = ap is_plain (sym same) ∙ parts.2;
-      first = ap (λ (d : CellValue). visible_from i 0 (d ∷ cs)) parts.1 ∙ ap (λ t. (i, plain_cell t a) ∷ visible_from (i + 1) 0 cs) same;
+      first = ap (λ (d : CellValue). visible_from i 0 (d ∷ cs)) parts.1 ∙ ap (λ t. at_column i (plain_cell t a) ∷ visible_from (i + 1) 0 cs) same;
     }
 
 clean_plain : (b : ℕ) → is_plain b ≡ true → clean (b ∷ []) ≡ b ∷ []

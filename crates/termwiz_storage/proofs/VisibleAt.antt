@@ -6,7 +6,7 @@ use Rattle.termwiz_cell.specs.CellValue.{CellValue, columns, is_wide}
 use Rattle.termwiz_storage.specs.Stored.{cell_at, hides, stored, visible, visible_from}
 use Rattle.termwiz_storage.proofs.Widths.{columns-narrow, columns-wide}
 use Rattle.termwiz_storage.proofs.Wrapped.{hides-behind_narrow, hides-behind_wide}
-use Rattle.termwiz_storage.specs.VisibleCell.{VisibleCell}
+use Rattle.termwiz_storage.specs.VisibleCell.{VisibleCell, at_column}
 
 pub cell_at-before : (i s : ℕ) (cs : List CellValue) (x : ℕ) → x < i + s → cell_at (visible_from i s cs) x ≡ None
 cell_at-before i s [] x l = refl
@@ -18,10 +18,10 @@ cell_at-behind i s [] x l = refl
 cell_at-behind i zero (c ∷ cs) x l = rw (ne_eqb i x (omega arith)) (cell_at-behind (i + 1) ((columns c) - 1) cs x (omega arith))
 cell_at-behind i (suc s) (c ∷ cs) x l = cell_at-behind (i + 1) s cs x (omega arith)
 
-pub cell_at-later : (i x : ℕ) (c : CellValue) (ps : List VisibleCell) → i < x → cell_at ((i, c) ∷ ps) x ≡ cell_at ps x
+pub cell_at-later : (i x : ℕ) (c : CellValue) (ps : List VisibleCell) → i < x → cell_at (at_column i c ∷ ps) x ≡ cell_at ps x
 cell_at-later i x c ps l = rw (ne_eqb i x (omega arith)) refl
 
-pub cell_at-first : (i : ℕ) (c : CellValue) (ps : List VisibleCell) → cell_at ((i, c) ∷ ps) i ≡ Some c
+pub cell_at-first : (i : ℕ) (c : CellValue) (ps : List VisibleCell) → cell_at (at_column i c ∷ ps) i ≡ Some c
 cell_at-first i c ps = rw (eq-eqb i i refl) refl
 
 -- ---- at the columns that are stored

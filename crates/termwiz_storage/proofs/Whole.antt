@@ -75,9 +75,9 @@ wide_before c cs w h = record {
 
 whole-with_halves : (ps : List VisibleCell) → IsWhole (with_halves ps)
 whole-with_halves [] = record { halves = λ k l e. absurd (omega arith); complete = refl }
-whole-with_halves (p ∷ ps) = elim (cases_Bool (is_wide p.1)) [
-  | inl w ↦ subst (λ (z : List CellValue). IsWhole (z ++ with_halves ps)) (sym (with_half-wide p.1 w)) (wide_before p.1 (with_halves ps) w (whole-with_halves ps))
-  | inr w ↦ subst (λ (z : List CellValue). IsWhole (z ++ with_halves ps)) (sym (with_half-narrow p.1 w)) (narrow_before p.1 (with_halves ps) w (whole-with_halves ps))
+whole-with_halves (p ∷ ps) = elim (cases_Bool (is_wide p.cell)) [
+  | inl w ↦ subst (λ (z : List CellValue). IsWhole (z ++ with_halves ps)) (sym (with_half-wide p.cell w)) (wide_before p.cell (with_halves ps) w (whole-with_halves ps))
+  | inr w ↦ subst (λ (z : List CellValue). IsWhole (z ++ with_halves ps)) (sym (with_half-narrow p.cell w)) (narrow_before p.cell (with_halves ps) w (whole-with_halves ps))
 ]
 
 pub whole-from : (cs : List CellValue) → with_halves (visible cs) ≡ cs → IsWhole cs

@@ -4,17 +4,17 @@ use Rattle.termwiz_cell.specs.Attributes.{Attributes}
 use Rattle.termwiz_cell.specs.CellValue.{CellValue, columns}
 use Rattle.termwiz_storage.specs.declared.line.cellref.CellRef.{CellRef}
 use Rattle.termwiz_storage.specs.declared.line.cellref.CellRef.TheVariants.{CellRef as StoredRef, ClusterRef}
-use Rattle.termwiz_storage.specs.VisibleCell.{VisibleCell}
+use Rattle.termwiz_storage.specs.VisibleCell.{VisibleCell, at_column}
 
 abbrev pub indexed_cell : CellRef → VisibleCell
-indexed_cell (StoredRef i c) = (i, c.now)
-indexed_cell (ClusterRef i t w a) = (i, record { text = t.now; wide = nat_lt 1 w; attrs = a.now })
+indexed_cell (StoredRef i c) = at_column i c.now
+indexed_cell (ClusterRef i t w a) = at_column i (record { text = t.now; wide = nat_lt 1 w; attrs = a.now })
 
 abbrev pub ref_index : CellRef → ℕ
-ref_index r = (indexed_cell r).0
+ref_index r = (indexed_cell r).column
 
 abbrev pub ref_cell : CellRef → CellValue
-ref_cell r = (indexed_cell r).1
+ref_cell r = (indexed_cell r).cell
 
 -- the width that it tells: a piece of a text tells the one that it was made with
 abbrev pub ref_width : CellRef → ℕ

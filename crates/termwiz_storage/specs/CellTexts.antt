@@ -6,7 +6,7 @@ use Rattle.termwiz_cell.specs.CellValue.{CellValue}
 
 -- those of visible cells with their columns, one after another
 abbrev pub texts_of : List VisibleCell → List ℕ
-texts_of cells = flat_map (λ p. p.1.text) cells
+texts_of cells = flat_map (λ p. p.cell.text) cells
 
 -- those of cells
 abbrev pub cell_texts : List CellValue → List ℕ

@@ -7,7 +7,7 @@ use Rattle.termwiz_storage.specs.declared.line.clusterline.runs.Shape.{Shape}
 use Rattle.termwiz_storage.specs.CellTexts.{texts_of}
 use Rattle.termwiz_storage.specs.Edits.{with_half}
 use Rattle.termwiz_storage.specs.Stored.{hides, stored, visible}
-use Rattle.termwiz_storage.specs.VisibleCell.{VisibleCell}
+use Rattle.termwiz_storage.specs.VisibleCell.{VisibleCell, at_column}
 
 -- each hidden cell is a blank with the attributes of the cell that hides it, and no visible wide cell lacks its half
 pub record IsWhole (cs : List CellValue) : Type 0 where
@@ -41,7 +41,7 @@ cells_from t (s ∷ ss) (a ∷ ps) = with_half (first_cell t s a) ++ cells_from 
 abbrev pub shown_cells : ℕ → List ℕ → List Shape → List Attributes → List VisibleCell
 shown_cells i t [] ps = []
 shown_cells i t (s ∷ ss) [] = []
-shown_cells i t (s ∷ ss) (a ∷ ps) = (i, first_cell t s a) ∷ shown_cells (i + columns (first_cell t s a)) (drop (cell_len s t) t) ss ps
+shown_cells i t (s ∷ ss) (a ∷ ps) = at_column i (first_cell t s a) ∷ shown_cells (i + columns (first_cell t s a)) (drop (cell_len s t) t) ss ps
 
 -- the first n bytes of a text are whole characters, and a text that cells have
 pub record IsCellText (t : List ℕ) (n : ℕ) : Type 0 where

@@ -37,11 +37,11 @@ inserted x c m cs = insert_slice (padded x (removed_at_margin m cs)) x (with_hal
 -- visible cells as they are stored
 abbrev pub with_halves : List VisibleCell → List CellValue
 with_halves [] = []
-with_halves (p ∷ ps) = with_half p.1 ++ with_halves ps
+with_halves (p ∷ ps) = with_half p.cell ++ with_halves ps
 
 -- whether a visible cell begins in one of the columns from a to b - 1
 abbrev pub begins_within : ℕ → ℕ → VisibleCell → Bool
-begins_within a b p = nat_le a p.0 && nat_lt p.0 b
+begins_within a b p = nat_le a p.column && nat_lt p.column b
 
 -- the visible cells that begin in the columns from a to b - 1, as they are stored
 abbrev pub columns_between : ℕ → ℕ → List CellValue → List CellValue

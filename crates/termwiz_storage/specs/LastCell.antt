@@ -6,4 +6,4 @@ use Rattle.termwiz_cell.specs.Attributes.{Attributes}
 
 -- its attributes, where there is one
 abbrev pub last_attrs : List VisibleCell → Option Attributes
-last_attrs ps = option_map (λ p. p.1.attrs) (last_or None ps)
+last_attrs ps = option_map (λ p. p.cell.attrs) (last_or None ps)

@@ -1,6 +1,6 @@
 -- Plain cells: each takes one column, and has one character of printable ASCII.
 use Rattle.std.specs.Prelude.{◌≡◌, ℕ, Bool, true, false, ◌&&◌, not, List, [], ◌∷◌}
-use Rattle.termwiz_storage.specs.VisibleCell.{VisibleCell}
+use Rattle.termwiz_storage.specs.VisibleCell.{VisibleCell, at_column}
 use Rattle.std.specs.List.{list_all}
 use Rattle.termwiz_text.specs.Plain.{is_one_plain, is_plain}
 use Rattle.termwiz_cell.specs.Attributes.{Attributes, attributes_eq}
@@ -17,10 +17,10 @@ ArePlain a cells = list_all (is_plain_with a) cells ≡ true
 -- the first of these visible cells is plain, and has these attributes
 abbrev pub begins_plain : Attributes → List VisibleCell → Bool
 begins_plain a [] = false
-begins_plain a (p ∷ ps) = is_plain_with a p.1
+begins_plain a (p ∷ ps) = is_plain_with a p.cell
 
 -- the first of these visible cells is that of one character of printable ASCII, with these attributes, and the rest follows
 pub record IsPlainFirst (a : Attributes) (cells : List VisibleCell) (byte : ℕ) (rest : List VisibleCell) : Type 0 where
   pub column : ℕ
   pub plain : is_plain byte ≡ true
-  pub first : cells ≡ (column, plain_cell byte a) ∷ rest
+  pub first : cells ≡ at_column column (plain_cell byte a) ∷ rest

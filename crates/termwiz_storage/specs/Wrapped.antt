@@ -7,7 +7,7 @@ use Rattle.termwiz_storage.specs.VisibleCell.{VisibleCell}
 -- the index of the last of visible cells, 0 of none
 abbrev pub last_index : List VisibleCell → ℕ
 last_index [] = 0
-last_index (c ∷ []) = c.0
+last_index (c ∷ []) = c.column
 last_index (c ∷ d ∷ ds) = last_index (d ∷ ds)
 
 -- the cell with the mark, or without it

@@ -95,6 +95,7 @@ pub use Rattle.termwiz_line.specs.Clusters.{AreClusters, JoinTo}
 pub use Rattle.termwiz_line.specs.Row.{IsRow, row_of, clear}
 pub use Rattle.termwiz_line.specs.RowLaws.{CellsHaveRow, ClearClears}
 pub use Rattle.termwiz_storage.specs.Stored.{stored, visible, set_cell, set_run}
+pub use Rattle.termwiz_storage.specs.VisibleCell.{VisibleCell}
 pub use Rattle.termwiz_storage.specs.Halves.{resized}
 pub use Rattle.termwiz_storage.specs.CellTexts.{texts_of}
 pub use Rattle.termwiz_storage.specs.Edits.{inserted, erased, erased_within, removed, with_halves, columns_between}

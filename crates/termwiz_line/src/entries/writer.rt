@@ -84,7 +84,7 @@ impl<'a> RowWriter<'a> {
     pub fn cell(&mut self, text: &str, attrs: &'a CellAttributes) -> Result<(), AllocError>
         ensures { OnOk result (
             (from : spec.Penned) (cells : List VisibleCell) (p : VisibleCell) →
-            p.1.text ≡ text.now → p.1.attrs ≡ attrs.now → IsWritten from cells self.old →
+            p.cell.text ≡ text.now → p.cell.attrs ≡ attrs.now → IsWritten from cells self.old →
             IsWritten from (cells ++ p ∷ []) self.new) }
     {
         if is_space(text) {
@@ -159,7 +159,7 @@ impl<'a> RowWriter<'a> {
     #[inline(always)]
     fn print(&mut self, text: &str, attrs: &'a CellAttributes) -> Result<(), AllocError>
         ensures printed { OnOk result (
-            (p : VisibleCell) → p.1.text ≡ text.now → p.1.attrs ≡ attrs.now →
+            (p : VisibleCell) → p.cell.text ≡ text.now → p.cell.attrs ≡ attrs.now →
             self.new.printed ≡ spec.cell_out self.old.printed p) }
         ensures spaces { self.new.spaces ≡ self.old.spaces }
         ensures space_attrs { self.new.space_attrs ≡ self.old.space_attrs }
@@ -277,7 +277,7 @@ impl<'a> RowWriter<'a> {
         requires text { IsInText self.old }
         ensures cell { OnOk result (
             (from : spec.Penned) (cells : List VisibleCell) (p : VisibleCell) →
-            p.1.text ≡ byte ∷ [] → p.1.attrs ≡ self.old.printed.pen →
+            p.cell.text ≡ byte ∷ [] → p.cell.attrs ≡ self.old.printed.pen →
             IsWritten from cells self.old → IsWritten from (cells ++ p ∷ []) self.new) }
         ensures text { OnOk result (IsInText self.new) }
         ensures pen { OnOk result (self.new.printed.pen ≡ self.old.printed.pen) }

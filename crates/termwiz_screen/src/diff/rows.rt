@@ -6,6 +6,7 @@ ghost use Rattle.termwiz_cell.specs.CellValue.{CellValue, blank, cell_eq};
 ghost use Rattle.termwiz_storage.specs.CellRef.{ref_cell};
 ghost use Rattle.termwiz_storage.specs.CellsLeft.{cells_left, IsOfCell};
 ghost use Rattle.termwiz_storage.specs.Stored.{stored, visible};
+ghost use Rattle.termwiz_storage.specs.VisibleCell.{at_column};
 ghost use Rattle.termwiz_line.specs.Row.{HasHalves, is_hidden, row_of};
 ghost use Rattle.termwiz_screen.specs.Diff.{band, in_row, need, print_out, row_need, shows};
 ghost use Rattle.termwiz_screen.specs.RegionValue.{region_value};
@@ -254,7 +255,7 @@ fn print_unless_shown<'a>(
     ensures { OnOk result (
         writer.new ≡ fold print_out writer.old (map (in_row row)
         (cond (shows own.now column (ref_cell cell.entry)) []
-        ((column, ref_cell cell.entry) ∷ [])))) }
+        (at_column column (ref_cell cell.entry) ∷ [])))) }
 {
     if !is_shown(own, padding, column, &cell) {
         writer.print(row, column, cell)?;

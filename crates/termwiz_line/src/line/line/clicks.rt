@@ -91,7 +91,7 @@ fn upper_end<F: Fn(&str) -> bool>(
     len: usize,
 ) -> usize
     requires callable { F.IsAlwaysCallable is_word.now }
-    requires indices { All (λ p. p.0 < len) (cells_left cells) }
+    requires indices { All (λ p. p.column < len) (cells_left cells) }
     requires click { click < len }
     ensures at_least { click ≤ result }
     ensures at_most { result ≤ len }

@@ -173,7 +173,7 @@ impl Line {
 
     /// Whether the text of each visible cell is a single space, as of a line without cells.
     pub fn is_whitespace(&self) -> bool
-        ensures { IsTrue result ↔ All (λ p. p.1.text ≡ space) (visible self.now.cells) }
+        ensures { IsTrue result ↔ All (λ p. p.cell.text ≡ space) (visible self.now.cells) }
     {
         for cell in self.visible_cells() {
             if !cell.is_space() {

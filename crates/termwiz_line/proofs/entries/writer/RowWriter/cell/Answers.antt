@@ -13,7 +13,7 @@ returns-then-is_space c =
     on_ok_weaker c.spaces.result
     (λ h from cells p text attrs z. h from cells (p ∷ [])
     (and_from (is_space_of a p) true
-    (and_from (bytes_eq p.1.text space) (attributes_eq p.1.attrs a) (ap (λ t. bytes_eq t space) text ∙ sym c.is_space.ensures ∙ c.if-is_space.true) ((attributes_eq-Decides p.1.attrs a).1 attrs))
+    (and_from (bytes_eq p.cell.text space) (attributes_eq p.cell.attrs a) (ap (λ t. bytes_eq t space) text ∙ sym c.is_space.ensures ∙ c.if-is_space.true) ((attributes_eq-Decides p.cell.attrs a).1 attrs))
     refl) refl z)
     c.spaces.ensures
 

@@ -15,9 +15,9 @@ pub returns-then-byte-eq32-clause-cell : goal.returns-then-byte-eq32-clause-cell
 returns-then-byte-eq32-clause-cell c =
     λ from cells p text attrs z.
     let w = c.args.self.now in
-    let blank : bytes_eq p.1.text space ≡ true = (bytes_decides p.1.text space).1 (text ∙ ap (λ b. b ∷ []) c.if-byte-eq32.true) in
-    let same : attributes_eq p.1.attrs w.space_attrs ≡ true = (attributes_eq-Decides p.1.attrs w.space_attrs).1 (attrs ∙ sym c.requires.text.spaces) in
-    written_space from cells w _ z p (and_from (bytes_eq p.1.text space) (attributes_eq p.1.attrs w.space_attrs) blank same)
+    let blank : bytes_eq p.cell.text space ≡ true = (bytes_decides p.cell.text space).1 (text ∙ ap (λ b. b ∷ []) c.if-byte-eq32.true) in
+    let same : attributes_eq p.cell.attrs w.space_attrs ≡ true = (attributes_eq-Decides p.cell.attrs w.space_attrs).1 (attrs ∙ sym c.requires.text.spaces) in
+    written_space from cells w _ z p (and_from (bytes_eq p.cell.text space) (attributes_eq p.cell.attrs w.space_attrs) blank same)
     (ap (λ (v : Writing). v.printed) c.self.view_is) (c.in_ok-self-inside.ensures ∙ (λ i. (c.self.view_is i).spaces + 1)) (ap (λ (v : Writing). v.space_attrs) c.self.view_is)
 
 pub push_plain-requires-clause-behind : goal.push_plain-requires-clause-behind
@@ -35,9 +35,9 @@ returns-clause-cell c =
     let before : d ≡ and_cells w.printed (spaces_of w.spaces w.space_attrs) = ap (λ (v : Writing). v.printed) c.self-2.view_is ∙ c.in_ok-print_spaces.ensures.printed in
     let pen : d.pen ≡ w.printed.pen =
     ap (λ (e : Penned). e.pen) before ∙ (spaces_in_text w.spaces w.printed w.space_attrs c.requires.text.text (sym c.requires.text.spaces)).1 ∙ c.requires.text.spaces in
-    let other : bytes_eq p.1.text space ≡ false = elim (cases_Bool (bytes_eq p.1.text space)) [
+    let other : bytes_eq p.cell.text space ≡ false = elim (cases_Bool (bytes_eq p.cell.text space)) [
       | inl t ↦
-          let same : c.args.byte ∷ [] ≡ 32 ∷ [] = sym text ∙ (bytes_decides p.1.text space).0 t in
+          let same : c.args.byte ∷ [] ≡ 32 ∷ [] = sym text ∙ (bytes_decides p.cell.text space).0 t in
           let b : c.args.byte ≡ 32 = cc in
           absurd (c.if-byte-eq32.false b)
       | inr f ↦ f

@@ -1,5 +1,5 @@
 use Rattle.std.proofs.Common.{◌++◌, ◌∷◌, [], ℕ, List, length, refl, ap, sym, ◌∙◌, append_assoc, arith}
-use Rattle.termwiz_storage.specs.VisibleCell.{VisibleCell}
+use Rattle.termwiz_storage.specs.VisibleCell.{VisibleCell, at_column}
 use Rattle.termwiz_cell.specs.CellValue.{plain_cell}
 use Rattle.termwiz_line.specs.GrowingText.{ends_printable}
 use Rattle.termwiz_line.specs.LastChange.{last_is}
@@ -25,7 +25,7 @@ pub loop-byte-preserved : goal.loop-byte-preserved
 loop-byte-preserved c =
     let now = c.loop-byte.invariant in
     let first = c.in-Some.ensures in
-    let p : VisibleCell = (first.column, plain_cell c.in-Some.byte c.args.pen.now) in
+    let p : VisibleCell = at_column first.column (plain_cell c.in-Some.byte c.args.pen.now) in
     let left : List VisibleCell = c.next_plain.new.self in
     record {
       written = λ from all start.

@@ -9,6 +9,6 @@ use Rattle.termwiz_line.proofs.line.line.Line.is_whitespace.Goals as goal
 pub loop-cell-preserved : goal.loop-cell-preserved
 loop-cell-preserved c =
     let here : cells_left c.loop-cell.cell-iterator ≡ indexed_cell c.in-Some.cell ∷ cells_left c.next.new.self = c.in-Some.ensures.steps.0 in
-    let is : (indexed_cell c.in-Some.cell).1.text ≡ space = c.is_space.ensures.0 (search rules) in
+    let is : (indexed_cell c.in-Some.cell).cell.text ≡ space = c.is_space.ensures.0 (search rules) in
     let inv = rw here at c.loop-cell.invariant in
-    (λ a. inv.0 (All-cons (λ (p : VisibleCell). p.1.text ≡ space) (indexed_cell c.in-Some.cell) (cells_left c.next.new.self) is a), λ a k d l. inv.1 a (suc k) d (omega (arith, l)))
+    (λ a. inv.0 (All-cons (λ (p : VisibleCell). p.cell.text ≡ space) (indexed_cell c.in-Some.cell) (cells_left c.next.new.self) is a), λ a k d l. inv.1 a (suc k) d (omega (arith, l)))

@@ -7,4 +7,4 @@ use Rattle.termwiz_line.proofs.line.line.Line.is_whitespace.Given as goal
 
 -- those before are spaces
 abbrev pub invariant-loop-cell : goal.invariant-loop-cell
-invariant-loop-cell l = All (λ p. p.1.text ≡ space) (cells_left l.cell-iterator) ↔ All (λ p. p.1.text ≡ space) (visible l.self.cells)
+invariant-loop-cell l = All (λ p. p.cell.text ≡ space) (cells_left l.cell-iterator) ↔ All (λ p. p.cell.text ≡ space) (visible l.self.cells)

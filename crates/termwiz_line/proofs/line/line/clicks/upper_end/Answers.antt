@@ -15,8 +15,8 @@ loop-cell-preserved-then-index-click g c =
       can = tt;
       finite = tt;
       at_least = omega arith;
-      at_most = let b : x.0 < c.args.len = All-head (λ (p : VisibleCell). p.0 < c.args.len) x (cells_left c.next.new.self) i in omega (arith, b);
-      indices = All-tail (λ (p : VisibleCell). p.0 < c.args.len) x (cells_left c.next.new.self) i;
+      at_most = let b : x.column < c.args.len = All-head (λ (p : VisibleCell). p.column < c.args.len) x (cells_left c.next.new.self) i in omega (arith, b);
+      indices = All-tail (λ (p : VisibleCell). p.column < c.args.len) x (cells_left c.next.new.self) i;
       agreed = λ word a. upper-grows word (cells_left c.args.cells) (cells_left c.next.new.self) c.args.click c.loop-cell.upper x h (is_word word x (c.is_in_word.ensures word a) c.if-not-is_in_word.false) (rw c.in-Some.ensures.steps.0 at (c.loop-cell.invariant.agreed word a));
     })
 
@@ -29,7 +29,7 @@ loop-cell-preserved g c =
       finite = tt;
       at_least = c.loop-cell.invariant.at_least;
       at_most = c.loop-cell.invariant.at_most;
-      indices = All-tail (λ (p : VisibleCell). p.0 < c.args.len) x (cells_left c.next.new.self) (rw c.in-Some.ensures.steps.0 at c.loop-cell.invariant.indices);
+      indices = All-tail (λ (p : VisibleCell). p.column < c.args.len) x (cells_left c.next.new.self) (rw c.in-Some.ensures.steps.0 at c.loop-cell.invariant.indices);
       agreed = λ word a. upper-skip word (cells_left c.args.cells) (cells_left c.next.new.self) c.args.click c.loop-cell.upper x h (rw c.in-Some.ensures.steps.0 at (c.loop-cell.invariant.agreed word a));
     }
 

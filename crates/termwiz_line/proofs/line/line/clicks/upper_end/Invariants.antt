@@ -12,6 +12,6 @@ invariant-loop-cell g l = record {
   finite : (goal.iterator-loop-cell g).is_finite l.cell-iterator;
   at_least : l.click ≤ l.upper;
   at_most : l.upper ≤ l.len;
-  indices : All (λ p. p.0 < l.len) (cells_left l.cell-iterator);
+  indices : All (λ p. p.column < l.len) (cells_left l.cell-iterator);
   agreed : (word : List ℕ → Bool) → AnswersAs (FnReturnsAt g.F.Fn l.is_word) word → IsUppering word (cells_left l.fn.cells) (cells_left l.cell-iterator) l.click l.upper;
 }

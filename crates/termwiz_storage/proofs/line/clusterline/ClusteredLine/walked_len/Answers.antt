@@ -34,5 +34,5 @@ loop-cell-preserved-then-not-is_blank c =
     record {
       can = tt;
       finite = tt;
-      end_is = (p.0 + columns p.1, c.saturating_add-kept.ensures ∙ rw (c.cell_index.ensures, c.width.ensures, c.in-Some.ensures.steps.1.width) refl, λ e t. h.2 e (subst (λ (z : List VisibleCell). EndsAt h.0 z e) (sym c.in-Some.ensures.steps.0) (other_cell (λ e. iff_false c.is_blank.ensures c.if-not-is_blank.true (contents-is c.in-Some.cell blank c.in-Some.ensures.steps.1.width e)) t)));
+      end_is = (p.column + columns p.cell, c.saturating_add-kept.ensures ∙ rw (c.cell_index.ensures, c.width.ensures, c.in-Some.ensures.steps.1.width) refl, λ e t. h.2 e (subst (λ (z : List VisibleCell). EndsAt h.0 z e) (sym c.in-Some.ensures.steps.0) (other_cell (λ e. iff_false c.is_blank.ensures c.if-not-is_blank.true (contents-is c.in-Some.cell blank c.in-Some.ensures.steps.1.width e)) t)));
     }

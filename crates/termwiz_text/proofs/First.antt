@@ -10,7 +10,7 @@ use Rattle.unicode_segmentation.specs.Grapheme.{graphemes, is_grapheme_break}
 use Rattle.unicode_segmentation.specs.Segments.{cut, prepend, segments}
 use Rattle.unicode_segmentation.proofs.SegmentsLemmas.{concat-segments}
 use Rattle.termwiz_text.specs.First as first
-use Rattle.termwiz_text.specs.Letter.{is_simple, begins_simple, begins_line_end, line_end}
+use Rattle.termwiz_text.specs.Letter.{is_simple, begins_simple, begins_line_end}
 use Rattle.termwiz_text.proofs.Ascii.{chars_ascii, IsUtf8-past_ascii}
 use Rattle.termwiz_text.proofs.Boundaries.{breaks, breaks-end}
 use Rattle.termwiz_text.proofs.Pieces.{graphemes_first, graphemes_past_char, rest_fresh, IsFirst}
@@ -48,13 +48,6 @@ graphemes_line_end b u =
     ∙ ap₂ (λ x (ps : List (List ℕ)). map encode_utf8_all (cond x ((13 ∷ []) ∷ ps) (prepend (13 ∷ []) ps))) (line_end_joins [] (cs ++ []))
     (ap₂ (λ x (ps : List (List ℕ)). cond x ((10 ∷ []) ∷ ps) (prepend (10 ∷ []) ps)) (line_end_breaks (13 ∷ []) (cs ++ [])) (rest_fresh (10 ∷ (13 ∷ [])) cs (line_end_breaks (13 ∷ []) cs)))
     ∙ ap₂ (λ x y. (x ++ (y ++ [])) ∷ map encode_utf8_all (cut breaks [] cs [])) (encode_ascii 13 (omega arith)) (encode_ascii 10 (omega arith))
-
-pub line_end_front : (text : List ℕ) → begins_line_end text ≡ true → line_end ≡ take 2 text
-line_end_front [] h = cc
-line_end_front (c ∷ []) h = cc
-line_end_front (c ∷ (d ∷ text)) h =
-    let parts = and_parts (c == 13) (d == 10) h in
-    sym (ap₂ (λ x y. x ∷ (y ∷ [])) (eqb-true c 13 parts.0) (eqb-true d 10 parts.1))
 
 pub first_line_end : (text one rest : List ℕ) → IsUtf8 text → begins_line_end text ≡ true → one ≡ take 2 text → rest ≡ drop 2 text → first.IsFirst text one rest
 first_line_end [] one rest u h a b = absurd cc

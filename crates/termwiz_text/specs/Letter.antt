@@ -24,10 +24,6 @@ abbrev pub begins_simple : List ℕ → Bool
 begins_simple [] = true
 begins_simple (c ∷ cs) = is_simple c
 
--- a CR and an LF
-abbrev pub line_end : List ℕ
-line_end = 13 ∷ 10 ∷ []
-
 -- a CR and an LF first
 abbrev pub begins_line_end : List ℕ → Bool
 begins_line_end (c ∷ (d ∷ cs)) = c == 13 && d == 10

@@ -42,19 +42,6 @@ fn begins_line_end(text: &str) -> bool
     }
 }
 
-/// What follows the CR LF with which the text begins, which is its first grapheme. It is cut as a
-/// text of its own.
-#[inline]
-pub fn strip_line_end(text: &str) -> Option<&str>
-    ensures { IfSome result (λ rest. IsFirst text.now letter.line_end rest.now) }
-{
-    if !begins_line_end(text) {
-        return None;
-    }
-    let (_, rest) = text.split_at(2);
-    Some(rest)
-}
-
 /// Whether the character is a letter of hiragana (U+3041 to U+3096) or katakana (U+30A1 to U+30FA),
 /// or an ideograph from U+4E00 to U+9FFF. No other letter counts.
 pub fn is_letter(c: char) -> bool

@@ -3,7 +3,7 @@ ghost use Rattle.std.specs.Prelude.{◌≡◌, ◌+◌, ◌*◌, ◌<◌, ◌≤
 ghost use Rattle.std.specs.Prelude.{encode_utf8, IfOk, OnOk, OnErr};
 ghost use Rattle.std.specs.List.{list_all};
 ghost use Rattle.std.specs.Str.{chars};
-ghost use Rattle.termwiz_text.specs.Letter.{AreLetters, line_end};
+ghost use Rattle.termwiz_text.specs.Letter.{AreLetters};
 ghost use Rattle.termwiz_text.specs.Plain.{is_plain};
 ghost use Rattle.unicode_segmentation.specs.Grapheme.{graphemes};
 ghost use Rattle.termwiz_cell.specs.Measure.{measure};
@@ -23,7 +23,7 @@ use termwiz_cell::cell::Cell;
 use termwiz_cell::emoji::Widths;
 use termwiz_screen::print::{Piece, begins_plain, printed_piece, split_narrow_run, split_wide_run};
 use termwiz_screen::rows::{paint_letters, paint_row, paint_run, scroll_rows};
-use termwiz_text::{begins_letter, letter_count, split_first_grapheme, strip_line_end};
+use termwiz_text::{begins_letter, letter_count, split_first_grapheme};
 
 impl<W: Widths> Surface<W> {
     fn line_feed(&mut self) -> Result<(), AllocError>
@@ -36,17 +36,6 @@ impl<W: Widths> Surface<W> {
             return Ok(());
         }
         scroll_rows(&mut self.rows, self.width)?;
-        Ok(())
-    }
-
-    // Prints CR LF.
-    fn end_line(&mut self) -> Result<(), AllocError>
-        ensures ok { OnOk result (PrintsGraphemes (measure W.width_of self.old.widths)
-            self.old (line_end ∷ []) self.new) }
-        ensures err { OnErr result (SameFrame self.old self.new) }
-    {
-        self.line_feed()?;
-        self.x = 0;
         Ok(())
     }
 
@@ -89,7 +78,10 @@ impl<W: Widths> Surface<W> {
         match printed_piece(self.alloc, &self.widths, grapheme, &self.pen)? {
             Piece::CarriageReturn => self.x = 0,
             Piece::LineFeed => self.line_feed()?,
-            Piece::CarriageReturnLineFeed => self.end_line()?,
+            Piece::CarriageReturnLineFeed => {
+                self.line_feed()?;
+                self.x = 0;
+            }
             Piece::Cell(cell) => {
                 self.wrap()?;
                 self.put(cell)?;
@@ -175,8 +167,8 @@ impl<W: Widths> Surface<W> {
         Ok(())
     }
 
-    // Prints the run of ASCII or of letters, or the line end, that the text begins with, or else its
-    // first grapheme, and gives what is left.
+    // Prints the run of ASCII or of letters that the text begins with, or else its first grapheme,
+    // and gives what is left.
     fn print_first<'a>(&mut self, text: &'a str) -> Result<&'a str, AllocError>
         requires { 0 < length text.now }
         ensures ok { IfOk result (λ rest. PrintsFirst (measure W.width_of self.old.widths)
@@ -189,10 +181,6 @@ impl<W: Widths> Surface<W> {
                 self.print_run(run)?;
                 return Ok(rest);
             }
-        }
-        if let Some(rest) = strip_line_end(text) {
-            self.end_line()?;
-            return Ok(rest);
         }
         if begins_letter(text) {
             let (run, rest) = split_wide_run(&self.widths, text, self.run_limit());

@@ -23,9 +23,9 @@ print_letters-requires-clause-unboxed g c =
 
 pub returns-clause-ok : goal.returns-clause-ok
 returns-clause-ok g c =
-    let first = rw (c.in-Some-split_first_grapheme.grapheme-is, c.in-Some-split_first_grapheme.rest-is) at c.in-Some-split_first_grapheme.ensures in
+    let first = rw (c.in-Some.grapheme-is, c.in-Some.rest-is) at c.in-Some.ensures in
     record {
-      printed = c.in-Some-split_first_grapheme.grapheme.now ∷ [];
+      printed = c.in-Some.grapheme.now ∷ [];
       graphemes_are = first.graphemes_are;
       prints = c.in_ok-print_one.ensures.ok;
       shrinks = first.shrinks;
@@ -34,5 +34,5 @@ returns-clause-ok g c =
 
 pub unreachable-requires : goal.unreachable-requires
 unreachable-requires g c =
-    let nothing : c.args.text.now ≡ [] = no_grapheme c.args.text.now c.utf8.text c.in_default-split_first_grapheme.ensures in
+    let nothing : c.args.text.now ≡ [] = no_grapheme c.args.text.now c.utf8.text c.in_default.ensures in
     absurd (omega (arith, ap length nothing))

@@ -1,14 +1,15 @@
 //! Cells.
 ghost use Rattle.std.specs.Prelude.{◌≡◌, ◌↔◌, ◌≤◌, true, false, IsTrue, IfOk, IfSome, IsOk, length};
-ghost use Rattle.std.specs.Prelude.{encode_utf8, unwrap_or};
+ghost use Rattle.std.specs.Prelude.{◌&&◌, MatchOption, encode_utf8, not, unwrap_or};
 ghost use Rattle.std.specs.Borrow.{sem};
 ghost use Rattle.std.specs.Cmp.{decided, partial_equiv_from_equiv};
 ghost use Rattle.termwiz_cell.specs.CellValue.{space, blank, blank_of, plain_cell, clean, cell_of};
 ghost use Rattle.termwiz_cell.specs.CellValue.{measured, columns, cell_eq, cell_eq-Decides};
+ghost use Rattle.termwiz_cell.specs.CellValue.{is_wide};
 ghost use Rattle.termwiz_cell.specs.Attributes.{needs_box};
 ghost use Rattle.termwiz_cell.specs.Measure.{measure};
 ghost use Rattle.termwiz_cell.specs.Width.{at_version};
-ghost use Rattle.termwiz_text.specs.Plain.{is_plain};
+ghost use Rattle.termwiz_text.specs.Plain.{is_one_plain, is_plain};
 
 mod attribute_change;
 mod attributes;
@@ -162,6 +163,17 @@ impl Cell {
         ensures clean { clean result.now ≡ result.now }
     {
         self.text.str()
+    }
+
+    /// The character of a cell that `plain` makes: one of printable ASCII, U+0020 to U+007E, which
+    /// takes one column. Any other cell has none.
+    #[inline(always)]
+    pub fn as_plain(&self) -> Option<u8>
+        ensures { MatchOption result
+            ((not (is_wide self.now) && is_one_plain self.now.text) ≡ false)
+            (λ byte. (is_plain byte ≡ true) × (self.now ≡ plain_cell byte self.now.attrs)) }
+    {
+        self.text.as_plain()
     }
 
     /// The columns that the cell takes: 1 or 2.

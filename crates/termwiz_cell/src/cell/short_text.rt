@@ -1,18 +1,15 @@
 //! Texts of at most seven bytes, which stand in the value itself.
-ghost use Rattle.std.specs.Prelude.{◌≡◌, ◌≤◌, ◌∷◌, [], true, length, bytes_eq};
-ghost use Rattle.termwiz_text.specs.Plain.{is_plain};
+ghost use Rattle.std.specs.Prelude.{◌≡◌, ◌≤◌, ◌∷◌, [], MatchOption, false, length, true, bytes_eq};
+ghost use Rattle.termwiz_text.specs.Plain.{is_one_plain, is_plain};
 
 use std::marker::Model;
 use std::str;
 
-/// A text of at most seven bytes, in eight. The bytes behind it are zeros, so that equal texts have
-/// equal bytes.
+/// A text of at most seven bytes, in eight: zeros stand behind it, and its length is the last byte.
+/// So two are the same text exactly where all their bytes are equal.
 #[derive(Clone, Copy)]
 pub(super) struct ShortText {
-    // It takes no room, and has the value stand where it is copied as one word.
-    aligned: [u64; 0],
-    bytes: [u8; 7],
-    len: u8,
+    bytes: [u8; 8],
 }
 
 impl Model for ShortText {
@@ -40,9 +37,7 @@ impl ShortText {
         ensures { result ≡ byte ∷ [] }
     {
         ShortText {
-            aligned: [],
-            bytes: [byte, 0, 0, 0, 0, 0, 0],
-            len: 1,
+            bytes: [byte, 0, 0, 0, 0, 0, 0, 1],
         }
     }
 
@@ -55,14 +50,10 @@ impl ShortText {
     {
         match text.as_bytes() {
             [a] => ShortText {
-                aligned: [],
-                bytes: [*a, 0, 0, 0, 0, 0, 0],
-                len: 1,
+                bytes: [*a, 0, 0, 0, 0, 0, 0, 1],
             },
             [a, b, c] => ShortText {
-                aligned: [],
-                bytes: [*a, *b, *c, 0, 0, 0, 0],
-                len: 3,
+                bytes: [*a, *b, *c, 0, 0, 0, 0, 3],
             },
             _ => ShortText::copied(text),
         }
@@ -74,38 +65,36 @@ impl ShortText {
         requires { length text.now ≤ 7 }
         ensures { result ≡ text.now }
     {
-        let mut bytes = [0; 7];
+        let mut bytes = [0; 8];
         bytes[..text.len()].copy_from_slice(text.as_bytes());
-        ShortText {
-            aligned: [],
-            bytes,
-            len: text.len() as u8,
-        }
+        bytes[7] = text.len() as u8;
+        ShortText { bytes }
     }
 
     #[inline(always)]
     pub(super) fn as_str(&self) -> &str
         ensures { result.now ≡ self.now }
     {
-        unsafe { str::from_utf8_unchecked(&self.bytes[..self.len as usize]) }
+        unsafe { str::from_utf8_unchecked(&self.bytes[..self.bytes[7] as usize]) }
     }
 
-    /// Whether both are the same text. Those of one byte are told apart by it alone.
+    /// The text, where it is one printable character of ASCII.
+    #[inline(always)]
+    pub(super) fn as_plain(&self) -> Option<u8>
+        ensures { MatchOption result (is_one_plain self.now ≡ false)
+            (λ byte. (is_plain byte ≡ true) × (self.now ≡ byte ∷ [])) }
+    {
+        match self.bytes[0] {
+            byte @ b' '..=b'~' if self.bytes[7] == 1 => Some(byte),
+            _ => None,
+        }
+    }
+
+    /// Whether both are the same text.
     #[inline(always)]
     pub(super) fn is_same(&self, other: &ShortText) -> bool
         ensures { result ≡ bytes_eq self.now other.now }
     {
-        if self.len == 1 && other.len == 1 {
-            return self.bytes[0] == other.bytes[0];
-        }
-        self.has_same_bytes(other)
-    }
-
-    // The same, whatever the lengths.
-    #[inline(never)]
-    fn has_same_bytes(&self, other: &ShortText) -> bool
-        ensures { result ≡ bytes_eq self.now other.now }
-    {
-        self.len == other.len && self.bytes == other.bytes
+        self.bytes == other.bytes
     }
 }

@@ -1,10 +1,10 @@
 //! The text of a cell, and whether it takes two columns.
-ghost use Rattle.std.specs.Prelude.{◌≡◌, ◌↔◌, ◌≤◌, ◌&&◌, ◌∷◌, [], length, true, false, IsTrue};
-ghost use Rattle.std.specs.Prelude.{IfOk, IsOk, IfSome, bytes_eq, string_bytes};
+ghost use Rattle.std.specs.Prelude.{◌≡◌, ◌↔◌, ◌≤◌, ◌&&◌, ◌∷◌, [], length, not, true, false};
+ghost use Rattle.std.specs.Prelude.{IfOk, IsOk, IfSome, IsTrue, MatchOption, bytes_eq, string_bytes};
 ghost use Rattle.std.specs.Bool.{beq};
 ghost use Rattle.termwiz_cell.specs.CellLayout.{text_in, wide_in, HasTextForm};
 ghost use Rattle.termwiz_cell.specs.CellValue.{clean, space};
-ghost use Rattle.termwiz_text.specs.Plain.{is_plain};
+ghost use Rattle.termwiz_text.specs.Plain.{is_one_plain, is_plain};
 
 use super::short_text::ShortText;
 use std::alloc::{AllocError, Global};
@@ -117,9 +117,22 @@ impl CellText {
         requires { HasTextForm self.now }
         ensures { IsTrue result ↔ ((text_in self.now ≡ space) × (wide_in self.now ≡ false)) }
     {
+        matches!(self.as_plain(), Some(b' '))
+    }
+
+    /// The text, where it is one printable character of ASCII, of one column.
+    #[inline(always)]
+    pub(super) fn as_plain(&self) -> Option<u8>
+        requires { HasTextForm self.now }
+        ensures { MatchOption result
+            ((not (wide_in self.now) && is_one_plain (text_in self.now)) ≡ false)
+            (λ byte. (is_plain byte ≡ true)
+            × ((text_in self.now ≡ byte ∷ []) × (wide_in self.now ≡ false))) }
+    {
         match self {
-            CellText::Narrow(short) => short.is_same(&ShortText::plain(b' ')),
-            _ => false,
+            CellText::Narrow(short) => short.as_plain(),
+            CellText::Wide(_) => None,
+            CellText::Long(_) => None,
         }
     }
 

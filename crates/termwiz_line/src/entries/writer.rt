@@ -286,8 +286,25 @@ impl<'a> RowWriter<'a> {
             self.spaces = added(self.spaces, 1)?;
             return Ok(());
         }
-        self.print_spaces()?;
+        self.push_spaces()?;
         self.entries.push_plain(byte)?;
+        Ok(())
+    }
+
+    // The spaces held back, whose pen stands, are printed behind printable ASCII.
+    #[inline(always)]
+    fn push_spaces(&mut self) -> Result<(), AllocError>
+        requires { IsInText self.old }
+        ensures printed { OnOk result (
+            self.new.printed
+            ≡ and_cells self.old.printed (spaces_of self.old.spaces self.old.space_attrs)) }
+        ensures spaces { OnOk result (self.new.spaces ≡ 0) }
+        ensures space_attrs { self.new.space_attrs ≡ self.old.space_attrs }
+    {
+        while self.spaces > 0 {
+            self.entries.push_plain(b' ')?;
+            self.spaces -= 1;
+        }
         Ok(())
     }
 

@@ -5,7 +5,7 @@ ghost use Rattle.std.specs.VecDeque.{deque_len};
 ghost use Rattle.termwiz_cell.specs.CellValue.{CellValue, blank, cell_eq};
 ghost use Rattle.termwiz_storage.specs.CellRef.{ref_cell};
 ghost use Rattle.termwiz_storage.specs.CellsLeft.{cells_left, IsOfCell};
-ghost use Rattle.termwiz_storage.specs.Stored.{stored, visible};
+ghost use Rattle.termwiz_storage.specs.Stored.{visible};
 ghost use Rattle.termwiz_storage.specs.VisibleCell.{at_column};
 ghost use Rattle.termwiz_line.specs.Row.{HasHalves, is_hidden, row_of};
 ghost use Rattle.termwiz_screen.specs.Diff.{band, in_row, need, print_out, row_need, shows};
@@ -269,7 +269,22 @@ fn is_shown(own: &[Cell], padding: &Cell, column: usize, cell: &CellRef<'_>) -> 
     requires { padding.now ≡ blank }
     ensures { result ≡ shows own.now column (ref_cell cell.now) }
 {
-    is_equal(cell_at(own, padding, column), cell) && !is_half(own, column)
+    if column < own.len() {
+        is_equal(&own[column], cell) && !is_half(own, column)
+    } else {
+        is_shown_past_end(own, padding, column, cell)
+    }
+}
+
+// The same behind the stored cells, where the padding is shown. It stands apart, so that the test
+// of stored cells needs no choice of a cell.
+#[inline(never)]
+fn is_shown_past_end(own: &[Cell], padding: &Cell, column: usize, cell: &CellRef<'_>) -> bool
+    requires padding { padding.now ≡ blank }
+    requires past_end { length own.now ≤ column }
+    ensures { result ≡ shows own.now column (ref_cell cell.now) }
+{
+    is_equal(padding, cell) && !is_half(own, column)
 }
 
 // Whether the column holds the second half of a wide cell.
@@ -278,19 +293,6 @@ fn is_half(cells: &[Cell], column: usize) -> bool
     ensures { result ≡ is_hidden cells.now column }
 {
     column > 0 && column <= cells.len() && cells[column - 1].width() > 1
-}
-
-// The cell at a column: past the end of the stored cells the padding.
-#[inline(always)]
-fn cell_at<'a>(cells: &'a [Cell], padding: &'a Cell, column: usize) -> &'a Cell
-    requires { padding.now ≡ blank }
-    ensures { result.now ≡ stored cells.now column }
-{
-    if column < cells.len() {
-        &cells[column]
-    } else {
-        padding
-    }
 }
 
 #[inline(always)]

@@ -34,7 +34,7 @@ use std::marker::Model;
 use std::ops::{DerefSlice, DerefSliceMut};
 use std::{mem, slice};
 use termwiz_cell::cell::{Cell, CellAttributes};
-use termwiz_text::{is_one_plain, letter_at, letter_count};
+use termwiz_text::{letter_at, letter_count};
 pub(crate) use wrapped::set_wrapped;
 
 /// The cells of a line, each with a place of its own. It is read, and written, as a slice of cells.
@@ -730,9 +730,9 @@ pub(crate) fn plain_byte(cell: &Cell, attrs: &CellAttributes) -> Option<u8>
     ensures text { IfSome result (λ byte. cell.now.text ≡ byte ∷ []) }
     ensures ascii { IfSome result (λ byte. byte < 128) }
 {
-    let text = cell.str();
-    if cell.width() == 1 && is_one_plain(text) && *cell.attrs() == *attrs {
-        return Some(text.as_bytes()[0]);
+    let byte = cell.as_plain()?;
+    if *cell.attrs() == *attrs {
+        return Some(byte);
     }
     None
 }

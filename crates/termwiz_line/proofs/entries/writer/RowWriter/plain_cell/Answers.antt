@@ -24,7 +24,7 @@ pub push_plain-requires-clause-behind : goal.push_plain-requires-clause-behind
 push_plain-requires-clause-behind c =
     let w = c.args.self.now in
     ap (λ (v : Writing). last_is ends_printable v.printed.entries) c.self-2.view_is
-    ∙ ap (λ (d : Penned). last_is ends_printable d.entries) c.in_ok-print_spaces.ensures.printed
+    ∙ ap (λ (d : Penned). last_is ends_printable d.entries) c.in_ok-push_spaces.ensures.printed
     ∙ (spaces_in_text w.spaces w.printed w.space_attrs c.requires.text.text (sym c.requires.text.spaces)).0
 
 pub returns-clause-cell : goal.returns-clause-cell
@@ -32,7 +32,7 @@ returns-clause-cell c =
     λ from cells p text attrs z.
     let w = c.args.self.now in
     let d : Penned = record { entries = c.self-2.inside.entries; pen = c.self-2.inside.pen.now } in
-    let before : d ≡ and_cells w.printed (spaces_of w.spaces w.space_attrs) = ap (λ (v : Writing). v.printed) c.self-2.view_is ∙ c.in_ok-print_spaces.ensures.printed in
+    let before : d ≡ and_cells w.printed (spaces_of w.spaces w.space_attrs) = ap (λ (v : Writing). v.printed) c.self-2.view_is ∙ c.in_ok-push_spaces.ensures.printed in
     let pen : d.pen ≡ w.printed.pen =
     ap (λ (e : Penned). e.pen) before ∙ (spaces_in_text w.spaces w.printed w.space_attrs c.requires.text.text (sym c.requires.text.spaces)).1 ∙ c.requires.text.spaces in
     let other : bytes_eq p.cell.text space ≡ false = elim (cases_Bool (bytes_eq p.cell.text space)) [
@@ -42,16 +42,16 @@ returns-clause-cell c =
           absurd (c.if-byte-eq32.false b)
       | inr f ↦ f
     ] in
-    written_cell from cells w _ z p other (ap (λ (v : Writing). v.spaces) c.self-2.view_is ∙ c.in_ok-print_spaces.ensures.spaces)
+    written_cell from cells w _ z p other (ap (λ (v : Writing). v.spaces) c.self-2.view_is ∙ c.in_ok-push_spaces.ensures.spaces)
     (out_in_pen d p (c.args.byte ∷ []) c.push_plain.new.self text (attrs ∙ sym pen) c.in_ok-push_plain.ensures ∙ ap (λ e. cell_out e p) before)
 
 pub returns-clause-text : goal.returns-clause-text
 returns-clause-text c =
     let w = c.args.self.now in
     let pen : c.self-2.inside.pen.now ≡ w.space_attrs =
-    ap (λ (v : Writing). v.printed.pen) c.self-2.view_is ∙ ap (λ (e : Penned). e.pen) c.in_ok-print_spaces.ensures.printed
+    ap (λ (v : Writing). v.printed.pen) c.self-2.view_is ∙ ap (λ (e : Penned). e.pen) c.in_ok-push_spaces.ensures.printed
     ∙ (spaces_in_text w.spaces w.printed w.space_attrs c.requires.text.text (sym c.requires.text.spaces)).1 in
     record {
       text = ap (last_is ends_printable) c.in_ok-push_plain.ensures ∙ ends_with_plain c.self-2.inside.entries c.args.byte c.requires.plain;
-      spaces = ap (λ (v : Writing). v.space_attrs) c.self-2.view_is ∙ c.in_ok-print_spaces.ensures.space_attrs ∙ sym pen;
+      spaces = ap (λ (v : Writing). v.space_attrs) c.self-2.view_is ∙ c.in_ok-push_spaces.ensures.space_attrs ∙ sym pen;
     }

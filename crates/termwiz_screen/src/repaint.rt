@@ -381,9 +381,10 @@ fn push_pen(
         map change_value entries.new.items
         ≡ map change_value entries.old.items ++ line.pen_entry old.now new.now) }
 {
-    if *old != *new {
-        entries.push(Change::AllAttributes(new.clone()?))?;
+    if *old == *new {
+        return Ok(());
     }
+    entries.push(Change::AllAttributes(new.clone()?))?;
     Ok(())
 }
 

@@ -106,10 +106,10 @@ impl EntryList {
     pub fn push_pen(&mut self, old: &CellAttributes, new: &CellAttributes) -> Result<(), AllocError>
         ensures { OnOk result (self.new ≡ self.old ++ pen_entry old.now new.now) }
     {
-        if *old != *new {
-            self.change_pen(new)?;
+        if *old == *new {
+            return Ok(());
         }
-        Ok(())
+        self.change_pen(new)
     }
 
     #[inline(never)]

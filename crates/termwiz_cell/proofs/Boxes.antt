@@ -7,8 +7,10 @@ use Rattle.termwiz_cell.specs.declared.color.ColorAttribute.{ColorAttribute}
 use Rattle.termwiz_cell.specs.declared.color.ColorAttribute.TheVariants as color
 use Rattle.termwiz_cell.specs.declared.cell.style.Style.{Style}
 use Rattle.termwiz_cell.specs.declared.cell.attributes.CellAttributes.TheInside.{Inside}
+use Rattle.termwiz_cell.specs.declared.cell.form.Form.TheVariants as form
+use Rattle.termwiz_cell.specs.StyleWord.{style_at}
 use Rattle.termwiz_cell.specs.Link.{Link}
-use Rattle.termwiz_cell.specs.Attributes.{Attributes, is_default, color_eq-Decides, attributes_eq, attributes_eq-Decides, option_link_eq-Decides}
+use Rattle.termwiz_cell.specs.Attributes.{Attributes, default_attributes, is_default, color_eq-Decides, attributes_eq, attributes_eq-Decides, option_link_eq-Decides}
 use Rattle.termwiz_cell.specs.AttributesLayout.{Rare, rare_default, is_rare_default, style_in, rare_in, rare_eq, shown, is_apart, rare_part, palette_part, attributes_from, attributes_of, IsCanonical}
 
 rare_part-shown : (rare : ColorAttribute) (index : Option ℕ) → is_apart rare index ≡ true → rare_part (shown rare index) ≡ rare
@@ -98,3 +100,14 @@ same-parts a b ha hb same h =
     (λ e. (sym (style_of-attributes_from (style_in a.form) (rare_in a.form) ha.foreground ha.background) ∙ ap style_of e ∙ style_of-attributes_from (style_in b.form) (rare_in b.form) hb.foreground hb.background, sym (rare_from-attributes_from (style_in a.form) (rare_in a.form) ha.foreground ha.background) ∙ ap rare_from e ∙ rare_from-attributes_from (style_in b.form) (rare_in b.form) hb.foreground hb.background))
     h)
     (attributes_eq-Decides (attributes_of a) (attributes_of b))
+
+-- the attributes that stand in the word 0 alone
+abbrev blank_inside : Inside
+blank_inside = record { form = form.Plain (style_at 0) }
+
+blank_canonical : IsCanonical blank_inside
+blank_canonical = record { needed = tt; foreground = refl; background = refl }
+
+-- attributes are the default ones exactly where word and box are
+pub same-as-blank : (a : Inside) → IsCanonical a → (same : Bool) → Decides same ((style_in a.form ≡ style_at 0) × (rare_in a.form ≡ rare_default)) → same ≡ attributes_eq (attributes_of a) default_attributes
+same-as-blank a ha same h = same-parts a blank_inside ha blank_canonical same h

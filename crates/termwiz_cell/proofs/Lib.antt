@@ -3,6 +3,7 @@ pub mod Digits
 pub mod PackedStyles
 pub mod StyleSetters
 pub mod Boxes
+pub mod PlainAttributes
 pub mod ShortTexts
 pub mod TextForms
 mod ColorPrinted

@@ -18,7 +18,6 @@ pub mod RowShows
 pub mod RowOf
 pub mod Resized
 pub mod EntryLists
-pub mod PlainAttributes
 pub mod LastChange
 pub mod JoinedTexts
 pub mod WrittenRows

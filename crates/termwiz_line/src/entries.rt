@@ -1,7 +1,5 @@
 //! Row entries: the changes that print rows of visible cells, written cell by cell.
-ghost use Rattle.std.specs.Prelude.{◌≡◌, IfOk, bytes_eq};
-ghost use Rattle.termwiz_cell.specs.Attributes as attributes;
-ghost use Rattle.termwiz_cell.specs.CellValue.{space};
+ghost use Rattle.std.specs.Prelude.{◌≡◌, IfOk};
 ghost use Rattle.termwiz_storage.specs.CellsLeft.{cells_left};
 ghost use Rattle.termwiz_line.specs.Entries as spec;
 ghost use Rattle.termwiz_line.specs.PennedValue.{penned_value};
@@ -13,7 +11,6 @@ pub use list::EntryList;
 use std::alloc::{AllocError, Global};
 use termwiz_cell::cell::CellAttributes;
 use termwiz_cell::change::Change;
-use termwiz_cell::color::ColorAttribute;
 use termwiz_storage::line::cellref::VisibleCellIter;
 pub use writer::RowWriter;
 
@@ -38,50 +35,4 @@ pub fn row_entries<'a>(
     let mut writer = RowWriter::new(alloc, pen);
     writer.row(cells, 0, pen)?;
     writer.into_penned()
-}
-
-/// Whether the attributes are default but for the background.
-#[tactic(auto, using(crate::proofs::PlainAttributes::plain))]
-pub fn is_plain(attrs: &CellAttributes) -> bool
-    ensures { result ≡ attributes.has_only_background attrs.now }
-{
-    has_default_bits(attrs)
-        && (is_default_color(attrs.foreground())
-            && (is_default_color(attrs.underline_color()) && attrs.hyperlink().is_none()))
-}
-
-// The attributes that are no colour and no link are default.
-fn has_default_bits(attrs: &CellAttributes) -> bool
-    ensures { result
-        ≡ bytes_eq (attributes.bits_of attrs.now)
-        (attributes.bits_of attributes.default_attributes) }
-{
-    attrs.attribute_bits_equal(&CellAttributes::blank())
-}
-
-fn is_default_color(color: ColorAttribute) -> bool
-    ensures { result ≡ attributes.color_eq color ColorAttribute.Default }
-{
-    color == ColorAttribute::Default
-}
-
-/// Whether both attributes are the same.
-pub fn is_same(a: &CellAttributes, b: &CellAttributes) -> bool
-    ensures { result ≡ attributes.attributes_eq a.now b.now }
-{
-    *a == *b
-}
-
-/// Whether all attributes have their defaults.
-pub fn is_default(attrs: &CellAttributes) -> bool
-    ensures { result ≡ attributes.attributes_eq attrs.now attributes.default_attributes }
-{
-    attrs.is_blank()
-}
-
-/// Whether the text is one space.
-pub fn is_space(text: &str) -> bool
-    ensures { result ≡ bytes_eq text.now space }
-{
-    matches!(text.as_bytes(), [b' '])
 }

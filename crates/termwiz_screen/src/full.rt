@@ -91,6 +91,7 @@ fn has_same_lines(a: &[LineAttribute], b: &[LineAttribute]) -> bool
 }
 
 /// How each row is shown.
+#[doc(hidden)]
 pub fn attributes_of(alloc: Global, rows: &VecDeque<Line>) -> Result<Vec<LineAttribute>, AllocError>
     ensures { IfOk result (λ lines. lines.items ≡ map line_attribute (row_flags rows.now.items)) }
 {
@@ -102,6 +103,7 @@ pub fn attributes_of(alloc: Global, rows: &VecDeque<Line>) -> Result<Vec<LineAtt
 }
 
 /// How a row is shown.
+#[doc(hidden)]
 pub fn attribute_of(row: &Line) -> LineAttribute
     ensures { result ≡ line_attribute row.now.flags }
 {
@@ -117,6 +119,7 @@ pub fn attribute_of(row: &Line) -> LineAttribute
 }
 
 /// The cursor's shape, which is the default one where none was set.
+#[doc(hidden)]
 pub fn shape_or_default(shape: Option<CursorShape>) -> CursorShape
     ensures { result ≡ shape_of shape }
 {

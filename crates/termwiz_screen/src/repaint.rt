@@ -28,7 +28,7 @@ use std::collections::VecDeque;
 use termwiz_cell::cell::{Cell, CellAttributes};
 use termwiz_cell::change::{Change, CursorShape, CursorVisibility, Position};
 use termwiz_cell::color::ColorAttribute;
-use termwiz_line::entries::{Penned, RowWriter, is_default, is_plain, is_same};
+use termwiz_line::entries::{Penned, RowWriter};
 use termwiz_line::line::line::Line;
 
 /// The entries of all rows, behind those that are written already. Blank rows at the bottom with
@@ -124,7 +124,7 @@ fn is_clearable(attrs: &CellAttributes) -> bool
     ensures { result ≡ (has_only_background attrs.now
         && not (attributes_eq attrs.now default_attributes)) }
 {
-    is_plain(attrs) && !is_default(attrs)
+    attrs.has_only_background() && !attrs.is_blank()
 }
 
 // The entries of all rows, where the last column of the last row has these attributes.
@@ -381,9 +381,10 @@ fn push_pen(
         map change_value entries.new.items
         ≡ map change_value entries.old.items ++ line.pen_entry old.now new.now) }
 {
-    if !is_same(old, new) {
-        entries.push(Change::AllAttributes(new.clone()?))?;
+    if *old == *new {
+        return Ok(());
     }
+    entries.push(Change::AllAttributes(new.clone()?))?;
     Ok(())
 }
 

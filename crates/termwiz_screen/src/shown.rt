@@ -10,7 +10,6 @@ ghost use Rattle.termwiz_line.specs.Row.{row_of};
 ghost use Rattle.termwiz_screen.specs.Padding.{IsPaddable};
 
 use termwiz_cell::cell::{Cell, CellAttributes};
-use termwiz_line::entries::{is_same, is_space};
 use termwiz_line::line::line::Line;
 use termwiz_storage::line::cellref::CellRef;
 
@@ -53,7 +52,7 @@ fn is_blank_of(shown: &CellRef<'_>, attrs: &CellAttributes) -> bool
     requires { ref_width shown.now ≡ columns (ref_cell shown.now) }
     ensures { result ≡ cell_eq (ref_cell shown.now) (blank_of attrs.now) }
 {
-    is_space(shown.str()) && (is_narrow(shown) && is_same(shown.attrs(), attrs))
+    shown.is_space() && (is_narrow(shown) && *shown.attrs() == *attrs)
 }
 
 fn is_narrow(shown: &CellRef<'_>) -> bool

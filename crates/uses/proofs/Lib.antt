@@ -1,2 +1,3 @@
 mod ClearedRow
 mod HeadingRow
+mod RowsOfForm

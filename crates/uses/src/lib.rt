@@ -2,6 +2,7 @@
 #![tactic(auto)]
 
 pub mod comparison;
+pub mod damage;
 pub mod follower;
 pub mod last_row;
 pub mod lines;

@@ -1,13 +1,13 @@
 //! The attributes of a cell.
 ghost use Rattle.std.specs.Prelude.{◌≡◌, ◌↔◌, IsTrue, false, true, option_map, IfOk, OnOk, OnErr};
-ghost use Rattle.std.specs.Prelude.{IsOk, IsSome, IfSome};
+ghost use Rattle.std.specs.Prelude.{IsOk, IsSome, IfSome, bytes_eq};
 ghost use Rattle.std.specs.Cmp.{decided, partial_equiv_from_equiv};
 ghost use Rattle.termwiz_cell.specs.Attributes.{default_attributes, attributes_eq};
 ghost use Rattle.termwiz_cell.specs.Attributes.{attributes_eq-Decides, needs_box};
 ghost use Rattle.termwiz_cell.specs.AttributesLayout as spec;
 
 use super::attribute_change::AttributeChange;
-use super::form::{Form, RareColor, clone_link};
+use super::form::{Form, RareColor, clone_link, is_default_color};
 use super::style::{Blink, Intensity, SemanticType, Underline, VerticalAlign};
 use super::style_word::StyleWord;
 use crate::color::ColorAttribute;
@@ -39,7 +39,8 @@ impl Model for CellAttributes {
 }
 
 impl CellAttributes {
-    ghost use Rattle.termwiz_cell.specs.Attributes.{without_colors, sgr_only};
+    ghost use Rattle.termwiz_cell.specs.Attributes.{without_colors, sgr_only, bits_of};
+    ghost use Rattle.termwiz_cell.specs.Attributes.{has_only_background};
     ghost use Rattle.termwiz_cell.specs.AttributeChangeValue.{attribute_change_value};
     ghost use Rattle.termwiz_cell.specs.AttributeChangeValue.{with_attribute, takes_memory};
     ghost use Rattle.termwiz_cell.specs.Link.{linked};
@@ -72,7 +73,8 @@ impl CellAttributes {
 
     /// Whether all attributes have their defaults.
     pub fn is_blank(&self) -> bool
-        ensures { IsTrue result ↔ (self.now ≡ default_attributes) }
+        ensures value { result ≡ attributes_eq self.now default_attributes }
+        ensures blank { IsTrue result ↔ (self.now ≡ default_attributes) }
     {
         self.form.is_blank()
     }
@@ -483,6 +485,23 @@ impl CellAttributes {
         ensures { IsTrue result ↔ (without_colors self.now ≡ without_colors other.now) }
     {
         self.form.style().has_same_bits(other.form.style())
+    }
+
+    /// Whether all attributes but the background have their defaults.
+    #[tactic(auto, using(crate::proofs::PlainAttributes::plain))]
+    pub fn has_only_background(&self) -> bool
+        ensures { result ≡ has_only_background self.now }
+    {
+        self.has_default_bits()
+            && (is_default_color(self.foreground())
+                && (is_default_color(self.underline_color()) && self.hyperlink().is_none()))
+    }
+
+    // Whether all attributes but the colours and the link have their defaults.
+    fn has_default_bits(&self) -> bool
+        ensures { result ≡ bytes_eq (bits_of self.now) (bits_of default_attributes) }
+    {
+        self.attribute_bits_equal(&CellAttributes::blank())
     }
 
     #[inline]

@@ -356,7 +356,7 @@ pub(super) fn clone_link(link: &Option<Rc<Hyperlink>>) -> Result<Option<Rc<Hyper
     }
 }
 
-fn is_default_color(color: ColorAttribute) -> bool
+pub(super) fn is_default_color(color: ColorAttribute) -> bool
     ensures { result ≡ is_default color }
 {
     matches!(color, ColorAttribute::Default)

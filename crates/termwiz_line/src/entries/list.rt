@@ -9,7 +9,6 @@ ghost use Rattle.termwiz_line.specs.Entries.{add_text, joins, pen_entry};
 ghost use Rattle.termwiz_line.specs.LastChange.{last_is};
 ghost use Rattle.termwiz_line.specs.GrowingText.{ends_printable, with_text, IsLastOf};
 
-use super::is_same;
 use std::alloc::{AllocError, Global};
 use std::marker::Model;
 use termwiz_cell::cell::CellAttributes;
@@ -107,10 +106,10 @@ impl EntryList {
     pub fn push_pen(&mut self, old: &CellAttributes, new: &CellAttributes) -> Result<(), AllocError>
         ensures { OnOk result (self.new ≡ self.old ++ pen_entry old.now new.now) }
     {
-        if !is_same(old, new) {
-            self.change_pen(new)?;
+        if *old == *new {
+            return Ok(());
         }
-        Ok(())
+        self.change_pen(new)
     }
 
     #[inline(never)]

@@ -1,9 +1,10 @@
 //! A writer of row entries.
 ghost use Rattle.std.specs.Prelude.{◌≡◌, ◌++◌, ◌∷◌, [], ◌+◌, ◌&&◌, nat_lt, ℕ, List, true, false};
-ghost use Rattle.std.specs.Prelude.{not, length, ◌≤◌, ◌==◌, IfOk, OnOk};
+ghost use Rattle.std.specs.Prelude.{not, length, ◌≤◌, ◌==◌, bytes_eq, IfOk, OnOk};
 ghost use Rattle.termwiz_text.specs.Plain as plain;
 ghost use Rattle.termwiz_cell.specs.Attributes as attributes;
 ghost use Rattle.termwiz_cell.specs.Attributes.{attributes_eq};
+ghost use Rattle.termwiz_cell.specs.CellValue.{space};
 ghost use Rattle.termwiz_cell.specs.ChangeValue.{change_value, is_text};
 ghost use Rattle.termwiz_storage.specs.CellsLeft.{cells_left};
 ghost use Rattle.termwiz_storage.specs.VisibleCell.{VisibleCell};
@@ -15,7 +16,7 @@ ghost use Rattle.termwiz_line.specs.PennedValue.{penned_value};
 ghost use Rattle.termwiz_line.specs.Writing.{and_cells, behind, spaces_of, IsInText, IsUnderWay};
 ghost use Rattle.termwiz_line.specs.Writing.{IsWritten};
 
-use super::{EntryList, Penned, is_default, is_plain, is_same, is_space};
+use super::{EntryList, Penned};
 use std::alloc::{AllocError, Global};
 use std::marker::Model;
 use termwiz_cell::cell::CellAttributes;
@@ -120,7 +121,7 @@ impl<'a> RowWriter<'a> {
         ensures { result
             ≡ (nat_lt 0 self.now.spaces && attributes_eq self.now.space_attrs attrs.now) }
     {
-        self.spaces > 0 && is_same(self.space_attrs, attrs)
+        self.spaces > 0 && *self.space_attrs == *attrs
     }
 
     // The spaces held back are printed.
@@ -325,7 +326,7 @@ impl<'a> RowWriter<'a> {
         ensures { result ≡ (nat_lt 0 self.now.spaces
             && attributes.has_only_background self.now.space_attrs) }
     {
-        self.spaces > 0 && is_plain(self.space_attrs)
+        self.spaces > 0 && self.space_attrs.has_only_background()
     }
 
     // The row ends here: the spaces held back are left out, or printed where their attributes are
@@ -387,7 +388,7 @@ fn push_tail<'a>(
 {
     if entries.ends_with_text() {
         entries.push_pen(pen, end)?;
-    } else if is_default(end) {
+    } else if end.is_blank() {
         return Ok(pen);
     }
     push_clear(entries, end)?;
@@ -398,10 +399,17 @@ fn push_tail<'a>(
 fn push_clear(entries: &mut EntryList, end: &CellAttributes) -> Result<(), AllocError>
     ensures { OnOk result (entries.new ≡ entries.old ++ spec.clear_entry end.now) }
 {
-    if !is_default(end) {
+    if !end.is_blank() {
         entries.push(Change::ClearToEndOfLine(end.background()))?;
     }
     Ok(())
+}
+
+// Whether the text is one space.
+fn is_space(text: &str) -> bool
+    ensures { result ≡ bytes_eq text.now space }
+{
+    matches!(text.as_bytes(), [b' '])
 }
 
 fn added(a: usize, b: usize) -> Result<usize, AllocError>

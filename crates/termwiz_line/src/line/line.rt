@@ -312,6 +312,14 @@ impl Line {
     {
         self.storage.cells()
     }
+
+    /// The stored cells of a line that is a vector, hidden ones among them.
+    pub fn vector_cells(&self) -> &[Cell]
+        requires { self.now.is_vector ≡ true }
+        ensures { result.now ≡ self.now.cells }
+    {
+        self.stored_cells().unwrap()
+    }
 }
 
 impl Clone for Line {

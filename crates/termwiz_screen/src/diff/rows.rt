@@ -19,7 +19,6 @@ use super::writer::DiffWriter;
 use std::alloc::AllocError;
 use std::collections::VecDeque;
 use termwiz_cell::cell::{Cell, CellAttributes};
-use termwiz_line::entries::is_same;
 use termwiz_line::line::line::Line;
 use termwiz_storage::line::cellref::{CellRef, VisibleCellIter};
 
@@ -105,15 +104,8 @@ pub(super) fn print_row<'a>(
     if region.x == region.other_x && own.has_same_cells(other) {
         return Ok(());
     }
-    print_cells(writer, cells_of_line(own), other, padding, region, row)?;
+    print_cells(writer, own.vector_cells(), other, padding, region, row)?;
     Ok(())
-}
-
-fn cells_of_line(line: &Line) -> &[Cell]
-    requires { line.now.is_vector ≡ true }
-    ensures { result.now ≡ line.now.cells }
-{
-    line.stored_cells().unwrap()
 }
 
 fn print_cells<'a>(
@@ -315,5 +307,5 @@ fn is_piece(own: &Cell, text: &str, width: usize, attrs: &CellAttributes) -> boo
     ensures { result
         ≡ cell_eq own.now (record { text = text.now; wide = nat_lt 1 width; attrs = attrs.now }) }
 {
-    own.str() == text && ((own.width() > 1) == (width > 1) && is_same(own.attrs(), attrs))
+    own.str() == text && ((own.width() > 1) == (width > 1) && *own.attrs() == *attrs)
 }

@@ -1,5 +1,5 @@
 //! The rows of a surface, lent as lines or as cells.
-ghost use Rattle.std.specs.Prelude.{◌≡◌, true, map, IfOk};
+ghost use Rattle.std.specs.Prelude.{◌≡◌, map, IfOk};
 ghost use Rattle.termwiz_screen.specs.ScreenValue.{cells_of};
 ghost use Rattle.termwiz_screen.specs.Sides.{row_flags, AreVectors};
 
@@ -48,17 +48,7 @@ fn lent_cells(alloc: Global, rows: &VecDeque<Line>) -> Result<Vec<&[Cell]>, Allo
 {
     let mut lent = Vec::with_capacity(alloc, rows.len())?;
     for i in 0..rows.len() {
-        lent.push(cells_in(&rows[i]))?;
+        lent.push(rows[i].vector_cells())?;
     }
     Ok(lent)
-}
-
-fn cells_in(row: &Line) -> &[Cell]
-    requires { row.now.is_vector ≡ true }
-    ensures { result.now ≡ row.now.cells }
-{
-    match row.stored_cells() {
-        Some(cells) => cells,
-        None => unreachable!(),
-    }
 }

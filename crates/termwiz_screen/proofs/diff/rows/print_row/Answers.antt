@@ -22,4 +22,4 @@ returns c = λ v w h a b.
     let other = row_of w c.args.other.now.cells in
     c.in_ok-print_cells.ensures w b
     ∙ ap (λ ps. fold print_out c.args.writer.now (map (in_row c.args.row) ps))
-    (ap (λ (cs : List CellValue). row_need cs r.x other r.other_x r.width) c.cells_of_line.ensures ∙ own_row c.args.own.now.cells v r.x other r.other_x r.width h a)
+    (ap (λ (cs : List CellValue). row_need cs r.x other r.other_x r.width) c.vector_cells.ensures ∙ own_row c.args.own.now.cells v r.x other r.other_x r.width h a)

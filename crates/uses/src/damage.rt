@@ -1,0 +1,42 @@
+//! Damage: what has to be painted anew on a canvas that is painted cell by cell.
+ghost use Rattle.std.specs.Prelude.{◌≡◌, [], IfOk, map};
+ghost use Rattle.termwiz_surface.specs.{
+  MeasureAlike,
+  change_value,
+  measure,
+  print_all,
+  printed,
+  screen_of,
+};
+
+use std::alloc::AllocError;
+use termwiz_surface::change::Change;
+use termwiz_surface::emoji::Widths;
+use termwiz_surface::laws::need_laws;
+use termwiz_surface::surface::Surface;
+
+/// The changes that print the damage between two surfaces of one size. A canvas that shows the rows
+/// of the last one shows those of the next one once just the cells that they print are painted, one
+/// after another. They print no cell where the rows are equal.
+pub fn damage_between<W: Widths>(
+    last: &Surface<W>,
+    next: &Surface<W>,
+) -> Result<Vec<Change>, AllocError>
+    requires same_width { last.now.width ≡ next.now.width }
+    requires same_height { last.now.height ≡ next.now.height }
+    requires alike { MeasureAlike (measure W.width_of) last.now next.now }
+    ensures painted { IfOk result (λ changes.
+        let shown = screen_of last.now in
+        print_all shown.rows (printed (measure W.width_of last.now.widths) shown
+        (map change_value changes.items)) ≡ (screen_of next.now).rows) }
+    ensures nothing { (screen_of last.now).rows ≡ (screen_of next.now).rows →
+        IfOk result (λ changes. printed (measure W.width_of last.now.widths)
+        (screen_of last.now) (map change_value changes.items) ≡ []) }
+{
+    // What a diff has to print, painted, gives the other's rows.
+    need_laws();
+    let _last_form = last.dimensions();
+    let _next_form = next.dimensions();
+    let changes = last.diff_screens(next)?;
+    Ok(changes)
+}

@@ -24,6 +24,7 @@ IsShort-stored text fits utf8 =
       fits = subst (λ t. length t ≤ 7) (sym same) fits;
       text = ∣ subst IsUtf8 (sym same) utf8 ∣₁;
       stored = ap stored_bytes same;
+      aligned = refl;
     }
 
 -- a text before what is left of eight zeros, whose last byte becomes its length

@@ -45,6 +45,19 @@ fn only_plain(text: &str) -> Option<u8>
     }
 }
 
+// Appends a text. One character of printable ASCII needs no copy by a call.
+#[inline(always)]
+fn append(text: &mut String, more: &str) -> Result<(), AllocError>
+    ensures ok { OnOk result (string_bytes text.new ≡ string_bytes text.old ++ more.now) }
+    ensures err { OnErr result (string_bytes text.new ≡ string_bytes text.old) }
+{
+    match only_plain(more) {
+        Some(byte) => text.push(byte as char)?,
+        None => text.push_str(more)?,
+    }
+    Ok(())
+}
+
 // Appends a text, exactly where it is then the last grapheme, behind those that there were. Says
 // whether it did. What stands from `last` on is cut.
 fn join_by_cut(text: &mut String, last: usize, more: &str) -> Result<bool, AllocError>
@@ -88,7 +101,7 @@ impl JoinedText {
         self.last = 0;
         self.ends_plain = false;
         self.text.clear();
-        self.text.push_str(first)?;
+        append(&mut self.text, first)?;
         self.ends_plain = is_one_plain(first);
         Ok(())
     }

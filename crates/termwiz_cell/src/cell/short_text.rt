@@ -1,6 +1,6 @@
 //! Texts of at most seven bytes, which stand in the value itself.
-ghost use Rattle.std.specs.Prelude.{◌≡◌, ◌≤◌, ◌∷◌, [], MatchOption, false, length, true, bytes_eq};
-ghost use Rattle.termwiz_text.specs.Plain.{is_one_plain, is_plain};
+ghost use Rattle.std.specs.Prelude.{◌≡◌, ◌≢◌, ◌<◌, ◌≤◌, ◌∷◌, [], MatchOption, length, bytes_eq};
+ghost use Rattle.termwiz_text.specs.Plain.{is_plain};
 
 use std::marker::Model;
 use std::str;
@@ -9,6 +9,8 @@ use std::str;
 /// So two are the same text exactly where all their bytes are equal.
 #[derive(Clone, Copy)]
 pub(super) struct ShortText {
+    // It takes no room, and has the bytes stand where they are copied as one word.
+    aligned: [u64; 0],
     bytes: [u8; 8],
 }
 
@@ -37,6 +39,7 @@ impl ShortText {
         ensures { result ≡ byte ∷ [] }
     {
         ShortText {
+            aligned: [],
             bytes: [byte, 0, 0, 0, 0, 0, 0, 1],
         }
     }
@@ -50,9 +53,11 @@ impl ShortText {
     {
         match text.as_bytes() {
             [a] => ShortText {
+                aligned: [],
                 bytes: [*a, 0, 0, 0, 0, 0, 0, 1],
             },
             [a, b, c] => ShortText {
+                aligned: [],
                 bytes: [*a, *b, *c, 0, 0, 0, 0, 3],
             },
             _ => ShortText::copied(text),
@@ -68,7 +73,7 @@ impl ShortText {
         let mut bytes = [0; 8];
         bytes[..text.len()].copy_from_slice(text.as_bytes());
         bytes[7] = text.len() as u8;
-        ShortText { bytes }
+        ShortText { aligned: [], bytes }
     }
 
     #[inline(always)]
@@ -78,16 +83,16 @@ impl ShortText {
         unsafe { str::from_utf8_unchecked(&self.bytes[..self.bytes[7] as usize]) }
     }
 
-    /// The text, where it is one printable character of ASCII.
+    /// The byte of a text that has one, which is a character of ASCII.
     #[inline(always)]
-    pub(super) fn as_plain(&self) -> Option<u8>
-        ensures { MatchOption result (is_one_plain self.now ≡ false)
-            (λ byte. (is_plain byte ≡ true) × (self.now ≡ byte ∷ [])) }
+    pub(super) fn only_byte(&self) -> Option<u8>
+        ensures { MatchOption result (length self.now ≢ 1)
+            (λ byte. (byte < 128) × (self.now ≡ byte ∷ [])) }
     {
-        match self.bytes[0] {
-            byte @ b' '..=b'~' if self.bytes[7] == 1 => Some(byte),
-            _ => None,
+        if self.bytes[7] == 1 {
+            return Some(self.bytes[0]);
         }
+        None
     }
 
     /// Whether both are the same text.

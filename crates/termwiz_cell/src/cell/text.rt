@@ -130,7 +130,7 @@ impl CellText {
             × ((text_in self.now ≡ byte ∷ []) × (wide_in self.now ≡ false))) }
     {
         match self {
-            CellText::Narrow(short) => short.as_plain(),
+            CellText::Narrow(short) => short.only_byte(),
             CellText::Wide(_) => None,
             CellText::Long(_) => None,
         }

@@ -1,5 +1,5 @@
 //! Texts of at most seven bytes, which stand in the value itself.
-ghost use Rattle.std.specs.Prelude.{◌≡◌, ◌≢◌, ◌<◌, ◌≤◌, ◌∷◌, [], MatchOption, length, bytes_eq};
+ghost use Rattle.std.specs.Prelude.{◌≡◌, ◌≢◌, ◌<◌, ◌≤◌, ◌∷◌, [], MatchOption, length, true, bytes_eq};
 ghost use Rattle.termwiz_text.specs.Plain.{is_plain};
 
 use std::marker::Model;

@@ -1,6 +1,6 @@
 //! A writer of row entries.
 ghost use Rattle.std.specs.Prelude.{◌≡◌, ◌++◌, ◌∷◌, [], ◌+◌, ◌&&◌, nat_lt, ℕ, List, true, false};
-ghost use Rattle.std.specs.Prelude.{not, length, ◌≤◌, ◌==◌, bytes_eq, IfOk, OnOk};
+ghost use Rattle.std.specs.Prelude.{not, length, ◌≤◌, ◌==◌, bytes_eq, IfOk, IsTrue, OnOk};
 ghost use Rattle.termwiz_text.specs.Plain as plain;
 ghost use Rattle.termwiz_cell.specs.Attributes as attributes;
 ghost use Rattle.termwiz_cell.specs.Attributes.{attributes_eq};
@@ -134,12 +134,25 @@ impl<'a> RowWriter<'a> {
         ensures space_attrs { self.new.space_attrs ≡ self.old.space_attrs }
     {
         if self.spaces > 0 {
-            self.print_held()?;
+            if self.holds_in_text() {
+                self.push_spaces()?;
+            } else {
+                self.print_held()?;
+            }
         }
         Ok(())
     }
 
-    // The same, apart, so that a cell behind no spaces is written at once.
+    // Whether the text grows behind printable ASCII, and spaces held back have the pen that stands.
+    #[inline(always)]
+    fn holds_in_text(&self) -> bool
+        ensures { IsTrue result → IsInText self.now }
+    {
+        self.entries.ends_printable() && *self.space_attrs == *self.pen
+    }
+
+    // Spaces held back are printed, whatever stands before them. It stands apart, so that a cell
+    // behind no spaces is written at once.
     #[inline(never)]
     fn print_held(&mut self) -> Result<(), AllocError>
         ensures printed { OnOk result (

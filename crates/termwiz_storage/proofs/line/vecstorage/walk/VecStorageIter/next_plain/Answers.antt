@@ -4,7 +4,7 @@ use Rattle.std.proofs.lemmas.Bool.{cases_Bool, false≢true}
 use Rattle.termwiz_storage.specs.Stored.{visible_from}
 use Rattle.termwiz_storage.specs.PlainCells.{begins_plain, is_plain_with, IsPlainFirst}
 use Rattle.termwiz_storage.proofs.PlainCells.{plain_first}
-use Rattle.termwiz_storage.proofs.line.vecstorage.VecStorageIter.next_plain.Goals as goal
+use Rattle.termwiz_storage.proofs.line.vecstorage.walk.VecStorageIter.next_plain.Goals as goal
 
 pub returns-in-Some : goal.returns-in-Some
 returns-in-Some c =

@@ -17,7 +17,7 @@ use Rattle.termwiz_storage.specs.CellTexts.{cell_texts}
 use Rattle.termwiz_storage.specs.Stored.{visible_from}
 use Rattle.termwiz_storage.specs.VisibleCell.{at_column}
 use Rattle.termwiz_storage.specs.Clustered.{cell_len, cells_from, IsClusteredText, IsWhole}
-use Rattle.termwiz_storage.specs.PlainCells.{is_plain_with, begins_plain, ArePlain, IsPlainFirst}
+use Rattle.termwiz_storage.specs.PlainCells.{is_plain_with, ArePlain, IsPlainFirst}
 use Rattle.termwiz_storage.proofs.Clustered.{IsSound-push, cells_from-push}
 use Rattle.termwiz_storage.proofs.Whole.{behind_narrow}
 

@@ -1,5 +1,5 @@
 -- The visible cells that an iterator has left, each with its column.
-use Rattle.std.specs.Prelude.{◌≡◌, ℕ, List, [], ◌∷◌, Option, Some, None}
+use Rattle.std.specs.Prelude.{◌≡◌, List, [], ◌∷◌, Option, Some, None}
 use Rattle.termwiz_cell.specs.CellValue.{clean, columns}
 use Rattle.termwiz_storage.specs.CellRef.{indexed_cell, ref_cell, ref_width}
 use Rattle.termwiz_storage.specs.declared.line.cellref.CellRef.{CellRef}

@@ -1,5 +1,5 @@
 -- The last of visible cells.
-use Rattle.std.specs.Prelude.{ℕ, List, Option, None, option_map}
+use Rattle.std.specs.Prelude.{List, Option, None, option_map}
 use Rattle.termwiz_storage.specs.VisibleCell.{VisibleCell}
 use Rattle.std.specs.List.{last_or}
 use Rattle.termwiz_cell.specs.Attributes.{Attributes}

@@ -1,12 +1,11 @@
 use Rattle.std.proofs.Common.{◌≡◌, ℕ, ◌+◌, ◌*◌, ◌∙◌, List, true, length, get_or, sym, ap, ap₂, arith}
 use Rattle.std.proofs.lemmas.List.{at_drop_more}
 use Rattle.std.proofs.lemmas.List.Sums.{AllPass-from_list_all}
-use Rattle.std.specs.Prelude.{encode_utf8}
 use Rattle.std.specs.Str.{chars}
 use Rattle.termwiz_text.specs.Letter.{is_letter}
 use Rattle.termwiz_text.proofs.LetterRuns.{letter_bytes}
 use Rattle.termwiz_cell.specs.Attributes.{Attributes}
-use Rattle.termwiz_cell.specs.CellValue.{blank_of, cell_of, clean}
+use Rattle.termwiz_cell.specs.CellValue.{blank_of, cell_of}
 use Rattle.termwiz_cell.proofs.Cleaned.{length_clean}
 use Rattle.termwiz_storage.specs.Letters.{letter_cell, put_letters}
 use Rattle.termwiz_storage.proofs.line.vecstorage.put_letter_cells.Goals as goal

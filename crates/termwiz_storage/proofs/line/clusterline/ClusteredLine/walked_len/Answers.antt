@@ -1,4 +1,4 @@
-use Rattle.std.proofs.Common.{◌≡◌, ℕ, ◌+◌, List, length, min, arith, refl, sym, ◌∙◌, ap, subst, rules}
+use Rattle.std.proofs.Common.{◌≡◌, ◌+◌, List, length, min, arith, refl, sym, ◌∙◌, ap, subst, rules}
 use Rattle.std.proofs.lemmas.Bool.{iff_false}
 use Rattle.termwiz_cell.specs.CellValue.{CellValue, blank, columns}
 use Rattle.termwiz_storage.specs.Stored.{visible, IsKept}

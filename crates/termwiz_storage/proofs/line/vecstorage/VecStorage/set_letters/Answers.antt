@@ -1,4 +1,4 @@
-use Rattle.std.proofs.Common.{◌≡◌, ◌+◌, ◌*◌, ℕ, ◌∙◌, List, length, ap, arith}
+use Rattle.std.proofs.Common.{◌≡◌, ◌+◌, ◌*◌, ◌∙◌, List, length, ap, arith}
 use Rattle.std.specs.Str.{chars}
 use Rattle.termwiz_text.proofs.LetterRuns.{length-letters}
 use Rattle.termwiz_cell.specs.CellValue.{CellValue}

@@ -1,4 +1,4 @@
-use Rattle.std.proofs.Common.{◌≡◌, ◌↔◌, ◌⊎◌, Bool, true, false, inl, inr, refl, sym, ap₂, ◌∙◌, subst}
+use Rattle.std.proofs.Common.{◌≡◌, ◌↔◌, Bool, true, false, inl, inr, refl, sym, ap₂, ◌∙◌}
 use Rattle.std.specs.Bool.{Decides, IsTrue}
 use Rattle.std.proofs.lemmas.Bool.{cases_Bool, true≢false}
 use Rattle.termwiz_storage.specs.CellLists.{cells_eq, cells_eq-Decides}

@@ -49,6 +49,7 @@ ascii_byte byte utf8 = by utf8.0 utf8.1.1
   where
     short : (c : ℕ) → len_utf8 c ≡ 1 → c < 128
     short c h = grind (arith, nat_tests, h)
+
     by : (cs : List ℕ) → encode_utf8_all cs ≡ byte ∷ [] → byte < 128
     by [] e = absurd cc
     by (c ∷ cs) e =
@@ -62,9 +63,9 @@ pub stored_bytes-set : (text : List ℕ) → length text ≤ 7 → set (text ++ 
 stored_bytes-set text fits =
     let zeros : List ℕ = replicate (7 - length text) 0 in
     let room : drop (length text) (replicate 8 0) ≡ zeros ++ 0 ∷ [] =
-        drop-replicate (length text) 8 0
-        ∙ ap (λ n. replicate n 0) (omega (arith, fits))
-        ∙ sym (replicate-append-replicate (7 - length text) 1 0) in
+    drop-replicate (length text) 8 0
+    ∙ ap (λ n. replicate n 0) (omega (arith, fits))
+    ∙ sym (replicate-append-replicate (7 - length text) 1 0) in
     ap (λ z. set (text ++ z) 7 (length text)) room
     ∙ set-append_right text _ (length text) 7 (length text) refl fits
     ∙ ap (λ n. text ++ set (zeros ++ 0 ∷ []) n (length text)) (sym (length-replicate (7 - length text) 0))

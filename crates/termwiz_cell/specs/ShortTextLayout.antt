@@ -1,11 +1,11 @@
 -- How the bytes of a `ShortText` give the text.
-use Rattle.std.specs.Prelude.{◌≡◌, ℕ, ◌-◌, ◌≤◌, List, [], ◌∷◌, ◌++◌, length, take, get_or, replicate, IsUtf8}
+use Rattle.std.specs.Prelude.{◌≡◌, ℕ, ◌-◌, ◌≤◌, List, [], ◌∷◌, ◌++◌, length, take, slice_index_or, replicate, IsUtf8}
 use Rattle.std.proofs.Common.{sym}
 use Rattle.termwiz_cell.specs.declared.cell.short_text.ShortText.TheInside.{Inside}
 
 -- the bytes of the text: as many as the last byte says
 abbrev pub short_bytes : Inside → List ℕ
-short_bytes s = take (get_or s.bytes 7 0) s.bytes
+short_bytes s = take (slice_index_or s.bytes 7 0) s.bytes
 
 -- the eight bytes that hold a text: zeros stand behind it, and then its length
 abbrev pub stored_bytes : List ℕ → List ℕ

@@ -1,5 +1,5 @@
 -- What a line is cut into doesn't depend on the form that stores its cells.
-use Rattle.std.specs.Prelude.{◌≡◌, ℕ, ◌+◌, ◌<◌, List, ◌∷◌, ◌++◌, Option, get_or, length, map}
+use Rattle.std.specs.Prelude.{◌≡◌, ℕ, ◌+◌, ◌<◌, List, ◌∷◌, ◌++◌, Option, slice_index_or, length, map}
 use Rattle.termwiz_storage.specs.VisibleCell.{VisibleCell}
 use Rattle.termwiz_cell.specs.CellValue.{columns}
 use Rattle.termwiz_cell.specs.declared.emoji.Presentation.{Presentation}
@@ -33,4 +33,4 @@ ClustersJoin = (shown : List ℕ → Presentation × Option Presentation) (cells
 
 -- each byte of a cell's text tells the column and the width of that cell
 abbrev pub BytesTellTheirCells : Type 0
-BytesTellTheirCells = (before : List VisibleCell) (c : VisibleCell) (after : List VisibleCell) (k : ℕ) → k < length c.cell.text → get_or (cells_of_bytes (before ++ c ∷ after)) (length (texts_of before) + k) (0, 0) ≡ (c.column, columns c.cell)
+BytesTellTheirCells = (before : List VisibleCell) (c : VisibleCell) (after : List VisibleCell) (k : ℕ) → k < length c.cell.text → slice_index_or (cells_of_bytes (before ++ c ∷ after)) (length (texts_of before) + k) (0, 0) ≡ (c.column, columns c.cell)

@@ -1,5 +1,5 @@
 -- Row entries: the changes that print a list of visible cells, from a pen on.
-use Rattle.std.specs.Prelude.{ℕ, Bool, true, false, cond, ◌&&◌, List, [], ◌∷◌, ◌++◌, fold, bytes_eq}
+use Rattle.std.specs.Prelude.{ℕ, Bool, true, false, if◌then◌else◌, ◌&&◌, List, [], ◌∷◌, ◌++◌, fold, bytes_eq}
 use Rattle.termwiz_storage.specs.VisibleCell.{VisibleCell}
 use Rattle.std.specs.Cmp.Lexicographic.{pointwise}
 use Rattle.unicode_segmentation.specs.Grapheme.{graphemes}
@@ -13,7 +13,7 @@ abbrev pub joins : List ℕ → List ℕ → Bool
 joins before text = pointwise bytes_eq (graphemes true (before ++ text)) (graphemes true before ++ text ∷ [])
 
 abbrev pub join : ChangeValue → List ℕ → List ChangeValue
-join (change.Text before) text = cond (joins before text) (change.Text (before ++ text) ∷ []) (change.Text before ∷ change.Text text ∷ [])
+join (change.Text before) text = if joins before text then change.Text (before ++ text) ∷ [] else change.Text before ∷ change.Text text ∷ []
 join entry text = entry ∷ change.Text text ∷ []
 
 -- the entries with a text behind them
@@ -29,7 +29,7 @@ pub record Penned : Type 0 where
 
 -- a pen, where it is not the one that stands
 abbrev pub pen_entry : Attributes → Attributes → List ChangeValue
-pen_entry old new = cond (attributes_eq old new) [] (change.AllAttributes new ∷ [])
+pen_entry old new = if attributes_eq old new then [] else change.AllAttributes new ∷ []
 
 -- a visible cell is printed
 abbrev pub cell_out : Penned → VisibleCell → Penned
@@ -49,7 +49,7 @@ all_spaces a (p ∷ ps) = is_space_of a p && all_spaces a ps
 -- the cells without the spaces with these attributes at their end
 abbrev pub trimmed : Attributes → List VisibleCell → List VisibleCell
 trimmed a [] = []
-trimmed a (p ∷ ps) = cond (all_spaces a (p ∷ ps)) [] (p ∷ trimmed a ps)
+trimmed a (p ∷ ps) = if all_spaces a (p ∷ ps) then [] else p ∷ trimmed a ps
 
 -- the attributes of the last cell, or the pen where there is none
 abbrev pub pen_behind : Attributes → List VisibleCell → Attributes
@@ -61,13 +61,13 @@ is_empty [] = true
 is_empty (p ∷ ps) = false
 
 abbrev pub clear_entry : Attributes → List ChangeValue
-clear_entry a = cond (attributes_eq a default_attributes) [] (change.ClearToEndOfLine a.background ∷ [])
+clear_entry a = if attributes_eq a default_attributes then [] else change.ClearToEndOfLine a.background ∷ []
 
 -- what follows the entries d of the kept cells, where spaces with attributes a were left out behind them
 abbrev pub with_tail : Penned → List VisibleCell → Attributes → Penned
 with_tail d kept a = record {
-  entries = (d.entries ++ cond (is_empty kept) [] (pen_entry d.pen a)) ++ clear_entry a;
-  pen = cond (is_empty kept && attributes_eq a default_attributes) d.pen a;
+  entries = (d.entries ++ (if is_empty kept then [] else pen_entry d.pen a)) ++ clear_entry a;
+  pen = if is_empty kept && attributes_eq a default_attributes then d.pen else a;
 }
 
 -- the last cell is a space whose attributes are default but for the background
@@ -82,4 +82,4 @@ abbrev pub row_entries : Attributes → List VisibleCell → Penned
 row_entries pen cells =
     let a = pen_behind pen cells in
     let kept = trimmed a cells in
-    cond (ends_plain cells) (with_tail (cells_out pen kept) kept a) (cells_out pen cells)
+    if ends_plain cells then with_tail (cells_out pen kept) kept a else cells_out pen cells

@@ -1,5 +1,5 @@
 -- A text at the end of entries that may still grow.
-use Rattle.std.specs.Prelude.{◌≡◌, ℕ, Bool, false, cond, List, [], ◌∷◌, ◌++◌, Option, Some, None}
+use Rattle.std.specs.Prelude.{◌≡◌, ℕ, Bool, false, if◌then◌else◌, List, [], ◌∷◌, ◌++◌, Option, Some, None}
 use Rattle.termwiz_text.specs.Plain.{is_plain_last}
 use Rattle.termwiz_cell.specs.declared.change.Change.{Change}
 use Rattle.termwiz_cell.specs.ChangeValue as change
@@ -8,7 +8,7 @@ use Rattle.termwiz_line.specs.LastChange.{last_is}
 
 -- the entries, and the text behind them while it grows
 abbrev pub with_text : List ChangeValue → Bool → List ℕ → List ChangeValue
-with_text es grows text = cond grows (es ++ change.Text text ∷ []) es
+with_text es grows text = if grows then es ++ change.Text text ∷ [] else es
 
 -- a text whose last byte is printable ASCII
 abbrev pub ends_printable : ChangeValue → Bool

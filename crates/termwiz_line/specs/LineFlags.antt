@@ -1,5 +1,5 @@
 -- The flags of a line: its size, and how its direction is told.
-use Rattle.std.specs.Prelude.{ℕ, ◌+◌, Bool, false, cond, ◌==◌}
+use Rattle.std.specs.Prelude.{ℕ, ◌+◌, Bool, false, if◌then◌else◌, ◌==◌}
 use Rattle.std.specs.Int.RustNames.{bit_and}
 
 pub record LineFlags : Type 0 where
@@ -26,7 +26,12 @@ flags_of n = record {
 
 -- the number that has the bits of these flags alone
 abbrev pub flag_bits : LineFlags → ℕ
-flag_bits f = cond f.bidi_enabled 1 0 + (cond f.double_width 16 0 + (cond f.double_height_top 32 0 + (cond f.double_height_bottom 64 0 + (cond f.right_to_left 128 0 + cond f.auto_detect 256 0))))
+flag_bits f =
+    (if f.bidi_enabled then 1 else 0)
+    + ((if f.double_width then 16 else 0)
+    + ((if f.double_height_top then 32 else 0)
+    + ((if f.double_height_bottom then 64 else 0)
+    + ((if f.right_to_left then 128 else 0) + (if f.auto_detect then 256 else 0)))))
 
 -- how large the cells are shown: twice as wide, and then also two rows high, of which this is the upper or the lower one
 abbrev pub with_sizes : Bool → Bool → Bool → LineFlags → LineFlags

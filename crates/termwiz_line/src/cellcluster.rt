@@ -1,5 +1,6 @@
 //! Clusters: the pieces of a line in which a shaper finds the glyphs of its text.
-ghost use Rattle.std.specs.Prelude.{◌≡◌, ◌<◌, ◌↔◌, [], ◌∷◌, IfOk, IsTrue, OnOk, get_or, length};
+ghost use Rattle.std.specs.Prelude.{◌≡◌, ◌<◌, ◌↔◌, [], ◌∷◌, IfOk, IsTrue, OnOk, length};
+ghost use Rattle.std.specs.Prelude.{slice_index_or};
 ghost use Rattle.termwiz_cell.specs.CellValue.{columns};
 ghost use Rattle.termwiz_storage.specs.CellRef.{indexed_cell, ref_cell};
 ghost use Rattle.termwiz_storage.specs.CellsLeft.{cells_left, IsOfCell};
@@ -88,7 +89,7 @@ impl CellCluster {
     /// The column of the cell that a byte of the text belongs to.
     pub fn byte_to_cell_idx(&self, byte_idx: usize) -> usize
         requires { byte_idx < length self.now.text }
-        ensures { result ≡ (get_or self.now.cells_of_bytes byte_idx (0, 0)).0 }
+        ensures { result ≡ (slice_index_or self.now.cells_of_bytes byte_idx (0, 0)).0 }
     {
         self.cells.get(byte_idx).0
     }
@@ -96,7 +97,7 @@ impl CellCluster {
     /// The columns that the cell takes to which a byte of the text belongs.
     pub fn byte_to_cell_width(&self, byte_idx: usize) -> u8
         requires { byte_idx < length self.now.text }
-        ensures { result ≡ (get_or self.now.cells_of_bytes byte_idx (0, 0)).1 }
+        ensures { result ≡ (slice_index_or self.now.cells_of_bytes byte_idx (0, 0)).1 }
     {
         self.cells.get(byte_idx).1
     }

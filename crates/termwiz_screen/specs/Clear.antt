@@ -1,5 +1,5 @@
 -- Clearing a screen, and beside it what that makes of the lengths of the stored rows.
-use Rattle.std.specs.Prelude.{ℕ, zero, suc, Bool, cond, not, ◌&&◌, nat_lt, List, ◌∷◌, ◌++◌, map, length, get_or, set, take, drop}
+use Rattle.std.specs.Prelude.{ℕ, zero, suc, Bool, if◌then◌else◌, not, ◌&&◌, nat_lt, List, ◌∷◌, ◌++◌, map, length, slice_index_or, set, take, drop}
 use Rattle.termwiz_cell.specs.Attributes.{Attributes}
 use Rattle.termwiz_cell.specs.CellValue.{CellValue, blank, blank_of, cell_eq}
 use Rattle.termwiz_storage.specs.Stored.{stored}
@@ -12,11 +12,11 @@ is_blank c = cell_eq c blank
 -- the column after the last of the first n columns that does not show a default blank
 abbrev pub ends : List CellValue → ℕ → ℕ
 ends r zero = zero
-ends r (suc n) = cond (is_blank (stored r n) && not (is_hidden r n)) (ends r n) (suc n)
+ends r (suc n) = if is_blank (stored r n) && not (is_hidden r n) then ends r n else suc n
 
 -- the length of n stored cells of the row r, once pruned
 abbrev pub pruned_length : List CellValue → ℕ → ℕ
-pruned_length r n = cond (nat_lt 0 (ends r (length r)) && nat_lt (ends r (length r)) n) (ends r (length r)) n
+pruned_length r n = if nat_lt 0 (ends r (length r)) && nat_lt (ends r (length r)) n then ends r (length r) else n
 
 -- the row of the cursor, cleared from its column on
 abbrev pub cleared_row : Screen → Attributes → List CellValue
@@ -34,7 +34,7 @@ abbrev pub clear_screen : Screen → Attributes → Screen
 clear_screen s a = record s { rows = map (λ r. clear r 0 (blank_of a)) s.rows; x = 0; y = 0; pen = a }
 
 abbrev pub cleared_row_length : Screen → Attributes → List ℕ → ℕ
-cleared_row_length s a ns = pruned_length (cleared_row s a) (cond (nat_lt s.x s.width) s.width (get_or ns s.y 0))
+cleared_row_length s a ns = pruned_length (cleared_row s a) (if nat_lt s.x s.width then s.width else slice_index_or ns s.y 0)
 
 -- the length of a row that was cleared whole
 abbrev pub cleared_length : Screen → Attributes → List CellValue → ℕ

@@ -1,5 +1,5 @@
 -- Which cells a diff prints, and the changes that print them.
-use Rattle.std.specs.Prelude.{ℕ, zero, suc, ◌+◌, ◌-◌, min, Bool, true, false, cond, not, ◌&&◌, ◌||◌, eqb, List, [], ◌∷◌, ◌++◌, fold, map, Option, Some, None}
+use Rattle.std.specs.Prelude.{ℕ, zero, suc, ◌+◌, ◌-◌, min, Bool, true, false, if◌then◌else◌, not, ◌&&◌, ◌||◌, ◌==◌, List, [], ◌∷◌, ◌++◌, fold, map, Option, Some, None}
 use Rattle.termwiz_cell.specs.Attributes.{Attributes}
 use Rattle.termwiz_cell.specs.CellValue.{CellValue, columns, cell_eq}
 use Rattle.termwiz_cell.specs.ChangeValue as change
@@ -19,7 +19,7 @@ shows r k c = not (is_hidden r k) && cell_eq (stored r k) c
 -- of the n columns from q on of b: the cells that start there and that a does not show at their places, from column p on
 abbrev pub row_need : List CellValue → ℕ → List CellValue → ℕ → ℕ → List VisibleCell
 row_need a p b q zero = []
-row_need a p b q (suc k) = row_need a p b q k ++ cond (is_hidden b (q + k) || shows a (p + k) (stored b (q + k))) [] (at_column (p + k) (stored b (q + k)) ∷ [])
+row_need a p b q (suc k) = row_need a p b q k ++ (if is_hidden b (q + k) || shows a (p + k) (stored b (q + k)) then [] else at_column (p + k) (stored b (q + k)) ∷ [])
 
 -- a rectangle of own columns and rows, and as large a one of another's
 pub record Region : Type 0 where
@@ -66,7 +66,7 @@ pub record PrintedOut : Type 0 where
 -- a move to the cell's place, unless the cursor is there
 abbrev pub move_to : Option End → Print → List ChangeValue
 move_to None p = cursor_at p.column p.row ∷ []
-move_to (Some e) p = cond (eqb e.x p.column && eqb e.y p.row) [] (cursor_at p.column p.row ∷ [])
+move_to (Some e) p = if e.x == p.column && e.y == p.row then [] else cursor_at p.column p.row ∷ []
 
 -- its pen, unless it is the one that stands
 abbrev pub pen_to : Option End → Print → List ChangeValue

@@ -1,5 +1,5 @@
 -- Printing a text, grapheme by grapheme: what it makes of a screen, and of what is kept beside it.
-use Rattle.std.specs.Prelude.{ℕ, ◌+◌, ◌-◌, min, max, Bool, true, ◌==◌, nat_lt, List, [], ◌∷◌, ◌++◌, fold, replicate, drop, get_or, set, if◌then◌else◌}
+use Rattle.std.specs.Prelude.{ℕ, ◌+◌, ◌-◌, min, max, Bool, true, ◌==◌, nat_lt, List, [], ◌∷◌, ◌++◌, fold, replicate, drop, slice_index_or, set, if◌then◌else◌}
 use Rattle.std.specs.Str.{bytes_eq}
 use Rattle.unicode_segmentation.specs.Grapheme.{graphemes}
 use Rattle.termwiz_cell.specs.Attributes.{Attributes}
@@ -68,7 +68,7 @@ abbrev pub down_kept : Screen → Kept → Kept
 down_kept s k = record k { lengths = if has_below s then k.lengths else drop 1 k.lengths ++ s.width ∷ []; flags = if has_below s then k.flags else drop 1 k.flags ++ no_flags ∷ [] }
 
 abbrev pub put_kept : Screen → CellValue → Kept → Kept
-put_kept s c k = record k { lengths = set k.lengths s.y (max (get_or k.lengths s.y 0) (min (s.x + columns c) s.width)) }
+put_kept s c k = record k { lengths = set k.lengths s.y (max (slice_index_or k.lengths s.y 0) (min (s.x + columns c) s.width)) }
 
 abbrev pub wrapped_kept : Screen → Kept → Kept
 wrapped_kept s k = if wraps s then down_kept s k else k

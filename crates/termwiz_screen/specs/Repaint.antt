@@ -1,5 +1,5 @@
 -- Repaints: the changes that bring any screen of that size to this one.
-use Rattle.std.specs.Prelude.{if◌then◌else◌, ℕ, zero, suc, ◌-◌, pos, length, get_or, Bool, true, false, cond, not, ◌&&◌, eqb, ltb, List, [], ◌∷◌, ◌++◌, replicate, Option, Some, None}
+use Rattle.std.specs.Prelude.{if◌then◌else◌, ℕ, zero, suc, ◌-◌, pos, length, slice_index_or, Bool, true, false, not, ◌&&◌, ◌==◌, nat_lt, List, [], ◌∷◌, ◌++◌, replicate, Option, Some, None}
 use Rattle.std.specs.Cmp.Lexicographic.{pointwise}
 use Rattle.termwiz_cell.specs.declared.color.ColorAttribute.{ColorAttribute}
 use Rattle.termwiz_cell.specs.declared.color.ColorAttribute.TheVariants as color
@@ -29,7 +29,7 @@ next_line = change.CursorPosition (position.Absolute 0) (position.Relative (pos 
 abbrev pub rows_upto : ℕ → List (List CellValue) → ℕ → Penned
 rows_upto w rows zero = record { entries = []; pen = default_attributes }
 rows_upto w rows (suc i) = record {
-  entries = (rows_upto w rows i).entries ++ (cond (eqb i 0) [] (next_line ∷ []) ++ (row_entries (rows_upto w rows i).pen (visible_upto (row_at rows i) w)).entries);
+  entries = (rows_upto w rows i).entries ++ ((if i == 0 then [] else next_line ∷ []) ++ (row_entries (rows_upto w rows i).pen (visible_upto (row_at rows i) w)).entries);
   pen = (row_entries (rows_upto w rows i).pen (visible_upto (row_at rows i) w)).pen;
 }
 
@@ -40,7 +40,7 @@ bottom_attrs w h rows = (stored (row_at rows (h - 1)) (w - 1)).attrs
 -- the first of the rows right above row n that are blanks with attributes a, or n where there is none
 abbrev pub first_blank : ℕ → Attributes → List (List CellValue) → ℕ → ℕ
 first_blank w a rows zero = zero
-first_blank w a rows (suc n) = cond (pointwise cell_eq (row_at rows n) (replicate w (blank_of a))) (first_blank w a rows n) (suc n)
+first_blank w a rows (suc n) = if pointwise cell_eq (row_at rows n) (replicate w (blank_of a)) then first_blank w a rows n else suc n
 
 abbrev pub is_clear_of : Attributes → ChangeValue → Bool
 is_clear_of a (change.ClearToEndOfLine b) = attributes_eq (record default_attributes { background = b }) a
@@ -60,7 +60,7 @@ front_of (e ∷ (f ∷ es)) = e ∷ front_of (f ∷ es)
 
 -- the row whose end clears all below: the one above the blank rows where its entries end with that clear, else the first of them
 abbrev pub joined_row : ℕ → Attributes → List (List CellValue) → ℕ → ℕ
-joined_row w a rows i = cond (ends_with a (rows_upto w rows i).entries) (i - 1) i
+joined_row w a rows i = if ends_with a (rows_upto w rows i).entries then i - 1 else i
 
 abbrev pub bottom : ℕ → ℕ → List (List CellValue) → ℕ
 bottom w h rows = first_blank w (bottom_attrs w h rows) rows h
@@ -69,16 +69,16 @@ bottom w h rows = first_blank w (bottom_attrs w h rows) rows h
 abbrev pub joins_rows : ℕ → ℕ → List (List CellValue) → Bool
 joins_rows w h rows =
     (has_only_background (bottom_attrs w h rows) && not (attributes_eq (bottom_attrs w h rows) default_attributes))
-    && (ltb (bottom w h rows) h && ltb (suc (joined_row w (bottom_attrs w h rows) rows (bottom w h rows))) h)
+    && (nat_lt (bottom w h rows) h && nat_lt (suc (joined_row w (bottom_attrs w h rows) rows (bottom w h rows))) h)
 
 -- the entries of all rows: blank rows at the bottom in one background are left to one clear to the end of the screen
 abbrev pub all_rows : ℕ → ℕ → List (List CellValue) → Penned
-all_rows w h rows = cond (joins_rows w h rows)
-    (record {
+all_rows w h rows = if joins_rows w h rows
+    then (record {
       entries = front_of (rows_upto w rows (suc (joined_row w (bottom_attrs w h rows) rows (bottom w h rows)))).entries ++ change.ClearToEndOfScreen (bottom_attrs w h rows).background ∷ [];
       pen = bottom_attrs w h rows;
     })
-    (rows_upto w rows h)
+    else rows_upto w rows h
 
 abbrev pub is_move : ChangeValue → Bool
 is_move (change.CursorPosition x y) = true
@@ -91,7 +91,7 @@ all_moves (e ∷ es) = is_move e && all_moves es
 -- the moves at the end are dropped
 abbrev pub without_last_moves : List ChangeValue → List ChangeValue
 without_last_moves [] = []
-without_last_moves (e ∷ es) = cond (all_moves (e ∷ es)) [] (e ∷ without_last_moves es)
+without_last_moves (e ∷ es) = if all_moves (e ∷ es) then [] else e ∷ without_last_moves es
 
 abbrev pub is_nil : List ChangeValue → Bool
 is_nil [] = true
@@ -99,7 +99,7 @@ is_nil (e ∷ es) = false
 
 -- the cursor's place, where there are entries behind the first two or it isn't the first place
 abbrev pub cursor_entry : List ChangeValue → ℕ → ℕ → List ChangeValue
-cursor_entry es x y = cond (is_nil es && (eqb x 0 && eqb y 0)) [] (cursor_at x y ∷ [])
+cursor_entry es x y = if is_nil es && (x == 0 && y == 0) then [] else cursor_at x y ∷ []
 
 -- the cursor's shape, where one was set
 abbrev pub shape_entry : Option CursorShape → List ChangeValue
@@ -132,7 +132,7 @@ repaint s title shape = repaint_of (title_entry title) (all_rows s.width s.heigh
 -- the attributes of the rows above row i, with a move down before each but the first
 abbrev pub lines_upto : List LineAttribute → ℕ → List ChangeValue
 lines_upto lines zero = []
-lines_upto lines (suc i) = lines_upto lines i ++ (cond (eqb i 0) [] (next_line ∷ []) ++ change.LineAttribute (get_or lines i SingleWidthLine) ∷ [])
+lines_upto lines (suc i) = lines_upto lines i ++ ((if i == 0 then [] else next_line ∷ []) ++ change.LineAttribute (slice_index_or lines i SingleWidthLine) ∷ [])
 
 -- what a full repaint has before the entries of the rows: the title, be it empty, the cursor's colour, and each row's attribute; then the cursor goes home
 abbrev pub full_entries : List ℕ → ColorAttribute → List LineAttribute → List ChangeValue

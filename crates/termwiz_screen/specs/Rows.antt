@@ -1,5 +1,5 @@
 -- What work on stored rows leaves.
-use Rattle.std.specs.Prelude.{◌≡◌, ℕ, ◌-◌, ◌<◌, ◌≤◌, ◌+◌, ◌⊎◌, List, length, take, get_or}
+use Rattle.std.specs.Prelude.{◌≡◌, ℕ, ◌-◌, ◌<◌, ◌≤◌, ◌+◌, ◌⊎◌, List, length, take, slice_index_or}
 use Rattle.termwiz_cell.specs.CellValue.{CellValue}
 use Rattle.termwiz_storage.specs.Stored.{set_cell, fill, IsPruned}
 use Rattle.termwiz_screen.specs.Screen.{row_at}
@@ -31,4 +31,4 @@ pub record ArePartly (w : ℕ) (c : CellValue) (old new : List (List CellValue))
 -- each element is as it was, or this one
 pub record ArePartlyReset {X : Type 0} (d : X) (old new : List X) : Type 0 where
   pub same_count : length new ≡ length old
-  pub each : (j : ℕ) (e : X) → j < length old → (get_or new j e ≡ get_or old j e) ⊎ (get_or new j e ≡ d)
+  pub each : (j : ℕ) (e : X) → j < length old → (slice_index_or new j e ≡ slice_index_or old j e) ⊎ (slice_index_or new j e ≡ d)

@@ -1,5 +1,5 @@
 -- What a change makes of a screen, and of what is kept beside it.
-use Rattle.std.specs.Prelude.{ℕ, ◌+◌, Bool, true, nat_le, Some, List, [], ◌∷◌, fold, get_or, set, replicate}
+use Rattle.std.specs.Prelude.{ℕ, ◌+◌, Bool, true, nat_le, Some, List, [], ◌∷◌, fold, slice_index_or, set, replicate}
 use Rattle.std.specs.List.{list_all}
 use Rattle.termwiz_cell.specs.Attributes.{with_background}
 use Rattle.termwiz_cell.specs.AttributeChangeValue.{with_attribute}
@@ -40,7 +40,7 @@ step_kept measure s k (change.ScrollRegionDown first size count) = record k { le
 step_kept measure s k (change.CursorColor color) = record k { color = color }
 step_kept measure s k (change.CursorShape shape) = record k { shape = Some shape }
 step_kept measure s k (change.Title title) = record k { title = title }
-step_kept measure s k (change.LineAttribute attribute) = record k { flags = set k.flags s.y (with_line_attribute attribute (get_or k.flags s.y no_flags)) }
+step_kept measure s k (change.LineAttribute attribute) = record k { flags = set k.flags s.y (with_line_attribute attribute (slice_index_or k.flags s.y no_flags)) }
 step_kept measure s k _ = k
 
 -- the steps in order

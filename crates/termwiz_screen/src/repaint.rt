@@ -1,6 +1,6 @@
 //! Repaints: the changes that bring any screen of that size to the one that rows show.
 ghost use Rattle.std.specs.Prelude.{◌≡◌, ◌-◌, ◌<◌, ◌≤◌, ◌++◌, ◌∷◌, [], List, ◌&&◌, not, true};
-ghost use Rattle.std.specs.Prelude.{false, cond, eqb, map, length, IfOk, OnOk};
+ghost use Rattle.std.specs.Prelude.{false, if◌then◌else◌, ◌==◌, map, length, IfOk, OnOk};
 ghost use Rattle.std.specs.Option.{option_copied};
 ghost use Rattle.termwiz_cell.specs.Attributes.{attributes_eq, default_attributes};
 ghost use Rattle.termwiz_cell.specs.Attributes.{has_only_background};
@@ -182,7 +182,8 @@ fn rows_above(rows: &VecDeque<Line>, width: usize, attrs: &CellAttributes) -> us
 // The row whose end clears all below it, where this is the last entry of the rows above.
 fn joined_row(last: Option<&Change>, attrs: &CellAttributes, above: usize) -> usize
     requires { has_only_background attrs.now ≡ true }
-    ensures { result ≡ (cond (clears attrs.now (option_copied last.entry)) (above - 1) above) }
+    ensures { result
+        ≡ (if clears attrs.now (option_copied last.entry) then above - 1 else above) }
 {
     if is_clear(last, attrs) {
         above.saturating_sub(1)
@@ -304,7 +305,7 @@ fn push_next_line(writer: &mut RowWriter<'_>, i: usize) -> Result<(), AllocError
         writer.new.printed
         ≡ record writer.old.printed {
           entries = writer.old.printed.entries
-              ++ cond (eqb i 0) [] (spec.next_line ∷ []);
+              ++ (if i == 0 then [] else spec.next_line ∷ []);
         }) }
     ensures spaces { writer.new.spaces ≡ writer.old.spaces }
 {
@@ -398,7 +399,7 @@ fn push_cursor(
     ensures { OnOk result (
         map change_value entries.new.items
         ≡ map change_value entries.old.items
-        ++ cond (nothing && (eqb x 0 && eqb y 0)) [] (cursor_at x y ∷ [])) }
+        ++ (if nothing && (x == 0 && y == 0) then [] else cursor_at x y ∷ [])) }
 {
     if nothing && (x == 0 && y == 0) {
         return Ok(());

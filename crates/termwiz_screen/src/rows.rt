@@ -1,7 +1,7 @@
 //! The rows of a surface: lines that all have the number 0.
 ghost use Rattle.std.specs.Prelude.{◌≡◌, ◌+◌, ℕ, true, false, [], ◌∷◌, length, drop, ◌-◌, ◌<◌, ◌≤◌};
-ghost use Rattle.std.specs.Prelude.{slice_set, get_or, replicate, take, map, string_bytes, ◌++◌};
-ghost use Rattle.std.specs.Prelude.{IfOk, OnOk, OnErr};
+ghost use Rattle.std.specs.Prelude.{slice_set, replicate, take, map, string_bytes, ◌++◌};
+ghost use Rattle.std.specs.Prelude.{slice_index_or, IfOk, OnOk, OnErr};
 ghost use Rattle.std.specs.VecDeque.{deque_len, deque_capacity};
 ghost use Rattle.termwiz_cell.specs.CellValue.{blank};
 ghost use Rattle.std.specs.List.{list_all};
@@ -453,7 +453,7 @@ pub fn set_line_attribute(rows: &mut VecDeque<Line>, y: usize, attribute: LineAt
     ensures cells { cells_of rows.new.items ≡ cells_of rows.old.items }
     ensures flags { row_flags rows.new.items
         ≡ slice_set (row_flags rows.old.items) y
-        (with_line_attribute attribute (get_or (row_flags rows.old.items) y no_flags)) }
+        (with_line_attribute attribute (slice_index_or (row_flags rows.old.items) y no_flags)) }
     ensures vectors { AreVectors rows.old.items → AreVectors rows.new.items }
 {
     show_line(&mut rows[y], attribute);

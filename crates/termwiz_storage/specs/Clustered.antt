@@ -1,5 +1,5 @@
 -- A list of cells as one text, with the shape and the attributes of each visible cell.
-use Rattle.std.specs.Prelude.{◌≡◌, ℕ, suc, ◌+◌, ◌^◌, ◌<◌, true, false, List, [], ◌∷◌, ◌++◌, length, get_or, take, drop, nat_lt, if◌then◌else◌}
+use Rattle.std.specs.Prelude.{◌≡◌, ℕ, suc, ◌+◌, ◌^◌, ◌<◌, true, false, List, [], ◌∷◌, ◌++◌, length, slice_index_or, take, drop, nat_lt, if◌then◌else◌}
 use Rattle.std.specs.Str.{IsCharBoundary}
 use Rattle.termwiz_cell.specs.Attributes.{Attributes}
 use Rattle.termwiz_cell.specs.CellValue.{CellValue, clean, columns, half}
@@ -25,7 +25,7 @@ char_len b = if nat_lt b 128 then 1 else if nat_lt b 224 then 2 else if nat_lt b
 
 -- how many bytes of a text its first cell takes
 abbrev pub cell_len : Shape → List ℕ → ℕ
-cell_len s t = if s.one_char then char_len (get_or t 0 0) else s.bytes
+cell_len s t = if s.one_char then char_len (slice_index_or t 0 0) else s.bytes
 
 -- the cell of this shape and these attributes with which a text begins
 abbrev pub first_cell : List ℕ → Shape → Attributes → CellValue

@@ -1,6 +1,6 @@
 -- Which outcomes a list of events may have on one surface and several viewers, whose answers are kept, and delivered late, repeatedly, in any order, or never.
 use Rattle.std.specs.Bool.{⊤}
-use Rattle.std.specs.Prelude.{◌≡◌, ◌⊎◌, false, ℕ, ◌<◌, ◌≤◌, ◌^◌, List, [], ◌∷◌, ◌++◌, length, get_or, set, replicate, Ok, Err}
+use Rattle.std.specs.Prelude.{◌≡◌, ◌⊎◌, false, ℕ, ◌<◌, ◌≤◌, ◌^◌, List, [], ◌∷◌, ◌++◌, length, slice_index_or, set, replicate, Ok, Err}
 use Rattle.termwiz_screen.specs.Picture.{screens}
 use Rattle.termwiz_screen.specs.Screen.{Screen}
 use Rattle.termwiz_screen.specs.ScreenValue.{screen_value}
@@ -41,7 +41,7 @@ IsManyInRange _ = ⊤
 -- element k of the list is x
 pub record IsAt {X : Type 0} (xs : List X) (k : ℕ) (x : X) : Type 0 where
   pub inside : k < length xs
-  pub is : get_or xs k x ≡ x
+  pub is : slice_index_or xs k x ≡ x
 
 module _ {W : Type 0} where
   -- viewer v, and what it is afterwards

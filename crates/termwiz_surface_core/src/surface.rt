@@ -1,6 +1,6 @@
 //! Surfaces.
 ghost use Rattle.std.specs.Prelude.{◌≡◌, true, ◌+◌, ◌-◌, ◌<◌, ◌≤◌, ◌^◌, [], ◌∷◌, length, map};
-ghost use Rattle.std.specs.Prelude.{vec_len, replicate, string_bytes, slice_set, get_or};
+ghost use Rattle.std.specs.Prelude.{vec_len, replicate, string_bytes, slice_set, slice_index_or};
 ghost use Rattle.std.specs.Prelude.{false, IsOk, IfOk, OnOk, OnErr};
 ghost use Rattle.termwiz_cell.specs.Attributes.{with_background};
 ghost use Rattle.termwiz_cell.specs.CellValue.{blank};
@@ -487,7 +487,7 @@ impl<W: Widths> Surface<W> {
             Becomes self.old (screen_of self.old)
             (record k {
               flags = slice_set k.flags self.old.y
-                  (with_line_attribute attribute (get_or k.flags self.old.y no_flags));
+                  (with_line_attribute attribute (slice_index_or k.flags self.old.y no_flags));
             }) self.new }
     {
         set_line_attribute(&mut self.rows, self.y, attribute);

@@ -3,7 +3,7 @@
 
 ghost use Rattle.std.specs.Prelude.{◌≡◌, ◌≤◌, ◌<◌, length, ◌↔◌, ℕ, true, false, List, [], ◌∷◌};
 ghost use Rattle.std.specs.Prelude.{◌++◌, min, take, drop, slice_index, MatchOption, IfSome};
-ghost use Rattle.std.specs.Prelude.{IsTrue, string_bytes, if◌then◌else◌, encode_utf8, get_or};
+ghost use Rattle.std.specs.Prelude.{IsTrue, if◌then◌else◌, encode_utf8, slice_index_or};
 ghost use Rattle.std.specs.List.{list_all};
 ghost use Rattle.std.specs.Str.{chars};
 ghost use Rattle.termwiz_text.specs.Plain as plain;
@@ -212,7 +212,7 @@ pub fn letter_count(run: &str) -> usize
 pub fn letter_at(run: &str, k: usize) -> &str
     requires letters { letter.AreLetters run.now }
     requires inside { k < length (chars run.now) }
-    ensures { result.now ≡ encode_utf8 (get_or (chars run.now) k 0) }
+    ensures { result.now ≡ encode_utf8 (slice_index_or (chars run.now) k 0) }
 {
     &run[3 * k..3 * k + 3]
 }

@@ -1,6 +1,6 @@
 //! A remote terminal, to which a session's title and its headings of double width go as its rows
 //! do.
-ghost use Rattle.std.specs.Prelude.{◌≡◌, IfOk, OnOk, get_or, map, true};
+ghost use Rattle.std.specs.Prelude.{◌≡◌, IfOk, OnOk, slice_index_or, map, true};
 ghost use Rattle.termwiz_surface.specs.{
   DoubleWidthLine,
   Follows,
@@ -35,7 +35,7 @@ pub fn show_heading<W: Widths>(
     // as wide.
     ensures title { OnOk result (remote.new.surface.title ≡ heading.now) }
     ensures wide { OnOk result (let shown = full_of remote.new.surface in
-        get_or shown.lines shown.screen.y SingleWidthLine ≡ DoubleWidthLine) }
+        slice_index_or shown.lines shown.screen.y SingleWidthLine ≡ DoubleWidthLine) }
     // The next call can rely on it again, after an error too.
     ensures follows { Follows (measure W.width_of) remote.new session.new }
     ensures full { session.new.full ≡ true }

@@ -1,6 +1,6 @@
 //! The cells that the bytes of a text belong to.
 ghost use Rattle.std.specs.Prelude.{◌≡◌, ◌≤◌, ◌<◌, ◌+◌, ◌++◌, ◌^◌, [], IfSome, IsSome, OnOk};
-ghost use Rattle.std.specs.Prelude.{get_or, length, replicate};
+ghost use Rattle.std.specs.Prelude.{slice_index_or, length, replicate};
 
 use std::alloc::{AllocError, Global};
 use std::marker::Model;
@@ -41,7 +41,7 @@ impl ByteCells {
     /// The column and the width of the cell of a byte.
     pub(super) fn get(&self, byte: usize) -> (usize, u8)
         requires { byte < length self.now }
-        ensures { result ≡ get_or self.now byte (0, 0) }
+        ensures { result ≡ slice_index_or self.now byte (0, 0) }
     {
         let count = self.plain.end - self.plain.start;
         if byte < count {

@@ -1,6 +1,6 @@
 //! A list of entries whose last text may still grow.
-ghost use Rattle.std.specs.Prelude.{◌≡◌, ◌++◌, ◌∷◌, [], true, false, ◌&&◌, map, cond, IfOk, OnOk};
-ghost use Rattle.std.specs.Prelude.{OnErr};
+ghost use Rattle.std.specs.Prelude.{◌≡◌, ◌++◌, ◌∷◌, [], true, false, ◌&&◌, map, IfOk, OnOk};
+ghost use Rattle.std.specs.Prelude.{OnErr, if◌then◌else◌};
 ghost use Rattle.std.specs.Option.{option_copied};
 ghost use Rattle.termwiz_text.specs.Plain.{is_plain};
 ghost use Rattle.termwiz_cell.specs.ChangeValue as change;
@@ -210,7 +210,8 @@ fn push_behind(
 #[inline(always)]
 fn join_text(text: &mut JoinedText, grows: bool, more: &str) -> Result<bool, AllocError>
     ensures joins { IfOk result (λ joined. joined ≡ (grows && joins text.old more.now)) }
-    ensures grown { IfOk result (λ joined. text.new ≡ cond joined (text.old ++ more.now) text.old) }
+    ensures grown { IfOk result (λ joined.
+        text.new ≡ (if joined then text.old ++ more.now else text.old)) }
 {
     if !grows {
         return Ok(false);

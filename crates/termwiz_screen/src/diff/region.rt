@@ -1,5 +1,5 @@
 //! Regions: a rectangle of own columns and rows, and as large a one of another's.
-ghost use Rattle.std.specs.Prelude.{◌≡◌, ◌||◌, eqb};
+ghost use Rattle.std.specs.Prelude.{◌≡◌, ◌||◌, ◌==◌};
 ghost use Rattle.termwiz_screen.specs.Diff as spec;
 ghost use Rattle.termwiz_screen.specs.RegionValue.{region_value};
 
@@ -45,7 +45,7 @@ impl Region {
 
     /// Whether it has no column or no row.
     pub fn is_empty(self) -> bool
-        ensures { result ≡ (eqb self.width 0 || eqb self.height 0) }
+        ensures { result ≡ (self.width == 0 || self.height == 0) }
     {
         self.width == 0 || self.height == 0
     }

@@ -1,6 +1,6 @@
 //! The cells that a diff prints, row by row.
-ghost use Rattle.std.specs.Prelude.{◌≡◌, ◌+◌, ◌-◌, ◌<◌, ◌≤◌, ◌^◌, ◌∷◌, [], ℕ, List, cond, fold};
-ghost use Rattle.std.specs.Prelude.{map, min, length, nat_lt, true, IfOk, OnOk};
+ghost use Rattle.std.specs.Prelude.{◌≡◌, ◌+◌, ◌-◌, ◌<◌, ◌≤◌, ◌^◌, ◌∷◌, [], ℕ, List, fold};
+ghost use Rattle.std.specs.Prelude.{map, min, length, nat_lt, true, if◌then◌else◌, IfOk, OnOk};
 ghost use Rattle.std.specs.VecDeque.{deque_len};
 ghost use Rattle.termwiz_cell.specs.CellValue.{CellValue, blank, cell_eq};
 ghost use Rattle.termwiz_storage.specs.CellRef.{ref_cell};
@@ -246,8 +246,8 @@ fn print_unless_shown<'a>(
     requires cell { IsOfCell cell }
     ensures { OnOk result (
         writer.new ≡ fold print_out writer.old (map (in_row row)
-        (cond (shows own.now column (ref_cell cell.entry)) []
-        (at_column column (ref_cell cell.entry) ∷ [])))) }
+        (if shows own.now column (ref_cell cell.entry) then []
+        else at_column column (ref_cell cell.entry) ∷ []))) }
 {
     if !is_shown(own, padding, column, &cell) {
         writer.print(row, column, cell)?;

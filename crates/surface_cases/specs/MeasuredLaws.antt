@@ -1,5 +1,5 @@
 -- The laws of width values, of each measure.
-use Rattle.std.specs.Prelude.{◌≡◌, ◌≤◌, ℕ, List, [], ◌∷◌, bytes_eq, refl}
+use Rattle.std.specs.Prelude.{◌≡◌, ◌≤◌, ℕ, List, [], ◌∷◌, refl}
 use Rattle.std.proofs.Common.{arith}
 use Rattle.termwiz_cell.specs.WidthLaws.{unicode_columns-le, unicode_columns-space}
 use Rattle.surface_cases.specs.Measured.{columns_by}

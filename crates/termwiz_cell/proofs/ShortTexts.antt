@@ -10,7 +10,7 @@ use Rattle.std.proofs.lemmas.Bool.Decides.{same_from_decides, Decides-like, nat_
 use Rattle.std.proofs.Math.Seq.{get_or-append_seam, set-append_seam}
 use Rattle.std.proofs.lemmas.List.{length-append, take_at, drop-replicate, get_or-append_right, length-replicate, replicate-append-replicate, set-append_right}
 use Rattle.termwiz_cell.specs.declared.cell.short_text.ShortText.TheInside.{Inside}
-use Rattle.termwiz_cell.specs.ShortTextLayout.{IsShort, short_bytes, stored_bytes, fields_of, fields_of-short_bytes}
+use Rattle.termwiz_cell.specs.ShortTextLayout.{IsShort, short_bytes, stored_bytes, fields_of}
 
 -- the last byte is the length
 stored_len : (text : List ℕ) → length text ≤ 7 → get_or (stored_bytes text) 7 0 ≡ length text

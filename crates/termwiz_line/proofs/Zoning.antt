@@ -1,5 +1,5 @@
 -- The state of a walk that finds zones.
-use Rattle.std.proofs.Common.{◌≡◌, ◌≢◌, ℕ, List, [], ◌∷◌, ◌++◌, map, refl, sym, ◌∙◌, ap}
+use Rattle.std.proofs.Common.{◌≡◌, ◌≢◌, List, [], ◌∷◌, ◌++◌, map, refl, sym, ◌∙◌, ap}
 use Rattle.std.proofs.lemmas.List.{map-append}
 use Rattle.termwiz_storage.specs.Wrapped.{last_index}
 use Rattle.termwiz_storage.specs.VisibleCell.{VisibleCell}

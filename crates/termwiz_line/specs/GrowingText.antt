@@ -3,7 +3,7 @@ use Rattle.std.specs.Prelude.{◌≡◌, ℕ, Bool, false, if◌then◌else◌, 
 use Rattle.termwiz_text.specs.Plain.{is_plain_last}
 use Rattle.termwiz_cell.specs.declared.change.Change.{Change}
 use Rattle.termwiz_cell.specs.ChangeValue as change
-use Rattle.termwiz_cell.specs.ChangeValue.{ChangeValue, change_value, is_text}
+use Rattle.termwiz_cell.specs.ChangeValue.{ChangeValue, change_value}
 use Rattle.termwiz_line.specs.LastChange.{last_is}
 
 -- the entries, and the text behind them while it grows

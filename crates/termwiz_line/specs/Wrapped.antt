@@ -1,5 +1,5 @@
 -- The mark of a last cell behind which the text goes on in the next line.
-use Rattle.std.specs.Prelude.{ℕ, Bool, false, List, [], ◌∷◌}
+use Rattle.std.specs.Prelude.{Bool, false, List, [], ◌∷◌}
 use Rattle.termwiz_storage.specs.VisibleCell.{VisibleCell}
 
 -- whether the last of visible cells has it

@@ -6,12 +6,10 @@ use Rattle.termwiz_text.specs.Letter.{is_letter}
 use Rattle.termwiz_text.proofs.LetterRuns.{letter_bytes, alone_letter}
 use Rattle.termwiz_cell.specs.Attributes.{Attributes}
 use Rattle.termwiz_cell.specs.CellValue.{clean, measured}
-use Rattle.termwiz_cell.specs.Graphemes.{single}
 use Rattle.termwiz_cell.proofs.Graphemes.{single_same}
 use Rattle.termwiz_storage.specs.Letters.{letter_cell}
 use Rattle.termwiz_screen.specs.declared.print.Piece.TheVariants.{Cell}
 use Rattle.termwiz_screen.specs.Print.{piece_of, printed_cell}
-use Rattle.termwiz_screen.specs.Measured.{IsMeasured}
 use Rattle.termwiz_screen.proofs.Runs.{PrintsCell}
 
 -- a text of three bytes is no line break

@@ -1,5 +1,5 @@
 -- Runs of ASCII: what their characters print, and a wrap before them.
-use Rattle.std.proofs.Common.{◌≡◌, ℕ, ◌+◌, ◌-◌, ◌<◌, ◌≤◌, inl, inr, true, false, List, [], ◌∷◌, ◌++◌, length, get_or, take, fold, map, refl, sym, ◌∙◌, ap, ap₂, subst, arith}
+use Rattle.std.proofs.Common.{◌≡◌, ℕ, ◌+◌, ◌-◌, ◌<◌, ◌≤◌, inl, inr, true, false, List, [], ◌∷◌, ◌++◌, length, get_or, take, fold, refl, sym, ◌∙◌, ap, ap₂, subst, arith}
 use Rattle.std.specs.Prelude.{nat_le}
 use Rattle.std.specs.List.{All, list_all, slice_range}
 use Rattle.std.specs.Str.{IsCharBoundary}
@@ -16,7 +16,6 @@ use Rattle.termwiz_cell.specs.Graphemes.{single}
 use Rattle.termwiz_screen.specs.Kept.{Kept}
 use Rattle.termwiz_screen.specs.Screen.{Screen}
 use Rattle.termwiz_screen.specs.Print.{piece_of, print_piece, print_one, put_at_cursor, put_kept, printed_cell, piece_kept, one_kept, kept_after, wraps, wrapped, wrapped_kept, columns_left}
-use Rattle.termwiz_screen.specs.Runs.{AreNarrow}
 use Rattle.termwiz_screen.specs.Measured.{IsMeasured}
 use Rattle.termwiz_cell.proofs.Graphemes.{graphemes-nothing, single_same}
 
@@ -55,10 +54,6 @@ pub record PrintsCell (f : List ℕ → ℕ) (pen : Attributes) (g : List ℕ) (
 
 pub PrintsCell-plain : (f : List ℕ → ℕ) (pen : Attributes) (b : ℕ) → is_plain b ≡ true → f (b ∷ []) ≤ 1 → PrintsCell f pen (b ∷ []) (plain_cell b pen)
 PrintsCell-plain f pen b h n = record { is_text = piece-plain f pen b h; cell_is = measured-plain f b pen h n; measured = IsMeasured-plain f b pen h n }
-
--- the graphemes of a run
-abbrev pub pieces : List ℕ → List (List ℕ)
-pieces bs = map (λ c. c ∷ []) bs
 
 -- what a wrap keeps, and the room that it leaves
 pub pen-wrapped : (s : Screen) → (wrapped s).pen ≡ s.pen

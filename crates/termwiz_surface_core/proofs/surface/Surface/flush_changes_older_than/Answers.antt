@@ -1,4 +1,4 @@
-use Rattle.std.proofs.Common.{◌≡◌, ap, ◌∙◌, arith}
+use Rattle.std.proofs.Common.{ap, ◌∙◌, arith}
 use Rattle.termwiz_surface_core.proofs.Drawn.{any_log}
 use Rattle.termwiz_screen.proofs.Logs.{flushed_number, flushed_alike, flushed_whole}
 use Rattle.termwiz_screen.specs.Log.{flushed}

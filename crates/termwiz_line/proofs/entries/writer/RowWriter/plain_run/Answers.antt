@@ -1,4 +1,4 @@
-use Rattle.std.proofs.Common.{◌++◌, ◌∷◌, [], ℕ, List, length, refl, ap, sym, ◌∙◌, append_assoc, arith}
+use Rattle.std.proofs.Common.{◌++◌, ◌∷◌, [], List, length, refl, ap, sym, ◌∙◌, append_assoc, arith}
 use Rattle.termwiz_storage.specs.VisibleCell.{VisibleCell, at_column}
 use Rattle.termwiz_cell.specs.CellValue.{plain_cell}
 use Rattle.termwiz_line.specs.GrowingText.{ends_printable}

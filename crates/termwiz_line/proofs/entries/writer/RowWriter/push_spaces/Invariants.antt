@@ -1,5 +1,4 @@
 use Rattle.std.proofs.Common.{◌≡◌, true}
-use Rattle.termwiz_line.specs.Entries.{Penned}
 use Rattle.termwiz_line.specs.GrowingText.{ends_printable}
 use Rattle.termwiz_line.specs.LastChange.{last_is}
 use Rattle.termwiz_line.specs.Writing.{and_cells, spaces_of}

@@ -1,4 +1,4 @@
-use Rattle.std.proofs.Common.{◌++◌, ◌∷◌, [], ℕ, List, ap, sym, ◌∙◌, append_assoc}
+use Rattle.std.proofs.Common.{◌++◌, ◌∷◌, [], List, ap, sym, ◌∙◌, append_assoc}
 use Rattle.termwiz_storage.specs.CellRef.{indexed_cell}
 use Rattle.termwiz_storage.specs.VisibleCell.{VisibleCell}
 use Rattle.termwiz_line.proofs.entries.writer.RowWriter.stored_cells.Goals as goal

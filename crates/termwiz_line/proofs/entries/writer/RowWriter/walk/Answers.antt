@@ -1,4 +1,4 @@
-use Rattle.std.proofs.Common.{◌++◌, ◌∷◌, [], List, ℕ, map, refl, ap, sym, ◌∙◌, append_assoc, append-nil, subst}
+use Rattle.std.proofs.Common.{◌++◌, ◌∷◌, [], List, map, refl, ap, sym, ◌∙◌, append_assoc, append-nil, subst}
 use Rattle.std.proofs.lemmas.List.{map-append}
 use Rattle.termwiz_storage.specs.CellRef.{indexed_cell}
 use Rattle.termwiz_storage.specs.CellsLeft.{cells_left}

@@ -1,4 +1,4 @@
-use Rattle.std.proofs.Common.{◌<◌, ℕ, List, sym, subst, arith}
+use Rattle.std.proofs.Common.{◌<◌, List, sym, subst, arith}
 use Rattle.termwiz_storage.specs.VisibleCell.{VisibleCell}
 use Rattle.std.specs.List.{All}
 use Rattle.termwiz_line.proofs.Walk.{walk_within}

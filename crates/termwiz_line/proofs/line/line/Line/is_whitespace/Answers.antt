@@ -1,4 +1,4 @@
-use Rattle.std.proofs.Common.{◌≡◌, ◌∷◌, ℕ, suc, rules, arith}
+use Rattle.std.proofs.Common.{◌≡◌, ◌∷◌, suc, rules, arith}
 use Rattle.std.proofs.lemmas.List.Elements.{All-cons}
 use Rattle.termwiz_cell.specs.CellValue.{space}
 use Rattle.termwiz_storage.specs.CellRef.{indexed_cell}

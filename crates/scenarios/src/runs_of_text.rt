@@ -107,7 +107,7 @@ impl Sheet {
 // What stands there before: narrow and wide cells, of which a text may break some.
 const BEFORE: &str = "aか#きb\r\nかくc";
 
-static TEXTS: [&str; 16] = [
+static TEXTS: [&str; 19] = [
     "a",
     "abcde",
     "abcdefghijklm",
@@ -120,6 +120,9 @@ static TEXTS: [&str; 16] = [
     "👨‍👩‍👧x👩🏽‍🚒",
     "かきくけこさ",
     "aかbきcく",
+    "かき\u{3099}くけ",
+    "かき\u{200d}くけ",
+    "漢字\u{fe00}かな👍🏽カ",
     "漢字 and ASCII",
     "🇩🇪🇫🇷🇮x",
     "~\u{7f} \t\u{0}!",

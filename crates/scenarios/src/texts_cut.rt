@@ -1,7 +1,7 @@
 //! The quick ways beside the clear one, by which the whole text is cut by the rules.
 use std::alloc::Global;
 use std::process::Abort;
-use termwiz_text::{Graphemes, JoinedText, split_plain_run};
+use termwiz_text::{Graphemes, JoinedText, is_letter, split_letter_run, split_plain_run};
 use unicode_segmentation::UnicodeSegmentation;
 
 const TEXTS: [&str; 12] = [
@@ -61,19 +61,32 @@ fn the_first_graphemes_are_those_of_the_whole(rt: HostRuntime) {
     assert_firsts(&rt, alloc, indicators(&rt, alloc, 200).as_str());
 }
 
-// The run's graphemes are of one byte each, and stand before those of the rest.
-fn assert_run(rt: &impl Abort, alloc: Global, text: &str, limit: usize) {
-    let (run, rest) = split_plain_run(text, limit);
-    assert!(rt; run.len() <= limit);
+// Each character of the run is a grapheme by itself, before those of the rest.
+fn assert_apart(rt: &impl Abort, alloc: Global, text: &str, run: &str, rest: &str) {
     let mut cut = String::new(alloc);
     for c in run.chars() {
-        assert!(rt; c.is_ascii());
         cut.push(c).expect(rt, "memory");
         cut.push('|').expect(rt, "memory");
     }
     cut.push_str(marked(rt, alloc, rest).as_str())
         .expect(rt, "memory");
     assert!(rt; cut == marked(rt, alloc, text));
+}
+
+fn assert_run(rt: &impl Abort, alloc: Global, text: &str, limit: usize) {
+    let (run, rest) = split_plain_run(text, limit);
+    assert!(rt; run.len() <= limit);
+    assert!(rt; run.is_ascii());
+    assert_apart(rt, alloc, text, run, rest);
+}
+
+fn assert_letters(rt: &impl Abort, alloc: Global, text: &str, limit: usize) {
+    let (run, rest) = split_letter_run(text, limit);
+    assert!(rt; run.chars().count() <= limit);
+    for c in run.chars() {
+        assert!(rt; is_letter(c));
+    }
+    assert_apart(rt, alloc, text, run, rest);
 }
 
 fn assert_split(rt: &impl Abort, text: &str, limit: usize, run: &str, rest: &str) {
@@ -83,14 +96,25 @@ fn assert_split(rt: &impl Abort, text: &str, limit: usize, run: &str, rest: &str
 }
 
 #[test]
-fn a_run_is_cut_byte_by_byte(rt: HostRuntime) {
+fn a_run_is_cut_by_its_characters(rt: HostRuntime) {
     for text in TEXTS {
         for limit in 0..30 {
             assert_run(&rt, rt.alloc(), text, limit);
+            assert_letters(&rt, rt.alloc(), text, limit);
         }
     }
     assert_split(&rt, "abce\u{301}", 10, "abc", "e\u{301}");
     assert_split(&rt, "abc\r\n", 2, "ab", "c\r\n");
+    assert_letter_split(&rt, "かきく\u{3099}", 10, "かき", "く\u{3099}");
+    assert_letter_split(&rt, "かき\u{200d}く", 10, "か", "き\u{200d}く");
+    assert_letter_split(&rt, "漢字かなx", 3, "漢字か", "なx");
+    assert_letter_split(&rt, "カタx", 10, "カタ", "x");
+}
+
+fn assert_letter_split(rt: &impl Abort, text: &str, limit: usize, run: &str, rest: &str) {
+    let split = split_letter_run(text, limit);
+    assert_eq!(rt; split.0, run);
+    assert_eq!(rt; split.1, rest);
 }
 
 // Cut together, the two are cut as before, with the second as the last grapheme.

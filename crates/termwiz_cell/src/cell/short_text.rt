@@ -1,5 +1,6 @@
 //! Texts of at most seven bytes, which stand in the value itself.
-ghost use Rattle.std.specs.Prelude.{◌≡◌, ◌≢◌, ◌<◌, ◌≤◌, ◌∷◌, [], MatchOption, length, true, bytes_eq};
+ghost use Rattle.std.specs.Prelude.{◌≡◌, ◌≢◌, ◌<◌, ◌≤◌, ◌∷◌, [], length, bytes_eq, true};
+ghost use Rattle.std.specs.Prelude.{MatchOption};
 ghost use Rattle.termwiz_text.specs.Plain.{is_plain};
 
 use std::marker::Model;

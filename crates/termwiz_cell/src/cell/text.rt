@@ -1,6 +1,6 @@
 //! The text of a cell, and whether it takes two columns.
-ghost use Rattle.std.specs.Prelude.{◌≡◌, ◌↔◌, ◌≤◌, ◌&&◌, ◌∷◌, [], length, not, true, false};
-ghost use Rattle.std.specs.Prelude.{IfOk, IsOk, IfSome, IsTrue, MatchOption, bytes_eq, string_bytes};
+ghost use Rattle.std.specs.Prelude.{◌≡◌, ◌↔◌, ◌≤◌, ◌&&◌, ◌∷◌, [], bytes_eq, length, not, true};
+ghost use Rattle.std.specs.Prelude.{false, string_bytes, IfOk, IfSome, IsOk, IsTrue, MatchOption};
 ghost use Rattle.std.specs.Bool.{beq};
 ghost use Rattle.termwiz_cell.specs.CellLayout.{text_in, wide_in, HasTextForm};
 ghost use Rattle.termwiz_cell.specs.CellValue.{clean, space};

@@ -14,8 +14,8 @@ pub long_differs_from_short : (a b : List ℕ) → 8 ≤ length a → length b �
 long_differs_from_short a b ha hb = same_from_decides (bytes_eq a b) false (bytes_decides a b) (λ e. cc, λ e. absurd (let same = ap length e in omega arith))
 
 -- a clean text of one byte of ASCII is printable
-pub clean_byte : (byte : ℕ) → byte < 128 → clean (byte ∷ []) ≡ byte ∷ [] → is_plain byte ≡ true
-clean_byte byte ascii h = elim (cases_Bool (is_control byte)) [
+pub plain_one : (byte : ℕ) → byte < 128 → clean (byte ∷ []) ≡ byte ∷ [] → is_plain byte ≡ true
+plain_one byte ascii h = elim (cases_Bool (is_control byte)) [
   | inl t ↦
       let same : 32 ∷ [] ≡ byte ∷ [] = sym (ap (λ (b : Bool). if b then space else byte ∷ []) t) ∙ h in
       let is : 32 ≡ byte = cc in
@@ -24,7 +24,7 @@ clean_byte byte ascii h = elim (cases_Bool (is_control byte)) [
 ]
 
 -- a text of another length is not one such character
-pub not_one_plain : (text : List ℕ) → length text ≢ 1 → is_one_plain text ≡ false
-not_one_plain [] h = refl
-not_one_plain (b ∷ []) h = absurd (h refl)
-not_one_plain (b ∷ (c ∷ text)) h = refl
+pub not_plain : (text : List ℕ) → length text ≢ 1 → is_one_plain text ≡ false
+not_plain [] h = refl
+not_plain (b ∷ []) h = absurd (h refl)
+not_plain (b ∷ (c ∷ text)) h = refl

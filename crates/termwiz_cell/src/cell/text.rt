@@ -122,7 +122,7 @@ impl CellText {
 
     /// The text, where it is one printable character of ASCII, of one column.
     #[inline(always)]
-    #[tactic(auto, using(crate::proofs::TextForms::clean_byte, crate::proofs::TextForms::not_one_plain))]
+    #[tactic(auto, using(crate::proofs::TextForms::plain_one, crate::proofs::TextForms::not_plain))]
     pub(super) fn as_plain(&self) -> Option<u8>
         requires { HasTextForm self.now }
         ensures { MatchOption result

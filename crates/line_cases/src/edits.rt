@@ -11,6 +11,7 @@ use termwiz_cell::cell::{Cell, CellAttributes};
 use termwiz_cell::change::LineAttribute;
 use termwiz_cell::emoji::UnicodeWidths;
 use termwiz_line::line::line::Line;
+use termwiz_text::split_letter_run;
 
 pub fn edit(alloc: Global, line: &mut Line, words: &[&str]) -> Result<(), Fault> {
     match words {
@@ -82,12 +83,18 @@ fn size(line: &mut Line, size: LineAttribute, seqno: usize) {
 fn by_number(line: &mut Line, name: &str, number: usize, seqno: usize) -> Result<(), Fault> {
     match name {
         "run" => done(line.set_run(number, "xy", &CellAttributes::blank(), seqno)),
+        "letters" => done(set_letters(line, number, seqno)),
         "erase" => done(line.erase_cell(number, seqno)),
         "remove" => done(line.remove_cell(number, seqno)),
         "resize" => done(line.resize(number, seqno)),
         "blank-out" => done(line.blank_out(number, seqno)),
         _ => Err(Fault::Bad),
     }
+}
+
+fn set_letters(line: &mut Line, column: usize, seqno: usize) -> Result<(), AllocError> {
+    let (letters, _) = split_letter_run("かき", 2);
+    line.set_letters(column, letters, &CellAttributes::blank(), seqno)
 }
 
 fn by_two(

@@ -18,6 +18,7 @@
 //!   set COLUMN CELL SEQ · grapheme COLUMN TEXT WIDTH SEQ · within COLUMN CELL WIDTH SEQ
 //!   insert COLUMN CELL MARGIN SEQ · fill FROM TO CELL SEQ
 //!   run COLUMN SEQ                sets `xy`
+//!   letters COLUMN SEQ            sets `かき`
 //!   erase COLUMN SEQ · remove COLUMN SEQ · erase-within COLUMN MARGIN SEQ
 //!   prune SEQ · compress · resize WIDTH SEQ · clear WIDTH PEN SEQ · blank-out WIDTH SEQ
 //!   overlay COLUMN TEXT PEN SEQ

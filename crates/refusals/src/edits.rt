@@ -6,6 +6,7 @@ use std::alloc::{AllocError, Global};
 use termwiz_cell::cell::{Cell, CellAttributes};
 use termwiz_cell::emoji::UnicodeWidths;
 use termwiz_line::line::line::Line;
+use termwiz_text::split_letter_run;
 
 /// A call that changes a line.
 #[derive(Clone, Copy)]
@@ -14,6 +15,7 @@ pub enum Edit {
     SetCellGrapheme,
     SetCellWithin,
     SetRun,
+    SetLetters,
     InsertCell,
     FillRange,
     EraseCell,
@@ -34,11 +36,12 @@ pub enum Edit {
 }
 
 /// The calls that set cells.
-pub const CELL_EDITS: [Edit; 6] = [
+pub const CELL_EDITS: [Edit; 7] = [
     Edit::SetCell,
     Edit::SetCellGrapheme,
     Edit::SetCellWithin,
     Edit::SetRun,
+    Edit::SetLetters,
     Edit::InsertCell,
     Edit::FillRange,
 ];
@@ -68,6 +71,7 @@ fn name(edit: Edit) -> &'static str {
         Edit::SetCellGrapheme => "set_cell_grapheme",
         Edit::SetCellWithin => "set_cell_within",
         Edit::SetRun => "set_run",
+        Edit::SetLetters => "set_letters",
         Edit::InsertCell => "insert_cell",
         Edit::FillRange => "fill_range",
         Edit::EraseCell => "erase_cell",
@@ -135,10 +139,17 @@ fn is_edited(line: &mut Line, edit: Edit, gift: Gift) -> bool {
         Edit::SetCellGrapheme => line.set_cell_grapheme(40, LONG, 1, gift.pen, 2).is_ok(),
         Edit::SetCellWithin => line.set_cell_within(40, gift.cell, 80, 2).is_ok(),
         Edit::SetRun => line.set_run(40, "xy", &CellAttributes::blank(), 2).is_ok(),
+        Edit::SetLetters => has_letters(line),
         Edit::InsertCell => line.insert_cell(1, gift.cell, 40, 2).is_ok(),
         Edit::FillRange => line.fill_range(2..40, &gift.cell, 2).is_ok(),
         _ => is_cut(line, edit, gift),
     }
+}
+
+fn has_letters(line: &mut Line) -> bool {
+    let (letters, _) = split_letter_run("かき", 2);
+    line.set_letters(40, letters, &CellAttributes::blank(), 2)
+        .is_ok()
 }
 
 fn is_cut(line: &mut Line, edit: Edit, gift: Gift) -> bool {

@@ -30,6 +30,8 @@ pub enum Edit {
     Insert(Piece, usize),
     /// `set_run` of `xy`
     Run,
+    /// `set_letters` of `かき`
+    Letters,
     /// `overlay_text_with_attribute`, in italics
     Overlay(&'static str),
     /// `fill_range` of x and the column before it

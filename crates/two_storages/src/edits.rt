@@ -5,6 +5,7 @@ use std::alloc::{AllocError, Global};
 use termwiz_cell::cell::{Cell, CellAttributes};
 use termwiz_cell::emoji::UnicodeWidths;
 use termwiz_line::line::line::Line;
+use termwiz_text::split_letter_run;
 
 /// Makes an edit at a column or by a width, but for `Split`.
 pub fn edit_at(
@@ -33,6 +34,7 @@ fn write(
 ) -> Result<(), AllocError> {
     match edit {
         Edit::Run => line.set_run(x, "xy", &CellAttributes::blank(), seqno),
+        Edit::Letters => set_letters(line, x, seqno),
         Edit::Overlay(text) => overlay(alloc, line, x, text, seqno),
         Edit::Fill(piece) => fill(
             alloc,
@@ -46,6 +48,11 @@ fn write(
         Edit::Write(piece) => write_cell(alloc, line, x, piece),
         _ => take_away(alloc, line, x, edit, seqno),
     }
+}
+
+fn set_letters(line: &mut Line, x: usize, seqno: usize) -> Result<(), AllocError> {
+    let (letters, _) = split_letter_run("かき", 2);
+    line.set_letters(x, letters, &CellAttributes::blank(), seqno)
 }
 
 fn take_away(

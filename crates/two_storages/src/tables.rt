@@ -5,7 +5,7 @@ use std::alloc::{AllocError, Global};
 use termwiz_line::line::bidi::{Direction, ParagraphDirectionHint};
 
 /// Each edit at a column, with all cells.
-pub static EDITS: [Edit; 57] = [
+pub static EDITS: [Edit; 58] = [
     Edit::Set(Piece::Letter),
     Edit::Set(Piece::Space),
     Edit::Set(Piece::ItalicSpace),
@@ -39,6 +39,7 @@ pub static EDITS: [Edit; 57] = [
     Edit::Insert(Piece::Space, 1),
     Edit::Insert(Piece::Letter, usize::MAX),
     Edit::Run,
+    Edit::Letters,
     Edit::Overlay("xかy"),
     Edit::Overlay("\u{301}e"),
     Edit::Overlay(""),
@@ -66,7 +67,7 @@ pub static EDITS: [Edit; 57] = [
 ];
 
 /// Each edit at a column, with the cells that change most.
-pub static MAIN_EDITS: [Edit; 25] = [
+pub static MAIN_EDITS: [Edit; 26] = [
     Edit::Set(Piece::Letter),
     Edit::Set(Piece::Space),
     Edit::Set(Piece::Wide),
@@ -79,6 +80,7 @@ pub static MAIN_EDITS: [Edit; 25] = [
     Edit::Insert(Piece::Wide, 4),
     Edit::Insert(Piece::Letter, usize::MAX),
     Edit::Run,
+    Edit::Letters,
     Edit::Overlay("xか"),
     Edit::Fill(Piece::Space),
     Edit::FillFrom(Piece::PlainWide, 2),

@@ -1,11 +1,12 @@
 -- Stored cells that are removed, inserted, and copied.
-use Rattle.std.proofs.Common.{suc, zero, min, drop-cons, add-one, ◌≡◌, ℕ, ◌+◌, ◌-◌, ◌<◌, ◌≤◌, inl, inr, Bool, true, false, cond, not, ◌&&◌, List, [], ◌∷◌, ◌++◌, length, get_or, take, drop, replicate, refl, sym, ◌∙◌, ap, arith, append_assoc}
-use Rattle.std.specs.List.{AllClonesOf, AppendsClonesOf, filter, insert, insert_slice, remove}
+use Rattle.std.proofs.Common.{suc, zero, min, drop-cons, add-one, ◌≡◌, ℕ, ◌+◌, ◌-◌, ◌<◌, ◌≤◌, inl, inr, Bool, true, false, cond, not, ◌&&◌, List, [], ◌∷◌, ◌++◌, length, get_or, take, drop, replicate, refl, sym, ◌∙◌, ap, arith, append_assoc, length-drop}
+use Rattle.std.specs.List.{AllClonesOf, AppendsClonesOf, filter, insert, insert_slice, refill, remove}
+use borrow.Rule.Slice.PartMut.{put_mid}
 use Rattle.std.specs.Prelude.{nat_le}
 use Rattle.std.proofs.lemmas.Bool.{cases_Bool, cases_lt, le-leb, lt-leb, lt-ltb, le-ltb}
 use Rattle.std.proofs.Math.ListN.{drop_of_length-le}
-use Rattle.std.proofs.lemmas.List.{get_or_append_left, get_or-append_right}
-use Rattle.std.proofs.lemmas.List.Edits.{length-remove, get_or-remove_above, get_or-remove_below}
+use Rattle.std.proofs.lemmas.List.{get_or_append_left, get_or-append_right, length-take-le, take-take, take_at}
+use Rattle.std.proofs.lemmas.List.Edits.{length-insert, length-remove, get_or-remove_above, get_or-remove_below}
 use Rattle.termwiz_cell.specs.CellValue.{CellValue, blank, is_wide, columns}
 use Rattle.termwiz_storage.specs.Edits.{begins_within, columns_between, removed_at_margin, with_half, with_halves}
 use Rattle.termwiz_storage.specs.Stored.{visible, visible_from}
@@ -147,3 +148,21 @@ pub inserted_twice : {X : Type 0} (xs : List X) (i : ℕ) (x y : X) → i ≤ le
 inserted_twice xs zero x y h = refl
 inserted_twice [] (suc i) x y h = absurd (omega (arith, h))
 inserted_twice (z ∷ zs) (suc i) x y h = ap (λ l. z ∷ l) (inserted_twice zs i x y (omega (arith, h)))
+
+insert-in_front : {X : Type 0} (x n k : ℕ) (c : X) (xs : List X) → k ≡ x + n → k < length xs → take x xs ++ ((c ∷ take n (drop x xs)) ++ drop (suc n) (drop x xs)) ≡ insert (remove xs k) x c
+insert-in_front zero n k c xs e l = let same : k ≡ n = omega arith in rw same refl
+insert-in_front (suc x) n zero c xs e l = absurd (omega (arith, e))
+insert-in_front (suc x) n (suc k) c [] e l = absurd (omega (arith, l))
+insert-in_front (suc x) n (suc k) c (y ∷ ys) e l = ap (λ zs. y ∷ zs) (insert-in_front x n k c ys (omega (arith, e)) (omega (arith, l)))
+
+-- the cells from column x up to margin m make room for c, and the last of them goes
+pub insert-before_margin : {X : Type 0} (x m n : ℕ) (c : X) (xs ws : List X) → x < m → m ≤ length xs → n ≡ length xs → ws ≡ take (length (take (m - x) (drop x xs))) (c ∷ take (m - x) (drop x xs)) → refill n xs (put_mid x (m - x) xs ws) ≡ insert (remove xs (m - 1)) x c
+insert-before_margin x m n c xs ws p l e h =
+    let k : ℕ = m - 1 - x in
+    let some : m - x ≡ suc k = omega arith in
+    let part : length (take (m - x) (drop x xs)) ≡ suc k = length-take-le (m - x) (drop x xs) (omega (arith, length-drop x xs)) ∙ some in
+    let own : ws ≡ c ∷ take k (drop x xs) = h ∙ ap (λ j. take j (c ∷ take (m - x) (drop x xs))) part ∙ ap (λ ys. c ∷ ys) (take-take k (m - x) (drop x xs) (omega arith)) in
+    let all : put_mid x (m - x) xs ws ≡ insert (remove xs (m - 1)) x c = rw (some, own) (insert-in_front x k (m - 1) c xs (omega arith) (omega arith)) in
+    let fewer : length (remove xs (m - 1)) + 1 ≡ length xs = length-remove xs (m - 1) (omega arith) in
+    let len : length (insert (remove xs (m - 1)) x c) ≡ length (remove xs (m - 1)) + 1 = length-insert (remove xs (m - 1)) x c (omega arith) in
+    take_at (put_mid x (m - x) xs ws) _ n (ap length all ∙ len ∙ fewer ∙ sym e) ∙ all

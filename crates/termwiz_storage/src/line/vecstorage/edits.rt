@@ -11,6 +11,7 @@ ghost use Rattle.termwiz_storage.specs.Edits.{with_half, with_halves};
 
 use crate::line::vecstorage::{VecStorage, end_of, half_of, pad_cells};
 use std::alloc::{AllocError, Global};
+use std::mem;
 use termwiz_cell::cell::{Cell, CellAttributes};
 
 impl VecStorage {
@@ -242,9 +243,32 @@ fn insert_moving(
         insert_in_gap(cells, x, cell);
         return Ok(());
     }
+    if x < margin && margin <= cells.len() {
+        insert_before_margin(cells, x, cell, margin);
+        return Ok(());
+    }
     make_gap(cells, x, margin, 1)?;
     insert_in_gap(cells, x, cell);
     Ok(())
+}
+
+// Inserts a cell, and removes the one in the last column before a margin, in one pass.
+fn insert_before_margin(cells: &mut Vec<Cell>, x: usize, cell: Cell, margin: usize)
+    requires before { x < margin }
+    requires within { margin ≤ vec_len cells.old }
+    ensures { cells.new.items ≡ insert (remove cells.old.items (margin - 1)) x cell }
+{
+    push_along(&mut cells[x..margin], cell);
+}
+
+// Each cell makes room for the one before it, and the last one goes.
+fn push_along(cells: &mut [Cell], cell: Cell)
+    ensures { cells.new ≡ take (length cells.old) (cell ∷ cells.old) }
+{
+    let mut carried = cell;
+    for i in 0..cells.len() {
+        carried = mem::replace(&mut cells[i], carried);
+    }
 }
 
 /// Pushes a cell, and behind a wide one its half. On an error the wide cell may have been pushed

@@ -1,8 +1,12 @@
 -- A run of ASCII that is stored at once.
-use Rattle.std.proofs.Common.{◌≡◌, ℕ, suc, ◌+◌, ◌-◌, ◌<◌, ◌≤◌, false, ◌&&◌, max, List, [], ◌∷◌, length, set, refl, subst, sym, ◌∙◌, ap, arith}
+use Rattle.std.proofs.Common.{◌≡◌, ℕ, suc, ◌+◌, ◌-◌, ◌<◌, ◌≤◌, false, ◌&&◌, max, List, [], ◌∷◌, length, map, take, drop, set, refl, subst, sym, ◌∙◌, ap, arith, add-one, append_assoc, drop-drop, take_at}
 use Rattle.std.specs.Prelude.{nat_lt}
 use Rattle.std.proofs.lemmas.Bool.{and_right}
-use Rattle.std.proofs.lemmas.List.{append-nil, get_or-set_same, length-set}
+use Rattle.std.proofs.lemmas.List.{append-nil, get_or-set_same, length-map, length-set}
+use Rattle.std.proofs.lemmas.List.Edits.{sets-eq}
+use Rattle.std.proofs.Math.Seq.{length-sets, sets}
+use Rattle.std.specs.List.{refill}
+use borrow.Rule.Slice.PartMut.{put_mid}
 use Rattle.termwiz_cell.specs.Attributes.{Attributes}
 use Rattle.termwiz_cell.specs.CellValue.{CellValue, blank, is_wide, plain_cell}
 use Rattle.termwiz_storage.specs.Stored.{torn, stored, padded, set_cell, set_run, put_run}
@@ -67,3 +71,16 @@ used-put_run u i [] a cs h = used-more u (max u (i + 0)) cs (omega arith) h
 used-put_run u i (b ∷ bs) a cs h =
     let e : max (max u (i + 1)) (i + 1 + length bs) ≡ max u (i + suc (length bs)) = omega arith in
     subst (λ n. IsUsedTo n (put_run i (b ∷ bs) a cs)) e (used-put_run (max u (i + 1)) (i + 1) bs a (set cs i (plain_cell b a)) (used-set u i (plain_cell b a) cs h))
+
+put_run-sets : (i : ℕ) (bs : List ℕ) (a : Attributes) (cs : List CellValue) → sets cs i (map (λ b. plain_cell b a) bs) ≡ put_run i bs a cs
+put_run-sets i [] a cs = refl
+put_run-sets i (b ∷ bs) a cs = rw add-one (put_run-sets (suc i) bs a (set cs i (plain_cell b a)))
+
+-- a run that is written to a slice of the list, from column i on
+pub put_run-part : (i n : ℕ) (bs : List ℕ) (a : Attributes) (cs ws : List CellValue) → i + length bs ≤ length cs → n ≡ length cs → ws ≡ map (λ b. plain_cell b a) bs → refill n cs (put_mid i (i + length bs - i) cs ws) ≡ put_run i bs a cs
+put_run-part i n bs a cs ws l m w =
+    let len : length ws ≡ length bs = ap length w ∙ length-map bs (λ b. plain_cell b a) in
+    let k : i + length bs - i ≡ length ws = omega arith in
+    let all : put_mid i (i + length bs - i) cs ws ≡ sets cs i ws = rw (k, drop-drop) (sym (sets-eq ws cs i (omega arith) ∙ append_assoc (take i cs) ws (drop (i + length ws) cs))) in
+    let same : sets cs i ws ≡ put_run i bs a cs = ap (sets cs i) w ∙ put_run-sets i bs a cs in
+    take_at (put_mid i (i + length bs - i) cs ws) _ n (ap length all ∙ length-sets cs i ws ∙ sym m) ∙ all ∙ same

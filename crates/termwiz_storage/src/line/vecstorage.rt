@@ -1,6 +1,6 @@
 //! Cells stored one by one.
 ghost use Rattle.std.specs.Prelude.{◌≡◌, [], false, true, ◌+◌, ◌*◌, ◌-◌, ◌<◌, ◌≤◌, ◌↔◌, IsTrue};
-ghost use Rattle.std.specs.Prelude.{OnOk, OnErr, IsOk, IfOk, IfSome, length, option_map, take};
+ghost use Rattle.std.specs.Prelude.{OnOk, OnErr, IsOk, IfOk, IfSome, length, map, option_map, take};
 ghost use Rattle.std.specs.Prelude.{replicate, slice_set, vec_capacity, vec_len};
 ghost use Rattle.std.specs.Cmp.{decided, partial_equiv_from_equiv};
 ghost use Rattle.std.specs.List.{list_all, list_any};
@@ -8,7 +8,7 @@ ghost use Rattle.std.specs.Str.{chars};
 ghost use Rattle.termwiz_text.specs.Letter.{AreLetters};
 ghost use Rattle.termwiz_text.specs.Plain.{is_plain};
 ghost use Rattle.termwiz_cell.specs.Attributes.{needs_box};
-ghost use Rattle.termwiz_cell.specs.CellValue.{blank, half, is_wide};
+ghost use Rattle.termwiz_cell.specs.CellValue.{blank, half, is_wide, plain_cell};
 ghost use Rattle.termwiz_storage.specs.CellsLeft.{IsOfCell};
 ghost use Rattle.termwiz_storage.specs.CellRef.{ref_cell, ref_index};
 ghost use Rattle.termwiz_storage.specs.Letters.{put_letters, set_letters};
@@ -255,7 +255,7 @@ impl VecStorage {
         ensures { self.new ≡ put_run i run.now attrs.now self.old }
     {
         self.used = self.used.max(i + run.len());
-        put_cells(&mut self.cells, i, run, attrs);
+        put_cells(&mut self.cells[i..i + run.len()], run, attrs);
     }
 
     /// Sets the cell of each letter of a run, of two columns, in order from a column on, and behind
@@ -511,17 +511,17 @@ fn copied_cells(alloc: Global, cells: &[Cell], room: usize) -> Result<Vec<Cell>,
     Ok(copy)
 }
 
-// The cells of the run come to the columns from i on.
-fn put_cells(cells: &mut Vec<Cell>, i: usize, run: &[u8], attrs: &CellAttributes)
+// The cells of the run come in the place of as many others.
+fn put_cells(cells: &mut [Cell], run: &[u8], attrs: &CellAttributes)
     requires plain { list_all is_plain run.now ≡ true }
     requires unboxed { needs_box attrs.now ≡ false }
-    requires room { i + length run.now ≤ vec_len cells.old }
-    ensures { cells.new.items ≡ put_run i run.now attrs.now cells.old.items }
+    requires len { length cells.old ≡ length run.now }
+    ensures { cells.new ≡ map (λ b. plain_cell b attrs.now) run.now }
 {
     let own = attrs.unboxed_copy().unwrap();
     for k in 0..run.len() {
         let copy = own.unboxed_copy().unwrap();
-        cells[i + k] = Cell::plain(run[k], copy);
+        cells[k] = Cell::plain(run[k], copy);
     }
 }
 

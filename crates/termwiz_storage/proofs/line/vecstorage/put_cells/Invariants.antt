@@ -1,10 +1,7 @@
-use Rattle.std.proofs.Common.{◌≡◌, ◌+◌, drop, vec_len}
-use Rattle.termwiz_storage.specs.Stored.{put_run}
+use Rattle.std.proofs.Common.{◌≡◌, map, take}
+use Rattle.termwiz_cell.specs.CellValue.{plain_cell}
 use Rattle.termwiz_storage.proofs.line.vecstorage.put_cells.Given as goal
 
--- what is left to write leads to the whole run
+-- the cells so far are those of the run so far
 abbrev pub invariant-loop-k : goal.invariant-loop-k
-invariant-loop-k l = record {
-  items : put_run (l.i + l.k) (drop l.k l.run) l.attrs l.cells.items ≡ put_run l.i l.run l.attrs l.initial.cells.items;
-  len : vec_len l.cells ≡ vec_len l.initial.cells;
-}
+invariant-loop-k l = take l.k l.cells ≡ map (λ b. plain_cell b l.attrs) (take l.k l.run)

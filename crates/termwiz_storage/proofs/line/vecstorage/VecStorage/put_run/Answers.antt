@@ -1,6 +1,14 @@
-use Rattle.termwiz_storage.proofs.Runs.{used-put_run}
+use Rattle.std.proofs.Common.{◌∙◌, length, ap, arith}
+use Rattle.termwiz_storage.specs.Stored.{put_run}
+use Rattle.termwiz_storage.proofs.Runs.{put_run-part, used-put_run}
 use Rattle.termwiz_storage.proofs.line.vecstorage.VecStorage.put_run.Goals as goal
 
 pub invariant_of-self : goal.invariant_of-self
 invariant_of-self c =
-    rw (c.max-self-inside.ensures, c.put_cells.ensures) (used-put_run c.self.inside.used c.args.i c.args.run.now c.args.attrs.now c.self.inside.cells.items c.self.invariant)
+    let written = put_run-part c.args.i c.self.inside.cells.len c.args.run.now c.args.attrs.now c.self.inside.cells.items c.put_cells.new.cells (omega (arith, ap length c.self.view_is)) c.self.inside.cells.ok.0 c.put_cells.ensures in
+    rw (c.max-self-inside.ensures, c.deref_mut.ensures.value, written) (used-put_run c.self.inside.used c.args.i c.args.run.now c.args.attrs.now c.self.inside.cells.items c.self.invariant)
+
+pub returns : goal.returns
+returns c =
+    let written = put_run-part c.args.i c.self.inside.cells.len c.args.run.now c.args.attrs.now c.self.inside.cells.items c.put_cells.new.cells (omega (arith, ap length c.self.view_is)) c.self.inside.cells.ok.0 c.put_cells.ensures in
+    rw c.deref_mut.ensures.value written ∙ ap (put_run c.args.i c.args.run.now c.args.attrs.now) c.self.view_is

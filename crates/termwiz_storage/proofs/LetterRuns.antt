@@ -1,6 +1,8 @@
 -- A run of letters that is stored at once, each with its half.
-use Rattle.std.proofs.Common.{◌≡◌, ◌≢◌, ℕ, suc, ◌+◌, ◌*◌, ◌<◌, ◌≤◌, false, max, List, [], ◌∷◌, length, set, refl, subst, sym, ◌∙◌, ap, arith}
-use Rattle.std.proofs.lemmas.List.{get_or-set_same, get_or-set_other, length-set}
+use Rattle.std.proofs.Common.{◌≡◌, ◌≢◌, ℕ, suc, ◌+◌, ◌*◌, ◌-◌, ◌<◌, ◌≤◌, false, max, List, [], ◌∷◌, ◌++◌, length, take, drop, set, refl, subst, sym, ◌∙◌, ap, arith, length-drop, take-append-drop, take_at}
+use Rattle.std.proofs.lemmas.List.{get_or-set_same, get_or-set_other, length-set, length-take-le, set-append_left, set-append_right}
+use Rattle.std.specs.List.{refill}
+use borrow.Rule.Slice.PartMut.{put_mid}
 use Rattle.termwiz_cell.specs.Attributes.{Attributes}
 use Rattle.termwiz_cell.specs.CellValue.{CellValue, blank, half, is_wide}
 use Rattle.termwiz_storage.specs.Letters.{letter_cell, set_letters, put_letters}
@@ -80,3 +82,43 @@ used-put_letters u i (c ∷ ls) a cs h =
     let both : IsUsedTo (max (max u (i + 1 + 1)) (i + 1)) (put i d cs) = used-set (max u (i + 1 + 1)) i d (set cs (i + 1) (half d)) (used-set u (i + 1) (half d) cs h) in
     let e : max (max (max u (i + 1 + 1)) (i + 1)) (i + 2 + 2 * length ls) ≡ max u (i + 2 * suc (length ls)) = omega arith in
     subst (λ n. IsUsedTo n (put_letters i (c ∷ ls) a cs)) e (used-put_letters (max (max u (i + 1 + 1)) (i + 1)) (i + 2) ls a (put i d cs) both)
+
+-- the cells before and behind the letters stay
+put_letters-right : (ls : List ℕ) (i j k : ℕ) (a : Attributes) (xs ys : List CellValue) → length xs ≡ i → k ≡ i + j → put_letters k ls a (xs ++ ys) ≡ xs ++ put_letters j ls a ys
+put_letters-right [] i j k a xs ys l e = refl
+put_letters-right (c ∷ ls) i j k a xs ys l e =
+    let d : CellValue = letter_cell c a in
+    let next : k + 1 - i ≡ j + 1 = omega arith in
+    let at : k - i ≡ j = omega arith in
+    let here : put k d (xs ++ ys) ≡ xs ++ put j d ys =
+    ap (λ zs. set zs k d) (set-append_right xs ys i (k + 1) (half d) l (omega arith))
+    ∙ set-append_right xs (set ys (k + 1 - i) (half d)) i k d l (omega arith)
+    ∙ rw (next, at) refl in
+    ap (put_letters (k + 2) ls a) here ∙ put_letters-right ls i (j + 2) (k + 2) a xs (put j d ys) l (omega arith)
+
+put_letters-left : (ls : List ℕ) (j : ℕ) (a : Attributes) (xs ys : List CellValue) → j + 2 * length ls ≤ length xs → put_letters j ls a (xs ++ ys) ≡ put_letters j ls a xs ++ ys
+put_letters-left [] j a xs ys l = refl
+put_letters-left (c ∷ ls) j a xs ys l =
+    let d : CellValue = letter_cell c a in
+    let here : put j d (xs ++ ys) ≡ put j d xs ++ ys =
+    ap (λ zs. set zs j d) (set-append_left xs ys (j + 1) (half d) (omega arith))
+    ∙ set-append_left (set xs (j + 1) (half d)) ys j d (omega (arith, length-set xs (j + 1) (half d))) in
+    ap (put_letters (j + 2) ls a) here ∙ put_letters-left ls (j + 2) a (put j d xs) ys (omega (arith, length-with_letter j c a xs))
+
+length-put_letters : (i : ℕ) (ls : List ℕ) (a : Attributes) (cs : List CellValue) → length (put_letters i ls a cs) ≡ length cs
+length-put_letters i [] a cs = refl
+length-put_letters i (c ∷ ls) a cs = length-put_letters (i + 2) ls a (put i (letter_cell c a) cs) ∙ length-with_letter i c a cs
+
+-- letters that are written to a slice of the list, from column i on
+pub put_letters-part : (i k n : ℕ) (ls : List ℕ) (a : Attributes) (cs ws : List CellValue) → k ≡ 2 * length ls → i + k ≤ length cs → n ≡ length cs → ws ≡ put_letters 0 ls a (take (i + k - i) (drop i cs)) → refill n cs (put_mid i (i + k - i) cs ws) ≡ put_letters i ls a cs
+put_letters-part i k n ls a cs ws e l m w =
+    let same : i + k - i ≡ k = omega arith in
+    let part : List CellValue = take k (drop i cs) in
+    let rest : List CellValue = drop k (drop i cs) in
+    let before : length (take i cs) ≡ i = length-take-le i cs (omega arith) in
+    let long : length part ≡ k = length-take-le k (drop i cs) (omega (arith, length-drop i cs)) in
+    let own : ws ≡ put_letters 0 ls a part = rw same at w in
+    let whole : cs ≡ take i cs ++ (part ++ rest) = sym (ap (λ zs. take i cs ++ zs) (take-append-drop k (drop i cs)) ∙ take-append-drop i cs) in
+    let all : put_mid i (i + k - i) cs ws ≡ put_letters i ls a cs =
+    rw (same, own) (sym (ap (put_letters i ls a) whole ∙ put_letters-right ls i 0 i a (take i cs) (part ++ rest) before (omega arith) ∙ ap (λ zs. take i cs ++ zs) (put_letters-left ls 0 a part rest (omega arith)))) in
+    take_at (put_mid i (i + k - i) cs ws) _ n (ap length all ∙ length-put_letters i ls a cs ∙ sym m) ∙ all

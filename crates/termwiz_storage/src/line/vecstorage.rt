@@ -289,8 +289,10 @@ impl VecStorage {
         requires room { i + 2 * length (chars run.now) ≤ length self.old }
         ensures { self.new ≡ put_letters i (chars run.now) attrs.now self.old }
     {
-        self.used = self.used.max(i + 2 * letter_count(run));
-        put_letter_cells(&mut self.cells, i, run, attrs);
+        let alloc = *self.cells.allocator();
+        let columns = 2 * letter_count(run);
+        self.used = self.used.max(i + columns);
+        put_letter_cells(alloc, &mut self.cells[i..i + columns], run, attrs);
     }
 
     /// Sets a default blank in each of the columns from `from` up to `to`, which is not among them,
@@ -525,21 +527,20 @@ fn put_cells(cells: &mut [Cell], run: &[u8], attrs: &CellAttributes)
     }
 }
 
-// The cells of the letters and their halves come to the columns from i on.
-fn put_letter_cells(cells: &mut Vec<Cell>, i: usize, run: &str, attrs: &CellAttributes)
+// The cells of the letters and their halves come in the place of others, from the first one on.
+fn put_letter_cells(alloc: Global, cells: &mut [Cell], run: &str, attrs: &CellAttributes)
     requires letters { AreLetters run.now }
     requires unboxed { needs_box attrs.now ≡ false }
-    requires room { i + 2 * length (chars run.now) ≤ vec_len cells.old }
-    ensures { cells.new.items ≡ put_letters i (chars run.now) attrs.now cells.old.items }
+    requires room { 2 * length (chars run.now) ≤ length cells.old }
+    ensures { cells.new ≡ put_letters 0 (chars run.now) attrs.now cells.old }
 {
-    let alloc = *cells.allocator();
     let own = attrs.unboxed_copy().unwrap();
     for k in 0..letter_count(run) {
         let copy = own.unboxed_copy().unwrap();
         let cell = Cell::new_grapheme_with_width(alloc, letter_at(run, k), 2, copy).unwrap();
         let copy = own.unboxed_copy().unwrap();
-        cells[i + 2 * k + 1] = Cell::blank_with_attrs(copy);
-        cells[i + 2 * k] = cell;
+        cells[2 * k + 1] = Cell::blank_with_attrs(copy);
+        cells[2 * k] = cell;
     }
 }
 

@@ -20,15 +20,12 @@ unwrap-cell-requires c =
 
 pub loop-k-preserved : goal.loop-k-preserved
 loop-k-preserved c =
-    let at : ℕ = c.args.i + 2 * c.loop-k.k in
-    let next : c.args.i + 2 * (c.loop-k.k + 1) ≡ at + 2 = omega arith in
+    let at : ℕ = 2 * c.loop-k.k in
+    let next : 2 * (c.loop-k.k + 1) ≡ at + 2 = omega arith in
     let own : c.unwrap-own.result ≡ c.args.attrs.now = rw c.unwrap-own.ensures at c.unboxed_copy.ensures.same in
     let first : c.unwrap-copy.result ≡ c.unwrap-own.result = rw c.unwrap-copy.ensures at c.unboxed_copy-in-loop-k.ensures.same in
     let second : c.unwrap-copy-in-loop-k.result ≡ c.unwrap-own.result = rw c.unwrap-copy-in-loop-k.ensures at c.unboxed_copy-in-loop-k-2.ensures.same in
     let made : c.unwrap-cell.result ≡ cell_of c.letter_at.result.now 2 c.unwrap-copy.result = rw c.unwrap-cell.ensures at c.new_grapheme_with_width.ensures.ok in
     let cell : c.unwrap-cell.result ≡ letter_cell (get_or (chars c.args.run.now) c.loop-k.k 0) c.args.attrs.now = made ∙ ap₂ (λ (t : List ℕ) (a : Attributes). cell_of t 2 a) c.letter_at.ensures (first ∙ own) in
     let half : c.blank_with_attrs.result ≡ blank_of c.args.attrs.now = c.blank_with_attrs.ensures ∙ ap blank_of (second ∙ own) in
-    record {
-      items = rw (next, cell, half) (sym (at_drop_more (λ (ls : List ℕ). put_letters at ls c.args.attrs.now c.loop-k.cells.items) (chars c.args.run.now) c.loop-k.k 0 (omega arith)) ∙ c.loop-k.invariant.items);
-      len = c.loop-k.invariant.len;
-    }
+    rw (next, cell, half) (sym (at_drop_more (λ (ls : List ℕ). put_letters at ls c.args.attrs.now c.loop-k.cells) (chars c.args.run.now) c.loop-k.k 0 (omega arith)) ∙ c.loop-k.invariant)

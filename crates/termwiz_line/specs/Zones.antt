@@ -1,6 +1,5 @@
 -- Zones: the visible cells are cut where their semantic type changes.
-use Rattle.std.specs.declared.alloc.Global.{Global}
-use Rattle.std.specs.Prelude.{◌≡◌, ◌≢◌, ℕ, List, [], ◌∷◌, map, Option, Some, None, Vec}
+use Rattle.std.specs.Prelude.{◌≡◌, ◌≢◌, ℕ, List, [], ◌∷◌, map}
 use Rattle.termwiz_cell.specs.CellValue.{CellValue, blank}
 use Rattle.termwiz_cell.specs.declared.cell.style.SemanticType.{SemanticType}
 use Rattle.termwiz_cell.specs.declared.cell.style.SemanticType.TheVariants.{Output}
@@ -42,7 +41,7 @@ pub record AreZones (cells : List VisibleCell) (zones : List ZoneRange) : Type 0
   pub of_kept : kept ≢ [] → AreZonesOf kept zones
   pub of_all : kept ≡ [] → AreZonesOf cells zones
 
--- zones that are kept from before are those of the stored cells
-abbrev pub AreUpToDate : Option (Vec ZoneRange Global) → List CellValue → Type 0
-AreUpToDate None cells = Unit {0}
-AreUpToDate (Some zones) cells = AreZones (visible cells) zones.items
+-- zones that are kept are those of the stored cells, and no zones say nothing
+abbrev pub AreUpToDate : List ZoneRange → List CellValue → Type 0
+AreUpToDate [] cells = Unit {0}
+AreUpToDate (z ∷ zs) cells = AreZones (visible cells) (z ∷ zs)

@@ -75,8 +75,8 @@ pub struct Line {
     storage: CellStorage,
     seqno: SequenceNo,
     bits: LineBits,
-    // The zones, once they were asked for: each edit of cells drops them.
-    zones: Option<Vec<ZoneRange>>,
+    // The zones, once they were asked for, and none before: each edit of cells drops them.
+    zones: Vec<ZoneRange>,
 }
 
 impl Model for Line {
@@ -98,7 +98,7 @@ impl Model for Line {
 
     // There are no other bits, and zones that are kept are those of the cells.
     ghost invariant = { λ l. (flag_bits (flags_of l.bits.0) ≡ l.bits.0)
-        × AreUpToDate l.zones (cells_in l.storage) };
+        × AreUpToDate l.zones.items (cells_in l.storage) };
 }
 
 impl Line {
@@ -168,7 +168,7 @@ impl Line {
             storage,
             seqno,
             bits: LineBits::NONE,
-            zones: None,
+            zones: Vec::new(alloc),
         }
     }
 
@@ -332,7 +332,7 @@ impl Clone for Line {
             storage,
             seqno: self.seqno,
             bits: self.bits,
-            zones: None,
+            zones: Vec::new(self.alloc),
         })
     }
 }

@@ -1,5 +1,5 @@
 //! Zones: the runs of cells of one semantic type.
-ghost use Rattle.std.specs.Prelude.{◌≡◌, None, ◌<◌, ◌^◌, ◌↔◌, ◌∷◌, [], IsTrue, IfOk, length, take};
+ghost use Rattle.std.specs.Prelude.{◌≡◌, ◌<◌, ◌^◌, ◌↔◌, ◌∷◌, [], IsTrue, IfOk, length, take};
 ghost use Rattle.std.specs.Borrow.{sem};
 ghost use Rattle.termwiz_storage.specs.CellRef.{indexed_cell};
 ghost use Rattle.termwiz_storage.specs.CellsLeft.{cells_left};
@@ -34,24 +34,20 @@ impl Line {
         ensures* unchanged { sem 𝓛 (KeepsLine self.entry) }
         ensures value { IfOk result (λ zones. AreZones (visible self.old.cells) zones.now) }
     {
-        if self.zones.is_none() {
-            let zones = zones_of(self.alloc, &self.storage)?;
-            self.zones = Some(zones);
+        if self.zones.is_empty() {
+            self.zones = zones_of(self.alloc, &self.storage)?;
         }
-        match &self.zones {
-            Some(zones) => Ok(zones),
-            None => Ok(&[]),
-        }
+        Ok(&self.zones)
     }
 }
 
 /// Drops zones that are kept. Mostly there are none, which is seen at once.
 #[inline(always)]
-pub(super) fn drop_zones(zones: &mut Option<Vec<ZoneRange>>)
-    ensures { zones.new ≡ None }
+pub(super) fn drop_zones(zones: &mut Vec<ZoneRange>)
+    ensures { zones.new.items ≡ [] }
 {
-    if zones.is_some() {
-        *zones = None;
+    if !zones.is_empty() {
+        zones.clear();
     }
 }
 

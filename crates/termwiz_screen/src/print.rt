@@ -16,7 +16,10 @@ ghost use Rattle.termwiz_screen.specs.Runs.{IsWideRun};
 use std::alloc::{AllocError, Global};
 use termwiz_cell::cell::{Cell, CellAttributes};
 use termwiz_cell::emoji::Widths;
-use termwiz_text::{letter_at, letter_count, split_letter_run, split_plain_run};
+use termwiz_text::{begins_letter, letter_at, letter_count, split_letter_run, split_plain_run};
+
+/// How many bytes a letter has.
+const LETTER_BYTES: usize = 3;
 
 /// What a grapheme prints: a line break, or a cell.
 #[derive(Drop, Debug)]
@@ -70,6 +73,13 @@ fn printed_cell<W: Widths>(
 /// Whether a text begins with printable ASCII. Where it does not, there is no run to look for.
 pub fn begins_plain(text: &str) -> bool {
     matches!(text.as_bytes(), [b' '..=b'~', ..])
+}
+
+/// Whether a text begins with a letter, and goes on behind it. Where it does not, there is no run
+/// of letters to look for: a letter by itself is printed as any grapheme is.
+#[inline]
+pub fn begins_letters(text: &str) -> bool {
+    text.len() > LETTER_BYTES && begins_letter(text)
 }
 
 // How many characters of a run of ASCII, from its first one on, have at most one column each.

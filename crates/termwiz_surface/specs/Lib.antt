@@ -95,6 +95,9 @@ pub use Rattle.termwiz_line.specs.Clusters.{AreClusters, JoinTo}
 pub use Rattle.termwiz_line.specs.Row.{IsRow, row_of, clear}
 pub use Rattle.termwiz_line.specs.RowLaws.{CellsHaveRow, ClearClears}
 pub use Rattle.termwiz_storage.specs.Stored.{stored, visible, set_cell, set_run}
+pub use Rattle.termwiz_storage.specs.Letters.{set_letters}
+pub use Rattle.termwiz_text.specs.Plain.{is_plain, IsPlainRun}
+pub use Rattle.termwiz_text.specs.Letter.{AreLetters, IsLetterRun}
 pub use Rattle.termwiz_storage.specs.VisibleCell.{VisibleCell}
 pub use Rattle.termwiz_storage.specs.Halves.{resized}
 pub use Rattle.termwiz_storage.specs.CellTexts.{texts_of}

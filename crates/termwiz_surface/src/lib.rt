@@ -1,7 +1,8 @@
 //! Surfaces, the viewers that follow them or accept their answers, and runs of events.
 //!
 //! This is the crate that callers name: cells, colours, links, changes, width values, lines and
-//! shaper clusters of the crates below stand here too.
+//! shaper clusters of the crates below stand here too, and the splitters of the runs of characters
+//! that `Line::set_run` and `Line::set_letters` take.
 #![tactic(auto)]
 
 pub mod laws;
@@ -10,3 +11,4 @@ pub mod view;
 pub use termwiz_cell::{cell, change, color, emoji, hyperlink};
 pub use termwiz_line::{cellcluster, line};
 pub use termwiz_surface_core::surface;
+pub use termwiz_text::{split_letter_run, split_plain_run};

@@ -14,6 +14,7 @@ ghost use Rattle.termwiz_surface.specs.Schedule.{with_empty_log};
 
 mod many;
 mod viewer;
+mod waiting;
 
 use crate::surface::{FullScreen, Screen, Surface, SurfaceError};
 pub use many::{ManyEvent, ManyOutcome, run_many};
@@ -22,6 +23,7 @@ use std::borrow::CowSlice;
 use termwiz_cell::change::{Change, SequenceNo};
 use termwiz_cell::emoji::Widths;
 pub use viewer::{AcceptError, Viewer};
+use waiting::Waiting;
 
 /// What happens to a surface.
 #[derive(Drop)]
@@ -128,7 +130,8 @@ fn run_on<W: Widths>(
     let mut surface = Surface::blank(alloc, width, height, widths, full)?;
     let mut viewer = Viewer::new(alloc, &surface)?;
     let mut outcomes = Vec::new(alloc);
-    for event in events {
+    let mut waiting = Waiting::new(events);
+    while let Some(event) = waiting.next() {
         outcomes.push(serve(alloc, &mut surface, &mut viewer, event)?)?;
     }
     Ok(outcomes)

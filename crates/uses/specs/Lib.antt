@@ -3,3 +3,4 @@ pub mod LastRow
 pub mod Prompt
 pub mod Headings
 pub mod Words
+pub mod FirstLetters

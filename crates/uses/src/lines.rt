@@ -1,5 +1,5 @@
-//! Lines by themselves: a heading, and the word under a pointer.
-ghost use Rattle.std.specs.Prelude.{◌≡◌, ◌<◌, ◌≤◌, IfOk, false, length, true};
+//! Lines by themselves: a heading, letters that are set at once, and the word under a pointer.
+ghost use Rattle.std.specs.Prelude.{◌≡◌, ◌<◌, ◌≤◌, IfOk, OnErr, false, length, true};
 ghost use Rattle.termwiz_surface.specs.{
   IsLower,
   IsUpper,
@@ -10,13 +10,16 @@ ghost use Rattle.termwiz_surface.specs.{
   visible,
   with_sizes,
 };
+ghost use Rattle.uses.specs.FirstLetters.{SetsFirstLetters};
 ghost use Rattle.uses.specs.Words.{is_in_word};
 
 use std::alloc::{AllocError, Global};
 use std::ops::Range;
+use termwiz_surface::cell::CellAttributes;
 use termwiz_surface::change::SequenceNo;
 use termwiz_surface::emoji::Widths;
 use termwiz_surface::line::line::{DoubleClickRange, Line};
+use termwiz_surface::split_letter_run;
 
 /// A line of a text that is shown twice as wide, with a number.
 pub fn heading<W: Widths>(
@@ -33,6 +36,25 @@ pub fn heading<W: Widths>(
     let mut line = Line::from_plain(alloc, text, widths)?;
     line.set_double_width(seqno);
     Ok(line)
+}
+
+/// Sets the letters of kana and the common ideographs that a text begins with, in order from a
+/// column on, as many as fit in so many columns, and gives what follows them in the text.
+/// On an error the line's cells are as before.
+pub fn set_first_letters<'a>(
+    line: &mut Line,
+    column: usize,
+    columns: usize,
+    text: &'a str,
+    seqno: SequenceNo,
+) -> Result<&'a str, AllocError>
+    ensures ok { IfOk result (λ rest. SetsFirstLetters column columns text.now rest.now
+        line.old.cells line.new.cells) }
+    ensures err { OnErr result (line.new.cells ≡ line.old.cells) }
+{
+    let (letters, rest) = split_letter_run(text, columns / 2);
+    line.set_letters(column, letters, &CellAttributes::blank(), seqno)?;
+    Ok(rest)
 }
 
 /// The columns of the word at a column of a line: the longest run of cells there that are no

@@ -7,6 +7,7 @@ ghost use Rattle.termwiz_surface.specs.ManySchedule.{Held, IsManyInRange, IsMany
 ghost use Rattle.termwiz_surface.specs.ManySchedule.{ResizesAs};
 ghost use Rattle.termwiz_surface.specs.ManySteps.{AnswersTo, DeliversTo, Remembers, Serves};
 
+use super::waiting::Waiting;
 use super::{AcceptError, Event, Outcome, Viewer, act};
 use crate::surface::{Answer, Screen, Surface, SurfaceError};
 use std::alloc::{AllocError, Global};
@@ -71,7 +72,8 @@ pub fn run_many<W: Widths>(
     let mut seats = blank_viewers(alloc, &surface, viewers)?;
     let mut answers = Vec::new(alloc);
     let mut outcomes = Vec::new(alloc);
-    for event in events {
+    let mut waiting = Waiting::new(events);
+    while let Some(event) = waiting.next() {
         outcomes.push(serve(alloc, &mut surface, &mut seats, &mut answers, event)?)?;
     }
     Ok(outcomes)

@@ -21,9 +21,10 @@ use super::Surface;
 use std::alloc::AllocError;
 use termwiz_cell::cell::Cell;
 use termwiz_cell::emoji::Widths;
-use termwiz_screen::print::{Piece, begins_plain, printed_piece, split_narrow_run, split_wide_run};
+use termwiz_screen::print::{Piece, begins_letters, begins_plain, printed_piece};
+use termwiz_screen::print::{split_narrow_run, split_wide_run};
 use termwiz_screen::rows::{paint_letters, paint_row, paint_run, scroll_rows};
-use termwiz_text::{begins_letter, letter_count, split_first_grapheme};
+use termwiz_text::{letter_count, split_first_grapheme};
 
 impl<W: Widths> Surface<W> {
     fn line_feed(&mut self) -> Result<(), AllocError>
@@ -182,7 +183,7 @@ impl<W: Widths> Surface<W> {
                 return Ok(rest);
             }
         }
-        if begins_letter(text) {
+        if begins_letters(text) {
             let (run, rest) = split_wide_run(&self.widths, text, self.run_limit());
             if !run.is_empty() {
                 self.print_letters(run)?;

@@ -1,10 +1,10 @@
-use Rattle.std.proofs.Common.{refl, sym, ◌∙◌}
-use Rattle.std.proofs.lemmas.Iterator.Consumers.{YieldsList-end}
-use Rattle.std.proofs.lemmas.Iterator.Adapters.{YieldsList-from_vec}
-use Rattle.std.proofs.lemmas.List.{map-id}
+use Rattle.std.proofs.Common.{[], ◌∷◌, ◌++◌, refl, sym, ◌∙◌, ap, subst}
+use Rattle.std.proofs.lemmas.List.{append_assoc, append-nil}
+use Rattle.std.proofs.lemmas.List.Elements.{All-head, All-tail}
+use Rattle.std.specs.List.{All}
 use Rattle.termwiz_surface_core.specs.Following.{blank_viewer}
 use Rattle.termwiz_surface_core.specs.SurfaceValue.{blank_surface}
-use Rattle.termwiz_surface.specs.Schedule.{Ended}
+use Rattle.termwiz_surface.specs.Schedule.{Ended, IsInRange}
 use Rattle.termwiz_surface_core.proofs.Following.{Follows-same}
 use Rattle.termwiz_surface.proofs.Running.{Runs-push}
 use Rattle.termwiz_surface.proofs.view.run_on.Goals as goal
@@ -12,19 +12,27 @@ use Rattle.termwiz_surface.proofs.view.run_on.Goals as goal
 pub loop-event-init : goal.loop-event-init
 loop-event-init g c =
     let first = blank_surface c.args.widths c.args.width c.args.height c.args.full in
-    rw (c.in_ok-viewer.ensures.blank, c.in_ok-surface.ensures, c.new-outcomes.ensures.items)
-    (record { follows = Follows-same _ _ _ refl refl (λ full. refl) refl; run = Ended first (blank_viewer first) })
+    rw (c.in_ok-viewer.ensures.blank, c.in_ok-surface.ensures, c.new-outcomes.ensures.items, c.new-waiting.ensures)
+    ([], refl, c.requires.sizes, Follows-same _ _ _ refl refl (λ full. refl) refl, Ended first (blank_viewer first))
+
+pub serve-requires-clause-range : goal.serve-requires-clause-range
+serve-requires-clause-range g c =
+    let (done, all, in_range, follows, run) = c.loop-event.invariant in
+    All-head IsInRange c.in-Some.event _ (subst (All IsInRange) c.in-Some.ensures in_range)
 
 pub loop-event-preserved : goal.loop-event-preserved
 loop-event-preserved g c =
-    record {
-      follows = c.in_ok-serve.ensures.follows;
-      run = rw c.in_ok-push.ensures.items (Runs-push c.in-Some.event c.in_ok-serve.field-0 c.serve.new.surface c.serve.new.viewer c.loop-event.invariant.run c.in_ok-serve.ensures.step);
-    }
+    let (done, all, in_range, follows, run) = c.loop-event.invariant in
+    let event = c.in-Some.event in (
+      done ++ event ∷ [],
+      append_assoc done (event ∷ []) _ ∙ ap (λ waiting. done ++ waiting) (sym c.in-Some.ensures) ∙ all,
+      All-tail IsInRange event _ (subst (All IsInRange) c.in-Some.ensures in_range),
+      c.in_ok-serve.ensures.follows,
+      rw c.in_ok-push.ensures.items (Runs-push event c.in_ok-serve.field-0 c.serve.new.surface c.serve.new.viewer run c.in_ok-serve.ensures.step),
+    )
 
 pub returns : goal.returns
 returns g c =
-    let gives = c.into_iter-event-iterator.ensures.into_iter_gives in
-    let whole = YieldsList-from_vec c.args.events.items gives.0 (gives.1 ∙ c.args.events.ok.0) in
-    let all = sym (map-id c.loop-event.yielded) ∙ (YieldsList-end whole c.loop-event.yielded _ c.loop-event.yielded_by _ c.next.new.self c.in-None.is c.next.ensures.steps).0 in
-    (c.loop-event.surface, c.loop-event.viewer, rw (← all) c.loop-event.invariant.run)
+    let (done, all, in_range, follows, run) = c.loop-event.invariant in
+    let whole = sym (append-nil done) ∙ ap (λ waiting. done ++ waiting) (sym c.in_default.ensures) ∙ all in
+    (c.loop-event.surface, c.loop-event.viewer, rw (← whole) run)

@@ -12,14 +12,14 @@ pub print_letters-requires-clause-some : goal.print_letters-requires-clause-some
 print_letters-requires-clause-some g c =
     let run : List ℕ = c.split_wide_run.result.0.now in
     let is_text : IsUtf8 run = search rules in
-    some_letters run (eqb-false (length run) 0 (sym c.is_empty-then-begins_letter.ensures ∙ c.if-not-is_empty-2.true)) (length-letters run is_text c.split_wide_run.ensures.letters)
+    some_letters run (eqb-false (length run) 0 (sym c.is_empty-then-begins_letters.ensures ∙ c.if-not-is_empty-2.true)) (length-letters run is_text c.split_wide_run.ensures.letters)
 
 pub print_letters-requires-clause-unboxed : goal.print_letters-requires-clause-unboxed
 print_letters-requires-clause-unboxed g c =
     let run : List ℕ = c.split_wide_run.result.0.now in
     let is_text : IsUtf8 run = search rules in
-    let some : 0 < length (chars run) = some_letters run (eqb-false (length run) 0 (sym c.is_empty-then-begins_letter.ensures ∙ c.if-not-is_empty-2.true)) (length-letters run is_text c.split_wide_run.ensures.letters) in
-    c.run_limit-then-begins_letter.ensures.unboxed (omega (arith, c.split_wide_run.ensures.within))
+    let some : 0 < length (chars run) = some_letters run (eqb-false (length run) 0 (sym c.is_empty-then-begins_letters.ensures ∙ c.if-not-is_empty-2.true)) (length-letters run is_text c.split_wide_run.ensures.letters) in
+    c.run_limit-then-begins_letters.ensures.unboxed (omega (arith, c.split_wide_run.ensures.within))
 
 pub returns-clause-ok : goal.returns-clause-ok
 returns-clause-ok g c =

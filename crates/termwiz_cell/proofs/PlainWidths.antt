@@ -1,9 +1,12 @@
 -- The widths of the most common texts: one printable character of ASCII, or one letter of kana or common ideograph.
-use Rattle.std.proofs.Common.{◌≡◌, ℕ, Bool, true, false, cond, ◌==◌, ◌||◌, List, [], ◌∷◌, Some, None, unwrap_or, nat_lt, nat_le, refl, sym, ap, ap₂, ◌∙◌, min, ◌&&◌, arith, eqb-true, lt-ltb, le-ltb, le-leb, add-zero}
+use Rattle.std.proofs.Common.{◌≡◌, ℕ, Bool, true, false, cond, ◌==◌, ◌||◌, List, [], ◌∷◌, Some, None, unwrap_or, nat_lt, nat_le, refl, sym, ap, ap₂, ◌∙◌, min, ◌&&◌, arith, eqb-true, lt-ltb, le-ltb, le-leb, add-zero, rules, tests}
 use Rattle.std.proofs.lemmas.List.Sums.{sum_by-cons}
-use Rattle.std.proofs.lemmas.Str.{chars-nil}
+use Rattle.std.proofs.lemmas.Str.{chars-nil, IsUtf8-encode}
+use Rattle.std.specs.Char.{IsScalar}
 use Rattle.std.specs.Int.{is_in_range}
+use Rattle.std.specs.Prelude.{encode_utf8}
 use Rattle.std.specs.Str.{chars}
+use Rattle.unicode_segmentation.proofs.TextLemmas.{chars-encode_utf8}
 use Rattle.unicode_width.specs.Kind.{kind, kind_number}
 use Rattle.unicode_width.specs.Width.{str_width, char_width, alone, of_kind}
 use Rattle.unicode_width.specs.declared.kind.Kind.TheVariants.{Wide}
@@ -14,6 +17,7 @@ use Rattle.termwiz_text.specs.Plain.{is_one_plain}
 use Rattle.termwiz_text.specs.Letter.{is_letter, is_one_letter}
 use Rattle.termwiz_text.proofs.Letters.{letters_stepped, Stepped-letters, letter_from}
 use Rattle.termwiz_text.proofs.Plain.{chars_plain, utf8_one}
+use Rattle.termwiz_cell.specs.UsualWidths.{IsUsual}
 use Rattle.termwiz_cell.specs.Width.{unicode_columns}
 
 pub one_plain_width : (text : List ℕ) → is_one_plain text ≡ true → unicode_columns text ≡ 1
@@ -55,3 +59,14 @@ one_letter_width text h = ap (λ n. min n 2) (one (chars text) h)
     one [] k = absurd cc
     one (c ∷ []) k = str_width-simple false (c ∷ []) (ap (λ b. b && true) (letter_simple c k)) ∙ sum_by-cons (width_or_zero false) c [] ∙ add-zero (width_or_zero false c) ∙ letter_width c k
     one (c ∷ (d ∷ cs)) k = absurd cc
+
+-- no letter is a surrogate
+letter_scalar : (c : ℕ) → is_letter c ≡ true → IsScalar c
+letter_scalar c h = search (rules, tests)
+
+-- the widths of the Unicode tables are the usual ones
+pub unicode_usual : IsUsual (λ text _. unicode_columns text)
+unicode_usual = record {
+  plain = λ c version h. one_plain_width (c ∷ []) h;
+  letter = λ c version h. one_letter_width (encode_utf8 c) (ap is_one_letter (chars-encode_utf8 c (IsUtf8-encode c (letter_scalar c h))) ∙ h);
+}

@@ -9,6 +9,7 @@ pub mod Attributes
 pub mod AttributesLayout
 pub mod Width
 pub mod Measure
+pub mod UsualWidths
 pub mod WidthLaws
 pub mod CellValue
 pub mod ShortTextLayout

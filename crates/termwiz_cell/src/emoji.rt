@@ -83,9 +83,10 @@ impl UnicodeVersion {
 /// A width is 0 to 2 columns, a single space has 1, and the same arguments have always the same
 /// answer.
 pub trait Widths: Copy {
-    ghost use Rattle.std.specs.Prelude.{◌≡◌, ℕ, ◌≤◌, List, [], ◌∷◌, Option};
+    ghost use Rattle.std.specs.Prelude.{◌≡◌, ℕ, ◌≤◌, List, [], ◌∷◌, Option, IsTrue};
     ghost use Rattle.termwiz_cell.specs.declared.emoji.Presentation.{Presentation};
     ghost use Rattle.termwiz_cell.specs.declared.emoji.UnicodeVersion.{UnicodeVersion};
+    ghost use Rattle.termwiz_cell.specs.UsualWidths.{IsUsual};
 
     ghost width_of: { Self → List ℕ → Option UnicodeVersion → ℕ };
 
@@ -106,6 +107,15 @@ pub trait Widths: Copy {
     /// How the character is shown by default.
     fn char_presentation(&self, c: char) -> Presentation
         ensures { result ≡ char_presentation_of self.now c };
+
+    /// Whether each character of printable ASCII has one column, and each letter of hiragana or
+    /// katakana and each common ideograph two, by every version: whoever prints a run of these then
+    /// measures none of them. The default answer, `false`, promises nothing, and is always right.
+    fn has_usual_widths(&self) -> bool
+        ensures { IsTrue result → IsUsual (width_of self.now) }
+    {
+        false
+    }
 
     ghost at_most_two: { (w : Self) (text : List ℕ) (version : Option UnicodeVersion) →
         width_of w text version ≤ 2 };
@@ -184,6 +194,11 @@ impl Widths for UnicodeWidths {
 
     fn char_presentation(&self, _c: char) -> Presentation {
         Presentation::Text
+    }
+
+    #[tactic(auto, using(crate::proofs::PlainWidths::unicode_usual))]
+    fn has_usual_widths(&self) -> bool {
+        true
     }
 }
 

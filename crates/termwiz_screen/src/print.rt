@@ -88,6 +88,9 @@ fn narrow_len<W: Widths>(widths: &W, run: &str) -> usize
     ensures within { result ≤ length run.now }
     ensures narrow { AreNarrow (measure W.width_of widths.now) (take result run.now) }
 {
+    if widths.has_usual_widths() {
+        return run.len();
+    }
     for k in 0..run.len() {
         if widths.width(&run[k..k + 1], None) > 1 {
             return k;
@@ -121,6 +124,9 @@ fn wide_len<W: Widths>(widths: &W, run: &str) -> usize
     ensures wide { AreWide (measure W.width_of widths.now) (take result (chars run.now)) }
 {
     let count = letter_count(run);
+    if widths.has_usual_widths() {
+        return count;
+    }
     for k in 0..count {
         if widths.width(letter_at(run, k), None) < 2 {
             return k;

@@ -233,7 +233,10 @@ impl CellStorage {
         ensures vector { is_vector self.old ≡ true → is_vector self.new ≡ true }
         ensures made { OnOk result (is_vector self.new ≡ true) }
     {
-        self.coerce_vec()?.set_blanks(from, to)?;
+        match self {
+            CellStorage::V(storage) => storage.set_blanks(from, to)?,
+            CellStorage::Cluster(_) => self.coerce_vec()?.set_blanks(from, to)?,
+        }
         Ok(())
     }
 
@@ -268,7 +271,10 @@ impl CellStorage {
         ensures vector { is_vector self.old ≡ true → is_vector self.new ≡ true }
         ensures made { OnOk result (is_vector self.new ≡ true) }
     {
-        self.coerce_vec()?.resize(len)?;
+        match self {
+            CellStorage::V(storage) => storage.resize(len)?,
+            CellStorage::Cluster(_) => self.coerce_vec()?.resize(len)?,
+        }
         Ok(())
     }
 
@@ -281,7 +287,10 @@ impl CellStorage {
         ensures vector { is_vector self.old ≡ true → is_vector self.new ≡ true }
         ensures made { OnOk result (is_vector self.new ≡ true) }
     {
-        self.coerce_vec()?.truncate(len);
+        match self {
+            CellStorage::V(storage) => storage.truncate(len),
+            CellStorage::Cluster(_) => self.coerce_vec()?.truncate(len),
+        }
         Ok(())
     }
 

@@ -21,8 +21,9 @@ use super::Surface;
 use std::alloc::AllocError;
 use termwiz_cell::cell::Cell;
 use termwiz_cell::emoji::Widths;
-use termwiz_screen::print::{Piece, begins_letters, begins_plain, printed_piece};
-use termwiz_screen::print::{split_narrow_run, split_wide_run};
+use termwiz_screen::print::{
+    Piece, begins_letters, begins_plain, printed_piece, split_narrow_run, split_wide_run,
+};
 use termwiz_screen::rows::{paint_letters, paint_row, paint_run, scroll_rows};
 use termwiz_text::{letter_count, split_first_grapheme};
 

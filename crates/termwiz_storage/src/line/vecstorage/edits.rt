@@ -1,6 +1,6 @@
 //! Edits that move stored cells.
 ghost use Rattle.std.specs.Prelude.{◌≡◌, [], ◌∷◌, ◌+◌, ◌<◌, ◌≤◌, ◌-◌, ◌++◌, nat_le, ◌&&◌, not};
-ghost use Rattle.std.specs.Prelude.{false, true, length, take, drop, replicate, IfOk, OnOk, OnErr};
+ghost use Rattle.std.specs.Prelude.{false, length, take, drop, replicate, IfOk, OnOk, OnErr};
 ghost use Rattle.std.specs.Prelude.{if◌then◌else◌, vec_capacity, vec_len};
 ghost use Rattle.std.specs.List.{insert, remove};
 ghost use Rattle.termwiz_cell.specs.CellValue.{blank, half, is_wide};

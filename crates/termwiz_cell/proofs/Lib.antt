@@ -4,7 +4,6 @@ pub mod PackedStyles
 pub mod StyleSetters
 pub mod Boxes
 pub mod PlainAttributes
-pub mod ShortTexts
 pub mod TextForms
 mod ColorPrinted
 mod ColorRead

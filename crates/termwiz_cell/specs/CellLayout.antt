@@ -7,8 +7,8 @@ use Rattle.termwiz_cell.specs.CellValue.{CellValue, clean}
 
 -- the bytes of a text in any form
 abbrev pub text_in : CellText → List ℕ
-text_in (Narrow short) = short
-text_in (Wide short) = short
+text_in (Narrow short) = short.bytes
+text_in (Wide short) = short.bytes
 text_in (Long b) = string_bytes b.value.text
 
 -- whether it takes two columns
@@ -19,8 +19,8 @@ wide_in (Long b) = b.value.wide
 
 -- a text is clean, and on the heap exactly where it has more than seven bytes
 abbrev pub HasTextForm : CellText → Type 0
-HasTextForm (Narrow short) = (clean short ≡ short) × (length short ≤ 7)
-HasTextForm (Wide short) = (clean short ≡ short) × (length short ≤ 7)
+HasTextForm (Narrow short) = (clean short.bytes ≡ short.bytes) × (length short.bytes ≤ 7)
+HasTextForm (Wide short) = (clean short.bytes ≡ short.bytes) × (length short.bytes ≤ 7)
 HasTextForm (Long b) = (clean (string_bytes b.value.text) ≡ string_bytes b.value.text) × (8 ≤ length (string_bytes b.value.text))
 
 abbrev pub cell_value : Inside → CellValue

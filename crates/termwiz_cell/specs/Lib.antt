@@ -12,7 +12,6 @@ pub mod Measure
 pub mod UsualWidths
 pub mod WidthLaws
 pub mod CellValue
-pub mod ShortTextLayout
 pub mod CellLayout
 pub mod Lending
 pub mod AttributeChangeValue

@@ -1,106 +1,114 @@
 //! Texts of at most seven bytes, which stand in the value itself.
 ghost use Rattle.std.specs.Prelude.{◌≡◌, ◌≢◌, ◌<◌, ◌≤◌, ◌∷◌, [], length, bytes_eq, true};
 ghost use Rattle.std.specs.Prelude.{MatchOption};
+ghost use Rattle.termwiz_cell.specs.CellValue.{space};
 ghost use Rattle.termwiz_text.specs.Plain.{is_plain};
 
-use std::marker::Model;
-use std::str;
+use arrayvec::ArrayString;
 
-/// A text of at most seven bytes, in eight: zeros stand behind it, and its length is the last byte.
-/// So two are the same text exactly where all their bytes are equal.
-#[derive(Clone, Copy)]
-pub(super) struct ShortText {
-    // It takes no room, and has the bytes stand where they are copied as one word.
-    aligned: [u64; 0],
-    bytes: [u8; 8],
+/// One printable character of ASCII.
+#[inline(always)]
+pub(super) fn plain_text(byte: u8) -> ArrayString<7>
+    requires { is_plain byte ≡ true }
+    ensures { result.bytes ≡ byte ∷ [] }
+{
+    let mut short = ArrayString::new();
+    // The remainder shows the compiler that the text is one byte.
+    short.push((byte % 128) as char);
+    short
 }
 
-impl Model for ShortText {
-    ghost use Rattle.std.specs.Prelude.{ℕ, List};
-
-    ghost Value = { List ℕ };
-
-    ghost use Rattle.termwiz_cell.specs.ShortTextLayout.{short_bytes, IsShort};
-    ghost use Rattle.termwiz_cell.specs.ShortTextLayout.{fields_of, fields_of-short_bytes};
-
-    ghost view = { short_bytes };
-
-    ghost invariant = { IsShort };
-
-    ghost inverse = { fields_of };
-
-    ghost inverse_ok = { fields_of-short_bytes };
+/// A space. Spaces stand behind it too, so that all seven bytes are written as one constant.
+#[inline(always)]
+pub(super) fn space_text() -> ArrayString<7>
+    ensures { result.bytes ≡ space }
+{
+    let mut short = ArrayString::new();
+    short.push_str("       ");
+    short.truncate(1);
+    short
 }
 
-impl ShortText {
-    /// One printable character of ASCII.
-    #[inline(always)]
-    pub(super) fn plain(byte: u8) -> ShortText
-        requires { is_plain byte ≡ true }
-        ensures { result ≡ byte ∷ [] }
-    {
-        ShortText {
-            aligned: [],
-            bytes: [byte, 0, 0, 0, 0, 0, 0, 1],
-        }
+/// This text. One of at most four bytes, as each text of one character is, needs no call.
+#[inline(always)]
+pub(super) fn short_text(text: &str) -> ArrayString<7>
+    requires { length text.now ≤ 7 }
+    ensures { result.bytes ≡ text.now }
+{
+    match text.len() {
+        1 => copied(text),
+        2 => copied(text),
+        3 => copied(text),
+        4 => copied(text),
+        _ => other_short_text(text),
     }
+}
 
-    /// This text. One of one byte, or of three, as a character of kana or a common ideograph is,
-    /// needs no call.
-    #[inline(always)]
-    pub(super) fn new(text: &str) -> ShortText
-        requires { length text.now ≤ 7 }
-        ensures { result ≡ text.now }
-    {
-        match text.as_bytes() {
-            [a] => ShortText {
-                aligned: [],
-                bytes: [*a, 0, 0, 0, 0, 0, 0, 1],
-            },
-            [a, b, c] => ShortText {
-                aligned: [],
-                bytes: [*a, *b, *c, 0, 0, 0, 0, 3],
-            },
-            _ => ShortText::copied(text),
-        }
-    }
+#[inline(never)]
+fn other_short_text(text: &str) -> ArrayString<7>
+    requires { length text.now ≤ 7 }
+    ensures { result.bytes ≡ text.now }
+{
+    copied(text)
+}
 
-    // This text, of any length that fits.
-    #[inline(never)]
-    fn copied(text: &str) -> ShortText
-        requires { length text.now ≤ 7 }
-        ensures { result ≡ text.now }
-    {
-        let mut bytes = [0; 8];
-        bytes[..text.len()].copy_from_slice(text.as_bytes());
-        bytes[7] = text.len() as u8;
-        ShortText { aligned: [], bytes }
-    }
+#[inline(always)]
+fn copied(text: &str) -> ArrayString<7>
+    requires { length text.now ≤ 7 }
+    ensures { result.bytes ≡ text.now }
+{
+    let mut short = ArrayString::new();
+    short.push_str(text);
+    short
+}
 
-    #[inline(always)]
-    pub(super) fn as_str(&self) -> &str
-        ensures { result.now ≡ self.now }
-    {
-        unsafe { str::from_utf8_unchecked(&self.bytes[..self.bytes[7] as usize]) }
+/// The byte of a text that has one, which is a character of ASCII.
+#[inline(always)]
+pub(super) fn only_byte(short: &ArrayString<7>) -> Option<u8>
+    ensures { MatchOption result (length short.now.bytes ≢ 1)
+        (λ byte. (byte < 128) × (short.now.bytes ≡ byte ∷ [])) }
+{
+    match short.as_str().as_bytes() {
+        [byte] => Some(*byte),
+        _ => None,
     }
+}
 
-    /// The byte of a text that has one, which is a character of ASCII.
-    #[inline(always)]
-    pub(super) fn only_byte(&self) -> Option<u8>
-        ensures { MatchOption result (length self.now ≢ 1)
-            (λ byte. (byte < 128) × (self.now ≡ byte ∷ [])) }
-    {
-        if self.bytes[7] == 1 {
-            return Some(self.bytes[0]);
-        }
-        None
+/// Whether both are the same text, neither of which is empty. Those of different lengths, and
+/// those of at most four bytes, are told apart without a call.
+#[inline(always)]
+#[tactic(auto, using(crate::proofs::TextForms::lengths_differ))]
+pub(super) fn is_same_short(a: &ArrayString<7>, b: &ArrayString<7>) -> bool
+    requires { 1 ≤ length a.now.bytes }
+    ensures { result ≡ bytes_eq a.now.bytes b.now.bytes }
+{
+    if a.len() != b.len() {
+        return false;
     }
+    is_same_str(a.as_str(), b.as_str())
+}
 
-    /// Whether both are the same text.
-    #[inline(always)]
-    pub(super) fn is_same(&self, other: &ShortText) -> bool
-        ensures { result ≡ bytes_eq self.now other.now }
-    {
-        self.bytes == other.bytes
+#[inline(always)]
+#[tactic(auto, using(crate::proofs::TextForms::one_byte_tells))]
+fn is_same_str(a: &str, b: &str) -> bool
+    requires filled { 1 ≤ length a.now }
+    requires lengths { length a.now ≡ length b.now }
+    ensures { result ≡ bytes_eq a.now b.now }
+{
+    if a.len() < 2 {
+        return a.as_bytes()[0] == b.as_bytes()[0];
     }
+    match (a.as_bytes(), b.as_bytes()) {
+        ([a, b], [c, d]) => *a == *c && *b == *d,
+        ([a, b, c], [d, e, f]) => *a == *d && *b == *e && *c == *f,
+        ([a, b, c, d], [e, f, g, h]) => *a == *e && *b == *f && *c == *g && *d == *h,
+        _ => is_same_other(a, b),
+    }
+}
+
+#[inline(never)]
+fn is_same_other(a: &str, b: &str) -> bool
+    ensures { result ≡ bytes_eq a.now b.now }
+{
+    a == b
 }

@@ -6,15 +6,16 @@ ghost use Rattle.termwiz_cell.specs.CellLayout.{text_in, wide_in, HasTextForm};
 ghost use Rattle.termwiz_cell.specs.CellValue.{clean, space};
 ghost use Rattle.termwiz_text.specs.Plain.{is_one_plain, is_plain};
 
-use super::short_text::ShortText;
+use super::short_text::{is_same_short, only_byte, plain_text, short_text, space_text};
+use arrayvec::ArrayString;
 use std::alloc::{AllocError, Global};
 
 /// The text of a cell, and whether it takes two columns. A text of at most seven bytes stands in
 /// the value itself, and a longer one on the heap.
 #[derive(Drop)]
 pub(super) enum CellText {
-    Narrow(ShortText),
-    Wide(ShortText),
+    Narrow(ArrayString<7>),
+    Wide(ArrayString<7>),
     Long(Box<LongText>),
 }
 
@@ -57,7 +58,7 @@ impl CellText {
         ensures narrow { wide_in result ≡ false }
         ensures stored { HasTextForm result }
     {
-        CellText::plain(b' ')
+        CellText::Narrow(space_text())
     }
 
     /// One printable character of ASCII, of one column.
@@ -68,7 +69,7 @@ impl CellText {
         ensures narrow { wide_in result ≡ false }
         ensures stored { HasTextForm result }
     {
-        CellText::Narrow(ShortText::plain(byte))
+        CellText::Narrow(plain_text(byte))
     }
 
     /// This text. It can only fail where the text is longer than seven bytes.
@@ -80,7 +81,7 @@ impl CellText {
         ensures succeeds { length text.now ≤ 7 → IsOk result }
     {
         if text.len() <= 7 {
-            let short = ShortText::new(text);
+            let short = short_text(text);
             return Ok(if wide {
                 CellText::Wide(short)
             } else {
@@ -131,7 +132,7 @@ impl CellText {
             × ((text_in self.now ≡ byte ∷ []) × (wide_in self.now ≡ false))) }
     {
         match self {
-            CellText::Narrow(short) => short.only_byte(),
+            CellText::Narrow(short) => only_byte(short),
             CellText::Wide(_) => None,
             CellText::Long(_) => None,
         }
@@ -140,7 +141,7 @@ impl CellText {
     /// Whether both are the same text of the same width. Length and width of a text tell its form,
     /// so texts of two forms differ.
     #[inline(always)]
-    #[tactic(auto, using(crate::proofs::TextForms::short_differs_from_long, crate::proofs::TextForms::long_differs_from_short))]
+    #[tactic(auto, using(crate::proofs::TextForms::short_differs_from_long, crate::proofs::TextForms::long_differs_from_short, crate::proofs::TextForms::clean_filled))]
     pub(super) fn is_same(&self, other: &CellText) -> bool
         requires self_stored { HasTextForm self.now }
         requires other_stored { HasTextForm other.now }
@@ -149,8 +150,8 @@ impl CellText {
             && beq (wide_in self.now) (wide_in other.now)) }
     {
         match (self, other) {
-            (CellText::Narrow(a), CellText::Narrow(b)) => a.is_same(b),
-            (CellText::Wide(a), CellText::Wide(b)) => a.is_same(b),
+            (CellText::Wide(a), CellText::Wide(b)) => is_same_short(a, b),
+            (CellText::Narrow(a), CellText::Narrow(b)) => is_same_short(a, b),
             (CellText::Long(a), CellText::Long(b)) => a.is_same(b),
             (CellText::Narrow(_), CellText::Wide(_)) => false,
             (CellText::Wide(_), CellText::Narrow(_)) => false,

@@ -14,7 +14,7 @@ pub mod PairTexts
 pub mod LinkGrammar
 pub mod LinkOutcomes
 mod Selectors
-mod PlainWidths
+pub mod PlainWidths
 pub mod Cleaned
 pub mod Graphemes
 mod CursorPlaces

@@ -17,7 +17,7 @@ use Rattle.termwiz_text.specs.Plain.{is_one_plain}
 use Rattle.termwiz_text.specs.Letter.{is_letter, is_one_letter}
 use Rattle.termwiz_text.proofs.Letters.{letters_stepped, Stepped-letters, letter_from}
 use Rattle.termwiz_text.proofs.Plain.{chars_plain, utf8_one}
-use Rattle.termwiz_cell.specs.UsualWidths.{IsUsual}
+use Rattle.termwiz_cell.specs.UsualWidths.{HasNarrowAscii, HasWideLetters}
 use Rattle.termwiz_cell.specs.Width.{unicode_columns}
 
 pub one_plain_width : (text : List ℕ) → is_one_plain text ≡ true → unicode_columns text ≡ 1
@@ -64,9 +64,9 @@ one_letter_width text h = ap (λ n. min n 2) (one (chars text) h)
 letter_scalar : (c : ℕ) → is_letter c ≡ true → IsScalar c
 letter_scalar c h = search (rules, tests)
 
--- the widths of the Unicode tables are the usual ones
-pub unicode_usual : IsUsual (λ text _. unicode_columns text)
-unicode_usual = record {
-  plain = λ c version h. one_plain_width (c ∷ []) h;
-  letter = λ c version h. one_letter_width (encode_utf8 c) (ap is_one_letter (chars-encode_utf8 c (IsUtf8-encode c (letter_scalar c h))) ∙ h);
-}
+-- by the Unicode tables printable ASCII is narrow, and letters are wide
+pub unicode_narrow_ascii : HasNarrowAscii unicode_columns
+unicode_narrow_ascii c h = search (rules, one_plain_width (c ∷ []) h)
+
+pub unicode_wide_letters : HasWideLetters unicode_columns
+unicode_wide_letters c h = one_letter_width (encode_utf8 c) (ap is_one_letter (chars-encode_utf8 c (IsUtf8-encode c (letter_scalar c h))) ∙ h)

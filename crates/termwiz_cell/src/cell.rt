@@ -95,6 +95,7 @@ impl Cell {
 
     /// The cell of one column of a character of printable ASCII, U+0020 to U+007E. It takes no
     /// memory.
+    #[doc(hidden)]
     #[inline]
     pub fn plain(byte: u8, attrs: CellAttributes) -> Cell
         requires { is_plain byte ≡ true }
@@ -167,6 +168,7 @@ impl Cell {
 
     /// The character of a cell that `plain` makes: one of printable ASCII, U+0020 to U+007E, which
     /// takes one column. Any other cell has none.
+    #[doc(hidden)]
     #[inline(always)]
     pub fn as_plain(&self) -> Option<u8>
         ensures { MatchOption result

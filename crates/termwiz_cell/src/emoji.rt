@@ -86,7 +86,8 @@ pub trait Widths: Copy {
     ghost use Rattle.std.specs.Prelude.{◌≡◌, ℕ, ◌≤◌, List, [], ◌∷◌, Option, IsTrue};
     ghost use Rattle.termwiz_cell.specs.declared.emoji.Presentation.{Presentation};
     ghost use Rattle.termwiz_cell.specs.declared.emoji.UnicodeVersion.{UnicodeVersion};
-    ghost use Rattle.termwiz_cell.specs.UsualWidths.{IsUsual};
+    ghost use Rattle.termwiz_cell.specs.Measure.{measure};
+    ghost use Rattle.termwiz_cell.specs.UsualWidths.{HasNarrowAscii, HasWideLetters};
 
     ghost width_of: { Self → List ℕ → Option UnicodeVersion → ℕ };
 
@@ -108,11 +109,20 @@ pub trait Widths: Copy {
     fn char_presentation(&self, c: char) -> Presentation
         ensures { result ≡ char_presentation_of self.now c };
 
-    /// Whether each character of printable ASCII has one column, and each letter of hiragana or
-    /// katakana and each common ideograph two, by every version: whoever prints a run of these then
-    /// measures none of them. The default answer, `false`, promises nothing, and is always right.
-    fn has_usual_widths(&self) -> bool
-        ensures { IsTrue result → IsUsual (width_of self.now) }
+    /// Whether each character of printable ASCII, by itself and with no version, has one column at
+    /// most. A run of printable ASCII is then printed with none of it measured. The default answer,
+    /// `false`, promises nothing and is always right.
+    fn has_narrow_ascii(&self) -> bool
+        ensures { IsTrue result → HasNarrowAscii (measure width_of self.now) }
+    {
+        false
+    }
+
+    /// Whether each letter of hiragana or katakana and each common ideograph, by itself and with no
+    /// version, has two columns. A run of such letters is then printed with none of it measured.
+    /// The default answer, `false`, promises nothing and is always right.
+    fn has_wide_letters(&self) -> bool
+        ensures { IsTrue result → HasWideLetters (measure width_of self.now) }
     {
         false
     }
@@ -153,6 +163,10 @@ impl Widths for OneColumn {
 
     fn char_presentation(&self, _c: char) -> Presentation {
         Presentation::Text
+    }
+
+    fn has_narrow_ascii(&self) -> bool {
+        true
     }
 }
 
@@ -196,8 +210,13 @@ impl Widths for UnicodeWidths {
         Presentation::Text
     }
 
-    #[tactic(auto, using(crate::proofs::PlainWidths::unicode_usual))]
-    fn has_usual_widths(&self) -> bool {
+    #[tactic(auto, using(crate::proofs::PlainWidths::unicode_narrow_ascii))]
+    fn has_narrow_ascii(&self) -> bool {
+        true
+    }
+
+    #[tactic(auto, using(crate::proofs::PlainWidths::unicode_wide_letters))]
+    fn has_wide_letters(&self) -> bool {
         true
     }
 }

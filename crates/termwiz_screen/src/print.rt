@@ -88,7 +88,7 @@ fn narrow_len<W: Widths>(widths: &W, run: &str) -> usize
     ensures within { result ≤ length run.now }
     ensures narrow { AreNarrow (measure W.width_of widths.now) (take result run.now) }
 {
-    if widths.has_usual_widths() {
+    if widths.has_narrow_ascii() {
         return run.len();
     }
     for k in 0..run.len() {
@@ -124,7 +124,7 @@ fn wide_len<W: Widths>(widths: &W, run: &str) -> usize
     ensures wide { AreWide (measure W.width_of widths.now) (take result (chars run.now)) }
 {
     let count = letter_count(run);
-    if widths.has_usual_widths() {
+    if widths.has_wide_letters() {
         return count;
     }
     for k in 0..count {

@@ -55,6 +55,7 @@ impl CellAttributes {
     }
 
     /// A copy, where that takes no memory, and else `None`.
+    #[doc(hidden)]
     #[inline]
     pub fn unboxed_copy(&self) -> Option<CellAttributes>
         ensures same { IfSome result (λ copy. copy ≡ self.now) }
@@ -488,6 +489,7 @@ impl CellAttributes {
     }
 
     /// Whether all attributes but the background have their defaults.
+    #[doc(hidden)]
     #[tactic(auto, using(crate::proofs::PlainAttributes::plain))]
     pub fn has_only_background(&self) -> bool
         ensures { result ≡ has_only_background self.now }

@@ -61,8 +61,9 @@ use zones::drop_zones;
 /// the variants of visible cells tell which it is; `==` doesn't.
 ///
 /// - `new` makes a text. It stays one while `set_cell`, `set_cell_grapheme` or
-///   `overlay_text_with_attribute` sets each cell at its end, `fill_range` sets narrow cells there
-///   that aren't default blanks, or `set_last_cell_was_wrapped` marks the last cell.
+///   `overlay_text_with_attribute` sets each cell at its end, `fill_range` sets narrow cells there,
+///   or one wide cell, and no default blanks, `append_line` appends another line, or
+///   `set_last_cell_was_wrapped` marks the last cell.
 /// - Any other edit that changes cells, and lending them for writing, makes a vector of a text; an
 ///   edit that changes none, or fails, may.
 /// - `compress_for_scrollback` makes a text of a vector.

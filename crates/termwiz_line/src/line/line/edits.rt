@@ -102,6 +102,7 @@ impl Line {
     /// Sets the cell at a column as `set_cell` does, in a line that is then cut to `width` columns.
     /// The line takes the number. On an error, which also comes where the cell would end past the
     /// greatest `usize`, number, flags and cells are as before.
+    #[doc(hidden)]
     #[inline(always)]
     pub fn set_cell_within(
         &mut self,
@@ -125,6 +126,7 @@ impl Line {
     /// attributes that take no memory. A vector takes memory only where it grows.
     /// The line takes the number. On an error, which also comes where the run would end past the
     /// greatest `usize`, number, flags and cells are as before.
+    #[doc(hidden)]
     pub fn set_run(
         &mut self,
         i: usize,
@@ -150,6 +152,7 @@ impl Line {
     /// grows.
     /// The line takes the number. On an error, which also comes where the run would end past the
     /// greatest `usize`, number, flags and cells are as before.
+    #[doc(hidden)]
     pub fn set_letters(
         &mut self,
         i: usize,

@@ -1,7 +1,7 @@
 -- Filling a line column by column.
 use Rattle.std.proofs.Common.{◌≡◌, ◌≢◌, ℕ, true, false, zero, suc, ◌+◌, ◌-◌, ◌<◌, ◌≤◌, max, inl, inr, List, length, refl, sym, ◌∙◌, ap, subst, arith, OnErr, Result, Ok, Err}
 use Rattle.std.specs.Prelude.{nat_lt}
-use Rattle.std.proofs.lemmas.Bool.{cases_lt, lt-ltb, le-ltb}
+use Rattle.std.proofs.lemmas.Bool.{cases_Bool, cases_lt, lt-ltb, le-ltb}
 use Rattle.termwiz_cell.specs.CellValue.{CellValue, blank, columns, is_wide}
 use Rattle.termwiz_storage.specs.Stored.{fill, set_cell}
 use Rattle.termwiz_storage.proofs.Fill.{length-fill}
@@ -51,10 +51,10 @@ on_err (Err e) p = p
 -- ---- the form that is left
 
 -- narrow cells behind the last one end where they were set
-length-appended : (n from : ℕ) (c : CellValue) (cs : List CellValue) → from ≡ length cs → is_wide c ≡ false → from + n ≡ length (fill n from c cs)
+length-appended : (n from : ℕ) (c : CellValue) (cs : List CellValue) → from ≡ length cs → (0 < n → is_wide c ≡ false) → from + n ≡ length (fill n from c cs)
 length-appended zero from c cs e w = let same : from + 0 ≡ from = omega arith in same ∙ e
 length-appended (suc n) from c cs e w =
-    let one : columns c ≡ 1 = columns-narrow c w in
+    let one : columns c ≡ 1 = columns-narrow c (w (omega arith)) in
     let l : length (fill (suc n) from c cs) ≡ max (length cs) (from + n + columns c) = length-fill n from c cs in
     omega arith
 
@@ -67,7 +67,7 @@ longer-wide from c cs w =
 
 -- the form of a line in which n columns were set, from a column on
 pub record HasForm (old : LineValue) (n from : ℕ) (c : CellValue) (now : LineValue) : Type 0 where
-  pub text : old.is_vector ≡ false → from ≡ length old.cells → is_wide c ≡ false → now.is_vector ≡ false
+  pub text : old.is_vector ≡ false → from ≡ length old.cells → (is_wide c ≡ true → n ≤ 1) → now.is_vector ≡ false
   pub elsewhere : 0 < n → from ≢ length old.cells → now.is_vector ≡ true
   pub wide : 1 < n → is_wide c ≡ true → now.is_vector ≡ true
 
@@ -78,7 +78,7 @@ pub HasForm-more : {n m from i seqno : ℕ} {c d : CellValue} {old now new : Lin
     → IsEdited now (set_cell i d now.cells) seqno new → (now.is_vector ≡ false → i ≡ length now.cells → new.is_vector ≡ false) → (i ≢ length now.cells → new.is_vector ≡ true)
     → HasForm old m from c new
 HasForm-more {n} {m} {from} {i} {seqno} {c} {d} {old} {now} {new} e f same_cell fills h t appended made = record {
-  text = λ v p w. appended (h.text v p w) (f ∙ length-appended n from c old.cells p w ∙ sym (ap length fills.cells));
+  text = λ v p w. appended (h.text v p (λ u. let few : m ≤ 1 = w u in omega arith)) (f ∙ length-appended n from c old.cells p (narrow_so_far w) ∙ sym (ap length fills.cells));
   elsewhere = λ l p. elim (cases_lt 0 n) [
     | inl some ↦ t.vector (h.elsewhere some p)
     | inr none ↦ made (λ q. p (first-is none q))
@@ -89,6 +89,12 @@ HasForm-more {n} {m} {from} {i} {seqno} {c} {d} {old} {now} {new} e f same_cell 
   ];
 }
   where
+    narrow_so_far : (is_wide c ≡ true → m ≤ 1) → 0 < n → is_wide c ≡ false
+    narrow_so_far w l = elim (cases_Bool (is_wide c)) [
+      | inl u ↦ let few : m ≤ 1 = w u in absurd (omega arith)
+      | inr u ↦ u
+    ]
+
     first-is : n ≤ 0 → i ≡ length now.cells → from ≡ length old.cells
     first-is none q =
         let z : n ≡ 0 = omega arith in
@@ -102,12 +108,12 @@ HasForm-more {n} {m} {from} {i} {seqno} {c} {d} {old} {now} {new} e f same_cell 
         let long : suc from < length (fill 1 from c old.cells) = longer-wide from c old.cells w in
         absurd (omega arith)
 
-pub HasForm-appended : {n a b : ℕ} {c : CellValue} {old new : LineValue} → HasForm old n a c new → AppendsCells old a b c new
-HasForm-appended h = λ t e l w u. h.text t e w
+pub HasForm-appended : {n a b : ℕ} {c : CellValue} {old new : LineValue} → n ≡ b - a → HasForm old n a c new → AppendsCells old a b c new
+HasForm-appended m h = λ t e l w u. h.text t e (λ v. let one = w v in omega arith)
 
 pub HasForm-elsewhere : {n a b : ℕ} {c : CellValue} {old new : LineValue} → n ≡ b - a → c ≢ blank → HasForm old n a c new → MakesVector old a b c new
 HasForm-elsewhere e u h = record {
-  blanks = λ z s. absurd (u z);
+  blanks = λ z l s. absurd (u z);
   first = λ u' l p. h.elsewhere (omega arith) p;
   second = λ u' l w. h.wide (omega arith) w;
 }

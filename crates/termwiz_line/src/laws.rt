@@ -1,5 +1,6 @@
 //! What rows, edits and cuts are: laws of the definitions that the contracts cite, each on a
 //! function that does nothing.
+ghost use Rattle.std.specs.Prelude.{◌≡◌, true};
 ghost use Rattle.termwiz_line.specs.CutLaws.{BytesTellTheirCells, ClustersAreOne, ClustersJoin};
 ghost use Rattle.termwiz_line.specs.CutLaws.{WrapsAreAlike, WrapsAreOne, ZonesAreOne};
 ghost use Rattle.termwiz_line.specs.EditLaws.{AllColumnsShow, StoredAgainShows};
@@ -7,6 +8,9 @@ ghost use Rattle.termwiz_line.specs.StorageLaws.{EqualInAnyForm, WholeIsVisible}
 ghost use Rattle.termwiz_line.specs.RowLaws.{PaintPaints, ClearClears, ClearPast, VisibleFixesRow};
 ghost use Rattle.termwiz_line.specs.RowLaws.{CellsHaveRow, VisibleFixesRowOf, WalkGrows};
 ghost use Rattle.termwiz_line.specs.RowLaws.{ResizedIsRow, SetCellPaints, PruningKeepsRow};
+ghost use Rattle.termwiz_line.specs.declared.line.line.clicks.DoubleClickRange.{DoubleClickRange};
+
+use crate::line::line::DoubleClickRange;
 
 /// What painting and clearing change of what a row shows: which cell stands at which column, and
 /// which columns it covers. What a row shows fixes it.
@@ -59,4 +63,9 @@ pub fn cluster_laws()
 pub fn storage_laws()
     ensures equal { EqualInAnyForm }
     ensures whole { WholeIsVisible }
+{}
+
+/// What a double click selects is equal to itself.
+pub fn click_laws()
+    ensures { (a : DoubleClickRange) → ⟦<DoubleClickRange as PartialEq>⟧.eq a a ≡ true }
 {}

@@ -2,3 +2,6 @@
 pub mod bidi;
 pub mod line;
 mod linebits;
+
+pub use termwiz_storage::line::cellref::{CellRef, VisibleCellIter};
+pub use termwiz_storage::line::vecstorage::VecStorage;

@@ -1,10 +1,11 @@
 -- Runs that grow, and copies of runs.
 use Rattle.std.proofs.Common.{◌≡◌, ℕ, zero, suc, ◌+◌, ◌-◌, ◌<◌, ◌≤◌, List, [], ◌∷◌, ◌++◌, Some, replicate, set, length, get_or, drop, refl, ap, ap₂, sym, ◌∙◌, append_assoc, arith}
 use Rattle.std.proofs.lemmas.List.{replicate-append-replicate, append-nil, at_drop_more}
+use Rattle.std.proofs.lemmas.Grind.{flat_map-append}
 use Rattle.std.specs.List.{flat_map, slice_get, AllZip}
 use Rattle.termwiz_cell.specs.Attributes.{Attributes}
 use Rattle.termwiz_storage.specs.declared.line.clusterline.runs.AttrsRun.{AttrsRun}
-use Rattle.termwiz_storage.specs.CellRuns.{attrs_of, same_run}
+use Rattle.termwiz_storage.specs.CellRuns.{AddsAttrs, attrs_of, same_run}
 
 -- a run at the end that is longer is more values
 pub longer_last : {R X : Type 0} (n : R → ℕ) (v : R → X) (rs : List R) (i m : ℕ) (r d : R) → length rs ≡ i + 1 → v r ≡ v (get_or rs i d) → n r ≡ n (get_or rs i d) + m → flat_map (λ r. replicate (n r) (v r)) (set rs i r) ≡ flat_map (λ r. replicate (n r) (v r)) rs ++ replicate m (v r)
@@ -46,3 +47,21 @@ get_behind_run (suc n) (suc k) x ys l = let e : k - n ≡ suc k - suc n = omega 
 -- the runs from one on
 pub attrs_of-drop : (rs : List AttrsRun) (i : ℕ) (r : AttrsRun) → i < length rs → r ≡ get_or rs i r → attrs_of (drop i rs) ≡ replicate r.cells r.attrs ++ attrs_of (drop (i + 1) rs)
 attrs_of-drop rs i r l e = at_drop_more attrs_of rs i r l ∙ ap (λ (q : AttrsRun). attrs_of (q ∷ drop (i + 1) rs)) (sym e)
+
+-- one more run
+pub attrs_of-push : (rs : List AttrsRun) (r : AttrsRun) → AddsAttrs rs r.cells r.attrs (rs ++ r ∷ [])
+attrs_of-push rs r =
+    flat_map-append (λ (q : AttrsRun). replicate q.cells q.attrs) rs (r ∷ [])
+    ∙ ap (λ (z : List Attributes). attrs_of rs ++ z) (append-nil (replicate r.cells r.attrs))
+
+-- the first of the runs that are left has come to the others
+pub joined_more : (old new left rest : List AttrsRun) (all : List Attributes) (r : AttrsRun) → AddsAttrs old r.cells r.attrs new → left ≡ r ∷ rest → attrs_of old ++ attrs_of left ≡ all → attrs_of new ++ attrs_of rest ≡ all
+joined_more old new left rest all r added e h =
+    ap (λ (z : List Attributes). z ++ attrs_of rest) added
+    ∙ append_assoc (attrs_of old) (replicate r.cells r.attrs) (attrs_of rest)
+    ∙ ap (λ (rs : List AttrsRun). attrs_of old ++ attrs_of rs) (sym e)
+    ∙ h
+
+pub no_runs : (rs : List AttrsRun) → length rs ≡ 0 → rs ≡ []
+no_runs [] e = refl
+no_runs (r ∷ rs) e = absurd (omega arith)

@@ -12,6 +12,7 @@ use Rattle.termwiz_storage.specs.Clustered.{cell_len, char_len, first_cell, cell
 use Rattle.termwiz_storage.specs.Edits.{with_half, with_halves}
 use Rattle.termwiz_storage.specs.Stored.{visible_from, visible}
 use Rattle.termwiz_storage.specs.VisibleCell.{VisibleCell, at_column}
+use Rattle.termwiz_storage.proofs.Widths.{columns_bounds}
 
 -- a cell with its half is one visible cell, and the walk goes on behind it
 visible_step : (b : Bool) (x : List ℕ) (a : Attributes) (i : ℕ) (cs : List CellValue) (shown : ℕ → List VisibleCell) → ((j : ℕ) → shown j ≡ visible_from j 0 cs) → at_column i (record { text = x; wide = b; attrs = a }) ∷ shown (i + columns (record { text = x; wide = b; attrs = a })) ≡ visible_from i 0 (with_half (record { text = x; wide = b; attrs = a }) ++ cs)
@@ -49,21 +50,29 @@ cell_len_in_longer : (s : Shape) (t u : List ℕ) → cell_len s t ≤ length t 
 cell_len_in_longer s [] u h = not_one_char s.one_char s.bytes (char_len (get_or u 0 0)) h
 cell_len_in_longer s (y ∷ t) u h = refl
 
--- one more cell
-pub cells_from-push : (t u : List ℕ) (ss : List Shape) (s : Shape) (ps : List Attributes) (a : Attributes) → AreCuts t ss → length ss ≡ length ps → cell_len s u ≡ length u → cells_from (t ++ u) (ss ++ s ∷ []) (ps ++ a ∷ []) ≡ cells_from t ss ps ++ with_half (record { text = u; wide = s.wide; attrs = a })
-cells_from-push t u [] s [] a h e b =
-    let text : take (cell_len s (t ++ u)) (t ++ u) ≡ u = rw (h, b) (take_all (length u) u (omega arith)) in
-    rw text (append-nil (with_half (record { text = u; wide = s.wide; attrs = a })))
-cells_from-push t u [] s (p ∷ ps) a h e b = absurd (omega arith)
-cells_from-push t u (x ∷ ss) s [] a h e b = absurd (omega arith)
-cells_from-push t u (x ∷ ss) s (p ∷ ps) a h e b =
+-- the cells of a text, and of another behind it
+pub cells_from-append : (t u : List ℕ) (ss rs : List Shape) (ps qs : List Attributes) → AreCuts t ss → length ss ≡ length ps → cells_from (t ++ u) (ss ++ rs) (ps ++ qs) ≡ cells_from t ss ps ++ cells_from u rs qs
+cells_from-append t u [] rs [] qs h e = rw h refl
+cells_from-append t u [] rs (p ∷ ps) qs h e = absurd (omega arith)
+cells_from-append t u (x ∷ ss) rs [] qs h e = absurd (omega arith)
+cells_from-append t u (x ∷ ss) rs (p ∷ ps) qs h e =
     let n : ℕ = cell_len x t in
     let within : n ≤ length t = h.0.boundary.0 in
     let len : cell_len x (t ++ u) ≡ n = cell_len_in_longer x t u within in
     let front : take (cell_len x (t ++ u)) (t ++ u) ≡ take n t = rw len (take-append-le n t u within) in
     let back : drop (cell_len x (t ++ u)) (t ++ u) ≡ drop n t ++ u = rw len (drop-append-le n t u within) in
-    rw (front, back, cells_from-push (drop n t) u ss s ps a h.1 (omega arith) b)
-    (sym (append_assoc (with_half (first_cell t x p)) (cells_from (drop n t) ss ps) (with_half (record { text = u; wide = s.wide; attrs = a }))))
+    rw (front, back, cells_from-append (drop n t) u ss rs ps qs h.1 (omega arith))
+    (sym (append_assoc (with_half (first_cell t x p)) (cells_from (drop n t) ss ps) (cells_from u rs qs)))
+
+-- the cell of a text of one cell
+cells_from-one : (u : List ℕ) (s : Shape) (a : Attributes) → cell_len s u ≡ length u → cells_from u (s ∷ []) (a ∷ []) ≡ with_half (record { text = u; wide = s.wide; attrs = a })
+cells_from-one u s a b =
+    let text : take (cell_len s u) u ≡ u = rw b (take_all (length u) u (omega arith)) in
+    rw text (append-nil (with_half (record { text = u; wide = s.wide; attrs = a })))
+
+-- one more cell
+pub cells_from-push : (t u : List ℕ) (ss : List Shape) (s : Shape) (ps : List Attributes) (a : Attributes) → AreCuts t ss → length ss ≡ length ps → cell_len s u ≡ length u → cells_from (t ++ u) (ss ++ s ∷ []) (ps ++ a ∷ []) ≡ cells_from t ss ps ++ with_half (record { text = u; wide = s.wide; attrs = a })
+cells_from-push t u ss s ps a h e b = cells_from-append t u ss (s ∷ []) ps (a ∷ []) h e ∙ ap (λ (z : List CellValue). cells_from t ss ps ++ z) (cells_from-one u s a b)
 
 -- a place in a text is one in a longer text
 boundary_in_longer : (t u : List ℕ) (i : ℕ) → IsUtf8 u → IsCharBoundary t i → IsCharBoundary (t ++ u) i
@@ -85,14 +94,15 @@ whole_cell_text u c = record {
   clean = rw (take_all (length u) u (omega arith)) c;
 }
 
-AreCuts-push : (t u : List ℕ) (ss : List Shape) (s : Shape) → IsUtf8 u → clean u ≡ u → AreCuts t ss → cell_len s u ≡ length u → AreCuts (t ++ u) (ss ++ s ∷ [])
-AreCuts-push t u [] s v c h b =
-    let text : t ++ u ≡ u = rw h refl in
-    rw (text, b) (whole_cell_text u c, drop_all (length u) u (omega arith))
-AreCuts-push t u (x ∷ ss) s v c h b =
+AreCuts-append : (t u : List ℕ) (ss rs : List Shape) → IsUtf8 u → AreCuts t ss → AreCuts u rs → AreCuts (t ++ u) (ss ++ rs)
+AreCuts-append t u [] rs v h k = rw h k
+AreCuts-append t u (x ∷ ss) rs v h k =
     let n : ℕ = cell_len x t in
     let len : cell_len x (t ++ u) ≡ n = cell_len_in_longer x t u h.0.boundary.0 in
-    rw (len, drop-append-le n t u h.0.boundary.0) (cell_text_in_longer t u n v h.0, AreCuts-push (drop n t) u ss s v c h.1 b)
+    rw (len, drop-append-le n t u h.0.boundary.0) (cell_text_in_longer t u n v h.0, AreCuts-append (drop n t) u ss rs v h.1 k)
+
+AreCuts-one : (u : List ℕ) (s : Shape) → clean u ≡ u → cell_len s u ≡ length u → AreCuts u (s ∷ [])
+AreCuts-one u s c b = rw b (whole_cell_text u c, drop_all (length u) u (omega arith))
 
 pub length-with_half : (c : CellValue) → length (with_half c) ≡ columns c
 length-with_half c = elim c.wide as (λ (b : Bool). length (with_half (record c { wide = b })) ≡ columns (record c { wide = b })) [ true ↦ refl | false ↦ refl ]
@@ -110,13 +120,27 @@ texts_of-visible cs t ss ps n e h = ap texts_of (sym (visible-cells_from cs t ss
 pub IsStepping-start : (t : List ℕ) (ss : List Shape) (ps : List Attributes) (n : ℕ) → IsClusteredText t ss ps n → IsStepping t ss ps 0
 IsStepping-start t ss ps n h = record { cuts = h.cuts; aligned = h.aligned; fits = omega (arith, h.len, h.fits) }
 
+pub IsSound-append : (t u : List ℕ) (ss rs : List Shape) (ps qs : List Attributes) (n m : ℕ) → IsUtf8 u → IsClusteredText t ss ps n → IsClusteredText u rs qs m → n + m < 2 ^ 64 → IsClusteredText (t ++ u) (ss ++ rs) (ps ++ qs) (n + m)
+IsSound-append t u ss rs ps qs n m v h k f = record {
+  cuts = AreCuts-append t u ss rs v h.cuts k.cuts;
+  aligned = omega (arith, h.aligned, k.aligned, length-append ss rs, length-append ps qs);
+  len = omega (arith, h.len, k.len, ap length (cells_from-append t u ss rs ps qs h.cuts h.aligned), length-append (cells_from t ss ps) (cells_from u rs qs));
+  fits = f;
+}
+
+-- a text of one cell
+IsSound-one : (u : List ℕ) (s : Shape) (a : Attributes) → clean u ≡ u → cell_len s u ≡ length u → IsClusteredText u (s ∷ []) (a ∷ []) (columns (record { text = u; wide = s.wide; attrs = a }))
+IsSound-one u s a w b =
+    let c : CellValue = record { text = u; wide = s.wide; attrs = a } in
+    let len : length (with_half c) ≡ columns c = length-with_half c in
+    let few : columns c ≤ 2 = (columns_bounds c).1 in
+    record {
+      cuts = AreCuts-one u s w b;
+      aligned = refl;
+      len = sym len ∙ sym (ap length (cells_from-one u s a b));
+      fits = omega arith;
+    }
+
 pub IsSound-push : (t u : List ℕ) (ss : List Shape) (s : Shape) (ps : List Attributes) (a : Attributes) (n m : ℕ) → IsUtf8 u → clean u ≡ u → IsClusteredText t ss ps n → cell_len s u ≡ length u → m ≡ n + columns (record { text = u; wide = s.wide; attrs = a }) → m < 2 ^ 64 → IsClusteredText (t ++ u) (ss ++ s ∷ []) (ps ++ a ∷ []) m
 IsSound-push t u ss s ps a n m v w h b e f =
-    let c : CellValue = record { text = u; wide = s.wide; attrs = a } in
-    let cells : cells_from (t ++ u) (ss ++ s ∷ []) (ps ++ a ∷ []) ≡ cells_from t ss ps ++ with_half c = cells_from-push t u ss s ps a h.cuts h.aligned b in
-    record {
-      cuts = AreCuts-push t u ss s v w h.cuts b;
-      aligned = omega (arith, h.aligned, length-append ss (s ∷ []), length-append ps (a ∷ []));
-      len = e ∙ omega (arith, h.len, ap length cells, length-append (cells_from t ss ps) (with_half c), length-with_half c);
-      fits = f;
-    }
+    rw e (IsSound-append t u ss (s ∷ []) ps (a ∷ []) n _ v h (IsSound-one u s a w b) (omega arith))

@@ -61,8 +61,9 @@ use zones::drop_zones;
 /// the variants of visible cells tell which it is; `==` doesn't.
 ///
 /// - `new` makes a text. It stays one while `set_cell`, `set_cell_grapheme` or
-///   `overlay_text_with_attribute` sets each cell at its end, `fill_range` sets narrow cells there
-///   that aren't default blanks, or `set_last_cell_was_wrapped` marks the last cell.
+///   `overlay_text_with_attribute` sets each cell at its end, `fill_range` sets narrow cells there,
+///   or one wide cell, and no default blanks, `append_line` appends another line, or
+///   `set_last_cell_was_wrapped` marks the last cell.
 /// - Any other edit that changes cells, and lending them for writing, makes a vector of a text; an
 ///   edit that changes none, or fails, may.
 /// - `compress_for_scrollback` makes a text of a vector.
@@ -175,6 +176,7 @@ impl Line {
     /// Makes this a new line of this many default blanks, with this number and without flags. A
     /// vector takes memory only where it grows.
     /// On an error number, flags and cells are as before.
+    #[doc(hidden)]
     pub fn blank_out(&mut self, width: usize, seqno: SequenceNo) -> Result<(), AllocError>
         ensures ok { OnOk result (
             self.new ≡ record {
@@ -210,6 +212,7 @@ impl Line {
 
     /// A copy that is stored as a vector, with this number and without flags, cut to this many
     /// columns, or grown to them as by `resize`.
+    #[doc(hidden)]
     pub fn resized(&self, width: usize, seqno: SequenceNo) -> Result<Line, AllocError>
         ensures { IfOk result (λ line.
             line ≡ record {
@@ -225,6 +228,7 @@ impl Line {
 
     /// A copy that is stored as a vector, with the line's number and flags, cut to this many
     /// columns, or grown to them as by `resize`.
+    #[doc(hidden)]
     pub fn resized_clone(&self, width: usize) -> Result<Line, AllocError>
         ensures { IfOk result (λ line. line ≡ in_width width self.now) }
     {
@@ -253,6 +257,7 @@ impl Line {
 
     /// Whether both lines have the same cells, whatever their numbers and flags, and whichever form
     /// stores them.
+    #[doc(hidden)]
     pub fn has_same_cells(&self, other: &Line) -> bool
         ensures { result ≡ cells_eq self.now.cells other.now.cells }
     {
@@ -314,6 +319,7 @@ impl Line {
     }
 
     /// The stored cells of a line that is a vector, hidden ones among them.
+    #[doc(hidden)]
     pub fn vector_cells(&self) -> &[Cell]
         requires { self.now.is_vector ≡ true }
         ensures { result.now ≡ self.now.cells }

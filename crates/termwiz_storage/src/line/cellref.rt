@@ -106,6 +106,7 @@ impl<'a> CellRef<'a> {
 
     /// A copy of the cell. The reference must tell a width and a text that a cell has, as each does
     /// that a walk gives.
+    #[doc(hidden)]
     pub fn to_cell(&self, alloc: Global) -> Result<Cell, AllocError>
         requires { IsOfCell self.now }
         ensures { IfOk result (λ cell. cell ≡ ref_cell self.now) }
@@ -123,6 +124,7 @@ impl<'a> CellRef<'a> {
 
     /// Whether both are the same cell, at the same column. Both references must tell what `to_cell`
     /// asks for.
+    #[doc(hidden)]
     pub fn is_same(&self, other: &CellRef<'_>) -> bool
         requires own { IsOfCell self.now }
         requires other { IsOfCell other.now }
@@ -132,6 +134,7 @@ impl<'a> CellRef<'a> {
     }
 
     /// Whether text, width and attributes are those of this cell.
+    #[doc(hidden)]
     pub fn is_cell(&self, cell: &Cell) -> bool
         ensures { IsTrue result ↔ (contents self.now ≡ contents_of cell.now) }
     {
@@ -142,6 +145,7 @@ impl<'a> CellRef<'a> {
     }
 
     /// Whether the text is a single space.
+    #[doc(hidden)]
     pub fn is_space(&self) -> bool
         ensures { IsTrue result ↔ ((ref_cell self.now).text ≡ space) }
     {
@@ -149,6 +153,7 @@ impl<'a> CellRef<'a> {
     }
 
     /// Whether this is a space of one column with default attributes.
+    #[doc(hidden)]
     pub fn is_blank(&self) -> bool
         ensures { IsTrue result ↔ (contents self.now ≡ contents_of blank) }
     {

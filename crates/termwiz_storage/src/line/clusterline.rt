@@ -18,6 +18,7 @@ ghost use Rattle.termwiz_storage.specs.PlainCells.{ArePlain};
 ghost use Rattle.termwiz_storage.specs.Stored.{cell_at, is_linked, visible, IsKept};
 ghost use Rattle.termwiz_storage.specs.Wrapped.{set_last_wrapped, with_wrapped};
 
+mod joined;
 mod run_lists;
 mod runs;
 
@@ -35,8 +36,7 @@ use termwiz_cell::cell::{Cell, CellAttributes};
 /// attributes. Where cells in a row are alike it takes far less memory than a vector of cells.
 ///
 /// It stands for a list of stored cells, in which each wide cell is followed by its half, a blank
-/// with its attributes. A cell whose text has 2^32 bytes or more doesn't fit: it is refused as want
-/// of memory is.
+/// with its attributes.
 #[derive(Drop, Debug)]
 pub struct ClusteredLine {
     text: String,
@@ -291,7 +291,7 @@ impl ClusteredLine {
         ensures err { OnErr result (self.new ≡ self.old) }
     {
         let width = if wide { 2 } else { 1 };
-        if width > usize::MAX - self.len || text.len() > u32::MAX as usize {
+        if width > usize::MAX - self.len {
             return Err(AllocError);
         }
         let len = self.len + width;
@@ -414,7 +414,7 @@ fn cell_len(shape: Shape, text: &str) -> usize
     ensures { result ≡ cell_len shape text.now }
 {
     if !shape.one_char {
-        return shape.bytes as usize;
+        return shape.bytes;
     }
     match text.as_bytes().first().copied().unwrap_or(0) {
         0..128 => 1,
@@ -437,7 +437,6 @@ fn one_char(wide: bool) -> Shape
 
 // The shape of a cell of this text.
 fn shape_of(text: &str, wide: bool) -> Shape
-    requires { length text.now < 2 ^ 32 }
     ensures len { cell_len result text.now ≡ length text.now }
     ensures wide { result.wide ≡ wide }
 {
@@ -446,7 +445,7 @@ fn shape_of(text: &str, wide: bool) -> Shape
         one_char
     } else {
         Shape {
-            bytes: text.len() as u32,
+            bytes: text.len(),
             one_char: false,
             wide,
         }

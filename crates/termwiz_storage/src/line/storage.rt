@@ -123,10 +123,9 @@ impl CellStorage {
     /// a blank with its attributes.
     ///
     /// - Right behind the last cell of a text the cell is appended to the text.
-    /// - Anywhere else, and by each other edit but that of the mark of the last cell, a text
-    ///   becomes a vector, also where the list stays as it is.
-    /// - On an error the cells are as before. It comes also for a cell past the greatest column,
-    ///   and for one of 2^32 bytes or more that is appended to a text.
+    /// - Anywhere else, and by each other edit but `append_visible` and the mark of the last cell, a
+    ///   text becomes a vector, also where the list stays as it is.
+    /// - On an error, which a cell past the greatest column gives too, the cells are as before.
     pub fn set_cell(&mut self, i: usize, cell: Cell) -> Result<(), AllocError>
         ensures ok { OnOk result (cells_in self.new ≡ set_cell i cell (cells_in self.old)) }
         ensures err { OnErr result (cells_in self.new ≡ cells_in self.old) }
@@ -396,7 +395,7 @@ impl CellStorage {
     ///
     /// - A vector stays one where a hidden cell isn't a blank with the attributes of the cell that
     ///   hides it, or where the last visible cell is wide and lacks its half.
-    /// - On an error, which a visible cell of 2^32 bytes or more gives too, nothing changed.
+    /// - On an error nothing changed.
     pub fn compress(&mut self, alloc: Global) -> Result<(), AllocError>
         ensures cells { cells_in self.new ≡ cells_in self.old }
         ensures clustered { OnOk result (is_vector self.new ≡ false ↔ IsWhole (cells_in self.old)) }

@@ -59,6 +59,7 @@ impl Model for VecStorage {
 
 impl VecStorage {
     /// A storage of these cells.
+    #[doc(hidden)]
     pub fn new(cells: Vec<Cell>) -> VecStorage
         ensures { result ≡ cells.items }
     {
@@ -95,6 +96,7 @@ impl VecStorage {
     }
 
     /// The allocator of the list.
+    #[doc(hidden)]
     pub fn allocator(&self) -> Global {
         *self.cells.allocator()
     }

@@ -9,7 +9,7 @@ ghost use Rattle.termwiz_text.specs.Plain.{is_plain};
 ghost use Rattle.termwiz_cell.specs.Attributes.{needs_box};
 ghost use Rattle.termwiz_cell.specs.CellValue.{blank, blank_of, cell_of};
 ghost use Rattle.termwiz_storage.specs.Letters.{set_letters};
-ghost use Rattle.termwiz_storage.specs.Stored.{set_cell, set_run, visible};
+ghost use Rattle.termwiz_storage.specs.Stored.{set_cell, set_run, visible, IsPruned};
 ghost use Rattle.termwiz_storage.specs.Edits.{columns_between, erased, erased_within, inserted};
 ghost use Rattle.termwiz_storage.specs.Edits.{removed, with_halves};
 ghost use Rattle.termwiz_line.specs.Filled.{AppendsCells, Fills, IsFilled, IsPartlyFilled};
@@ -102,6 +102,7 @@ impl Line {
     /// Sets the cell at a column as `set_cell` does, in a line that is then cut to `width` columns.
     /// The line takes the number. On an error, which also comes where the cell would end past the
     /// greatest `usize`, number, flags and cells are as before.
+    #[doc(hidden)]
     #[inline(always)]
     pub fn set_cell_within(
         &mut self,
@@ -125,6 +126,7 @@ impl Line {
     /// attributes that take no memory. A vector takes memory only where it grows.
     /// The line takes the number. On an error, which also comes where the run would end past the
     /// greatest `usize`, number, flags and cells are as before.
+    #[doc(hidden)]
     pub fn set_run(
         &mut self,
         i: usize,
@@ -150,6 +152,7 @@ impl Line {
     /// grows.
     /// The line takes the number. On an error, which also comes where the run would end past the
     /// greatest `usize`, number, flags and cells are as before.
+    #[doc(hidden)]
     pub fn set_letters(
         &mut self,
         i: usize,
@@ -173,11 +176,14 @@ impl Line {
 
     /// Cuts the default blanks at the end, unless there is nothing else. The line takes the number
     /// where that changes it.
-    /// A vector takes no memory. On an error number, flags and cells are as before.
+    /// It takes memory only where it makes a vector of a text that it cuts. On an error number,
+    /// flags and cells are as before.
     pub fn prune_trailing_blanks(&mut self, seqno: SequenceNo) -> Result<(), AllocError>
         ensures ok { OnOk result (Prunes self.old seqno self.new) }
         ensures err { OnErr result (IsUnchanged self.old self.new) }
         ensures succeeds { self.old.is_vector ≡ true → IsOk result }
+        ensures rests { IsPruned self.old.cells self.old.cells →
+            (result ≡ Ok tt) × (self.new ≡ self.old) }
     {
         let kept = self.storage.kept_len();
         if kept > 0 && kept < self.len() {
@@ -214,7 +220,11 @@ impl Line {
         ensures err { OnErr result (IsPartlyFilled self.old from to cell.now seqno self.new) }
         ensures appended { OnOk result (AppendsCells self.old from to cell.now self.new) }
         ensures made { OnOk result (MakesVector self.old from to cell.now self.new) }
+        ensures none { to ≤ from → (result ≡ Ok tt) × (self.new ≡ self.old) }
     {
+        if from >= to {
+            return Ok(());
+        }
         if cell.is_blank() {
             self.set_blanks(from, to, seqno)?;
             return Ok(());
@@ -239,6 +249,7 @@ impl Line {
     ///
     /// - Of a wide cell the last one stays, and each before it leaves its half.
     /// - An empty line stays as it is where the cell is a default blank.
+    /// - Where there is no column it prunes, and that is all.
     /// - On an error the cell was set in some first columns, and nothing was pruned.
     pub fn fill_range(
         &mut self,
@@ -252,6 +263,9 @@ impl Line {
         ensures appended { OnOk result (
             AppendsCells self.old range.start range.end cell.now self.new) }
         ensures made { OnOk result (MakesVector self.old range.start range.end cell.now self.new) }
+        ensures none { range.end ≤ range.start → OnOk result (Prunes self.old seqno self.new) }
+        ensures rests { range.end ≤ range.start → IsPruned self.old.cells self.old.cells →
+            (result ≡ Ok tt) × (self.new ≡ self.old) }
     {
         if self.stays_empty(cell) {
             return Ok(());
@@ -374,17 +388,21 @@ impl Line {
         Ok(rest)
     }
 
-    /// Appends the visible cells of another line, the half of each wide one behind it.
-    /// The line takes the number. On an error number, flags and cells are as before.
+    /// Appends the visible cells of another line, the half of each wide one behind it. The line
+    /// takes the number.
+    ///
+    /// - A line that stores its cells as one text stays so, whichever form the other has.
+    /// - On an error, which also comes where a cell would end past the greatest `usize`, nothing
+    ///   changed.
     pub fn append_line(&mut self, other: Line, seqno: SequenceNo) -> Result<(), AllocError>
         ensures ok { OnOk result (
             IsEdited self.old (self.old.cells ++ with_halves (visible other.cells)) seqno
             self.new) }
-        ensures err { OnErr result (IsUnchanged self.old self.new) }
-        ensures made { OnOk result (self.new.is_vector ≡ true) }
+        ensures err { OnErr result (self.new ≡ self.old) }
+        ensures appended { OnOk result (self.new.is_vector ≡ self.old.is_vector) }
     {
         drop_zones(&mut self.zones);
-        self.storage.append_visible(&other.storage)?;
+        self.storage.append_visible(other.storage)?;
         self.seqno = self.seqno.max(seqno);
         Ok(())
     }

@@ -1,10 +1,11 @@
 //! Lists of runs: more cells, how many there are, a look at one, and a walk over all.
-ghost use Rattle.std.specs.Prelude.{◌≡◌, ◌<◌, ◌≤◌, ◌+◌, ◌^◌, ◌++◌, ◌∷◌, []};
-ghost use Rattle.std.specs.Prelude.{IfOk, MatchOption, OnErr, OnOk, length, replicate};
+ghost use Rattle.std.specs.Prelude.{◌≡◌, ◌<◌, ◌≤◌, ◌+◌, ◌^◌, ◌++◌, ◌∷◌, [], false};
+ghost use Rattle.std.specs.Prelude.{IfOk, IsTrue, MatchOption, OnErr, OnOk, length, replicate};
 ghost use Rattle.std.specs.Prelude.{vec_capacity, vec_len};
 ghost use Rattle.std.specs.List.{list_any, slice_get};
 ghost use Rattle.std.specs.Option.{is_some, option_copied};
-ghost use Rattle.termwiz_storage.specs.CellRuns.{AddsAttrs, attrs_of, map_last, marked, shapes_of};
+ghost use Rattle.termwiz_storage.specs.CellRuns.{AddsAttrs, attrs_of, map_last, marked, shape_in};
+ghost use Rattle.termwiz_storage.specs.CellRuns.{shapes_of};
 
 use crate::line::clusterline::runs::{AttrsRun, Shape, ShapeRun};
 use crate::line::vecstorage::set_wrapped;
@@ -30,7 +31,9 @@ impl Clone for AttrsRun {
 /// So many more cells of this shape, where there is room for one more run.
 pub(super) fn push_shape(runs: &mut Vec<ShapeRun>, shape: Shape, cells: u16)
     requires { vec_len runs.old < vec_capacity runs.old }
-    ensures { shapes_of runs.new.items ≡ shapes_of runs.old.items ++ replicate cells shape }
+    ensures shapes { shapes_of runs.new.items ≡ shapes_of runs.old.items ++ replicate cells shape }
+    ensures len { vec_len runs.new ≤ vec_len runs.old + 1 }
+    ensures capacity { vec_capacity runs.old ≤ vec_capacity runs.new }
 {
     let count = runs.len();
     if count > 0 {
@@ -64,6 +67,56 @@ fn run_of(shape: Shape, cells: u16) -> ShapeRun
     }
 }
 
+/// Appends runs, for which there is room.
+pub(super) fn append_shapes(runs: &mut Vec<ShapeRun>, more: &[ShapeRun])
+    requires { vec_len runs.old + length more.now ≤ vec_capacity runs.old }
+    ensures { shapes_of runs.new.items ≡ shapes_of runs.old.items ++ shapes_of more.now }
+{
+    for run in more {
+        push_shape(runs, shape_in(run), run.cells);
+    }
+}
+
+// The shape of the cells of a run.
+fn shape_in(run: &ShapeRun) -> Shape
+    ensures { result ≡ shape_in run.now }
+{
+    Shape {
+        bytes: run.bytes,
+        one_char: run.one_char,
+        wide: run.wide,
+    }
+}
+
+// Counts so many more cells into the last run, where it has these attributes and its count has room
+// for them.
+#[inline(always)]
+fn lengthen_last(runs: &mut Vec<AttrsRun>, attrs: &CellAttributes, cells: u16) -> bool
+    ensures yes { IsTrue result → AddsAttrs runs.old.items cells attrs.now runs.new.items }
+    ensures no { result ≡ false → runs.new.items ≡ runs.old.items }
+    ensures len { vec_len runs.new ≡ vec_len runs.old }
+    ensures capacity { vec_capacity runs.new ≡ vec_capacity runs.old }
+{
+    let count = runs.len();
+    if count > 0 && cells <= u16::MAX - runs[count - 1].cells && runs[count - 1].attrs == *attrs {
+        runs[count - 1].cells += cells;
+        return true;
+    }
+    false
+}
+
+/// Appends runs, for which there is room.
+pub(super) fn append_attrs(runs: &mut Vec<AttrsRun>, more: Vec<AttrsRun>)
+    requires { vec_len runs.old + vec_len more ≤ vec_capacity runs.old }
+    ensures { attrs_of runs.new.items ≡ attrs_of runs.old.items ++ attrs_of more.items }
+{
+    for run in more {
+        if !lengthen_last(runs, &run.attrs, run.cells) {
+            runs.push(run).unwrap();
+        }
+    }
+}
+
 /// So many more cells with these attributes, one at least. On an error nothing changed.
 #[inline(always)]
 pub(super) fn push_attrs(
@@ -75,9 +128,7 @@ pub(super) fn push_attrs(
     ensures ok { OnOk result (AddsAttrs runs.old.items cells attrs.now runs.new.items) }
     ensures err { OnErr result (runs.new.items ≡ runs.old.items) }
 {
-    let count = runs.len();
-    if count > 0 && cells <= u16::MAX - runs[count - 1].cells && runs[count - 1].attrs == *attrs {
-        runs[count - 1].cells += cells;
+    if lengthen_last(runs, attrs, cells) {
         return Ok(());
     }
     let attrs = attrs.clone()?;

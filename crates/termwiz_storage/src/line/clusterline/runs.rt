@@ -7,7 +7,7 @@ use termwiz_cell::cell::CellAttributes;
 /// two.
 #[derive(Clone, Copy)]
 pub(super) struct Shape {
-    pub(super) bytes: u32,
+    pub(super) bytes: usize,
     pub(super) one_char: bool,
     pub(super) wide: bool,
 }
@@ -15,7 +15,7 @@ pub(super) struct Shape {
 /// Cells in a row of one shape.
 #[derive(Clone, Copy, Debug)]
 pub(super) struct ShapeRun {
-    pub(super) bytes: u32,
+    pub(super) bytes: usize,
     pub(super) one_char: bool,
     pub(super) wide: bool,
     pub(super) cells: u16,

@@ -7,6 +7,7 @@ ghost use Rattle.termwiz_storage.specs.Edits.{columns_between, erased, erased_wi
 ghost use Rattle.termwiz_storage.specs.Edits.{removed, with_halves};
 ghost use Rattle.termwiz_storage.specs.Storage.{cells_in, is_vector};
 
+use crate::line::clusterline::ClusteredLine;
 use crate::line::storage::{CellStorage, expanded};
 use crate::line::vecstorage::VecStorage;
 use std::alloc::{AllocError, Global};
@@ -124,21 +125,43 @@ impl CellStorage {
         Ok(CellStorage::V(rest))
     }
 
-    /// Appends the visible cells of another list, the half of each wide one behind it. On an error
-    /// the cells are as before.
-    pub fn append_visible(&mut self, other: &CellStorage) -> Result<(), AllocError>
+    /// Appends the visible cells of another list, the half of each wide one behind it. A text stays
+    /// one, whichever form the other list has. On an error nothing changed.
+    pub fn append_visible(&mut self, other: CellStorage) -> Result<(), AllocError>
         ensures ok { OnOk result (
-            cells_in self.new ≡ cells_in self.old ++ with_halves (visible (cells_in other.now))) }
-        ensures err { OnErr result (cells_in self.new ≡ cells_in self.old) }
-        ensures vector { is_vector self.old ≡ true → is_vector self.new ≡ true }
-        ensures made { OnOk result (is_vector self.new ≡ true) }
+            cells_in self.new ≡ cells_in self.old ++ with_halves (visible (cells_in other))) }
+        ensures err { OnErr result (self.new ≡ self.old) }
+        ensures appended { is_vector self.new ≡ is_vector self.old }
     {
-        let storage = self.coerce_vec()?;
-        match other {
-            CellStorage::V(other) => storage.append_visible(other)?,
-            CellStorage::Cluster(line) => storage.append_visible(&expanded(line)?)?,
+        match self {
+            CellStorage::V(storage) => storage.append_visible(&other.into_vector()?)?,
+            CellStorage::Cluster(line) => line.append_text(other.into_text()?)?,
         }
         Ok(())
+    }
+
+    // The cells, each with a place of its own.
+    fn into_vector(self) -> Result<VecStorage, AllocError>
+        ensures { IfOk result (λ storage. storage ≡ cells_in self) }
+    {
+        match self {
+            CellStorage::V(storage) => Ok(storage),
+            CellStorage::Cluster(line) => expanded(&line),
+        }
+    }
+
+    // The visible cells in one text, the half of each wide one behind it.
+    fn into_text(self) -> Result<ClusteredLine, AllocError>
+        ensures { IfOk result (λ line. line ≡ with_halves (visible (cells_in self))) }
+    {
+        match self {
+            CellStorage::V(storage) => ClusteredLine::of_visible(&storage),
+            CellStorage::Cluster(line) => {
+                // The cells of a text are its visible ones with their halves, as `len` promises.
+                let _len = line.len();
+                Ok(line)
+            }
+        }
     }
 
     /// A vector of the visible cells that begin in the columns from `from` up to `to`, which is not

@@ -273,6 +273,7 @@ fn push_along(cells: &mut [Cell], cell: Cell)
 
 /// Pushes a cell, and behind a wide one its half. On an error the wide cell may have been pushed
 /// without its half.
+#[doc(hidden)]
 pub fn push_with_half(out: &mut Vec<Cell>, cell: Cell) -> Result<(), AllocError>
     ensures { OnOk result (out.new.items ≡ out.old.items ++ with_half cell) }
 {

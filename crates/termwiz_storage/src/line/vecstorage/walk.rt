@@ -34,6 +34,7 @@ impl<'a> Model for VecStorageIter<'a> {
 
 impl<'a> VecStorageIter<'a> {
     /// The visible cells of these stored ones.
+    #[doc(hidden)]
     pub fn new(cells: &'a [Cell]) -> VecStorageIter<'a>
         ensures { result ≡ visible cells.now }
     {
@@ -45,6 +46,7 @@ impl<'a> VecStorageIter<'a> {
 
     /// The character of the next cell, where that is plain: one character of printable ASCII, which
     /// takes one column, with these attributes. Else the walk stays where it is.
+    #[doc(hidden)]
     #[inline(always)]
     pub fn next_plain(&mut self, attrs: &CellAttributes) -> Option<u8>
         ensures { MatchOption result

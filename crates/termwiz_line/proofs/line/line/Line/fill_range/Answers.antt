@@ -33,7 +33,7 @@ pub returns-clause-made : goal.returns-clause-made
 returns-clause-made c =
     on_ok_weaker c.prune_trailing_blanks.result
     (λ (p : Prunes c.set_cells.new.self c.args.seqno c.prune_trailing_blanks.new.self). record {
-      blanks = λ e s. p.vector (c.in_ok-set_cells.ensures.made.blanks e s);
+      blanks = λ e l s. p.vector (c.in_ok-set_cells.ensures.made.blanks e l s);
       first = λ u l e. p.vector (c.in_ok-set_cells.ensures.made.first u l e);
       second = λ u l w. p.vector (c.in_ok-set_cells.ensures.made.second u l w);
     })

@@ -14,12 +14,12 @@ invariant_of-self-2 c =
       | then-wide w ↦ w.width-is ∙ sym (cond-true c.args.wide 2 1 w.if-wide.true)
       | else-wide w ↦ w.width-is ∙ sym (cond-false c.args.wide 2 1 w.if-wide.false)
     ] in
-    rw (c.push_text.ensures, c.push_shape.ensures, c.in_ok-push_attrs.ensures.ok, c.in_ok-reserve.ensures.items, c.in_ok-reserve-2.ensures.bytes)
+    rw (c.push_text.ensures, c.push_shape.ensures.shapes, c.in_ok-push_attrs.ensures.ok, c.in_ok-reserve.ensures.items, c.in_ok-reserve-2.ensures.bytes)
     (IsSound-push (string_bytes s.text) c.args.text.now (shapes_of s.shapes.items) _ (attrs_of s.attrs.items) c.args.attrs.now s.len (s.len + c.if-wide.width) c.utf8.text c.requires c.self.invariant c.shape_of.ensures.len (ap (λ (n : ℕ). s.len + n) width ∙ ap (λ (b : Bool). s.len + columns (record { text = c.args.text.now; wide = b; attrs = c.args.attrs.now })) (sym c.shape_of.ensures.wide)) (omega arith))
 
 pub returns-clause-ok : goal.returns-clause-ok
 returns-clause-ok c =
     let s = c.self.inside in
     let h : IsClusteredText (string_bytes s.text) (shapes_of s.shapes.items) (attrs_of s.attrs.items) s.len = c.self.invariant in
-    rw (c.push_text.ensures, c.push_shape.ensures, c.in_ok-push_attrs.ensures.ok, c.in_ok-reserve.ensures.items, c.in_ok-reserve-2.ensures.bytes, ← c.self.view_is, ← c.shape_of.ensures.wide)
+    rw (c.push_text.ensures, c.push_shape.ensures.shapes, c.in_ok-push_attrs.ensures.ok, c.in_ok-reserve.ensures.items, c.in_ok-reserve-2.ensures.bytes, ← c.self.view_is, ← c.shape_of.ensures.wide)
     (cells_from-push (string_bytes s.text) c.args.text.now (shapes_of s.shapes.items) _ (attrs_of s.attrs.items) c.args.attrs.now h.cuts h.aligned c.shape_of.ensures.len)

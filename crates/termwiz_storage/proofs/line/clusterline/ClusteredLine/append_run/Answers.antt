@@ -19,7 +19,7 @@ invariant_of-self-2 c =
     let n : ℕ = c.push_plain-count.result in
     let cells : List CellValue = take c.min-most.result c.args.cells.now in
     let count : length (take n cells) ≡ n = length-take-le n cells c.push_plain-count.ensures.within in
-    rw (c.push_plain-count.ensures.bytes, c.push_shape.ensures, c.one_char.ensures, c.in_default.ensures.ok, c.in_ok-reserve.ensures.items, c.in_ok-reserve-2.ensures.bytes)
+    rw (c.push_plain-count.ensures.bytes, c.push_shape.ensures.shapes, c.one_char.ensures, c.in_default.ensures.ok, c.in_ok-reserve.ensures.items, c.in_ok-reserve-2.ensures.bytes)
     (has_plain_run (take n cells) (string_bytes s.text) (shapes_of s.shapes.items) (attrs_of s.attrs.items) s.len n c.args.attrs.now c.args.self.now c.push_plain-count.ensures.plain c.self.invariant c.self.view_is count (omega (arith, length-take c.min-most.result c.args.cells.now))).sound
 
 pub returns-clause-ok : goal.returns-clause-ok
@@ -30,5 +30,5 @@ returns-clause-ok c =
     let cells : List CellValue = take most c.args.cells.now in
     let count : length (take n cells) ≡ n = length-take-le n cells c.push_plain-count.ensures.within in
     let front : take n cells ≡ take n c.args.cells.now = sym (take-append-le n cells (drop most c.args.cells.now) c.push_plain-count.ensures.within) ∙ ap (take n) (take-append-drop most c.args.cells.now) in
-    rw (c.push_plain-count.ensures.bytes, c.push_shape.ensures, c.one_char.ensures, c.in_default.ensures.ok, c.in_ok-reserve.ensures.items, c.in_ok-reserve-2.ensures.bytes, ← front)
+    rw (c.push_plain-count.ensures.bytes, c.push_shape.ensures.shapes, c.one_char.ensures, c.in_default.ensures.ok, c.in_ok-reserve.ensures.items, c.in_ok-reserve-2.ensures.bytes, ← front)
     (has_plain_run (take n cells) (string_bytes s.text) (shapes_of s.shapes.items) (attrs_of s.attrs.items) s.len n c.args.attrs.now c.args.self.now c.push_plain-count.ensures.plain c.self.invariant c.self.view_is count (omega (arith, length-take most c.args.cells.now))).cells

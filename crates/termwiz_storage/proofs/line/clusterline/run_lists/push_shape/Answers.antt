@@ -4,8 +4,8 @@ use Rattle.termwiz_storage.specs.CellRuns.{shape_in}
 use Rattle.termwiz_storage.proofs.CellRuns.{longer_last}
 use Rattle.termwiz_storage.proofs.line.clusterline.run_lists.push_shape.Goals as goal
 
-pub returns-then-cells-last : goal.returns-then-cells-last
-returns-then-cells-last c =
+pub returns-then-cells-last-clause-shapes : goal.returns-then-cells-last-clause-shapes
+returns-then-cells-last-clause-shapes c =
     let last : ShapeRun = c.index-last.result.now in
     let wide : last.wide ≡ c.args.shape.wide = search rules in
     let one_char : last.one_char ≡ c.args.shape.one_char = search rules in

@@ -78,7 +78,7 @@ module _ {W : Type 0} where
   abbrev pub all_added : (List ℕ → ℕ) → SequenceValue W → List ChangeValue → SequenceValue W
   all_added measure s cs = fold (added measure) s cs
 
-  -- the row after a change is one that can be told
+  -- the row after a change is an `isize`
   abbrev pub RowFits : (List ℕ → ℕ) → SequenceValue W → ChangeValue → Type 0
   RowFits measure s c = FitsSigned w64 (place_after measure s c).1
 
@@ -88,7 +88,7 @@ module _ {W : Type 0} where
   AddsOne measure old c (Err Range) new = (is_text c ≡ true) × (RowFits measure old c → ⊥) × (new ≡ old)
   AddsOne measure old c (Err Memory) new = RowFits measure old c × (new ≡ old)
 
-  -- each row on the way is one that can be told
+  -- each row on the way is an `isize`
   abbrev pub RowsFit : (List ℕ → ℕ) → SequenceValue W → List ChangeValue → Type 0
   RowsFit measure s [] = Unit {0}
   RowsFit measure s (c ∷ cs) = RowFits measure s c × RowsFit measure (added measure s c) cs
@@ -111,7 +111,7 @@ module _ {W : Type 0} where
   abbrev pub move_by : SequenceValue W → ℕ × ℤ → ChangeValue
   move_by s to = change.CursorPosition (Relative (pos to.0 -ℤ pos s.cursor.0)) (Relative (to.1 -ℤ s.cursor.1))
 
-  -- both distances can be told
+  -- both distances are an `isize`
   abbrev pub DistancesFit : SequenceValue W → ℕ × ℤ → Type 0
   DistancesFit s to = FitsSigned w64 (pos to.0 -ℤ pos s.cursor.0) × FitsSigned w64 (to.1 -ℤ s.cursor.1)
 

@@ -121,7 +121,7 @@ pub flag-back : (v : Bool) → flag_at (flag_number v) ≡ v
 flag-back true = refl
 flag-back false = refl
 
--- values that their numbers tell apart are compared by them
+-- values that differ in their numbers are compared by them
 pub numbers-Decide : {T : Type 0} (number : T → ℕ) (at : ℕ → T) (back : (v : T) → at (number v) ≡ v) (a b : T) → Decides (number a == number b) (a ≡ b)
 numbers-Decide number at back a b = Decides-like (number a == number b) (λ e. sym (back a) ∙ ap at e ∙ back b) (ap number) (Decides-eqb (number a) (number b))
 

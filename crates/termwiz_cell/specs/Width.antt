@@ -13,7 +13,7 @@ use Rattle.termwiz_cell.specs.declared.emoji.Presentation.TheVariants.{Text, Emo
 abbrev pub at_version : (List ℕ → Option UnicodeVersion → ℕ) → Option UnicodeVersion → List ℕ → ℕ
 at_version width version text = width text version
 
--- the same with no version
+-- the width with no version
 abbrev pub unversioned : (List ℕ → Option UnicodeVersion → ℕ) → List ℕ → ℕ
 unversioned width text = width text None
 

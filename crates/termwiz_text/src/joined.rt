@@ -168,8 +168,7 @@ impl JoinedText {
         Ok(())
     }
 
-    // The same as `join`, for any text. It stands apart, so that the way of printable ASCII is
-    // short.
+    // Joins any text. It stands apart from `join`, so that the way of printable ASCII is short.
     #[inline(never)]
     fn join_other(&mut self, more: &str) -> Result<bool, AllocError>
         ensures joins { IfOk result (λ joined. IsTrue joined

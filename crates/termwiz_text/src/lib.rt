@@ -125,7 +125,8 @@ fn count_plain(bytes: &[u8], limit: usize) -> usize
     end
 }
 
-// The same without the last one where a mark may follow it.
+// How many bytes of the beginning, `limit` at most, are printable ASCII on which no mark can stand:
+// the last one is left out where another character than ASCII follows it.
 fn count_unmarked(bytes: &[u8], limit: usize) -> usize
     ensures within { result ≤ min limit (length bytes.now) }
     ensures plain { list_all plain.is_plain (take result bytes.now) ≡ true }

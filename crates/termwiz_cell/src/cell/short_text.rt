@@ -75,7 +75,7 @@ pub(super) fn only_byte(short: &ArrayString<7>) -> Option<u8>
 }
 
 /// Whether both are the same text, neither of which is empty. Those of different lengths, and
-/// those of at most four bytes, are told apart without a call.
+/// those of at most four bytes, are compared without a call.
 #[inline(always)]
 #[tactic(auto, using(crate::proofs::TextForms::lengths_differ))]
 pub(super) fn is_same_short(a: &ArrayString<7>, b: &ArrayString<7>) -> bool

@@ -138,7 +138,7 @@ impl CellText {
         }
     }
 
-    /// Whether both are the same text of the same width. Length and width of a text tell its form,
+    /// Whether both are the same text of the same width. A text's length and width decide its form,
     /// so texts of two forms differ.
     #[inline(always)]
     #[tactic(auto, using(crate::proofs::TextForms::short_differs_from_long, crate::proofs::TextForms::long_differs_from_short, crate::proofs::TextForms::clean_filled))]

@@ -1,4 +1,4 @@
-//! Sequences of changes, which tell where their changes take a cursor.
+//! Sequences of changes, which report where their changes take a cursor.
 ghost use Rattle.std.specs.Prelude.{◌≡◌, ℕ, ℤ, pos, ◌+◌, ◌+ℤ◌, ◌-ℤ◌, ◌≤ℤ◌, ◌<◌, ◌≤◌, ◌^◌, true};
 ghost use Rattle.std.specs.Prelude.{false, [], ◌∷◌, ◌++◌, length, map, bytes_eq, IfOk, OnOk, OnErr};
 ghost use Rattle.std.specs.Prelude.{IfErr};
@@ -18,7 +18,7 @@ use std::marker::Model;
 use termwiz_text::split_first_grapheme;
 use thiserror::Error;
 
-/// Why a sequence refuses a change. The errors have numbers, and are told in this order.
+/// Why a sequence refuses a change. The first applicable error is returned, in this order.
 #[derive(Debug, Drop, Clone, Copy, PartialEq, Eq, Error)]
 pub enum SequenceError {
     /// Error 1: a text takes the cursor's row past the greatest `isize`, or the distance of a move
@@ -41,11 +41,11 @@ impl From<AllocError> for SequenceError {
     }
 }
 
-/// A list of changes that grows, and tells where its changes take a cursor and how far apart the
+/// A list of changes that grows, and reports where its changes take a cursor and how far apart the
 /// rows are that it reaches.
 ///
 /// It serves a program that doesn't own the whole screen, as a line editor, whose output begins
-/// wherever the cursor was when it was called. So places are told from there: the cursor begins at
+/// wherever the cursor was when it was called. So places are counted from there: the cursor begins at
 /// column 0 of row 0, and rows above that one are below 0. Nothing scrolls, and rows have no end.
 ///
 /// A text moves the cursor's column as on a surface of that many columns and with that width value.

@@ -1,5 +1,6 @@
-//! Cases with recorded answers. A line that begins with `<` is one of an answer, and each other line
-//! of a case asks. A case is played by writing its lines again, each with what is answered now.
+//! Cases with recorded answers. A line that begins with `<` is one of an answer, and each other
+//! line of a case asks. A case is played by writing its lines again, each with what is answered
+//! now.
 use crate::fault::Fault;
 use std::alloc::Global;
 use std::io::Write;

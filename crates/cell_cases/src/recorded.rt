@@ -1,7 +1,7 @@
-//! Links and colours with recorded answers, each of which is a case. `> parse PARTS` asks for the link
-//! of a sequence's parts, in hex digits and `-` for an empty part: `none`, why it is none, or its
-//! uri and its params, and its text where it has at most one. `> color R G B` asks for both texts
-//! of a colour.
+//! Links and colours with recorded answers, each of which is a case. `> parse PARTS` asks for the
+//! link of a sequence's parts, in hex digits and `-` for an empty part: `none`, why it is none, or
+//! its uri and its params, and its text where it has at most one. `> color R G B` asks for both
+//! texts of a colour.
 use case_words::escapes::escaped;
 use case_words::fault::Fault;
 use case_words::recorded::Play;

@@ -43,8 +43,8 @@
 //!   zones · fresh                                 the zones, and whether a copy has the same
 //!   clusters · cell-clusters · bytes · looks · cluster-copies
 //!
-//! Behind these cases it says how many of the recorded ones in `lines.txt` agree, first as the calls
-//! leave the lines, and then with each line compressed behind each call.
+//! Behind these cases it says how many of the recorded ones in `lines.txt` agree, first as the
+//! calls leave the lines, and then with each line compressed behind each call.
 #![tactic(auto)]
 
 mod asks;

@@ -20,7 +20,8 @@
 //!   why a viewer doesn't accept an answer, and `unanswered WHY` why there is none, or why a viewer
 //!   doesn't take a size.
 //!
-//! Behind these cases it says how many of the recorded ones in `surfaces.txt` and `diffs.txt` agree.
+//! Behind these cases it says how many of the recorded ones in `surfaces.txt` and in `diffs.txt`
+//! agree.
 #![tactic(auto)]
 
 mod changes;

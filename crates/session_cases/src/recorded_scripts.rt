@@ -1,5 +1,5 @@
-//! Scripts with recorded answers: `case WIDTH HEIGHT`, the lines of a script behind `> `, and what the
-//! program prints for it.
+//! Scripts with recorded answers: `case WIDTH HEIGHT`, the lines of a script behind `> `, and what
+//! the program prints for it.
 use crate::stage::text_of;
 use crate::trial::Trial;
 use case_words::fault::Fault;

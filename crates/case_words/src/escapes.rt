@@ -1,5 +1,5 @@
 //! Texts by their words, in which escapes stand for characters: `\n`, `\r`, `\t`, `\s` for a
-//! space, `\\`, and `\u{H}`.
+//! space, `\\`, and `\u{H}`. The word `\e` is the empty text.
 ghost use Rattle.std.specs.Prelude.{◌≤◌, length, IfSome};
 
 use crate::fault::Fault;
@@ -13,10 +13,13 @@ const LETTERS: [(char, char); 5] = [
     ('\\', '\\'),
 ];
 
+// The word of the empty text.
+const EMPTY: &str = "\\e";
+
 /// The text with its escapes replaced, and with a space for each character that stands for one.
 pub fn unescaped(alloc: Global, text: &str, space: char) -> Result<String, Fault> {
     let mut plain = String::new(alloc);
-    let mut rest = text;
+    let mut rest = if text == EMPTY { "" } else { text };
     while let Some((before, escape)) = rest.split_once('\\') {
         let (c, after) = escaped_char(escape).ok_or(Fault::Bad)?;
         push_spaced(&mut plain, before, space)?;
@@ -53,4 +56,27 @@ fn numbered_char(text: &str) -> Option<(char, &str)>
     let (digits, rest) = text.strip_prefix("u{")?.split_once('}')?;
     let value = u32::from_str_radix(digits, 16).ok()?;
     Some((char::from_u32(value)?, rest))
+}
+
+/// The word of a text: letters, digits, `=`, `;` and `,` stand for themselves.
+pub fn escaped(alloc: Global, text: &str) -> Result<String, Fault> {
+    if text.is_empty() {
+        return Ok(EMPTY.to_owned(alloc)?);
+    }
+    let mut word = String::new(alloc);
+    for c in text.chars() {
+        push_escaped(&mut word, c)?;
+    }
+    Ok(word)
+}
+
+fn push_escaped(word: &mut String, c: char) -> Result<(), Fault> {
+    match c {
+        ' ' => word.push_str("\\s")?,
+        '\\' => word.push_str("\\\\")?,
+        '=' | ';' | ',' => word.push(c)?,
+        _ if c.is_alphanumeric() => word.push(c)?,
+        _ => write!(word, "\\u{{{:x}}}", c as u32)?,
+    }
+    Ok(())
 }

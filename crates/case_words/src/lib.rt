@@ -5,5 +5,6 @@ pub mod attributes;
 pub mod escapes;
 pub mod fault;
 pub mod pens;
+pub mod recorded;
 pub mod shapes;
 pub mod words;

@@ -8,10 +8,35 @@ use termwiz_cell::cell::{
 };
 use termwiz_cell::color::ColorAttribute;
 
-const SEMANTIC_TYPES: [(&str, SemanticType); 3] = [
+/// The names of semantic types.
+pub const SEMANTIC_TYPES: [(&str, SemanticType); 3] = [
     ("output", SemanticType::Output),
     ("input", SemanticType::Input),
     ("prompt", SemanticType::Prompt),
+];
+
+/// The names of intensities but the normal one.
+pub const INTENSITIES: [(&str, Intensity); 2] = [
+    ("bold", Intensity::Bold),
+    ("half", Intensity::Half),
+];
+
+/// The names of lines below the text.
+pub const UNDERLINES: [(&str, Underline); 5] = [
+    ("underline", Underline::Single),
+    ("double", Underline::Double),
+    ("curly", Underline::Curly),
+    ("dotted", Underline::Dotted),
+    ("dashed", Underline::Dashed),
+];
+
+/// The names of ways to blink.
+pub const BLINKS: [(&str, Blink); 2] = [("slow", Blink::Slow), ("rapid", Blink::Rapid)];
+
+/// The names of places above and below the base line.
+pub const VERTICAL_ALIGNS: [(&str, VerticalAlign); 2] = [
+    ("super", VerticalAlign::SuperScript),
+    ("sub", VerticalAlign::SubScript),
 ];
 
 /// The semantic type of this name.
@@ -21,8 +46,9 @@ pub fn semantic_type(word: &str) -> Result<SemanticType, Fault> {
 
 /// What the words make of blank attributes, with `between` between them.
 ///
-/// - `half`, `rapid`, `curly`, `sub`, `italic`, `reverse`, `strike`, `invisible`, `wrapped`,
-///   `overline`, `link`, a semantic type, `fg=C`, `bg=C` and `line=C` set one.
+/// - the name of an intensity, of a line below the text, of a way to blink, of a place or of a
+///   semantic type, `italic`, `reverse`, `strike`, `invisible`, `wrapped`, `overline`, `link`,
+///   `fg=C`, `bg=C` and `ul=C` or `line=C` set one.
 /// - `copy`, `sgr`, `clear` and `default` put in its place its copy, its copy without the link, the
 ///   cleared one and the default one.
 /// - `+` and an attribute applies a copy of that change.
@@ -59,7 +85,7 @@ fn set_color(
     match name {
         "fg" => pen.set_foreground(alloc, color)?,
         "bg" => pen.set_background(alloc, color)?,
-        "line" => pen.set_underline_color(alloc, color)?,
+        "ul" | "line" => pen.set_underline_color(alloc, color)?,
         _ => return Err(Fault::Bad),
     };
     Ok(())
@@ -91,13 +117,24 @@ fn set_link(alloc: Global, pen: &mut CellAttributes) -> Result<(), Fault> {
 }
 
 fn set_style(pen: &mut CellAttributes, word: &str) -> Result<(), Fault> {
-    match word {
-        "half" => pen.set_intensity(Intensity::Half),
-        "rapid" => pen.set_blink(Blink::Rapid),
-        "curly" => pen.set_underline(Underline::Curly),
-        "sub" => pen.set_vertical_align(VerticalAlign::SubScript),
-        _ => return set_flag(pen, word),
-    };
+    if let Ok(intensity) = named(&INTENSITIES, word) {
+        pen.set_intensity(intensity);
+    } else if let Ok(underline) = named(&UNDERLINES, word) {
+        pen.set_underline(underline);
+    } else {
+        return set_rarer_style(pen, word);
+    }
+    Ok(())
+}
+
+fn set_rarer_style(pen: &mut CellAttributes, word: &str) -> Result<(), Fault> {
+    if let Ok(blink) = named(&BLINKS, word) {
+        pen.set_blink(blink);
+    } else if let Ok(align) = named(&VERTICAL_ALIGNS, word) {
+        pen.set_vertical_align(align);
+    } else {
+        return set_flag(pen, word);
+    }
     Ok(())
 }
 

@@ -41,9 +41,12 @@ pub fn told_number(alloc: Global, number: usize) -> Result<String, Fault> {
     Ok(format!(in alloc; "{number}")?)
 }
 
-/// `true` or `false`.
+/// `true` or `false`, or `1` or `0`.
 pub fn truth(word: &str) -> Result<bool, Fault> {
-    named(&[("true", true), ("false", false)], word)
+    named(
+        &[("true", true), ("false", false), ("1", true), ("0", false)],
+        word,
+    )
 }
 
 /// The word of a truth.
@@ -51,18 +54,63 @@ pub fn told_truth(alloc: Global, truth: bool) -> Result<String, Fault> {
     Ok(format!(in alloc; "{truth}")?)
 }
 
-/// A colour: `default`, an index of the palette, or `true`, which is black or else the palette's 7.
+/// The first name of a value in a table of names, or no word.
+pub fn name_of<T: PartialEq>(names: &[(&'static str, T)], value: &T) -> &'static str {
+    for (name, named) in names {
+        if named == value {
+            return name;
+        }
+    }
+    ""
+}
+
+/// A colour: `default`, an index of the palette, `true`, which is black or else the palette's 7,
+/// or `#RRGGBB`, with `+` and an index behind it where it falls back to the palette.
 pub fn color(word: &str) -> Result<ColorAttribute, Fault> {
     match word {
         "default" => Ok(ColorAttribute::Default),
         "true" => Ok(ColorAttribute::TrueColorWithPaletteFallback(RgbColor::default(), 7)),
+        _ if word.starts_with('#') => true_color(word),
         _ => palette_color(word),
     }
+}
+
+fn true_color(word: &str) -> Result<ColorAttribute, Fault> {
+    match word.split_once('+') {
+        Some((color, index)) => fallback_color(rgb_color(color)?, index),
+        None => Ok(ColorAttribute::TrueColorWithDefaultFallback(rgb_color(word)?)),
+    }
+}
+
+fn rgb_color(word: &str) -> Result<RgbColor, Fault> {
+    RgbColor::from_rgb_str(word).ok_or(Fault::Bad)
+}
+
+fn fallback_color(color: RgbColor, index: &str) -> Result<ColorAttribute, Fault> {
+    let index = index.parse().ok().ok_or(Fault::Bad)?;
+    Ok(ColorAttribute::TrueColorWithPaletteFallback(color, index))
 }
 
 fn palette_color(word: &str) -> Result<ColorAttribute, Fault> {
     let index = word.parse().ok().ok_or(Fault::Bad)?;
     Ok(ColorAttribute::PaletteIndex(index))
+}
+
+/// The word of a colour.
+pub fn color_word(alloc: Global, color: ColorAttribute) -> Result<String, Fault> {
+    match color {
+        ColorAttribute::Default => Ok("default".to_owned(alloc)?),
+        ColorAttribute::PaletteIndex(index) => Ok(format!(in alloc; "{index}")?),
+        ColorAttribute::TrueColorWithDefaultFallback(color) => Ok(color.to_rgb_string(alloc)?),
+        ColorAttribute::TrueColorWithPaletteFallback(color, index) => {
+            fallback_word(alloc, color, index)
+        }
+    }
+}
+
+fn fallback_word(alloc: Global, color: RgbColor, index: u8) -> Result<String, Fault> {
+    let word = color.to_rgb_string(alloc)?;
+    Ok(format!(in alloc; "{word}+{index}")?)
 }
 
 /// Adds a word with `|` behind it.

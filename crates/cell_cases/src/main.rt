@@ -37,6 +37,8 @@
 //!   where each has one column.
 //! - `form TEXT`: how it is shown by default, the form that it asks for, and how its first
 //!   character is shown alone; `white TEXT`: whether it is white space, and its first character.
+//!
+//! Behind these cases it says how many of the recorded ones in `links.txt` agree.
 #![tactic(auto)]
 
 mod cells;
@@ -44,10 +46,13 @@ mod changes;
 mod colors;
 mod links;
 mod pens;
+mod recorded;
 mod stage;
 mod widths;
 mod words;
 
+use case_words::recorded::agrees;
+use recorded::Player;
 use stage::Stage;
 use std::io::{Read, Write};
 use std::process::ExitCode;
@@ -65,8 +70,11 @@ fn main(rt: HostRuntime) -> ExitCode {
     if rt.stdout().write_all(stage.told().as_bytes()).is_err() {
         return ExitCode::FAILURE;
     }
-    match played {
-        Ok(()) => ExitCode::SUCCESS,
-        Err(_) => ExitCode::FAILURE,
+    if played.is_err() {
+        return ExitCode::FAILURE;
+    }
+    match agrees(&rt, "links.txt", "> ", &mut Player(rt.alloc())) {
+        Ok(true) => ExitCode::SUCCESS,
+        _ => ExitCode::FAILURE,
     }
 }

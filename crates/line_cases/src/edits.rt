@@ -49,6 +49,9 @@ fn numbered(
         [word] => by_one(line, name, word, seqno),
         [first, second] => by_two(alloc, line, name, first, second, seqno),
         [first, second, third] => by_three(alloc, line, name, first, second, third, seqno),
+        [column, word, width, pen] if name == "grapheme" => {
+            set_grapheme(alloc, line, pair(column, width)?, word, pen, seqno)
+        }
         _ => Err(Fault::Bad),
     }
 }
@@ -110,7 +113,7 @@ fn by_two(
         "direction" => Ok(line.set_direction(direction(first)?, truth(second)?, seqno)),
         "set" => set(alloc, line, given(first)?, second, seqno),
         "clear" => clear(alloc, line, given(first)?, second, seqno),
-        "erase-within" => erase_within(line, given(first)?, given(second)?, seqno),
+        "erase-within" => erase_within(alloc, line, pair(first, second)?, "-", seqno),
         _ => Err(Fault::Bad),
     }
 }
@@ -137,12 +140,20 @@ fn clear(
     done(line.resize_and_clear(width, seqno, attrs))
 }
 
-// A margin is the column behind the last one, and so at least 1.
-fn erase_within(line: &mut Line, column: usize, end: usize, seqno: usize) -> Result<(), Fault> {
+// At a column, and within a margin, which is the column behind the last one, and so at least 1.
+fn erase_within(
+    alloc: Global,
+    line: &mut Line,
+    place: (usize, usize),
+    pen_word: &str,
+    seqno: usize,
+) -> Result<(), Fault> {
+    let (column, end) = place;
+    let attrs = pen(alloc, pen_word)?;
     if end == 0 {
         return Err(Fault::Bad);
     }
-    done(line.erase_cell_with_margin(column, end, seqno, CellAttributes::blank()))
+    done(line.erase_cell_with_margin(column, end, seqno, attrs))
 }
 
 fn by_three(
@@ -157,7 +168,8 @@ fn by_three(
     match name {
         "fill" => fill(alloc, line, pair(first, second)?, third, seqno),
         "overlay" => overlay(alloc, line, given(first)?, second, third, seqno),
-        "grapheme" => set_grapheme(alloc, line, pair(first, third)?, second, seqno),
+        "grapheme" => set_grapheme(alloc, line, pair(first, third)?, second, "-", seqno),
+        "erase-within" => erase_within(alloc, line, pair(first, second)?, third, seqno),
         _ => put_cell(alloc, line, name, pair(first, third)?, second, seqno),
     }
 }
@@ -201,11 +213,12 @@ fn set_grapheme(
     line: &mut Line,
     place: (usize, usize),
     word: &str,
+    pen_word: &str,
     seqno: usize,
 ) -> Result<(), Fault> {
     let (column, width) = place;
     let text = text(alloc, word)?;
-    let attrs = CellAttributes::blank();
+    let attrs = pen(alloc, pen_word)?;
     done(line.set_cell_grapheme(column, text.as_str(), width.min(2), attrs, seqno))
 }
 

@@ -53,7 +53,8 @@ fn numbered(alloc: Global, name: &str, words: &[&str], seqno: usize) -> Result<L
         ("blanks", [width]) => done(Line::with_width(alloc, given(width)?, seqno)),
         ("many", [width, word]) => many(alloc, given(width)?, word, seqno),
         ("text", [word, pen]) => of_text(alloc, word, pen, seqno),
-        ("wrapping", [word]) => wrapping(alloc, word, seqno),
+        ("wrapping", [word]) => wrapping(alloc, word, "-", seqno),
+        ("wrapping", [word, pen]) => wrapping(alloc, word, pen, seqno),
         _ => Err(Fault::Bad),
     }
 }
@@ -72,13 +73,17 @@ fn in_pen(alloc: Global, text: &str, attrs: CellAttributes, seqno: usize) -> Res
     done(Line::from_text(alloc, text, &attrs, seqno, None, &UnicodeWidths))
 }
 
-fn wrapping(alloc: Global, word: &str, seqno: usize) -> Result<Line, Fault> {
+fn wrapping(alloc: Global, word: &str, pen_word: &str, seqno: usize) -> Result<Line, Fault> {
     let text = text(alloc, word)?;
-    wrapping_text(alloc, text.as_str(), seqno)
+    wrapping_text(alloc, text.as_str(), pen(alloc, pen_word)?, seqno)
 }
 
-fn wrapping_text(alloc: Global, text: &str, seqno: usize) -> Result<Line, Fault> {
-    let attrs = CellAttributes::blank();
+fn wrapping_text(
+    alloc: Global,
+    text: &str,
+    attrs: CellAttributes,
+    seqno: usize,
+) -> Result<Line, Fault> {
     let widths = UnicodeWidths;
     done(Line::from_text_with_wrapped_last_col(alloc, text, &attrs, seqno, &widths))
 }

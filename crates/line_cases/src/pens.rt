@@ -1,7 +1,8 @@
 //! What is told of attributes and of changes.
 use crate::words::pen;
 use case_words::fault::Fault;
-use case_words::words::push_barred;
+use case_words::pens::{BLINKS, INTENSITIES, SEMANTIC_TYPES, UNDERLINES, VERTICAL_ALIGNS};
+use case_words::words::{color_word, name_of, push_barred};
 use std::alloc::Global;
 use termwiz_cell::cell::{CellAttributes, SemanticType};
 use termwiz_cell::change::Change;
@@ -9,8 +10,11 @@ use termwiz_cell::color::ColorAttribute;
 
 /// The words of a pen, and `and more` where these do not say it all.
 pub fn pen_words(alloc: Global, attrs: &CellAttributes) -> Result<String, Fault> {
-    let mut told = flag_words(alloc, attrs)?;
-    push_background(alloc, &mut told, attrs)?;
+    let mut told = String::new(alloc);
+    push_styles(&mut told, attrs)?;
+    push_flags(&mut told, attrs)?;
+    push_kinds(&mut told, attrs)?;
+    push_colors(alloc, &mut told, attrs)?;
     if told.is_empty() {
         told.push('-')?;
     }
@@ -25,37 +29,72 @@ fn has_words(alloc: Global, attrs: &CellAttributes, words: &str) -> Result<bool,
     Ok(pen == *attrs)
 }
 
-fn flag_words(alloc: Global, attrs: &CellAttributes) -> Result<String, Fault> {
-    let flags = [
-        (attrs.italic(), "italic"),
-        (attrs.wrapped(), "wrapped"),
-        (attrs.semantic_type() == SemanticType::Prompt, "prompt"),
-        (attrs.semantic_type() == SemanticType::Input, "input"),
-        (attrs.hyperlink().is_some(), "link"),
-    ];
-    let mut told = String::new(alloc);
-    for (holds, word) in flags {
-        if holds {
-            push_word(&mut told, word)?;
-        }
-    }
-    Ok(told)
+fn push_styles(told: &mut String, attrs: &CellAttributes) -> Result<(), Fault> {
+    push_word(told, name_of(&INTENSITIES, &attrs.intensity()))?;
+    push_word(told, name_of(&UNDERLINES, &attrs.underline()))?;
+    push_word(told, name_of(&BLINKS, &attrs.blink()))
 }
 
+fn push_flags(told: &mut String, attrs: &CellAttributes) -> Result<(), Fault> {
+    let flags = [
+        (attrs.italic(), "italic"),
+        (attrs.reverse(), "reverse"),
+        (attrs.strikethrough(), "strike"),
+        (attrs.invisible(), "invisible"),
+        (attrs.wrapped(), "wrapped"),
+        (attrs.overline(), "overline"),
+    ];
+    for (holds, word) in flags {
+        if holds {
+            push_word(told, word)?;
+        }
+    }
+    Ok(())
+}
+
+fn push_kinds(told: &mut String, attrs: &CellAttributes) -> Result<(), Fault> {
+    let semantic_type = attrs.semantic_type();
+    if semantic_type != SemanticType::Output {
+        push_word(told, name_of(&SEMANTIC_TYPES, &semantic_type))?;
+    }
+    push_word(told, name_of(&VERTICAL_ALIGNS, &attrs.vertical_align()))?;
+    push_word(
+        told,
+        if attrs.hyperlink().is_some() {
+            "link"
+        } else {
+            ""
+        },
+    )
+}
+
+// Adds a word, if it has a letter.
 fn push_word(told: &mut String, word: &str) -> Result<(), Fault> {
-    if !told.is_empty() {
-        told.push('+')?;
+    if !told.is_empty() && !word.is_empty() {
+        told.push(',')?;
     }
     told.push_str(word)?;
     Ok(())
 }
 
-fn push_background(alloc: Global, told: &mut String, attrs: &CellAttributes) -> Result<(), Fault> {
-    if let ColorAttribute::PaletteIndex(index) = attrs.background() {
-        let word = format!(in alloc; "bg={index}")?;
-        push_word(told, word.as_str())?;
+fn push_colors(alloc: Global, told: &mut String, attrs: &CellAttributes) -> Result<(), Fault> {
+    push_color(alloc, told, "fg", attrs.foreground())?;
+    push_color(alloc, told, "bg", attrs.background())?;
+    push_color(alloc, told, "ul", attrs.underline_color())
+}
+
+fn push_color(
+    alloc: Global,
+    told: &mut String,
+    name: &str,
+    color: ColorAttribute,
+) -> Result<(), Fault> {
+    if color == ColorAttribute::Default {
+        return Ok(());
     }
-    Ok(())
+    let color = color_word(alloc, color)?;
+    let word = format!(in alloc; "{name}={color}")?;
+    push_word(told, word.as_str())
 }
 
 /// Changes, each with `|` behind it.

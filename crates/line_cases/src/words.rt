@@ -12,8 +12,12 @@ const DIRECTIONS: [(&str, Direction); 2] = [
     ("right", Direction::RightToLeft),
 ];
 
-// By the names that `Debug` shows.
-const HINTS: [(&str, ParagraphDirectionHint); 4] = [
+/// The names of hints, and those that `Debug` shows.
+pub const HINTS: [(&str, ParagraphDirectionHint); 8] = [
+    ("ltr", ParagraphDirectionHint::LeftToRight),
+    ("rtl", ParagraphDirectionHint::RightToLeft),
+    ("autoltr", ParagraphDirectionHint::AutoLeftToRight),
+    ("autortl", ParagraphDirectionHint::AutoRightToLeft),
     ("LeftToRight", ParagraphDirectionHint::LeftToRight),
     ("RightToLeft", ParagraphDirectionHint::RightToLeft),
     ("AutoLeftToRight", ParagraphDirectionHint::AutoLeftToRight),
@@ -36,24 +40,26 @@ pub fn text(alloc: Global, word: &str) -> Result<String, Fault> {
     unescaped(alloc, word, '_')
 }
 
-/// Default attributes, for `-`, or with those whose words are joined by `+`.
+/// Default attributes, for `-`, or with those whose words are joined by `,`.
 pub fn pen(alloc: Global, word: &str) -> Result<CellAttributes, Fault> {
     if word == "-" {
         return Ok(CellAttributes::blank());
     }
-    pens::pen(alloc, word, '+')
+    pens::pen(alloc, word, ',')
 }
 
-/// A cell: its text alone, or with its width, or with its width and its pen.
+/// A cell: its text alone, or with its width, or with its width and its pen, with `/` or `:`
+/// between them.
 pub fn cell(alloc: Global, word: &str) -> Result<Cell, Fault> {
     let (text, rest) = parted(word, "1");
     let (width, pen) = parted(rest, "-");
     cell_of(alloc, text, given(width)?, pen)
 }
 
-// What stands before the first colon and behind it; or else the word, and what stands in its place.
+// What stands before the first slash, or else the first colon, and behind it; or else the word, and
+// what stands in its place.
 fn parted<'a>(word: &'a str, other: &'a str) -> (&'a str, &'a str) {
-    match word.split_once(':') {
+    match word.split_once('/').or(word.split_once(':')) {
         Some(parts) => parts,
         None => (word, other),
     }

@@ -1,5 +1,5 @@
 //! Changes that no script makes, by their words.
-use crate::fault::Fault;
+use case_words::fault::Fault;
 use std::alloc::Global;
 use termwiz_cell::cell::{AttributeChange, CellAttributes, Intensity, Underline};
 use termwiz_cell::change::{Change, CursorShape, CursorVisibility, LineAttribute, Position};

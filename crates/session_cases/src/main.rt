@@ -19,15 +19,21 @@
 //!   `change WORDS` before it added: tells an outcome as it is printed. `unaccepted WHY` tells so
 //!   why a viewer doesn't accept an answer, and `unanswered WHY` why there is none, or why a viewer
 //!   doesn't take a size.
+//!
+//! Behind these cases it says how many of the recorded ones in `surfaces.txt` and in `diffs.txt`
+//! agree.
 #![tactic(auto)]
 
 mod changes;
 mod channels;
-mod fault;
+mod recorded_diffs;
+mod recorded_scripts;
 mod shown;
 mod stage;
 mod trial;
 
+use case_words::fault::Fault;
+use case_words::recorded::agrees;
 use stage::Stage;
 use std::io::{Read, Write};
 use std::process::ExitCode;
@@ -45,8 +51,19 @@ fn main(rt: HostRuntime) -> ExitCode {
     if rt.stdout().write_all(stage.told().as_bytes()).is_err() {
         return ExitCode::FAILURE;
     }
-    match played {
-        Ok(()) => ExitCode::SUCCESS,
-        Err(_) => ExitCode::FAILURE,
+    if played.is_err() {
+        return ExitCode::FAILURE;
     }
+    match recorded_agree(&rt) {
+        Ok(true) => ExitCode::SUCCESS,
+        _ => ExitCode::FAILURE,
+    }
+}
+
+fn recorded_agree(rt: &HostRuntime) -> Result<bool, Fault> {
+    let mut scripts = recorded_scripts::Player::new(rt.alloc());
+    let mut diffs = recorded_diffs::Player::new(rt.alloc())?;
+    let scripts_agree = agrees(rt, "surfaces.txt", "case ", &mut scripts)?;
+    let diffs_agree = agrees(rt, "diffs.txt", "case ", &mut diffs)?;
+    Ok(scripts_agree && diffs_agree)
 }

@@ -1,5 +1,5 @@
 //! What outcomes and the events of scripts are told as.
-use crate::fault::Fault;
+use case_words::fault::Fault;
 use std::alloc::{AllocError, Global};
 use surfview_session::printed::{Printed, PrintedMany};
 use surfview_session::script::{Events, read};

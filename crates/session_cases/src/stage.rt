@@ -1,9 +1,9 @@
 //! What the lines of the cases do, and what is told of it.
 use crate::changes::{change, given};
 use crate::channels::Sink;
-use crate::fault::Fault;
 use crate::shown::{accept_error, listed, made, printed, printed_many, surface_error};
 use crate::trial::Trial;
+use case_words::fault::Fault;
 use std::alloc::Global;
 use std::io::ErrorKind;
 use std::mem;
@@ -306,7 +306,8 @@ fn bracketed(line: &str) -> Option<(&str, &str)> {
     line.strip_suffix(']')?.split_once(" [")
 }
 
-fn text_of(alloc: Global, bytes: &[u8]) -> Result<String, Fault> {
+/// The text of these bytes.
+pub fn text_of(alloc: Global, bytes: &[u8]) -> Result<String, Fault> {
     let text = str::from_utf8(bytes).map_err(|_| Fault::Bad)?;
     let text = String::from_str(alloc, text)?;
     Ok(text)

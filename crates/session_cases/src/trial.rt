@@ -1,6 +1,6 @@
 //! A session's words and input, and where it writes.
 use crate::channels::{Sink, Source};
-use crate::fault::Fault;
+use case_words::fault::Fault;
 use std::alloc::Global;
 use std::io::ErrorKind;
 use surfview_session::session::{SessionError, session};

@@ -1,5 +1,5 @@
 //! Edits of lines.
-use crate::form::{Form, is_same_before, line};
+use crate::form::{Form, has_same_form, is_same_before, line};
 use crate::given::{LONG, boxed, rich_cell};
 use crate::stop::{Stop, refused};
 use std::alloc::{AllocError, Global};
@@ -32,6 +32,7 @@ pub enum Edit {
     Compress,
     SplitOff,
     AppendLine,
+    AppendText,
     Zones,
 }
 
@@ -47,7 +48,7 @@ pub const CELL_EDITS: [Edit; 7] = [
 ];
 
 /// The others.
-pub const OTHER_EDITS: [Edit; 15] = [
+pub const OTHER_EDITS: [Edit; 16] = [
     Edit::EraseCell,
     Edit::RemoveCell,
     Edit::EraseCellWithMargin,
@@ -62,6 +63,7 @@ pub const OTHER_EDITS: [Edit; 15] = [
     Edit::Compress,
     Edit::SplitOff,
     Edit::AppendLine,
+    Edit::AppendText,
     Edit::Zones,
 ];
 
@@ -94,6 +96,7 @@ fn other_name(edit: Edit) -> &'static str {
         Edit::Compress => "compress_for_scrollback",
         Edit::SplitOff => "split_off",
         Edit::AppendLine => "append_line",
+        Edit::AppendText => "append_line of a text",
         _ => "semantic_zone_ranges",
     }
 }
@@ -174,8 +177,14 @@ fn is_changed(line: &mut Line, edit: Edit, gift: Gift) -> bool {
         Edit::Compress => line.compress_for_scrollback().is_ok(),
         Edit::SplitOff => line.split_off(2, 2).is_ok(),
         Edit::AppendLine => line.append_line(gift.line, 2).is_ok(),
+        Edit::AppendText => is_appended_as_text(line, gift.line),
         _ => line.semantic_zone_ranges().is_ok(),
     }
+}
+
+fn is_appended_as_text(line: &mut Line, other: Line) -> bool {
+    let mut other = other;
+    other.compress_for_scrollback().is_ok() && line.append_line(other, 2).is_ok()
 }
 
 fn is_overlaid(line: &mut Line, pen: &CellAttributes) -> bool {
@@ -189,6 +198,9 @@ fn stands(alloc: Global, form: Form, edit: Edit, edited: &Line) -> Result<bool, 
     let before = line(alloc, form)?;
     match edit {
         Edit::FillRange | Edit::Overlay => is_same_before(edited, &before, 2),
+        Edit::AppendLine | Edit::AppendText => {
+            Ok(*edited == before && has_same_form(edited, &before))
+        }
         _ => Ok(*edited == before),
     }
 }

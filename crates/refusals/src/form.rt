@@ -49,3 +49,8 @@ pub fn is_same_before(line: &Line, other: &Line, end: usize) -> Result<bool, All
     let others = other.columns_as_line(0..end)?;
     Ok(own.has_same_cells(&others))
 }
+
+/// Whether both lines store their cells in the same form.
+pub fn has_same_form(line: &Line, other: &Line) -> bool {
+    line.stored_cells().is_some() == other.stored_cells().is_some()
+}

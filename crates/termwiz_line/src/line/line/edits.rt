@@ -182,6 +182,7 @@ impl Line {
         ensures ok { OnOk result (Prunes self.old seqno self.new) }
         ensures err { OnErr result (IsUnchanged self.old self.new) }
         ensures succeeds { self.old.is_vector ≡ true → IsOk result }
+        // Where it cuts nothing.
         ensures rests { IsPruned self.old.cells self.old.cells →
             (result ≡ Ok tt) × (self.new ≡ self.old) }
     {
@@ -249,7 +250,8 @@ impl Line {
     ///
     /// - Of a wide cell the last one stays, and each before it leaves its half.
     /// - An empty line stays as it is where the cell is a default blank.
-    /// - Where there is no column it prunes, and that is all.
+    /// - Where there is no column it prunes, and that is all. It takes memory only where that makes
+    ///   a vector of a text.
     /// - On an error the cell was set in some first columns, and nothing was pruned.
     pub fn fill_range(
         &mut self,
@@ -263,7 +265,10 @@ impl Line {
         ensures appended { OnOk result (
             AppendsCells self.old range.start range.end cell.now self.new) }
         ensures made { OnOk result (MakesVector self.old range.start range.end cell.now self.new) }
+        // Of no column.
         ensures none { range.end ≤ range.start → OnOk result (Prunes self.old seqno self.new) }
+        ensures succeeds { range.end ≤ range.start → self.old.is_vector ≡ true → IsOk result }
+        // Of no column, where pruning cuts nothing.
         ensures rests { range.end ≤ range.start → IsPruned self.old.cells self.old.cells →
             (result ≡ Ok tt) × (self.new ≡ self.old) }
     {

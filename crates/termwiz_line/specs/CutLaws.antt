@@ -31,6 +31,6 @@ ClustersAreOne = (shown : List ℕ → Presentation × Option Presentation) (cel
 abbrev pub ClustersJoin : Type 0
 ClustersJoin = (shown : List ℕ → Presentation × Option Presentation) (cells : List VisibleCell) (clusters : List ClusterValue) → AreClusters shown cells clusters → JoinTo cells clusters
 
--- each byte of a cell's text tells the column and the width of that cell
+-- each byte of a cell's text leads to the column and the width of that cell
 abbrev pub BytesTellTheirCells : Type 0
 BytesTellTheirCells = (before : List VisibleCell) (c : VisibleCell) (after : List VisibleCell) (k : ℕ) → k < length c.cell.text → slice_index_or (cells_of_bytes (before ++ c ∷ after)) (length (texts_of before) + k) (0, 0) ≡ (c.column, columns c.cell)

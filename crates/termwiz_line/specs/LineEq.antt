@@ -8,7 +8,7 @@ use Rattle.termwiz_storage.specs.CellLists.{cells_eq, cells_eq-Decides}
 use Rattle.termwiz_line.specs.LineFlags.{LineFlags}
 use Rattle.termwiz_line.specs.LineValue.{LineValue}
 
--- what tells a line from another
+-- what sets a line apart from another
 pub record LineContents : Type 0 where
   pub cells : List CellValue
   pub seqno : ℕ

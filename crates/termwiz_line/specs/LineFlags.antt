@@ -1,4 +1,4 @@
--- The flags of a line: its size, and how its direction is told.
+-- The flags of a line: its size, and what decides its direction.
 use Rattle.std.specs.Prelude.{ℕ, ◌+◌, Bool, false, if◌then◌else◌, ◌==◌}
 use Rattle.std.specs.Int.RustNames.{bit_and}
 

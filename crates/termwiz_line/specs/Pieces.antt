@@ -23,7 +23,7 @@ pub record IsCut {A : Type 0} (IsPiece : List A → Type 0) (xs : List A) (ps : 
   pub whole : joined ps ≡ xs
   pub longest : AreLongest IsPiece ps
 
--- the elements are equal in what f tells of them
+-- f has equal values at the elements
 pub record AreEqualBy {A K : Type 0} (f : A → K) (p : List A) : Type 0 where
   pub value : K
   pub all : All (λ x. f x ≡ value) p

@@ -25,7 +25,7 @@ cells_of_text measure a text = map (λ g. measured measure g a) (graphemes true 
 abbrev pub stored_text : (List ℕ → ℕ) → Attributes → List ℕ → List CellValue
 stored_text measure a text = with_halves (at_columns 0 (cells_of_text measure a text))
 
--- the same where the text goes on in the next line; an empty text has no cell to mark
+-- the cells of a text that goes on in the next line, the last one marked; an empty text has no cell to mark
 abbrev pub wrapped_text : (List ℕ → ℕ) → Attributes → List ℕ → List CellValue
 wrapped_text measure a text = if length (stored_text measure a text) == 0 then [] else set_last_wrapped true (stored_text measure a text)
 

@@ -51,7 +51,7 @@ pub fn cut_laws()
 
 /// The clusters of a line follow from its cells, whichever form stores them. Their texts, one
 /// behind another, are the texts of the visible cells, and their widths together are the columns
-/// of these. Each byte of a cell's text tells the column and the width of that cell.
+/// of these. Each byte of a cell's text leads to the column and the width of that cell.
 pub fn cluster_laws()
     ensures one { ClustersAreOne }
     ensures joined { ClustersJoin }

@@ -1,4 +1,4 @@
--- What a borrowed visible cell stands for: its column and the cell, and what it tells of itself.
+-- What a borrowed visible cell stands for: its column and the cell, and the width and text that it has.
 use Rattle.std.specs.Prelude.{ℕ, List, nat_lt}
 use Rattle.termwiz_cell.specs.Attributes.{Attributes}
 use Rattle.termwiz_cell.specs.CellValue.{CellValue, columns}
@@ -16,7 +16,7 @@ ref_index r = (indexed_cell r).column
 abbrev pub ref_cell : CellRef → CellValue
 ref_cell r = (indexed_cell r).cell
 
--- the width that it tells: a piece of a text tells the one that it was made with
+-- its width: a piece of a text has the one that it was made with
 abbrev pub ref_width : CellRef → ℕ
 ref_width (StoredRef i c) = columns c.now
 ref_width (ClusterRef i t w a) = w

@@ -37,7 +37,7 @@ cells_from t [] ps = []
 cells_from t (s ∷ ss) [] = []
 cells_from t (s ∷ ss) (a ∷ ps) = with_half (first_cell t s a) ++ cells_from (drop (cell_len s t) t) ss ps
 
--- the same without the halves, each at its column, the first at column i
+-- the cells without the halves, each at its column, the first at column i
 abbrev pub shown_cells : ℕ → List ℕ → List Shape → List Attributes → List VisibleCell
 shown_cells i t [] ps = []
 shown_cells i t (s ∷ ss) [] = []

@@ -1,4 +1,4 @@
--- Setting a cell in a row of columns, told by what stands at each place afterwards.
+-- Setting a cell in a row of columns, by what stands at each place afterwards.
 use Rattle.std.specs.Prelude.{◌≡◌, ℕ, suc, ◌+◌, ◌-◌, ◌<◌, ◌≤◌, true, false, max, List, length}
 use Rattle.termwiz_cell.specs.CellValue.{CellValue, half, is_wide, columns}
 use Rattle.termwiz_storage.specs.Stored.{stored}

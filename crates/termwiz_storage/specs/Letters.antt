@@ -13,7 +13,7 @@ abbrev pub set_letters : ℕ → List ℕ → Attributes → List CellValue → 
 set_letters x [] a cs = cs
 set_letters x (c ∷ ls) a cs = set_letters (x + 2) ls a (set_cell x (letter_cell c a) cs)
 
--- the same where the cells and their halves only come in the place of others
+-- letters set where their cells and halves only come in the place of others
 abbrev pub put_letters : ℕ → List ℕ → Attributes → List CellValue → List CellValue
 put_letters x [] a cs = cs
 put_letters x (c ∷ ls) a cs = put_letters (x + 2) ls a (put x (letter_cell c a) cs)

@@ -254,7 +254,7 @@ impl<'a> RowWriter<'a> {
         }
     }
 
-    // The same with a pen that is equal to the one that stands.
+    // Writes the plain cells that come next in a pen that is equal to the one that stands.
     #[inline(always)]
     fn plain_run(
         &mut self,

@@ -10,14 +10,14 @@ pub enum Direction {
 }
 
 /// What decides the direction of a line: the named one, or the line's own text, and the named one
-/// where the text doesn't tell.
+/// where the text has no direction.
 #[derive(Debug, Clone, Copy, PartialEq, Eq)]
 pub enum ParagraphDirectionHint {
     LeftToRight,
     RightToLeft,
-    /// The line's text, and from left to right where it doesn't tell.
+    /// That of the line's text, and from left to right where it has none.
     AutoLeftToRight,
-    /// The line's text, and from right to left where it doesn't tell.
+    /// That of the line's text, and from right to left where it has none.
     AutoRightToLeft,
 }
 

@@ -53,12 +53,12 @@ use zones::drop_zones;
 /// that it has taken; `blank_out` alone sets the number anew. Where each change has a new number,
 /// whoever keeps something that was made from a line sees by it that the line has changed since.
 ///
-/// The number doesn't tell of what `split_off` cuts, nor of what is written by `cells_mut`.
+/// The number doesn't change where `split_off` cuts, nor where `cells_mut` is written through.
 ///
 /// Two lines are equal where their cells, numbers and flags are, whichever form stores the cells.
 ///
 /// A line stores its cells as a vector or as one text. `stored_cells`, whether `as_str` lends, and
-/// the variants of visible cells tell which it is; `==` doesn't.
+/// the variants of visible cells show which it is; `==` doesn't.
 ///
 /// - `new` makes a text. It stays one while `set_cell`, `set_cell_grapheme` or
 ///   `overlay_text_with_attribute` sets each cell at its end, `fill_range` sets narrow cells there,

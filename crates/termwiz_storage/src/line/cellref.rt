@@ -14,7 +14,7 @@ use termwiz_cell::cell::{Cell, CellAttributes};
 use termwiz_cell::emoji::{Presentation, Widths};
 
 /// A visible cell of a line, with its column: a stored cell, or a piece of a text with its width in
-/// columns and its attributes. One that is made by hand may tell any width and any text.
+/// columns and its attributes. One that is made by hand may have any width and any text.
 #[derive(Clone, Copy, Debug)]
 pub enum CellRef<'a> {
     /// A cell that is stored as one.
@@ -104,8 +104,8 @@ impl<'a> CellRef<'a> {
         }
     }
 
-    /// A copy of the cell. The reference must tell a width and a text that a cell has, as each does
-    /// that a walk gives.
+    /// A copy of the cell. The reference must have a width and a text that a cell can have, as each
+    /// item of a walk does.
     #[doc(hidden)]
     pub fn to_cell(&self, alloc: Global) -> Result<Cell, AllocError>
         requires { IsOfCell self.now }
@@ -122,8 +122,8 @@ impl<'a> CellRef<'a> {
             && (self.width() == other.width() && *self.attrs() == *other.attrs())
     }
 
-    /// Whether both are the same cell, at the same column. Both references must tell what `to_cell`
-    /// asks for.
+    /// Whether both are the same cell, at the same column. Both references must have a width and a
+    /// text that a cell can have.
     #[doc(hidden)]
     pub fn is_same(&self, other: &CellRef<'_>) -> bool
         requires own { IsOfCell self.now }

@@ -32,7 +32,7 @@ use std::alloc::{AllocError, Global};
 use std::marker::Model;
 use termwiz_cell::cell::{Cell, CellAttributes};
 
-/// The cells of a line as one text, with what tells each cell's part of it, and runs of equal
+/// The cells of a line as one text, with the shapes of the cells in it, and runs of equal
 /// attributes. Where cells in a row are alike it takes far less memory than a vector of cells.
 ///
 /// It stands for a list of stored cells, in which each wide cell is followed by its half, a blank
@@ -245,7 +245,7 @@ impl ClusteredLine {
     }
 
     // Appends the first cells as far as they are plain and have these attributes, 65,535 at most,
-    // and tells how many these are.
+    // and returns how many these are.
     fn append_run(&mut self, cells: &[Cell], attrs: &CellAttributes) -> Result<usize, AllocError>
         requires { 0 < length cells.now }
         ensures within { IfOk result (λ count. count ≤ length cells.now) }
@@ -382,7 +382,7 @@ fn is_half_of(cell: &Cell, wide: &Cell) -> bool
 }
 
 // Appends the texts of the first cells, as far as they are plain and have these attributes, and
-// tells how many these are. There is room for all.
+// returns how many these are. There is room for all.
 fn push_plain(text: &mut String, cells: &[Cell], attrs: &CellAttributes) -> usize
     requires { string_len text.old + length cells.now ≤ string_capacity text.old }
     ensures within { result ≤ length cells.now }

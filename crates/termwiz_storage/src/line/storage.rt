@@ -162,8 +162,8 @@ impl CellStorage {
         Ok(())
     }
 
-    // The same where a text becomes a vector. It stands apart, so that the way of a vector is
-    // short.
+    // Sets a cell within a length in a text, which becomes a vector. It stands apart, so that the
+    // way of a vector is short.
     #[inline(never)]
     fn set_in_text_within(&mut self, i: usize, cell: Cell, len: usize) -> Result<(), AllocError>
         ensures ok { OnOk result (

@@ -1,5 +1,5 @@
 -- What a change makes of a full screen is what it makes of the screen and of what is kept beside it.
-use Rattle.std.proofs.Common.{◌≡◌, ℕ, Bool, true, false, List, [], ◌∷◌, ◌++◌, map, set, get_or, take, drop, replicate, length, ◌-◌, refl, sym, ap, ap₂, ◌∙◌}
+use Rattle.std.proofs.Common.{◌≡◌, ℕ, Bool, true, false, List, [], ◌∷◌, ◌++◌, map, set, get_or, take, drop, replicate, length, ◌-◌, ◌<◌, refl, sym, ap, ap₂, subst, ◌∙◌}
 use Rattle.std.specs.Prelude.{if◌then◌else◌}
 use Rattle.std.proofs.lemmas.List.{map-append, map-set, drop-map, take-map, length-map}
 use Rattle.unicode_segmentation.specs.Grapheme.{graphemes}
@@ -18,6 +18,8 @@ use Rattle.termwiz_screen.specs.Screen.{Screen}
 use Rattle.termwiz_screen.specs.Step.{step, step_kept, replay, replay_kept}
 use Rattle.termwiz_screen.specs.declared.print.Piece.{Piece}
 use Rattle.termwiz_screen.specs.declared.print.Piece.TheVariants.{CarriageReturn, LineFeed, CarriageReturnLineFeed, Cell}
+use Rattle.termwiz_screen.specs.TextScrolls.{rows_scrolled}
+use Rattle.termwiz_screen.proofs.TextScrolls.{up, text_up}
 use Rattle.termwiz_screen.proofs.Regions.{map-replicate, map-region_up, map-region_down}
 
 -- the same but for the lengths of the stored rows and what isn't shown of their flags
@@ -143,6 +145,16 @@ full_steps f g =
       cleared = λ color i. record g { screen = step f g.screen (change.ClearScreen color); lines = same i };
       cleared_line = λ color i. record g { screen = step f g.screen (change.ClearToEndOfLine color); lines = same i };
       cleared_below = λ color i. record g { screen = step f g.screen (change.ClearToEndOfScreen color); lines = same i };
+      text = λ text some.
+          let n = rows_scrolled f g.screen text in
+          let kept = text_up f (graphemes true text) g.screen (kept_in g) (subst (λ ls. 0 < length ls) (sym same) some) in
+          λ i. record g {
+            screen = step f g.screen (change.Text text);
+            title = kept.title i;
+            shape = shape_of (kept.shape i);
+            color = kept.color i;
+            lines = (kept.lines ∙ ap (up SingleWidthLine n) same) i;
+          };
     }
 
 pub full-resized : (s : Screen) (k : Kept) (w h : ℕ) → let f = full_screen s k in

@@ -38,6 +38,7 @@ pub mod DiffLists
 pub mod Restoring
 mod FewestPrints
 mod CursorColumns
+pub mod TextScrolls
 pub mod FullScreens
 mod CalmEntries
 pub mod FullRepaint

@@ -1,5 +1,5 @@
 -- What changes make of full screens, and what full repaints do when they are replayed, by any width function that gives a single space one column.
-use Rattle.std.specs.Prelude.{◌≡◌, ℕ, ◌+◌, ◌-◌, ◌*◌, ◌<◌, ◌≤◌, List, ◌++◌, length, set, take, replicate}
+use Rattle.std.specs.Prelude.{◌≡◌, ℕ, ◌+◌, ◌-◌, ◌*◌, ◌<◌, ◌≤◌, min, List, ◌++◌, length, set, take, drop, replicate}
 use Rattle.termwiz_cell.specs.CellValue.{space}
 use Rattle.termwiz_cell.specs.ChangeValue as change
 use Rattle.termwiz_cell.specs.ChangeValue.{ChangeValue}
@@ -11,17 +11,18 @@ use Rattle.termwiz_screen.specs.FullScreen.{FullScreen, full_screen, full_step, 
 use Rattle.termwiz_screen.specs.Kept.{Kept}
 use Rattle.termwiz_screen.specs.Printable.{IsPrintable}
 use Rattle.termwiz_screen.specs.Repaint.{full_repaint}
-use Rattle.termwiz_screen.specs.Screen.{Screen}
+use Rattle.termwiz_screen.specs.Screen.{Screen, row_at}
 use Rattle.termwiz_screen.specs.Step.{step, replay, replay_kept}
 use Rattle.termwiz_screen.specs.ScrollRegions.{region_up, region_down}
 use Rattle.termwiz_screen.specs.Resized.{resized_screen, resized_kept}
+use Rattle.termwiz_screen.specs.TextScrolls.{rows_scrolled}
 
 -- the full screen after changes depends on the full screen before them alone
 abbrev pub ChangesMakeFullScreens : Type 0
 ChangesMakeFullScreens =
     (measure : List ℕ → ℕ) (changes : List ChangeValue) (s : Screen) (k : Kept) → full_screen (replay measure s changes) (replay_kept measure s k changes) ≡ full_replay measure (full_screen s k) changes
 
--- what changes make of a full screen beside its screen: a title, a shape and a colour are set, and so is the attribute of the cursor's row; scrolls move attributes with their rows, and added rows have none; clears leave them
+-- what changes make of a full screen beside its screen: a title, a shape and a colour are set, and so is the attribute of the cursor's row; scrolls move attributes with their rows, and added rows have none; clears leave them; a text that scrolls n rows away takes their attributes along, those of the others go up with their rows, and the new rows at the bottom have none
 pub record FullStepsAre (measure : List ℕ → ℕ) (f : FullScreen) : Type 0 where
   pub title : (title : List ℕ) → full_step measure f (change.Title title) ≡ record f { title = title }
   pub shape : (shape : CursorShape) → full_step measure f (change.CursorShape shape) ≡ record f { shape = shape }
@@ -32,9 +33,17 @@ pub record FullStepsAre (measure : List ℕ → ℕ) (f : FullScreen) : Type 0 w
   pub cleared : (color : ColorAttribute) → let c = change.ClearScreen color in full_step measure f c ≡ record f { screen = step measure f.screen c }
   pub cleared_line : (color : ColorAttribute) → let c = change.ClearToEndOfLine color in full_step measure f c ≡ record f { screen = step measure f.screen c }
   pub cleared_below : (color : ColorAttribute) → let c = change.ClearToEndOfScreen color in full_step measure f c ≡ record f { screen = step measure f.screen c }
+  pub text : (text : List ℕ) → 0 < length f.lines → let c = change.Text text in let n = rows_scrolled measure f.screen text in
+      full_step measure f c ≡ record f { screen = step measure f.screen c; lines = drop n f.lines ++ replicate (min n (length f.lines)) SingleWidthLine }
 
 abbrev pub FullStepsAreSo : Type 0
 FullStepsAreSo = (measure : List ℕ → ℕ) (f : FullScreen) → FullStepsAre measure f
+
+-- a text that scrolls n rows away leaves the other rows above the cursor's as they were, n rows higher
+abbrev pub TextsScrollRows : Type 0
+TextsScrollRows =
+    (measure : List ℕ → ℕ) (s : Screen) (text : List ℕ) (j : ℕ) → s.y < s.height → length s.rows ≡ s.height → let n = rows_scrolled measure s text in j + n < s.y →
+    row_at (step measure s (change.Text text)).rows j ≡ row_at s.rows (j + n)
 
 -- another size leaves the title, the shape and the colour, and the attributes of the rows that stay
 abbrev pub ResizedKeepsLines : Type 0

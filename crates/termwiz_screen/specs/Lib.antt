@@ -10,6 +10,7 @@ pub mod Repaint
 pub mod Printable
 pub mod Drawing
 pub mod RepaintLaws
+pub mod TextScrolls
 pub mod FullLaws
 pub mod Chars
 pub mod ShownChars

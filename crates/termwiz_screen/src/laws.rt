@@ -5,7 +5,7 @@ ghost use Rattle.termwiz_screen.specs.DiffLaws.{NeedGivesRegion, NeedGivesRows, 
 ghost use Rattle.termwiz_screen.specs.DiffLaws.{PrintsAreDiff, RegionIsDiff};
 ghost use Rattle.termwiz_screen.specs.FullLaws.{ChangesMakeFullScreens, FullRepaintGivesScreen};
 ghost use Rattle.termwiz_screen.specs.FullLaws.{FullRepaintIsShort, FullStepsAreSo};
-ghost use Rattle.termwiz_screen.specs.FullLaws.{ResizedKeepsLines};
+ghost use Rattle.termwiz_screen.specs.FullLaws.{ResizedKeepsLines, TextsScrollRows};
 ghost use Rattle.termwiz_screen.specs.Fewest.{FewestNarrowPrints, FewestPrints};
 ghost use Rattle.termwiz_screen.specs.RepaintLaws.{LineEntriesGiveRow, RepaintGivesScreen};
 ghost use Rattle.termwiz_screen.specs.RepaintLaws.{RepaintIsShort};
@@ -21,6 +21,7 @@ pub fn repaint_laws()
 /// What changes make of full screens, and what a full repaint does when it is replayed.
 pub fn full_repaint_laws()
     ensures step { FullStepsAreSo }
+    ensures scrolled { TextsScrollRows }
     ensures changes { ChangesMakeFullScreens }
     ensures resized { ResizedKeepsLines }
     ensures gives { FullRepaintGivesScreen }

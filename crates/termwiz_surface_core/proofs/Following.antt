@@ -7,13 +7,14 @@ use Rattle.std.proofs.lemmas.Bool.Decides.{nat_tests}
 use Rattle.std.proofs.lemmas.Grind.{fold-append}
 use Rattle.std.proofs.lemmas.List.{drop-append-le, drop-drop}
 use Rattle.std.proofs.Math.Seq.{drop-length}
+use Rattle.termwiz_cell.specs.CellValue.{CellValue}
 use Rattle.termwiz_cell.specs.ChangeValue.{ChangeValue}
+use Rattle.termwiz_screen.specs.Diff.{Region}
 use Rattle.termwiz_surface_core.specs.Adding.{Adds, Makes, with_log}
 use Rattle.termwiz_surface_core.specs.Copies.{AddsDiff, AddsNothing}
 use Rattle.termwiz_surface_core.specs.Following.{ViewerValue, LeadsTo, Follows, has_size_of, asks_with, number_in_size, IsFitted}
 use Rattle.termwiz_screen.specs.Log.{LogValue, next_number, due, reaches, is_known, delta_limit, appended, flushed, restarted}
 use Rattle.termwiz_screen.specs.Printable.{HasSize}
-use Rattle.termwiz_screen.specs.Prints.{Print}
 use Rattle.termwiz_surface_core.specs.Resizing.{HasResized, Resizes}
 use Rattle.termwiz_screen.specs.FullScreen.{full_screen, full_replay, HasFullSize}
 use Rattle.termwiz_surface_core.specs.SurfaceValue.{SurfaceValue, screen_of, kept_of, full_of}
@@ -140,7 +141,7 @@ module _ {W : Type 0} (f : W → List ℕ → ℕ) where
   Follows-adds v s t cs told (Err Memory) h a = Follows-restarted v s t h a.3.widths a.3.full a.3.log
 
   -- after a drawing or a copy
-  pub Follows-diff : {Same : Type 0} {ps : List Print} {finish : List ChangeValue → List ChangeValue} (v : ViewerValue W) (s t : SurfaceValue W) (result : Result ℕ SurfaceError) → Follows f v s → AddsDiff (f s.widths) Same ps finish s result t ⊎ AddsNothing s result t → Follows f v t
+  pub Follows-diff : {Same : Type 0} {b : List (List CellValue)} {r : Region} {finish : List ChangeValue → List ChangeValue} (v : ViewerValue W) (s t : SurfaceValue W) (result : Result ℕ SurfaceError) → Follows f v s → AddsDiff (f s.widths) Same b r finish s result t ⊎ AddsNothing s result t → Follows f v t
   Follows-diff {finish = finish} v s t result h (inl d) = Follows-adds v s t (finish d.changes) _ result h d.done
   Follows-diff v s t result h (inr d) = subst (Follows f v) (sym d.same) h
 

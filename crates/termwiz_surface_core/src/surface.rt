@@ -236,6 +236,7 @@ impl<W: Widths> Surface<W> {
     }
 
     /// A blank surface, whose repaints are full ones or not.
+    #[doc(hidden)]
     pub fn blank(
         alloc: Global,
         width: usize,

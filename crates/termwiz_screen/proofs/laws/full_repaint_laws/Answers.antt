@@ -1,7 +1,8 @@
 use Rattle.termwiz_screen.proofs.FullRepaint.{full_repaint_gives}
 use Rattle.termwiz_screen.proofs.FullScreens.{full_steps, full-replayed, full-resized}
 use Rattle.termwiz_screen.proofs.RepaintLength.{full_repaint_short}
+use Rattle.termwiz_screen.proofs.TextScrolls.{texts_scroll}
 use Rattle.termwiz_screen.proofs.laws.full_repaint_laws.Goals as goal
 
 pub returns : goal.returns
-returns c = record { step = full_steps; changes = full-replayed; resized = full-resized; gives = full_repaint_gives; short = λ t. full_repaint_short t }
+returns c = record { step = full_steps; scrolled = texts_scroll; changes = full-replayed; resized = full-resized; gives = full_repaint_gives; short = λ t. full_repaint_short t }

@@ -1,12 +1,22 @@
-use Rattle.std.proofs.Common.{map}
+use Rattle.std.proofs.Common.{inl, map, refl}
 use Rattle.termwiz_cell.specs.ChangeValue.{change_value}
 use Rattle.termwiz_cell.specs.Measure.{measure}
 use Rattle.termwiz_surface_core.specs.Copies.{copied_region}
 use Rattle.termwiz_screen.specs.DiffRegions.{CrossNone, HaveRegion}
 use Rattle.termwiz_screen.specs.Screen.{Screen}
 use Rattle.termwiz_surface_core.specs.SurfaceValue.{screen_of}
-use Rattle.termwiz_surface_core.proofs.Copying.{added_screen, copied_no_scroll}
+use Rattle.termwiz_surface_core.proofs.Copying.{Adds-values, added_screen, copied_no_scroll}
 use Rattle.termwiz_surface_core.proofs.surface.Surface.copy_region.Goals as goal
+
+pub returns-clause-copied : goal.returns-clause-copied
+returns-clause-copied g c =
+    let changes = map change_value c.in_ok-changes.changes.items in
+    inl (record {
+      changes = changes;
+      entries = c.in_ok-changes.ensures.entries;
+      is_diff = c.in_ok-changes.ensures.diff;
+      done = Adds-values (measure g.W.Widths.width_of c.args.self.now.widths) c.args.self.now c.add_changes.new.self c.in_ok-changes.changes changes c.add_changes.result refl c.add_changes.ensures.adds;
+    })
 
 pub returns-clause-region : goal.returns-clause-region
 returns-clause-region g c =

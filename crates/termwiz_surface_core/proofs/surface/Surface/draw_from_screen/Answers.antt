@@ -32,7 +32,12 @@ module _ (g : given.Over) (c : goal.After-add_changes g) where
 pub returns-clause-drawn : goal.returns-clause-drawn
 returns-clause-drawn g c =
     let size = c.dimensions-width.ensures in
-    inl (record { changes = changes g c; is_diff = rw (size.width, size.height) at c.in_ok-changes.ensures.diff; done = adds g c })
+    inl (record {
+      changes = changes g c;
+      entries = rw (size.width, size.height) at c.in_ok-changes.ensures.entries;
+      is_diff = rw (size.width, size.height) at c.in_ok-changes.ensures.diff;
+      done = adds g c;
+    })
 
 pub returns-clause-restores : goal.returns-clause-restores
 returns-clause-restores g c = shows g c (λ (s : Screen). s ≡ record (screen_of c.args.self.now) { rows = s.rows }) refl

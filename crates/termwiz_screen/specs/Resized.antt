@@ -14,7 +14,7 @@ use Rattle.termwiz_screen.specs.Screen.{Screen}
 abbrev pub resized_rows : ℕ → ℕ → List (List CellValue) → List (List CellValue)
 resized_rows w h rows = map (row_of w) (take h rows) ++ replicate (h - length rows) (replicate w blank)
 
--- the same of stored cells
+-- stored cells in another width
 abbrev pub resized_stored : ℕ → ℕ → List (List CellValue) → List (List CellValue)
 resized_stored w h rows = map (resized w) (take h rows) ++ replicate (h - length rows) (replicate w blank)
 

@@ -332,7 +332,7 @@ fn copy_in_width(row: &Line, width: usize) -> Result<Option<Line>, AllocError>
     Ok(Some(copy))
 }
 
-// The same for each of the first rows.
+// The copies in this width of the first rows, for those that get longer.
 fn copies_in_width(
     alloc: Global,
     rows: &VecDeque<Line>,
@@ -360,7 +360,7 @@ fn put_width(row: &mut Line, copy: Option<Line>, width: usize)
     }
 }
 
-// The same for each row.
+// Cuts each row in place, or puts its copy there.
 fn put_widths(rows: &mut VecDeque<Line>, copies: VecDeque<Option<Line>>, width: usize)
     requires { copies.items ≡ map (copy_in width) rows.old.items }
     ensures rows { rows.new.items ≡ map (in_width width) rows.old.items }

@@ -134,8 +134,8 @@ fn print_cells<'a>(
     Ok(())
 }
 
-// The visible cells of a line at the region's columns. Tells the column behind the last one that
-// was met.
+// Prints the visible cells of a line at the region's columns, and returns the column behind the
+// last one.
 // Each form of storage is walked apart, so that the walk needs no test for each cell.
 fn print_visible<'a>(
     writer: &mut DiffWriter<'a>,

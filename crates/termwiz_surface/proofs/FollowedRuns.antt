@@ -13,7 +13,7 @@ use Rattle.termwiz_screen.specs.declared.full.FullScreen as full_code
 use Rattle.termwiz_screen.specs.declared.screen.Screen as code
 use Rattle.termwiz_surface_core.specs.Following.{ViewerValue, Follows, Accepts, IsFitted, IsAnswer}
 use Rattle.termwiz_surface_core.specs.SurfaceValue.{SurfaceValue, screen_of, full_of}
-use Rattle.termwiz_surface.specs.Schedule.{CatchesUp, Views}
+use Rattle.termwiz_surface.specs.Schedule.{CatchesUp, HasUnmarkedRows, Views}
 use Rattle.termwiz_surface.specs.declared.view.Outcome.TheVariants.{Followed, FollowedFull}
 use Rattle.termwiz_surface.proofs.Viewing.{accepted_shows, accepted_shows_fully}
 
@@ -22,16 +22,16 @@ module _ {W : Type 0} (f : W → List ℕ → ℕ) (s : SurfaceValue W) (old : V
   catches_up : {P : Type 0} (pictures : Pictures P) (changes : List ChangeValue) (p : P) → changes ≡ cs → p ≡ pictures.shown (full_of new.surface) → pictures.shown (full_of new.surface) ≡ pictures.shown (full_of s)
       → CatchesUp f pictures s old k changes p new
   catches_up pictures changes p made shown shows = record {
-    steps = (accepted.0 ∙ number, accepted.1 ∙ sym accepted.0, record { mid = mid; changes = cs; fitted = fitted; stream = answer.stream; full = answer.full; makes = accepted.2 });
+    steps = (accepted.0 ∙ number, accepted.1 ∙ sym accepted.0, record { mid = mid; changes = cs; fitted = fitted; answer = answer; makes = accepted.2 });
     made = sym made;
     shown = shown;
     shows = shown ∙ shows;
   }
 
-  pub Views-followed : s.full ≡ false → (told : Vec Change Global) (screen : code.Screen) → map change_value told.items ≡ cs → screen_value screen ≡ screen_of new.surface → Views f s old (Followed k told screen) new
-  Views-followed plain told screen made shown =
-      (plain, catches_up screens (map change_value told.items) (screen_value screen) made shown (accepted_shows f s old mid new n cs number fitted size answer follows (Ok k) accepted).0)
+  pub Views-followed : s.full ≡ false → (told : Vec Change Global) (screen : code.Screen) → map change_value told.items ≡ cs → screen_value screen ≡ screen_of new.surface → HasUnmarkedRows screen → Views f s old (Followed k told screen) new
+  Views-followed plain told screen made shown unmarked =
+      (plain, catches_up screens (map change_value told.items) (screen_value screen) made shown (accepted_shows f s old mid new n cs number fitted size answer follows (Ok k) accepted).0, unmarked)
 
-  pub Views-followed_full : s.full ≡ true → (told : Vec Change Global) (picture : full_code.FullScreen) → map change_value told.items ≡ cs → full_value picture ≡ full_of new.surface → Views f s old (FollowedFull k told picture) new
-  Views-followed_full full told picture made shown =
-      (full, catches_up full_screens (map change_value told.items) (full_value picture) made shown (accepted_shows_fully f s old mid new n cs number fitted size answer follows (Ok k) accepted full))
+  pub Views-followed_full : s.full ≡ true → (told : Vec Change Global) (picture : full_code.FullScreen) → map change_value told.items ≡ cs → full_value picture ≡ full_of new.surface → HasUnmarkedRows picture.screen → Views f s old (FollowedFull k told picture) new
+  Views-followed_full full told picture made shown unmarked =
+      (full, catches_up full_screens (map change_value told.items) (full_value picture) made shown (accepted_shows_fully f s old mid new n cs number fitted size answer follows (Ok k) accepted full), unmarked)

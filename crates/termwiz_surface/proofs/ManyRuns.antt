@@ -78,6 +78,7 @@ module _ {W : Type 0} (f : W → List ℕ → ℕ) where
           has = record { inside = lt; is = sym e };
           number = h.0 ∙ ap length (sym r.answers_are) ∙ length-map held (λ (y : Held). y.answer);
           given = h.1.1;
+          entries = h.1.3;
           new_is = refl;
         };
       }
@@ -97,7 +98,7 @@ module _ {W : Type 0} (f : W → List ℕ → ℕ) where
   -- a viewer that was given an answer
   module _ (viewer new : ViewerValue W) (a : AnswerValue) (t : Screen) (past : ℕ → Screen) (carries : Carries screens (f viewer.surface.widths) past a t) (names : Names past viewer.last (screen_of viewer.surface)) where
     received : (outcome : ManyOutcome) → TakesAs f viewer a outcome new → Receives f viewer (record { answer = a; screen = t }) outcome new
-    received (Accepted n told) h = let shows = h.2 past t carries names in (h.0, h.1 ∙ shows, shows)
+    received (Accepted n told) h = let shows = h.2 past t carries names in (h.0, h.1 ∙ shows, shows, h.3)
     received (NotAccepted e) h = h
     received (Of o) h = absurd h
     received (Kept k) h = absurd h

@@ -47,7 +47,9 @@ module _ {W : Type 0} (f : W → List ℕ → ℕ) (s : SurfaceValue W) (old : V
   ]
 
   lost : (made : ViewerValue W) → IsLost old made → Loses old (with_empty_log made)
-  lost made l = (l.last, omega (arith, l.number, flushed_number made.surface.log (next_number made.surface.log)))
+  lost made l =
+      let same = flushed_number made.surface.log (next_number made.surface.log) in
+      (l.last, omega (arith, l.grows, same), omega (arith, l.number, same))
 
   module _ {P : Type 0} (pictures : Pictures P) (n : ℕ) (changes : List ChangeValue) (p : P) (made : ViewerValue W) (c : CatchesUp f pictures s old n changes p made) where
     asked : asks_with old s ≡ c.steps.2.mid.last
@@ -76,6 +78,9 @@ module _ {W : Type 0} (f : W → List ℕ → ℕ) (s : SurfaceValue W) (old : V
       repaint = λ is q sized.
           let unknown : knows s c.steps.2.mid.last ≡ false = subst (λ m. knows s m ≡ false) asked (asks_unknown is) in
           ap (played pictures (f s.widths) q) (sym c.made) ∙ repaint unknown q sized ∙ sym c.shows;
+      entries = λ is.
+          let unknown : knows s c.steps.2.mid.last ≡ false = subst (λ m. knows s m ≡ false) asked (asks_unknown is) in
+          sym c.made ∙ c.steps.2.answer.entries unknown;
       own = number;
     }
 
@@ -91,14 +96,14 @@ module _ {W : Type 0} (f : W → List ℕ → ℕ) where
       let g = h.0 in
       let c = g.views.1 in
       subst (LeadOn f screens s v (map change_value changes.items) (screen_value screen)) (sym g.forgets)
-      (leads_on f s v g.follows screens n (map change_value changes.items) (screen_value screen) g.made c c.steps.2.stream.known c.steps.2.stream.repaint (known_leads f s v g.follows))
+      (leads_on f s v g.follows screens n (map change_value changes.items) (screen_value screen) g.made c c.steps.2.answer.stream.known c.steps.2.answer.stream.repaint (known_leads f s v g.follows))
 
   pub followed_full_leads_on : FollowedFullLeadOn f
   followed_full_leads_on s t v u n changes picture h =
       let g = h.0 in
       let full = g.views.0 in
       let c = g.views.1 in
-      let stream = c.steps.2.full full in
+      let stream = c.steps.2.answer.full full in
       subst (LeadOn f full_screens s v (map change_value changes.items) (full_value picture)) (sym g.forgets)
       (leads_on f s v g.follows full_screens n (map change_value changes.items) (full_value picture) g.made c stream.known stream.repaint (known_leads_fully f s v g.follows full))
 

@@ -1,13 +1,15 @@
 -- What asking and applying make of a viewer is what following may make of it.
-use Rattle.std.proofs.Common.{◌≡◌, ℕ, ◌+◌, ◌<◌, ◌≤◌, ◌^◌, inl, inr, true, List, length, refl, sym, ap, ◌∙◌, arith}
-use Rattle.std.specs.Prelude.{Result, Ok, Err, OnOk}
-use Rattle.std.proofs.lemmas.Bool.{true≢false}
+use Rattle.std.proofs.Common.{◌≡◌, ℕ, ◌+◌, ◌<◌, ◌≤◌, ◌^◌, inl, inr, true, List, length, refl, sym, ap, subst, ◌∙◌, arith}
+use Rattle.std.specs.Prelude.{Result, Ok, Err, OnOk, ◌==◌}
+use Rattle.std.proofs.lemmas.Bool.{cases_Bool, eqb-true, true≢false}
 use Rattle.std.proofs.lemmas.Bool.Decides.{nat_tests}
 use Rattle.termwiz_cell.specs.ChangeValue.{ChangeValue}
-use Rattle.termwiz_surface_core.specs.Following.{ViewerValue, Follows, forgetful, Fits, IsFitted, IsAnswer, Fetches, Accepts, IsLost, HasNoRoom, HasRoom, FollowsTo}
-use Rattle.termwiz_screen.specs.Log.{next_number}
+use Rattle.termwiz_surface_core.specs.Following.{ViewerValue, Follows, forgetful, Fits, IsFitted, IsAnswer, Fetches, Accepts, IsLost, HasNoRoom, HasRoom, FollowsTo, has_size_of}
+use Rattle.termwiz_screen.specs.Log.{LogValue, next_number, restarted}
+use Rattle.termwiz_screen.specs.Picture.{Pictures, screens, full_screens}
 use Rattle.termwiz_surface_core.specs.Adding.{Makes}
 use Rattle.termwiz_screen.specs.FullScreen.{HasFullSize, full_replay}
+use Rattle.termwiz_surface_core.specs.History.{GoesOn, KeepsNames}
 use Rattle.termwiz_surface_core.specs.SurfaceValue.{SurfaceValue, screen_of, full_of}
 use Rattle.termwiz_screen.specs.Step.{replay, regions_fit}
 use Rattle.termwiz_surface_core.specs.declared.surface.SurfaceError.{SurfaceError}
@@ -15,18 +17,49 @@ use Rattle.termwiz_surface_core.specs.declared.surface.SurfaceError.TheVariants.
 use Rattle.termwiz_surface_core.proofs.Following.{Follows-none, Follows-same, Follows-fitted, caught_up, fully_caught_up, full-made, fitted_widths, fitted_full, fitted_height, fitted_number, fitted_last, fitted_room}
 use Rattle.termwiz_screen.proofs.Logs.{restarted_number}
 
+-- an emptied log's number is no smaller
+restarted_grows : (l : LogValue) → next_number l ≤ next_number (restarted l)
+restarted_grows l = elim (cases_Bool (next_number l == 0)) [ inl e ↦ rw e (omega (arith, eqb-true (next_number l) 0 e)) | inr e ↦ rw e (omega arith) ]
+
+-- a surface that goes on twice goes on
+goes_then : {P : Type 0} (pictures : Pictures P) (f : List ℕ → ℕ) (past : ℕ → P) (n : ℕ) (p q : P) (log later : LogValue) (a : GoesOn pictures f past n p log) → GoesOn pictures f a.later (next_number log) q later → GoesOn pictures f past n q later
+goes_then pictures f past n p q log later a b = record {
+  later = b.later;
+  alike = λ k le. b.alike k (omega (arith, le, a.grows)) ∙ a.alike k le;
+  grows = omega (arith, a.grows, b.grows);
+  is_past = b.is_past;
+}
+
 module _ {W : Type 0} where
+  keeps_then : (f : List ℕ → ℕ) (s t u : SurfaceValue W) → KeepsNames f s t → KeepsNames f t u → KeepsNames f s u
+  keeps_then f s t u a b = record {
+    screen = λ past is. let x = a.screen past is in goes_then screens f past (next_number s.log) (screen_of t) (screen_of u) t.log u.log x (b.screen x.later x.is_past);
+    full = λ past is. let x = a.full past is in goes_then full_screens f past (next_number s.log) (full_of t) (full_of u) t.log u.log x (b.full x.later x.is_past);
+  }
+
+  -- a viewer that takes another size and then goes on, with the width value that it had
+  pub keeps_fitted : (f : W → List ℕ → ℕ) (s : SurfaceValue W) (old mid new : ViewerValue W) → IsFitted old s mid → KeepsNames (f old.surface.widths) old.surface mid.surface → KeepsNames (f mid.surface.widths) mid.surface new.surface → KeepsNames (f old.surface.widths) old.surface new.surface
+  keeps_fitted f s old mid new fitted a b = keeps_then (f old.surface.widths) old.surface mid.surface new.surface a (subst (λ w. KeepsNames (f w) mid.surface new.surface) (fitted_widths old s mid fitted) b)
+
+  fitted_grows : (old : ViewerValue W) (s : SurfaceValue W) (new : ViewerValue W) → IsFitted old s new → next_number old.surface.log ≤ next_number new.surface.log
+  fitted_grows old s new k = elim (cases_Bool (has_size_of old s)) [
+    | inl e ↦ omega (arith, ap (λ (v : ViewerValue W). next_number v.surface.log) (k.same e))
+    | inr e ↦ rw ((k.other e).1.log) (restarted_grows old.surface.log)
+  ]
+
   -- a viewer that is as another one but for its number
-  lost_alike : (old mid new : ViewerValue W) → mid.surface.widths ≡ old.surface.widths → mid.surface.full ≡ old.surface.full → next_number mid.surface.log ≤ next_number old.surface.log + 1 → new.last ≡ 0 → new.surface ≡ mid.surface → IsLost old new
-  lost_alike old mid new w k n l e = record { last = l; widths = ap (λ (s : SurfaceValue W). s.widths) e ∙ w; full = ap (λ (s : SurfaceValue W). s.full) e ∙ k; number = omega (arith, n, ap (λ (s : SurfaceValue W). next_number s.log) e) }
+  lost_alike : (old mid new : ViewerValue W) → mid.surface.widths ≡ old.surface.widths → mid.surface.full ≡ old.surface.full → next_number old.surface.log ≤ next_number mid.surface.log → next_number mid.surface.log ≤ next_number old.surface.log + 1 → new.last ≡ 0 → new.surface ≡ mid.surface → IsLost old new
+  lost_alike old mid new w k g n l e =
+      let same = ap (λ (s : SurfaceValue W). next_number s.log) e in
+      record { last = l; widths = ap (λ (s : SurfaceValue W). s.widths) e ∙ w; full = ap (λ (s : SurfaceValue W). s.full) e ∙ k; grows = omega (arith, g, same); number = omega (arith, n, same) }
 
   lost_forgetful : (old new : ViewerValue W) → new ≡ forgetful old → IsLost old new
-  lost_forgetful old new e = lost_alike old old new refl refl (omega arith) (ap (λ (v : ViewerValue W). v.last) e) (ap (λ (v : ViewerValue W). v.surface) e)
+  lost_forgetful old new e = lost_alike old old new refl refl (omega arith) (omega arith) (ap (λ (v : ViewerValue W). v.last) e) (ap (λ (v : ViewerValue W). v.surface) e)
 
   -- a viewer that has taken the surface's size, and then no number
   lost_fitted : (s : SurfaceValue W) (old mid new : ViewerValue W) → IsFitted old s mid → new ≡ forgetful mid → IsLost old new
   lost_fitted s old mid new h e =
-      lost_alike old mid new (fitted_widths old s mid h) (fitted_full old s mid h) (fitted_number old s mid h) (ap (λ (v : ViewerValue W). v.last) e) (ap (λ (v : ViewerValue W). v.surface) e)
+      lost_alike old mid new (fitted_widths old s mid h) (fitted_full old s mid h) (fitted_grows old s mid h) (fitted_number old s mid h) (ap (λ (v : ViewerValue W). v.last) e) (ap (λ (v : ViewerValue W). v.surface) e)
 
   -- the changes that are asked for have no room
   no_room : (measure : List ℕ → ℕ) (s : SurfaceValue W) (old mid : ViewerValue W) (cs : List ChangeValue) → IsFitted old s mid → IsAnswer measure s mid.last cs → 2 ^ 64 ≤ next_number mid.surface.log + length cs → HasNoRoom old s
@@ -74,13 +107,14 @@ module _ {W : Type 0} where
   FollowsTo-refused f measure s old mid new n cs ScrollRegion fitted answer h =
       true≢false (sym answer.regions ∙ ap (λ k. regions_fit k cs) (sym (fitted_height old s mid fitted)) ∙ h.1.0)
   FollowsTo-refused f measure s old mid new n cs Numbers fitted answer h =
-      (lost_alike old mid new (fitted_widths old s mid fitted) (fitted_full old s mid fitted) (fitted_number old s mid fitted) h.0 h.1.2, no_room (f s.widths) s old mid cs fitted answer h.1.1)
+      (lost_alike old mid new (fitted_widths old s mid fitted) (fitted_full old s mid fitted) (fitted_grows old s mid fitted) (fitted_number old s mid fitted) h.0 h.1.2, no_room (f s.widths) s old mid cs fitted answer h.1.1)
   FollowsTo-refused f measure s old mid new n cs Memory fitted answer h =
       let frame = h.1.3 in (
         record {
           last = h.0;
           widths = frame.widths ∙ fitted_widths old s mid fitted;
           full = frame.full ∙ fitted_full old s mid fitted;
+          grows = omega (arith, ap next_number frame.log, restarted_grows mid.surface.log, fitted_grows old s mid fitted);
           number = omega (arith, ap next_number frame.log, restarted_number mid.surface.log, fitted_number old s mid fitted);
         },
         has_room (f s.widths) s old mid cs fitted answer h.1.1,
@@ -109,7 +143,7 @@ module _ {W : Type 0} where
   -- a viewer in the surface's size makes what it asked for
   module _ (f : W → List ℕ → ℕ) (s : SurfaceValue W) (old mid new : ViewerValue W) (n : ℕ) (cs : List ChangeValue) (number : n ≡ next_number s.log) (fitted : IsFitted old s mid) (size : HasFullSize s.width s.height (full_of mid.surface)) (answer : IsAnswer (f s.widths) s mid.last cs) where
     pub FollowsTo-accepted : (result : Result ℕ SurfaceError) → Accepts (f mid.surface.widths) mid n cs result new → FollowsTo f s old result new
-    FollowsTo-accepted (Ok k) h = (h.0 ∙ number, h.1 ∙ sym h.0, record { mid = mid; changes = cs; fitted = fitted; stream = answer.stream; full = answer.full; makes = h.2 })
+    FollowsTo-accepted (Ok k) h = (h.0 ∙ number, h.1 ∙ sym h.0, record { mid = mid; changes = cs; fitted = fitted; answer = answer; makes = h.2 })
     FollowsTo-accepted (Err e) h = FollowsTo-refused f (f mid.surface.widths) s old mid new n cs e fitted answer h
 
     module _ (follows : Follows f old s) where

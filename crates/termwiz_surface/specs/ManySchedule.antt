@@ -5,13 +5,14 @@ use Rattle.termwiz_screen.specs.Picture.{screens}
 use Rattle.termwiz_screen.specs.Screen.{Screen}
 use Rattle.termwiz_screen.specs.ScreenValue.{screen_value}
 use Rattle.termwiz_surface_core.specs.Answer.{AnswerValue}
+use Rattle.termwiz_surface_core.specs.Asking.{knows, own_repaint}
 use Rattle.termwiz_surface_core.specs.Carried.{IsGivenBy}
 use Rattle.termwiz_surface_core.specs.Following.{ViewerValue, blank_viewer}
 use Rattle.termwiz_surface_core.specs.Resizing.{Resizes}
 use Rattle.termwiz_surface_core.specs.SurfaceValue.{SurfaceValue, blank_surface, screen_of}
 use Rattle.termwiz_surface_core.specs.declared.surface.SurfaceError.TheVariants as refused
 use Rattle.termwiz_surface.specs.Accepting.{Takes}
-use Rattle.termwiz_surface.specs.Schedule.{Acts, IsInRange}
+use Rattle.termwiz_surface.specs.Schedule.{Acts, HasUnmarkedRows, IsInRange}
 use Rattle.termwiz_surface.specs.declared.view.Event.TheVariants as event
 use Rattle.termwiz_surface.specs.declared.view.many.ManyEvent.{ManyEvent}
 use Rattle.termwiz_surface.specs.declared.view.many.ManyEvent.TheVariants.{On, AnswerFor, Deliver, ResizeViewer}
@@ -69,11 +70,12 @@ module _ {W : Type 0} (measure_of : W → List ℕ → ℕ) where
     pub has : IsAt old.viewers v viewer
     pub number : k ≡ length old.answers
     pub given : IsGivenBy screens measure_of old.surface viewer.last answer
+    pub entries : knows old.surface viewer.last ≡ false → answer.changes ≡ own_repaint old.surface
     pub new_is : new ≡ record old { answers = old.answers ++ record { answer = answer; screen = screen_of old.surface } ∷ [] }
 
   -- a kept answer is delivered to a viewer; one that accepts it shows what the surface showed when it gave the answer, and that is told
   abbrev pub Receives : ViewerValue W → Held → ManyOutcome → ViewerValue W → Type 0
-  Receives old held (Accepted n screen) new = Takes (measure_of old.surface.widths) old held.answer (Ok n) new × (screen_value screen ≡ held.screen) × (screen_of new.surface ≡ held.screen)
+  Receives old held (Accepted n screen) new = Takes (measure_of old.surface.widths) old held.answer (Ok n) new × (screen_value screen ≡ held.screen) × (screen_of new.surface ≡ held.screen) × HasUnmarkedRows screen
   Receives old held (NotAccepted e) new = Takes (measure_of old.surface.widths) old held.answer (Err e) new
   Receives old held _ new = ⊥
 

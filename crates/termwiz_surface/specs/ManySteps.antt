@@ -1,14 +1,16 @@
 -- What one event makes of a surface, its viewers and the answers that are kept.
-use Rattle.std.specs.Prelude.{◌≡◌, ℕ, ◌≤◌, List, [], ◌∷◌, ◌++◌, length, map, Ok, Err}
+use Rattle.std.specs.Prelude.{◌≡◌, ℕ, ◌≤◌, false, List, [], ◌∷◌, ◌++◌, length, map, Ok, Err}
 use Rattle.std.specs.List.{All}
 use Rattle.termwiz_surface.specs.Accepting.{Takes}
 use Rattle.termwiz_surface_core.specs.Answer.{AnswerValue, Carries}
+use Rattle.termwiz_surface_core.specs.Asking.{knows, own_repaint}
 use Rattle.termwiz_surface_core.specs.Carried.{IsGivenBy}
 use Rattle.termwiz_surface_core.specs.Following.{ViewerValue}
 use Rattle.termwiz_surface_core.specs.History.{Names, IsPast}
 use Rattle.termwiz_screen.specs.Log.{next_number}
 use Rattle.termwiz_surface.specs.ManySchedule.{Held, ManyState, AllowsMany}
 use Rattle.termwiz_screen.specs.Picture.{screens}
+use Rattle.termwiz_surface.specs.Schedule.{HasUnmarkedRows}
 use Rattle.termwiz_screen.specs.Screen.{Screen}
 use Rattle.termwiz_screen.specs.ScreenValue.{screen_value}
 use Rattle.termwiz_surface_core.specs.SurfaceValue.{SurfaceValue, screen_of}
@@ -43,7 +45,7 @@ module _ {W : Type 0} where
 
   -- the answer for a number is kept as the last one
   abbrev pub AnswersTo : (W → List ℕ → ℕ) → SurfaceValue W → ℕ → List AnswerValue → ManyOutcome → List AnswerValue → Type 0
-  AnswersTo measure_of s n old (Kept k) new = (k ≡ length old) × ((a : AnswerValue) × IsGivenBy screens measure_of s n a × (new ≡ old ++ a ∷ []))
+  AnswersTo measure_of s n old (Kept k) new = (k ≡ length old) × ((a : AnswerValue) × IsGivenBy screens measure_of s n a × (new ≡ old ++ a ∷ []) × (knows s n ≡ false → a.changes ≡ own_repaint s))
   AnswersTo measure_of s n old (Refused refused.Memory) new = new ≡ old
   AnswersTo measure_of s n old _ new = ⊥
 
@@ -51,7 +53,7 @@ module _ {W : Type 0} where
   abbrev pub TakesAs : (W → List ℕ → ℕ) → ViewerValue W → AnswerValue → ManyOutcome → ViewerValue W → Type 0
   TakesAs measure_of old a (Accepted n screen) new =
       Takes (measure_of old.surface.widths) old a (Ok n) new × (screen_value screen ≡ screen_of new.surface)
-      × ((past : ℕ → Screen) (s : Screen) → Carries screens (measure_of old.surface.widths) past a s → Names past old.last (screen_of old.surface) → screen_of new.surface ≡ s)
+      × ((past : ℕ → Screen) (s : Screen) → Carries screens (measure_of old.surface.widths) past a s → Names past old.last (screen_of old.surface) → screen_of new.surface ≡ s) × HasUnmarkedRows screen
   TakesAs measure_of old a (NotAccepted e) new = Takes (measure_of old.surface.widths) old a (Err e) new
   TakesAs measure_of old a _ new = ⊥
 

@@ -1,16 +1,19 @@
 -- Which outcomes a list of events may have: what each event may answer and make of a surface and its viewer, by the words of the calls themselves, and whole runs.
 use Rattle.std.specs.Bool.{⊤}
+use Rattle.std.specs.List.{All}
 use Rattle.std.specs.Prelude.{◌≡◌, Bool, true, false, ℕ, ◌+◌, ◌-◌, ◌^◌, ◌<◌, List, [], ◌∷◌, map, string_bytes, Result, Ok, Err, vec_len}
 use Rattle.termwiz_cell.specs.ChangeValue.{ChangeValue, change_value}
+use Rattle.termwiz_line.specs.LineFlags.{no_flags}
+use Rattle.termwiz_line.specs.LineValue.{LineValue}
 use Rattle.termwiz_screen.specs.FullScreenValue.{full_value}
 use Rattle.termwiz_screen.specs.Log.{next_number, flushed}
 use Rattle.termwiz_screen.specs.Picture.{Pictures, screens, full_screens}
 use Rattle.termwiz_screen.specs.ScreenValue.{screen_value}
 use Rattle.termwiz_screen.specs.ShownChars.{shown_chars}
+use Rattle.termwiz_screen.specs.declared.screen.Screen as code
 use Rattle.termwiz_surface_core.specs.Adding.{Adds, with_log}
-use Rattle.termwiz_surface_core.specs.Asking.{StreamsFrom, StreamsFullyFrom}
 use Rattle.termwiz_surface_core.specs.Copies.{IsDrawn, IsCopied}
-use Rattle.termwiz_surface_core.specs.Following.{ViewerValue, Follows, FollowsTo, blank_viewer}
+use Rattle.termwiz_surface_core.specs.Following.{ViewerValue, Follows, FollowsTo, IsAnswer, blank_viewer}
 use Rattle.termwiz_surface_core.specs.Resizing.{Resizes}
 use Rattle.termwiz_surface_core.specs.SurfaceValue.{SurfaceValue, blank_surface, screen_of, lengths_of, full_of}
 use Rattle.termwiz_surface_core.specs.declared.surface.SurfaceError.{SurfaceError}
@@ -31,6 +34,11 @@ Tells holds (Answered n) = holds (Ok n)
 Tells holds (Refused e) = holds (Err e)
 Tells holds _ = ⊥
 
+-- each row of the copied screen has the number 0 and no flags
+pub record HasUnmarkedRows (screen : code.Screen) : Type 0 where
+  pub numbers : All (λ (line : LineValue). line.seqno ≡ 0) screen.rows.items
+  pub flags : All (λ (line : LineValue). line.flags ≡ no_flags) screen.rows.items
+
 -- the viewer with an empty log under its own coming number
 abbrev pub with_empty_log : {W : Type 0} → ViewerValue W → ViewerValue W
 with_empty_log v = record v { surface = with_log v.surface (flushed v.surface.log (next_number v.surface.log)) }
@@ -46,8 +54,7 @@ module _ {W : Type 0} (measure_of : W → List ℕ → ℕ) where
   Acts s (Resize w h) (Refused e) t = Resizes s w h (Err e) t
   Acts s Show (Shown text cursor) t = (string_bytes text ≡ shown_chars (screen_of s).rows (lengths_of s)) × (cursor ≡ (s.x, s.y)) × (t ≡ s)
   Acts s Show (Refused Memory) t = t ≡ s
-  Acts s (Ask n) (Asked k changes) t =
-      (k ≡ next_number s.log) × StreamsFrom measure_of s n (map change_value changes.items) × (s.full ≡ true → StreamsFullyFrom measure_of s n (map change_value changes.items)) × (t ≡ s)
+  Acts s (Ask n) (Asked k changes) t = (k ≡ next_number s.log) × IsAnswer (measure_of s.widths) s n (map change_value changes.items) × (t ≡ s)
   Acts s (Ask n) (Refused Memory) t = t ≡ s
   -- no other outcome comes, and that a viewer follows is no event of the surface's own
   Acts s _ _ t = ⊥
@@ -61,8 +68,8 @@ module _ {W : Type 0} (measure_of : W → List ℕ → ℕ) where
 
   -- what is told of a viewer that follows, of a full surface by full screens
   abbrev pub Views : SurfaceValue W → ViewerValue W → Outcome → ViewerValue W → Type 0
-  Views s old (Followed n changes screen) new = (s.full ≡ false) × CatchesUp screens s old n (map change_value changes.items) (screen_value screen) new
-  Views s old (FollowedFull n changes picture) new = (s.full ≡ true) × CatchesUp full_screens s old n (map change_value changes.items) (full_value picture) new
+  Views s old (Followed n changes screen) new = (s.full ≡ false) × CatchesUp screens s old n (map change_value changes.items) (screen_value screen) new × HasUnmarkedRows screen
+  Views s old (FollowedFull n changes picture) new = (s.full ≡ true) × CatchesUp full_screens s old n (map change_value changes.items) (full_value picture) new × HasUnmarkedRows picture.screen
   Views s old (Refused e) new = FollowsTo measure_of s old (Err e) new
   Views s old _ new = ⊥
 

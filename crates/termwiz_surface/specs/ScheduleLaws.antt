@@ -11,7 +11,7 @@ use Rattle.termwiz_screen.specs.ScreenValue.{screen_value}
 use Rattle.termwiz_screen.specs.declared.full.FullScreen as full_code
 use Rattle.termwiz_screen.specs.declared.screen.Screen as code
 use Rattle.termwiz_surface_core.specs.Adding.{Adds}
-use Rattle.termwiz_surface_core.specs.Asking.{knows, most_own_entries}
+use Rattle.termwiz_surface_core.specs.Asking.{knows, own_repaint, most_own_entries}
 use Rattle.termwiz_surface_core.specs.Following.{ViewerValue, number_in_size}
 use Rattle.termwiz_surface_core.specs.SurfaceValue.{SurfaceValue, screen_of, full_of}
 use Rattle.termwiz_surface_core.specs.declared.surface.SurfaceError.TheVariants.{Numbers, Memory}
@@ -21,7 +21,7 @@ use Rattle.termwiz_surface.specs.declared.view.Outcome.TheVariants.{Refused, Fol
 
 -- a viewer that can't follow has no number, and its own has grown by two at most
 abbrev pub Loses : {W : Type 0} → ViewerValue W → ViewerValue W → Type 0
-Loses old new = (new.last ≡ 0) × (next_number new.surface.log ≤ next_number old.surface.log + 2)
+Loses old new = (new.last ≡ 0) × (next_number old.surface.log ≤ next_number new.surface.log) × (next_number new.surface.log ≤ next_number old.surface.log + 2)
 
 module _ {W : Type 0} (measure_of : W → List ℕ → ℕ) where
   -- these changes lead from what the viewer showed to this picture, and its own number counts them
@@ -30,6 +30,8 @@ module _ {W : Type 0} (measure_of : W → List ℕ → ℕ) where
     pub known : knows s old.last ≡ true → (changes ≡ due s.log old.last) × (played pictures (measure_of s.widths) (pictures.shown (full_of old.surface)) changes ≡ p)
     -- else they lead there from any picture of that size
     pub repaint : knows s old.last ≡ false → (q : P) → pictures.IsSized s.width s.height q → played pictures (measure_of s.widths) q changes ≡ p
+    -- and are its repaint
+    pub entries : knows s old.last ≡ false → changes ≡ own_repaint s
     pub own : next_number new.surface.log ≡ number_in_size old s + length changes
 
   -- the changes that are told of a viewer lead to the screen that is told

@@ -5,6 +5,7 @@ use Rattle.std.specs.declared.borrow.CowSlice.{CowSlice}
 use Rattle.termwiz_cell.specs.ChangeValue.{ChangeValue}
 use Rattle.termwiz_cell.specs.declared.change.Change.{Change}
 use Rattle.termwiz_surface_core.specs.Adding.{Adds, Makes}
+use Rattle.termwiz_surface_core.specs.Asking.{knows, own_repaint, most_own_entries}
 use Rattle.termwiz_screen.specs.Log.{LogValue, next_number, due, is_known, delta_limit, restarted}
 use Rattle.termwiz_surface_core.specs.Resizing.{HasResized}
 use Rattle.termwiz_screen.specs.Screen.{Screen}
@@ -78,12 +79,13 @@ module _ {W : Type 0} where
   Fits old s (Err Memory) new = (has_size_of old s ≡ false) × (next_number old.surface.log + 1 < 2 ^ 64) × (new ≡ forgetful old)
   Fits old s (Err ScrollRegion) new = ⊥
 
-  -- these changes bring a viewer that asks with number n to the surface's screen, and of a full surface to its full screen; and no scroll among them goes past the last row
+  -- the surface answers number n by these changes, by what is due where it knows the number, and else by its repaint: they bring a viewer that asks with it to its screen, and of a full surface to its full screen; and no scroll among them goes past the last row
   pub record IsAnswer (measure : List ℕ → ℕ) (s : SurfaceValue W) (n : ℕ) (changes : List ChangeValue) : Type 0 where
     pub stream : IsStream measure (screen_of s) s.log n changes
     pub full : s.full ≡ true → IsFullStream measure (full_of s) s.log n changes
     pub regions : regions_fit s.height changes ≡ true
-    pub short : is_known (delta_limit s.width s.height) s.log n ≡ false → length changes ≤ most_entries s.full s.width s.height
+    pub entries : knows s n ≡ false → changes ≡ own_repaint s
+    pub short : knows s n ≡ false → length changes ≤ most_own_entries s
 
   -- the viewer's own number has no room for another size's and those of the changes that it asks for
   pub record HasNoRoom (old : ViewerValue W) (s : SurfaceValue W) : Type 0 where
@@ -116,15 +118,15 @@ module _ {W : Type 0} where
     pub last : new.last ≡ 0
     pub widths : new.surface.widths ≡ old.surface.widths
     pub full : new.surface.full ≡ old.surface.full
+    pub grows : next_number old.surface.log ≤ next_number new.surface.log
     pub number : next_number new.surface.log ≤ next_number old.surface.log + 2
 
-  -- the viewer in the surface's size makes what it asked for, and its own log tells how
+  -- the viewer in the surface's size makes what the surface answers it, and logs that
   pub record HasFollowed (measure_of : W → List ℕ → ℕ) (s : SurfaceValue W) (old new : ViewerValue W) : Type 0 where
     pub mid : ViewerValue W
     pub changes : List ChangeValue
     pub fitted : IsFitted old s mid
-    pub stream : IsStream (measure_of s.widths) (screen_of s) s.log mid.last changes
-    pub full : s.full ≡ true → IsFullStream (measure_of s.widths) (full_of s) s.log mid.last changes
+    pub answer : IsAnswer (measure_of s.widths) s mid.last changes
     pub makes : Makes (measure_of mid.surface.widths) mid.surface changes new.surface
 
   -- what following answers, and what it makes of the viewer

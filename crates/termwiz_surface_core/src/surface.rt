@@ -235,7 +235,8 @@ impl<W: Widths> Surface<W> {
         Surface::blank(alloc, width, height, widths, true)
     }
 
-    /// A blank surface, whose repaints are full ones or not.
+    /// A blank surface, whose repaints are full ones or not. It is for the crate above: callers
+    /// have `new` and `new_full`.
     #[doc(hidden)]
     pub fn blank(
         alloc: Global,

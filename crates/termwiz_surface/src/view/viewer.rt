@@ -7,7 +7,8 @@ ghost use Rattle.termwiz_surface.specs.Accepting.{Declines, HasDropped, MayTake,
 ghost use Rattle.termwiz_surface.specs.Showing.{HasCaughtUp, KeepsShowing, ShowsCarried};
 ghost use Rattle.termwiz_surface.specs.Showing.{StaysNamed};
 ghost use Rattle.termwiz_surface_core.specs.Following.{blank_viewer, forgetful, Accepts, Fetches};
-ghost use Rattle.termwiz_surface_core.specs.Following.{Fits, Follows, FollowsTo};
+ghost use Rattle.termwiz_surface_core.specs.Following.{Fits, Follows, FollowsTo, KeepsViewers};
+ghost use Rattle.termwiz_surface_core.specs.History.{KeepsNames};
 ghost use Rattle.termwiz_surface_core.specs.Resizing.{Resizes};
 ghost use Rattle.termwiz_surface_core.specs.SurfaceValue.{SurfaceValue, full_of};
 ghost use Rattle.termwiz_screen.specs.FullScreen.{HasFullSize};
@@ -125,6 +126,9 @@ impl<W: Widths> Viewer<W> {
         ensures sized { OnOk result (
             HasFullSize source.now.width source.now.height (full_of self.new.surface)) }
         ensures numbered { OnOk result (next_number self.new.surface.log < 2 ^ 64) }
+        ensures followed { KeepsViewers (measure W.width_of) self.old.surface self.new.surface }
+        ensures remembered { KeepsNames (measure W.width_of self.old.surface.widths)
+            self.old.surface self.new.surface }
     {
         let (width, height) = source.dimensions();
         let (own_width, own_height) = self.surface.dimensions();
@@ -145,6 +149,9 @@ impl<W: Widths> Viewer<W> {
             source.now self.old result self.new }
         ensures sized { OnOk result (
             HasFullSize source.now.width source.now.height (full_of self.new.surface)) }
+        ensures followed { KeepsViewers (measure W.width_of) self.old.surface self.new.surface }
+        ensures remembered { KeepsNames (measure W.width_of self.old.surface.widths)
+            self.old.surface self.new.surface }
     {
         self.fit(source)?;
         let (number, changes) = source.get_changes(self.last)?;
@@ -158,8 +165,11 @@ impl<W: Widths> Viewer<W> {
         number: SequenceNo,
         changes: CowSlice<'_, Change>,
     ) -> Result<SequenceNo, SurfaceError>
-        ensures { Accepts (measure W.width_of self.old.surface.widths)
+        ensures accepts { Accepts (measure W.width_of self.old.surface.widths)
             self.old number (stream_of changes.entry) result self.new }
+        ensures followed { KeepsViewers (measure W.width_of) self.old.surface self.new.surface }
+        ensures remembered { KeepsNames (measure W.width_of self.old.surface.widths)
+            self.old.surface self.new.surface }
     {
         self.last = SEQ_ZERO;
         self.add(changes)?;
@@ -174,6 +184,9 @@ impl<W: Widths> Viewer<W> {
             (next_number self.old.surface.log - 1 + length (stream_of changes.entry))
             result self.new.surface }
         ensures last { self.new.last ≡ self.old.last }
+        ensures followed { KeepsViewers (measure W.width_of) self.old.surface self.new.surface }
+        ensures remembered { KeepsNames (measure W.width_of self.old.surface.widths)
+            self.old.surface self.new.surface }
     {
         match changes {
             CowSlice::Borrowed(lent) => self.surface.add_lent_changes(lent),
@@ -219,6 +232,9 @@ impl<W: Widths> Viewer<W> {
             self.old.surface answer.now.changes self.new.surface) }
         ensures err { OnErr result (
             HasDropped (measure W.width_of self.old.surface.widths) self.old self.new) }
+        ensures followed { KeepsViewers (measure W.width_of) self.old.surface self.new.surface }
+        ensures remembered { KeepsNames (measure W.width_of self.old.surface.widths)
+            self.old.surface self.new.surface }
     {
         self.last = SEQ_ZERO;
         if self.surface.add_lent_changes(answer.changes()).is_err() {
@@ -249,6 +265,11 @@ impl<W: Widths> Viewer<W> {
         ensures names { StaysNamed screens (measure W.width_of) self.old answer.now self.new }
         ensures names_fully { StaysNamed full_screens (measure W.width_of)
             self.old answer.now self.new }
+        // Each viewer that follows the viewer's own surface goes on to, also after an error.
+        ensures followed { KeepsViewers (measure W.width_of) self.old.surface self.new.surface }
+        // What the numbers of its own surface named they name still, also after an error.
+        ensures remembered { KeepsNames (measure W.width_of self.old.surface.widths)
+            self.old.surface self.new.surface }
     {
         self.decline(answer)?;
         if !self.has_numbers(answer.changes().len()) {
@@ -272,6 +293,11 @@ impl<W: Widths> Viewer<W> {
         // A viewer that shows what its number names does so still.
         ensures names { KeepsShowing screens self.old self.new }
         ensures names_fully { KeepsShowing full_screens self.old self.new }
+        // Each viewer that follows the viewer's own surface goes on to, also after an error.
+        ensures followed { KeepsViewers (measure W.width_of) self.old.surface self.new.surface }
+        // What the numbers of its own surface named they name still, also after an error.
+        ensures remembered { KeepsNames (measure W.width_of self.old.surface.widths)
+            self.old.surface self.new.surface }
     {
         self.surface.resize(width, height)?;
         // What it shows now has no number.
@@ -295,6 +321,11 @@ impl<W: Widths> Viewer<W> {
         // It follows each surface that it followed.
         ensures follows { (s : SurfaceValue W) →
             Follows (measure W.width_of) self.old s → Follows (measure W.width_of) self.new s }
+        // Each viewer that follows the viewer's own surface goes on to.
+        ensures followed { KeepsViewers (measure W.width_of) self.old.surface self.new.surface }
+        // What the numbers of its own surface named they name still.
+        ensures remembered { KeepsNames (measure W.width_of self.old.surface.widths)
+            self.old.surface self.new.surface }
     {
         self.surface.flush_changes_older_than(seq);
     }
@@ -319,6 +350,11 @@ impl<W: Widths> Viewer<W> {
         ensures follows { Follows (measure W.width_of) self.old source.now →
             Follows (measure W.width_of) self.new source.now }
         ensures failed { OnErr result (self.new.last ≡ 0) }
+        // Each viewer that follows the viewer's own surface goes on to, also after an error.
+        ensures followed { KeepsViewers (measure W.width_of) self.old.surface self.new.surface }
+        // What the numbers of its own surface named they name still, also after an error.
+        ensures remembered { KeepsNames (measure W.width_of self.old.surface.widths)
+            self.old.surface self.new.surface }
     {
         match self.fetch(source) {
             Ok((number, changes)) => self.make(number, changes),

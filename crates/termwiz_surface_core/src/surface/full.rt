@@ -1,5 +1,7 @@
 //! Full screens of surfaces.
 ghost use Rattle.std.specs.Prelude.{◌≡◌, IfOk};
+ghost use Rattle.std.specs.List.{All};
+ghost use Rattle.termwiz_line.specs.LineFlags.{no_flags};
 ghost use Rattle.termwiz_screen.specs.FullScreenValue.{full_value};
 ghost use Rattle.termwiz_surface_core.specs.SurfaceValue.{full_of};
 
@@ -9,9 +11,14 @@ use termwiz_cell::emoji::Widths;
 use termwiz_screen::full::{FullScreen, attributes_of, shape_or_default};
 
 impl<W: Widths> Surface<W> {
-    /// A copy of what the surface shows, as `screen` gives it, and of what it keeps beside it.
+    /// A copy of what the surface shows, as `screen` gives it, and of what it keeps beside it. Its
+    /// rows have the number 0 and no flags: how each line is shown stands beside them.
     pub fn full_screen(&self) -> Result<FullScreen, AllocError>
-        ensures { IfOk result (λ copy. full_value copy ≡ full_of self.now) }
+        ensures shown { IfOk result (λ copy. full_value copy ≡ full_of self.now) }
+        ensures numbers { IfOk result (λ copy.
+            All (λ line. line.seqno ≡ 0) copy.screen.rows.items) }
+        ensures flags { IfOk result (λ copy.
+            All (λ line. line.flags ≡ no_flags) copy.screen.rows.items) }
     {
         let screen = self.screen()?;
         let title = self.title.clone()?;

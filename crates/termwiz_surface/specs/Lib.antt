@@ -69,6 +69,7 @@ pub use Rattle.termwiz_screen.specs.FullScreen.{FullScreen, full_screen, full_re
 pub use Rattle.termwiz_screen.specs.FullScreenValue.{full_value}
 pub use Rattle.termwiz_screen.specs.Picture.{screens, full_screens}
 pub use Rattle.termwiz_screen.specs.Step.{step, step_kept, replay, replay_kept, regions_fit}
+pub use Rattle.termwiz_screen.specs.TextScrolls.{rows_scrolled}
 pub use Rattle.termwiz_screen.specs.Resized.{resized_screen, resized_kept}
 pub use Rattle.termwiz_screen.specs.Log.{LogValue, next_number, due, delta_limit, is_known, appended, flushed, restarted}
 pub use Rattle.termwiz_screen.specs.Stream.{IsStream, IsFullStream, Lends, most_entries, stream_of}
@@ -108,7 +109,10 @@ pub use Rattle.termwiz_cell.specs.Attributes.{Attributes, default_attributes, wi
 pub use Rattle.termwiz_cell.specs.ChangeValue.{ChangeValue, change_value}
 pub use Rattle.termwiz_cell.specs.Sequence.{SequenceValue, added, all_added, move_by}
 pub use Rattle.termwiz_cell.specs.Measure.{measure}
-pub use Rattle.termwiz_cell.specs.Width.{unversioned, unicode_columns}
+pub use Rattle.termwiz_cell.specs.Width.{unversioned, unicode_columns, variation}
+pub use Rattle.termwiz_cell.specs.WidthLaws.{unicode_columns-le, unicode_columns-space}
+pub use Rattle.termwiz_cell.specs.UsualWidths.{HasNarrowAscii, HasWideLetters}
+pub use Rattle.termwiz_cell.specs.declared.emoji.Presentation.TheVariants.{Text, Emoji}
 pub use Rattle.termwiz_cell.specs.declared.color.ColorAttribute.{ColorAttribute}
 pub use Rattle.termwiz_cell.specs.declared.change.Position.TheVariants.{Relative, Absolute, EndRelative}
 pub use Rattle.termwiz_cell.specs.declared.change.LineAttribute.TheVariants.{DoubleHeightTopHalfLine, DoubleHeightBottomHalfLine, DoubleWidthLine, SingleWidthLine}

@@ -73,7 +73,7 @@ module _ {W : Type 0} (measure_of : W → List ℕ → ℕ) where
     pub entries : knows old.surface viewer.last ≡ false → answer.changes ≡ own_repaint old.surface
     pub new_is : new ≡ record old { answers = old.answers ++ record { answer = answer; screen = screen_of old.surface } ∷ [] }
 
-  -- a kept answer is delivered to a viewer; one that accepts it shows what the surface showed when it gave the answer, and that is told
+  -- a kept answer is delivered to a viewer; one that accepts it shows what the surface showed when it gave the answer, and the outcome has it
   abbrev pub Receives : ViewerValue W → Held → ManyOutcome → ViewerValue W → Type 0
   Receives old held (Accepted n screen) new = Takes (measure_of old.surface.widths) old held.answer (Ok n) new × (screen_value screen ≡ held.screen) × (screen_of new.surface ≡ held.screen) × HasUnmarkedRows screen
   Receives old held (NotAccepted e) new = Takes (measure_of old.surface.widths) old held.answer (Err e) new

@@ -49,7 +49,7 @@ module _ {W : Type 0} where
   AnswersTo measure_of s n old (Refused refused.Memory) new = new ≡ old
   AnswersTo measure_of s n old _ new = ⊥
 
-  -- a viewer is given an answer, and what it shows then is told where it accepts it
+  -- a viewer is given an answer, and the outcome has what it shows then where it accepts it
   abbrev pub TakesAs : (W → List ℕ → ℕ) → ViewerValue W → AnswerValue → ManyOutcome → ViewerValue W → Type 0
   TakesAs measure_of old a (Accepted n screen) new =
       Takes (measure_of old.surface.widths) old a (Ok n) new × (screen_value screen ≡ screen_of new.surface)

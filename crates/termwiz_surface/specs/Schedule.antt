@@ -28,7 +28,7 @@ abbrev pub IsInRange : {W : Type 0} → Event W → Type 0
 IsInRange (Resize w h) = (0 < w) × (0 < h) × (w < 2 ^ 32) × (h < 2 ^ 32)
 IsInRange _ = ⊤
 
--- the outcome tells a number, or an error, of which this holds
+-- the outcome has a number, or an error, of which this holds
 abbrev pub Tells : (Result ℕ SurfaceError → Type 0) → Outcome → Type 0
 Tells holds (Answered n) = holds (Ok n)
 Tells holds (Refused e) = holds (Err e)
@@ -66,7 +66,7 @@ module _ {W : Type 0} (measure_of : W → List ℕ → ℕ) where
     pub shown : p ≡ pictures.shown (full_of new.surface)
     pub shows : p ≡ pictures.shown (full_of s)
 
-  -- what is told of a viewer that follows, of a full surface by full screens
+  -- the outcome of a viewer that follows, by full screens where the surface is full
   abbrev pub Views : SurfaceValue W → ViewerValue W → Outcome → ViewerValue W → Type 0
   Views s old (Followed n changes screen) new = (s.full ≡ false) × CatchesUp screens s old n (map change_value changes.items) (screen_value screen) new × HasUnmarkedRows screen
   Views s old (FollowedFull n changes picture) new = (s.full ≡ true) × CatchesUp full_screens s old n (map change_value changes.items) (full_value picture) new × HasUnmarkedRows picture.screen

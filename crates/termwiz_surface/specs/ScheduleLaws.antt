@@ -1,4 +1,4 @@
--- What the steps of a schedule tell, in a caller's words.
+-- What the steps of a schedule say, in a caller's words.
 use Rattle.std.specs.Prelude.{◌≡◌, ℕ, ◌+◌, ◌<◌, ◌≤◌, ◌^◌, true, false, if◌then◌else◌, List, length, map, Err, Vec}
 use Rattle.std.specs.declared.alloc.Global.{Global}
 use Rattle.termwiz_cell.specs.ChangeValue.{ChangeValue, change_value}
@@ -34,7 +34,7 @@ module _ {W : Type 0} (measure_of : W → List ℕ → ℕ) where
     pub entries : knows s old.last ≡ false → changes ≡ own_repaint s
     pub own : next_number new.surface.log ≡ number_in_size old s + length changes
 
-  -- the changes that are told of a viewer lead to the screen that is told
+  -- the changes of an outcome lead what the viewer showed to the screen of the outcome
   abbrev pub FollowedLeadOn : Type 0
   FollowedLeadOn =
       (s t : SurfaceValue W) (v u : ViewerValue W) (n : ℕ) (changes : Vec Change Global) (screen : code.Screen) → Allows measure_of s v Follow (Followed n changes screen) t u →

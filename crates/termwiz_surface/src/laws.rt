@@ -15,7 +15,7 @@ ghost use Rattle.termwiz_screen.specs.Screen.{Screen};
 
 use termwiz_cell::emoji::Widths;
 pub use termwiz_line::laws::{
-    cluster_laws, cut_laws, edit_laws, row_laws, storage_laws, stored_row_laws,
+    click_laws, cluster_laws, cut_laws, edit_laws, row_laws, storage_laws, stored_row_laws,
 };
 pub use termwiz_screen::laws::{
     diff_laws, fewest_prints, full_repaint_laws, need_laws, repaint_laws, sequence_laws,
@@ -32,7 +32,8 @@ pub fn following_laws()
     ensures restarts { RestartsKeepLeading screens }
 {}
 
-/// The same of full surfaces, and what leads a viewer to their full screens.
+/// A viewer of a full surface goes on to follow it whatever happens to the surface, and what it is
+/// answered leads it to the surface's full screen.
 pub fn full_following_laws()
     ensures same { LeadsWhereItIs full_screens }
     ensures changes { ChangesLeadOn full_screens }
@@ -56,7 +57,8 @@ pub fn history_laws()
     ensures carried { CarriedLead screens }
 {}
 
-/// The same of the full screens of surfaces, and of the answers of full surfaces.
+/// Above 0 each number that a surface had names one full screen, whatever happens to the surface;
+/// and an answer of a full surface leads to the full screen that its number names.
 pub fn full_history_laws()
     ensures first { NothingIsNamedAtFirst full_screens }
     ensures number { NumberNamesPicture full_screens }
@@ -70,8 +72,8 @@ pub fn full_history_laws()
     ensures carried { CarriedLead full_screens }
 {}
 
-/// What the steps of a schedule tell: from what the viewer showed the changes that are told lead to
-/// the screen that is told, and by how much its own number grows; when it lacks numbers, or
+/// What the steps of a schedule say: the changes of an outcome lead from what the viewer showed to
+/// the screen of the outcome, and by how much its own number grows; when it lacks numbers, or
 /// memory; and that a list that ran out of memory leaves the surface's size and form.
 pub fn schedule_laws<W: Widths>()
     ensures followed { FollowedLeadOn (measure W.width_of) }

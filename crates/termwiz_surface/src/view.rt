@@ -70,8 +70,8 @@ pub enum Outcome {
 /// viewer, and gives one outcome for each.
 ///
 /// - A refused event is an outcome, and the run goes on.
-/// - It fails where there is no memory for the surface, the viewer, the list of outcomes, or what
-///   is told of a viewer that followed.
+/// - It fails where there is no memory for the surface, the viewer, the list of outcomes, or the
+///   outcome of a viewer that followed.
 pub fn run<W: Widths>(
     alloc: Global,
     widths: W,
@@ -91,7 +91,7 @@ pub fn run<W: Widths>(
 }
 
 /// Runs the events as `run` does, on a surface whose repaints carry all that is kept beside the
-/// screen. What the viewer shows is told by its full screen.
+/// screen. The outcome of a viewer that followed has its full screen.
 pub fn run_full<W: Widths>(
     alloc: Global,
     widths: W,
@@ -214,7 +214,7 @@ fn answered(answer: Result<SequenceNo, SurfaceError>) -> Outcome
     }
 }
 
-// The viewer follows, and what it made and shows is told.
+// The viewer follows, and the outcome has what it made and shows.
 fn follow<W: Widths>(
     alloc: Global,
     surface: &Surface<W>,

@@ -1,4 +1,4 @@
--- What adding a list of changes makes of a surface, and the number that is told of it.
+-- What adding a list of changes makes of a surface, and the number that it returns.
 use Rattle.std.specs.Prelude.{◌≡◌, ℕ, ◌+◌, ◌<◌, ◌≤◌, ◌^◌, true, false, List, length, Result, Ok, Err}
 use Rattle.termwiz_cell.specs.ChangeValue.{ChangeValue}
 use Rattle.termwiz_screen.specs.Log.{LogValue, next_number, appended, restarted}
@@ -23,7 +23,7 @@ module _ {W : Type 0} where
   abbrev pub Makes : (List ℕ → ℕ) → SurfaceValue W → List ChangeValue → SurfaceValue W → Type 0
   Makes measure old changes new = Becomes (with_log old (appended old.log changes)) (replay measure (screen_of old) changes) (replay_kept measure (screen_of old) (kept_of old) changes) new
 
-  -- a list of changes is made, and this number told, or refused
+  -- a list of changes is made, and this number returned, or it is refused
   abbrev pub Adds : (List ℕ → ℕ) → SurfaceValue W → List ChangeValue → ℕ → Result ℕ SurfaceError → SurfaceValue W → Type 0
   Adds measure old changes told (Ok n) new = (regions_fit old.height changes ≡ true) × (next_number old.log + length changes < 2 ^ 64) × (n ≡ told) × Makes measure old changes new
   -- a scroll's region goes past the last row: nothing has changed

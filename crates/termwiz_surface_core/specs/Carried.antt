@@ -6,7 +6,7 @@ use Rattle.termwiz_surface_core.specs.History.{IsPast}
 use Rattle.termwiz_surface_core.specs.SurfaceValue.{SurfaceValue, full_of}
 
 module _ {P : Type 0} (pictures : Pictures P) {W : Type 0} (measure_of : W → List ℕ → ℕ) where
-  -- past tells which pictures its numbers name
+  -- past says which pictures its numbers name
   abbrev pub IsPastOf : (ℕ → P) → SurfaceValue W → Type 0
   IsPastOf past s = IsPast pictures (measure_of s.widths) past (pictures.shown (full_of s)) s.log
 

@@ -108,7 +108,7 @@ module _ {W : Type 0} where
   Fetches measure s old (Err Memory) new = (Fits old s (Err Memory) new ⊎ IsFitted old s new) × HasRoom old s
   Fetches measure s old (Err ScrollRegion) new = ⊥
 
-  -- changes are made, and the number is taken and told; where they are refused, none is
+  -- changes are made, and the number is taken and returned; where they are refused, none is
   abbrev pub Accepts : (List ℕ → ℕ) → ViewerValue W → ℕ → List ChangeValue → Result ℕ SurfaceError → ViewerValue W → Type 0
   Accepts measure old n changes (Ok k) new = (k ≡ n) × (new.last ≡ n) × Makes measure old.surface changes new.surface
   Accepts measure old n changes (Err e) new = (new.last ≡ 0) × Adds measure old.surface changes 0 (Err e) new.surface

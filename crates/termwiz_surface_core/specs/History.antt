@@ -9,7 +9,7 @@ use Rattle.termwiz_screen.specs.Picture.{Pictures, screens, full_screens}
 pub record Names {P : Type 0} (past : ℕ → P) (n : ℕ) (p : P) : Type 0 where
   pub named : (n ≡ 0 → ⊥) → past n ≡ p
 
--- past tells which pictures the numbers of a surface name that has the picture p now: from that of each number what is due leads to p
+-- past says which pictures the numbers of a surface name that has the picture p now: from that of each number what is due leads to p
 pub record IsPast {P : Type 0} (pictures : Pictures P) (measure : List ℕ → ℕ) (past : ℕ → P) (p : P) (log : LogValue) : Type 0 where
   pub leads : (n : ℕ) → n ≤ next_number log → LeadsTo pictures measure (past n) n p log
 

@@ -41,9 +41,8 @@ use std::collections::VecDeque;
 use std::marker::Model;
 use std::slice;
 use termwiz_cell::cell::{AttributeChange, CellAttributes};
-use termwiz_cell::change::{
-    Change, CursorShape, CursorVisibility, LineAttribute, Position, SequenceNo,
-};
+pub use termwiz_cell::change::{CursorShape, CursorVisibility, Position, SEQ_ZERO, SequenceNo};
+use termwiz_cell::change::{Change, LineAttribute};
 use termwiz_cell::color::ColorAttribute;
 use termwiz_cell::emoji::Widths;
 use termwiz_line::line::line::Line;
@@ -59,18 +58,18 @@ pub use termwiz_screen::screen::Screen;
 use termwiz_screen::scroll_region::regions_fit;
 use thiserror::Error;
 
-/// Why a list of changes, or another size, is refused. The errors have numbers, and are told in
+/// Why a list of changes, or another size, is refused. The first applicable error is returned, in
 /// this order.
 #[derive(Debug, Drop, Clone, Copy, PartialEq, Eq, Error)]
 pub enum SurfaceError {
     /// Error 1: the region of a scroll goes past the last row. Nothing has changed.
     #[error("a scroll region goes past the last row")]
     ScrollRegion,
-    /// Error 2: the numbers of the changes would pass the greatest `usize`. Nothing has changed; of
-    /// a viewer that was to follow `Viewer::follow` tells.
+    /// Error 2: the numbers of the changes would pass the greatest `usize`. Nothing has changed;
+    /// for a viewer that was to follow see `Viewer::follow`.
     #[error("the numbers of changes are used up")]
     Numbers,
-    /// Error 3: a growth was refused. Of a viewer that was to follow `Viewer::follow` tells.
+    /// Error 3: a growth was refused. For a viewer that was to follow see `Viewer::follow`.
     ///
     /// - After a list of changes, that of a draw or a copy too, the surface keeps its size and the
     ///   form of its rows, and its log is empty under a new number, or 0 where that was 0.
@@ -96,8 +95,8 @@ impl From<AllocError> for SurfaceError {
 ///
 /// Changes go in, one by `add_change` or several as one list by `add_changes`: texts, pens, clears,
 /// moves and scrolls. The surface makes them in order, and logs them by their numbers. Beside its
-/// screen it keeps a title, the cursor's shape and colour, and how large each line is shown; of the
-/// colour `full_screen` alone tells.
+/// screen it keeps a title, the cursor's shape and colour, and how large each line is shown;
+/// `full_screen` alone returns the colour.
 ///
 /// A stream of changes comes out: `get_changes` lends a viewer the changes since the number that it
 /// was last given, and answers with a repaint, which brings any screen of this size to this one,
@@ -219,7 +218,7 @@ impl<W: Widths> Surface<W> {
 
     /// A surface as `new` makes it, whose repaints carry all that is kept beside the screen too:
     /// the title, the cursor's shape and colour, and how each row is shown. A viewer of it shows
-    /// all of this, as `full_screen` tells.
+    /// all of this, and `full_screen` returns it.
     pub fn new_full(
         alloc: Global,
         width: usize,
@@ -278,7 +277,7 @@ impl<W: Widths> Surface<W> {
         ensures sound { IsSound (measure W.width_of self.now.widths) self.now }
         // Its screen has its size, so repaints can be replayed on it.
         ensures sized { HasSize self.now.width self.now.height (screen_of self.now) }
-        // So has its full screen.
+        // Its full screen has its size too.
         ensures fully_sized { HasFullSize self.now.width self.now.height (full_of self.now) }
         // Each row of the screen has a half behind each wide cell, and each visible cell is one
         // grapheme with the width that is measured for it.
@@ -555,7 +554,7 @@ impl<W: Widths> Surface<W> {
         Ok(())
     }
 
-    // Tells why a list of changes is refused before any is made.
+    // Refuses a list of changes that can't be made, before any is made.
     fn refuse(&self, changes: &[Change]) -> Result<(), SurfaceError>
         ensures { Refuses self.now (map change_value changes.now) result }
     {
@@ -612,7 +611,7 @@ impl<W: Widths> Surface<W> {
         Ok(())
     }
 
-    /// Makes one change. The answer is its number.
+    /// Makes one change, and returns its number.
     /// `ScrollRegion`, `Numbers`: nothing has changed. `Memory`: it may have been made in part; the
     /// size and the form of the rows stay, the cursor is inside, and the log is empty under a
     /// number that is greater by one, or 0 where it was 0.
@@ -625,16 +624,16 @@ impl<W: Widths> Surface<W> {
         ensures remembered { KeepsNames (measure W.width_of self.old.widths) self.old self.new }
     {
         self.refuse(slice::from_ref(&change))?;
-        let told = self.log.next_number();
+        let number = self.log.next_number();
         if self.make_one(change).is_err() {
             self.log.restart();
             return Err(SurfaceError::Memory);
         }
-        Ok(told)
+        Ok(number)
     }
 
-    /// Makes the changes in order. The answer is the number before them, less one unless it is 0,
-    /// plus how many they are: where there are some that is the number of the last, or one more
+    /// Makes the changes in order. Returns the number before them, less one unless it is 0, plus
+    /// how many they are: where there are some that is the number of the last, or one more
     /// where the number before was 0.
     ///
     /// - `ScrollRegion`, `Numbers`: nothing has changed.
@@ -652,16 +651,16 @@ impl<W: Widths> Surface<W> {
         ensures remembered { KeepsNames (measure W.width_of self.old.widths) self.old self.new }
     {
         self.refuse(changes.as_slice())?;
-        let told = told_of(self.log.next_number(), changes.len());
+        let number = number_for(self.log.next_number(), changes.len());
         if self.make_all(changes).is_err() {
             self.log.restart();
             return Err(SurfaceError::Memory);
         }
-        Ok(told)
+        Ok(number)
     }
 
-    /// Makes changes that are lent, and logs clones of them, so that they need no list of their
-    /// own. All else is as of `add_changes`.
+    /// Behaves like `add_changes` on a copy of the changes: they are lent, and clones of them are
+    /// logged, so that they need no list of their own.
     pub fn add_lent_changes(&mut self, changes: &[Change]) -> Result<SequenceNo, SurfaceError>
         ensures adds { Adds (measure W.width_of self.old.widths)
             self.old (map change_value changes.now)
@@ -673,18 +672,18 @@ impl<W: Widths> Surface<W> {
         ensures remembered { KeepsNames (measure W.width_of self.old.widths) self.old self.new }
     {
         self.refuse(changes)?;
-        let told = told_of(self.log.next_number(), changes.len());
+        let number = number_for(self.log.next_number(), changes.len());
         if self.make_lent(changes).is_err() {
             self.log.restart();
             return Err(SurfaceError::Memory);
         }
-        Ok(told)
+        Ok(number)
     }
 }
 
-// The number that is told of a list of so many changes, by the coming one.
+// The sequence number returned for `count` changes.
 #[inline(always)]
-fn told_of(coming: SequenceNo, count: usize) -> SequenceNo
+fn number_for(coming: SequenceNo, count: usize) -> SequenceNo
     requires { coming + count < 2 ^ 64 }
     ensures { result ≡ coming - 1 + count }
 {

@@ -42,7 +42,8 @@ pub enum ManyOutcome {
     Done,
     /// The answer, or the viewer's size, was refused.
     Refused(SurfaceError),
-    /// There is no such viewer, or no such answer.
+    /// There is no such viewer, or no such answer; or the event was `On(Event::Follow)`, since no
+    /// viewer of many follows.
     NoSuch,
 }
 
@@ -51,7 +52,7 @@ pub enum ManyOutcome {
 ///
 /// - A refused event is an outcome, and the run goes on.
 /// - It fails where there is no memory for the surface, a viewer, the lists of answers and
-///   outcomes, or what is told of a viewer that accepted.
+///   outcomes, or the outcome of a viewer that accepted.
 pub fn run_many<W: Widths>(
     alloc: Global,
     widths: W,
@@ -153,7 +154,7 @@ fn answer<W: Widths>(
     }
 }
 
-// A viewer is given an answer, and what it shows then is told.
+// A viewer is given an answer, and the outcome has what it shows then.
 fn deliver<W: Widths>(viewer: &mut Viewer<W>, answer: &Answer) -> Result<ManyOutcome, AllocError>
     ensures { IfOk result (λ outcome.
         DeliversTo (measure W.width_of) viewer.old answer.now outcome viewer.new) }

@@ -24,7 +24,7 @@ use termwiz_cell::change::{Change, SEQ_ZERO, SequenceNo};
 use termwiz_cell::emoji::Widths;
 use thiserror::Error;
 
-/// Why a viewer doesn't accept an answer. The errors have numbers, and are told in this order.
+/// Why a viewer doesn't accept an answer. The first applicable error is returned, in this order.
 #[derive(Debug, Drop, Clone, Copy, PartialEq, Eq, Error)]
 pub enum AcceptError {
     /// Error 1: the answer is for another size. Nothing has changed.
@@ -201,7 +201,7 @@ impl<W: Widths> Viewer<W> {
         self.last = SEQ_ZERO;
     }
 
-    // Tells why an answer is refused before anything is done.
+    // Refuses an answer that doesn't fit, before anything is done.
     fn decline(&self, answer: &Answer) -> Result<(), AcceptError>
         ensures declines { Declines self.now answer.now result }
         ensures sized { OnOk result (
@@ -244,8 +244,8 @@ impl<W: Widths> Viewer<W> {
         Ok(())
     }
 
-    /// Makes the changes of an answer, and takes its number, which is told: so the viewer shows
-    /// what the surface showed when it gave the answer, whatever either has done since.
+    /// Makes the changes of an answer, takes its number, and returns it: so the viewer shows what
+    /// the surface showed when it gave the answer, whatever either has done since.
     ///
     /// - `Size`: the answer is for another size. `Stale`: it is no repaint, and the viewer doesn't
     ///   have the number that it leads from. After both nothing has changed.

@@ -64,7 +64,7 @@ impl<W: Widths> Surface<W> {
     ///   coming change's;
     /// - where more changes are due than 3 plus six fifths of the number of cells.
     ///
-    /// What a repaint tells of what is kept beside the screen:
+    /// What a repaint carries of what is kept beside the screen:
     ///
     /// - the title, unless it is empty, and the shape of a visible cursor, where one was set. It
     ///   leaves the cursor's colour and the sizes of lines.

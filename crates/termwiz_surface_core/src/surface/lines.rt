@@ -12,8 +12,8 @@ use termwiz_line::line::line::Line;
 
 impl<W: Widths> Surface<W> {
     /// The rows from the top, as they are stored: a row may be shorter than the surface is wide,
-    /// and shows default blanks behind its cells. What has changed `get_changes` tells, and not the
-    /// numbers of these lines, of which nothing is promised.
+    /// and shows default blanks behind its cells. Nothing is promised of the numbers of these
+    /// lines: `get_changes` returns what has changed.
     pub fn screen_lines(&self) -> Result<Vec<&Line>, AllocError>
         ensures cells { IfOk result (λ lines. map (λ l. l.now.cells) lines.items ≡ self.now.lines) }
         ensures flags { IfOk result (λ lines. map (λ l. l.now.flags) lines.items ≡ self.now.flags) }

@@ -16,6 +16,7 @@ use uses::one_by_one::make_one_by_one;
 use uses::prompt::show_prompt;
 use uses::remote::show_heading;
 use uses::renderer::{refresh, refresh_all};
+use uses::sharing::{deliver_each_late, join, reconnect};
 use uses::status::draw_status;
 use uses::window::show_widget;
 
@@ -196,4 +197,20 @@ fn a_remote_terminal_has_the_title_and_the_heading(rt: HostRuntime) {
         LineAttribute::SingleWidthLine,
     ];
     assert_eq!(rt; shown.lines.as_slice(), lines.as_slice());
+}
+
+#[test]
+fn late_answers_leave_a_viewer_one_change_behind(rt: HostRuntime) {
+    let alloc = rt.alloc();
+    let mut surface = Surface::new(alloc, 6, 1, UnicodeWidths).expect(&rt, "a surface");
+    let mut viewer = join(alloc, &surface).expect(&rt, "a viewer");
+    let first = text(&rt, alloc, "w00");
+    let second = text(&rt, alloc, "t");
+    let third = text(&rt, alloc, "!");
+    let changes = vec![in alloc; first, second, third].expect(&rt, "a list");
+    deliver_each_late(&mut surface, &mut viewer, changes).expect(&rt, "three answers");
+    assert_rows(&rt, viewer.surface(), "w00t  \n");
+    assert_eq!(rt; viewer.last(), 2);
+    reconnect(&surface, &mut viewer).expect(&rt, "a followed surface");
+    assert_rows(&rt, viewer.surface(), "w00t! \n");
 }

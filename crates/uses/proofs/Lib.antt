@@ -1,3 +1,4 @@
 mod ClearedRow
 mod HeadingRow
 mod RowsOfForm
+mod Serving

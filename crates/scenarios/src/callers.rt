@@ -14,6 +14,7 @@ use uses::lines::{heading, word_at};
 use uses::mirror::Mirror;
 use uses::one_by_one::make_one_by_one;
 use uses::prompt::show_prompt;
+use uses::relay::relay;
 use uses::remote::show_heading;
 use uses::renderer::{refresh, refresh_all};
 use uses::sharing::{deliver_each_late, join, reconnect};
@@ -213,4 +214,15 @@ fn late_answers_leave_a_viewer_one_change_behind(rt: HostRuntime) {
     assert_eq!(rt; viewer.last(), 2);
     reconnect(&surface, &mut viewer).expect(&rt, "a followed surface");
     assert_rows(&rt, viewer.surface(), "w00t! \n");
+}
+
+#[test]
+fn a_far_viewer_shows_what_the_near_one_shows(rt: HostRuntime) {
+    let alloc = rt.alloc();
+    let mut surface = Surface::new(alloc, 5, 1, UnicodeWidths).expect(&rt, "a surface");
+    let mut near = Viewer::new(alloc, &surface).expect(&rt, "a near viewer");
+    let mut far = Viewer::new(alloc, near.surface()).expect(&rt, "a far viewer");
+    print(&rt, alloc, &mut surface, "w00t");
+    relay(&surface, &mut near, &mut far).expect(&rt, "two followed surfaces");
+    assert_rows(&rt, far.surface(), "w00t \n");
 }

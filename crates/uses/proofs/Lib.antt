@@ -1,4 +1,5 @@
 mod ClearedRow
+mod Followed
 mod HeadingRow
 mod RowsOfForm
 mod Serving

@@ -1,3 +1,5 @@
 mod ClearedRow
+mod Followed
 mod HeadingRow
 mod RowsOfForm
+mod Serving

@@ -4,3 +4,4 @@ pub mod Prompt
 pub mod Headings
 pub mod Words
 pub mod FirstLetters
+pub mod Late

@@ -10,6 +10,7 @@ pub mod mirror;
 pub mod one_by_one;
 pub mod patch;
 pub mod prompt;
+pub mod relay;
 pub mod remote;
 pub mod renderer;
 pub mod scrollback;

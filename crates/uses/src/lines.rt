@@ -2,6 +2,7 @@
 ghost use Rattle.std.specs.Prelude.{◌≡◌, ◌<◌, ◌≤◌, IfOk, OnErr, false, length, true};
 ghost use Rattle.termwiz_surface.specs.{
   IsLower,
+  IsUnchanged,
   IsUpper,
   default_attributes,
   measure,
@@ -39,8 +40,9 @@ pub fn heading<W: Widths>(
 }
 
 /// Sets the letters of kana and the common ideographs that a text begins with, in order from a
-/// column on, as many as fit in so many columns, and gives what follows them in the text.
-/// On an error the line's cells are as before.
+/// column on, as many as fit in so many columns, and returns what follows them in the text.
+/// The line takes the number, and keeps its flags. On an error number, flags and cells are as
+/// before.
 pub fn set_first_letters<'a>(
     line: &mut Line,
     column: usize,
@@ -48,9 +50,9 @@ pub fn set_first_letters<'a>(
     text: &'a str,
     seqno: SequenceNo,
 ) -> Result<&'a str, AllocError>
-    ensures ok { IfOk result (λ rest. SetsFirstLetters column columns text.now rest.now
-        line.old.cells line.new.cells) }
-    ensures err { OnErr result (line.new.cells ≡ line.old.cells) }
+    ensures ok { IfOk result (λ rest. SetsFirstLetters column columns text.now rest.now seqno
+        line.old line.new) }
+    ensures err { OnErr result (IsUnchanged line.old line.new) }
 {
     let (letters, rest) = split_letter_run(text, columns / 2);
     line.set_letters(column, letters, &CellAttributes::blank(), seqno)?;

@@ -12,6 +12,7 @@ ghost use Rattle.termwiz_surface.specs.{
   need,
   print_all,
   printed,
+  screen_after,
   screen_of,
   whole,
 };
@@ -22,8 +23,9 @@ use termwiz_surface::emoji::Widths;
 use termwiz_surface::laws::{diff_laws, fewest_prints};
 use termwiz_surface::surface::{Surface, SurfaceError};
 
-/// The patch that makes a surface show the rows of another one of its size. Whoever paints these
-/// rows in another way, cell by cell, paints at least a third as many cells.
+/// The patch that makes a surface show the rows of another one of its size that measures texts as
+/// it does. Whoever paints these rows in another way, cell by cell, paints at least a third as many
+/// cells.
 pub fn patch_to<W: Widths>(
     surface: &Surface<W>,
     target: &Surface<W>,
@@ -31,7 +33,10 @@ pub fn patch_to<W: Widths>(
     requires same_width { surface.now.width ≡ target.now.width }
     requires same_height { surface.now.height ≡ target.now.height }
     requires alike { MeasureAlike (measure W.width_of) surface.now target.now }
-    ensures { IfOk result (λ patch. (ps : List Print) →
+    ensures leads { IfOk result (λ patch.
+        (screen_after (measure W.width_of) surface.now (map change_value patch.items)).rows
+        ≡ (screen_of target.now).rows) }
+    ensures few { IfOk result (λ patch. (ps : List Print) →
         let own = (screen_of surface.now).rows in
         PrintsWithin surface.now.width surface.now.height ps →
         print_all own ps ≡ (screen_of target.now).rows →
@@ -45,12 +50,15 @@ pub fn patch_to<W: Widths>(
     Ok(patch)
 }
 
-/// Applies a patch. Where it leads to some rows of the surface's size, the surface shows them then.
+/// Applies a patch: the surface has the screen where it leads. A diff of the surface and some rows
+/// of its size leads to these rows.
 pub fn apply_patch<W: Widths>(
     surface: &mut Surface<W>,
     patch: Vec<Change>,
 ) -> Result<(), SurfaceError>
-    ensures { let f = measure W.width_of surface.old.widths in
+    ensures made { OnOk result (screen_of surface.new
+        ≡ screen_after (measure W.width_of) surface.old (map change_value patch.items)) }
+    ensures shows { let f = measure W.width_of surface.old.widths in
         let own = screen_of surface.old in
         (rows : List (List CellValue)) → AreRows own.width own.height rows →
         IsDiff f own (f ≡ f) (need own.rows rows (whole own.width own.height))

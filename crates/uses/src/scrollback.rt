@@ -2,7 +2,7 @@
 ghost use Rattle.std.specs.Prelude.{◌≡◌, IfOk, List, false, map, true};
 ghost use Rattle.termwiz_surface.specs.{IsWrapped, LineValue, line_contents, line_eq, visible};
 
-use std::alloc::{AllocError, Global};
+use std::alloc::AllocError;
 use termwiz_surface::change::{SEQ_ZERO, SequenceNo};
 use termwiz_surface::laws::{cut_laws, edit_laws, storage_laws};
 use termwiz_surface::line::line::Line;
@@ -17,16 +17,20 @@ pub fn store(line: &mut Line) -> Result<(), AllocError>
     line.compress_for_scrollback()
 }
 
-/// A copy of what a line shows, which is stored as one text, whatever stands behind its wide cells.
-pub fn stored_copy(alloc: Global, line: &Line) -> Result<Line, AllocError>
+/// A copy of what a line shows, with its number and its flags, which is stored as one text,
+/// whatever stands behind its wide cells.
+pub fn stored_copy(line: &Line) -> Result<Line, AllocError>
     ensures shows { IfOk result (λ copy. visible copy.cells ≡ visible line.now.cells) }
+    ensures number { IfOk result (λ copy. copy.seqno ≡ line.now.seqno) }
+    ensures flags { IfOk result (λ copy. copy.flags ≡ line.now.flags) }
     ensures text { IfOk result (λ copy. copy.is_vector ≡ false) }
 {
     // Visible cells that are stored again with their halves show the same, and may stand in a text.
     edit_laws();
     storage_laws();
-    let mut copy = Line::new(alloc, line.current_seqno());
-    copy.append_line(line.clone()?, SEQ_ZERO)?;
+    let mut copy = line.clone()?;
+    let cells = copy.split_off(0, SEQ_ZERO)?;
+    copy.append_line(cells, SEQ_ZERO)?;
     copy.compress_for_scrollback()?;
     Ok(copy)
 }

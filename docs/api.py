@@ -14,6 +14,7 @@ from pathlib import Path
 TOP = Path(__file__).resolve().parent.parent
 PAGE = TOP / "docs" / "API.md"
 ROOT = "termwiz_surface"
+ORDER = "surface view line cellcluster cell change color hyperlink emoji laws".split()
 ITEM = re.compile(r"pub (fn|struct|enum|trait|type|const|static) (\w+)")
 IMPL = re.compile(r"impl(?:<.*?>)? (?:(.+?) for )?(\w+)")
 INTRODUCTION = """# Calls
@@ -118,7 +119,8 @@ def read_items(path, module, methods):
                     module.items[item.name] = item
             if match.group(1) == "trait":
                 owner = item.name
-        elif owner and indent == 4 and re.match(r"fn \w+", text) and owner in module.items:
+        elif owner and indent == 4 and re.match(r"fn \w+", text) and owner in module.items \
+                and module.items[owner].kind == "trait":
             signature, at = text, k
             while signature.count("(") > signature.count(")"):
                 at += 1
@@ -223,6 +225,11 @@ def page_of(name, at, shown, seen, out, counts):
             children.append((other, place + (last,), alias))
         elif last in target.items:
             items.append((other, place, target.items[last]))
+    if not shown:
+        # The root names types of the modules below, where they are listed.
+        for own, place, alias in sorted(children, key=lambda child: ORDER.index(child[2])):
+            page_of(own, place, (alias,), seen, out, counts)
+        children = []
     body = []
     for own, place, item in sorted(items, key=lambda i: i[2].kind != "fn"):
         key = (own, place, item.name)

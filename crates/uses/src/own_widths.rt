@@ -1,5 +1,5 @@
 //! A width value of one's own: the widths of the Unicode tables, but for one character.
-ghost use Rattle.std.specs.Prelude.{◌≡◌, IfOk};
+ghost use Rattle.std.specs.Prelude.{◌≡◌, ◌<◌, ◌^◌, false, IfOk};
 ghost use Rattle.termwiz_surface.specs.{blank_surface};
 
 use std::alloc::{AllocError, Global};

@@ -1,6 +1,5 @@
 //! A width value of one's own: the widths of the Unicode tables, but for one character.
-ghost use Rattle.std.specs.Prelude.{◌≡◌, ◌<◌, ◌^◌, false, IfOk};
-ghost use Rattle.termwiz_surface.specs.{blank_surface};
+ghost use Rattle.std.specs.Prelude.{◌≡◌, ◌<◌, ◌^◌, IfOk};
 
 use std::alloc::{AllocError, Global};
 use termwiz_surface::emoji::{Presentation, UnicodeVersion, UnicodeWidths, Widths};
@@ -56,7 +55,8 @@ pub fn surface_with_wide_ellipses(
     requires some_row { 0 < height }
     requires fits { width < 2 ^ 32 }
     requires fits_height { height < 2 ^ 32 }
-    ensures { IfOk result (λ s. s ≡ blank_surface WideEllipsis width height false) }
+    ensures width { IfOk result (λ surface. surface.width ≡ width) }
+    ensures height { IfOk result (λ surface. surface.height ≡ height) }
 {
     Surface::new(alloc, width, height, WideEllipsis)
 }

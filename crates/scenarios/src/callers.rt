@@ -14,10 +14,8 @@ use uses::lines::{heading, word_at};
 use uses::mirror::Mirror;
 use uses::one_by_one::make_one_by_one;
 use uses::prompt::show_prompt;
-use uses::relay::relay;
 use uses::remote::show_heading;
 use uses::renderer::{refresh, refresh_all};
-use uses::sharing::{deliver_each_late, join, reconnect};
 use uses::status::draw_status;
 use uses::window::show_widget;
 
@@ -198,31 +196,4 @@ fn a_remote_terminal_has_the_title_and_the_heading(rt: HostRuntime) {
         LineAttribute::SingleWidthLine,
     ];
     assert_eq!(rt; shown.lines.as_slice(), lines.as_slice());
-}
-
-#[test]
-fn late_answers_leave_a_viewer_one_change_behind(rt: HostRuntime) {
-    let alloc = rt.alloc();
-    let mut surface = Surface::new(alloc, 6, 1, UnicodeWidths).expect(&rt, "a surface");
-    let mut viewer = join(alloc, &surface).expect(&rt, "a viewer");
-    let first = text(&rt, alloc, "w00");
-    let second = text(&rt, alloc, "t");
-    let third = text(&rt, alloc, "!");
-    let changes = vec![in alloc; first, second, third].expect(&rt, "a list");
-    deliver_each_late(&mut surface, &mut viewer, changes).expect(&rt, "three answers");
-    assert_rows(&rt, viewer.surface(), "w00t  \n");
-    assert_eq!(rt; viewer.last(), 2);
-    reconnect(&surface, &mut viewer).expect(&rt, "a followed surface");
-    assert_rows(&rt, viewer.surface(), "w00t! \n");
-}
-
-#[test]
-fn a_far_viewer_shows_what_the_near_one_shows(rt: HostRuntime) {
-    let alloc = rt.alloc();
-    let mut surface = Surface::new(alloc, 5, 1, UnicodeWidths).expect(&rt, "a surface");
-    let mut near = Viewer::new(alloc, &surface).expect(&rt, "a near viewer");
-    let mut far = Viewer::new(alloc, near.surface()).expect(&rt, "a far viewer");
-    print(&rt, alloc, &mut surface, "w00t");
-    relay(&surface, &mut near, &mut far).expect(&rt, "two followed surfaces");
-    assert_rows(&rt, far.surface(), "w00t \n");
 }

@@ -214,7 +214,7 @@ pub fn reconnect<W: Widths>(
 }
 
 /// Lets a viewer that was served by answers follow a surface that is a full one, once it can reach
-/// it: it has its full screen then, follows it from now on, and may accept later answers too.
+/// it: it has its full screen then, and follows it from now on.
 pub fn reconnect_fully<W: Widths>(
     surface: &Surface<W>,
     viewer: &mut Viewer<W>,
@@ -227,8 +227,6 @@ pub fn reconnect_fully<W: Widths>(
     ensures names { (past : ℕ → FullScreen) →
         IsPastOf full_screens (measure W.width_of) past surface.now →
         OnOk result (ShowsNamed full_screens past viewer.new) }
-    ensures served { IsServed screens (measure W.width_of) viewer.new surface.now }
-    ensures served_fully { IsServed full_screens (measure W.width_of) viewer.new surface.now }
 {
     history_laws();
     full_history_laws();

@@ -26,3 +26,6 @@ returns-clause-wide g c =
     let f = measure g.W.Widths.width_of session.widths in
     subst (λ (f : FullScreen). get_or f.lines f.screen.y SingleWidthLine ≡ DoubleWidthLine) (sym (returns-clause-shown g c))
     (row_is_wide width old session c.args.heading.now f c.dimensions-size.ensures.sound screen kept)
+
+pub returns-clause-follows : goal.returns-clause-follows
+returns-clause-follows g c = c.follow.ensures.follows (c.in_ok-add_changes.ensures.followed c.args.remote.now c.requires.follows)

@@ -1,9 +1,7 @@
 //! A text that grows by one grapheme at a time.
-ghost use Rattle.std.specs.Prelude.{◌≡◌, ◌↔◌, ◌++◌, ◌∷◌, [], List, ℕ, true, IsTrue, IfSome};
-ghost use Rattle.std.specs.Prelude.{IfOk, OnOk, OnErr, string_bytes, if◌then◌else◌};
-ghost use Rattle.termwiz_text.specs.CutAt.{IsCutAt};
-ghost use Rattle.termwiz_text.specs.Plain.{is_plain_last, is_plain};
-ghost use Rattle.unicode_segmentation.specs.Grapheme.{graphemes};
+ghost use Rattle.termwiz_text.specs.{◌≡◌, ◌↔◌, ◌++◌, ◌∷◌, [], List, ℕ, true, IsTrue, IfSome, IfOk};
+ghost use Rattle.termwiz_text.specs.{OnOk, OnErr, string_bytes, if◌then◌else◌, IsCutAt};
+ghost use Rattle.termwiz_text.specs.{is_plain_last, is_plain, graphemes};
 
 use super::{is_last_grapheme, is_one_plain, is_plain};
 use std::alloc::{AllocError, Global};

@@ -1,15 +1,12 @@
 //! Texts cut into graphemes, the extended grapheme clusters of UAX 29.
 #![tactic(auto)]
 
-ghost use Rattle.std.specs.Prelude.{◌≡◌, ◌≤◌, ◌<◌, length, ◌↔◌, ℕ, true, false, List, [], ◌∷◌};
-ghost use Rattle.std.specs.Prelude.{◌++◌, min, take, drop, slice_index, MatchOption, IfSome};
-ghost use Rattle.std.specs.Prelude.{IsTrue, if◌then◌else◌, encode_utf8, slice_index_or};
-ghost use Rattle.std.specs.List.{list_all};
-ghost use Rattle.std.specs.Str.{chars};
+ghost use Rattle.termwiz_text.specs.{◌≡◌, ◌≤◌, ◌<◌, length, ◌↔◌, ℕ, true, false, List, [], ◌∷◌};
+ghost use Rattle.termwiz_text.specs.{◌++◌, min, take, drop, slice_index, MatchOption, IfSome};
+ghost use Rattle.termwiz_text.specs.{IsTrue, if◌then◌else◌, encode_utf8, slice_index_or, list_all};
+ghost use Rattle.termwiz_text.specs.{chars, IsFirst, graphemes};
 ghost use Rattle.termwiz_text.specs.Plain as plain;
 ghost use Rattle.termwiz_text.specs.Letter as letter;
-ghost use Rattle.termwiz_text.specs.First.{IsFirst};
-ghost use Rattle.unicode_segmentation.specs.Grapheme.{graphemes};
 
 mod joined;
 

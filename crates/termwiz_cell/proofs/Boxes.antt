@@ -5,7 +5,7 @@ use Rattle.std.specs.Bool.{Decides}
 use Rattle.std.proofs.lemmas.Bool.Decides.{Decides-like, Decides-and, same_from_decides}
 use Rattle.termwiz_cell.specs.declared.color.ColorAttribute.{ColorAttribute}
 use Rattle.termwiz_cell.specs.declared.color.ColorAttribute.TheVariants as color
-use Rattle.termwiz_cell.specs.declared.cell.style.Style.{Style}
+use Rattle.termwiz_cell.specs.Style.{Style}
 use Rattle.termwiz_cell.specs.declared.cell.attributes.CellAttributes.TheInside.{Inside}
 use Rattle.termwiz_cell.specs.declared.cell.form.Form.TheVariants as form
 use Rattle.termwiz_cell.specs.StyleWord.{style_at}

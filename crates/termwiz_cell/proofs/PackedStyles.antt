@@ -14,7 +14,7 @@ use Rattle.termwiz_cell.specs.declared.cell.style.SemanticType.{SemanticType}
 use Rattle.termwiz_cell.specs.declared.cell.style.SemanticType.TheVariants.{Output, Input, Prompt}
 use Rattle.termwiz_cell.specs.declared.cell.style.VerticalAlign.{VerticalAlign}
 use Rattle.termwiz_cell.specs.declared.cell.style.VerticalAlign.TheVariants.{BaseLine, SuperScript, SubScript}
-use Rattle.termwiz_cell.specs.declared.cell.style.Style.{Style}
+use Rattle.termwiz_cell.specs.Style.{Style}
 use Rattle.termwiz_cell.specs.Style.{intensity_number, intensity_at, underline_number, underline_at, blink_number, blink_at, semantic_number, semantic_at, vertical_number, vertical_at, flag_number, flag_at, intensity-back, underline-back, blink-back, semantic-back, vertical-back, flag-back}
 use Rattle.termwiz_cell.specs.StyleWord.{word_of_digits, palette_number, palette_at, style_at, word_of, bits_at, IsStyleWord, HasPalette, IsPalette}
 

@@ -5,7 +5,7 @@ use Rattle.termwiz_cell.specs.declared.cell.style.Underline.{Underline}
 use Rattle.termwiz_cell.specs.declared.cell.style.Blink.{Blink}
 use Rattle.termwiz_cell.specs.declared.cell.style.SemanticType.{SemanticType}
 use Rattle.termwiz_cell.specs.declared.cell.style.VerticalAlign.{VerticalAlign}
-use Rattle.termwiz_cell.specs.declared.cell.style.Style.{Style}
+use Rattle.termwiz_cell.specs.Style.{Style}
 use Rattle.termwiz_cell.specs.Style.{intensity_number, underline_number, blink_number, semantic_number, vertical_number, flag_number}
 use Rattle.termwiz_cell.specs.StyleWord.{palette_number, style_at, word_of, IsStyleWord, HasPalette, IsPalette}
 use Rattle.termwiz_cell.proofs.PackedStyles.{word_of-style_at, style_at-word_of, IsStyleWord-word_of, intensity-there, underline-there, blink-there, semantic-there, vertical-there, flag-there, palette-there, foreground-fits, background-fits}
@@ -18,14 +18,14 @@ module _ (v : ℕ) (s : Style) (h : HasPalette s) (e : v ≡ word_of s) where
   sound : IsStyleWord v
   sound = rw e (IsStyleWord-word_of s h)
 
-intensity-word : (w : ℕ) (v : Intensity) → IsStyleWord w → w - w % 4 + intensity_number v ≡ word_of (record (style_at w) { intensity = v })
+intensity-word : (w : ℕ) (v : Intensity) → IsStyleWord w → w - w / 1 % 4 * 1 + intensity_number v * 1 ≡ word_of (record (style_at w) { intensity = v })
 intensity-word w v h = omega (arith, word_of-style_at w h, intensity-there (w % 4) h.intensity)
 
-pub intensity-spelt : (w : ℕ) (v : Intensity) → IsStyleWord w → style_at (w - w % 4 + intensity_number v) ≡ record (style_at w) { intensity = v }
-intensity-spelt w v h = spells (w - w % 4 + intensity_number v) (record (style_at w) { intensity = v }) (foreground-fits w h, background-fits w h) (intensity-word w v h)
+pub intensity-spelt : (w : ℕ) (v : Intensity) → IsStyleWord w → style_at (w - w / 1 % 4 * 1 + intensity_number v * 1) ≡ record (style_at w) { intensity = v }
+intensity-spelt w v h = spells (w - w / 1 % 4 * 1 + intensity_number v * 1) (record (style_at w) { intensity = v }) (foreground-fits w h, background-fits w h) (intensity-word w v h)
 
-pub intensity-sound : (w : ℕ) (v : Intensity) → IsStyleWord w → IsStyleWord (w - w % 4 + intensity_number v)
-intensity-sound w v h = sound (w - w % 4 + intensity_number v) (record (style_at w) { intensity = v }) (foreground-fits w h, background-fits w h) (intensity-word w v h)
+pub intensity-sound : (w : ℕ) (v : Intensity) → IsStyleWord w → IsStyleWord (w - w / 1 % 4 * 1 + intensity_number v * 1)
+intensity-sound w v h = sound (w - w / 1 % 4 * 1 + intensity_number v * 1) (record (style_at w) { intensity = v }) (foreground-fits w h, background-fits w h) (intensity-word w v h)
 
 pub ruleset intensity = (intensity-spelt, intensity-sound)
 

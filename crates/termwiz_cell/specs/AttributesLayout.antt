@@ -9,7 +9,7 @@ use Rattle.termwiz_cell.specs.declared.cell.form.RareColor.{RareColor}
 use Rattle.termwiz_cell.specs.declared.cell.form.RareColor.TheVariants as which
 use Rattle.termwiz_cell.specs.declared.cell.attributes.CellAttributes.TheInside.{Inside}
 use Rattle.termwiz_cell.specs.Link.{Link, linked}
-use Rattle.termwiz_cell.specs.declared.cell.style.Style.{Style}
+use Rattle.termwiz_cell.specs.Style.{Style}
 use Rattle.termwiz_cell.specs.Attributes.{Attributes, is_default, color_eq, option_link_eq}
 
 -- the attributes that few cells have

@@ -1,5 +1,5 @@
 -- The small attributes: their numbers, which compare them, and whether they are on.
-use Rattle.std.specs.Prelude.{◌≡◌, ℕ, Bool, true, false, ◌==◌, if◌then◌else◌, refl}
+use Rattle.std.specs.Prelude.{◌≡◌, ℕ, Bool, true, false, ◌==◌, Option, if◌then◌else◌, refl}
 use Rattle.std.specs.Bool.{Decides}
 use Rattle.std.proofs.Common.{ap, sym, ◌∙◌}
 use Rattle.std.proofs.lemmas.Bool.Decides.{Decides-like, Decides-eqb}
@@ -13,6 +13,22 @@ use Rattle.termwiz_cell.specs.declared.cell.style.SemanticType.{SemanticType}
 use Rattle.termwiz_cell.specs.declared.cell.style.SemanticType.TheVariants.{Output, Input, Prompt}
 use Rattle.termwiz_cell.specs.declared.cell.style.VerticalAlign.{VerticalAlign}
 use Rattle.termwiz_cell.specs.declared.cell.style.VerticalAlign.TheVariants.{BaseLine, SuperScript, SubScript}
+
+-- the small attributes: all but true colours, the underline colour and the link; the colours are palette indices
+pub record Style : Type 0 where
+  pub intensity : Intensity
+  pub underline : Underline
+  pub blink : Blink
+  pub italic : Bool
+  pub reverse : Bool
+  pub strikethrough : Bool
+  pub invisible : Bool
+  pub wrapped : Bool
+  pub overline : Bool
+  pub semantic_type : SemanticType
+  pub vertical_align : VerticalAlign
+  pub foreground : Option ℕ
+  pub background : Option ℕ
 
 abbrev pub intensity_number : Intensity → ℕ
 intensity_number Normal = 0

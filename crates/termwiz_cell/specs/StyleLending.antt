@@ -1,7 +1,7 @@
 -- What a form of attributes lends.
 use Rattle.std.specs.Borrow.{Lends, MutBor, Fml}
 use Rattle.termwiz_cell.specs.declared.cell.form.Form.{Form}
-use Rattle.termwiz_cell.specs.declared.cell.style.Style.{Style}
+use Rattle.termwiz_cell.specs.Style.{Style}
 use Rattle.termwiz_cell.specs.AttributesLayout.{with_style}
 use Rattle.termwiz_cell.specs.contracts.cell.form.Form as form
 use Rattle.termwiz_cell.specs.contracts.cell.style_word.StyleWord as word

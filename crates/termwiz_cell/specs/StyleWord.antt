@@ -3,7 +3,7 @@ use Rattle.std.specs.Prelude.{ℕ, List, [], ◌∷◌, ◌+◌, ◌-◌, ◌*�
 use Rattle.termwiz_cell.specs.Style.{intensity_number, intensity_at, underline_number, underline_at, blink_number, blink_at, semantic_number, semantic_at, vertical_number, vertical_at, flag_number, flag_at}
 use Rattle.termwiz_cell.specs.declared.cell.style.Underline.TheVariants as underline
 use Rattle.termwiz_cell.specs.declared.cell.style.SemanticType.TheVariants.{Output}
-use Rattle.termwiz_cell.specs.declared.cell.style.Style.{Style}
+use Rattle.termwiz_cell.specs.Style.{Style}
 
 -- the digit of a palette index: 0 for none, and else the index plus 1
 abbrev pub palette_number : Option ℕ → ℕ

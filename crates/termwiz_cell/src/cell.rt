@@ -1,15 +1,9 @@
 //! Cells.
-ghost use Rattle.std.specs.Prelude.{◌≡◌, ◌↔◌, ◌≤◌, true, false, IsTrue, IfOk, IfSome, IsOk, length};
-ghost use Rattle.std.specs.Prelude.{◌&&◌, MatchOption, encode_utf8, not, unwrap_or};
-ghost use Rattle.std.specs.Borrow.{sem};
-ghost use Rattle.std.specs.Cmp.{decided, partial_equiv_from_equiv};
-ghost use Rattle.termwiz_cell.specs.CellValue.{space, blank, blank_of, plain_cell, clean, cell_of};
-ghost use Rattle.termwiz_cell.specs.CellValue.{measured, columns, cell_eq, cell_eq-Decides};
-ghost use Rattle.termwiz_cell.specs.CellValue.{is_wide};
-ghost use Rattle.termwiz_cell.specs.Attributes.{needs_box};
-ghost use Rattle.termwiz_cell.specs.Measure.{measure};
-ghost use Rattle.termwiz_cell.specs.Width.{at_version};
-ghost use Rattle.termwiz_text.specs.Plain.{is_one_plain, is_plain};
+ghost use Rattle.termwiz_cell.specs.{◌≡◌, ◌↔◌, ◌≤◌, ◌&&◌, IfOk, IfSome, IsOk, IsTrue, MatchOption};
+ghost use Rattle.termwiz_cell.specs.{at_version, blank, blank_of, cell_eq, cell_eq-Decides, clean};
+ghost use Rattle.termwiz_cell.specs.{cell_of, columns, decided, encode_utf8, false, is_one_plain};
+ghost use Rattle.termwiz_cell.specs.{is_plain, is_wide, length, measure, measured, needs_box, not};
+ghost use Rattle.termwiz_cell.specs.{partial_equiv_from_equiv, plain_cell, sem, true, unwrap_or};
 
 mod attribute_change;
 mod attributes;
@@ -47,7 +41,7 @@ pub struct Cell {
 
 impl Model for Cell {
     ghost use Rattle.termwiz_cell.specs.CellValue.{CellValue};
-    ghost use Rattle.termwiz_cell.specs.CellLayout.{cell_value, HasTextForm};
+    ghost use Rattle.termwiz_cell.specs.CellLayout.{HasTextForm, cell_value};
 
     ghost Value = { CellValue };
 

@@ -1,11 +1,9 @@
 //! The changes of a surface, and how places and changes are numbered.
-ghost use Rattle.std.specs.Prelude.{◌≡◌, ◌↔◌, IfOk, IsTrue, false, string_bytes};
-ghost use Rattle.std.specs.Cmp.{decided, on_equiv, on_per, partial_equiv_from_equiv};
-ghost use Rattle.termwiz_cell.specs.AttributeChangeValue.{attribute_change_value};
-ghost use Rattle.termwiz_cell.specs.ChangeValue.{Attribute, LineAttribute, Text, change_value};
-ghost use Rattle.termwiz_cell.specs.ChangeValue.{change_eq, change_eq-Decides, copy_takes_memory};
-ghost use Rattle.termwiz_cell.specs.ChangeValue.{is_text, position_eq, scroll_eq, visibility_eq};
-ghost use Rattle.termwiz_cell.specs.Shapes.{is_blinking_shape, line_attribute_eq, shape_eq};
+ghost use Rattle.termwiz_cell.specs.{◌≡◌, ◌↔◌, Attribute, IfOk, IsTrue, LineAttribute, Text, false};
+ghost use Rattle.termwiz_cell.specs.{attribute_change_value, change_eq, change_eq-Decides, decided};
+ghost use Rattle.termwiz_cell.specs.{change_value, copy_takes_memory, is_blinking_shape, is_text};
+ghost use Rattle.termwiz_cell.specs.{line_attribute_eq, on_equiv, on_per, partial_equiv_from_equiv};
+ghost use Rattle.termwiz_cell.specs.{position_eq, scroll_eq, shape_eq, string_bytes, visibility_eq};
 
 mod sequence;
 

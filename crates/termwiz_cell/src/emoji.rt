@@ -1,10 +1,7 @@
 //! How wide texts are, and how they are shown.
-ghost use Rattle.std.specs.Prelude.{◌≡◌, false};
-ghost use Rattle.std.specs.Char.{is_whitespace};
-ghost use Rattle.std.specs.List.{list_all};
-ghost use Rattle.std.specs.Str.{chars};
+ghost use Rattle.termwiz_cell.specs.{◌≡◌, at_version, chars, columns_of, false, is_whitespace};
+ghost use Rattle.termwiz_cell.specs.{list_all, unicode_columns};
 ghost use Rattle.termwiz_cell.specs.Width as spec;
-ghost use Rattle.termwiz_cell.specs.Width.{at_version, columns_of, unicode_columns};
 
 use termwiz_text::{Graphemes, is_one_letter, is_one_plain};
 use unicode_width::UnicodeWidthStr;
@@ -83,7 +80,7 @@ impl UnicodeVersion {
 /// A width is 0 to 2 columns, a single space has 1, and the same arguments have always the same
 /// answer.
 pub trait Widths: Copy {
-    ghost use Rattle.std.specs.Prelude.{◌≡◌, ℕ, ◌≤◌, List, [], ◌∷◌, Option, IsTrue};
+    ghost use Rattle.std.specs.Prelude.{◌≡◌, ◌≤◌, [], ◌∷◌, IsTrue, List, Option, ℕ};
     ghost use Rattle.termwiz_cell.specs.declared.emoji.Presentation.{Presentation};
     ghost use Rattle.termwiz_cell.specs.declared.emoji.UnicodeVersion.{UnicodeVersion};
     ghost use Rattle.termwiz_cell.specs.Measure.{measure};

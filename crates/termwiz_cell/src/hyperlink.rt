@@ -1,14 +1,12 @@
 //! Links: a target, parameters, and the texts in which escape sequences carry them.
 mod params;
 
-ghost use Rattle.std.specs.Prelude.{◌≡◌, ◌≢◌, ℕ, ◌↔◌, IsTrue, IfOk, IfSome, IsUtf8, MatchResult};
-ghost use Rattle.std.specs.Prelude.{None, Some, [], ◌∷◌, true, false, length, map, string_bytes};
-ghost use Rattle.std.specs.Prelude.{codes};
-ghost use Rattle.std.specs.Cmp.{decided, partial_equiv_from_equiv};
-ghost use Rattle.termwiz_cell.specs.Link.{Link, link_eq, link_eq-Decides, param_bytes};
-ghost use Rattle.termwiz_cell.specs.LinkParse.{AreEmpty, ArePrinted, AreTexts, HasPairs, ReadsLink};
-ghost use Rattle.termwiz_cell.specs.LinkParse.{SpellsOnly, part};
-ghost use Rattle.termwiz_cell.specs.LinkText.{AreInOrder, IsReadable, link_text};
+ghost use Rattle.termwiz_cell.specs.{◌≡◌, ◌≢◌, ◌↔◌, [], ◌∷◌, AreEmpty, AreInOrder, ArePrinted, map};
+ghost use Rattle.termwiz_cell.specs.{AreTexts, HasPairs, IfOk, IfSome, IsReadable, IsTrue, IsUtf8};
+ghost use Rattle.termwiz_cell.specs.{MatchResult, None, ReadsLink, Some, SpellsOnly, codes, false};
+ghost use Rattle.termwiz_cell.specs.{decided, length, link_eq, link_eq-Decides, link_text, part};
+ghost use Rattle.termwiz_cell.specs.{param_bytes, partial_equiv_from_equiv, string_bytes, true};
+ghost use Rattle.termwiz_cell.specs.Link.{Link};
 
 use params::{clone_params, has_same_params, is_pairs, read_params, write_params};
 use std::alloc::{AllocError, Global};

@@ -23,13 +23,13 @@ columns_taken (c ∷ cs) = columns c.cell + columns_taken cs
 abbrev pub FitsOrAlone : ℕ → List VisibleCell → Type 0
 FitsOrAlone width p = (columns_taken p ≤ width) ⊎ (length p ≡ 1)
 
--- the last cell is marked_pieces: the text goes on behind it
+-- the last cell is marked as wrapped: the text goes on behind it
 abbrev pub mark_last : List VisibleCell → List VisibleCell
 mark_last [] = []
 mark_last (c ∷ []) = record c { cell = with_wrapped true c.cell } ∷ []
 mark_last (c ∷ d ∷ ds) = c ∷ mark_last (d ∷ ds)
 
--- all pieces but the last end in a marked_pieces cell
+-- each piece but the last one ends in a cell that is marked as wrapped
 abbrev pub marked_pieces : List (List VisibleCell) → List (List VisibleCell)
 marked_pieces [] = []
 marked_pieces (p ∷ []) = p ∷ []

@@ -1,11 +1,8 @@
 //! Clusters: the pieces of a line in which a shaper finds the glyphs of its text.
-ghost use Rattle.std.specs.Prelude.{◌≡◌, ◌<◌, ◌↔◌, [], ◌∷◌, IfOk, IsTrue, OnOk, length};
-ghost use Rattle.std.specs.Prelude.{slice_index_or};
-ghost use Rattle.termwiz_cell.specs.CellValue.{columns};
-ghost use Rattle.termwiz_storage.specs.CellRef.{indexed_cell, ref_cell};
-ghost use Rattle.termwiz_storage.specs.CellsLeft.{cells_left, IsOfCell};
-ghost use Rattle.termwiz_line.specs.Clusters.{AreClusters, ClusterValue, cluster_of, look_of};
-ghost use Rattle.termwiz_line.specs.Clusters.{unmarked_attributes, with_cell};
+ghost use Rattle.termwiz_line.specs.{◌≡◌, ◌<◌, ◌↔◌, [], ◌∷◌, AreClusters, ClusterValue, IfOk, OnOk};
+ghost use Rattle.termwiz_line.specs.{IsOfCell, IsTrue, cells_left, cluster_of, columns, length};
+ghost use Rattle.termwiz_line.specs.{indexed_cell, look_of, ref_cell, slice_index_or, with_cell};
+ghost use Rattle.termwiz_line.specs.{unmarked_attributes};
 
 use crate::line::bidi::Direction;
 use std::alloc::{AllocError, Global};

@@ -1,14 +1,11 @@
 //! What rows, edits and cuts are: laws of the definitions that the contracts cite, each on a
 //! function that does nothing.
-ghost use Rattle.std.specs.Prelude.{◌≡◌, true};
-ghost use Rattle.termwiz_line.specs.CutLaws.{BytesTellTheirCells, ClustersAreOne, ClustersJoin};
-ghost use Rattle.termwiz_line.specs.CutLaws.{WrapsAreAlike, WrapsAreOne, ZonesAreOne};
-ghost use Rattle.termwiz_line.specs.EditLaws.{AllColumnsShow, StoredAgainShows};
-ghost use Rattle.termwiz_line.specs.StorageLaws.{EqualInAnyForm, WholeIsVisible};
-ghost use Rattle.termwiz_line.specs.RowLaws.{PaintPaints, ClearClears, ClearPast, VisibleFixesRow};
-ghost use Rattle.termwiz_line.specs.RowLaws.{CellsHaveRow, VisibleFixesRowOf, WalkGrows};
-ghost use Rattle.termwiz_line.specs.RowLaws.{ResizedIsRow, SetCellPaints, PruningKeepsRow};
-ghost use Rattle.termwiz_line.specs.declared.line.line.clicks.DoubleClickRange.{DoubleClickRange};
+ghost use Rattle.termwiz_line.specs.{◌≡◌, AllColumnsShow, BytesTellTheirCells, CellsHaveRow, true};
+ghost use Rattle.termwiz_line.specs.{ClearClears, ClearPast, ClustersAreOne, ClustersJoin};
+ghost use Rattle.termwiz_line.specs.{DoubleClickRange, EqualInAnyForm, PaintPaints, ResizedIsRow};
+ghost use Rattle.termwiz_line.specs.{PruningKeepsRow, SetCellPaints, StoredAgainShows, WalkGrows};
+ghost use Rattle.termwiz_line.specs.{VisibleFixesRow, VisibleFixesRowOf, WholeIsVisible};
+ghost use Rattle.termwiz_line.specs.{WrapsAreAlike, WrapsAreOne, ZonesAreOne};
 
 use crate::line::line::DoubleClickRange;
 

@@ -1,12 +1,8 @@
 //! Full screens: copies of what surfaces show and of what they keep beside it.
-ghost use Rattle.std.specs.Prelude.{◌≡◌, ◌↔◌, IsTrue, IfOk, bytes_eq, map};
-ghost use Rattle.std.specs.Cmp.{decided, on_equiv, on_per, partial_equiv_from_equiv};
-ghost use Rattle.std.specs.Cmp.Lexicographic.{pointwise};
-ghost use Rattle.termwiz_cell.specs.Attributes.{color_eq};
-ghost use Rattle.termwiz_cell.specs.Shapes.{line_attribute_eq, shape_eq};
-ghost use Rattle.termwiz_screen.specs.FullScreen.{line_attribute, shape_of};
-ghost use Rattle.termwiz_screen.specs.FullScreenValue.{full_eq, full_eq-Decides, full_value};
-ghost use Rattle.termwiz_screen.specs.Sides.{row_flags};
+ghost use Rattle.termwiz_screen.specs.{◌≡◌, ◌↔◌, IfOk, IsTrue, bytes_eq, color_eq, decided, map};
+ghost use Rattle.termwiz_screen.specs.{full_eq, full_eq-Decides, full_value, line_attribute};
+ghost use Rattle.termwiz_screen.specs.{line_attribute_eq, on_equiv, on_per, pointwise, row_flags};
+ghost use Rattle.termwiz_screen.specs.{partial_equiv_from_equiv, shape_eq, shape_of};
 
 use crate::screen::Screen;
 use std::alloc::{AllocError, Global};

@@ -1,15 +1,11 @@
 //! Laws of the definitions that contracts cite, each on a function that does nothing.
-ghost use Rattle.termwiz_screen.specs.DiffLaws.{CutIsInside, DiffGivesBand, DiffGivesRegion};
-ghost use Rattle.termwiz_screen.specs.DiffLaws.{DiffGivesRows, DrawingRestores, LinesArePrintable};
-ghost use Rattle.termwiz_screen.specs.DiffLaws.{NeedGivesRegion, NeedGivesRows, NeedIs};
-ghost use Rattle.termwiz_screen.specs.DiffLaws.{PrintsAreDiff, RegionIsDiff};
-ghost use Rattle.termwiz_screen.specs.FullLaws.{ChangesMakeFullScreens, FullRepaintGivesScreen};
-ghost use Rattle.termwiz_screen.specs.FullLaws.{FullRepaintIsShort, FullStepsAreSo};
-ghost use Rattle.termwiz_screen.specs.FullLaws.{ResizedKeepsLines, TextsScrollRows};
-ghost use Rattle.termwiz_screen.specs.Fewest.{FewestNarrowPrints, FewestPrints};
-ghost use Rattle.termwiz_screen.specs.RepaintLaws.{LineEntriesGiveRow, RepaintGivesScreen};
-ghost use Rattle.termwiz_screen.specs.RepaintLaws.{RepaintIsShort};
-ghost use Rattle.termwiz_screen.specs.SequenceLaws.{MovesLeadThere, TextsMoveAlike};
+ghost use Rattle.termwiz_screen.specs.{ChangesMakeFullScreens, FullRepaintGivesScreen, CutIsInside};
+ghost use Rattle.termwiz_screen.specs.{FewestNarrowPrints, FullRepaintIsShort, LineEntriesGiveRow};
+ghost use Rattle.termwiz_screen.specs.{RepaintGivesScreen, LinesArePrintable, ResizedKeepsLines};
+ghost use Rattle.termwiz_screen.specs.{DiffGivesRegion, DrawingRestores, NeedGivesRegion, NeedIs};
+ghost use Rattle.termwiz_screen.specs.{TextsScrollRows, FullStepsAreSo, MovesLeadThere};
+ghost use Rattle.termwiz_screen.specs.{RepaintIsShort, TextsMoveAlike, DiffGivesBand, FewestPrints};
+ghost use Rattle.termwiz_screen.specs.{DiffGivesRows, NeedGivesRows, PrintsAreDiff, RegionIsDiff};
 
 /// What a repaint and the entries of a line do when they are replayed.
 pub fn repaint_laws()

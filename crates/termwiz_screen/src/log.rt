@@ -1,10 +1,8 @@
 //! The log of a surface: the changes that were made, by their numbers.
-ghost use Rattle.std.specs.Prelude.{◌≡◌, ◌+◌, ◌-◌, ◌^◌, ◌<◌, ◌≤◌, ◌∷◌, [], true, false};
-ghost use Rattle.std.specs.Prelude.{min, nat_lt, length, map, drop, vec_len, IsOk, OnOk, OnErr};
-ghost use Rattle.std.specs.Option.{IsNone, IfSome};
-ghost use Rattle.termwiz_cell.specs.ChangeValue.{change_value};
-ghost use Rattle.termwiz_screen.specs.Log.{appended, due, flushed, is_known, next_number};
-ghost use Rattle.termwiz_screen.specs.Log.{reaches, restarted, delta_limit};
+ghost use Rattle.termwiz_screen.specs.{◌≡◌, ◌+◌, ◌-◌, ◌^◌, ◌<◌, ◌≤◌, ◌∷◌, [], IfSome, IsNone, IsOk};
+ghost use Rattle.termwiz_screen.specs.{OnErr, OnOk, appended, change_value, delta_limit, drop, due};
+ghost use Rattle.termwiz_screen.specs.{false, flushed, is_known, length, map, min, nat_lt, reaches};
+ghost use Rattle.termwiz_screen.specs.{next_number, restarted, true, vec_len};
 
 use std::alloc::{AllocError, Global};
 use std::marker::Model;
@@ -14,7 +12,7 @@ use termwiz_cell::change::{Change, SEQ_ZERO, SequenceNo};
 ///
 /// All flushes together cost a few instructions for each change that they forget, however many
 /// stay.
-#[derive(Drop)]
+#[derive(Drop, Debug)]
 pub struct Log {
     // The number of the first stored change.
     base: SequenceNo,
@@ -24,7 +22,7 @@ pub struct Log {
 }
 
 impl Model for Log {
-    ghost use Rattle.std.specs.Prelude.{◌+◌, ◌^◌, ◌<◌, ◌≤◌, length, drop, map};
+    ghost use Rattle.std.specs.Prelude.{◌+◌, ◌^◌, ◌<◌, ◌≤◌, drop, length, map};
     ghost use Rattle.termwiz_cell.specs.ChangeValue.{change_value};
     ghost use Rattle.termwiz_screen.specs.Log.{LogValue};
 
@@ -113,7 +111,8 @@ impl Log {
         Ok(())
     }
 
-    /// Logs clones of more changes. On an error nothing has changed.
+    /// Logs clones of changes that are lent. On an error nothing has changed. An empty list asks for
+    /// no memory, so that it never fails.
     pub fn append_clones(&mut self, changes: &[Change]) -> Result<(), AllocError>
         ensures ok { OnOk result (self.new ≡ appended self.old (map change_value changes.now)) }
         ensures err { OnErr result (self.new ≡ self.old) }

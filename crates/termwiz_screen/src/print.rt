@@ -1,17 +1,9 @@
 //! Texts: their graphemes, the cells that these print, and the runs of ASCII and of letters that
 //! they begin with.
-ghost use Rattle.std.specs.Prelude.{◌≡◌, ◌≤◌, true, [], ◌∷◌, length, take, IfOk};
-ghost use Rattle.std.specs.List.{list_all};
-ghost use Rattle.std.specs.Str.{chars};
-ghost use Rattle.termwiz_text.specs.Letter.{AreLetters};
-ghost use Rattle.termwiz_text.specs.Plain.{is_plain};
-ghost use Rattle.unicode_segmentation.specs.Grapheme.{graphemes};
-ghost use Rattle.termwiz_cell.specs.CellValue.{measured};
-ghost use Rattle.termwiz_cell.specs.Measure.{measure};
-ghost use Rattle.termwiz_screen.specs.Measured.{IsMeasured};
-ghost use Rattle.termwiz_screen.specs.Print.{piece_of, printed_cell};
-ghost use Rattle.termwiz_screen.specs.Runs.{AreNarrow, AreWide, IsMeasuredPiece, IsNarrowRun};
-ghost use Rattle.termwiz_screen.specs.Runs.{IsWideRun};
+ghost use Rattle.termwiz_screen.specs.{◌≡◌, ◌≤◌, [], ◌∷◌, AreLetters, AreNarrow, AreWide, IfOk};
+ghost use Rattle.termwiz_screen.specs.{IsMeasured, IsMeasuredPiece, IsNarrowRun, IsWideRun, chars};
+ghost use Rattle.termwiz_screen.specs.{graphemes, is_plain, length, list_all, measure, measured};
+ghost use Rattle.termwiz_screen.specs.{piece_of, printed_cell, take, true};
 
 use std::alloc::{AllocError, Global};
 use termwiz_cell::cell::{Cell, CellAttributes};

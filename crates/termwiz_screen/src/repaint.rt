@@ -1,23 +1,14 @@
 //! Repaints: the changes that bring any screen of that size to the one that rows show.
-ghost use Rattle.std.specs.Prelude.{◌≡◌, ◌-◌, ◌<◌, ◌≤◌, ◌++◌, ◌∷◌, [], List, ◌&&◌, not, true};
-ghost use Rattle.std.specs.Prelude.{false, if◌then◌else◌, ◌==◌, map, length, IfOk, OnOk};
-ghost use Rattle.std.specs.Option.{option_copied};
-ghost use Rattle.termwiz_cell.specs.Attributes.{attributes_eq, default_attributes};
-ghost use Rattle.termwiz_cell.specs.Attributes.{has_only_background};
-ghost use Rattle.termwiz_cell.specs.Attributes.{color_eq};
-ghost use Rattle.termwiz_cell.specs.CellValue.{blank};
+ghost use Rattle.termwiz_screen.specs.{◌≡◌, ◌-◌, ◌<◌, ◌≤◌, ◌++◌, ◌∷◌, [], ◌&&◌, if◌then◌else◌, map};
+ghost use Rattle.termwiz_screen.specs.{◌==◌, AreApart, ArePaddable, ChangeValue, IfOk, IsBeforeRow};
+ghost use Rattle.termwiz_screen.specs.{IsPaddable, IsWrittenUpto, List, OnOk, attributes_eq, blank};
+ghost use Rattle.termwiz_screen.specs.{behind, cells_of, change_value, clears, color_eq, cursor_at};
+ghost use Rattle.termwiz_screen.specs.{default_attributes, false, has_only_background, is_text};
+ghost use Rattle.termwiz_screen.specs.{last_is, length, not, option_copied, penned_value, row_of};
+ghost use Rattle.termwiz_screen.specs.{true, visible_upto};
 ghost use Rattle.termwiz_cell.specs.ChangeValue as change;
-ghost use Rattle.termwiz_cell.specs.ChangeValue.{ChangeValue, change_value, is_text};
 ghost use Rattle.termwiz_line.specs.Entries as line;
-ghost use Rattle.termwiz_line.specs.LastChange.{last_is};
-ghost use Rattle.termwiz_line.specs.PennedValue.{penned_value};
-ghost use Rattle.termwiz_line.specs.Row.{row_of, visible_upto};
-ghost use Rattle.termwiz_line.specs.Writing.{behind};
 ghost use Rattle.termwiz_screen.specs.Screen.{Screen};
-ghost use Rattle.termwiz_screen.specs.ScreenValue.{cells_of};
-ghost use Rattle.termwiz_screen.specs.Padding.{IsPaddable, ArePaddable};
-ghost use Rattle.termwiz_screen.specs.Drawing.{clears, IsBeforeRow, AreApart, IsWrittenUpto};
-ghost use Rattle.termwiz_screen.specs.Place.{cursor_at};
 ghost use Rattle.termwiz_screen.specs.Repaint as spec;
 
 pub mod full;
@@ -179,7 +170,9 @@ fn rows_above(rows: &VecDeque<Line>, width: usize, attrs: &CellAttributes) -> us
     above
 }
 
-// The row whose end clears all below it, where this is the last entry of the rows above.
+// The row from whose end on all is cleared at once, by one `ClearToEndOfScreen`: the first of the
+// blank rows, or the row above it where its last entry clears to the end of the line with the same
+// attributes, so that the one clear serves both.
 fn joined_row(last: Option<&Change>, attrs: &CellAttributes, above: usize) -> usize
     requires { has_only_background attrs.now ≡ true }
     ensures { result

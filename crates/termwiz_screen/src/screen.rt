@@ -1,9 +1,7 @@
 //! Screens: copies of what surfaces show.
-ghost use Rattle.std.specs.Prelude.{◌≡◌, ◌↔◌, IsTrue, Some};
-ghost use Rattle.std.specs.Cmp.{decided, on_equiv, on_per, partial_equiv_from_equiv};
-ghost use Rattle.termwiz_cell.specs.ChangeValue.{visibility_eq};
-ghost use Rattle.termwiz_screen.specs.ScreenValue.{cells_of, rows_eq, screen_eq, screen_eq-Decides};
-ghost use Rattle.termwiz_screen.specs.ScreenValue.{screen_value};
+ghost use Rattle.termwiz_screen.specs.{◌≡◌, ◌↔◌, IsTrue, cells_of, decided, on_equiv, on_per};
+ghost use Rattle.termwiz_screen.specs.{partial_equiv_from_equiv, rows_eq, screen_eq, screen_value};
+ghost use Rattle.termwiz_screen.specs.{screen_eq-Decides, visibility_eq};
 
 use termwiz_cell::cell::CellAttributes;
 use termwiz_cell::change::CursorVisibility;

@@ -1,13 +1,7 @@
 //! What rows show up to the width: past the stored cells, default blanks.
-ghost use Rattle.std.specs.Prelude.{◌≡◌, ◌-◌, ◌<◌, false, replicate};
-ghost use Rattle.std.specs.Cmp.Lexicographic.{pointwise};
-ghost use Rattle.std.specs.Bool.{beq};
-ghost use Rattle.termwiz_cell.specs.Attributes.{default_attributes, attributes_eq};
-ghost use Rattle.termwiz_cell.specs.CellValue.{blank, blank_of, columns, is_wide, cell_eq};
-ghost use Rattle.termwiz_storage.specs.CellRef.{ref_cell, ref_width};
-ghost use Rattle.termwiz_storage.specs.Stored.{stored};
-ghost use Rattle.termwiz_line.specs.Row.{row_of};
-ghost use Rattle.termwiz_screen.specs.Padding.{IsPaddable};
+ghost use Rattle.termwiz_screen.specs.{◌≡◌, ◌-◌, ◌<◌, IsPaddable, attributes_eq, beq, blank, false};
+ghost use Rattle.termwiz_screen.specs.{blank_of, cell_eq, columns, default_attributes, is_wide};
+ghost use Rattle.termwiz_screen.specs.{pointwise, ref_cell, ref_width, replicate, row_of, stored};
 
 use termwiz_cell::cell::{Cell, CellAttributes};
 use termwiz_line::line::line::Line;

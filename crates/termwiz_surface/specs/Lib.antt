@@ -116,3 +116,16 @@ pub use Rattle.termwiz_cell.specs.declared.emoji.Presentation.TheVariants.{Text,
 pub use Rattle.termwiz_cell.specs.declared.color.ColorAttribute.{ColorAttribute}
 pub use Rattle.termwiz_cell.specs.declared.change.Position.TheVariants.{Relative, Absolute, EndRelative}
 pub use Rattle.termwiz_cell.specs.declared.change.LineAttribute.TheVariants.{DoubleHeightTopHalfLine, DoubleHeightBottomHalfLine, DoubleWidthLine, SingleWidthLine}
+-- what the contracts of this crate use, by its name alone
+pub use Rattle.std.specs.Cow.{cow_slice_items}
+pub use Rattle.std.specs.List.{All, Any}
+pub use Rattle.std.specs.Option.{IfSome, IsNone}
+pub use Rattle.std.specs.Prelude.{IfOk, IsTrue, List, MatchOption, OnErr, OnOk, [], false, length, map, nat_lt, pos, replicate, slice_index_or, string_bytes, true, vec_len, ℕ, ◌*◌, ◌+◌, ◌-◌, ◌<◌, ◌^◌, ◌↔◌, ◌∷◌, ◌≡◌, ◌≤◌}
+pub use Rattle.termwiz_surface.specs.Accepting.{Declines, HasDropped, MayTake}
+pub use Rattle.termwiz_surface.specs.FollowingLaws.{ChangesLeadOn, FlushesKeepLeading, LeadsWhereItIs, RestartsKeepLeading, StreamsLeadOn}
+pub use Rattle.termwiz_surface.specs.HistoryLaws.{AnswersStay, CarriedLead, ChangesGoOn, FlushesKeepPast, GivenCarry, NamedAreLed, NamesStay, NothingIsNamedAtFirst, NumberNamesPicture, RestartsGoOn}
+pub use Rattle.termwiz_surface.specs.ManySchedule.{Held, IsManyInRange, ResizesAs}
+pub use Rattle.termwiz_surface.specs.ManySteps.{AnswersTo, DeliversTo, Remembers, Serves}
+pub use Rattle.termwiz_surface.specs.Schedule.{Acts, Allows, IsInRange, IsScheduleOf, Tells, Views, with_empty_log}
+pub use Rattle.termwiz_surface.specs.ScheduleLaws.{BrokenListsLeaveForm, FollowedFullLeadOn, FollowedLeadOn, LackMemory, LackNumbers}
+pub use Rattle.termwiz_surface_core.specs.Following.{Accepts, Fetches, Fits, forgetful}

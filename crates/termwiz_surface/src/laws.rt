@@ -1,16 +1,12 @@
 //! Laws of the definitions that contracts cite, each on a function that does nothing.
-ghost use Rattle.termwiz_surface.specs.FollowingLaws.{ChangesLeadOn, FlushesKeepLeading};
-ghost use Rattle.termwiz_surface.specs.FollowingLaws.{LeadsWhereItIs, RestartsKeepLeading};
-ghost use Rattle.termwiz_surface.specs.FollowingLaws.{StreamsLeadOn};
-ghost use Rattle.termwiz_surface.specs.HistoryLaws.{AnswersStay, CarriedLead, ChangesGoOn};
-ghost use Rattle.termwiz_surface.specs.HistoryLaws.{FlushesKeepPast, GivenCarry, NamedAreLed};
-ghost use Rattle.termwiz_surface.specs.HistoryLaws.{NamesStay, NothingIsNamedAtFirst};
-ghost use Rattle.termwiz_surface.specs.HistoryLaws.{NumberNamesPicture, RestartsGoOn};
-ghost use Rattle.termwiz_surface.specs.ScheduleLaws.{BrokenListsLeaveForm, FollowedFullLeadOn};
-ghost use Rattle.termwiz_surface.specs.ScheduleLaws.{FollowedLeadOn, LackMemory, LackNumbers};
-ghost use Rattle.termwiz_cell.specs.Measure.{measure};
+ghost use Rattle.termwiz_surface.specs.{AnswersStay, BrokenListsLeaveForm, CarriedLead, GivenCarry};
+ghost use Rattle.termwiz_surface.specs.{ChangesGoOn, ChangesLeadOn, FlushesKeepLeading, LackMemory};
+ghost use Rattle.termwiz_surface.specs.{FlushesKeepPast, FollowedFullLeadOn, FollowedLeadOn};
+ghost use Rattle.termwiz_surface.specs.{LackNumbers, LeadsWhereItIs, NamedAreLed, NamesStay};
+ghost use Rattle.termwiz_surface.specs.{NothingIsNamedAtFirst, NumberNamesPicture, RestartsGoOn};
+ghost use Rattle.termwiz_surface.specs.{RestartsKeepLeading, StreamsLeadOn, full_screens, measure};
+ghost use Rattle.termwiz_surface.specs.{screens};
 ghost use Rattle.termwiz_screen.specs.FullScreen.{FullScreen};
-ghost use Rattle.termwiz_screen.specs.Picture.{full_screens, screens};
 ghost use Rattle.termwiz_screen.specs.Screen.{Screen};
 
 use termwiz_cell::emoji::Widths;

@@ -2,7 +2,16 @@
 //!
 //! This is the crate that callers name. Its root has the types that they use, and the modules of
 //! the crates below stand here too, under termwiz's names: cells, colours, links, changes, width
-//! values, lines and shaper clusters.
+//! values, lines and shaper clusters. `specs/Lib.antt` passes on the definitions that callers cite,
+//! each by its name alone.
+//!
+//! - A viewer takes the surface's size, asks, and makes the answer (`view/viewer.rt`), or accepts
+//!   an answer that was carried off (`specs/Accepting.antt`). `specs/Showing.antt` says what
+//!   viewers show, `specs/HistoryLaws.antt` and `specs/FollowingLaws.antt` what keeps them
+//!   following.
+//! - `specs/Schedule.antt` says which outcomes a list of events may have, on one surface with one
+//!   viewer (`view.rt`), and `specs/ManySchedule.antt` with many viewers, whose answers are kept
+//!   and delivered in any order (`view/many.rt`).
 #![tactic(auto)]
 
 pub mod laws;

@@ -1,16 +1,9 @@
 //! Runs of events on a surface.
-ghost use Rattle.std.specs.Prelude.{◌≡◌, ◌^◌, ◌<◌, IfOk, OnOk, map};
-ghost use Rattle.std.specs.Option.{IfSome, IsNone};
-ghost use Rattle.std.specs.Cow.{cow_slice_items};
-ghost use Rattle.termwiz_cell.specs.ChangeValue.{change_value};
-ghost use Rattle.std.specs.List.{All};
-ghost use Rattle.termwiz_cell.specs.Measure.{measure};
-ghost use Rattle.termwiz_surface_core.specs.Following.{Follows, KeepsViewers};
-ghost use Rattle.termwiz_surface_core.specs.History.{KeepsNames};
+ghost use Rattle.termwiz_surface.specs.{◌≡◌, ◌^◌, ◌<◌, Acts, All, Allows, Follows, IfOk, IfSome};
+ghost use Rattle.termwiz_surface.specs.{IsFullSchedule, IsInRange, IsNone, IsSchedule, KeepsNames};
+ghost use Rattle.termwiz_surface.specs.{IsScheduleOf, KeepsViewers, OnOk, Tells, Views, map};
+ghost use Rattle.termwiz_surface.specs.{change_value, cow_slice_items, measure, with_empty_log};
 ghost use Rattle.termwiz_surface_core.specs.SurfaceValue.{SurfaceValue};
-ghost use Rattle.termwiz_surface.specs.Schedule.{Acts, Allows, IsFullSchedule, IsInRange};
-ghost use Rattle.termwiz_surface.specs.Schedule.{IsSchedule, IsScheduleOf, Tells, Views};
-ghost use Rattle.termwiz_surface.specs.Schedule.{with_empty_log};
 
 mod many;
 mod viewer;
@@ -26,7 +19,7 @@ pub use viewer::{AcceptError, Viewer};
 use waiting::Waiting;
 
 /// What happens to a surface.
-#[derive(Drop)]
+#[derive(Drop, Debug)]
 pub enum Event<W: Widths> {
     /// The changes are added, as one list.
     Changes(Vec<Change>),
@@ -48,7 +41,7 @@ pub enum Event<W: Widths> {
 }
 
 /// What came of an event.
-#[derive(Drop)]
+#[derive(Drop, Debug)]
 pub enum Outcome {
     /// The number that adding the list of changes answered, that of a drawing or a copy too.
     Answered(SequenceNo),

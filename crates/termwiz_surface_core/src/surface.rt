@@ -1,30 +1,9 @@
 //! Surfaces.
-ghost use Rattle.std.specs.Prelude.{◌≡◌, true, ◌+◌, ◌-◌, ◌<◌, ◌≤◌, ◌^◌, [], ◌∷◌, length, map};
-ghost use Rattle.std.specs.Prelude.{vec_len, replicate, string_bytes, slice_set, slice_index_or};
-ghost use Rattle.std.specs.Prelude.{false, IsOk, IfOk, OnOk, OnErr};
-ghost use Rattle.termwiz_cell.specs.Attributes.{with_background};
-ghost use Rattle.termwiz_cell.specs.CellValue.{blank};
-ghost use Rattle.termwiz_cell.specs.Measure.{measure};
-ghost use Rattle.termwiz_screen.specs.Clear.{clear_eol, clear_eos, clear_screen, eol_lengths};
-ghost use Rattle.termwiz_screen.specs.Clear.{eos_lengths, screen_lengths};
-ghost use Rattle.termwiz_screen.specs.Place.{placed};
-ghost use Rattle.termwiz_screen.specs.Step.{step, step_kept, replay, replay_kept, region_fits};
-ghost use Rattle.termwiz_screen.specs.Step.{regions_fit};
-ghost use Rattle.termwiz_screen.specs.ScrollRegions.{region_up, region_down};
-ghost use Rattle.termwiz_screen.specs.Kept.{with_line_attribute};
-ghost use Rattle.termwiz_line.specs.LineFlags.{no_flags};
-ghost use Rattle.termwiz_cell.specs.AttributeChangeValue.{attribute_change_value, with_attribute};
-ghost use Rattle.termwiz_cell.specs.ChangeValue.{change_value};
-ghost use Rattle.std.specs.List.{All};
-ghost use Rattle.termwiz_screen.specs.ShownChars.{shown_chars};
-ghost use Rattle.termwiz_screen.specs.ScreenValue.{screen_value};
-ghost use Rattle.termwiz_surface_core.specs.SurfaceValue.{IsSound, full_of};
-ghost use Rattle.termwiz_surface_core.specs.Adding.{Adds, Makes, Refuses};
-ghost use Rattle.termwiz_surface_core.specs.Following.{KeepsViewers};
-ghost use Rattle.termwiz_surface_core.specs.History.{KeepsNames};
-ghost use Rattle.termwiz_screen.specs.Log.{next_number};
-ghost use Rattle.termwiz_screen.specs.Printable.{HasSize, IsPrintable};
-ghost use Rattle.termwiz_screen.specs.FullScreen.{HasFullSize};
+ghost use Rattle.termwiz_surface_core.specs.{◌≡◌, ◌+◌, ◌-◌, ◌<◌, ◌^◌, [], ◌∷◌, Adds, IfOk, IsOk};
+ghost use Rattle.termwiz_surface_core.specs.{KeepsNames, KeepsViewers, Makes, OnErr, OnOk};
+ghost use Rattle.termwiz_surface_core.specs.{Refuses, change_value, false, length, map};
+ghost use Rattle.termwiz_surface_core.specs.{measure, next_number, region_fits, regions_fit, true};
+ghost use Rattle.termwiz_surface_core.specs.{vec_len};
 
 mod answer;
 mod answers;
@@ -33,27 +12,24 @@ mod diff;
 mod full;
 mod lines;
 mod print;
+mod readings;
 mod resizing;
+mod steps;
 
 pub use answer::Answer;
 use std::alloc::{AllocError, Global};
 use std::collections::VecDeque;
 use std::marker::Model;
 use std::slice;
-use termwiz_cell::cell::{AttributeChange, CellAttributes};
+use termwiz_cell::cell::CellAttributes;
+use termwiz_cell::change::Change;
 pub use termwiz_cell::change::{CursorShape, CursorVisibility, Position, SEQ_ZERO, SequenceNo};
-use termwiz_cell::change::{Change, LineAttribute};
 use termwiz_cell::color::ColorAttribute;
 use termwiz_cell::emoji::Widths;
 use termwiz_line::line::line::Line;
 pub use termwiz_screen::full::FullScreen;
 use termwiz_screen::log::Log;
-use termwiz_screen::pen::{background_only, blank_with};
-use termwiz_screen::place::{column_at, row_at};
-use termwiz_screen::rows::{
-    blank_rows, chars_of, fill_row, fill_rows, resized_lines, scroll_region_down, scroll_region_up,
-    set_line_attribute,
-};
+use termwiz_screen::rows::blank_rows;
 pub use termwiz_screen::screen::Screen;
 use termwiz_screen::scroll_region::regions_fit;
 use thiserror::Error;
@@ -118,7 +94,7 @@ impl From<AllocError> for SurfaceError {
 /// A program may draw the parts of a picture on surfaces of their own, each of which knows nothing
 /// of the others, and show a surface that is made of them: `draw_from_screen` draws one surface on
 /// another, and `copy_region` copies a region within one.
-#[derive(Drop)]
+#[derive(Drop, Debug)]
 pub struct Surface<W: Widths> {
     widths: W,
     alloc: Global,
@@ -140,8 +116,8 @@ impl<W: Widths> Model for Surface<W> {
     ghost use Rattle.termwiz_cell.specs.Measure.{measure};
     ghost use Rattle.std.specs.Prelude.{string_bytes};
     ghost use Rattle.termwiz_screen.specs.ScreenValue.{cells_of};
-    ghost use Rattle.termwiz_screen.specs.Sides.{row_flags, AreVectors};
-    ghost use Rattle.termwiz_surface_core.specs.SurfaceValue.{SurfaceValue, IsSound};
+    ghost use Rattle.termwiz_screen.specs.Sides.{AreVectors, row_flags};
+    ghost use Rattle.termwiz_surface_core.specs.SurfaceValue.{IsSound, SurfaceValue};
 
     ghost Value = { SurfaceValue W };
 
@@ -166,7 +142,9 @@ impl<W: Widths> Model for Surface<W> {
         IsSound (measure W.width_of s.widths) (view s) × AreVectors s.rows.items };
 }
 
-/// A copy has the same screen, stored rows, title, cursor's shape and colour, log and number.
+/// A copy equals its original in all that can be read of it: the size, the kind (full or not), the
+/// screen, each row's line attribute and stored length, the title, the cursor's shape and colour,
+/// the log and the number. A viewer of one can follow the other until one of them changes.
 impl<W: Widths> Clone for Surface<W> {
     ghost is_clone = { λ a b. b ≡ a };
 
@@ -195,9 +173,9 @@ impl<W: Widths> Clone for Surface<W> {
 }
 
 impl<W: Widths> Surface<W> {
-    ghost use Rattle.termwiz_surface_core.specs.SurfaceValue.{SurfaceValue, IsSound, blank_surface};
-    ghost use Rattle.termwiz_surface_core.specs.SurfaceValue.{screen_of, lengths_of, kept_of};
-    ghost use Rattle.termwiz_surface_core.specs.SurfaceValue.{SameFrame, Becomes};
+    ghost use Rattle.termwiz_surface_core.specs.SurfaceValue.{Becomes, IsSound, SameFrame, kept_of};
+    ghost use Rattle.termwiz_surface_core.specs.SurfaceValue.{SurfaceValue, blank_surface};
+    ghost use Rattle.termwiz_surface_core.specs.SurfaceValue.{lengths_of, screen_of};
 
     /// A surface of this width in columns and this height in rows: default blanks, with the cursor
     /// home and shown, default attributes as pen and the number 0.
@@ -267,291 +245,6 @@ impl<W: Widths> Surface<W> {
             full,
             log: Log::new(alloc),
         })
-    }
-
-    /// The width in columns and the height in rows.
-    pub fn dimensions(&self) -> (usize, usize)
-        ensures width { result.0 ≡ self.now.width }
-        ensures height { result.1 ≡ self.now.height }
-        // Every surface has its form.
-        ensures sound { IsSound (measure W.width_of self.now.widths) self.now }
-        // Its screen has its size, so repaints can be replayed on it.
-        ensures sized { HasSize self.now.width self.now.height (screen_of self.now) }
-        // Its full screen has its size too.
-        ensures fully_sized { HasFullSize self.now.width self.now.height (full_of self.now) }
-        // Each row of the screen has a half behind each wide cell, and each visible cell is one
-        // grapheme with the width that is measured for it.
-        ensures printable { IsPrintable (measure W.width_of self.now.widths) (screen_of self.now) }
-    {
-        (self.width, self.height)
-    }
-
-    /// The width value, by which texts are measured.
-    pub fn widths(&self) -> W
-        ensures { result ≡ self.now.widths }
-    {
-        self.widths
-    }
-
-    /// Whether its repaints carry all that is kept beside the screen.
-    pub fn is_full(&self) -> bool
-        ensures { result ≡ self.now.full }
-    {
-        self.full
-    }
-
-    /// The cursor's column and row, from 0. The column is the width where a wrap is pending.
-    pub fn cursor_position(&self) -> (usize, usize)
-        ensures column { result.0 ≡ self.now.x }
-        ensures row { result.1 ≡ self.now.y }
-    {
-        (self.x, self.y)
-    }
-
-    /// Whether the cursor is shown.
-    pub fn cursor_visibility(&self) -> CursorVisibility
-        ensures { result ≡ self.now.visibility }
-    {
-        self.visibility
-    }
-
-    /// The title, which is empty at first.
-    pub fn title(&self) -> &str
-        ensures { result.now ≡ self.now.title }
-    {
-        self.title.as_str()
-    }
-
-    /// The cursor's shape, where one was set.
-    pub fn cursor_shape(&self) -> Option<CursorShape>
-        ensures { result ≡ self.now.shape }
-    {
-        self.shape
-    }
-
-    /// The number of the coming change, which is what a viewer that has all changes was last given.
-    pub fn current_seqno(&self) -> SequenceNo
-        ensures value { result ≡ next_number self.now.log }
-        ensures fits { result < 2 ^ 64 }
-    {
-        self.log.next_number()
-    }
-
-    /// The texts of each row's visible cells within its stored length, with a newline behind each
-    /// row.
-    pub fn screen_chars_to_string(&self) -> Result<String, AllocError>
-        ensures { IfOk result (λ text.
-            string_bytes text ≡ shown_chars (screen_of self.now).rows (lengths_of self.now)) }
-    {
-        chars_of(self.alloc, &self.rows)
-    }
-
-    /// A copy of what the surface shows: each row is cut or filled to the width with default
-    /// blanks, and has the number 0 and no flags.
-    pub fn screen(&self) -> Result<Screen, AllocError>
-        ensures shown { IfOk result (λ screen. screen_value screen ≡ screen_of self.now) }
-        ensures numbers { IfOk result (λ screen. All (λ line. line.seqno ≡ 0) screen.rows.items) }
-        ensures flags { IfOk result (λ screen.
-            All (λ line. line.flags ≡ no_flags) screen.rows.items) }
-    {
-        let rows = resized_lines(self.alloc, &self.rows, self.width)?;
-        let pen = self.pen.clone()?;
-        Ok(Screen {
-            width: self.width,
-            height: self.height,
-            rows,
-            cursor: (self.x, self.y),
-            visibility: self.visibility,
-            pen,
-        })
-    }
-
-    // Clears from the cursor to the end of its row, with a pen of this background from then on. The
-    // clears stand apart, so that the way of a text is short.
-    #[inline(never)]
-    fn clear_to_end_of_line(&mut self, color: &ColorAttribute) -> Result<(), AllocError>
-        ensures ok { OnOk result (let s = screen_of self.old in
-            Becomes self.old (clear_eol s (with_background color.now))
-            (record (kept_of self.old) {
-              lengths = eol_lengths s (with_background color.now) (lengths_of self.old);
-            }) self.new) }
-        ensures err { OnErr result (SameFrame self.old self.new) }
-    {
-        let pen = background_only(self.alloc, *color)?;
-        let cleared = blank_with(&pen)?;
-        fill_row(&mut self.rows, self.width, self.x, self.y, &cleared)?;
-        self.pen = pen;
-        Ok(())
-    }
-
-    // Clears from the cursor to the end of the screen.
-    #[inline(never)]
-    fn clear_to_end_of_screen(&mut self, color: &ColorAttribute) -> Result<(), AllocError>
-        ensures ok { OnOk result (let s = screen_of self.old in
-            Becomes self.old (clear_eos s (with_background color.now))
-            (record (kept_of self.old) {
-              lengths = eos_lengths s (with_background color.now) (lengths_of self.old);
-            }) self.new) }
-        ensures err { OnErr result (SameFrame self.old self.new) }
-    {
-        let pen = background_only(self.alloc, *color)?;
-        let cleared = blank_with(&pen)?;
-        fill_rows(&mut self.rows, self.width, self.x, self.y, &cleared)?;
-        self.pen = pen;
-        Ok(())
-    }
-
-    // Clears all rows, and takes the cursor home.
-    #[inline(never)]
-    fn clear_screen(&mut self, color: &ColorAttribute) -> Result<(), AllocError>
-        ensures ok { OnOk result (let s = screen_of self.old in
-            Becomes self.old (clear_screen s (with_background color.now))
-            (record (kept_of self.old) {
-              lengths = screen_lengths s (with_background color.now) (lengths_of self.old);
-            }) self.new) }
-        ensures err { OnErr result (SameFrame self.old self.new) }
-    {
-        let pen = background_only(self.alloc, *color)?;
-        let cleared = blank_with(&pen)?;
-        fill_rows(&mut self.rows, self.width, 0, 0, &cleared)?;
-        self.pen = pen;
-        self.x = 0;
-        self.y = 0;
-        Ok(())
-    }
-
-    #[inline(never)]
-    fn change_pen(&mut self, change: &AttributeChange) -> Result<(), AllocError>
-        ensures ok { OnOk result (Becomes self.old
-            (record (screen_of self.old) {
-              pen = with_attribute self.old.pen (attribute_change_value change.now);
-            })
-            (kept_of self.old) self.new) }
-        ensures err { OnErr result (self.new ≡ self.old) }
-    {
-        self.pen.apply_change(self.alloc, change)?;
-        Ok(())
-    }
-
-    fn place_cursor(&mut self, x: Position, y: Position)
-        ensures { Becomes self.old (placed (screen_of self.old) x y) (kept_of self.old) self.new }
-    {
-        self.x = column_at(x, self.x, self.width);
-        self.y = row_at(y, self.y, self.height);
-    }
-
-    // Scrolls rows up inside a region. The cursor stays.
-    fn scroll_region_up(
-        &mut self,
-        first: usize,
-        size: usize,
-        count: usize,
-    ) -> Result<(), AllocError>
-        requires { first + size ≤ self.old.height }
-        ensures ok { OnOk result (let s = screen_of self.old in let k = kept_of self.old in
-            Becomes self.old
-            (record s { rows = region_up (replicate s.width blank) s.rows first size count })
-            (record k {
-              lengths = region_up s.width k.lengths first size count;
-              flags = region_up no_flags k.flags first size count;
-            }) self.new) }
-        ensures err { OnErr result (SameFrame self.old self.new) }
-    {
-        scroll_region_up(&mut self.rows, self.width, first, size, count)?;
-        Ok(())
-    }
-
-    // Scrolls rows down inside a region. The cursor stays.
-    fn scroll_region_down(
-        &mut self,
-        first: usize,
-        size: usize,
-        count: usize,
-    ) -> Result<(), AllocError>
-        requires { first + size ≤ self.old.height }
-        ensures ok { OnOk result (let s = screen_of self.old in let k = kept_of self.old in
-            Becomes self.old
-            (record s { rows = region_down (replicate s.width blank) s.rows first size count })
-            (record k {
-              lengths = region_down s.width k.lengths first size count;
-              flags = region_down no_flags k.flags first size count;
-            }) self.new) }
-        ensures err { OnErr result (SameFrame self.old self.new) }
-    {
-        scroll_region_down(&mut self.rows, self.width, first, size, count)?;
-        Ok(())
-    }
-
-    // Says how the cursor's row is shown.
-    fn set_line_attribute(&mut self, attribute: LineAttribute)
-        ensures { let k = kept_of self.old in
-            Becomes self.old (screen_of self.old)
-            (record k {
-              flags = slice_set k.flags self.old.y
-                  (with_line_attribute attribute (slice_index_or k.flags self.old.y no_flags));
-            }) self.new }
-    {
-        set_line_attribute(&mut self.rows, self.y, attribute);
-    }
-
-    #[inline(never)]
-    fn set_title(&mut self, title: &str) -> Result<(), AllocError>
-        ensures ok { OnOk result (Becomes self.old (screen_of self.old)
-            (record (kept_of self.old) { title = title.now }) self.new) }
-        ensures err { OnErr result (self.new ≡ self.old) }
-    {
-        self.title = String::from_str(self.alloc, title)?;
-        Ok(())
-    }
-
-    fn apply(&mut self, change: &Change) -> Result<(), AllocError>
-        requires { region_fits self.old.height (change_value change.now) ≡ true }
-        ensures ok { OnOk result (let f = measure W.width_of self.old.widths in
-            let s = screen_of self.old in
-            Becomes self.old (step f s (change_value change.now))
-            (step_kept f s (kept_of self.old) (change_value change.now)) self.new) }
-        ensures err { OnErr result (SameFrame self.old self.new) }
-    {
-        match change {
-            Change::Attribute(change) => self.change_pen(change)?,
-            Change::AllAttributes(attrs) => self.pen = attrs.clone()?,
-            Change::Text(text) => self.print_text(text.as_str())?,
-            Change::ClearScreen(color) => self.clear_screen(color)?,
-            Change::ClearToEndOfLine(color) => self.clear_to_end_of_line(color)?,
-            Change::ClearToEndOfScreen(color) => self.clear_to_end_of_screen(color)?,
-            Change::CursorPosition { x, y } => self.place_cursor(*x, *y),
-            Change::CursorColor(color) => self.color = *color,
-            Change::CursorShape(shape) => self.shape = Some(*shape),
-            Change::CursorVisibility(visibility) => self.visibility = *visibility,
-            Change::ScrollRegionUp {
-                first_row,
-                region_size,
-                scroll_count,
-            } => self.scroll_region_up(*first_row, *region_size, *scroll_count)?,
-            Change::ScrollRegionDown {
-                first_row,
-                region_size,
-                scroll_count,
-            } => self.scroll_region_down(*first_row, *region_size, *scroll_count)?,
-            Change::Title(title) => self.set_title(title.as_str())?,
-            Change::LineAttribute(attribute) => self.set_line_attribute(*attribute),
-        }
-        Ok(())
-    }
-
-    fn apply_all(&mut self, changes: &[Change]) -> Result<(), AllocError>
-        requires { regions_fit self.old.height (map change_value changes.now) ≡ true }
-        ensures ok { OnOk result (let f = measure W.width_of self.old.widths in
-            let s = screen_of self.old in
-            Becomes self.old (replay f s (map change_value changes.now))
-            (replay_kept f s (kept_of self.old) (map change_value changes.now)) self.new) }
-        ensures err { OnErr result (SameFrame self.old self.new) }
-        ensures empty { OnErr result (0 < length changes.now) }
-    {
-        for change in changes {
-            self.apply(change)?;
-        }
-        Ok(())
     }
 
     // Refuses a list of changes that can't be made, before any is made.

@@ -1,7 +1,7 @@
 //! A text that grows by one grapheme at a time.
-ghost use Rattle.termwiz_text.specs.{◌≡◌, ◌↔◌, ◌++◌, ◌∷◌, [], List, ℕ, true, IsTrue, IfSome, IfOk};
-ghost use Rattle.termwiz_text.specs.{OnOk, OnErr, string_bytes, if◌then◌else◌, IsCutAt};
-ghost use Rattle.termwiz_text.specs.{is_plain_last, is_plain, graphemes};
+ghost use Rattle.termwiz_text.specs.{◌≡◌, ◌↔◌, ◌++◌, ◌∷◌, [], if◌then◌else◌, IfOk, IfSome, IsCutAt};
+ghost use Rattle.termwiz_text.specs.{IsTrue, List, OnErr, OnOk, graphemes, is_plain, is_plain_last};
+ghost use Rattle.termwiz_text.specs.{string_bytes, true, ℕ};
 
 use super::{is_last_grapheme, is_one_plain, is_plain};
 use std::alloc::{AllocError, Global};
@@ -19,7 +19,7 @@ pub struct JoinedText {
 }
 
 impl Model for JoinedText {
-    ghost use Rattle.std.specs.Prelude.{◌≡◌, true, List, ℕ, string_bytes};
+    ghost use Rattle.std.specs.Prelude.{◌≡◌, List, string_bytes, true, ℕ};
     ghost use Rattle.termwiz_text.specs.CutAt.{IsCutAt};
     ghost use Rattle.termwiz_text.specs.Plain.{is_plain_last};
 

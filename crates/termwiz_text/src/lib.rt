@@ -1,10 +1,16 @@
 //! Texts cut into graphemes, the extended grapheme clusters of UAX 29.
+//!
+//! Graphemes are those of `unicode_segmentation`. A boundary between two graphemes hides what
+//! stands before it, so that each piece of a text is one grapheme by itself, and what follows it is
+//! cut as a text of its own (`specs/First.antt`). Whether two texts join is seen at their seam
+//! (`joined`, `specs/CutAt.antt`). Printable ASCII (`specs/Plain.antt`) and letters of kana and
+//! common ideographs (`specs/Letter.antt`) need no tables: a run of either is split off at once.
 #![tactic(auto)]
 
-ghost use Rattle.termwiz_text.specs.{◌≡◌, ◌≤◌, ◌<◌, length, ◌↔◌, ℕ, true, false, List, [], ◌∷◌};
-ghost use Rattle.termwiz_text.specs.{◌++◌, min, take, drop, slice_index, MatchOption, IfSome};
-ghost use Rattle.termwiz_text.specs.{IsTrue, if◌then◌else◌, encode_utf8, slice_index_or, list_all};
-ghost use Rattle.termwiz_text.specs.{chars, IsFirst, graphemes};
+ghost use Rattle.termwiz_text.specs.{◌≡◌, ◌≤◌, ◌<◌, ◌↔◌, [], ◌∷◌, ◌++◌, IfSome, IsFirst, IsTrue, ℕ};
+ghost use Rattle.termwiz_text.specs.{List, MatchOption, chars, drop, encode_utf8, false, graphemes};
+ghost use Rattle.termwiz_text.specs.{length, list_all, min, slice_index, slice_index_or, take};
+ghost use Rattle.termwiz_text.specs.{true};
 ghost use Rattle.termwiz_text.specs.Plain as plain;
 ghost use Rattle.termwiz_text.specs.Letter as letter;
 

@@ -1,10 +1,8 @@
 //! Whether two surfaces show the same.
-ghost use Rattle.std.specs.Prelude.{◌≡◌, ◌↔◌, IfOk, IsTrue};
-ghost use Rattle.termwiz_surface.specs.{screen_of};
+ghost use Rattle.termwiz_surface.specs.{◌≡◌, ◌↔◌, IfOk, IsTrue, screen_of};
 
 use std::alloc::AllocError;
-use termwiz_surface::emoji::Widths;
-use termwiz_surface::surface::Surface;
+use termwiz_surface::{Surface, Widths};
 
 /// Whether two surfaces show the same: size, rows, cursor, visibility and pen. They may measure
 /// texts differently.

@@ -1,19 +1,10 @@
 //! Damage: what has to be painted anew on a canvas that is painted cell by cell.
-ghost use Rattle.std.specs.Prelude.{◌≡◌, [], IfOk, map};
-ghost use Rattle.termwiz_surface.specs.{
-  MeasureAlike,
-  change_value,
-  measure,
-  print_all,
-  printed,
-  screen_of,
-};
+ghost use Rattle.termwiz_surface.specs.{◌≡◌, [], IfOk, MeasureAlike, change_value, map, measure};
+ghost use Rattle.termwiz_surface.specs.{print_all, printed, screen_of};
 
 use std::alloc::AllocError;
-use termwiz_surface::change::Change;
-use termwiz_surface::emoji::Widths;
 use termwiz_surface::laws::need_laws;
-use termwiz_surface::surface::Surface;
+use termwiz_surface::{Change, Surface, Widths};
 
 /// The changes that print the damage between two surfaces of one size. A canvas that shows the rows
 /// of the last one shows those of the next one once just the cells that they print are painted, one

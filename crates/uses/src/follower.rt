@@ -1,21 +1,12 @@
 //! A follower of one's own, which is sent what changed since it asked last.
-ghost use Rattle.std.specs.Prelude.{◌≡◌, [], ◌∷◌, IfOk, OnErr, OnOk};
-ghost use Rattle.termwiz_surface.specs.{
-  Follows,
-  ViewerValue,
-  change_value,
-  measure,
-  screen_after,
-  screen_of,
-};
+ghost use Rattle.termwiz_surface.specs.{◌≡◌, [], ◌∷◌, Follows, IfOk, OnErr, OnOk, ViewerValue};
+ghost use Rattle.termwiz_surface.specs.{change_value, measure, screen_after, screen_of};
 
 use std::alloc::{AllocError, Global};
 use std::marker::Model;
-use termwiz_surface::change::{Change, SEQ_ZERO, SequenceNo};
-use termwiz_surface::emoji::Widths;
 use termwiz_surface::laws::{following_laws, full_following_laws, full_repaint_laws};
-use termwiz_surface::surface::{Surface, SurfaceError};
 use termwiz_surface::view::copied;
+use termwiz_surface::{Change, SEQ_ZERO, SequenceNo, Surface, SurfaceError, Widths};
 
 /// What a surface showed when the follower last caught up with it, and the number that it was given
 /// then.

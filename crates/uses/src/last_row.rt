@@ -1,21 +1,11 @@
 //! The last row, cleared: what a reader wants of it in words, by the laws of rows.
-ghost use Rattle.std.specs.Prelude.{◌≡◌, ℕ, ◌-◌, ◌<◌, IfOk, OnOk, map};
-ghost use Rattle.termwiz_surface.specs.{
-  blank_of,
-  change_value,
-  row_at,
-  screen_of,
-  stored,
-  with_background,
-};
+ghost use Rattle.termwiz_surface.specs.{◌≡◌, ◌-◌, ◌<◌, IfOk, OnOk, blank_of, change_value, map, ℕ};
+ghost use Rattle.termwiz_surface.specs.{row_at, screen_of, stored, with_background};
 ghost use Rattle.uses.specs.LastRow.{last_row_cleared};
 
 use std::alloc::{AllocError, Global};
-use termwiz_surface::change::{Change, Position};
-use termwiz_surface::color::ColorAttribute;
-use termwiz_surface::emoji::Widths;
 use termwiz_surface::laws::{row_laws, stored_row_laws};
-use termwiz_surface::surface::{Surface, SurfaceError};
+use termwiz_surface::{Change, ColorAttribute, Position, Surface, SurfaceError, Widths};
 
 /// Clears the last row with a background. The rows above stay.
 /// At an error the surface keeps its size.

@@ -1,26 +1,14 @@
 //! Lines by themselves: a heading, letters that are set at once, and the word under a pointer.
-ghost use Rattle.std.specs.Prelude.{◌≡◌, ◌<◌, ◌≤◌, IfOk, OnErr, false, length, true};
-ghost use Rattle.termwiz_surface.specs.{
-  IsLower,
-  IsUnchanged,
-  IsUpper,
-  default_attributes,
-  measure,
-  no_flags,
-  stored_text,
-  visible,
-  with_sizes,
-};
+ghost use Rattle.termwiz_surface.specs.{◌≡◌, ◌<◌, ◌≤◌, IfOk, IsLower, IsUnchanged, IsUpper, OnErr};
+ghost use Rattle.termwiz_surface.specs.{default_attributes, false, length, measure, no_flags, true};
+ghost use Rattle.termwiz_surface.specs.{stored_text, visible, with_sizes};
 ghost use Rattle.uses.specs.FirstLetters.{SetsFirstLetters};
 ghost use Rattle.uses.specs.Words.{is_in_word};
 
 use std::alloc::{AllocError, Global};
 use std::ops::Range;
-use termwiz_surface::cell::CellAttributes;
-use termwiz_surface::change::SequenceNo;
-use termwiz_surface::emoji::Widths;
-use termwiz_surface::line::line::{DoubleClickRange, Line};
-use termwiz_surface::split_letter_run;
+use termwiz_surface::line::line::DoubleClickRange;
+use termwiz_surface::{CellAttributes, Line, SequenceNo, Widths, split_letter_run};
 
 /// A line of a text that is shown twice as wide, with a number.
 pub fn heading<W: Widths>(

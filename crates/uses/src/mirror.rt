@@ -1,11 +1,9 @@
 //! A viewer of one's own, which mirrors a surface by repaints.
-ghost use Rattle.std.specs.Prelude.{◌≡◌, IfOk, OnOk};
-ghost use Rattle.termwiz_surface.specs.{SurfaceValue, screen_of};
+ghost use Rattle.termwiz_surface.specs.{◌≡◌, IfOk, OnOk, SurfaceValue, screen_of};
 
 use std::alloc::{AllocError, Global};
 use std::marker::Model;
-use termwiz_surface::emoji::Widths;
-use termwiz_surface::surface::{Surface, SurfaceError};
+use termwiz_surface::{Surface, SurfaceError, Widths};
 
 /// A copy of what a surface showed when the mirror last caught up with it.
 #[derive(Drop)]

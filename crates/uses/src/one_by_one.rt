@@ -1,10 +1,8 @@
 //! Changes that are made one at a time, as they come.
-ghost use Rattle.std.specs.Prelude.{◌≡◌, OnOk, map};
-ghost use Rattle.termwiz_surface.specs.{change_value, measure, screen_after, screen_of};
+ghost use Rattle.termwiz_surface.specs.{◌≡◌, OnOk, change_value, map, measure, screen_after};
+ghost use Rattle.termwiz_surface.specs.{screen_of};
 
-use termwiz_surface::change::Change;
-use termwiz_surface::emoji::Widths;
-use termwiz_surface::surface::{Surface, SurfaceError};
+use termwiz_surface::{Change, Surface, SurfaceError, Widths};
 
 /// Makes the changes, each by itself. The screen is the same as if they were one list.
 /// At an error some first ones were made, and the surface keeps its size.

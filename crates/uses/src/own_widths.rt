@@ -1,19 +1,19 @@
 //! A width value of one's own: the widths of the Unicode tables, but for one character.
-ghost use Rattle.std.specs.Prelude.{◌≡◌, ◌<◌, ◌^◌, IfOk};
+ghost use Rattle.termwiz_surface.specs.{◌≡◌, ◌<◌, ◌^◌, IfOk};
 
 use std::alloc::{AllocError, Global};
-use termwiz_surface::emoji::{Presentation, UnicodeVersion, UnicodeWidths, Widths};
-use termwiz_surface::surface::Surface;
+use termwiz_surface::emoji::{Presentation, UnicodeVersion};
+use termwiz_surface::{Surface, UnicodeWidths, Widths};
 
 /// Widths by Unicode, for a terminal that draws an ellipsis over two columns.
 #[derive(Clone, Copy, PartialEq, Eq, Debug)]
 pub struct WideEllipsis;
 
 impl Widths for WideEllipsis {
-    ghost use Rattle.std.specs.Prelude.{[], ◌∷◌, bytes_eq, if◌then◌else◌};
+    ghost use Rattle.std.specs.Prelude.{[], ◌∷◌, if◌then◌else◌, bytes_eq};
     ghost use Rattle.std.proofs.Common.{arith};
-    ghost use Rattle.termwiz_surface.specs.{Text, unicode_columns, unicode_columns-le};
-    ghost use Rattle.termwiz_surface.specs.{unicode_columns-space, variation};
+    ghost use Rattle.termwiz_surface.specs.{Text, unicode_columns, unicode_columns-le, variation};
+    ghost use Rattle.termwiz_surface.specs.{unicode_columns-space};
 
     // The bytes of U+2026, and else what the tables have.
     ghost width_of = { λ _ text _.

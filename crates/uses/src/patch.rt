@@ -1,27 +1,12 @@
 //! A patch: a diff that is made where both surfaces are, and applied where only one of them is.
-ghost use Rattle.std.specs.Prelude.{◌≡◌, ◌≤◌, ◌*◌, IfOk, List, OnOk, length, map};
-ghost use Rattle.termwiz_surface.specs.{
-  AreRows,
-  CellValue,
-  IsDiff,
-  MeasureAlike,
-  Print,
-  PrintsWithin,
-  change_value,
-  measure,
-  need,
-  print_all,
-  printed,
-  screen_after,
-  screen_of,
-  whole,
-};
+ghost use Rattle.termwiz_surface.specs.{◌≡◌, ◌≤◌, ◌*◌, AreRows, CellValue, IfOk, IsDiff, List, map};
+ghost use Rattle.termwiz_surface.specs.{MeasureAlike, OnOk, Print, PrintsWithin, change_value};
+ghost use Rattle.termwiz_surface.specs.{length, measure, need, print_all, printed, screen_after};
+ghost use Rattle.termwiz_surface.specs.{screen_of, whole};
 
 use std::alloc::AllocError;
-use termwiz_surface::change::Change;
-use termwiz_surface::emoji::Widths;
 use termwiz_surface::laws::{diff_laws, fewest_prints};
-use termwiz_surface::surface::{Surface, SurfaceError};
+use termwiz_surface::{Change, Surface, SurfaceError, Widths};
 
 /// The patch that makes a surface show the rows of another one of its size that measures texts as
 /// it does. Whoever paints these rows in another way, cell by cell, paints at least a third as many

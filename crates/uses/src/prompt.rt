@@ -1,12 +1,11 @@
 //! The prompt of a line editor: a line to edit and a hint below it.
-ghost use Rattle.std.specs.Prelude.{◌≡◌, pos, ◌<◌, OnOk};
-ghost use Rattle.termwiz_surface.specs.{measure};
+ghost use Rattle.termwiz_surface.specs.{◌≡◌, ◌<◌, OnOk, measure, pos};
 ghost use Rattle.uses.specs.Prompt.{prompted};
 
 use std::alloc::Global;
-use termwiz_surface::change::{Change, ChangeSequence, SequenceError};
-use termwiz_surface::emoji::Widths;
+use termwiz_surface::change::{ChangeSequence, SequenceError};
 use termwiz_surface::laws::sequence_laws;
+use termwiz_surface::{Change, Widths};
 
 /// Prints a line and a hint below it, and takes the cursor back to a column of the row where the
 /// sequence began.

@@ -1,10 +1,7 @@
 //! A relay: a viewer whose own surface another viewer follows.
-ghost use Rattle.std.specs.Prelude.{◌≡◌, OnOk, true};
-ghost use Rattle.termwiz_surface.specs.{Follows, full_of, measure, screen_of};
+ghost use Rattle.termwiz_surface.specs.{◌≡◌, Follows, OnOk, full_of, measure, screen_of, true};
 
-use termwiz_surface::emoji::Widths;
-use termwiz_surface::surface::{Surface, SurfaceError};
-use termwiz_surface::view::Viewer;
+use termwiz_surface::{Surface, SurfaceError, Viewer, Widths};
 
 /// Shows a surface on a far viewer by way of a near one: the near viewer follows the surface, and
 /// the far one follows the near one's own surface.

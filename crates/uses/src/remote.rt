@@ -1,21 +1,12 @@
 //! A remote terminal, to which a session's title and its headings of double width go as its rows
 //! do.
-ghost use Rattle.std.specs.Prelude.{◌≡◌, IfOk, OnOk, slice_index_or, map, true};
-ghost use Rattle.termwiz_surface.specs.{
-  DoubleWidthLine,
-  Follows,
-  SingleWidthLine,
-  change_value,
-  full_of,
-  measure,
-};
+ghost use Rattle.termwiz_surface.specs.{◌≡◌, DoubleWidthLine, Follows, IfOk, OnOk, SingleWidthLine};
+ghost use Rattle.termwiz_surface.specs.{change_value, full_of, map, measure, slice_index_or, true};
 ghost use Rattle.uses.specs.Headings.{heading_changes};
 
 use std::alloc::{AllocError, Global};
-use termwiz_surface::change::{Change, LineAttribute};
-use termwiz_surface::emoji::Widths;
-use termwiz_surface::surface::{Surface, SurfaceError};
-use termwiz_surface::view::Viewer;
+use termwiz_surface::change::LineAttribute;
+use termwiz_surface::{Change, Surface, SurfaceError, Viewer, Widths};
 
 /// Prints a heading on a full surface, in a row that is shown twice as wide, makes it the title
 /// too, and shows all of it on the remote terminal.

@@ -1,10 +1,8 @@
 //! A renderer: what it does in each turn of its loop.
-ghost use Rattle.std.specs.Prelude.{◌≡◌, [], All, OnOk};
-ghost use Rattle.termwiz_surface.specs.{Follows, flushed, measure, next_number, screen_of};
+ghost use Rattle.termwiz_surface.specs.{◌≡◌, [], All, Follows, OnOk, flushed, measure, next_number};
+ghost use Rattle.termwiz_surface.specs.{screen_of};
 
-use termwiz_surface::emoji::Widths;
-use termwiz_surface::surface::{Surface, SurfaceError};
-use termwiz_surface::view::Viewer;
+use termwiz_surface::{Surface, SurfaceError, Viewer, Widths};
 
 /// Shows on its one viewer what the surface shows, and lets both forget the changes that they have
 /// in common.

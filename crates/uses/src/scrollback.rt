@@ -1,11 +1,10 @@
 //! A scrollback: lines that have left the screen, each stored as one text where that can be.
-ghost use Rattle.std.specs.Prelude.{◌≡◌, IfOk, List, false, map, true};
-ghost use Rattle.termwiz_surface.specs.{IsWrapped, LineValue, line_contents, line_eq, visible};
+ghost use Rattle.termwiz_surface.specs.{◌≡◌, IfOk, IsWrapped, LineValue, List, false, line_eq, map};
+ghost use Rattle.termwiz_surface.specs.{line_contents, true, visible};
 
 use std::alloc::AllocError;
-use termwiz_surface::change::{SEQ_ZERO, SequenceNo};
 use termwiz_surface::laws::{cut_laws, edit_laws, storage_laws};
-use termwiz_surface::line::line::Line;
+use termwiz_surface::{Line, SEQ_ZERO, SequenceNo};
 
 /// Stores a line that leaves the screen, as one text where that can be. It is equal to what it was,
 /// also after an error.

@@ -1,11 +1,9 @@
 //! What a shaper is given of a line.
-ghost use Rattle.std.specs.Prelude.{◌≡◌, IfOk, string_bytes};
-ghost use Rattle.termwiz_surface.specs.{texts_of, visible};
+ghost use Rattle.termwiz_surface.specs.{◌≡◌, IfOk, string_bytes, texts_of, visible};
 
 use std::alloc::{AllocError, Global};
-use termwiz_surface::emoji::Widths;
 use termwiz_surface::laws::cluster_laws;
-use termwiz_surface::line::line::Line;
+use termwiz_surface::{Line, Widths};
 
 /// The text of a line, put together from what a shaper is given for it, cluster by cluster: it is
 /// what the line shows.

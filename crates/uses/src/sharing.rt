@@ -1,34 +1,15 @@
 //! A screen that is shared: its answers are carried off, and may be delivered late, repeatedly, in
 //! any order, or never.
-ghost use Rattle.std.specs.Prelude.{◌≡◌, ℕ, ◌<◌, ◌≤◌, [], true, false, All, IfOk, OnOk, map, vec_len};
-ghost use Rattle.std.specs.List.{Any};
-ghost use Rattle.termwiz_surface.specs.{
-  Follows,
-  FullScreen,
-  IsPastOf,
-  KeepsNames,
-  MeasureAlike,
-  Screen,
-  ShowsNamed,
-  ViewerValue,
-  change_value,
-  flushed,
-  full_of,
-  full_screens,
-  is_known,
-  measure,
-  next_number,
-  screen_of,
-  screens,
-};
+ghost use Rattle.termwiz_surface.specs.{◌≡◌, ◌<◌, ◌≤◌, [], All, Any, Follows, FullScreen, IfOk, ℕ};
+ghost use Rattle.termwiz_surface.specs.{IsPastOf, KeepsNames, MeasureAlike, OnOk, Screen, false};
+ghost use Rattle.termwiz_surface.specs.{ShowsNamed, ViewerValue, change_value, flushed, full_of};
+ghost use Rattle.termwiz_surface.specs.{full_screens, is_known, map, measure, next_number, screens};
+ghost use Rattle.termwiz_surface.specs.{screen_of, true, vec_len};
 ghost use Rattle.uses.specs.Late.{AddsOne, IsOneBehind, IsServed};
 
 use std::alloc::{AllocError, Global};
-use termwiz_surface::change::{Change, SequenceNo};
-use termwiz_surface::emoji::Widths;
 use termwiz_surface::laws::{full_history_laws, history_laws};
-use termwiz_surface::surface::{Surface, SurfaceError};
-use termwiz_surface::view::{AcceptError, Viewer};
+use termwiz_surface::{AcceptError, Change, SequenceNo, Surface, SurfaceError, Viewer, Widths};
 
 /// A new viewer, which is served by answers.
 pub fn join<W: Widths>(alloc: Global, surface: &Surface<W>) -> Result<Viewer<W>, AllocError>

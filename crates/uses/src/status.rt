@@ -1,21 +1,12 @@
 //! A status line: the last row of a surface, drawn as one list of changes.
-ghost use Rattle.std.specs.Prelude.{◌≡◌, ◌+◌, IfOk, OnOk, map};
-ghost use Rattle.termwiz_surface.specs.{
-  appended,
-  change_value,
-  measure,
-  next_number,
-  screen_after,
-  screen_of,
-};
+ghost use Rattle.termwiz_surface.specs.{◌≡◌, ◌+◌, IfOk, OnOk, appended, change_value, map, measure};
+ghost use Rattle.termwiz_surface.specs.{next_number, screen_after, screen_of};
 ghost use Rattle.uses.specs.Status.{status_line};
 
 use std::alloc::{AllocError, Global};
-use termwiz_surface::cell::CellAttributes;
-use termwiz_surface::change::{Change, Position};
-use termwiz_surface::color::ColorAttribute;
-use termwiz_surface::emoji::Widths;
-use termwiz_surface::surface::{Surface, SurfaceError};
+use termwiz_surface::{
+    CellAttributes, Change, ColorAttribute, Position, Surface, SurfaceError, Widths,
+};
 
 /// Clears the last row with a background, and prints a text there with a pen.
 /// At an error the row may hold anything, and the surface keeps its size.

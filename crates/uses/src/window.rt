@@ -1,10 +1,7 @@
 //! A window of widgets, and a viewer that shows it.
-ghost use Rattle.std.specs.Prelude.{◌≡◌, OnOk};
-ghost use Rattle.termwiz_surface.specs.{Follows, HasDrawn, measure, screen_of};
+ghost use Rattle.termwiz_surface.specs.{◌≡◌, Follows, HasDrawn, OnOk, measure, screen_of};
 
-use termwiz_surface::emoji::Widths;
-use termwiz_surface::surface::{Surface, SurfaceError};
-use termwiz_surface::view::Viewer;
+use termwiz_surface::{Surface, SurfaceError, Viewer, Widths};
 
 /// Draws a widget into the window, from this column and row on, and shows the window on its viewer.
 /// After an error the window may have the widget or not, and the next call shows it as it is.

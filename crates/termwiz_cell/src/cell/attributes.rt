@@ -1,9 +1,8 @@
 //! The attributes of a cell.
-ghost use Rattle.std.specs.Prelude.{◌≡◌, ◌↔◌, IsTrue, false, true, option_map, IfOk, OnOk, OnErr};
-ghost use Rattle.std.specs.Prelude.{IsOk, IsSome, IfSome, bytes_eq};
-ghost use Rattle.std.specs.Cmp.{decided, partial_equiv_from_equiv};
-ghost use Rattle.termwiz_cell.specs.Attributes.{default_attributes, attributes_eq};
-ghost use Rattle.termwiz_cell.specs.Attributes.{attributes_eq-Decides, needs_box};
+ghost use Rattle.termwiz_cell.specs.{◌≡◌, ◌↔◌, IfOk, IfSome, IsOk, IsSome, IsTrue, OnErr, OnOk};
+ghost use Rattle.termwiz_cell.specs.{attributes_eq, attributes_eq-Decides, bytes_eq, decided, true};
+ghost use Rattle.termwiz_cell.specs.{default_attributes, false, needs_box, option_map};
+ghost use Rattle.termwiz_cell.specs.{partial_equiv_from_equiv};
 ghost use Rattle.termwiz_cell.specs.AttributesLayout as spec;
 
 use super::attribute_change::AttributeChange;
@@ -29,7 +28,7 @@ pub struct CellAttributes {
 
 impl Model for CellAttributes {
     ghost use Rattle.termwiz_cell.specs.Attributes.{Attributes};
-    ghost use Rattle.termwiz_cell.specs.AttributesLayout.{attributes_of, IsCanonical};
+    ghost use Rattle.termwiz_cell.specs.AttributesLayout.{IsCanonical, attributes_of};
 
     ghost Value = { Attributes };
 
@@ -39,10 +38,10 @@ impl Model for CellAttributes {
 }
 
 impl CellAttributes {
-    ghost use Rattle.termwiz_cell.specs.Attributes.{without_colors, sgr_only, bits_of};
-    ghost use Rattle.termwiz_cell.specs.Attributes.{has_only_background};
-    ghost use Rattle.termwiz_cell.specs.AttributeChangeValue.{attribute_change_value};
-    ghost use Rattle.termwiz_cell.specs.AttributeChangeValue.{with_attribute, takes_memory};
+    ghost use Rattle.termwiz_cell.specs.Attributes.{bits_of, has_only_background, sgr_only};
+    ghost use Rattle.termwiz_cell.specs.Attributes.{without_colors};
+    ghost use Rattle.termwiz_cell.specs.AttributeChangeValue.{attribute_change_value, takes_memory};
+    ghost use Rattle.termwiz_cell.specs.AttributeChangeValue.{with_attribute};
     ghost use Rattle.termwiz_cell.specs.Link.{linked};
 
     /// The default attributes. They take no memory.

@@ -1,12 +1,8 @@
 //! The two forms of attributes: a word alone, and a box with the word and the rare attributes.
-ghost use Rattle.std.specs.Prelude.{◌≡◌, ◌↔◌, IsTrue, IsNone, IsOk, IfOk, OnOk, OnErr, MatchOption};
-ghost use Rattle.std.specs.Prelude.{None, true, false, option_map};
-ghost use Rattle.termwiz_cell.specs.Attributes.{option_link_eq, is_default};
+ghost use Rattle.termwiz_cell.specs.{◌≡◌, ◌↔◌, IfOk, IsNone, IsOk, IsTrue, LendsStyle, MatchOption};
+ghost use Rattle.termwiz_cell.specs.{None, OnErr, OnOk, false, is_default, linked, option_link_eq};
+ghost use Rattle.termwiz_cell.specs.{option_map, sem, style_at, style_sgr_only, true};
 ghost use Rattle.termwiz_cell.specs.AttributesLayout as spec;
-ghost use Rattle.std.specs.Borrow.{sem};
-ghost use Rattle.termwiz_cell.specs.StyleLending.{LendsStyle};
-ghost use Rattle.termwiz_cell.specs.Link.{linked};
-ghost use Rattle.termwiz_cell.specs.StyleWord.{style_at, style_sgr_only};
 
 use super::style_word::StyleWord;
 use crate::color::{ColorAttribute, is_same_color};

@@ -1,8 +1,6 @@
 //! Texts of at most seven bytes, which stand in the value itself.
-ghost use Rattle.std.specs.Prelude.{◌≡◌, ◌≢◌, ◌<◌, ◌≤◌, ◌∷◌, [], length, bytes_eq, true};
-ghost use Rattle.std.specs.Prelude.{MatchOption};
-ghost use Rattle.termwiz_cell.specs.CellValue.{space};
-ghost use Rattle.termwiz_text.specs.Plain.{is_plain};
+ghost use Rattle.termwiz_cell.specs.{◌≡◌, ◌≢◌, ◌<◌, ◌≤◌, ◌∷◌, [], MatchOption, bytes_eq, is_plain};
+ghost use Rattle.termwiz_cell.specs.{length, space, true};
 
 use arrayvec::ArrayString;
 

@@ -1,8 +1,7 @@
 //! The small attributes, and their numbers.
-ghost use Rattle.std.specs.Prelude.{◌≡◌, ◌<◌};
-ghost use Rattle.termwiz_cell.specs.Style.{intensity_number, intensity_at, underline_number};
-ghost use Rattle.termwiz_cell.specs.Style.{underline_at, blink_number, blink_at, semantic_number};
-ghost use Rattle.termwiz_cell.specs.Style.{semantic_at, vertical_number, vertical_at};
+ghost use Rattle.termwiz_cell.specs.{◌≡◌, ◌<◌, blink_at, blink_number, intensity_at, semantic_at};
+ghost use Rattle.termwiz_cell.specs.{intensity_number, semantic_number, underline_at, vertical_at};
+ghost use Rattle.termwiz_cell.specs.{underline_number, vertical_number};
 
 /// How strong a text is drawn: as others are, bold, or dim.
 #[derive(Clone, Copy, PartialEq, Eq, Debug, Default)]
@@ -70,25 +69,6 @@ pub enum VerticalAlign {
     BaseLine,
     SuperScript,
     SubScript,
-}
-
-/// The small attributes: all but true colours, the underline colour and the link. The colours here
-/// are palette indices.
-#[derive(Clone, Copy, PartialEq, Eq, Debug)]
-pub struct Style {
-    pub intensity: Intensity,
-    pub underline: Underline,
-    pub blink: Blink,
-    pub italic: bool,
-    pub reverse: bool,
-    pub strikethrough: bool,
-    pub invisible: bool,
-    pub wrapped: bool,
-    pub overline: bool,
-    pub semantic_type: SemanticType,
-    pub vertical_align: VerticalAlign,
-    pub foreground: Option<u8>,
-    pub background: Option<u8>,
 }
 
 impl Intensity {

@@ -1,8 +1,7 @@
 //! The small attributes, packed in one word.
-ghost use Rattle.std.specs.Prelude.{◌≡◌, ℕ, ◌+◌, ◌*◌, ◌/◌, ◌%◌, ◌^◌, ◌<◌, ◌≤◌, ◌↔◌, IsTrue};
-ghost use Rattle.termwiz_cell.specs.Style.{flag_number};
-ghost use Rattle.termwiz_cell.specs.StyleWord.{palette_number, palette_at, IsPalette, style_at};
-ghost use Rattle.termwiz_cell.specs.StyleWord.{style_sgr_only, bits_at};
+ghost use Rattle.termwiz_cell.specs.{◌≡◌, ◌+◌, ◌-◌, ◌*◌, ◌/◌, ◌%◌, ◌^◌, ◌<◌, ◌↔◌, IsPalette};
+ghost use Rattle.termwiz_cell.specs.{IsTrue, bits_at, flag_number, palette_at, palette_number};
+ghost use Rattle.termwiz_cell.specs.{style_at, style_sgr_only};
 
 use super::style::{Blink, Intensity, SemanticType, Underline, VerticalAlign};
 use std::marker::Model;
@@ -14,19 +13,20 @@ pub(super) struct StyleWord {
 }
 
 impl Model for StyleWord {
-    ghost use Rattle.termwiz_cell.specs.declared.cell.style.Style.{Style};
+    ghost use Rattle.termwiz_cell.specs.Style.{Style};
 
     ghost Value = { Style };
 
-    ghost use Rattle.termwiz_cell.specs.StyleWord.{style_at, IsStyleWord};
+    ghost use Rattle.termwiz_cell.specs.StyleWord.{IsStyleWord, style_at};
 
     ghost view = { λ s. style_at s.word };
 
     ghost invariant = { λ s. IsStyleWord s.word };
 }
 
-// The place of each digit but the first, which is the intensity. A digit ends where the next
-// begins.
+// The place of each digit. A digit ends where the next begins.
+const INTENSITY: u64 = 1;
+
 const UNDERLINE: u64 = 1 << 2;
 
 const BLINK: u64 = 1 << 5;
@@ -50,6 +50,18 @@ const VERTICAL_ALIGN: u64 = 1 << 15;
 const FOREGROUND: u64 = 1 << 17;
 
 const BACKGROUND: u64 = 1 << 26;
+
+/// The word with this digit to the base `radix` at the place.
+#[inline]
+fn with_digit(word: u64, place: u64, radix: u64, digit: u64) -> u64
+    requires place { 0 < place }
+    requires radix { 0 < radix }
+    requires word { word < 2 ^ 35 }
+    requires digit { digit * place < 2 ^ 36 }
+    ensures { result ≡ word - word / place % radix * place + digit * place }
+{
+    word - word / place % radix * place + digit * place
+}
 
 /// A digit below 2.
 fn flag_digit(flag: bool) -> u64
@@ -141,7 +153,7 @@ impl StyleWord {
     pub(super) fn set_intensity(&mut self, value: Intensity)
         ensures { self.new ≡ record self.old { intensity = value } }
     {
-        let word = self.word - self.word % 4 + value.number();
+        let word = with_digit(self.word, INTENSITY, 4, value.number());
         *self = StyleWord { word };
     }
 
@@ -155,8 +167,7 @@ impl StyleWord {
     pub(super) fn set_underline(&mut self, value: Underline)
         ensures { self.new ≡ record self.old { underline = value } }
     {
-        let digit = value.number();
-        let word = self.word - self.word / UNDERLINE % 8 * UNDERLINE + digit * UNDERLINE;
+        let word = with_digit(self.word, UNDERLINE, 8, value.number());
         *self = StyleWord { word };
     }
 
@@ -170,8 +181,7 @@ impl StyleWord {
     pub(super) fn set_blink(&mut self, value: Blink)
         ensures { self.new ≡ record self.old { blink = value } }
     {
-        let digit = value.number();
-        let word = self.word - self.word / BLINK % 4 * BLINK + digit * BLINK;
+        let word = with_digit(self.word, BLINK, 4, value.number());
         *self = StyleWord { word };
     }
 
@@ -185,8 +195,7 @@ impl StyleWord {
     pub(super) fn set_italic(&mut self, value: bool)
         ensures { self.new ≡ record self.old { italic = value } }
     {
-        let digit = flag_digit(value);
-        let word = self.word - self.word / ITALIC % 2 * ITALIC + digit * ITALIC;
+        let word = with_digit(self.word, ITALIC, 2, flag_digit(value));
         *self = StyleWord { word };
     }
 
@@ -200,8 +209,7 @@ impl StyleWord {
     pub(super) fn set_reverse(&mut self, value: bool)
         ensures { self.new ≡ record self.old { reverse = value } }
     {
-        let digit = flag_digit(value);
-        let word = self.word - self.word / REVERSE % 2 * REVERSE + digit * REVERSE;
+        let word = with_digit(self.word, REVERSE, 2, flag_digit(value));
         *self = StyleWord { word };
     }
 
@@ -215,9 +223,7 @@ impl StyleWord {
     pub(super) fn set_strikethrough(&mut self, value: bool)
         ensures { self.new ≡ record self.old { strikethrough = value } }
     {
-        let digit = flag_digit(value);
-        let word = self.word - self.word / STRIKETHROUGH % 2 * STRIKETHROUGH
-            + digit * STRIKETHROUGH;
+        let word = with_digit(self.word, STRIKETHROUGH, 2, flag_digit(value));
         *self = StyleWord { word };
     }
 
@@ -231,8 +237,7 @@ impl StyleWord {
     pub(super) fn set_invisible(&mut self, value: bool)
         ensures { self.new ≡ record self.old { invisible = value } }
     {
-        let digit = flag_digit(value);
-        let word = self.word - self.word / INVISIBLE % 2 * INVISIBLE + digit * INVISIBLE;
+        let word = with_digit(self.word, INVISIBLE, 2, flag_digit(value));
         *self = StyleWord { word };
     }
 
@@ -246,8 +251,7 @@ impl StyleWord {
     pub(super) fn set_wrapped(&mut self, value: bool)
         ensures { self.new ≡ record self.old { wrapped = value } }
     {
-        let digit = flag_digit(value);
-        let word = self.word - self.word / WRAPPED % 2 * WRAPPED + digit * WRAPPED;
+        let word = with_digit(self.word, WRAPPED, 2, flag_digit(value));
         *self = StyleWord { word };
     }
 
@@ -261,8 +265,7 @@ impl StyleWord {
     pub(super) fn set_overline(&mut self, value: bool)
         ensures { self.new ≡ record self.old { overline = value } }
     {
-        let digit = flag_digit(value);
-        let word = self.word - self.word / OVERLINE % 2 * OVERLINE + digit * OVERLINE;
+        let word = with_digit(self.word, OVERLINE, 2, flag_digit(value));
         *self = StyleWord { word };
     }
 
@@ -276,9 +279,7 @@ impl StyleWord {
     pub(super) fn set_semantic_type(&mut self, value: SemanticType)
         ensures { self.new ≡ record self.old { semantic_type = value } }
     {
-        let digit = value.number();
-        let word = self.word - self.word / SEMANTIC_TYPE % 4 * SEMANTIC_TYPE
-            + digit * SEMANTIC_TYPE;
+        let word = with_digit(self.word, SEMANTIC_TYPE, 4, value.number());
         *self = StyleWord { word };
     }
 
@@ -292,9 +293,7 @@ impl StyleWord {
     pub(super) fn set_vertical_align(&mut self, value: VerticalAlign)
         ensures { self.new ≡ record self.old { vertical_align = value } }
     {
-        let digit = value.number();
-        let word = self.word - self.word / VERTICAL_ALIGN % 4 * VERTICAL_ALIGN
-            + digit * VERTICAL_ALIGN;
+        let word = with_digit(self.word, VERTICAL_ALIGN, 4, value.number());
         *self = StyleWord { word };
     }
 
@@ -308,8 +307,7 @@ impl StyleWord {
     pub(super) fn set_foreground(&mut self, value: Option<u8>)
         ensures { self.new ≡ record self.old { foreground = value } }
     {
-        let digit = palette_digit(value);
-        let word = self.word - self.word / FOREGROUND % 512 * FOREGROUND + digit * FOREGROUND;
+        let word = with_digit(self.word, FOREGROUND, 512, palette_digit(value));
         *self = StyleWord { word };
     }
 
@@ -323,8 +321,7 @@ impl StyleWord {
     pub(super) fn set_background(&mut self, value: Option<u8>)
         ensures { self.new ≡ record self.old { background = value } }
     {
-        let digit = palette_digit(value);
-        let word = self.word - self.word / BACKGROUND % 512 * BACKGROUND + digit * BACKGROUND;
+        let word = with_digit(self.word, BACKGROUND, 512, palette_digit(value));
         *self = StyleWord { word };
     }
 }

@@ -1,10 +1,8 @@
 //! The text of a cell, and whether it takes two columns.
-ghost use Rattle.std.specs.Prelude.{◌≡◌, ◌↔◌, ◌≤◌, ◌&&◌, ◌∷◌, [], bytes_eq, length, not, true};
-ghost use Rattle.std.specs.Prelude.{false, string_bytes, IfOk, IfSome, IsOk, IsTrue, MatchOption};
-ghost use Rattle.std.specs.Bool.{beq};
-ghost use Rattle.termwiz_cell.specs.CellLayout.{text_in, wide_in, HasTextForm};
-ghost use Rattle.termwiz_cell.specs.CellValue.{clean, space};
-ghost use Rattle.termwiz_text.specs.Plain.{is_one_plain, is_plain};
+ghost use Rattle.termwiz_cell.specs.{◌≡◌, ◌↔◌, ◌≤◌, ◌&&◌, ◌∷◌, [], HasTextForm, IfOk, IfSome, IsOk};
+ghost use Rattle.termwiz_cell.specs.{IsTrue, MatchOption, beq, bytes_eq, clean, false, is_plain};
+ghost use Rattle.termwiz_cell.specs.{is_one_plain, length, not, space, string_bytes, text_in, true};
+ghost use Rattle.termwiz_cell.specs.{wide_in};
 
 use super::short_text::{is_same_short, only_byte, plain_text, short_text, space_text};
 use arrayvec::ArrayString;

@@ -1,15 +1,9 @@
 //! Sequences of changes, which report where their changes take a cursor.
-ghost use Rattle.std.specs.Prelude.{◌≡◌, ℕ, ℤ, pos, ◌+◌, ◌+ℤ◌, ◌-ℤ◌, ◌≤ℤ◌, ◌<◌, ◌≤◌, ◌^◌, true};
-ghost use Rattle.std.specs.Prelude.{false, [], ◌∷◌, ◌++◌, length, map, bytes_eq, IfOk, OnOk, OnErr};
-ghost use Rattle.std.specs.Prelude.{IfErr};
-ghost use Rattle.std.specs.Int.{int_rem_euclid, w64};
-ghost use Rattle.std.specs.Int.RustNames.{FitsSigned, int_rem};
-ghost use Rattle.unicode_segmentation.specs.Grapheme.{graphemes};
-ghost use Rattle.termwiz_cell.specs.ChangeValue.{change_value, is_text};
-ghost use Rattle.termwiz_cell.specs.Measure.{measure};
-ghost use Rattle.termwiz_cell.specs.Sequence.{aim, cell_place, grapheme_place, position_place};
-ghost use Rattle.termwiz_cell.specs.Sequence.{printed_columns, text_place};
-ghost use Rattle.termwiz_cell.specs.declared.change.sequence.SequenceError.TheVariants.{Range};
+ghost use Rattle.termwiz_cell.specs.{◌≡◌, ◌+◌, ◌+ℤ◌, ◌-ℤ◌, ◌≤ℤ◌, ◌<◌, ◌≤◌, ◌^◌, [], ◌∷◌, ◌++◌, aim};
+ghost use Rattle.termwiz_cell.specs.{FitsSigned, IfErr, IfOk, OnErr, OnOk, Range, bytes_eq, false};
+ghost use Rattle.termwiz_cell.specs.{cell_place, change_value, grapheme_place, graphemes, int_rem};
+ghost use Rattle.termwiz_cell.specs.{int_rem_euclid, is_text, map, measure, pos, position_place, ℤ};
+ghost use Rattle.termwiz_cell.specs.{printed_columns, text_place, true, w64};
 
 use super::{Change, Position};
 use crate::emoji::Widths;
@@ -64,7 +58,7 @@ pub struct ChangeSequence<W: Widths> {
 impl<W: Widths> Model for ChangeSequence<W> {
     ghost use Rattle.std.specs.Prelude.{map};
     ghost use Rattle.termwiz_cell.specs.ChangeValue.{change_value};
-    ghost use Rattle.termwiz_cell.specs.Sequence.{SequenceValue, IsSequence};
+    ghost use Rattle.termwiz_cell.specs.Sequence.{IsSequence, SequenceValue};
 
     ghost Value = { SequenceValue W };
 
@@ -217,8 +211,8 @@ fn push(changes: &mut Vec<Change>, change: Change) -> Result<(), AllocError>
 }
 
 impl<W: Widths> ChangeSequence<W> {
-    ghost use Rattle.termwiz_cell.specs.Sequence.{SequenceValue, IsSequence, AddsAll, AddsOne};
-    ghost use Rattle.termwiz_cell.specs.Sequence.{DistancesFit, MovesTo, RowFits, move_by};
+    ghost use Rattle.termwiz_cell.specs.Sequence.{AddsAll, AddsOne, DistancesFit, IsSequence};
+    ghost use Rattle.termwiz_cell.specs.Sequence.{MovesTo, RowFits, SequenceValue, move_by};
     ghost use Rattle.termwiz_cell.specs.Sequence.{place_after};
 
     /// An empty sequence for a screen of this many rows and columns.

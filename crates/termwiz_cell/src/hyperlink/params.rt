@@ -1,12 +1,8 @@
 //! The params of a link: their reading from a text, their printing, and what equality and copies
 //! ask of them.
-ghost use Rattle.std.specs.Prelude.{◌≡◌, map, string_bytes, IfOk, OnOk};
-ghost use Rattle.std.specs.Cmp.Lexicographic.{pointwise};
-ghost use Rattle.std.specs.Fmt.{WritesOnOk};
-ghost use Rattle.termwiz_cell.specs.Link.{param_eq, param_bytes};
-ghost use Rattle.termwiz_cell.specs.LinkPairs.{has_equals, are_pairs, pair_of, with_pair};
-ghost use Rattle.termwiz_cell.specs.LinkPairs.{params_of};
-ghost use Rattle.termwiz_cell.specs.LinkText.{params_text};
+ghost use Rattle.termwiz_cell.specs.{◌≡◌, IfOk, OnOk, WritesOnOk, are_pairs, has_equals, map};
+ghost use Rattle.termwiz_cell.specs.{pair_of, param_bytes, param_eq, params_of, params_text};
+ghost use Rattle.termwiz_cell.specs.{pointwise, string_bytes, with_pair};
 
 use std::alloc::{AllocError, Global};
 use std::collections::BTreeMap;

@@ -1,6 +1,6 @@
 //! The cells that the bytes of a text belong to.
-ghost use Rattle.std.specs.Prelude.{◌≡◌, ◌≤◌, ◌<◌, ◌+◌, ◌++◌, ◌^◌, [], IfSome, IsSome, OnOk};
-ghost use Rattle.std.specs.Prelude.{slice_index_or, length, replicate};
+ghost use Rattle.termwiz_line.specs.{◌≡◌, ◌≤◌, ◌<◌, ◌+◌, ◌++◌, ◌^◌, [], IfSome, IsSome, OnOk};
+ghost use Rattle.termwiz_line.specs.{length, replicate, slice_index_or};
 
 use std::alloc::{AllocError, Global};
 use std::marker::Model;
@@ -17,7 +17,7 @@ pub(super) struct ByteCells {
 }
 
 impl Model for ByteCells {
-    ghost use Rattle.std.specs.Prelude.{ℕ, ◌≤◌, ◌++◌, List};
+    ghost use Rattle.std.specs.Prelude.{◌≤◌, ◌++◌, List, ℕ};
     ghost use Rattle.termwiz_line.specs.PlainCells.{plain_cells};
 
     ghost Value = { List (ℕ × ℕ) };

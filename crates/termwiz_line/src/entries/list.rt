@@ -1,13 +1,9 @@
 //! A list of entries whose last text may still grow.
-ghost use Rattle.std.specs.Prelude.{◌≡◌, ◌++◌, ◌∷◌, [], true, false, ◌&&◌, map, IfOk, OnOk};
-ghost use Rattle.std.specs.Prelude.{OnErr, if◌then◌else◌};
-ghost use Rattle.std.specs.Option.{option_copied};
-ghost use Rattle.termwiz_text.specs.Plain.{is_plain};
+ghost use Rattle.termwiz_line.specs.{◌≡◌, ◌++◌, ◌∷◌, [], ◌&&◌, if◌then◌else◌, IfOk, IsLastOf, OnOk};
+ghost use Rattle.termwiz_line.specs.{OnErr, add_text, change_value, ends_printable, false, is_text};
+ghost use Rattle.termwiz_line.specs.{is_plain, joins, last_is, map, option_copied, pen_entry, true};
+ghost use Rattle.termwiz_line.specs.{with_text};
 ghost use Rattle.termwiz_cell.specs.ChangeValue as change;
-ghost use Rattle.termwiz_cell.specs.ChangeValue.{change_value, is_text};
-ghost use Rattle.termwiz_line.specs.Entries.{add_text, joins, pen_entry};
-ghost use Rattle.termwiz_line.specs.LastChange.{last_is};
-ghost use Rattle.termwiz_line.specs.GrowingText.{ends_printable, with_text, IsLastOf};
 
 use std::alloc::{AllocError, Global};
 use std::marker::Model;

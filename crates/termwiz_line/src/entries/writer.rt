@@ -1,20 +1,12 @@
 //! A writer of row entries.
-ghost use Rattle.std.specs.Prelude.{◌≡◌, ◌++◌, ◌∷◌, [], ◌+◌, ◌&&◌, nat_lt, ℕ, List, true, false};
-ghost use Rattle.std.specs.Prelude.{not, length, ◌≤◌, ◌==◌, bytes_eq, IfOk, IsTrue, OnOk};
+ghost use Rattle.termwiz_line.specs.{◌≡◌, ◌++◌, ◌∷◌, [], ◌+◌, ◌&&◌, ◌≤◌, ◌==◌, IfOk, IsInText, not};
+ghost use Rattle.termwiz_line.specs.{IsLastOf, IsTrue, IsUnderWay, IsWritten, List, OnOk, behind};
+ghost use Rattle.termwiz_line.specs.{VisibleCell, and_cells, attributes_eq, bytes_eq, cells_left};
+ghost use Rattle.termwiz_line.specs.{change_value, ends_printable, false, is_text, last_is, length};
+ghost use Rattle.termwiz_line.specs.{nat_lt, option_copied, penned_value, space, spaces_of, true};
 ghost use Rattle.termwiz_text.specs.Plain as plain;
 ghost use Rattle.termwiz_cell.specs.Attributes as attributes;
-ghost use Rattle.termwiz_cell.specs.Attributes.{attributes_eq};
-ghost use Rattle.termwiz_cell.specs.CellValue.{space};
-ghost use Rattle.termwiz_cell.specs.ChangeValue.{change_value, is_text};
-ghost use Rattle.termwiz_storage.specs.CellsLeft.{cells_left};
-ghost use Rattle.termwiz_storage.specs.VisibleCell.{VisibleCell};
-ghost use Rattle.std.specs.Option.{option_copied};
 ghost use Rattle.termwiz_line.specs.Entries as spec;
-ghost use Rattle.termwiz_line.specs.LastChange.{last_is};
-ghost use Rattle.termwiz_line.specs.GrowingText.{ends_printable, IsLastOf};
-ghost use Rattle.termwiz_line.specs.PennedValue.{penned_value};
-ghost use Rattle.termwiz_line.specs.Writing.{and_cells, behind, spaces_of, IsInText, IsUnderWay};
-ghost use Rattle.termwiz_line.specs.Writing.{IsWritten};
 
 use super::{EntryList, Penned};
 use std::alloc::{AllocError, Global};

@@ -1,23 +1,11 @@
 //! Lines of cells.
-ghost use Rattle.std.specs.Prelude.{◌≡◌, ◌≤◌, ◌↔◌, [], false, true, IsTrue, IsOk, IfOk, OnOk};
-ghost use Rattle.std.specs.Prelude.{OnErr, Some, None, length, map, option_map, replicate};
-ghost use Rattle.std.specs.Prelude.{if◌then◌else◌};
-ghost use Rattle.std.specs.Cmp.{decided, on_equiv, on_per, partial_equiv_from_equiv};
-ghost use Rattle.termwiz_cell.specs.CellValue.{blank};
-ghost use Rattle.termwiz_storage.specs.Stored.{visible};
-ghost use Rattle.termwiz_storage.specs.Halves.{resized};
-ghost use Rattle.termwiz_storage.specs.CellLists.{cells_eq};
-ghost use Rattle.termwiz_storage.specs.Clustered.{IsWhole};
-ghost use Rattle.termwiz_storage.specs.CellsLeft.{cells_left};
-ghost use Rattle.termwiz_storage.specs.Storage.{cells_in, is_vector};
-ghost use Rattle.termwiz_line.specs.LineFlags.{no_flags};
-ghost use Rattle.termwiz_line.specs.InWidth.{in_width};
-ghost use Rattle.termwiz_line.specs.LineValue.{IsEdited, IsUnchanged};
-ghost use Rattle.termwiz_cell.specs.ChangeValue.{change_value};
-ghost use Rattle.termwiz_line.specs.Clusters.{AreClusters};
-ghost use Rattle.termwiz_line.specs.Entries.{row_entries};
-ghost use Rattle.termwiz_line.specs.LineEq.{contents_eq, contents_eq-Decides, flags_eq};
-ghost use Rattle.termwiz_line.specs.LineEq.{line_contents, line_eq};
+ghost use Rattle.termwiz_line.specs.{◌≡◌, ◌≤◌, ◌↔◌, [], if◌then◌else◌, AreClusters, IfOk, IsEdited};
+ghost use Rattle.termwiz_line.specs.{IsOk, IsTrue, IsUnchanged, IsWhole, None, OnErr, OnOk, Some};
+ghost use Rattle.termwiz_line.specs.{blank, cells_eq, cells_in, cells_left, change_value, decided};
+ghost use Rattle.termwiz_line.specs.{contents_eq, contents_eq-Decides, false, flags_eq, in_width};
+ghost use Rattle.termwiz_line.specs.{is_vector, length, line_contents, line_eq, map, no_flags};
+ghost use Rattle.termwiz_line.specs.{on_equiv, on_per, option_map, partial_equiv_from_equiv, true};
+ghost use Rattle.termwiz_line.specs.{replicate, resized, row_entries, visible};
 
 use crate::cellcluster::CellCluster;
 use crate::entries::row_entries;
@@ -83,7 +71,7 @@ pub struct Line {
 impl Model for Line {
     ghost use Rattle.std.specs.Prelude.{◌≡◌};
     ghost use Rattle.termwiz_storage.specs.Storage.{cells_in, is_vector};
-    ghost use Rattle.termwiz_line.specs.LineFlags.{flags_of, flag_bits};
+    ghost use Rattle.termwiz_line.specs.LineFlags.{flag_bits, flags_of};
     ghost use Rattle.termwiz_line.specs.LineValue.{LineValue};
     ghost use Rattle.termwiz_line.specs.Zones.{AreUpToDate};
 

@@ -1,14 +1,7 @@
 //! The lists of changes of diffs.
-ghost use Rattle.std.specs.Prelude.{◌≡◌, ◌-◌, ◌<◌, ◌^◌, ◌∷◌, [], map, min, length, IfOk};
-ghost use Rattle.std.specs.VecDeque.{deque_len};
-ghost use Rattle.termwiz_cell.specs.CellValue.{blank};
-ghost use Rattle.termwiz_cell.specs.ChangeValue.{change_value};
-ghost use Rattle.termwiz_line.specs.Row.{row_of};
-ghost use Rattle.termwiz_screen.specs.Diff.{band, cut, diff};
-ghost use Rattle.termwiz_screen.specs.RegionValue.{region_value};
-ghost use Rattle.termwiz_screen.specs.ScreenValue.{cells_of};
-ghost use Rattle.termwiz_screen.specs.Sides.{AreVectors};
-ghost use Rattle.termwiz_screen.specs.Walked.{AreHalved};
+ghost use Rattle.termwiz_screen.specs.{◌≡◌, ◌-◌, ◌<◌, ◌^◌, ◌∷◌, [], AreHalved, AreVectors, IfOk};
+ghost use Rattle.termwiz_screen.specs.{band, blank, cells_of, change_value, cut, deque_len, diff};
+ghost use Rattle.termwiz_screen.specs.{length, map, min, region_value, row_of};
 
 use super::region::Region;
 use super::rows::{print_lines, print_row, print_rows};

@@ -1,7 +1,6 @@
 //! Regions: a rectangle of own columns and rows, and as large a one of another's.
-ghost use Rattle.std.specs.Prelude.{◌≡◌, ◌||◌, ◌==◌};
+ghost use Rattle.termwiz_screen.specs.{◌≡◌, ◌||◌, ◌==◌, region_value};
 ghost use Rattle.termwiz_screen.specs.Diff as spec;
-ghost use Rattle.termwiz_screen.specs.RegionValue.{region_value};
 
 /// A rectangle of own columns and rows, and as large a one of another's.
 #[derive(Clone, Copy)]

@@ -1,18 +1,10 @@
 //! The cells that a diff prints, row by row.
-ghost use Rattle.std.specs.Prelude.{◌≡◌, ◌+◌, ◌-◌, ◌<◌, ◌≤◌, ◌^◌, ◌∷◌, [], ℕ, List, fold};
-ghost use Rattle.std.specs.Prelude.{map, min, length, nat_lt, true, if◌then◌else◌, IfOk, OnOk};
-ghost use Rattle.std.specs.VecDeque.{deque_len};
-ghost use Rattle.termwiz_cell.specs.CellValue.{CellValue, blank, cell_eq};
-ghost use Rattle.termwiz_storage.specs.CellRef.{ref_cell};
-ghost use Rattle.termwiz_storage.specs.CellsLeft.{cells_left, IsOfCell};
-ghost use Rattle.termwiz_storage.specs.Stored.{visible};
-ghost use Rattle.termwiz_storage.specs.VisibleCell.{at_column};
-ghost use Rattle.termwiz_line.specs.Row.{HasHalves, is_hidden, row_of};
-ghost use Rattle.termwiz_screen.specs.Diff.{band, in_row, need, print_out, row_need, shows};
-ghost use Rattle.termwiz_screen.specs.RegionValue.{region_value};
-ghost use Rattle.termwiz_screen.specs.ScreenValue.{cells_of};
-ghost use Rattle.termwiz_screen.specs.Sides.{AreVectors};
-ghost use Rattle.termwiz_screen.specs.Walked.{AreHalved, EndsBlank};
+ghost use Rattle.termwiz_screen.specs.{◌≡◌, ◌+◌, ◌-◌, ◌<◌, ◌≤◌, ◌^◌, ◌∷◌, [], if◌then◌else◌, IfOk};
+ghost use Rattle.termwiz_screen.specs.{AreHalved, AreVectors, CellValue, EndsBlank, HasHalves, map};
+ghost use Rattle.termwiz_screen.specs.{IsOfCell, List, OnOk, at_column, band, blank, cell_eq, fold};
+ghost use Rattle.termwiz_screen.specs.{cells_left, cells_of, deque_len, in_row, is_hidden, length};
+ghost use Rattle.termwiz_screen.specs.{min, nat_lt, need, print_out, ref_cell, region_value, shows};
+ghost use Rattle.termwiz_screen.specs.{row_need, row_of, true, visible, ℕ};
 
 use super::region::Region;
 use super::writer::DiffWriter;

@@ -1,12 +1,8 @@
 //! A writer of the changes that print cells at their places.
-ghost use Rattle.std.specs.Prelude.{◌≡◌, ◌<◌, ◌^◌, ◌++◌, ◌∷◌, [], map, IfOk, OnOk};
-ghost use Rattle.termwiz_cell.specs.ChangeValue.{change_value};
-ghost use Rattle.termwiz_storage.specs.CellRef.{ref_cell};
-ghost use Rattle.termwiz_storage.specs.CellsLeft.{IsOfCell};
+ghost use Rattle.termwiz_screen.specs.{◌≡◌, ◌<◌, ◌^◌, ◌++◌, ◌∷◌, [], IfOk, IsOfCell, OnOk, map};
+ghost use Rattle.termwiz_screen.specs.{change_value, cursor_at, end_value, ref_cell};
 ghost use Rattle.termwiz_screen.specs.Diff as spec;
-ghost use Rattle.termwiz_screen.specs.Place.{cursor_at};
 ghost use Rattle.termwiz_screen.specs.Prints.{Print};
-ghost use Rattle.termwiz_screen.specs.Ends.{end_value};
 
 use std::alloc::{AllocError, Global};
 use std::marker::Model;

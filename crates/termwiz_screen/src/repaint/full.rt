@@ -1,15 +1,10 @@
 //! Full repaints: what they have before the rows, and behind them.
-ghost use Rattle.std.specs.Prelude.{◌≡◌, ◌++◌, List, map, length, IfOk, OnOk};
-ghost use Rattle.termwiz_cell.specs.Attributes.{default_attributes};
-ghost use Rattle.termwiz_cell.specs.CellValue.{blank};
-ghost use Rattle.termwiz_cell.specs.ChangeValue.{ChangeValue, change_value};
+ghost use Rattle.termwiz_screen.specs.{◌≡◌, ◌++◌, ChangeValue, IfOk, List, OnOk, behind, blank};
+ghost use Rattle.termwiz_screen.specs.{change_value, default_attributes, length, line_attribute};
+ghost use Rattle.termwiz_screen.specs.{map, penned_value, row_flags, shape_of};
 ghost use Rattle.termwiz_line.specs.Entries as line;
-ghost use Rattle.termwiz_line.specs.PennedValue.{penned_value};
-ghost use Rattle.termwiz_line.specs.Writing.{behind};
-ghost use Rattle.termwiz_screen.specs.FullScreen.{line_attribute, shape_of};
 ghost use Rattle.termwiz_screen.specs.Repaint as spec;
 ghost use Rattle.termwiz_screen.specs.Screen.{Screen};
-ghost use Rattle.termwiz_screen.specs.Sides.{row_flags};
 
 use super::{cleared, placed, push_next_line};
 use crate::full::{attribute_of, shape_or_default};

@@ -1,11 +1,8 @@
 //! The visible cells of a line, borrowed.
-ghost use Rattle.std.specs.Prelude.{◌≡◌, ◌≤◌, ◌↔◌, IsTrue, IfOk};
-ghost use Rattle.std.specs.Option.{unwrap_or};
-ghost use Rattle.std.specs.Iterator.{item_count};
-ghost use Rattle.termwiz_cell.specs.CellValue.{blank, cell_of, columns, space};
-ghost use Rattle.termwiz_storage.specs.CellRef.{contents, contents_of, indexed_cell, ref_index};
-ghost use Rattle.termwiz_storage.specs.CellRef.{ref_cell, ref_width};
-ghost use Rattle.termwiz_storage.specs.CellsLeft.{cells_left, IsOfCell, YieldsCell};
+ghost use Rattle.termwiz_storage.specs.{◌≡◌, ◌≤◌, ◌↔◌, IfOk, IsOfCell, IsTrue, YieldsCell, blank};
+ghost use Rattle.termwiz_storage.specs.{cell_of, cells_left, columns, contents, contents_of, space};
+ghost use Rattle.termwiz_storage.specs.{indexed_cell, item_count, ref_cell, ref_index, ref_width};
+ghost use Rattle.termwiz_storage.specs.{unwrap_or};
 
 use crate::line::clusterline::ClusterLineIter;
 use crate::line::vecstorage::VecStorageIter;

@@ -1,22 +1,12 @@
 //! Cells stored as one text.
-ghost use Rattle.std.specs.Prelude.{◌≡◌, ◌+◌, ◌++◌, ◌∷◌, ◌^◌, ◌<◌, ◌≤◌, ◌↔◌, [], true};
-ghost use Rattle.std.specs.Prelude.{IfOk, IfSome, IsSome, IsTrue, None, OnErr, OnOk, Some};
-ghost use Rattle.std.specs.Prelude.{length, take, option_map};
-ghost use Rattle.std.specs.Prelude.{string_bytes, string_capacity, string_len};
-ghost use Rattle.std.specs.Iterator.{item_count};
-ghost use Rattle.std.specs.List.{last_or, list_any};
-ghost use Rattle.std.specs.Option.{option_copied};
-ghost use Rattle.termwiz_cell.specs.Attributes.{default_attributes};
-ghost use Rattle.termwiz_cell.specs.CellValue.{blank, clean, half};
-ghost use Rattle.termwiz_storage.specs.CellRef.{ref_cell, ref_index};
-ghost use Rattle.termwiz_storage.specs.CellTexts.{first_texts, texts_of};
-ghost use Rattle.termwiz_storage.specs.CellsLeft.{IsOfCell, YieldsCell};
-ghost use Rattle.termwiz_storage.specs.Clustered.{HasByteCells, IsWhole, cell_len};
-ghost use Rattle.termwiz_storage.specs.Edits.{with_half};
-ghost use Rattle.termwiz_storage.specs.LastCell.{last_attrs};
-ghost use Rattle.termwiz_storage.specs.PlainCells.{ArePlain};
-ghost use Rattle.termwiz_storage.specs.Stored.{cell_at, is_linked, visible, IsKept};
-ghost use Rattle.termwiz_storage.specs.Wrapped.{set_last_wrapped, with_wrapped};
+ghost use Rattle.termwiz_storage.specs.{◌≡◌, ◌+◌, ◌++◌, ◌∷◌, ◌<◌, ◌≤◌, ◌↔◌, [], ArePlain, IfOk};
+ghost use Rattle.termwiz_storage.specs.{HasByteCells, IfSome, IsKept, IsOfCell, IsSome, IsTrue};
+ghost use Rattle.termwiz_storage.specs.{IsWhole, None, OnErr, OnOk, Some, YieldsCell, blank, clean};
+ghost use Rattle.termwiz_storage.specs.{cell_at, cell_len, default_attributes, first_texts, half};
+ghost use Rattle.termwiz_storage.specs.{is_linked, item_count, last_attrs, last_or, length, take};
+ghost use Rattle.termwiz_storage.specs.{list_any, option_copied, option_map, ref_cell, ref_index};
+ghost use Rattle.termwiz_storage.specs.{set_last_wrapped, string_bytes, string_capacity, texts_of};
+ghost use Rattle.termwiz_storage.specs.{string_len, true, visible, with_half, with_wrapped};
 
 mod joined;
 mod run_lists;
@@ -478,7 +468,7 @@ pub struct ClusterLineIter<'a> {
 }
 
 impl<'a> Model for ClusterLineIter<'a> {
-    ghost use Rattle.std.specs.Prelude.{ℕ, List, length, ◌+◌, ◌^◌, ◌<◌};
+    ghost use Rattle.std.specs.Prelude.{◌+◌, ◌^◌, ◌<◌, List, length, ℕ};
     ghost use Rattle.termwiz_storage.specs.Clustered.{IsStepping, shown_cells};
     ghost use Rattle.termwiz_storage.specs.VisibleCell.{VisibleCell};
 

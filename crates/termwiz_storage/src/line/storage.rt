@@ -1,29 +1,14 @@
 //! Where a line keeps its cells, and all that edits them.
-ghost use Rattle.std.specs.Prelude.{◌≡◌, ◌≢◌, ◌-◌, ◌<◌, ◌≤◌, ◌∷◌, [], ◌↔◌, drop, false, true};
-ghost use Rattle.std.specs.Prelude.{length, option_map, replicate, take, IsTrue, IsOk, IfOk};
-ghost use Rattle.std.specs.Prelude.{IfSome, OnOk, OnErr, Some, None, if◌then◌else◌};
-ghost use Rattle.std.specs.Borrow.{sem};
-ghost use Rattle.std.specs.Cmp.{decided, on_equiv, on_per, partial_equiv_from_equiv};
-ghost use Rattle.std.specs.List.{list_all, list_any};
-ghost use Rattle.std.specs.Option.{option_copied};
-ghost use Rattle.std.specs.Str.{chars};
-ghost use Rattle.termwiz_text.specs.Letter.{AreLetters};
-ghost use Rattle.termwiz_text.specs.Plain.{is_plain};
-ghost use Rattle.termwiz_cell.specs.Attributes.{needs_box};
-ghost use Rattle.termwiz_cell.specs.CellValue.{blank};
-ghost use Rattle.termwiz_storage.specs.CellLists.{cells_eq, cells_eq-Decides};
-ghost use Rattle.termwiz_storage.specs.CellRef.{indexed_cell, ref_cell, ref_index};
-ghost use Rattle.termwiz_storage.specs.CellTexts.{texts_of};
-ghost use Rattle.termwiz_storage.specs.CellsLeft.{cells_left, IsOfCell};
-ghost use Rattle.termwiz_storage.specs.Clustered.{IsWhole};
-ghost use Rattle.termwiz_storage.specs.Stored.{cell_at, visible, fill, set_cell, set_run, IsKept};
-ghost use Rattle.termwiz_storage.specs.Halves.{resized};
-ghost use Rattle.termwiz_storage.specs.Storage.{cells_in, is_vector, same_cells};
-ghost use Rattle.termwiz_storage.specs.Letters.{set_letters};
-ghost use Rattle.termwiz_storage.specs.Stored.{is_linked};
-ghost use Rattle.termwiz_storage.specs.Lending.{LendsVector};
-ghost use Rattle.termwiz_storage.specs.LastCell.{last_attrs};
-ghost use Rattle.termwiz_storage.specs.Wrapped.{set_last_wrapped};
+ghost use Rattle.termwiz_storage.specs.{◌≡◌, ◌≢◌, ◌-◌, ◌<◌, ◌≤◌, ◌∷◌, [], ◌↔◌, if◌then◌else◌, IfOk};
+ghost use Rattle.termwiz_storage.specs.{AreLetters, IfSome, IsKept, IsOfCell, IsOk, IsTrue, None};
+ghost use Rattle.termwiz_storage.specs.{IsWhole, LendsVector, OnErr, OnOk, Some, blank, cell_at};
+ghost use Rattle.termwiz_storage.specs.{cells_eq, cells_eq-Decides, cells_in, cells_left, chars};
+ghost use Rattle.termwiz_storage.specs.{decided, drop, false, fill, indexed_cell, is_linked, sem};
+ghost use Rattle.termwiz_storage.specs.{is_plain, is_vector, last_attrs, length, list_all, on_per};
+ghost use Rattle.termwiz_storage.specs.{list_any, needs_box, on_equiv, option_copied, option_map};
+ghost use Rattle.termwiz_storage.specs.{partial_equiv_from_equiv, ref_cell, ref_index, replicate};
+ghost use Rattle.termwiz_storage.specs.{resized, same_cells, set_cell, set_last_wrapped, set_run};
+ghost use Rattle.termwiz_storage.specs.{set_letters, take, texts_of, true, visible};
 
 mod edits;
 
@@ -155,23 +140,6 @@ impl CellStorage {
         ensures vector { is_vector self.old ≡ true → is_vector self.new ≡ true }
         ensures made { OnOk result (is_vector self.new ≡ true) }
     {
-        match self {
-            CellStorage::V(storage) => storage.set_cell_within(i, cell, len)?,
-            CellStorage::Cluster(_) => self.set_in_text_within(i, cell, len)?,
-        }
-        Ok(())
-    }
-
-    // Sets a cell within a length in a text, which becomes a vector. It stands apart, so that the
-    // way of a vector is short.
-    #[inline(never)]
-    fn set_in_text_within(&mut self, i: usize, cell: Cell, len: usize) -> Result<(), AllocError>
-        ensures ok { OnOk result (
-            cells_in self.new ≡ take len (set_cell i cell (cells_in self.old))) }
-        ensures err { OnErr result (cells_in self.new ≡ cells_in self.old) }
-        ensures vector { is_vector self.old ≡ true → is_vector self.new ≡ true }
-        ensures made { OnOk result (is_vector self.new ≡ true) }
-    {
         self.coerce_vec()?.set_cell_within(i, cell, len)?;
         Ok(())
     }
@@ -189,10 +157,7 @@ impl CellStorage {
         ensures vector { is_vector self.old ≡ true → is_vector self.new ≡ true }
         ensures made { OnOk result (is_vector self.new ≡ true) }
     {
-        match self {
-            CellStorage::V(storage) => storage.set_run(i, run, attrs)?,
-            CellStorage::Cluster(_) => self.coerce_vec()?.set_run(i, run, attrs)?,
-        }
+        self.coerce_vec()?.set_run(i, run, attrs)?;
         Ok(())
     }
 
@@ -215,10 +180,7 @@ impl CellStorage {
         ensures vector { is_vector self.old ≡ true → is_vector self.new ≡ true }
         ensures made { OnOk result (is_vector self.new ≡ true) }
     {
-        match self {
-            CellStorage::V(storage) => storage.set_letters(i, run, attrs)?,
-            CellStorage::Cluster(_) => self.coerce_vec()?.set_letters(i, run, attrs)?,
-        }
+        self.coerce_vec()?.set_letters(i, run, attrs)?;
         Ok(())
     }
 
@@ -232,10 +194,7 @@ impl CellStorage {
         ensures vector { is_vector self.old ≡ true → is_vector self.new ≡ true }
         ensures made { OnOk result (is_vector self.new ≡ true) }
     {
-        match self {
-            CellStorage::V(storage) => storage.set_blanks(from, to)?,
-            CellStorage::Cluster(_) => self.coerce_vec()?.set_blanks(from, to)?,
-        }
+        self.coerce_vec()?.set_blanks(from, to)?;
         Ok(())
     }
 
@@ -249,10 +208,7 @@ impl CellStorage {
         ensures vector { is_vector self.old ≡ true → is_vector self.new ≡ true }
         ensures made { OnOk result (is_vector self.new ≡ true) }
     {
-        match self {
-            CellStorage::V(storage) => storage.blank_out(len)?,
-            CellStorage::Cluster(_) => self.coerce_vec()?.blank_out(len)?,
-        }
+        self.coerce_vec()?.blank_out(len)?;
         Ok(())
     }
 
@@ -270,10 +226,7 @@ impl CellStorage {
         ensures vector { is_vector self.old ≡ true → is_vector self.new ≡ true }
         ensures made { OnOk result (is_vector self.new ≡ true) }
     {
-        match self {
-            CellStorage::V(storage) => storage.resize(len)?,
-            CellStorage::Cluster(_) => self.coerce_vec()?.resize(len)?,
-        }
+        self.coerce_vec()?.resize(len)?;
         Ok(())
     }
 
@@ -286,10 +239,7 @@ impl CellStorage {
         ensures vector { is_vector self.old ≡ true → is_vector self.new ≡ true }
         ensures made { OnOk result (is_vector self.new ≡ true) }
     {
-        match self {
-            CellStorage::V(storage) => storage.truncate(len),
-            CellStorage::Cluster(_) => self.coerce_vec()?.truncate(len),
-        }
+        self.coerce_vec()?.truncate(len);
         Ok(())
     }
 
@@ -375,7 +325,7 @@ impl CellStorage {
     /// The storage as a vector, which it is from then on. Its cells can be written: the list is
     /// then what was written, and another vector where one was assigned. With a vector it never
     /// fails. On an error nothing changed.
-    #[inline(never)]
+    #[inline]
     pub fn coerce_vec(&mut self) -> Result<&mut VecStorage, AllocError>
         ensures* writes_back { sem 𝓛 (LendsVector self.entry result) }
         ensures value { IfOk result (λ v. v.now ≡ cells_in self.old) }

@@ -1,24 +1,14 @@
 //! Cells stored one by one.
-ghost use Rattle.std.specs.Prelude.{◌≡◌, [], false, true, ◌+◌, ◌*◌, ◌-◌, ◌<◌, ◌≤◌, ◌↔◌, IsTrue};
-ghost use Rattle.std.specs.Prelude.{OnOk, OnErr, IsOk, IfOk, IfSome, length, map, option_map, take};
-ghost use Rattle.std.specs.Prelude.{replicate, slice_set, vec_capacity, vec_len};
-ghost use Rattle.std.specs.Cmp.{decided, partial_equiv_from_equiv};
-ghost use Rattle.std.specs.List.{list_all, list_any};
-ghost use Rattle.std.specs.Str.{chars};
-ghost use Rattle.termwiz_text.specs.Letter.{AreLetters};
-ghost use Rattle.termwiz_text.specs.Plain.{is_plain};
-ghost use Rattle.termwiz_cell.specs.Attributes.{needs_box};
-ghost use Rattle.termwiz_cell.specs.CellValue.{blank, half, is_wide, plain_cell};
-ghost use Rattle.termwiz_storage.specs.CellsLeft.{IsOfCell};
-ghost use Rattle.termwiz_storage.specs.CellRef.{ref_cell, ref_index};
-ghost use Rattle.termwiz_storage.specs.Letters.{put_letters, set_letters};
-ghost use Rattle.termwiz_storage.specs.Stored.{cell_at, fill, hides, is_linked, padded, put_run};
-ghost use Rattle.termwiz_storage.specs.Stored.{stored, set_cell, set_run, torn, visible, IsKept};
-ghost use Rattle.termwiz_storage.specs.Halves.{resized};
-ghost use Rattle.termwiz_storage.specs.Used.{IsBlanked, IsFilledTo, IsUsedTo};
-ghost use Rattle.termwiz_storage.specs.CellLists.{cells_eq, cells_eq-Decides};
-ghost use Rattle.std.specs.Borrow.{sem};
-ghost use Rattle.termwiz_storage.specs.Lending.{LendsCells};
+ghost use Rattle.termwiz_storage.specs.{◌≡◌, [], ◌+◌, ◌*◌, ◌-◌, ◌<◌, ◌≤◌, ◌↔◌, AreLetters, IfOk};
+ghost use Rattle.termwiz_storage.specs.{IfSome, IsBlanked, IsFilledTo, IsKept, IsOfCell, IsOk, map};
+ghost use Rattle.termwiz_storage.specs.{IsTrue, IsUsedTo, LendsCells, OnErr, OnOk, blank, cell_at};
+ghost use Rattle.termwiz_storage.specs.{cells_eq, cells_eq-Decides, chars, decided, false, fill};
+ghost use Rattle.termwiz_storage.specs.{half, hides, is_linked, is_plain, is_wide, length, padded};
+ghost use Rattle.termwiz_storage.specs.{list_all, list_any, needs_box, option_map, plain_cell, sem};
+ghost use Rattle.termwiz_storage.specs.{partial_equiv_from_equiv, put_letters, put_run, ref_cell};
+ghost use Rattle.termwiz_storage.specs.{ref_index, replicate, resized, set_cell, set_letters, take};
+ghost use Rattle.termwiz_storage.specs.{set_run, slice_set, stored, torn, true, vec_capacity};
+ghost use Rattle.termwiz_storage.specs.{vec_len, visible};
 
 mod edits;
 mod walk;
@@ -212,19 +202,8 @@ impl VecStorage {
         ensures err { OnErr result (self.new ≡ self.old) }
     {
         self.set_cell(i, cell)?;
-        self.cut(len);
+        self.truncate(len);
         Ok(())
-    }
-
-    // Cuts the list where it is longer.
-    #[inline]
-    #[tactic(auto, using(crate::proofs::Halves::take_whole))]
-    fn cut(&mut self, len: usize)
-        ensures { self.new ≡ take len self.old }
-    {
-        if len < self.cells.len() {
-            self.truncate(len);
-        }
     }
 
     /// Sets the cell of each character of a run of printable ASCII, in order from a column on, with
@@ -323,11 +302,15 @@ impl VecStorage {
     }
 
     /// Cuts the list to at most this many cells.
+    #[inline]
+    #[tactic(auto, using(crate::proofs::Halves::take_whole))]
     pub(crate) fn truncate(&mut self, len: usize)
         ensures { self.new ≡ take len self.old }
     {
-        self.cells.truncate(len);
-        self.used = self.used.min(len);
+        if len < self.cells.len() {
+            self.cells.truncate(len);
+            self.used = self.used.min(len);
+        }
     }
 
     /// Makes the list this many default blanks. It can only fail where the list grows. On an error
@@ -569,8 +552,7 @@ fn half_behind(cells: &Vec<Cell>) -> Result<Cell, AllocError>
     ensures { IfOk result (λ made.
         made ≡ half (stored cells.now.items (length cells.now.items - 1))) }
 {
-    let attrs = cells[cells.len() - 1].attrs().clone()?;
-    Ok(Cell::blank_with_attrs(attrs))
+    half_of(&cells[cells.len() - 1])
 }
 
 // The half of a cell.

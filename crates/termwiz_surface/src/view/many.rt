@@ -1,11 +1,7 @@
 //! Runs of events on one surface and several viewers.
-ghost use Rattle.std.specs.Prelude.{◌≡◌, ◌^◌, ◌<◌, IfOk, List, replicate};
-ghost use Rattle.std.specs.List.{All};
-ghost use Rattle.termwiz_cell.specs.Measure.{measure};
-ghost use Rattle.termwiz_surface_core.specs.Following.{blank_viewer};
-ghost use Rattle.termwiz_surface.specs.ManySchedule.{Held, IsManyInRange, IsManySchedule};
-ghost use Rattle.termwiz_surface.specs.ManySchedule.{ResizesAs};
-ghost use Rattle.termwiz_surface.specs.ManySteps.{AnswersTo, DeliversTo, Remembers, Serves};
+ghost use Rattle.termwiz_surface.specs.{◌≡◌, ◌^◌, ◌<◌, All, AnswersTo, DeliversTo, Held, IfOk};
+ghost use Rattle.termwiz_surface.specs.{IsManyInRange, IsManySchedule, List, Remembers, ResizesAs};
+ghost use Rattle.termwiz_surface.specs.{Serves, blank_viewer, measure, replicate};
 
 use super::waiting::Waiting;
 use super::{AcceptError, Event, Outcome, Viewer, act};
@@ -15,7 +11,7 @@ use termwiz_cell::change::SequenceNo;
 use termwiz_cell::emoji::Widths;
 
 /// What happens to a surface with several viewers, which are numbered from 0, as its answers are.
-#[derive(Drop)]
+#[derive(Drop, Debug)]
 pub enum ManyEvent<W: Widths> {
     /// This happens to the surface. No viewer follows it (`Follow`).
     On(Event<W>),
@@ -28,7 +24,7 @@ pub enum ManyEvent<W: Widths> {
 }
 
 /// What came of such an event.
-#[derive(Drop)]
+#[derive(Drop, Debug)]
 pub enum ManyOutcome {
     /// What came of an event on the surface.
     Of(Outcome),

@@ -1,20 +1,12 @@
 //! Viewers: surfaces that follow another one, or accept its answers.
-ghost use Rattle.std.specs.Prelude.{◌≡◌, ◌+◌, ◌-◌, ◌<◌, ◌^◌, true, length, nat_lt, IfOk, OnOk};
-ghost use Rattle.std.specs.Prelude.{[], OnErr};
-ghost use Rattle.termwiz_cell.specs.Measure.{measure};
-ghost use Rattle.termwiz_surface_core.specs.Adding.{Adds, Makes, with_log};
-ghost use Rattle.termwiz_surface.specs.Accepting.{Declines, HasDropped, MayTake, Takes};
-ghost use Rattle.termwiz_surface.specs.Showing.{HasCaughtUp, KeepsShowing, ShowsCarried};
-ghost use Rattle.termwiz_surface.specs.Showing.{StaysNamed};
-ghost use Rattle.termwiz_surface_core.specs.Following.{blank_viewer, forgetful, Accepts, Fetches};
-ghost use Rattle.termwiz_surface_core.specs.Following.{Fits, Follows, FollowsTo, KeepsViewers};
-ghost use Rattle.termwiz_surface_core.specs.History.{KeepsNames};
-ghost use Rattle.termwiz_surface_core.specs.Resizing.{Resizes};
-ghost use Rattle.termwiz_surface_core.specs.SurfaceValue.{SurfaceValue, full_of};
-ghost use Rattle.termwiz_screen.specs.FullScreen.{HasFullSize};
-ghost use Rattle.termwiz_screen.specs.Log.{flushed, next_number};
-ghost use Rattle.termwiz_screen.specs.Picture.{full_screens, screens};
-ghost use Rattle.termwiz_screen.specs.Stream.{stream_of};
+ghost use Rattle.termwiz_surface.specs.{◌≡◌, ◌+◌, ◌-◌, ◌<◌, ◌^◌, [], Accepts, Adds, Declines, Fits};
+ghost use Rattle.termwiz_surface.specs.{Fetches, Follows, FollowsTo, HasCaughtUp, HasDropped, IfOk};
+ghost use Rattle.termwiz_surface.specs.{HasFullSize, KeepsNames, KeepsShowing, KeepsViewers, Makes};
+ghost use Rattle.termwiz_surface.specs.{MayTake, OnErr, OnOk, Resizes, ShowsCarried, StaysNamed};
+ghost use Rattle.termwiz_surface.specs.{Takes, blank_viewer, flushed, forgetful, full_of, length};
+ghost use Rattle.termwiz_surface.specs.{full_screens, measure, nat_lt, next_number, screens, true};
+ghost use Rattle.termwiz_surface.specs.{stream_of, with_log};
+ghost use Rattle.termwiz_surface_core.specs.SurfaceValue.{SurfaceValue};
 
 use crate::surface::{Answer, Surface, SurfaceError};
 use std::alloc::{AllocError, Global};
@@ -75,7 +67,7 @@ impl From<AllocError> for AcceptError {
 ///
 /// A viewer is for one source: it keeps that one's number and width value. For another source make
 /// a new viewer.
-#[derive(Drop)]
+#[derive(Drop, Debug)]
 pub struct Viewer<W: Widths> {
     surface: Surface<W>,
     last: SequenceNo,
@@ -90,8 +82,8 @@ impl<W: Widths> Model for Viewer<W> {
 }
 
 impl<W: Widths> Viewer<W> {
-    /// A viewer that shows a blank surface of the source's size, width value and kind, and was
-    /// given no number.
+    /// A viewer that shows a blank surface of the source's size and width value, and has no number.
+    /// Its surface is a full one where the source is: nothing else chooses the kind.
     pub fn new(alloc: Global, source: &Surface<W>) -> Result<Viewer<W>, AllocError>
         ensures blank { IfOk result (λ viewer. viewer ≡ blank_viewer source.now) }
         ensures follows { IfOk result (λ viewer. Follows (measure W.width_of) viewer source.now) }
@@ -310,7 +302,9 @@ impl<W: Widths> Viewer<W> {
     /// whom it follows stay.
     ///
     /// A viewer whose own surface nobody follows can forget all that it made:
-    /// `viewer.flush_changes_older_than(viewer.surface().current_seqno())`.
+    /// `viewer.flush_changes_older_than(viewer.surface().current_seqno())`. With `viewer.last()`,
+    /// which is a number of the source and names nothing in the viewer's own log, it would forget
+    /// too little or too much.
     pub fn flush_changes_older_than(&mut self, seq: SequenceNo)
         ensures flushes { self.new.surface
             ≡ with_log self.old.surface (flushed self.old.surface.log seq) }

@@ -1,5 +1,5 @@
 //! Events that wait to be done.
-ghost use Rattle.std.specs.Prelude.{◌≡◌, ◌∷◌, [], MatchOption};
+ghost use Rattle.termwiz_surface.specs.{◌≡◌, ◌∷◌, [], MatchOption};
 
 use std::marker::Model;
 

@@ -1,14 +1,9 @@
 //! Answers that can be carried off, and accepted by viewers later.
-ghost use Rattle.std.specs.Prelude.{◌≡◌, ℕ, ◌≤◌, true, false, length, map, IfOk};
-ghost use Rattle.std.specs.Cow.{IsBorrowedSlice, IsOwnedSlice};
-ghost use Rattle.termwiz_cell.specs.ChangeValue.{change_value};
-ghost use Rattle.termwiz_cell.specs.Measure.{measure};
-ghost use Rattle.termwiz_surface_core.specs.Carried.{CarriesTo, IsGivenBy, IsPastOf};
-ghost use Rattle.termwiz_screen.specs.FullScreen.{FullScreen};
-ghost use Rattle.termwiz_screen.specs.Picture.{full_screens, screens};
-ghost use Rattle.termwiz_screen.specs.Screen.{Screen};
-ghost use Rattle.termwiz_screen.specs.Step.{regions_fit};
-ghost use Rattle.termwiz_surface_core.specs.Asking.{knows, own_repaint, most_own_entries};
+ghost use Rattle.termwiz_surface_core.specs.{◌≡◌, ◌≤◌, CarriesTo, FullScreen, IfOk, IsGivenBy, map};
+ghost use Rattle.termwiz_surface_core.specs.{IsBorrowedSlice, IsOwnedSlice, IsPastOf, Screen, true};
+ghost use Rattle.termwiz_surface_core.specs.{change_value, false, full_screens, knows, length, ℕ};
+ghost use Rattle.termwiz_surface_core.specs.{measure, most_own_entries, own_repaint, regions_fit};
+ghost use Rattle.termwiz_surface_core.specs.{screens};
 
 use super::Surface;
 use std::alloc::AllocError;
@@ -20,7 +15,7 @@ use termwiz_cell::emoji::Widths;
 /// What a viewer accepts to have the screen that a surface had when it gave the answer: as
 /// `get_changes` answers, but with its changes as a list of its own, so that it can be carried off
 /// and be delivered late, repeatedly, in any order, or never.
-#[derive(Drop)]
+#[derive(Drop, Debug)]
 pub struct Answer {
     width: usize,
     height: usize,

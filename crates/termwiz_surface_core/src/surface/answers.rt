@@ -1,19 +1,11 @@
 //! What viewers are answered: the changes that they lack, or a repaint.
-ghost use Rattle.std.specs.Cow.{IsOwnedSlice};
-ghost use Rattle.std.specs.Prelude.{◌≡◌, ℕ, ◌≤◌, [], true, false, not, ◌==◌, map, length, IfOk};
-ghost use Rattle.std.specs.Prelude.{IsOkAnd};
-ghost use Rattle.termwiz_cell.specs.ChangeValue.{change_value};
-ghost use Rattle.termwiz_cell.specs.Measure.{measure};
-ghost use Rattle.termwiz_surface_core.specs.Adding.{with_log};
-ghost use Rattle.termwiz_surface_core.specs.Following.{KeepsViewers};
-ghost use Rattle.termwiz_surface_core.specs.SurfaceValue.{screen_of, full_of};
-ghost use Rattle.termwiz_surface_core.specs.History.{KeepsNames};
-ghost use Rattle.termwiz_screen.specs.Log.{due, flushed, is_known, next_number};
-ghost use Rattle.termwiz_screen.specs.Repaint.{repaint, full_repaint};
-ghost use Rattle.termwiz_screen.specs.Step.{regions_fit};
-ghost use Rattle.termwiz_screen.specs.Stream.{Lends, stream_of};
-ghost use Rattle.termwiz_surface_core.specs.Asking.{knows, own_repaint, most_own_entries, Repaints};
-ghost use Rattle.termwiz_surface_core.specs.Asking.{StreamsFrom, StreamsFullyFrom};
+ghost use Rattle.termwiz_surface_core.specs.{◌≡◌, ◌≤◌, [], ◌==◌, IfOk, IsOkAnd, IsOwnedSlice, due};
+ghost use Rattle.termwiz_surface_core.specs.{KeepsNames, KeepsViewers, Lends, Repaints, false, map};
+ghost use Rattle.termwiz_surface_core.specs.{StreamsFrom, StreamsFullyFrom, change_value, flushed};
+ghost use Rattle.termwiz_surface_core.specs.{full_of, full_repaint, is_known, knows, length, not};
+ghost use Rattle.termwiz_surface_core.specs.{measure, most_own_entries, next_number, own_repaint};
+ghost use Rattle.termwiz_surface_core.specs.{regions_fit, repaint, screen_of, stream_of, true, ℕ};
+ghost use Rattle.termwiz_surface_core.specs.{with_log};
 
 use super::Surface;
 use std::alloc::AllocError;

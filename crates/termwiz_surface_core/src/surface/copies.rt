@@ -1,16 +1,8 @@
 //! Drawing a surface on another one, and copying a region of a surface within it.
-ghost use Rattle.std.specs.Prelude.{◌≡◌, map, Err, IfOk, OnOk};
-ghost use Rattle.termwiz_cell.specs.ChangeValue.{change_value};
-ghost use Rattle.termwiz_cell.specs.Measure.{measure};
-ghost use Rattle.termwiz_surface_core.specs.Copies.{IsCopied, IsDrawn, copied_region};
-ghost use Rattle.termwiz_surface_core.specs.Diffs.{HasCopied, HasDrawn};
-ghost use Rattle.termwiz_screen.specs.Diff.{restoring};
-ghost use Rattle.termwiz_surface_core.specs.History.{KeepsNames};
-ghost use Rattle.termwiz_surface_core.specs.Following.{KeepsViewers};
-ghost use Rattle.termwiz_surface_core.specs.SurfaceValue.{screen_of};
-ghost use Rattle.termwiz_surface_core.specs.declared.surface.SurfaceError.TheVariants.{
-  ScrollRegion,
-};
+ghost use Rattle.termwiz_surface_core.specs.{◌≡◌, Err, HasCopied, HasDrawn, IfOk, IsCopied, OnOk};
+ghost use Rattle.termwiz_surface_core.specs.{IsDrawn, KeepsNames, KeepsViewers, ScrollRegion, map};
+ghost use Rattle.termwiz_surface_core.specs.{change_value, copied_region, measure, restoring};
+ghost use Rattle.termwiz_surface_core.specs.{screen_of};
 
 use super::{Surface, SurfaceError};
 use std::alloc::AllocError;

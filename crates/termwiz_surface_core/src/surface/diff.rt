@@ -1,20 +1,11 @@
 //! Diffs: the changes that print what another surface, a region of it, or lines show and this
 //! surface doesn't.
-ghost use Rattle.std.specs.Prelude.{◌≡◌, min, [], ◌∷◌, length, map, IfOk};
-ghost use Rattle.std.specs.List.{All};
-ghost use Rattle.termwiz_cell.specs.ChangeValue.{change_value};
-ghost use Rattle.termwiz_cell.specs.Measure.{measure};
-ghost use Rattle.termwiz_line.specs.Row.{row_of};
-ghost use Rattle.termwiz_screen.specs.Diff.{diff, need, whole};
-ghost use Rattle.termwiz_screen.specs.DiffRegions.{AreRows};
-ghost use Rattle.termwiz_screen.specs.Printable.{ArePrintable};
-ghost use Rattle.termwiz_screen.specs.Prints.{printed};
-ghost use Rattle.termwiz_screen.specs.RegionValue.{region_value};
-ghost use Rattle.termwiz_surface_core.specs.Diffs.{GivesRegion, HaveRow, HaveTopRows, MeasureAlike};
-ghost use Rattle.termwiz_surface_core.specs.Diffs.{PrintsRegion, PrintsRows, cut_to, one_row};
-ghost use Rattle.termwiz_surface_core.specs.Diffs.{region_at, region_diff, rows_of, screen_after};
-ghost use Rattle.termwiz_surface_core.specs.Diffs.{top_rows};
-ghost use Rattle.termwiz_surface_core.specs.SurfaceValue.{screen_of};
+ghost use Rattle.termwiz_surface_core.specs.{◌≡◌, [], ◌∷◌, All, ArePrintable, AreRows, GivesRegion};
+ghost use Rattle.termwiz_surface_core.specs.{HaveRow, HaveTopRows, IfOk, MeasureAlike, PrintsRows};
+ghost use Rattle.termwiz_surface_core.specs.{PrintsRegion, change_value, cut_to, diff, length, map};
+ghost use Rattle.termwiz_surface_core.specs.{measure, min, need, one_row, printed, region_at};
+ghost use Rattle.termwiz_surface_core.specs.{region_diff, region_value, row_of, rows_of, screen_of};
+ghost use Rattle.termwiz_surface_core.specs.{screen_after, top_rows, whole};
 
 use super::Surface;
 use std::alloc::AllocError;

@@ -1,9 +1,5 @@
 //! Full screens of surfaces.
-ghost use Rattle.std.specs.Prelude.{◌≡◌, IfOk};
-ghost use Rattle.std.specs.List.{All};
-ghost use Rattle.termwiz_line.specs.LineFlags.{no_flags};
-ghost use Rattle.termwiz_screen.specs.FullScreenValue.{full_value};
-ghost use Rattle.termwiz_surface_core.specs.SurfaceValue.{full_of};
+ghost use Rattle.termwiz_surface_core.specs.{◌≡◌, All, IfOk, full_of, full_value, no_flags};
 
 use super::Surface;
 use std::alloc::AllocError;

@@ -1,7 +1,5 @@
 //! The rows of a surface, lent as lines or as cells.
-ghost use Rattle.std.specs.Prelude.{◌≡◌, map, IfOk};
-ghost use Rattle.termwiz_screen.specs.ScreenValue.{cells_of};
-ghost use Rattle.termwiz_screen.specs.Sides.{row_flags, AreVectors};
+ghost use Rattle.termwiz_surface_core.specs.{◌≡◌, AreVectors, IfOk, cells_of, map, row_flags};
 
 use super::Surface;
 use std::alloc::{AllocError, Global};

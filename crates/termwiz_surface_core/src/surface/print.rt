@@ -1,21 +1,12 @@
 //! How a surface prints texts.
-ghost use Rattle.std.specs.Prelude.{◌≡◌, ◌+◌, ◌*◌, ◌<◌, ◌≤◌, true, false, [], ◌∷◌, length, map};
-ghost use Rattle.std.specs.Prelude.{encode_utf8, IfOk, OnOk, OnErr};
-ghost use Rattle.std.specs.List.{list_all};
-ghost use Rattle.std.specs.Str.{chars};
-ghost use Rattle.termwiz_text.specs.Letter.{AreLetters};
-ghost use Rattle.termwiz_text.specs.Plain.{is_plain};
-ghost use Rattle.unicode_segmentation.specs.Grapheme.{graphemes};
-ghost use Rattle.termwiz_cell.specs.Measure.{measure};
-ghost use Rattle.termwiz_cell.specs.Attributes.{needs_box};
-ghost use Rattle.termwiz_screen.specs.Print.{columns_left, down, down_kept, one_kept, print};
-ghost use Rattle.termwiz_screen.specs.Print.{print_kept, print_one, put_at_cursor, put_kept};
-ghost use Rattle.termwiz_screen.specs.Print.{wrapped};
-ghost use Rattle.termwiz_screen.specs.Print.{wrapped_kept};
-ghost use Rattle.termwiz_surface_core.specs.SurfaceValue.{Becomes, SameFrame, kept_of, screen_of};
-ghost use Rattle.termwiz_screen.specs.Measured.{IsMeasured};
-ghost use Rattle.termwiz_screen.specs.Runs.{AreNarrow, AreWide};
-ghost use Rattle.termwiz_surface_core.specs.Printing.{PrintsGraphemes, PrintsFirst};
+ghost use Rattle.termwiz_surface_core.specs.{◌≡◌, ◌+◌, ◌*◌, ◌<◌, ◌≤◌, [], ◌∷◌, AreLetters, AreWide};
+ghost use Rattle.termwiz_surface_core.specs.{AreNarrow, Becomes, IfOk, IsMeasured, OnErr, OnOk};
+ghost use Rattle.termwiz_surface_core.specs.{PrintsFirst, PrintsGraphemes, SameFrame, chars, down};
+ghost use Rattle.termwiz_surface_core.specs.{columns_left, down_kept, encode_utf8, false, is_plain};
+ghost use Rattle.termwiz_surface_core.specs.{graphemes, kept_of, length, list_all, map, measure};
+ghost use Rattle.termwiz_surface_core.specs.{needs_box, one_kept, print, print_kept, print_one};
+ghost use Rattle.termwiz_surface_core.specs.{put_at_cursor, put_kept, screen_of, true, wrapped};
+ghost use Rattle.termwiz_surface_core.specs.{wrapped_kept};
 
 use super::Surface;
 use std::alloc::AllocError;

@@ -1,10 +1,6 @@
 //! Surfaces that take another size.
-ghost use Rattle.std.specs.Prelude.{◌≡◌, ◌+◌, ◌<◌, ◌^◌, OnOk, OnErr};
-ghost use Rattle.termwiz_cell.specs.Measure.{measure};
-ghost use Rattle.termwiz_surface_core.specs.Following.{KeepsViewers};
-ghost use Rattle.termwiz_surface_core.specs.History.{KeepsNames};
-ghost use Rattle.termwiz_screen.specs.Log.{next_number};
-ghost use Rattle.termwiz_surface_core.specs.Resizing.{HasResized, Resizes};
+ghost use Rattle.termwiz_surface_core.specs.{◌≡◌, ◌+◌, ◌<◌, ◌^◌, HasResized, KeepsNames, OnErr};
+ghost use Rattle.termwiz_surface_core.specs.{KeepsViewers, OnOk, Resizes, measure, next_number};
 
 use super::{Surface, SurfaceError};
 use std::alloc::AllocError;

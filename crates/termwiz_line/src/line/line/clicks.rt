@@ -1,13 +1,7 @@
 //! What a double click selects.
-ghost use Rattle.std.specs.Prelude.{◌≡◌, ℕ, ◌<◌, ◌≤◌, ◌↔◌, Bool, IsTrue, List, false, length};
-ghost use Rattle.std.specs.Fn.{FnReturnsAt};
-ghost use Rattle.std.specs.List.{All};
-ghost use Rattle.termwiz_storage.specs.CellRef.{ref_cell};
-ghost use Rattle.termwiz_storage.specs.CellsLeft.{cells_left};
-ghost use Rattle.termwiz_storage.specs.Stored.{visible};
-ghost use Rattle.termwiz_line.specs.Clicks.{AnswersAs, IsLower, IsUpper, goes_on, lower_of};
-ghost use Rattle.termwiz_line.specs.Clicks.{upper_of};
-ghost use Rattle.termwiz_line.specs.Wrapped.{last_is_wrapped};
+ghost use Rattle.termwiz_line.specs.{◌≡◌, ◌<◌, ◌≤◌, ◌↔◌, All, AnswersAs, Bool, FnReturnsAt, IsTrue};
+ghost use Rattle.termwiz_line.specs.{IsLower, IsUpper, List, cells_left, false, goes_on, length, ℕ};
+ghost use Rattle.termwiz_line.specs.{last_is_wrapped, lower_of, ref_cell, upper_of, visible};
 
 use super::Line;
 use std::ops;

@@ -1,24 +1,12 @@
 //! Edits of a line's cells.
-ghost use Rattle.std.specs.Prelude.{◌≡◌, ◌<◌, ◌≤◌, ◌-◌, ◌↔◌, ◌++◌, [], true, false, max, take};
-ghost use Rattle.std.specs.Prelude.{drop, replicate, IsTrue, IsOk, IfOk, OnOk, OnErr, length};
-ghost use Rattle.std.specs.Borrow.{sem};
-ghost use Rattle.std.specs.List.{list_all};
-ghost use Rattle.std.specs.Str.{chars};
-ghost use Rattle.termwiz_text.specs.Letter.{AreLetters};
-ghost use Rattle.termwiz_text.specs.Plain.{is_plain};
-ghost use Rattle.termwiz_cell.specs.Attributes.{needs_box};
-ghost use Rattle.termwiz_cell.specs.CellValue.{blank, blank_of, cell_of};
-ghost use Rattle.termwiz_storage.specs.Letters.{set_letters};
-ghost use Rattle.termwiz_storage.specs.Stored.{set_cell, set_run, visible, IsPruned};
-ghost use Rattle.termwiz_storage.specs.Edits.{columns_between, erased, erased_within, inserted};
-ghost use Rattle.termwiz_storage.specs.Edits.{removed, with_halves};
-ghost use Rattle.termwiz_line.specs.Filled.{AppendsCells, Fills, IsFilled, IsPartlyFilled};
-ghost use Rattle.termwiz_line.specs.Filled.{MakesVector};
-ghost use Rattle.termwiz_line.specs.Lending.{LendsLine};
-ghost use Rattle.termwiz_line.specs.LineEdits.{HasCells, IsEditedAt, IsTakenFrom};
-ghost use Rattle.termwiz_line.specs.LineFlags.{no_flags};
-ghost use Rattle.termwiz_line.specs.LineValue.{AppendsAt, EditsElsewhere, IsEdited, IsUnchanged};
-ghost use Rattle.termwiz_line.specs.LineValue.{Prunes};
+ghost use Rattle.termwiz_line.specs.{◌≡◌, ◌<◌, ◌≤◌, ◌-◌, ◌↔◌, ◌++◌, [], columns_between, AppendsAt};
+ghost use Rattle.termwiz_line.specs.{EditsElsewhere, IsPartlyFilled, erased_within, AppendsCells};
+ghost use Rattle.termwiz_line.specs.{IsTakenFrom, IsUnchanged, MakesVector, set_letters, LendsLine};
+ghost use Rattle.termwiz_line.specs.{with_halves, AreLetters, IsEditedAt, needs_box, replicate};
+ghost use Rattle.termwiz_line.specs.{HasCells, IsEdited, IsFilled, IsPruned, blank_of, inserted};
+ghost use Rattle.termwiz_line.specs.{is_plain, list_all, no_flags, set_cell, cell_of, removed, max};
+ghost use Rattle.termwiz_line.specs.{set_run, visible, IsTrue, Prunes, erased, length, Fills, IfOk};
+ghost use Rattle.termwiz_line.specs.{OnErr, blank, chars, false, IsOk, OnOk, drop, take, true, sem};
 
 use crate::line::line::Line;
 use crate::line::line::zones::drop_zones;

@@ -1,21 +1,12 @@
 //! Lines of texts, and the texts of a line.
-ghost use Rattle.std.specs.Prelude.{◌≡◌, ◌≢◌, ◌+◌, ◌↔◌, ◌++◌, [], false, true, IfOk, IfSome};
-ghost use Rattle.std.specs.Prelude.{IsTrue, OnErr, OnOk, option_map, string_bytes, IsOkAnd};
-ghost use Rattle.std.specs.Cow.{cow_str_bytes, IsBorrowedStr};
-ghost use Rattle.std.specs.List.{All, list_any};
-ghost use Rattle.termwiz_cell.specs.Attributes.{default_attributes};
-ghost use Rattle.termwiz_cell.specs.CellValue.{columns, measured, space};
-ghost use Rattle.termwiz_cell.specs.Measure.{measure};
-ghost use Rattle.termwiz_cell.specs.Width.{at_version};
-ghost use Rattle.termwiz_storage.specs.CellRef.{indexed_cell, ref_cell, ref_index};
-ghost use Rattle.termwiz_storage.specs.CellsLeft.{IsOfCell, cells_left};
-ghost use Rattle.termwiz_storage.specs.Stored.{cell_at, is_linked, visible};
-ghost use Rattle.termwiz_line.specs.LineEdits.{IsMade};
-ghost use Rattle.termwiz_line.specs.LineFlags.{no_flags};
-ghost use Rattle.termwiz_line.specs.LineValue.{AppendsAt, EditsElsewhere};
-ghost use Rattle.termwiz_line.specs.Texts.{IsPartlyOverlaid, Overlays, cells_of_text, at_columns};
-ghost use Rattle.termwiz_line.specs.Texts.{stored_text, text_within, texts_of, texts_between};
-ghost use Rattle.termwiz_line.specs.Texts.{wrapped_text};
+ghost use Rattle.termwiz_line.specs.{◌≡◌, ◌≢◌, ◌+◌, ◌↔◌, ◌++◌, [], All, AppendsAt, EditsElsewhere};
+ghost use Rattle.termwiz_line.specs.{IfOk, IfSome, IsBorrowedStr, IsMade, IsOfCell, IsOkAnd, OnErr};
+ghost use Rattle.termwiz_line.specs.{IsPartlyOverlaid, IsTrue, OnOk, Overlays, at_columns, cell_at};
+ghost use Rattle.termwiz_line.specs.{at_version, cells_left, cells_of_text, columns, cow_str_bytes};
+ghost use Rattle.termwiz_line.specs.{default_attributes, false, indexed_cell, is_linked, list_any};
+ghost use Rattle.termwiz_line.specs.{measure, measured, no_flags, option_map, ref_cell, ref_index};
+ghost use Rattle.termwiz_line.specs.{space, stored_text, string_bytes, text_within, texts_between};
+ghost use Rattle.termwiz_line.specs.{texts_of, true, visible, wrapped_text};
 
 use super::Line;
 use std::alloc::{AllocError, Global};

@@ -1,9 +1,6 @@
 //! The mark of a line whose text goes on in the next one.
-ghost use Rattle.std.specs.Prelude.{◌≡◌, ◌<◌, IsOk, OnErr, OnOk, length, true};
-ghost use Rattle.termwiz_storage.specs.Stored.{visible};
-ghost use Rattle.termwiz_storage.specs.Wrapped.{set_last_wrapped};
-ghost use Rattle.termwiz_line.specs.LineValue.{IsEdited, IsUnchanged};
-ghost use Rattle.termwiz_line.specs.Wrapped.{last_is_wrapped};
+ghost use Rattle.termwiz_line.specs.{◌≡◌, ◌<◌, IsEdited, IsOk, IsUnchanged, OnErr, OnOk, length};
+ghost use Rattle.termwiz_line.specs.{last_is_wrapped, set_last_wrapped, true, visible};
 
 use super::Line;
 use super::zones::drop_zones;

@@ -1,13 +1,8 @@
 //! A line that is cut into lines of a width.
-ghost use Rattle.std.specs.Prelude.{◌≡◌, [], ◌+◌, ◌<◌, ◌≤◌, ◌^◌, ◌∷◌, ◌++◌, ◌↔◌, IsTrue, IfOk};
-ghost use Rattle.std.specs.Prelude.{OnOk, length, take, true};
-ghost use Rattle.termwiz_cell.specs.CellValue.{half, space};
-ghost use Rattle.termwiz_storage.specs.CellRef.{indexed_cell, ref_cell};
-ghost use Rattle.termwiz_storage.specs.CellsLeft.{cells_left, IsOfCell};
-ghost use Rattle.termwiz_storage.specs.Edits.{with_half};
-ghost use Rattle.termwiz_storage.specs.Wrapped.{with_wrapped};
-ghost use Rattle.termwiz_line.specs.Trim.{IsTrimmed};
-ghost use Rattle.termwiz_line.specs.Wraps.{AreLinesOf, FitsWidth, IsSpace, IsWrapped};
+ghost use Rattle.termwiz_line.specs.{◌≡◌, ◌+◌, ◌<◌, ◌≤◌, ◌^◌, ◌∷◌, ◌++◌, ◌↔◌, AreLinesOf, IfOk};
+ghost use Rattle.termwiz_line.specs.{FitsWidth, IsOfCell, IsSpace, IsTrimmed, IsTrue, IsWrapped};
+ghost use Rattle.termwiz_line.specs.{OnOk, cells_left, indexed_cell, length, ref_cell, take, true};
+ghost use Rattle.termwiz_line.specs.{with_half, with_wrapped};
 
 use super::Line;
 use std::alloc::{AllocError, Global};

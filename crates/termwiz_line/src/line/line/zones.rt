@@ -1,13 +1,7 @@
 //! Zones: the runs of cells of one semantic type.
-ghost use Rattle.std.specs.Prelude.{◌≡◌, ◌<◌, ◌^◌, ◌↔◌, ◌∷◌, [], IsTrue, IfOk, length, take};
-ghost use Rattle.std.specs.Borrow.{sem};
-ghost use Rattle.termwiz_storage.specs.CellRef.{indexed_cell};
-ghost use Rattle.termwiz_storage.specs.CellsLeft.{cells_left};
-ghost use Rattle.termwiz_storage.specs.Storage.{cells_in};
-ghost use Rattle.termwiz_storage.specs.Stored.{visible};
-ghost use Rattle.termwiz_line.specs.Lending.{KeepsLine};
-ghost use Rattle.termwiz_line.specs.Trim.{IsTrimmed};
-ghost use Rattle.termwiz_line.specs.Zones.{AreZones, AreZonesOf, IsBlank, semantic, zone_of};
+ghost use Rattle.termwiz_line.specs.{◌≡◌, ◌<◌, ◌^◌, ◌↔◌, ◌∷◌, [], AreZones, AreZonesOf, IfOk, sem};
+ghost use Rattle.termwiz_line.specs.{IsBlank, IsTrimmed, IsTrue, KeepsLine, cells_in, cells_left};
+ghost use Rattle.termwiz_line.specs.{indexed_cell, length, semantic, take, visible, zone_of};
 
 use super::Line;
 use std::alloc::{AllocError, Global};

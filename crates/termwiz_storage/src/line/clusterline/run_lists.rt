@@ -1,11 +1,8 @@
 //! Lists of runs: more cells, how many there are, a look at one, and a walk over all.
-ghost use Rattle.std.specs.Prelude.{◌≡◌, ◌<◌, ◌≤◌, ◌+◌, ◌^◌, ◌++◌, ◌∷◌, [], false};
-ghost use Rattle.std.specs.Prelude.{IfOk, IsTrue, MatchOption, OnErr, OnOk, length, replicate};
-ghost use Rattle.std.specs.Prelude.{vec_capacity, vec_len};
-ghost use Rattle.std.specs.List.{list_any, slice_get};
-ghost use Rattle.std.specs.Option.{is_some, option_copied};
-ghost use Rattle.termwiz_storage.specs.CellRuns.{AddsAttrs, attrs_of, map_last, marked, shape_in};
-ghost use Rattle.termwiz_storage.specs.CellRuns.{shapes_of};
+ghost use Rattle.termwiz_storage.specs.{◌≡◌, ◌<◌, ◌≤◌, ◌+◌, ◌^◌, ◌++◌, ◌∷◌, [], AddsAttrs, IfOk};
+ghost use Rattle.termwiz_storage.specs.{IsTrue, MatchOption, OnErr, OnOk, attrs_of, false, is_some};
+ghost use Rattle.termwiz_storage.specs.{length, list_any, map_last, marked, option_copied, vec_len};
+ghost use Rattle.termwiz_storage.specs.{replicate, shape_in, shapes_of, slice_get, vec_capacity};
 
 use crate::line::clusterline::runs::{AttrsRun, Shape, ShapeRun};
 use crate::line::vecstorage::set_wrapped;
@@ -224,7 +221,7 @@ pub(super) struct ShapeIter<'a> {
 }
 
 impl<'a> Model for ShapeIter<'a> {
-    ghost use Rattle.std.specs.Prelude.{List, ◌∷◌};
+    ghost use Rattle.std.specs.Prelude.{◌∷◌, List};
     ghost use Rattle.std.specs.Slice.Iter.{iter_rest};
     ghost use Rattle.termwiz_storage.specs.declared.line.clusterline.runs.Shape.{Shape};
     ghost use Rattle.termwiz_storage.specs.CellRuns.{shapes_of};
@@ -274,7 +271,7 @@ pub(super) struct AttrsIter<'a> {
 }
 
 impl<'a> Model for AttrsIter<'a> {
-    ghost use Rattle.std.specs.Prelude.{List, ◌≡◌, ◌++◌, None};
+    ghost use Rattle.std.specs.Prelude.{◌≡◌, ◌++◌, List, None};
     ghost use Rattle.std.specs.Slice.Iter.{iter_rest};
     ghost use Rattle.termwiz_cell.specs.Attributes.{Attributes};
     ghost use Rattle.termwiz_storage.specs.CellRuns.{attrs_of, same_attrs};

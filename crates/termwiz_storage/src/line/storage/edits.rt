@@ -1,11 +1,8 @@
 //! Edits that move the stored cells.
-ghost use Rattle.std.specs.Prelude.{◌≡◌, ◌≤◌, ◌++◌, true, take, drop, replicate, IsOk, IfOk, OnOk};
-ghost use Rattle.std.specs.Prelude.{OnErr};
-ghost use Rattle.termwiz_cell.specs.CellValue.{blank_of};
-ghost use Rattle.termwiz_storage.specs.Stored.{visible};
-ghost use Rattle.termwiz_storage.specs.Edits.{columns_between, erased, erased_within, inserted};
-ghost use Rattle.termwiz_storage.specs.Edits.{removed, with_halves};
-ghost use Rattle.termwiz_storage.specs.Storage.{cells_in, is_vector};
+ghost use Rattle.termwiz_storage.specs.{◌≡◌, ◌≤◌, ◌++◌, IfOk, IsOk, OnErr, OnOk, blank_of, drop};
+ghost use Rattle.termwiz_storage.specs.{cells_in, columns_between, erased, erased_within, inserted};
+ghost use Rattle.termwiz_storage.specs.{is_vector, removed, replicate, take, true, visible};
+ghost use Rattle.termwiz_storage.specs.{with_halves};
 
 use crate::line::clusterline::ClusteredLine;
 use crate::line::storage::{CellStorage, expanded};

@@ -1,13 +1,10 @@
 //! Edits that move stored cells.
-ghost use Rattle.std.specs.Prelude.{◌≡◌, [], ◌∷◌, ◌+◌, ◌<◌, ◌≤◌, ◌-◌, ◌++◌, nat_le, ◌&&◌, not};
-ghost use Rattle.std.specs.Prelude.{false, length, take, drop, replicate, IfOk, OnOk, OnErr};
-ghost use Rattle.std.specs.Prelude.{if◌then◌else◌, vec_capacity, vec_len};
-ghost use Rattle.std.specs.List.{insert, remove};
-ghost use Rattle.termwiz_cell.specs.CellValue.{blank, half, is_wide};
-ghost use Rattle.termwiz_storage.specs.Stored.{padded, visible};
-ghost use Rattle.termwiz_storage.specs.Edits.{columns_between, erased, erased_within, inserted};
-ghost use Rattle.termwiz_storage.specs.Edits.{inserted_at_margin, removed, removed_at_margin};
-ghost use Rattle.termwiz_storage.specs.Edits.{with_half, with_halves};
+ghost use Rattle.termwiz_storage.specs.{◌≡◌, [], ◌∷◌, ◌+◌, ◌<◌, ◌≤◌, ◌-◌, ◌++◌, ◌&&◌, IfOk, OnErr};
+ghost use Rattle.termwiz_storage.specs.{if◌then◌else◌, OnOk, blank, columns_between, drop, erased};
+ghost use Rattle.termwiz_storage.specs.{erased_within, false, half, insert, inserted, is_wide, not};
+ghost use Rattle.termwiz_storage.specs.{inserted_at_margin, length, nat_le, padded, remove, take};
+ghost use Rattle.termwiz_storage.specs.{removed, removed_at_margin, replicate, vec_capacity};
+ghost use Rattle.termwiz_storage.specs.{vec_len, visible, with_half, with_halves};
 
 use crate::line::vecstorage::{VecStorage, end_of, half_of, pad_cells};
 use std::alloc::{AllocError, Global};

@@ -1,10 +1,7 @@
 //! The walk of cells that are stored one by one.
-ghost use Rattle.std.specs.Prelude.{◌≡◌, ◌↔◌, ◌∷◌, ◌<◌, [], false, true, IfSome, IsSome};
-ghost use Rattle.std.specs.Prelude.{MatchOption};
-ghost use Rattle.std.specs.Iterator.{item_count};
-ghost use Rattle.termwiz_storage.specs.CellsLeft.{YieldsCell};
-ghost use Rattle.termwiz_storage.specs.PlainCells.{begins_plain, is_plain_with, IsPlainFirst};
-ghost use Rattle.termwiz_storage.specs.Stored.{visible};
+ghost use Rattle.termwiz_storage.specs.{◌≡◌, ◌↔◌, ◌∷◌, ◌<◌, [], IfSome, IsPlainFirst, IsSome, true};
+ghost use Rattle.termwiz_storage.specs.{MatchOption, YieldsCell, begins_plain, false, item_count};
+ghost use Rattle.termwiz_storage.specs.{is_plain_with, visible};
 
 use crate::line::cellref::CellRef;
 use std::marker::Model;
@@ -19,7 +16,7 @@ pub struct VecStorageIter<'a> {
 }
 
 impl<'a> Model for VecStorageIter<'a> {
-    ghost use Rattle.std.specs.Prelude.{ℕ, List, length, ◌+◌, ◌<◌, ◌^◌};
+    ghost use Rattle.std.specs.Prelude.{◌+◌, ◌<◌, ◌^◌, List, length, ℕ};
     ghost use Rattle.std.specs.Slice.Iter.{iter_rest};
     ghost use Rattle.termwiz_cell.specs.CellValue.{CellValue};
     ghost use Rattle.termwiz_storage.specs.Stored.{visible_from};

@@ -1,11 +1,7 @@
 //! The mark of the last visible cell, behind which the text goes on in the next line.
-ghost use Rattle.std.specs.Prelude.{◌≡◌, ◌<◌, ◌≤◌, IsTrue, OnErr, OnOk, IsOk, length, slice_set};
-ghost use Rattle.std.specs.Prelude.{vec_len};
-ghost use Rattle.std.specs.Option.{option_copied};
-ghost use Rattle.termwiz_storage.specs.LastCell.{last_attrs};
-ghost use Rattle.termwiz_storage.specs.Stored.{hides, stored, visible};
-ghost use Rattle.termwiz_storage.specs.Wrapped.{last_index, set_last_wrapped, with_wrapped};
-ghost use Rattle.termwiz_storage.specs.Wrapped.{wrapped_last};
+ghost use Rattle.termwiz_storage.specs.{◌≡◌, ◌<◌, ◌≤◌, set_last_wrapped, option_copied, last_attrs};
+ghost use Rattle.termwiz_storage.specs.{with_wrapped, wrapped_last, last_index, slice_set, vec_len};
+ghost use Rattle.termwiz_storage.specs.{visible, IsTrue, length, stored, OnErr, hides, IsOk, OnOk};
 
 use super::VecStorage;
 use std::alloc::AllocError;

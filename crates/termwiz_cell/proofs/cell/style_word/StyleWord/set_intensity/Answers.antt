@@ -1,0 +1,12 @@
+use Rattle.std.proofs.Common.{◌≡◌, ℕ, ◌+◌, ◌-◌, ◌*◌, ◌/◌, ◌%◌, ◌^◌, ap, ◌∙◌}
+use Rattle.termwiz_cell.specs.Style.{Style, intensity_number}
+use Rattle.termwiz_cell.specs.StyleWord.{style_at}
+use Rattle.termwiz_cell.proofs.StyleSetters.{intensity-spelt}
+use Rattle.termwiz_cell.proofs.cell.style_word.StyleWord.set_intensity.Goals as goal
+
+pub returns : goal.returns
+returns c =
+    let w : ℕ = c.self.inside.word in
+    ap style_at (c.with_digit-word.ensures ∙ ap (λ (digit : ℕ). w - w / 1 % 4 * 1 + digit * 1) c.number.ensures.value)
+    ∙ intensity-spelt w c.args.value c.self.invariant
+    ∙ ap (λ (s : Style). record s { intensity = c.args.value }) c.self.view_is

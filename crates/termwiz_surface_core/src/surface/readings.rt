@@ -1,0 +1,110 @@
+//! What a surface shows and keeps, for reading.
+ghost use Rattle.termwiz_surface_core.specs.{◌≡◌, ◌-◌, ◌<◌, ◌^◌, All, HasFullSize, HasSize, IfOk};
+ghost use Rattle.termwiz_surface_core.specs.{IsPrintable, IsSound, full_of, measure, next_number};
+ghost use Rattle.termwiz_surface_core.specs.{no_flags, screen_value, shown_chars, string_bytes};
+
+use super::Surface;
+use std::alloc::AllocError;
+use termwiz_cell::change::{CursorShape, CursorVisibility, SequenceNo};
+use termwiz_cell::emoji::Widths;
+use termwiz_screen::rows::{chars_of, resized_lines};
+use termwiz_screen::screen::Screen;
+
+impl<W: Widths> Surface<W> {
+    /// The width in columns and the height in rows.
+    pub fn dimensions(&self) -> (usize, usize)
+        ensures width { result.0 ≡ self.now.width }
+        ensures height { result.1 ≡ self.now.height }
+        // Every surface has its form.
+        ensures sound { IsSound (measure W.width_of self.now.widths) self.now }
+        // Its screen has its size, so repaints can be replayed on it.
+        ensures sized { HasSize self.now.width self.now.height (screen_of self.now) }
+        // Its full screen has its size too.
+        ensures fully_sized { HasFullSize self.now.width self.now.height (full_of self.now) }
+        // Each row of the screen has a half behind each wide cell, and each visible cell is one
+        // grapheme with the width that is measured for it.
+        ensures printable { IsPrintable (measure W.width_of self.now.widths) (screen_of self.now) }
+    {
+        (self.width, self.height)
+    }
+
+    /// The width value, by which texts are measured.
+    pub fn widths(&self) -> W
+        ensures { result ≡ self.now.widths }
+    {
+        self.widths
+    }
+
+    /// Whether its repaints carry all that is kept beside the screen.
+    pub fn is_full(&self) -> bool
+        ensures { result ≡ self.now.full }
+    {
+        self.full
+    }
+
+    /// The cursor's column and row, from 0. The column is the width where a wrap is pending.
+    pub fn cursor_position(&self) -> (usize, usize)
+        ensures column { result.0 ≡ self.now.x }
+        ensures row { result.1 ≡ self.now.y }
+    {
+        (self.x, self.y)
+    }
+
+    /// Whether the cursor is shown.
+    pub fn cursor_visibility(&self) -> CursorVisibility
+        ensures { result ≡ self.now.visibility }
+    {
+        self.visibility
+    }
+
+    /// The title, which is empty at first.
+    pub fn title(&self) -> &str
+        ensures { result.now ≡ self.now.title }
+    {
+        self.title.as_str()
+    }
+
+    /// The cursor's shape, where one was set.
+    pub fn cursor_shape(&self) -> Option<CursorShape>
+        ensures { result ≡ self.now.shape }
+    {
+        self.shape
+    }
+
+    /// The number of the coming change, which is what a viewer that has all changes was last given.
+    pub fn current_seqno(&self) -> SequenceNo
+        ensures value { result ≡ next_number self.now.log }
+        ensures fits { result < 2 ^ 64 }
+    {
+        self.log.next_number()
+    }
+
+    /// The texts of each row's visible cells within its stored length, with a newline behind each
+    /// row.
+    pub fn screen_chars_to_string(&self) -> Result<String, AllocError>
+        ensures { IfOk result (λ text.
+            string_bytes text ≡ shown_chars (screen_of self.now).rows (lengths_of self.now)) }
+    {
+        chars_of(self.alloc, &self.rows)
+    }
+
+    /// A copy of what the surface shows: each row is cut or filled to the width with default
+    /// blanks, and has the number 0 and no flags.
+    pub fn screen(&self) -> Result<Screen, AllocError>
+        ensures shown { IfOk result (λ screen. screen_value screen ≡ screen_of self.now) }
+        ensures numbers { IfOk result (λ screen. All (λ line. line.seqno ≡ 0) screen.rows.items) }
+        ensures flags { IfOk result (λ screen.
+            All (λ line. line.flags ≡ no_flags) screen.rows.items) }
+    {
+        let rows = resized_lines(self.alloc, &self.rows, self.width)?;
+        let pen = self.pen.clone()?;
+        Ok(Screen {
+            width: self.width,
+            height: self.height,
+            rows,
+            cursor: (self.x, self.y),
+            visibility: self.visibility,
+            pen,
+        })
+    }
+}

@@ -108,6 +108,23 @@ impl Hyperlink {
         }
     }
 
+    /// A link that is put together of its parts, as one that was stored or sent has them: its
+    /// target, its parameters, and whether a rule made it of the text on a screen.
+    pub fn from_parts(uri: String, params: BTreeMap<String, String>, implicit: bool) -> Hyperlink
+        ensures { result
+            ≡ record {
+              uri = string_bytes uri;
+              params = map param_bytes params.entries;
+              implicit = implicit;
+            } }
+    {
+        Hyperlink {
+            params,
+            uri,
+            implicit,
+        }
+    }
+
     /// The link's target.
     pub fn uri(&self) -> &str
         ensures { result.now ≡ self.now.uri }

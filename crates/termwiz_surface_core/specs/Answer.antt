@@ -1,9 +1,10 @@
 -- Answers that are carried off: what brings a viewer, whenever it is accepted, to the picture that the surface had when it gave the answer.
-use Rattle.std.specs.Prelude.{◌≡◌, ℕ, ◌≤◌, Bool, true, false, not, ◌&&◌, ◌==◌, List}
+use Rattle.std.specs.Prelude.{◌≡◌, ℕ, ◌<◌, ◌≤◌, ◌^◌, Bool, true, false, not, ◌&&◌, ◌==◌, List}
 use Rattle.termwiz_cell.specs.ChangeValue.{ChangeValue}
 use Rattle.termwiz_surface_core.specs.History.{Names}
 use Rattle.termwiz_screen.specs.Log.{LogValue, next_number, due, is_known, delta_limit}
 use Rattle.termwiz_screen.specs.Picture.{Pictures, played}
+use Rattle.termwiz_screen.specs.Step.{regions_fit}
 
 pub record AnswerValue : Type 0 where
   pub width : ℕ
@@ -14,6 +15,14 @@ pub record AnswerValue : Type 0 where
   pub number : ℕ
   pub is_repaint : Bool
   pub changes : List ChangeValue
+
+-- what each answer has: a size that a surface may have, and no scroll whose region goes past the last row
+pub record IsWellFormed (a : AnswerValue) : Type 0 where
+  pub some_column : 0 < a.width
+  pub some_row : 0 < a.height
+  pub fits : a.width < 2 ^ 32
+  pub fits_height : a.height < 2 ^ 32
+  pub regions : regions_fit a.height a.changes ≡ true
 
 -- what a surface with this picture and log gives for number n: a copy of what is due where that is known, and else changes that bring any picture of its size to this one
 pub record IsGiven {P : Type 0} (pictures : Pictures P) (measure : List ℕ → ℕ) (p : P) (log : LogValue) (n : ℕ) (a : AnswerValue) : Type 0 where

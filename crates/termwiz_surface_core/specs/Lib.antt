@@ -12,7 +12,7 @@ pub mod Carried
 -- what the contracts of this crate use, by its name alone
 pub use Rattle.std.specs.Cow.{IsBorrowedSlice, IsOwnedSlice}
 pub use Rattle.std.specs.List.{All, list_all}
-pub use Rattle.std.specs.Prelude.{Err, IfOk, IsOk, IsOkAnd, OnErr, OnOk, [], encode_utf8, false, length, map, min, not, replicate, slice_index_or, slice_set, string_bytes, true, vec_len, ℕ, ◌*◌, ◌+◌, ◌-◌, ◌<◌, ◌==◌, ◌^◌, ◌∷◌, ◌≡◌, ◌≤◌}
+pub use Rattle.std.specs.Prelude.{Err, IfOk, IsOk, IsOkAnd, None, OnErr, OnOk, Some, [], encode_utf8, false, if◌then◌else◌, length, map, min, not, replicate, slice_index_or, slice_set, string_bytes, true, vec_len, ℕ, ◌*◌, ◌+◌, ◌-◌, ◌<◌, ◌==◌, ◌^◌, ◌∷◌, ◌≡◌, ◌≤◌}
 pub use Rattle.std.specs.Str.{chars}
 pub use Rattle.termwiz_cell.specs.AttributeChangeValue.{attribute_change_value, with_attribute}
 pub use Rattle.termwiz_cell.specs.Attributes.{needs_box, with_background}

@@ -1,9 +1,9 @@
 //! Answers that can be carried off, and accepted by viewers later.
-ghost use Rattle.termwiz_surface_core.specs.{◌≡◌, ◌≤◌, CarriesTo, FullScreen, IfOk, IsGivenBy, map};
-ghost use Rattle.termwiz_surface_core.specs.{IsBorrowedSlice, IsOwnedSlice, IsPastOf, Screen, true};
-ghost use Rattle.termwiz_surface_core.specs.{change_value, false, full_screens, knows, length, ℕ};
-ghost use Rattle.termwiz_surface_core.specs.{measure, most_own_entries, own_repaint, regions_fit};
-ghost use Rattle.termwiz_surface_core.specs.{screens};
+ghost use Rattle.termwiz_surface_core.specs.{◌≡◌, ◌<◌, ◌≤◌, ◌^◌, if◌then◌else◌, CarriesTo, IfOk};
+ghost use Rattle.termwiz_surface_core.specs.{FullScreen, IsBorrowedSlice, IsGivenBy, IsOwnedSlice};
+ghost use Rattle.termwiz_surface_core.specs.{IsPastOf, None, Screen, Some, change_value, false};
+ghost use Rattle.termwiz_surface_core.specs.{full_screens, knows, length, map, measure, screens};
+ghost use Rattle.termwiz_surface_core.specs.{most_own_entries, own_repaint, regions_fit, true, ℕ};
 
 use super::Surface;
 use std::alloc::AllocError;
@@ -11,6 +11,7 @@ use std::borrow::CowSlice;
 use std::marker::Model;
 use termwiz_cell::change::{Change, SEQ_ZERO, SequenceNo};
 use termwiz_cell::emoji::Widths;
+use termwiz_screen::scroll_region::regions_fit;
 
 /// What a viewer accepts to have the screen that a surface had when it gave the answer: as
 /// `get_changes` answers, but with its changes as a list of its own, so that it can be carried off
@@ -26,10 +27,9 @@ pub struct Answer {
 }
 
 impl Model for Answer {
-    ghost use Rattle.std.specs.Prelude.{◌≡◌, map, true};
+    ghost use Rattle.std.specs.Prelude.{map};
     ghost use Rattle.termwiz_cell.specs.ChangeValue.{change_value};
-    ghost use Rattle.termwiz_surface_core.specs.Answer.{AnswerValue};
-    ghost use Rattle.termwiz_screen.specs.Step.{regions_fit};
+    ghost use Rattle.termwiz_surface_core.specs.Answer.{AnswerValue, IsWellFormed};
 
     ghost Value = { AnswerValue };
 
@@ -42,15 +42,57 @@ impl Model for Answer {
       changes = map change_value a.changes.items;
     } };
 
-    ghost invariant = { λ a. regions_fit a.height (map change_value a.changes.items) ≡ true };
+    ghost invariant = { λ a. IsWellFormed (view a) };
 }
 
 impl Answer {
+    /// An answer that is put together of its parts, as one that was stored or sent has them. It is
+    /// `None` where a scroll among the changes has a region that goes past the last row.
+    pub fn from_parts(
+        size: (usize, usize),
+        base: SequenceNo,
+        number: SequenceNo,
+        is_repaint: bool,
+        changes: Vec<Change>,
+    ) -> Option<Answer>
+        requires some_column { 0 < size.0 }
+        requires some_row { 0 < size.1 }
+        requires fits { size.0 < 2 ^ 32 }
+        requires fits_height { size.1 < 2 ^ 32 }
+        ensures { result
+            ≡ (if regions_fit size.1 (map change_value changes.items) then Some (record {
+              width = size.0;
+              height = size.1;
+              base = base;
+              number = number;
+              is_repaint = is_repaint;
+              changes = map change_value changes.items;
+            }) else None) }
+    {
+        let (width, height) = size;
+        if !regions_fit(&changes, height) {
+            return None;
+        }
+        Some(Answer {
+            width,
+            height,
+            base,
+            number,
+            is_repaint,
+            changes,
+        })
+    }
+
     /// The width in columns and the height in rows of the surface that gave it, and of the viewers
     /// that may accept it.
     pub fn size(&self) -> (usize, usize)
         ensures width { result.0 ≡ self.now.width }
         ensures height { result.1 ≡ self.now.height }
+        // It is a size that a surface may have.
+        ensures some_column { 0 < self.now.width }
+        ensures some_row { 0 < self.now.height }
+        ensures fits { self.now.width < 2 ^ 32 }
+        ensures fits_height { self.now.height < 2 ^ 32 }
     {
         (self.width, self.height)
     }

@@ -51,8 +51,16 @@ module _ (g : given.Over) (c : goal.Joined-is_repaint g) where
 
 pub invariant_of-result : goal.invariant_of-result
 invariant_of-result g c =
-    ap (regions_fit c.self.inside.height) (copies g c)
-    ∙ subst (λ (v : SurfaceValue _). regions_fit v.height (stream_of c.in_ok-number.changes) ≡ true) (sym c.self.view_is) c.in_ok-number.ensures.regions
+    let sound = c.self.invariant.0 in
+    record {
+      some_column = sound.some_column;
+      some_row = sound.some_row;
+      fits = sound.fits;
+      fits_height = sound.fits_height;
+      regions =
+          ap (regions_fit c.self.inside.height) (copies g c)
+          ∙ subst (λ (v : SurfaceValue _). regions_fit v.height (stream_of c.in_ok-number.changes) ≡ true) (sym c.self.view_is) c.in_ok-number.ensures.regions;
+    }
 
 pub returns-clause-given : goal.returns-clause-given
 returns-clause-given g c =

@@ -1,0 +1,55 @@
+//! Why bytes were not decoded.
+ghost use Rattle.std.specs.Prelude.{◌≡◌};
+ghost use Rattle.cbor.specs.declared.error.ReadError.TheVariants.{Memory};
+
+use std::alloc::{AllocError, AllocFailed};
+use thiserror::Error;
+
+/// What is wrong with the bytes: the first fault from left to right.
+#[derive(Clone, Copy, Debug, PartialEq, Eq, Error)]
+pub enum Fault {
+    /// The bytes end within a value. More bytes may complete it.
+    #[error("the bytes end within a value")]
+    Truncated,
+    /// The version of the format is another one. It is for formats that have versions.
+    #[error("the version is unknown")]
+    Version,
+    /// The item has another type, or another count, than the one that is wanted, or its head has no
+    /// definite form.
+    #[error("an item of another type or count is wanted")]
+    Type,
+    /// A text is no UTF-8.
+    #[error("a text is no UTF-8")]
+    Utf8,
+    /// A number is out of its range, a head isn't the shortest one, or keys don't ascend.
+    #[error("a number is out of range, a head is not the shortest one, or keys don't ascend")]
+    Range,
+    /// A scroll's region goes past the last row. It is for formats that have scrolls.
+    #[error("a scroll's region goes past the last row")]
+    Region,
+}
+
+/// Why nothing was decoded: memory was refused, or the bytes have a fault.
+#[derive(Clone, Copy, Debug, PartialEq, Eq, Error)]
+pub enum ReadError {
+    #[error("out of memory")]
+    Memory,
+    #[error("{0}")]
+    Fault(Fault),
+}
+
+impl From<AllocError> for ReadError {
+    ghost from_gives = { λ _ e. e ≡ Memory };
+
+    fn from(_refused: AllocError) -> ReadError {
+        ReadError::Memory
+    }
+}
+
+impl<T: Drop> From<AllocFailed<T>> for ReadError {
+    ghost from_gives = { λ _ e. e ≡ Memory };
+
+    fn from(_refused: AllocFailed<T>) -> ReadError {
+        ReadError::Memory
+    }
+}

@@ -1,0 +1,20 @@
+//! CBOR (RFC 8949) in its core deterministic encoding: integers, booleans, null, texts and the
+//! heads of arrays as bytes, and back.
+//!
+//! An encoder appends to a `Vec<u8>`; a `Reader` decodes from the front of a slice. Each value has
+//! one encoding, with the shortest head and a definite length. What is encoded is decoded again,
+//! and what is decoded was encoded so. Byte strings, maps, tags and floats are no part of it.
+#![tactic(auto)]
+
+mod encoding;
+mod error;
+mod kind;
+mod reader;
+
+pub use encoding::{put_array, put_bool, put_null, put_signed, put_text, put_unsigned};
+pub use error::{Fault, ReadError};
+pub use kind::Kind;
+pub use reader::{Reader, kinds};
+
+#[cfg(test)]
+mod tests;

@@ -1,0 +1,4 @@
+pub mod Loops
+pub mod Style
+pub mod Params
+pub mod Again

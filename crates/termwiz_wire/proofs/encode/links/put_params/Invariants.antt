@@ -1,0 +1,14 @@
+use Rattle.std.proofs.Common.{◌≡◌, ◌++◌, map}
+use Rattle.std.specs.List.{AllByRecursion, flat_map}
+use Rattle.std.specs.Map.Iter.{deref_pair}
+use Rattle.termwiz_cell.specs.Link.{param_bytes}
+use Rattle.termwiz_wire.specs.Forms.{IsParam}
+use Rattle.termwiz_wire.specs.Encoding.{param}
+use Rattle.termwiz_wire.proofs.encode.links.put_params.Given as goal
+
+abbrev pub invariant-loop-key : goal.invariant-loop-key
+invariant-loop-key l =
+    goal.iterator-loop-key.can_next l.key-iterator
+    × goal.iterator-loop-key.is_finite l.key-iterator
+    × (l.out.items ≡ l.fn.out.items ++ flat_map param (map param_bytes (map deref_pair l.yielded)))
+    × AllByRecursion IsParam (map param_bytes (map deref_pair l.yielded))

@@ -1,0 +1,88 @@
+//! Attributes, and changes of one attribute.
+ghost use Rattle.std.specs.Prelude.{◌≡◌, IfOk};
+ghost use Rattle.cbor.specs.Decoding.{Gives};
+ghost use Rattle.termwiz_cell.specs.AttributeChangeValue.{attribute_change_value};
+ghost use Rattle.termwiz_cell.specs.Link.{linked};
+ghost use Rattle.termwiz_wire.specs.Decoding.{attribute_change_at, attributes_at};
+
+use super::links::optional_link_of;
+use super::small::{blink_from, color_of, intensity_from, style_of, styled, underline_from};
+use cbor::{Fault, ReadError, Reader};
+use std::alloc::{AllocError, Global};
+use std::rc::Rc;
+use termwiz_cell::cell::{AttributeChange, CellAttributes};
+use termwiz_cell::color::ColorAttribute;
+use termwiz_cell::hyperlink::Hyperlink;
+
+/// Decodes all attributes.
+#[tactic(auto, unfolding(crate::specs::Decoding::attributes_at))]
+pub(super) fn attributes_of(
+    alloc: Global,
+    reader: &mut Reader<'_>,
+) -> Result<CellAttributes, ReadError>
+    ensures { Gives (λ x. (x, reader.new.bytes.now)) result (attributes_at reader.old.bytes.now) }
+{
+    reader.array_of(5)?;
+    let number = style_of(reader)?;
+    let foreground = color_of(reader)?;
+    let background = color_of(reader)?;
+    let underline = color_of(reader)?;
+    let link = optional_link_of(alloc, reader)?;
+    let attrs = colored(
+        alloc,
+        styled(number),
+        foreground,
+        background,
+        underline,
+        link,
+    )?;
+    Ok(attrs)
+}
+
+fn colored(
+    alloc: Global,
+    mut attrs: CellAttributes,
+    foreground: ColorAttribute,
+    background: ColorAttribute,
+    underline: ColorAttribute,
+    link: Option<Rc<Hyperlink>>,
+) -> Result<CellAttributes, AllocError>
+    ensures { IfOk result (λ made. made ≡ record attrs {
+      foreground = foreground;
+      background = background;
+      underline_color = underline;
+      hyperlink = linked link;
+    }) }
+{
+    attrs.change_foreground(alloc, foreground)?;
+    attrs.change_background(alloc, background)?;
+    attrs.change_underline_color(alloc, underline)?;
+    attrs.change_hyperlink(alloc, link)?;
+    Ok(attrs)
+}
+
+/// Decodes a change of one attribute.
+#[tactic(auto, unfolding(crate::specs::Decoding::attribute_change_at))]
+pub(super) fn attribute_change_of(
+    alloc: Global,
+    reader: &mut Reader<'_>,
+) -> Result<AttributeChange, ReadError>
+    ensures { Gives (λ x. (attribute_change_value x, reader.new.bytes.now)) result
+        (attribute_change_at reader.old.bytes.now) }
+{
+    reader.array_of(2)?;
+    let change = match reader.unsigned()? {
+        0 => AttributeChange::Intensity(intensity_from(reader.below(3)?)),
+        1 => AttributeChange::Underline(underline_from(reader.below(6)?)),
+        2 => AttributeChange::Italic(reader.boolean()?),
+        3 => AttributeChange::Blink(blink_from(reader.below(3)?)),
+        4 => AttributeChange::Reverse(reader.boolean()?),
+        5 => AttributeChange::StrikeThrough(reader.boolean()?),
+        6 => AttributeChange::Invisible(reader.boolean()?),
+        7 => AttributeChange::Foreground(color_of(reader)?),
+        8 => AttributeChange::Background(color_of(reader)?),
+        9 => AttributeChange::Hyperlink(optional_link_of(alloc, reader)?),
+        _ => return Err(ReadError::Fault(Fault::Type)),
+    };
+    Ok(change)
+}

@@ -1,0 +1,189 @@
+//! Small attributes, colours and positions.
+ghost use Rattle.std.specs.Prelude.{◌≡◌, ◌<◌, ◌++◌, OnOk};
+ghost use Rattle.cbor.specs.Encoding.{array, unsigned};
+ghost use Rattle.termwiz_cell.specs.Shapes.{line_number, shape_number};
+ghost use Rattle.termwiz_cell.specs.Style.{blink_number, flag_number, intensity_number};
+ghost use Rattle.termwiz_cell.specs.Style.{semantic_number, underline_number, vertical_number};
+ghost use Rattle.termwiz_wire.specs.Encoding.{color, is_visible, position, style_number};
+ghost use Rattle.termwiz_wire.specs.Forms.{IsColor, IsPosition};
+
+use cbor::{put_array, put_null, put_signed, put_unsigned};
+use std::alloc::AllocError;
+use termwiz_cell::cell::{
+    Blink, CellAttributes, Intensity, SemanticType, Underline, VerticalAlign,
+};
+use termwiz_cell::change::{CursorShape, CursorVisibility, LineAttribute, Position};
+use termwiz_cell::color::ColorAttribute;
+
+pub(super) fn intensity_number(value: Intensity) -> usize
+    ensures value { result ≡ intensity_number value }
+    ensures small { result < 3 }
+{
+    match value {
+        Intensity::Normal => 0,
+        Intensity::Bold => 1,
+        Intensity::Half => 2,
+    }
+}
+
+pub(super) fn underline_number(value: Underline) -> usize
+    ensures value { result ≡ underline_number value }
+    ensures small { result < 6 }
+{
+    match value {
+        Underline::None => 0,
+        Underline::Single => 1,
+        Underline::Double => 2,
+        Underline::Curly => 3,
+        Underline::Dotted => 4,
+        Underline::Dashed => 5,
+    }
+}
+
+pub(super) fn blink_number(value: Blink) -> usize
+    ensures value { result ≡ blink_number value }
+    ensures small { result < 3 }
+{
+    match value {
+        Blink::None => 0,
+        Blink::Slow => 1,
+        Blink::Rapid => 2,
+    }
+}
+
+fn semantic_number(value: SemanticType) -> usize
+    ensures value { result ≡ semantic_number value }
+    ensures small { result < 3 }
+{
+    match value {
+        SemanticType::Output => 0,
+        SemanticType::Input => 1,
+        SemanticType::Prompt => 2,
+    }
+}
+
+fn vertical_number(value: VerticalAlign) -> usize
+    ensures value { result ≡ vertical_number value }
+    ensures small { result < 3 }
+{
+    match value {
+        VerticalAlign::BaseLine => 0,
+        VerticalAlign::SuperScript => 1,
+        VerticalAlign::SubScript => 2,
+    }
+}
+
+pub(super) fn shape_number(value: CursorShape) -> usize
+    ensures { result ≡ shape_number value }
+{
+    match value {
+        CursorShape::Default => 0,
+        CursorShape::BlinkingBlock => 1,
+        CursorShape::SteadyBlock => 2,
+        CursorShape::BlinkingUnderline => 3,
+        CursorShape::SteadyUnderline => 4,
+        CursorShape::BlinkingBar => 5,
+        CursorShape::SteadyBar => 6,
+    }
+}
+
+pub(super) fn line_number(value: LineAttribute) -> usize
+    ensures { result ≡ line_number value }
+{
+    match value {
+        LineAttribute::DoubleHeightTopHalfLine => 0,
+        LineAttribute::DoubleHeightBottomHalfLine => 1,
+        LineAttribute::DoubleWidthLine => 2,
+        LineAttribute::SingleWidthLine => 3,
+    }
+}
+
+pub(super) fn is_visible(value: CursorVisibility) -> bool
+    ensures { result ≡ is_visible value }
+{
+    match value {
+        CursorVisibility::Hidden => false,
+        CursorVisibility::Visible => true,
+    }
+}
+
+fn flag_number(on: bool) -> usize
+    ensures value { result ≡ flag_number on }
+    ensures small { result < 2 }
+{
+    if on { 1 } else { 0 }
+}
+
+/// The small attributes in their bit fields, the lowest first.
+pub(super) fn style_number(attrs: &CellAttributes) -> usize
+    ensures { result ≡ style_number attrs.now }
+{
+    let vertical = vertical_number(attrs.vertical_align());
+    let semantic = semantic_number(attrs.semantic_type()) + 4 * vertical;
+    let overline = flag_number(attrs.overline()) + 2 * semantic;
+    let wrapped = flag_number(attrs.wrapped()) + 2 * overline;
+    let invisible = flag_number(attrs.invisible()) + 2 * wrapped;
+    let struck = flag_number(attrs.strikethrough()) + 2 * invisible;
+    let reverse = flag_number(attrs.reverse()) + 2 * struck;
+    let italic = flag_number(attrs.italic()) + 2 * reverse;
+    let blink = blink_number(attrs.blink()) + 4 * italic;
+    let underline = underline_number(attrs.underline()) + 8 * blink;
+    intensity_number(attrs.intensity()) + 4 * underline
+}
+
+/// Appends a kind and the head of the array that it shares with one value, which is to follow.
+pub(super) fn put_kind(out: &mut Vec<u8>, kind: usize) -> Result<(), AllocError>
+    ensures { OnOk result (out.new.items ≡ out.old.items ++ array 2 ++ unsigned kind) }
+{
+    put_array(out, 2)?;
+    put_unsigned(out, kind)
+}
+
+/// Appends a colour.
+#[tactic(auto, unfolding(crate::specs::Encoding::color))]
+pub(super) fn put_color(out: &mut Vec<u8>, value: ColorAttribute) -> Result<(), AllocError>
+    ensures written { OnOk result (out.new.items ≡ out.old.items ++ color value) }
+    ensures form { OnOk result (IsColor value) }
+{
+    match value {
+        ColorAttribute::Default => put_null(out),
+        ColorAttribute::PaletteIndex(index) => put_unsigned(out, index as usize),
+        ColorAttribute::TrueColorWithDefaultFallback(color) => {
+            let (red, green, blue) = color.to_tuple_rgb8();
+            put_array(out, 3)?;
+            put_unsigned(out, red as usize)?;
+            put_unsigned(out, green as usize)?;
+            put_unsigned(out, blue as usize)
+        }
+        ColorAttribute::TrueColorWithPaletteFallback(color, index) => {
+            let (red, green, blue) = color.to_tuple_rgb8();
+            put_array(out, 4)?;
+            put_unsigned(out, red as usize)?;
+            put_unsigned(out, green as usize)?;
+            put_unsigned(out, blue as usize)?;
+            put_unsigned(out, index as usize)
+        }
+    }
+}
+
+/// Appends a column or a row.
+#[tactic(auto, unfolding(crate::specs::Encoding::position))]
+pub(super) fn put_position(out: &mut Vec<u8>, at: Position) -> Result<(), AllocError>
+    ensures written { OnOk result (out.new.items ≡ out.old.items ++ position at) }
+    ensures form { IsPosition at }
+{
+    match at {
+        Position::Relative(distance) => {
+            put_kind(out, 0)?;
+            put_signed(out, distance)
+        }
+        Position::Absolute(number) => {
+            put_kind(out, 1)?;
+            put_unsigned(out, number)
+        }
+        Position::EndRelative(number) => {
+            put_kind(out, 2)?;
+            put_unsigned(out, number)
+        }
+    }
+}

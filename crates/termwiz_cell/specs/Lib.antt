@@ -35,21 +35,21 @@ pub use Rattle.std.specs.Fmt.{WritesOnOk}
 pub use Rattle.std.specs.Int.{int_rem_euclid, w64}
 pub use Rattle.std.specs.Int.RustNames.{FitsSigned, int_rem}
 pub use Rattle.std.specs.List.{list_all}
-pub use Rattle.std.specs.Prelude.{IfErr, IfOk, IfSome, IsNone, IsOk, IsSome, IsTrue, IsUtf8, MatchOption, MatchResult, None, OnErr, OnOk, Some, [], bytes_eq, codes, encode_utf8, false, length, map, not, option_map, pos, string_bytes, true, unwrap_or, ℕ, ℤ, ◌%◌, ◌&&◌, ◌*◌, ◌++◌, ◌+ℤ◌, ◌+◌, ◌-ℤ◌, ◌-◌, ◌/◌, ◌<◌, ◌^◌, ◌↔◌, ◌∷◌, ◌≡◌, ◌≢◌, ◌≤ℤ◌, ◌≤◌}
+pub use Rattle.std.specs.Prelude.{IfErr, IfOk, IfSome, IsOk, IsTrue, IsUtf8, None, OnErr, OnOk, Some, bytes_eq, codes, false, length, map, not, pos, true, ℤ}
 pub use Rattle.std.specs.Str.{chars}
 pub use Rattle.termwiz_cell.specs.AnsiColor.{ansi_index}
-pub use Rattle.termwiz_cell.specs.AttributeChangeValue.{attribute_change_eq, attribute_change_eq-Decides, attribute_change_value, is_link}
-pub use Rattle.termwiz_cell.specs.Attributes.{attributes_eq, attributes_eq-Decides, color_eq, default_attributes, is_default, needs_box, option_link_eq}
+pub use Rattle.termwiz_cell.specs.AttributeChangeValue.{attribute_change_eq, attribute_change_eq-Decides, attribute_change_value, is_link, takes_memory, with_attribute}
+pub use Rattle.termwiz_cell.specs.Attributes.{attributes_eq, attributes_eq-Decides, bits_of, color_eq, default_attributes, has_only_background, is_default, needs_box, option_link_eq, sgr_only, without_colors}
 pub use Rattle.termwiz_cell.specs.CellLayout.{HasTextForm, text_in, wide_in}
 pub use Rattle.termwiz_cell.specs.CellValue.{blank, blank_of, cell_eq, cell_eq-Decides, cell_of, clean, columns, is_wide, measured, plain_cell, space}
 pub use Rattle.termwiz_cell.specs.ChangeValue.{Attribute, LineAttribute, Text, change_eq, change_eq-Decides, change_value, copy_takes_memory, is_text, position_eq, scroll_eq, visibility_eq}
-pub use Rattle.termwiz_cell.specs.ColorText.{IsByte, IsDigit, IsHexColor, IsPart, IsX11Color, color_of, rgb_text, x11_text}
+pub use Rattle.termwiz_cell.specs.ColorText.{IsByte, IsColorText, IsDigit, IsHexColor, IsPart, IsX11Color, color_of, rgb_text, x11_text}
 pub use Rattle.termwiz_cell.specs.Link.{link_eq, link_eq-Decides, linked, param_bytes, param_eq}
 pub use Rattle.termwiz_cell.specs.LinkPairs.{are_pairs, has_equals, pair_of, params_of, with_pair}
 pub use Rattle.termwiz_cell.specs.LinkParse.{AreEmpty, ArePrinted, AreTexts, HasPairs, ReadsLink, SpellsOnly, part}
 pub use Rattle.termwiz_cell.specs.LinkText.{AreInOrder, IsReadable, link_text, params_text}
 pub use Rattle.termwiz_cell.specs.Measure.{measure}
-pub use Rattle.termwiz_cell.specs.Sequence.{aim, cell_place, grapheme_place, position_place, printed_columns, text_place}
+pub use Rattle.termwiz_cell.specs.Sequence.{AddsAll, AddsOne, DistancesFit, IsSequence, MovesTo, RowFits, SequenceValue, aim, cell_place, grapheme_place, move_by, place_after, position_place, printed_columns, text_place}
 pub use Rattle.termwiz_cell.specs.Shapes.{is_blinking_shape, line_attribute_eq, shape_eq}
 pub use Rattle.termwiz_cell.specs.Style.{blink_at, blink_eq, blink_number, flag_number, intensity_at, intensity_eq, intensity_number, semantic_at, semantic_number, underline_at, underline_eq, underline_number, vertical_at, vertical_number}
 pub use Rattle.termwiz_cell.specs.StyleLending.{LendsStyle}
@@ -58,3 +58,5 @@ pub use Rattle.termwiz_cell.specs.Width.{at_version, columns_of, unicode_columns
 pub use Rattle.termwiz_cell.specs.declared.change.sequence.SequenceError.TheVariants.{Range}
 pub use Rattle.termwiz_text.specs.Plain.{is_one_plain, is_plain}
 pub use Rattle.unicode_segmentation.specs.Grapheme.{graphemes}
+pub use Rattle.termwiz_cell.specs.Lending.{LendsAttrs}
+pub use Rattle.termwiz_cell.specs.Rgb.{Rgb, rgb}

@@ -1,9 +1,10 @@
 //! Cells.
-ghost use Rattle.termwiz_cell.specs.{◌≡◌, ◌↔◌, ◌≤◌, ◌&&◌, IfOk, IfSome, IsOk, IsTrue, MatchOption};
-ghost use Rattle.termwiz_cell.specs.{at_version, blank, blank_of, cell_eq, cell_eq-Decides, clean};
-ghost use Rattle.termwiz_cell.specs.{cell_of, columns, decided, encode_utf8, false, is_one_plain};
-ghost use Rattle.termwiz_cell.specs.{is_plain, is_wide, length, measure, measured, needs_box, not};
-ghost use Rattle.termwiz_cell.specs.{partial_equiv_from_equiv, plain_cell, sem, true, unwrap_or};
+ghost use Rattle.std.specs.Prelude.{◌≡◌, ◌↔◌, ◌≤◌, ◌&&◌, IfOk, MatchOption, encode_utf8, unwrap_or};
+ghost use Rattle.termwiz_cell.specs.{IfSome, IsOk, IsTrue, LendsAttrs, at_version, blank, blank_of};
+ghost use Rattle.termwiz_cell.specs.{cell_eq, cell_eq-Decides, cell_of, clean, columns, decided};
+ghost use Rattle.termwiz_cell.specs.{false, is_one_plain, is_plain, is_wide, length, measure, not};
+ghost use Rattle.termwiz_cell.specs.{measured, needs_box, partial_equiv_from_equiv, plain_cell};
+ghost use Rattle.termwiz_cell.specs.{sem, true};
 
 mod attribute_change;
 mod attributes;
@@ -51,8 +52,6 @@ impl Model for Cell {
 }
 
 impl Cell {
-    ghost use Rattle.termwiz_cell.specs.Lending.{LendsAttrs};
-
     /// The cell of a character, as wide as the width value says. It never fails.
     #[tactic(auto, using(crate::proofs::Cleaned::length_clean))]
     pub fn new<W: Widths>(

@@ -1,9 +1,10 @@
 //! The changes of a surface, and how places and changes are numbered.
-ghost use Rattle.termwiz_cell.specs.{◌≡◌, ◌↔◌, Attribute, IfOk, IsTrue, LineAttribute, Text, false};
-ghost use Rattle.termwiz_cell.specs.{attribute_change_value, change_eq, change_eq-Decides, decided};
-ghost use Rattle.termwiz_cell.specs.{change_value, copy_takes_memory, is_blinking_shape, is_text};
-ghost use Rattle.termwiz_cell.specs.{line_attribute_eq, on_equiv, on_per, partial_equiv_from_equiv};
-ghost use Rattle.termwiz_cell.specs.{position_eq, scroll_eq, shape_eq, string_bytes, visibility_eq};
+ghost use Rattle.std.specs.Prelude.{◌≡◌, ◌↔◌, IfOk, IsTrue, false, string_bytes};
+ghost use Rattle.termwiz_cell.specs.{Attribute, LineAttribute, Text, attribute_change_value};
+ghost use Rattle.termwiz_cell.specs.{change_eq, change_eq-Decides, change_value, copy_takes_memory};
+ghost use Rattle.termwiz_cell.specs.{decided, is_blinking_shape, is_text, line_attribute_eq};
+ghost use Rattle.termwiz_cell.specs.{on_equiv, on_per, partial_equiv_from_equiv, position_eq};
+ghost use Rattle.termwiz_cell.specs.{scroll_eq, shape_eq, visibility_eq};
 
 mod sequence;
 

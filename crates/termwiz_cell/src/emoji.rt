@@ -1,6 +1,7 @@
 //! How wide texts are, and how they are shown.
-ghost use Rattle.termwiz_cell.specs.{◌≡◌, at_version, chars, columns_of, false, is_whitespace};
-ghost use Rattle.termwiz_cell.specs.{list_all, unicode_columns};
+ghost use Rattle.std.specs.Prelude.{◌≡◌, false};
+ghost use Rattle.termwiz_cell.specs.{at_version, chars, columns_of, is_whitespace, list_all};
+ghost use Rattle.termwiz_cell.specs.{unicode_columns};
 ghost use Rattle.termwiz_cell.specs.Width as spec;
 
 use termwiz_text::{Graphemes, is_one_letter, is_one_plain};

@@ -1,11 +1,11 @@
 //! Links: a target, parameters, and the texts in which escape sequences carry them.
 mod params;
 
-ghost use Rattle.termwiz_cell.specs.{◌≡◌, ◌≢◌, ◌↔◌, [], ◌∷◌, AreEmpty, AreInOrder, ArePrinted, map};
-ghost use Rattle.termwiz_cell.specs.{AreTexts, HasPairs, IfOk, IfSome, IsReadable, IsTrue, IsUtf8};
-ghost use Rattle.termwiz_cell.specs.{MatchResult, None, ReadsLink, Some, SpellsOnly, codes, false};
-ghost use Rattle.termwiz_cell.specs.{decided, length, link_eq, link_eq-Decides, link_text, part};
-ghost use Rattle.termwiz_cell.specs.{param_bytes, partial_equiv_from_equiv, string_bytes, true};
+ghost use Rattle.std.specs.Prelude.{◌≡◌, ◌≢◌, ◌↔◌, ◌∷◌, [], IfSome, MatchResult, map, string_bytes};
+ghost use Rattle.termwiz_cell.specs.{AreEmpty, AreInOrder, ArePrinted, AreTexts, HasPairs, IfOk};
+ghost use Rattle.termwiz_cell.specs.{IsReadable, IsTrue, IsUtf8, None, ReadsLink, Some, SpellsOnly};
+ghost use Rattle.termwiz_cell.specs.{codes, decided, false, length, link_eq, link_eq-Decides, part};
+ghost use Rattle.termwiz_cell.specs.{link_text, param_bytes, partial_equiv_from_equiv, true};
 ghost use Rattle.termwiz_cell.specs.Link.{Link};
 
 use params::{clone_params, has_same_params, is_pairs, read_params, write_params};

@@ -34,10 +34,10 @@ pub use Rattle.std.specs.Cow.{IsBorrowedStr, cow_str_bytes}
 pub use Rattle.std.specs.Fn.{FnReturnsAt}
 pub use Rattle.std.specs.List.{All, list_all, list_any}
 pub use Rattle.std.specs.Option.{option_copied}
-pub use Rattle.std.specs.Prelude.{Bool, IfOk, IfSome, IsOk, IsOkAnd, IsSome, IsTrue, List, None, OnErr, OnOk, Some, [], bytes_eq, codes, drop, false, if◌then◌else◌, length, map, max, nat_lt, not, option_map, replicate, slice_index_or, string_bytes, take, true, ℕ, ⊤, ◌&&◌, ◌++◌, ◌+◌, ◌-◌, ◌<◌, ◌==◌, ◌^◌, ◌||◌, ◌↔◌, ◌∷◌, ◌≡◌, ◌≢◌, ◌≤◌, ◌⊎◌}
+pub use Rattle.std.specs.Prelude.{IfOk, IfSome, IsOk, IsOkAnd, IsSome, IsTrue, List, None, OnErr, OnOk, Some, drop, false, length, map, max, nat_lt, not, take, true}
 pub use Rattle.std.specs.Str.{chars}
 pub use Rattle.termwiz_cell.specs.Attributes.{attributes_eq, default_attributes, needs_box}
-pub use Rattle.termwiz_cell.specs.CellValue.{blank, blank_of, cell_of, columns, half, measured, space}
+pub use Rattle.termwiz_cell.specs.CellValue.{blank, blank_of, cell_of, columns, measured, space}
 pub use Rattle.termwiz_cell.specs.ChangeValue.{change_value, is_text}
 pub use Rattle.termwiz_cell.specs.Measure.{measure}
 pub use Rattle.termwiz_cell.specs.Width.{at_version}

@@ -1,8 +1,8 @@
 //! Clusters: the pieces of a line in which a shaper finds the glyphs of its text.
-ghost use Rattle.termwiz_line.specs.{◌≡◌, ◌<◌, ◌↔◌, [], ◌∷◌, AreClusters, ClusterValue, IfOk, OnOk};
-ghost use Rattle.termwiz_line.specs.{IsOfCell, IsTrue, cells_left, cluster_of, columns, length};
-ghost use Rattle.termwiz_line.specs.{indexed_cell, look_of, ref_cell, slice_index_or, with_cell};
-ghost use Rattle.termwiz_line.specs.{unmarked_attributes};
+ghost use Rattle.std.specs.Prelude.{◌≡◌, ◌<◌, ◌↔◌, ◌∷◌, [], IfOk, IsTrue, length, slice_index_or};
+ghost use Rattle.termwiz_line.specs.{AreClusters, ClusterValue, IsOfCell, OnOk, cells_left};
+ghost use Rattle.termwiz_line.specs.{cluster_of, columns, indexed_cell, look_of, ref_cell};
+ghost use Rattle.termwiz_line.specs.{unmarked_attributes, with_cell};
 
 use crate::line::bidi::Direction;
 use std::alloc::{AllocError, Global};

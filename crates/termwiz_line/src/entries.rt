@@ -1,5 +1,6 @@
 //! Row entries: the changes that print rows of visible cells, written cell by cell.
-ghost use Rattle.termwiz_line.specs.{◌≡◌, IfOk, cells_left, penned_value};
+ghost use Rattle.std.specs.Prelude.{◌≡◌, IfOk};
+ghost use Rattle.termwiz_line.specs.{cells_left, penned_value};
 ghost use Rattle.termwiz_line.specs.Entries as spec;
 
 mod list;

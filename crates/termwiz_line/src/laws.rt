@@ -1,11 +1,12 @@
 //! What rows, edits and cuts are: laws of the definitions that the contracts cite, each on a
 //! function that does nothing.
-ghost use Rattle.termwiz_line.specs.{◌≡◌, AllColumnsShow, BytesTellTheirCells, CellsHaveRow, true};
-ghost use Rattle.termwiz_line.specs.{ClearClears, ClearPast, ClustersAreOne, ClustersJoin};
-ghost use Rattle.termwiz_line.specs.{DoubleClickRange, EqualInAnyForm, PaintPaints, ResizedIsRow};
-ghost use Rattle.termwiz_line.specs.{PruningKeepsRow, SetCellPaints, StoredAgainShows, WalkGrows};
-ghost use Rattle.termwiz_line.specs.{VisibleFixesRow, VisibleFixesRowOf, WholeIsVisible};
-ghost use Rattle.termwiz_line.specs.{WrapsAreAlike, WrapsAreOne, ZonesAreOne};
+ghost use Rattle.std.specs.Prelude.{◌≡◌, true};
+ghost use Rattle.termwiz_line.specs.{AllColumnsShow, BytesTellTheirCells, CellsHaveRow, ClearPast};
+ghost use Rattle.termwiz_line.specs.{ClearClears, ClustersAreOne, ClustersJoin, DoubleClickRange};
+ghost use Rattle.termwiz_line.specs.{EqualInAnyForm, PaintPaints, PruningKeepsRow, ResizedIsRow};
+ghost use Rattle.termwiz_line.specs.{SetCellPaints, StoredAgainShows, VisibleFixesRow, WalkGrows};
+ghost use Rattle.termwiz_line.specs.{VisibleFixesRowOf, WholeIsVisible, WrapsAreAlike, WrapsAreOne};
+ghost use Rattle.termwiz_line.specs.{ZonesAreOne};
 
 use crate::line::line::DoubleClickRange;
 

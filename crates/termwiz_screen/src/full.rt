@@ -1,8 +1,8 @@
 //! Full screens: copies of what surfaces show and of what they keep beside it.
-ghost use Rattle.termwiz_screen.specs.{◌≡◌, ◌↔◌, IfOk, IsTrue, bytes_eq, color_eq, decided, map};
-ghost use Rattle.termwiz_screen.specs.{full_eq, full_eq-Decides, full_value, line_attribute};
-ghost use Rattle.termwiz_screen.specs.{line_attribute_eq, on_equiv, on_per, pointwise, row_flags};
-ghost use Rattle.termwiz_screen.specs.{partial_equiv_from_equiv, shape_eq, shape_of};
+ghost use Rattle.std.specs.Prelude.{◌≡◌, ◌↔◌, IfOk, IsTrue, bytes_eq, map};
+ghost use Rattle.termwiz_screen.specs.{line_attribute, line_attribute_eq, partial_equiv_from_equiv};
+ghost use Rattle.termwiz_screen.specs.{color_eq, full_eq-Decides, full_value, pointwise, row_flags};
+ghost use Rattle.termwiz_screen.specs.{decided, full_eq, on_equiv, on_per, shape_eq, shape_of};
 
 use crate::screen::Screen;
 use std::alloc::{AllocError, Global};

@@ -1,10 +1,10 @@
 //! Laws of the definitions that contracts cite, each on a function that does nothing.
-ghost use Rattle.termwiz_screen.specs.{ChangesMakeFullScreens, FullRepaintGivesScreen, CutIsInside};
+ghost use Rattle.termwiz_screen.specs.{ChangesMakeFullScreens, CutIsInside, FullRepaintGivesScreen};
 ghost use Rattle.termwiz_screen.specs.{FewestNarrowPrints, FullRepaintIsShort, LineEntriesGiveRow};
-ghost use Rattle.termwiz_screen.specs.{RepaintGivesScreen, LinesArePrintable, ResizedKeepsLines};
+ghost use Rattle.termwiz_screen.specs.{LinesArePrintable, RepaintGivesScreen, ResizedKeepsLines};
 ghost use Rattle.termwiz_screen.specs.{DiffGivesRegion, DrawingRestores, NeedGivesRegion, NeedIs};
-ghost use Rattle.termwiz_screen.specs.{TextsScrollRows, FullStepsAreSo, MovesLeadThere};
-ghost use Rattle.termwiz_screen.specs.{RepaintIsShort, TextsMoveAlike, DiffGivesBand, FewestPrints};
+ghost use Rattle.termwiz_screen.specs.{FullStepsAreSo, MovesLeadThere, TextsScrollRows};
+ghost use Rattle.termwiz_screen.specs.{DiffGivesBand, FewestPrints, RepaintIsShort, TextsMoveAlike};
 ghost use Rattle.termwiz_screen.specs.{DiffGivesRows, NeedGivesRows, PrintsAreDiff, RegionIsDiff};
 
 /// What a repaint and the entries of a line do when they are replayed.

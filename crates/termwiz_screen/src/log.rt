@@ -1,8 +1,8 @@
 //! The log of a surface: the changes that were made, by their numbers.
-ghost use Rattle.termwiz_screen.specs.{◌≡◌, ◌+◌, ◌-◌, ◌^◌, ◌<◌, ◌≤◌, ◌∷◌, [], IfSome, IsNone, IsOk};
-ghost use Rattle.termwiz_screen.specs.{OnErr, OnOk, appended, change_value, delta_limit, drop, due};
-ghost use Rattle.termwiz_screen.specs.{false, flushed, is_known, length, map, min, nat_lt, reaches};
-ghost use Rattle.termwiz_screen.specs.{next_number, restarted, true, vec_len};
+ghost use Rattle.std.specs.Prelude.{◌≡◌, ◌+◌, ◌-◌, ◌^◌, ◌<◌, ◌≤◌, ◌∷◌, [], length, nat_lt, vec_len};
+ghost use Rattle.termwiz_screen.specs.{IfSome, IsNone, IsOk, OnErr, OnOk, appended, change_value};
+ghost use Rattle.termwiz_screen.specs.{delta_limit, drop, due, false, flushed, is_known, map, min};
+ghost use Rattle.termwiz_screen.specs.{next_number, reaches, restarted, true};
 
 use std::alloc::{AllocError, Global};
 use std::marker::Model;

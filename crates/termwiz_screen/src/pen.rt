@@ -1,5 +1,6 @@
 //! Pens: the attributes of coming texts and of cleared columns.
-ghost use Rattle.termwiz_screen.specs.{◌≡◌, IfOk, blank_of, with_background};
+ghost use Rattle.std.specs.Prelude.{◌≡◌, IfOk};
+ghost use Rattle.termwiz_screen.specs.{blank_of, with_background};
 
 use std::alloc::{AllocError, Global};
 use termwiz_cell::cell::{Cell, CellAttributes};

@@ -1,5 +1,6 @@
 //! Where positions take a cursor.
-ghost use Rattle.termwiz_screen.specs.{◌≡◌, ◌<◌, moved, place_column, place_row};
+ghost use Rattle.std.specs.Prelude.{◌≡◌, ◌<◌};
+ghost use Rattle.termwiz_screen.specs.{moved, place_column, place_row};
 
 use termwiz_cell::change::Position;
 

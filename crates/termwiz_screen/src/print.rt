@@ -1,9 +1,9 @@
 //! Texts: their graphemes, the cells that these print, and the runs of ASCII and of letters that
 //! they begin with.
-ghost use Rattle.termwiz_screen.specs.{◌≡◌, ◌≤◌, [], ◌∷◌, AreLetters, AreNarrow, AreWide, IfOk};
-ghost use Rattle.termwiz_screen.specs.{IsMeasured, IsMeasuredPiece, IsNarrowRun, IsWideRun, chars};
-ghost use Rattle.termwiz_screen.specs.{graphemes, is_plain, length, list_all, measure, measured};
-ghost use Rattle.termwiz_screen.specs.{piece_of, printed_cell, take, true};
+ghost use Rattle.std.specs.Prelude.{◌≡◌, ◌≤◌, ◌∷◌, [], IfOk, length, take, true};
+ghost use Rattle.termwiz_screen.specs.{AreLetters, AreNarrow, AreWide, IsMeasured, IsMeasuredPiece};
+ghost use Rattle.termwiz_screen.specs.{IsNarrowRun, IsWideRun, chars, graphemes, is_plain, measure};
+ghost use Rattle.termwiz_screen.specs.{list_all, measured, piece_of, printed_cell};
 
 use std::alloc::{AllocError, Global};
 use termwiz_cell::cell::{Cell, CellAttributes};

@@ -1,8 +1,8 @@
 //! Repaints: the changes that bring any screen of that size to the one that rows show.
-ghost use Rattle.termwiz_screen.specs.{◌≡◌, ◌-◌, ◌<◌, ◌≤◌, ◌++◌, ◌∷◌, [], ◌&&◌, if◌then◌else◌, map};
-ghost use Rattle.termwiz_screen.specs.{◌==◌, AreApart, ArePaddable, ChangeValue, IfOk, IsBeforeRow};
-ghost use Rattle.termwiz_screen.specs.{IsPaddable, IsWrittenUpto, List, OnOk, attributes_eq, blank};
-ghost use Rattle.termwiz_screen.specs.{behind, cells_of, change_value, clears, color_eq, cursor_at};
+ghost use Rattle.std.specs.Prelude.{◌≡◌, ◌-◌, ◌<◌, ◌≤◌, ◌++◌, ◌∷◌, ◌&&◌, if◌then◌else◌, ◌==◌, []};
+ghost use Rattle.termwiz_screen.specs.{AreApart, ArePaddable, ChangeValue, IfOk, IsBeforeRow, List};
+ghost use Rattle.termwiz_screen.specs.{IsPaddable, IsWrittenUpto, OnOk, attributes_eq, behind, map};
+ghost use Rattle.termwiz_screen.specs.{blank, cells_of, change_value, clears, color_eq, cursor_at};
 ghost use Rattle.termwiz_screen.specs.{default_attributes, false, has_only_background, is_text};
 ghost use Rattle.termwiz_screen.specs.{last_is, length, not, option_copied, penned_value, row_of};
 ghost use Rattle.termwiz_screen.specs.{true, visible_upto};

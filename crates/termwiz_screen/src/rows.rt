@@ -1,14 +1,14 @@
 //! The rows of a surface: lines that all have the number 0.
-ghost use Rattle.termwiz_screen.specs.{◌≡◌, ◌+◌, [], ◌∷◌, ◌-◌, ◌<◌, ◌≤◌, ◌++◌, with_line_attribute};
-ghost use Rattle.termwiz_screen.specs.{region_reversed, ArePartlyReset, deque_capacity, AreLetters};
-ghost use Rattle.termwiz_screen.specs.{resized_stored, slice_index_or, cuts_in_place, screen_chars};
-ghost use Rattle.termwiz_screen.specs.{region_turned, resized_flags, string_bytes, region_down, ℕ};
-ghost use Rattle.termwiz_screen.specs.{set_letters, AreVectors, numberless, painted_in, AreFilled};
-ghost use Rattle.termwiz_screen.specs.{ArePartly, KeepSides, KeepsSide, deque_len, needs_box, IfOk};
-ghost use Rattle.termwiz_screen.specs.{region_up, replicate, row_chars, row_flags, slice_set, OnOk};
-ghost use Rattle.termwiz_screen.specs.{IsPartly, IsPruned, cells_of, in_width, is_plain, list_all};
-ghost use Rattle.termwiz_screen.specs.{no_flags, scrolled, copy_in, resized, set_run, length, drop};
-ghost use Rattle.termwiz_screen.specs.{row_at, OnErr, blank, chars, false, fill, take, true, map};
+ghost use Rattle.std.specs.Prelude.{◌≡◌, ◌+◌, ◌∷◌, ◌-◌, ◌<◌, ◌≤◌, ◌++◌, [], length, slice_index_or};
+ghost use Rattle.termwiz_screen.specs.{AreFilled, AreLetters, ArePartly, ArePartlyReset, IfOk, map};
+ghost use Rattle.termwiz_screen.specs.{AreVectors, IsPartly, IsPruned, KeepSides, KeepsSide, OnErr};
+ghost use Rattle.termwiz_screen.specs.{OnOk, blank, cells_of, chars, copy_in, cuts_in_place, drop};
+ghost use Rattle.termwiz_screen.specs.{deque_capacity, deque_len, false, fill, in_width, is_plain};
+ghost use Rattle.termwiz_screen.specs.{list_all, needs_box, no_flags, numberless, painted_in, take};
+ghost use Rattle.termwiz_screen.specs.{region_down, region_reversed, region_turned, region_up, ℕ};
+ghost use Rattle.termwiz_screen.specs.{replicate, resized, resized_flags, resized_stored, row_at};
+ghost use Rattle.termwiz_screen.specs.{row_chars, row_flags, screen_chars, scrolled, set_letters};
+ghost use Rattle.termwiz_screen.specs.{set_run, slice_set, string_bytes, true, with_line_attribute};
 
 use std::alloc::{AllocError, Global};
 use std::collections::VecDeque;

@@ -1,7 +1,8 @@
 //! Screens: copies of what surfaces show.
-ghost use Rattle.termwiz_screen.specs.{◌≡◌, ◌↔◌, IsTrue, cells_of, decided, on_equiv, on_per};
-ghost use Rattle.termwiz_screen.specs.{partial_equiv_from_equiv, rows_eq, screen_eq, screen_value};
-ghost use Rattle.termwiz_screen.specs.{screen_eq-Decides, visibility_eq};
+ghost use Rattle.std.specs.Prelude.{◌≡◌, ◌↔◌, IsTrue};
+ghost use Rattle.termwiz_screen.specs.{cells_of, decided, on_equiv, on_per, rows_eq, screen_eq};
+ghost use Rattle.termwiz_screen.specs.{partial_equiv_from_equiv, screen_eq-Decides, screen_value};
+ghost use Rattle.termwiz_screen.specs.{visibility_eq};
 
 use termwiz_cell::cell::CellAttributes;
 use termwiz_cell::change::CursorVisibility;

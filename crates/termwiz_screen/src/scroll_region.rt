@@ -1,6 +1,6 @@
 //! Whether the regions of scrolls lie on a surface.
-ghost use Rattle.termwiz_screen.specs.{◌≡◌, ◌+◌, change_value, map, nat_le, region_fits};
-ghost use Rattle.termwiz_screen.specs.{regions_fit};
+ghost use Rattle.std.specs.Prelude.{◌≡◌, ◌+◌, map, nat_le};
+ghost use Rattle.termwiz_screen.specs.{change_value, region_fits, regions_fit};
 
 use termwiz_cell::change::Change;
 

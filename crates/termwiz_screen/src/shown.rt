@@ -1,7 +1,8 @@
 //! What rows show up to the width: past the stored cells, default blanks.
-ghost use Rattle.termwiz_screen.specs.{◌≡◌, ◌-◌, ◌<◌, IsPaddable, attributes_eq, beq, blank, false};
-ghost use Rattle.termwiz_screen.specs.{blank_of, cell_eq, columns, default_attributes, is_wide};
-ghost use Rattle.termwiz_screen.specs.{pointwise, ref_cell, ref_width, replicate, row_of, stored};
+ghost use Rattle.std.specs.Prelude.{◌≡◌, ◌-◌, ◌<◌, false, replicate};
+ghost use Rattle.termwiz_screen.specs.{IsPaddable, attributes_eq, beq, blank, blank_of, cell_eq};
+ghost use Rattle.termwiz_screen.specs.{columns, default_attributes, is_wide, pointwise, ref_cell};
+ghost use Rattle.termwiz_screen.specs.{ref_width, row_of, stored};
 
 use termwiz_cell::cell::{Cell, CellAttributes};
 use termwiz_line::line::line::Line;

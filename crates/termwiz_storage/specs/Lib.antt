@@ -22,7 +22,7 @@ pub use Rattle.std.specs.Cmp.{decided, on_equiv, on_per, partial_equiv_from_equi
 pub use Rattle.std.specs.Iterator.{item_count}
 pub use Rattle.std.specs.List.{insert, last_or, list_all, list_any, remove, slice_get}
 pub use Rattle.std.specs.Option.{is_some, option_copied, unwrap_or}
-pub use Rattle.std.specs.Prelude.{IfOk, IfSome, IsOk, IsSome, IsTrue, MatchOption, None, OnErr, OnOk, Some, [], drop, false, if◌then◌else◌, length, map, nat_le, not, option_map, replicate, slice_set, string_bytes, string_capacity, string_len, take, true, vec_capacity, vec_len, ◌&&◌, ◌*◌, ◌++◌, ◌+◌, ◌-◌, ◌<◌, ◌^◌, ◌↔◌, ◌∷◌, ◌≡◌, ◌≢◌, ◌≤◌}
+pub use Rattle.std.specs.Prelude.{IfOk, IfSome, IsOk, IsSome, IsTrue, MatchOption, None, OnErr, OnOk, Some, drop, false, length, map, nat_le, not, option_map, replicate, slice_set, string_bytes, string_len, take, true, vec_capacity, vec_len}
 pub use Rattle.std.specs.Str.{chars}
 pub use Rattle.termwiz_cell.specs.Attributes.{default_attributes, needs_box}
 pub use Rattle.termwiz_cell.specs.CellValue.{blank, blank_of, cell_of, clean, columns, half, is_wide, plain_cell, space}

@@ -1,8 +1,9 @@
 //! Runs of events on a surface.
-ghost use Rattle.termwiz_surface.specs.{◌≡◌, ◌^◌, ◌<◌, Acts, All, Allows, Follows, IfOk, IfSome};
-ghost use Rattle.termwiz_surface.specs.{IsFullSchedule, IsInRange, IsNone, IsSchedule, KeepsNames};
-ghost use Rattle.termwiz_surface.specs.{IsScheduleOf, KeepsViewers, OnOk, Tells, Views, map};
-ghost use Rattle.termwiz_surface.specs.{change_value, cow_slice_items, measure, with_empty_log};
+ghost use Rattle.std.specs.Prelude.{◌≡◌, ◌^◌, ◌<◌, IfOk, OnOk, map};
+ghost use Rattle.termwiz_surface.specs.{Acts, All, Allows, Follows, IfSome, IsFullSchedule, IsNone};
+ghost use Rattle.termwiz_surface.specs.{IsInRange, IsSchedule, IsScheduleOf, KeepsNames, Tells};
+ghost use Rattle.termwiz_surface.specs.{KeepsViewers, Views, change_value, cow_slice_items};
+ghost use Rattle.termwiz_surface.specs.{measure, with_empty_log};
 ghost use Rattle.termwiz_surface_core.specs.SurfaceValue.{SurfaceValue};
 
 mod many;

@@ -12,7 +12,7 @@ pub mod Carried
 -- what the contracts of this crate use, by its name alone
 pub use Rattle.std.specs.Cow.{IsBorrowedSlice, IsOwnedSlice}
 pub use Rattle.std.specs.List.{All, list_all}
-pub use Rattle.std.specs.Prelude.{Err, IfOk, IsOk, IsOkAnd, None, OnErr, OnOk, Some, [], encode_utf8, false, if◌then◌else◌, length, map, min, not, replicate, slice_index_or, slice_set, string_bytes, true, vec_len, ℕ, ◌*◌, ◌+◌, ◌-◌, ◌<◌, ◌==◌, ◌^◌, ◌∷◌, ◌≡◌, ◌≤◌}
+pub use Rattle.std.specs.Prelude.{IfOk, IsOk, OnErr, OnOk, Some, false, length, map, not, true, ℕ}
 pub use Rattle.std.specs.Str.{chars}
 pub use Rattle.termwiz_cell.specs.AttributeChangeValue.{attribute_change_value, with_attribute}
 pub use Rattle.termwiz_cell.specs.Attributes.{needs_box, with_background}
@@ -53,7 +53,7 @@ pub use Rattle.termwiz_surface_core.specs.Following.{KeepsViewers}
 pub use Rattle.termwiz_surface_core.specs.History.{KeepsNames}
 pub use Rattle.termwiz_surface_core.specs.Printing.{PrintsFirst, PrintsGraphemes}
 pub use Rattle.termwiz_surface_core.specs.Resizing.{HasResized, Resizes}
-pub use Rattle.termwiz_surface_core.specs.SurfaceValue.{Becomes, IsSound, SameFrame, full_of, kept_of, screen_of}
+pub use Rattle.termwiz_surface_core.specs.SurfaceValue.{Becomes, IsSound, SameFrame, SurfaceValue, blank_surface, full_of, kept_of, lengths_of, screen_of}
 pub use Rattle.termwiz_surface_core.specs.declared.surface.SurfaceError.TheVariants.{ScrollRegion}
 pub use Rattle.termwiz_text.specs.Letter.{AreLetters}
 pub use Rattle.termwiz_text.specs.Plain.{is_plain}

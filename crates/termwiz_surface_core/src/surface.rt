@@ -1,9 +1,10 @@
 //! Surfaces.
-ghost use Rattle.termwiz_surface_core.specs.{◌≡◌, ◌+◌, ◌-◌, ◌<◌, ◌^◌, [], ◌∷◌, Adds, IfOk, IsOk};
-ghost use Rattle.termwiz_surface_core.specs.{KeepsNames, KeepsViewers, Makes, OnErr, OnOk};
-ghost use Rattle.termwiz_surface_core.specs.{Refuses, change_value, false, length, map};
+ghost use Rattle.std.specs.Prelude.{◌≡◌, ◌+◌, ◌-◌, ◌<◌, ◌^◌, ◌∷◌, [], IfOk, OnErr, length, vec_len};
+ghost use Rattle.termwiz_surface_core.specs.{Adds, Becomes, IsOk, IsSound, KeepsNames, Makes, OnOk};
+ghost use Rattle.termwiz_surface_core.specs.{KeepsViewers, Refuses, SameFrame, SurfaceValue, false};
+ghost use Rattle.termwiz_surface_core.specs.{blank_surface, change_value, kept_of, lengths_of, map};
 ghost use Rattle.termwiz_surface_core.specs.{measure, next_number, region_fits, regions_fit, true};
-ghost use Rattle.termwiz_surface_core.specs.{vec_len};
+ghost use Rattle.termwiz_surface_core.specs.{screen_of};
 
 mod answer;
 mod answers;
@@ -113,10 +114,8 @@ pub struct Surface<W: Widths> {
 }
 
 impl<W: Widths> Model for Surface<W> {
-    ghost use Rattle.termwiz_cell.specs.Measure.{measure};
     ghost use Rattle.std.specs.Prelude.{string_bytes};
-    ghost use Rattle.termwiz_screen.specs.ScreenValue.{cells_of};
-    ghost use Rattle.termwiz_screen.specs.Sides.{AreVectors, row_flags};
+    ghost use Rattle.termwiz_screen.specs.{AreVectors, cells_of, measure, row_flags};
     ghost use Rattle.termwiz_surface_core.specs.SurfaceValue.{IsSound, SurfaceValue};
 
     ghost Value = { SurfaceValue W };
@@ -173,10 +172,6 @@ impl<W: Widths> Clone for Surface<W> {
 }
 
 impl<W: Widths> Surface<W> {
-    ghost use Rattle.termwiz_surface_core.specs.SurfaceValue.{Becomes, IsSound, SameFrame, kept_of};
-    ghost use Rattle.termwiz_surface_core.specs.SurfaceValue.{SurfaceValue, blank_surface};
-    ghost use Rattle.termwiz_surface_core.specs.SurfaceValue.{lengths_of, screen_of};
-
     /// A surface of this width in columns and this height in rows: default blanks, with the cursor
     /// home and shown, default attributes as pen and the number 0.
     pub fn new(

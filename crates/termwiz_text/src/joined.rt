@@ -1,7 +1,7 @@
 //! A text that grows by one grapheme at a time.
-ghost use Rattle.termwiz_text.specs.{◌≡◌, ◌↔◌, ◌++◌, ◌∷◌, [], if◌then◌else◌, IfOk, IfSome, IsCutAt};
-ghost use Rattle.termwiz_text.specs.{IsTrue, List, OnErr, OnOk, graphemes, is_plain, is_plain_last};
-ghost use Rattle.termwiz_text.specs.{string_bytes, true, ℕ};
+ghost use Rattle.std.specs.Prelude.{◌≡◌, ◌↔◌, ◌++◌, ◌∷◌, if◌then◌else◌, [], IfSome, string_bytes};
+ghost use Rattle.termwiz_text.specs.{IfOk, IsCutAt, IsTrue, List, OnErr, OnOk, graphemes, is_plain};
+ghost use Rattle.termwiz_text.specs.{is_plain_last, true, ℕ};
 
 use super::{is_last_grapheme, is_one_plain, is_plain};
 use std::alloc::{AllocError, Global};

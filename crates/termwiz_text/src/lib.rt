@@ -7,10 +7,10 @@
 //! common ideographs (`specs/Letter.antt`) need no tables: a run of either is split off at once.
 #![tactic(auto)]
 
-ghost use Rattle.termwiz_text.specs.{◌≡◌, ◌≤◌, ◌<◌, ◌↔◌, [], ◌∷◌, ◌++◌, IfSome, IsFirst, IsTrue, ℕ};
-ghost use Rattle.termwiz_text.specs.{List, MatchOption, chars, drop, encode_utf8, false, graphemes};
-ghost use Rattle.termwiz_text.specs.{length, list_all, min, slice_index, slice_index_or, take};
-ghost use Rattle.termwiz_text.specs.{true};
+ghost use Rattle.std.specs.Prelude.{◌≡◌, ◌≤◌, ◌<◌, ◌↔◌, ◌∷◌, ◌++◌, [], MatchOption, slice_index_or};
+ghost use Rattle.termwiz_text.specs.{IfSome, IsFirst, IsTrue, List, chars, drop, encode_utf8, min};
+ghost use Rattle.termwiz_text.specs.{false, graphemes, graphemes_to_come, length, list_all, take};
+ghost use Rattle.termwiz_text.specs.{slice_index, true, ℕ};
 ghost use Rattle.termwiz_text.specs.Plain as plain;
 ghost use Rattle.termwiz_text.specs.Letter as letter;
 
@@ -239,8 +239,6 @@ pub struct Graphemes<'a> {
 }
 
 impl<'a> Graphemes<'a> {
-    ghost use Rattle.termwiz_text.specs.Left.{graphemes_to_come};
-
     /// The graphemes of this text.
     pub fn new(text: &'a str) -> Graphemes<'a>
         ensures left { graphemes_to_come result ≡ graphemes true text.now }

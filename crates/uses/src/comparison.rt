@@ -1,5 +1,6 @@
 //! Whether two surfaces show the same.
-ghost use Rattle.termwiz_surface.specs.{◌≡◌, ◌↔◌, IfOk, IsTrue, screen_of};
+ghost use Rattle.std.specs.Prelude.{◌≡◌, ◌↔◌, IfOk, IsTrue};
+ghost use Rattle.uses.specs.{screen_of};
 
 use std::alloc::AllocError;
 use termwiz_surface::{Surface, Widths};

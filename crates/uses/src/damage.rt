@@ -1,6 +1,6 @@
 //! Damage: what has to be painted anew on a canvas that is painted cell by cell.
-ghost use Rattle.termwiz_surface.specs.{◌≡◌, [], IfOk, MeasureAlike, change_value, map, measure};
-ghost use Rattle.termwiz_surface.specs.{print_all, printed, screen_of};
+ghost use Rattle.std.specs.Prelude.{◌≡◌, [], IfOk, map};
+ghost use Rattle.uses.specs.{MeasureAlike, change_value, measure, print_all, printed, screen_of};
 
 use std::alloc::AllocError;
 use termwiz_surface::laws::need_laws;

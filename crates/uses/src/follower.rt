@@ -1,6 +1,6 @@
 //! A follower of one's own, which is sent what changed since it asked last.
-ghost use Rattle.termwiz_surface.specs.{◌≡◌, [], ◌∷◌, Follows, IfOk, OnErr, OnOk, ViewerValue};
-ghost use Rattle.termwiz_surface.specs.{change_value, measure, screen_after, screen_of};
+ghost use Rattle.std.specs.Prelude.{◌≡◌, ◌∷◌, [], IfOk, OnErr, OnOk};
+ghost use Rattle.uses.specs.{Follows, ViewerValue, change_value, measure, screen_after, screen_of};
 
 use std::alloc::{AllocError, Global};
 use std::marker::Model;

@@ -1,7 +1,7 @@
 //! The last row, cleared: what a reader wants of it in words, by the laws of rows.
-ghost use Rattle.termwiz_surface.specs.{◌≡◌, ◌-◌, ◌<◌, IfOk, OnOk, blank_of, change_value, map, ℕ};
-ghost use Rattle.termwiz_surface.specs.{row_at, screen_of, stored, with_background};
-ghost use Rattle.uses.specs.LastRow.{last_row_cleared};
+ghost use Rattle.std.specs.Prelude.{◌≡◌, ◌-◌, ◌<◌, IfOk, OnOk, map, ℕ};
+ghost use Rattle.uses.specs.{blank_of, change_value, last_row_cleared, row_at, screen_of, stored};
+ghost use Rattle.uses.specs.{with_background};
 
 use std::alloc::{AllocError, Global};
 use termwiz_surface::laws::{row_laws, stored_row_laws};

@@ -1,9 +1,7 @@
 //! Lines by themselves: a heading, letters that are set at once, and the word under a pointer.
-ghost use Rattle.termwiz_surface.specs.{◌≡◌, ◌<◌, ◌≤◌, IfOk, IsLower, IsUnchanged, IsUpper, OnErr};
-ghost use Rattle.termwiz_surface.specs.{default_attributes, false, length, measure, no_flags, true};
-ghost use Rattle.termwiz_surface.specs.{stored_text, visible, with_sizes};
-ghost use Rattle.uses.specs.FirstLetters.{SetsFirstLetters};
-ghost use Rattle.uses.specs.Words.{is_in_word};
+ghost use Rattle.std.specs.Prelude.{◌≡◌, ◌<◌, ◌≤◌, IfOk, OnErr, false, length, true};
+ghost use Rattle.uses.specs.{IsLower, IsUnchanged, IsUpper, SetsFirstLetters, default_attributes};
+ghost use Rattle.uses.specs.{is_in_word, measure, no_flags, stored_text, visible, with_sizes};
 
 use std::alloc::{AllocError, Global};
 use std::ops::Range;

@@ -1,5 +1,6 @@
 //! A viewer of one's own, which mirrors a surface by repaints.
-ghost use Rattle.termwiz_surface.specs.{◌≡◌, IfOk, OnOk, SurfaceValue, screen_of};
+ghost use Rattle.std.specs.Prelude.{◌≡◌, IfOk, OnOk};
+ghost use Rattle.uses.specs.{SurfaceValue, screen_of};
 
 use std::alloc::{AllocError, Global};
 use std::marker::Model;

@@ -1,6 +1,6 @@
 //! Changes that are made one at a time, as they come.
-ghost use Rattle.termwiz_surface.specs.{◌≡◌, OnOk, change_value, map, measure, screen_after};
-ghost use Rattle.termwiz_surface.specs.{screen_of};
+ghost use Rattle.std.specs.Prelude.{◌≡◌, OnOk, map};
+ghost use Rattle.uses.specs.{change_value, measure, screen_after, screen_of};
 
 use termwiz_surface::{Change, Surface, SurfaceError, Widths};
 

@@ -1,5 +1,5 @@
 //! A width value of one's own: the widths of the Unicode tables, but for one character.
-ghost use Rattle.termwiz_surface.specs.{◌≡◌, ◌<◌, ◌^◌, IfOk};
+ghost use Rattle.std.specs.Prelude.{◌≡◌, ◌<◌, ◌^◌, IfOk};
 
 use std::alloc::{AllocError, Global};
 use termwiz_surface::emoji::{Presentation, UnicodeVersion};

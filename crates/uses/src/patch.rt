@@ -1,8 +1,8 @@
 //! A patch: a diff that is made where both surfaces are, and applied where only one of them is.
-ghost use Rattle.termwiz_surface.specs.{◌≡◌, ◌≤◌, ◌*◌, AreRows, CellValue, IfOk, IsDiff, List, map};
-ghost use Rattle.termwiz_surface.specs.{MeasureAlike, OnOk, Print, PrintsWithin, change_value};
-ghost use Rattle.termwiz_surface.specs.{length, measure, need, print_all, printed, screen_after};
-ghost use Rattle.termwiz_surface.specs.{screen_of, whole};
+ghost use Rattle.std.specs.Prelude.{◌≡◌, ◌≤◌, ◌*◌, IfOk, List, OnOk, length, map};
+ghost use Rattle.uses.specs.{AreRows, CellValue, IsDiff, MeasureAlike, Print, PrintsWithin, need};
+ghost use Rattle.uses.specs.{change_value, measure, print_all, printed, screen_after, screen_of};
+ghost use Rattle.uses.specs.{whole};
 
 use std::alloc::AllocError;
 use termwiz_surface::laws::{diff_laws, fewest_prints};

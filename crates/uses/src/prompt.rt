@@ -1,6 +1,6 @@
 //! The prompt of a line editor: a line to edit and a hint below it.
-ghost use Rattle.termwiz_surface.specs.{◌≡◌, ◌<◌, OnOk, measure, pos};
-ghost use Rattle.uses.specs.Prompt.{prompted};
+ghost use Rattle.std.specs.Prelude.{◌≡◌, ◌<◌, OnOk, pos};
+ghost use Rattle.uses.specs.{measure, prompted};
 
 use std::alloc::Global;
 use termwiz_surface::change::{ChangeSequence, SequenceError};

@@ -1,5 +1,6 @@
 //! A relay: a viewer whose own surface another viewer follows.
-ghost use Rattle.termwiz_surface.specs.{◌≡◌, Follows, OnOk, full_of, measure, screen_of, true};
+ghost use Rattle.std.specs.Prelude.{◌≡◌, OnOk, true};
+ghost use Rattle.uses.specs.{Follows, full_of, measure, screen_of};
 
 use termwiz_surface::{Surface, SurfaceError, Viewer, Widths};
 

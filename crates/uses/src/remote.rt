@@ -1,8 +1,8 @@
 //! A remote terminal, to which a session's title and its headings of double width go as its rows
 //! do.
-ghost use Rattle.termwiz_surface.specs.{◌≡◌, DoubleWidthLine, Follows, IfOk, OnOk, SingleWidthLine};
-ghost use Rattle.termwiz_surface.specs.{change_value, full_of, map, measure, slice_index_or, true};
-ghost use Rattle.uses.specs.Headings.{heading_changes};
+ghost use Rattle.std.specs.Prelude.{◌≡◌, IfOk, OnOk, map, slice_index_or, true};
+ghost use Rattle.uses.specs.{DoubleWidthLine, Follows, SingleWidthLine, change_value, full_of};
+ghost use Rattle.uses.specs.{heading_changes, measure};
 
 use std::alloc::{AllocError, Global};
 use termwiz_surface::change::LineAttribute;

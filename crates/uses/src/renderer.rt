@@ -1,6 +1,6 @@
 //! A renderer: what it does in each turn of its loop.
-ghost use Rattle.termwiz_surface.specs.{◌≡◌, [], All, Follows, OnOk, flushed, measure, next_number};
-ghost use Rattle.termwiz_surface.specs.{screen_of};
+ghost use Rattle.std.specs.Prelude.{◌≡◌, [], OnOk};
+ghost use Rattle.uses.specs.{All, Follows, flushed, measure, next_number, screen_of};
 
 use termwiz_surface::{Surface, SurfaceError, Viewer, Widths};
 

@@ -1,6 +1,6 @@
 //! A scrollback: lines that have left the screen, each stored as one text where that can be.
-ghost use Rattle.termwiz_surface.specs.{◌≡◌, IfOk, IsWrapped, LineValue, List, false, line_eq, map};
-ghost use Rattle.termwiz_surface.specs.{line_contents, true, visible};
+ghost use Rattle.std.specs.Prelude.{◌≡◌, IfOk, List, false, map, true};
+ghost use Rattle.uses.specs.{IsWrapped, LineValue, line_contents, line_eq, visible};
 
 use std::alloc::AllocError;
 use termwiz_surface::laws::{cut_laws, edit_laws, storage_laws};

@@ -1,5 +1,6 @@
 //! What a shaper is given of a line.
-ghost use Rattle.termwiz_surface.specs.{◌≡◌, IfOk, string_bytes, texts_of, visible};
+ghost use Rattle.std.specs.Prelude.{◌≡◌, IfOk, string_bytes};
+ghost use Rattle.uses.specs.{texts_of, visible};
 
 use std::alloc::{AllocError, Global};
 use termwiz_surface::laws::cluster_laws;

@@ -1,11 +1,10 @@
 //! A screen that is shared: its answers are carried off, and may be delivered late, repeatedly, in
 //! any order, or never.
-ghost use Rattle.termwiz_surface.specs.{◌≡◌, ◌<◌, ◌≤◌, [], All, Any, Follows, FullScreen, IfOk, ℕ};
-ghost use Rattle.termwiz_surface.specs.{IsPastOf, KeepsNames, MeasureAlike, OnOk, Screen, false};
-ghost use Rattle.termwiz_surface.specs.{ShowsNamed, ViewerValue, change_value, flushed, full_of};
-ghost use Rattle.termwiz_surface.specs.{full_screens, is_known, map, measure, next_number, screens};
-ghost use Rattle.termwiz_surface.specs.{screen_of, true, vec_len};
-ghost use Rattle.uses.specs.Late.{AddsOne, IsOneBehind, IsServed};
+ghost use Rattle.std.specs.Prelude.{◌≡◌, ◌<◌, ◌≤◌, [], IfOk, OnOk, false, map, true, vec_len, ℕ};
+ghost use Rattle.uses.specs.{AddsOne, All, Any, Follows, FullScreen, IsOneBehind, IsPastOf, Screen};
+ghost use Rattle.uses.specs.{IsServed, KeepsNames, MeasureAlike, ShowsNamed, ViewerValue, flushed};
+ghost use Rattle.uses.specs.{change_value, full_of, full_screens, is_known, measure, next_number};
+ghost use Rattle.uses.specs.{screen_of, screens};
 
 use std::alloc::{AllocError, Global};
 use termwiz_surface::laws::{full_history_laws, history_laws};

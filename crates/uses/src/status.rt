@@ -1,7 +1,7 @@
 //! A status line: the last row of a surface, drawn as one list of changes.
-ghost use Rattle.termwiz_surface.specs.{◌≡◌, ◌+◌, IfOk, OnOk, appended, change_value, map, measure};
-ghost use Rattle.termwiz_surface.specs.{next_number, screen_after, screen_of};
-ghost use Rattle.uses.specs.Status.{status_line};
+ghost use Rattle.std.specs.Prelude.{◌≡◌, ◌+◌, IfOk, OnOk, map};
+ghost use Rattle.uses.specs.{appended, change_value, measure, next_number, screen_after, screen_of};
+ghost use Rattle.uses.specs.{status_line};
 
 use std::alloc::{AllocError, Global};
 use termwiz_surface::{

@@ -1,5 +1,6 @@
 //! A window of widgets, and a viewer that shows it.
-ghost use Rattle.termwiz_surface.specs.{◌≡◌, Follows, HasDrawn, OnOk, measure, screen_of};
+ghost use Rattle.std.specs.Prelude.{◌≡◌, OnOk};
+ghost use Rattle.uses.specs.{Follows, HasDrawn, measure, screen_of};
 
 use termwiz_surface::{Surface, SurfaceError, Viewer, Widths};
 

@@ -1,8 +1,8 @@
 //! Changes of one attribute.
-ghost use Rattle.termwiz_cell.specs.{◌≡◌, ◌↔◌, IsTrue, attribute_change_eq, attribute_change_value};
-ghost use Rattle.termwiz_cell.specs.{attribute_change_eq-Decides, blink_eq, decided, false, on_per};
-ghost use Rattle.termwiz_cell.specs.{intensity_eq, is_link, on_equiv, partial_equiv_from_equiv};
-ghost use Rattle.termwiz_cell.specs.{underline_eq};
+ghost use Rattle.std.specs.Prelude.{◌≡◌, ◌↔◌, IsTrue, false};
+ghost use Rattle.termwiz_cell.specs.{attribute_change_eq, attribute_change_eq-Decides, blink_eq};
+ghost use Rattle.termwiz_cell.specs.{attribute_change_value, decided, intensity_eq, is_link};
+ghost use Rattle.termwiz_cell.specs.{on_equiv, on_per, partial_equiv_from_equiv, underline_eq};
 
 use super::form::{clone_link, is_same_link};
 use super::style::{Blink, Intensity, Underline};

@@ -1,8 +1,10 @@
 //! The attributes of a cell.
-ghost use Rattle.termwiz_cell.specs.{◌≡◌, ◌↔◌, IfOk, IfSome, IsOk, IsSome, IsTrue, OnErr, OnOk};
-ghost use Rattle.termwiz_cell.specs.{attributes_eq, attributes_eq-Decides, bytes_eq, decided, true};
-ghost use Rattle.termwiz_cell.specs.{default_attributes, false, needs_box, option_map};
-ghost use Rattle.termwiz_cell.specs.{partial_equiv_from_equiv};
+ghost use Rattle.std.specs.Prelude.{◌≡◌, ◌↔◌, IfSome, IsSome, IsTrue, OnErr, bytes_eq, option_map};
+ghost use Rattle.termwiz_cell.specs.{IfOk, IsOk, OnOk, attribute_change_value, attributes_eq, true};
+ghost use Rattle.termwiz_cell.specs.{attributes_eq-Decides, bits_of, decided, default_attributes};
+ghost use Rattle.termwiz_cell.specs.{false, has_only_background, linked, needs_box, sgr_only};
+ghost use Rattle.termwiz_cell.specs.{partial_equiv_from_equiv, takes_memory, with_attribute};
+ghost use Rattle.termwiz_cell.specs.{without_colors};
 ghost use Rattle.termwiz_cell.specs.AttributesLayout as spec;
 
 use super::attribute_change::AttributeChange;
@@ -38,12 +40,6 @@ impl Model for CellAttributes {
 }
 
 impl CellAttributes {
-    ghost use Rattle.termwiz_cell.specs.Attributes.{bits_of, has_only_background, sgr_only};
-    ghost use Rattle.termwiz_cell.specs.Attributes.{without_colors};
-    ghost use Rattle.termwiz_cell.specs.AttributeChangeValue.{attribute_change_value, takes_memory};
-    ghost use Rattle.termwiz_cell.specs.AttributeChangeValue.{with_attribute};
-    ghost use Rattle.termwiz_cell.specs.Link.{linked};
-
     /// The default attributes. They take no memory.
     pub fn blank() -> CellAttributes
         ensures { result ≡ default_attributes }

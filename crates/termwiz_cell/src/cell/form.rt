@@ -1,7 +1,7 @@
 //! The two forms of attributes: a word alone, and a box with the word and the rare attributes.
-ghost use Rattle.termwiz_cell.specs.{◌≡◌, ◌↔◌, IfOk, IsNone, IsOk, IsTrue, LendsStyle, MatchOption};
-ghost use Rattle.termwiz_cell.specs.{None, OnErr, OnOk, false, is_default, linked, option_link_eq};
-ghost use Rattle.termwiz_cell.specs.{option_map, sem, style_at, style_sgr_only, true};
+ghost use Rattle.std.specs.Prelude.{◌≡◌, ◌↔◌, IfOk, IsNone, IsTrue, MatchOption, OnErr, option_map};
+ghost use Rattle.termwiz_cell.specs.{IsOk, LendsStyle, None, OnOk, false, is_default, linked, sem};
+ghost use Rattle.termwiz_cell.specs.{option_link_eq, style_at, style_sgr_only, true};
 ghost use Rattle.termwiz_cell.specs.AttributesLayout as spec;
 
 use super::style_word::StyleWord;

@@ -1,6 +1,6 @@
 //! Texts of at most seven bytes, which stand in the value itself.
-ghost use Rattle.termwiz_cell.specs.{◌≡◌, ◌≢◌, ◌<◌, ◌≤◌, ◌∷◌, [], MatchOption, bytes_eq, is_plain};
-ghost use Rattle.termwiz_cell.specs.{length, space, true};
+ghost use Rattle.std.specs.Prelude.{◌≡◌, ◌≢◌, ◌<◌, ◌≤◌, ◌∷◌, [], MatchOption, bytes_eq, length};
+ghost use Rattle.termwiz_cell.specs.{is_plain, space, true};
 
 use arrayvec::ArrayString;
 

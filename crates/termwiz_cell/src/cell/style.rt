@@ -1,7 +1,8 @@
 //! The small attributes, and their numbers.
-ghost use Rattle.termwiz_cell.specs.{◌≡◌, ◌<◌, blink_at, blink_number, intensity_at, semantic_at};
-ghost use Rattle.termwiz_cell.specs.{intensity_number, semantic_number, underline_at, vertical_at};
-ghost use Rattle.termwiz_cell.specs.{underline_number, vertical_number};
+ghost use Rattle.std.specs.Prelude.{◌≡◌, ◌<◌};
+ghost use Rattle.termwiz_cell.specs.{blink_at, blink_number, intensity_at, intensity_number};
+ghost use Rattle.termwiz_cell.specs.{semantic_at, semantic_number, underline_at, underline_number};
+ghost use Rattle.termwiz_cell.specs.{vertical_at, vertical_number};
 
 /// How strong a text is drawn: as others are, bold, or dim.
 #[derive(Clone, Copy, PartialEq, Eq, Debug, Default)]

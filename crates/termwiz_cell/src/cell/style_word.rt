@@ -1,6 +1,6 @@
 //! The small attributes, packed in one word.
-ghost use Rattle.termwiz_cell.specs.{◌≡◌, ◌+◌, ◌-◌, ◌*◌, ◌/◌, ◌%◌, ◌^◌, ◌<◌, ◌↔◌, IsPalette};
-ghost use Rattle.termwiz_cell.specs.{IsTrue, bits_at, flag_number, palette_at, palette_number};
+ghost use Rattle.std.specs.Prelude.{◌≡◌, ◌+◌, ◌-◌, ◌*◌, ◌/◌, ◌%◌, ◌^◌, ◌<◌, ◌↔◌, IsTrue};
+ghost use Rattle.termwiz_cell.specs.{IsPalette, bits_at, flag_number, palette_at, palette_number};
 ghost use Rattle.termwiz_cell.specs.{style_at, style_sgr_only};
 
 use super::style::{Blink, Intensity, SemanticType, Underline, VerticalAlign};

@@ -1,7 +1,7 @@
 //! The text of a cell, and whether it takes two columns.
-ghost use Rattle.termwiz_cell.specs.{◌≡◌, ◌↔◌, ◌≤◌, ◌&&◌, ◌∷◌, [], HasTextForm, IfOk, IfSome, IsOk};
-ghost use Rattle.termwiz_cell.specs.{IsTrue, MatchOption, beq, bytes_eq, clean, false, is_plain};
-ghost use Rattle.termwiz_cell.specs.{is_one_plain, length, not, space, string_bytes, text_in, true};
+ghost use Rattle.std.specs.Prelude.{◌≡◌, ◌↔◌, ◌≤◌, ◌&&◌, ◌∷◌, [], MatchOption, false, string_bytes};
+ghost use Rattle.termwiz_cell.specs.{HasTextForm, IfOk, IfSome, IsOk, IsTrue, beq, bytes_eq, clean};
+ghost use Rattle.termwiz_cell.specs.{is_one_plain, is_plain, length, not, space, text_in, true};
 ghost use Rattle.termwiz_cell.specs.{wide_in};
 
 use super::short_text::{is_same_short, only_byte, plain_text, short_text, space_text};

@@ -1,9 +1,11 @@
 //! Sequences of changes, which report where their changes take a cursor.
-ghost use Rattle.termwiz_cell.specs.{◌≡◌, ◌+◌, ◌+ℤ◌, ◌-ℤ◌, ◌≤ℤ◌, ◌<◌, ◌≤◌, ◌^◌, [], ◌∷◌, ◌++◌, aim};
-ghost use Rattle.termwiz_cell.specs.{FitsSigned, IfErr, IfOk, OnErr, OnOk, Range, bytes_eq, false};
-ghost use Rattle.termwiz_cell.specs.{cell_place, change_value, grapheme_place, graphemes, int_rem};
-ghost use Rattle.termwiz_cell.specs.{int_rem_euclid, is_text, map, measure, pos, position_place, ℤ};
-ghost use Rattle.termwiz_cell.specs.{printed_columns, text_place, true, w64};
+ghost use Rattle.std.specs.Prelude.{◌≡◌, ◌+◌, ◌+ℤ◌, ◌-ℤ◌, ◌≤ℤ◌, ◌<◌, ◌≤◌, ◌^◌, ◌∷◌, ◌++◌, [], IfOk};
+ghost use Rattle.termwiz_cell.specs.{AddsAll, AddsOne, DistancesFit, FitsSigned, IfErr, IsSequence};
+ghost use Rattle.termwiz_cell.specs.{MovesTo, OnErr, OnOk, Range, RowFits, SequenceValue, aim, map};
+ghost use Rattle.termwiz_cell.specs.{bytes_eq, cell_place, change_value, false, grapheme_place, ℤ};
+ghost use Rattle.termwiz_cell.specs.{graphemes, int_rem, int_rem_euclid, is_text, measure, move_by};
+ghost use Rattle.termwiz_cell.specs.{place_after, pos, position_place, printed_columns, text_place};
+ghost use Rattle.termwiz_cell.specs.{true, w64};
 
 use super::{Change, Position};
 use crate::emoji::Widths;
@@ -211,10 +213,6 @@ fn push(changes: &mut Vec<Change>, change: Change) -> Result<(), AllocError>
 }
 
 impl<W: Widths> ChangeSequence<W> {
-    ghost use Rattle.termwiz_cell.specs.Sequence.{AddsAll, AddsOne, DistancesFit, IsSequence};
-    ghost use Rattle.termwiz_cell.specs.Sequence.{MovesTo, RowFits, SequenceValue, move_by};
-    ghost use Rattle.termwiz_cell.specs.Sequence.{place_after};
-
     /// An empty sequence for a screen of this many rows and columns.
     pub fn new(alloc: Global, rows: usize, cols: usize, widths: W) -> ChangeSequence<W>
         requires some_row { 0 < rows }

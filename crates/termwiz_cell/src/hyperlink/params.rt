@@ -1,8 +1,8 @@
 //! The params of a link: their reading from a text, their printing, and what equality and copies
 //! ask of them.
-ghost use Rattle.termwiz_cell.specs.{◌≡◌, IfOk, OnOk, WritesOnOk, are_pairs, has_equals, map};
-ghost use Rattle.termwiz_cell.specs.{pair_of, param_bytes, param_eq, params_of, params_text};
-ghost use Rattle.termwiz_cell.specs.{pointwise, string_bytes, with_pair};
+ghost use Rattle.std.specs.Prelude.{◌≡◌, IfOk, OnOk, map, string_bytes};
+ghost use Rattle.termwiz_cell.specs.{WritesOnOk, are_pairs, has_equals, pair_of, param_bytes};
+ghost use Rattle.termwiz_cell.specs.{param_eq, params_of, params_text, pointwise, with_pair};
 
 use std::alloc::{AllocError, Global};
 use std::collections::BTreeMap;

@@ -1,6 +1,6 @@
 //! The cells that the bytes of a text belong to.
-ghost use Rattle.termwiz_line.specs.{◌≡◌, ◌≤◌, ◌<◌, ◌+◌, ◌++◌, ◌^◌, [], IfSome, IsSome, OnOk};
-ghost use Rattle.termwiz_line.specs.{length, replicate, slice_index_or};
+ghost use Rattle.std.specs.Prelude.{◌≡◌, ◌≤◌, ◌<◌, ◌+◌, ◌++◌, ◌^◌, [], replicate, slice_index_or};
+ghost use Rattle.termwiz_line.specs.{IfSome, IsSome, OnOk, length};
 
 use std::alloc::{AllocError, Global};
 use std::marker::Model;

@@ -1,5 +1,6 @@
 //! Which cells a cluster takes.
-ghost use Rattle.termwiz_line.specs.{◌≡◌, grown, shape_of_one};
+ghost use Rattle.std.specs.Prelude.{◌≡◌};
+ghost use Rattle.termwiz_line.specs.{grown, shape_of_one};
 
 /// What a cluster holds so far.
 #[derive(Clone, Copy, Drop)]

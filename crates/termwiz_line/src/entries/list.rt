@@ -1,8 +1,8 @@
 //! A list of entries whose last text may still grow.
-ghost use Rattle.termwiz_line.specs.{◌≡◌, ◌++◌, ◌∷◌, [], ◌&&◌, if◌then◌else◌, IfOk, IsLastOf, OnOk};
-ghost use Rattle.termwiz_line.specs.{OnErr, add_text, change_value, ends_printable, false, is_text};
-ghost use Rattle.termwiz_line.specs.{is_plain, joins, last_is, map, option_copied, pen_entry, true};
-ghost use Rattle.termwiz_line.specs.{with_text};
+ghost use Rattle.std.specs.Prelude.{◌≡◌, ◌++◌, ◌∷◌, ◌&&◌, if◌then◌else◌, [], IfOk, OnErr, false};
+ghost use Rattle.termwiz_line.specs.{IsLastOf, OnOk, add_text, change_value, ends_printable, joins};
+ghost use Rattle.termwiz_line.specs.{is_plain, is_text, last_is, map, option_copied, pen_entry};
+ghost use Rattle.termwiz_line.specs.{true, with_text};
 ghost use Rattle.termwiz_cell.specs.ChangeValue as change;
 
 use std::alloc::{AllocError, Global};

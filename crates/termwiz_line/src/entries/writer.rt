@@ -1,9 +1,10 @@
 //! A writer of row entries.
-ghost use Rattle.termwiz_line.specs.{◌≡◌, ◌++◌, ◌∷◌, [], ◌+◌, ◌&&◌, ◌≤◌, ◌==◌, IfOk, IsInText, not};
-ghost use Rattle.termwiz_line.specs.{IsLastOf, IsTrue, IsUnderWay, IsWritten, List, OnOk, behind};
-ghost use Rattle.termwiz_line.specs.{VisibleCell, and_cells, attributes_eq, bytes_eq, cells_left};
+ghost use Rattle.std.specs.Prelude.{◌≡◌, ◌++◌, ◌∷◌, ◌+◌, ◌&&◌, ◌≤◌, ◌==◌, [], IsTrue, bytes_eq};
+ghost use Rattle.termwiz_line.specs.{IfOk, IsInText, IsLastOf, IsUnderWay, IsWritten, List, OnOk};
+ghost use Rattle.termwiz_line.specs.{VisibleCell, and_cells, attributes_eq, behind, cells_left};
 ghost use Rattle.termwiz_line.specs.{change_value, ends_printable, false, is_text, last_is, length};
-ghost use Rattle.termwiz_line.specs.{nat_lt, option_copied, penned_value, space, spaces_of, true};
+ghost use Rattle.termwiz_line.specs.{nat_lt, not, option_copied, penned_value, space, spaces_of};
+ghost use Rattle.termwiz_line.specs.{true};
 ghost use Rattle.termwiz_text.specs.Plain as plain;
 ghost use Rattle.termwiz_cell.specs.Attributes as attributes;
 ghost use Rattle.termwiz_line.specs.Entries as spec;

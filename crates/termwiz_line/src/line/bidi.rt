@@ -1,5 +1,6 @@
 //! The directions of a line's text.
-ghost use Rattle.termwiz_line.specs.{◌≡◌, is_auto, is_right_to_left};
+ghost use Rattle.std.specs.Prelude.{◌≡◌};
+ghost use Rattle.termwiz_line.specs.{is_auto, is_right_to_left};
 
 /// In which direction a text is laid out.
 #[derive(Debug, Clone, Copy, PartialEq, Eq)]

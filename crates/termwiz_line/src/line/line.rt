@@ -1,11 +1,11 @@
 //! Lines of cells.
-ghost use Rattle.termwiz_line.specs.{◌≡◌, ◌≤◌, ◌↔◌, [], if◌then◌else◌, AreClusters, IfOk, IsEdited};
-ghost use Rattle.termwiz_line.specs.{IsOk, IsTrue, IsUnchanged, IsWhole, None, OnErr, OnOk, Some};
-ghost use Rattle.termwiz_line.specs.{blank, cells_eq, cells_in, cells_left, change_value, decided};
-ghost use Rattle.termwiz_line.specs.{contents_eq, contents_eq-Decides, false, flags_eq, in_width};
-ghost use Rattle.termwiz_line.specs.{is_vector, length, line_contents, line_eq, map, no_flags};
-ghost use Rattle.termwiz_line.specs.{on_equiv, on_per, option_map, partial_equiv_from_equiv, true};
-ghost use Rattle.termwiz_line.specs.{replicate, resized, row_entries, visible};
+ghost use Rattle.std.specs.Prelude.{◌≡◌, ◌≤◌, ◌↔◌, if◌then◌else◌, [], OnErr, option_map, replicate};
+ghost use Rattle.termwiz_line.specs.{AreClusters, IfOk, IsEdited, IsOk, IsTrue, IsUnchanged, None};
+ghost use Rattle.termwiz_line.specs.{IsWhole, OnOk, Some, blank, cells_eq, cells_in, cells_left};
+ghost use Rattle.termwiz_line.specs.{change_value, contents_eq, contents_eq-Decides, decided, map};
+ghost use Rattle.termwiz_line.specs.{false, flags_eq, in_width, is_vector, length, line_contents};
+ghost use Rattle.termwiz_line.specs.{line_eq, no_flags, on_equiv, on_per, partial_equiv_from_equiv};
+ghost use Rattle.termwiz_line.specs.{resized, row_entries, true, visible};
 
 use crate::cellcluster::CellCluster;
 use crate::entries::row_entries;

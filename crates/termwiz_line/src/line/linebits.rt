@@ -1,6 +1,6 @@
 //! The flags of a line, as bits of a number.
-ghost use Rattle.termwiz_line.specs.{◌≡◌, [], ◌∷◌, codes, flag_bits, flags_of, with_direction, ⊤};
-ghost use Rattle.termwiz_line.specs.{with_sizes};
+ghost use Rattle.std.specs.Prelude.{◌≡◌, ◌∷◌, [], codes, ⊤};
+ghost use Rattle.termwiz_line.specs.{flag_bits, flags_of, with_direction, with_sizes};
 
 use bitflags::{Flag, Flags, bitflag_items};
 

@@ -1,7 +1,7 @@
 //! The lists of changes of diffs.
-ghost use Rattle.termwiz_screen.specs.{◌≡◌, ◌-◌, ◌<◌, ◌^◌, ◌∷◌, [], AreHalved, AreVectors, IfOk};
-ghost use Rattle.termwiz_screen.specs.{band, blank, cells_of, change_value, cut, deque_len, diff};
-ghost use Rattle.termwiz_screen.specs.{length, map, min, region_value, row_of};
+ghost use Rattle.std.specs.Prelude.{◌≡◌, ◌-◌, ◌<◌, ◌^◌, ◌∷◌, [], IfOk, length, map, min};
+ghost use Rattle.termwiz_screen.specs.{AreHalved, AreVectors, band, blank, cells_of, change_value};
+ghost use Rattle.termwiz_screen.specs.{cut, deque_len, diff, region_value, row_of};
 
 use super::region::Region;
 use super::rows::{print_lines, print_row, print_rows};

@@ -1,5 +1,6 @@
 //! Regions: a rectangle of own columns and rows, and as large a one of another's.
-ghost use Rattle.termwiz_screen.specs.{◌≡◌, ◌||◌, ◌==◌, region_value};
+ghost use Rattle.std.specs.Prelude.{◌≡◌, ◌||◌, ◌==◌};
+ghost use Rattle.termwiz_screen.specs.{region_value};
 ghost use Rattle.termwiz_screen.specs.Diff as spec;
 
 /// A rectangle of own columns and rows, and as large a one of another's.

@@ -1,10 +1,10 @@
 //! The cells that a diff prints, row by row.
-ghost use Rattle.termwiz_screen.specs.{◌≡◌, ◌+◌, ◌-◌, ◌<◌, ◌≤◌, ◌^◌, ◌∷◌, [], if◌then◌else◌, IfOk};
+ghost use Rattle.std.specs.Prelude.{◌≡◌, ◌+◌, ◌-◌, ◌<◌, ◌≤◌, ◌^◌, ◌∷◌, if◌then◌else◌, [], length};
 ghost use Rattle.termwiz_screen.specs.{AreHalved, AreVectors, CellValue, EndsBlank, HasHalves, map};
-ghost use Rattle.termwiz_screen.specs.{IsOfCell, List, OnOk, at_column, band, blank, cell_eq, fold};
-ghost use Rattle.termwiz_screen.specs.{cells_left, cells_of, deque_len, in_row, is_hidden, length};
+ghost use Rattle.termwiz_screen.specs.{IfOk, IsOfCell, List, OnOk, at_column, band, blank, cell_eq};
+ghost use Rattle.termwiz_screen.specs.{cells_left, cells_of, deque_len, fold, in_row, is_hidden, ℕ};
 ghost use Rattle.termwiz_screen.specs.{min, nat_lt, need, print_out, ref_cell, region_value, shows};
-ghost use Rattle.termwiz_screen.specs.{row_need, row_of, true, visible, ℕ};
+ghost use Rattle.termwiz_screen.specs.{row_need, row_of, true, visible};
 
 use super::region::Region;
 use super::writer::DiffWriter;

@@ -1,6 +1,6 @@
 //! A writer of the changes that print cells at their places.
-ghost use Rattle.termwiz_screen.specs.{◌≡◌, ◌<◌, ◌^◌, ◌++◌, ◌∷◌, [], IfOk, IsOfCell, OnOk, map};
-ghost use Rattle.termwiz_screen.specs.{change_value, cursor_at, end_value, ref_cell};
+ghost use Rattle.std.specs.Prelude.{◌≡◌, ◌<◌, ◌^◌, ◌++◌, ◌∷◌, [], IfOk, OnOk, map};
+ghost use Rattle.termwiz_screen.specs.{IsOfCell, change_value, cursor_at, end_value, ref_cell};
 ghost use Rattle.termwiz_screen.specs.Diff as spec;
 ghost use Rattle.termwiz_screen.specs.Prints.{Print};
 

@@ -1,7 +1,7 @@
 //! Full repaints: what they have before the rows, and behind them.
-ghost use Rattle.termwiz_screen.specs.{◌≡◌, ◌++◌, ChangeValue, IfOk, List, OnOk, behind, blank};
-ghost use Rattle.termwiz_screen.specs.{change_value, default_attributes, length, line_attribute};
-ghost use Rattle.termwiz_screen.specs.{map, penned_value, row_flags, shape_of};
+ghost use Rattle.std.specs.Prelude.{◌≡◌, ◌++◌, IfOk, List, OnOk, length, map};
+ghost use Rattle.termwiz_screen.specs.{ChangeValue, behind, blank, change_value, line_attribute};
+ghost use Rattle.termwiz_screen.specs.{default_attributes, penned_value, row_flags, shape_of};
 ghost use Rattle.termwiz_line.specs.Entries as line;
 ghost use Rattle.termwiz_screen.specs.Repaint as spec;
 ghost use Rattle.termwiz_screen.specs.Screen.{Screen};

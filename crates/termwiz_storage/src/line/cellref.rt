@@ -1,8 +1,8 @@
 //! The visible cells of a line, borrowed.
-ghost use Rattle.termwiz_storage.specs.{◌≡◌, ◌≤◌, ◌↔◌, IfOk, IsOfCell, IsTrue, YieldsCell, blank};
-ghost use Rattle.termwiz_storage.specs.{cell_of, cells_left, columns, contents, contents_of, space};
-ghost use Rattle.termwiz_storage.specs.{indexed_cell, item_count, ref_cell, ref_index, ref_width};
-ghost use Rattle.termwiz_storage.specs.{unwrap_or};
+ghost use Rattle.std.specs.Prelude.{◌≡◌, ◌≤◌, ◌↔◌, IfOk, IsTrue};
+ghost use Rattle.termwiz_storage.specs.{IsOfCell, YieldsCell, blank, cell_of, cells_left, columns};
+ghost use Rattle.termwiz_storage.specs.{contents, contents_of, indexed_cell, item_count, ref_cell};
+ghost use Rattle.termwiz_storage.specs.{ref_index, ref_width, space, unwrap_or};
 
 use crate::line::clusterline::ClusterLineIter;
 use crate::line::vecstorage::VecStorageIter;

@@ -1,12 +1,12 @@
 //! Cells stored as one text.
-ghost use Rattle.termwiz_storage.specs.{◌≡◌, ◌+◌, ◌++◌, ◌∷◌, ◌<◌, ◌≤◌, ◌↔◌, [], ArePlain, IfOk};
-ghost use Rattle.termwiz_storage.specs.{HasByteCells, IfSome, IsKept, IsOfCell, IsSome, IsTrue};
-ghost use Rattle.termwiz_storage.specs.{IsWhole, None, OnErr, OnOk, Some, YieldsCell, blank, clean};
-ghost use Rattle.termwiz_storage.specs.{cell_at, cell_len, default_attributes, first_texts, half};
-ghost use Rattle.termwiz_storage.specs.{is_linked, item_count, last_attrs, last_or, length, take};
-ghost use Rattle.termwiz_storage.specs.{list_any, option_copied, option_map, ref_cell, ref_index};
-ghost use Rattle.termwiz_storage.specs.{set_last_wrapped, string_bytes, string_capacity, texts_of};
-ghost use Rattle.termwiz_storage.specs.{string_len, true, visible, with_half, with_wrapped};
+ghost use Rattle.std.specs.Prelude.{◌≡◌, ◌+◌, ◌++◌, ◌∷◌, ◌<◌, ◌≤◌, ◌↔◌, [], OnErr, string_capacity};
+ghost use Rattle.termwiz_storage.specs.{ArePlain, HasByteCells, IfOk, IfSome, IsKept, IsOfCell};
+ghost use Rattle.termwiz_storage.specs.{IsSome, IsTrue, IsWhole, None, OnOk, Some, YieldsCell};
+ghost use Rattle.termwiz_storage.specs.{blank, cell_at, cell_len, clean, default_attributes, half};
+ghost use Rattle.termwiz_storage.specs.{first_texts, is_linked, item_count, last_attrs, last_or};
+ghost use Rattle.termwiz_storage.specs.{length, list_any, option_copied, option_map, ref_cell};
+ghost use Rattle.termwiz_storage.specs.{ref_index, set_last_wrapped, string_bytes, string_len};
+ghost use Rattle.termwiz_storage.specs.{take, texts_of, true, visible, with_half, with_wrapped};
 
 mod joined;
 mod run_lists;

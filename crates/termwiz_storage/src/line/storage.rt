@@ -1,14 +1,14 @@
 //! Where a line keeps its cells, and all that edits them.
-ghost use Rattle.termwiz_storage.specs.{◌≡◌, ◌≢◌, ◌-◌, ◌<◌, ◌≤◌, ◌∷◌, [], ◌↔◌, if◌then◌else◌, IfOk};
-ghost use Rattle.termwiz_storage.specs.{AreLetters, IfSome, IsKept, IsOfCell, IsOk, IsTrue, None};
-ghost use Rattle.termwiz_storage.specs.{IsWhole, LendsVector, OnErr, OnOk, Some, blank, cell_at};
+ghost use Rattle.std.specs.Prelude.{◌≡◌, ◌≢◌, ◌-◌, ◌<◌, ◌≤◌, ◌∷◌, ◌↔◌, if◌then◌else◌, [], IfSome};
+ghost use Rattle.termwiz_storage.specs.{AreLetters, IfOk, IsKept, IsOfCell, IsOk, IsTrue, IsWhole};
+ghost use Rattle.termwiz_storage.specs.{LendsVector, None, OnErr, OnOk, Some, blank, cell_at, drop};
 ghost use Rattle.termwiz_storage.specs.{cells_eq, cells_eq-Decides, cells_in, cells_left, chars};
-ghost use Rattle.termwiz_storage.specs.{decided, drop, false, fill, indexed_cell, is_linked, sem};
-ghost use Rattle.termwiz_storage.specs.{is_plain, is_vector, last_attrs, length, list_all, on_per};
-ghost use Rattle.termwiz_storage.specs.{list_any, needs_box, on_equiv, option_copied, option_map};
-ghost use Rattle.termwiz_storage.specs.{partial_equiv_from_equiv, ref_cell, ref_index, replicate};
-ghost use Rattle.termwiz_storage.specs.{resized, same_cells, set_cell, set_last_wrapped, set_run};
-ghost use Rattle.termwiz_storage.specs.{set_letters, take, texts_of, true, visible};
+ghost use Rattle.termwiz_storage.specs.{decided, false, fill, indexed_cell, is_linked, is_plain};
+ghost use Rattle.termwiz_storage.specs.{is_vector, last_attrs, length, list_all, list_any, on_per};
+ghost use Rattle.termwiz_storage.specs.{needs_box, on_equiv, option_copied, option_map, ref_cell};
+ghost use Rattle.termwiz_storage.specs.{partial_equiv_from_equiv, ref_index, replicate, resized};
+ghost use Rattle.termwiz_storage.specs.{same_cells, sem, set_cell, set_last_wrapped, set_letters};
+ghost use Rattle.termwiz_storage.specs.{set_run, take, texts_of, true, visible};
 
 mod edits;
 

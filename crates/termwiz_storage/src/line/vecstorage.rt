@@ -1,13 +1,13 @@
 //! Cells stored one by one.
-ghost use Rattle.termwiz_storage.specs.{◌≡◌, [], ◌+◌, ◌*◌, ◌-◌, ◌<◌, ◌≤◌, ◌↔◌, AreLetters, IfOk};
-ghost use Rattle.termwiz_storage.specs.{IfSome, IsBlanked, IsFilledTo, IsKept, IsOfCell, IsOk, map};
-ghost use Rattle.termwiz_storage.specs.{IsTrue, IsUsedTo, LendsCells, OnErr, OnOk, blank, cell_at};
-ghost use Rattle.termwiz_storage.specs.{cells_eq, cells_eq-Decides, chars, decided, false, fill};
-ghost use Rattle.termwiz_storage.specs.{half, hides, is_linked, is_plain, is_wide, length, padded};
-ghost use Rattle.termwiz_storage.specs.{list_all, list_any, needs_box, option_map, plain_cell, sem};
-ghost use Rattle.termwiz_storage.specs.{partial_equiv_from_equiv, put_letters, put_run, ref_cell};
-ghost use Rattle.termwiz_storage.specs.{ref_index, replicate, resized, set_cell, set_letters, take};
-ghost use Rattle.termwiz_storage.specs.{set_run, slice_set, stored, torn, true, vec_capacity};
+ghost use Rattle.std.specs.Prelude.{◌≡◌, ◌+◌, ◌*◌, ◌-◌, ◌<◌, ◌≤◌, ◌↔◌, [], replicate, vec_capacity};
+ghost use Rattle.termwiz_storage.specs.{AreLetters, IfOk, IfSome, IsBlanked, IsFilledTo, IsKept};
+ghost use Rattle.termwiz_storage.specs.{IsOfCell, IsOk, IsTrue, IsUsedTo, LendsCells, OnErr, OnOk};
+ghost use Rattle.termwiz_storage.specs.{blank, cell_at, cells_eq, cells_eq-Decides, chars, decided};
+ghost use Rattle.termwiz_storage.specs.{false, fill, half, hides, is_linked, is_plain, is_wide};
+ghost use Rattle.termwiz_storage.specs.{length, list_all, list_any, map, needs_box, option_map};
+ghost use Rattle.termwiz_storage.specs.{padded, partial_equiv_from_equiv, plain_cell, put_letters};
+ghost use Rattle.termwiz_storage.specs.{put_run, ref_cell, ref_index, resized, sem, set_cell, take};
+ghost use Rattle.termwiz_storage.specs.{set_letters, set_run, slice_set, stored, torn, true};
 ghost use Rattle.termwiz_storage.specs.{vec_len, visible};
 
 mod edits;

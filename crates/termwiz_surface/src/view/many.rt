@@ -1,7 +1,7 @@
 //! Runs of events on one surface and several viewers.
-ghost use Rattle.termwiz_surface.specs.{◌≡◌, ◌^◌, ◌<◌, All, AnswersTo, DeliversTo, Held, IfOk};
-ghost use Rattle.termwiz_surface.specs.{IsManyInRange, IsManySchedule, List, Remembers, ResizesAs};
-ghost use Rattle.termwiz_surface.specs.{Serves, blank_viewer, measure, replicate};
+ghost use Rattle.std.specs.Prelude.{◌≡◌, ◌^◌, ◌<◌, IfOk, List, replicate};
+ghost use Rattle.termwiz_surface.specs.{All, AnswersTo, DeliversTo, Held, IsManyInRange, Remembers};
+ghost use Rattle.termwiz_surface.specs.{IsManySchedule, ResizesAs, Serves, blank_viewer, measure};
 
 use super::waiting::Waiting;
 use super::{AcceptError, Event, Outcome, Viewer, act};

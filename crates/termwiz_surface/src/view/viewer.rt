@@ -1,10 +1,10 @@
 //! Viewers: surfaces that follow another one, or accept its answers.
-ghost use Rattle.termwiz_surface.specs.{◌≡◌, ◌+◌, ◌-◌, ◌<◌, ◌^◌, [], Accepts, Adds, Declines, Fits};
-ghost use Rattle.termwiz_surface.specs.{Fetches, Follows, FollowsTo, HasCaughtUp, HasDropped, IfOk};
-ghost use Rattle.termwiz_surface.specs.{HasFullSize, KeepsNames, KeepsShowing, KeepsViewers, Makes};
-ghost use Rattle.termwiz_surface.specs.{MayTake, OnErr, OnOk, Resizes, ShowsCarried, StaysNamed};
-ghost use Rattle.termwiz_surface.specs.{Takes, blank_viewer, flushed, forgetful, full_of, length};
-ghost use Rattle.termwiz_surface.specs.{full_screens, measure, nat_lt, next_number, screens, true};
+ghost use Rattle.std.specs.Prelude.{◌≡◌, ◌+◌, ◌-◌, ◌<◌, ◌^◌, [], IfOk, OnErr, OnOk, length, nat_lt};
+ghost use Rattle.termwiz_surface.specs.{Accepts, Adds, Declines, Fetches, Fits, Follows, FollowsTo};
+ghost use Rattle.termwiz_surface.specs.{HasCaughtUp, HasDropped, HasFullSize, KeepsNames, Makes};
+ghost use Rattle.termwiz_surface.specs.{KeepsShowing, KeepsViewers, MayTake, Resizes, ShowsCarried};
+ghost use Rattle.termwiz_surface.specs.{StaysNamed, Takes, blank_viewer, flushed, forgetful, true};
+ghost use Rattle.termwiz_surface.specs.{full_of, full_screens, measure, next_number, screens};
 ghost use Rattle.termwiz_surface.specs.{stream_of, with_log};
 ghost use Rattle.termwiz_surface_core.specs.SurfaceValue.{SurfaceValue};
 

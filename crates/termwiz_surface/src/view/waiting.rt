@@ -1,5 +1,5 @@
 //! Events that wait to be done.
-ghost use Rattle.termwiz_surface.specs.{◌≡◌, ◌∷◌, [], MatchOption};
+ghost use Rattle.std.specs.Prelude.{◌≡◌, ◌∷◌, [], MatchOption};
 
 use std::marker::Model;
 

@@ -1,9 +1,9 @@
 //! Answers that can be carried off, and accepted by viewers later.
-ghost use Rattle.termwiz_surface_core.specs.{◌≡◌, ◌<◌, ◌≤◌, ◌^◌, if◌then◌else◌, CarriesTo, IfOk};
-ghost use Rattle.termwiz_surface_core.specs.{FullScreen, IsBorrowedSlice, IsGivenBy, IsOwnedSlice};
-ghost use Rattle.termwiz_surface_core.specs.{IsPastOf, None, Screen, Some, change_value, false};
-ghost use Rattle.termwiz_surface_core.specs.{full_screens, knows, length, map, measure, screens};
-ghost use Rattle.termwiz_surface_core.specs.{most_own_entries, own_repaint, regions_fit, true, ℕ};
+ghost use Rattle.std.specs.Prelude.{◌≡◌, ◌<◌, ◌≤◌, ◌^◌, if◌then◌else◌, IfOk, None, false, length};
+ghost use Rattle.termwiz_surface_core.specs.{CarriesTo, FullScreen, IsBorrowedSlice, IsGivenBy, ℕ};
+ghost use Rattle.termwiz_surface_core.specs.{IsOwnedSlice, IsPastOf, Screen, Some, change_value};
+ghost use Rattle.termwiz_surface_core.specs.{full_screens, knows, map, measure, most_own_entries};
+ghost use Rattle.termwiz_surface_core.specs.{own_repaint, regions_fit, screens, true};
 
 use super::Surface;
 use std::alloc::AllocError;

@@ -1,11 +1,10 @@
 //! What viewers are answered: the changes that they lack, or a repaint.
-ghost use Rattle.termwiz_surface_core.specs.{◌≡◌, ◌≤◌, [], ◌==◌, IfOk, IsOkAnd, IsOwnedSlice, due};
-ghost use Rattle.termwiz_surface_core.specs.{KeepsNames, KeepsViewers, Lends, Repaints, false, map};
-ghost use Rattle.termwiz_surface_core.specs.{StreamsFrom, StreamsFullyFrom, change_value, flushed};
-ghost use Rattle.termwiz_surface_core.specs.{full_of, full_repaint, is_known, knows, length, not};
+ghost use Rattle.std.specs.Prelude.{◌≡◌, ◌≤◌, ◌==◌, [], IfOk, IsOkAnd, false, length, map, true, ℕ};
+ghost use Rattle.termwiz_surface_core.specs.{IsOwnedSlice, KeepsNames, KeepsViewers, Lends, due};
+ghost use Rattle.termwiz_surface_core.specs.{Repaints, StreamsFrom, StreamsFullyFrom, change_value};
+ghost use Rattle.termwiz_surface_core.specs.{flushed, full_of, full_repaint, is_known, knows, not};
 ghost use Rattle.termwiz_surface_core.specs.{measure, most_own_entries, next_number, own_repaint};
-ghost use Rattle.termwiz_surface_core.specs.{regions_fit, repaint, screen_of, stream_of, true, ℕ};
-ghost use Rattle.termwiz_surface_core.specs.{with_log};
+ghost use Rattle.termwiz_surface_core.specs.{regions_fit, repaint, screen_of, stream_of, with_log};
 
 use super::Surface;
 use std::alloc::AllocError;

@@ -1,8 +1,8 @@
 //! Drawing a surface on another one, and copying a region of a surface within it.
-ghost use Rattle.termwiz_surface_core.specs.{◌≡◌, Err, HasCopied, HasDrawn, IfOk, IsCopied, OnOk};
-ghost use Rattle.termwiz_surface_core.specs.{IsDrawn, KeepsNames, KeepsViewers, ScrollRegion, map};
-ghost use Rattle.termwiz_surface_core.specs.{change_value, copied_region, measure, restoring};
-ghost use Rattle.termwiz_surface_core.specs.{screen_of};
+ghost use Rattle.std.specs.Prelude.{◌≡◌, Err, IfOk, OnOk, map};
+ghost use Rattle.termwiz_surface_core.specs.{HasCopied, HasDrawn, IsCopied, IsDrawn, KeepsNames};
+ghost use Rattle.termwiz_surface_core.specs.{KeepsViewers, ScrollRegion, change_value, measure};
+ghost use Rattle.termwiz_surface_core.specs.{copied_region, restoring, screen_of};
 
 use super::{Surface, SurfaceError};
 use std::alloc::AllocError;

@@ -1,11 +1,11 @@
 //! Diffs: the changes that print what another surface, a region of it, or lines show and this
 //! surface doesn't.
-ghost use Rattle.termwiz_surface_core.specs.{◌≡◌, [], ◌∷◌, All, ArePrintable, AreRows, GivesRegion};
-ghost use Rattle.termwiz_surface_core.specs.{HaveRow, HaveTopRows, IfOk, MeasureAlike, PrintsRows};
-ghost use Rattle.termwiz_surface_core.specs.{PrintsRegion, change_value, cut_to, diff, length, map};
-ghost use Rattle.termwiz_surface_core.specs.{measure, min, need, one_row, printed, region_at};
-ghost use Rattle.termwiz_surface_core.specs.{region_diff, region_value, row_of, rows_of, screen_of};
-ghost use Rattle.termwiz_surface_core.specs.{screen_after, top_rows, whole};
+ghost use Rattle.std.specs.Prelude.{◌≡◌, ◌∷◌, [], IfOk, length, map, min};
+ghost use Rattle.termwiz_surface_core.specs.{All, ArePrintable, AreRows, GivesRegion, HaveRow};
+ghost use Rattle.termwiz_surface_core.specs.{HaveTopRows, MeasureAlike, PrintsRegion, PrintsRows};
+ghost use Rattle.termwiz_surface_core.specs.{change_value, cut_to, diff, measure, need, one_row};
+ghost use Rattle.termwiz_surface_core.specs.{printed, region_at, region_diff, region_value, row_of};
+ghost use Rattle.termwiz_surface_core.specs.{rows_of, screen_after, screen_of, top_rows, whole};
 
 use super::Surface;
 use std::alloc::AllocError;

@@ -1,5 +1,6 @@
 //! Full screens of surfaces.
-ghost use Rattle.termwiz_surface_core.specs.{◌≡◌, All, IfOk, full_of, full_value, no_flags};
+ghost use Rattle.std.specs.Prelude.{◌≡◌, IfOk};
+ghost use Rattle.termwiz_surface_core.specs.{All, full_of, full_value, no_flags};
 
 use super::Surface;
 use std::alloc::AllocError;

@@ -1,5 +1,6 @@
 //! The rows of a surface, lent as lines or as cells.
-ghost use Rattle.termwiz_surface_core.specs.{◌≡◌, AreVectors, IfOk, cells_of, map, row_flags};
+ghost use Rattle.std.specs.Prelude.{◌≡◌, IfOk, map};
+ghost use Rattle.termwiz_surface_core.specs.{AreVectors, cells_of, row_flags};
 
 use super::Surface;
 use std::alloc::{AllocError, Global};

@@ -1,12 +1,11 @@
 //! How a surface prints texts.
-ghost use Rattle.termwiz_surface_core.specs.{◌≡◌, ◌+◌, ◌*◌, ◌<◌, ◌≤◌, [], ◌∷◌, AreLetters, AreWide};
-ghost use Rattle.termwiz_surface_core.specs.{AreNarrow, Becomes, IfOk, IsMeasured, OnErr, OnOk};
-ghost use Rattle.termwiz_surface_core.specs.{PrintsFirst, PrintsGraphemes, SameFrame, chars, down};
-ghost use Rattle.termwiz_surface_core.specs.{columns_left, down_kept, encode_utf8, false, is_plain};
-ghost use Rattle.termwiz_surface_core.specs.{graphemes, kept_of, length, list_all, map, measure};
-ghost use Rattle.termwiz_surface_core.specs.{needs_box, one_kept, print, print_kept, print_one};
-ghost use Rattle.termwiz_surface_core.specs.{put_at_cursor, put_kept, screen_of, true, wrapped};
-ghost use Rattle.termwiz_surface_core.specs.{wrapped_kept};
+ghost use Rattle.std.specs.Prelude.{◌≡◌, ◌+◌, ◌*◌, ◌<◌, ◌≤◌, ◌∷◌, [], OnErr, encode_utf8, length};
+ghost use Rattle.termwiz_surface_core.specs.{AreLetters, AreNarrow, AreWide, Becomes, IfOk, OnOk};
+ghost use Rattle.termwiz_surface_core.specs.{IsMeasured, PrintsFirst, PrintsGraphemes, SameFrame};
+ghost use Rattle.termwiz_surface_core.specs.{chars, columns_left, down, down_kept, false, is_plain};
+ghost use Rattle.termwiz_surface_core.specs.{graphemes, kept_of, list_all, map, measure, needs_box};
+ghost use Rattle.termwiz_surface_core.specs.{one_kept, print, print_kept, print_one, put_at_cursor};
+ghost use Rattle.termwiz_surface_core.specs.{put_kept, screen_of, true, wrapped, wrapped_kept};
 
 use super::Surface;
 use std::alloc::AllocError;

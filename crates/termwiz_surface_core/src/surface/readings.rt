@@ -1,7 +1,8 @@
 //! What a surface shows and keeps, for reading.
-ghost use Rattle.termwiz_surface_core.specs.{◌≡◌, ◌-◌, ◌<◌, ◌^◌, All, HasFullSize, HasSize, IfOk};
-ghost use Rattle.termwiz_surface_core.specs.{IsPrintable, IsSound, full_of, measure, next_number};
-ghost use Rattle.termwiz_surface_core.specs.{no_flags, screen_value, shown_chars, string_bytes};
+ghost use Rattle.std.specs.Prelude.{◌≡◌, ◌-◌, ◌<◌, ◌^◌, IfOk, string_bytes};
+ghost use Rattle.termwiz_surface_core.specs.{All, HasFullSize, HasSize, IsPrintable, IsSound};
+ghost use Rattle.termwiz_surface_core.specs.{full_of, measure, next_number, no_flags, screen_value};
+ghost use Rattle.termwiz_surface_core.specs.{shown_chars};
 
 use super::Surface;
 use std::alloc::AllocError;

@@ -1,6 +1,7 @@
 //! Surfaces that take another size.
-ghost use Rattle.termwiz_surface_core.specs.{◌≡◌, ◌+◌, ◌<◌, ◌^◌, HasResized, KeepsNames, OnErr};
-ghost use Rattle.termwiz_surface_core.specs.{KeepsViewers, OnOk, Resizes, measure, next_number};
+ghost use Rattle.std.specs.Prelude.{◌≡◌, ◌+◌, ◌<◌, ◌^◌, OnErr, OnOk};
+ghost use Rattle.termwiz_surface_core.specs.{HasResized, KeepsNames, KeepsViewers, Resizes};
+ghost use Rattle.termwiz_surface_core.specs.{measure, next_number};
 
 use super::{Surface, SurfaceError};
 use std::alloc::AllocError;

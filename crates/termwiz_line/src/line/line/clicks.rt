@@ -1,7 +1,7 @@
 //! What a double click selects.
-ghost use Rattle.termwiz_line.specs.{◌≡◌, ◌<◌, ◌≤◌, ◌↔◌, All, AnswersAs, Bool, FnReturnsAt, IsTrue};
-ghost use Rattle.termwiz_line.specs.{IsLower, IsUpper, List, cells_left, false, goes_on, length, ℕ};
-ghost use Rattle.termwiz_line.specs.{last_is_wrapped, lower_of, ref_cell, upper_of, visible};
+ghost use Rattle.std.specs.Prelude.{◌≡◌, ◌<◌, ◌≤◌, ◌↔◌, Bool, IsTrue, List, false, length, ℕ};
+ghost use Rattle.termwiz_line.specs.{AnswersAs, FnReturnsAt, cells_left, last_is_wrapped, lower_of};
+ghost use Rattle.termwiz_line.specs.{All, IsLower, IsUpper, goes_on, ref_cell, upper_of, visible};
 
 use super::Line;
 use std::ops;

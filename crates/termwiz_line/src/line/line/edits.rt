@@ -1,12 +1,12 @@
 //! Edits of a line's cells.
-ghost use Rattle.termwiz_line.specs.{◌≡◌, ◌<◌, ◌≤◌, ◌-◌, ◌↔◌, ◌++◌, [], columns_between, AppendsAt};
-ghost use Rattle.termwiz_line.specs.{EditsElsewhere, IsPartlyFilled, erased_within, AppendsCells};
-ghost use Rattle.termwiz_line.specs.{IsTakenFrom, IsUnchanged, MakesVector, set_letters, LendsLine};
-ghost use Rattle.termwiz_line.specs.{with_halves, AreLetters, IsEditedAt, needs_box, replicate};
-ghost use Rattle.termwiz_line.specs.{HasCells, IsEdited, IsFilled, IsPruned, blank_of, inserted};
-ghost use Rattle.termwiz_line.specs.{is_plain, list_all, no_flags, set_cell, cell_of, removed, max};
-ghost use Rattle.termwiz_line.specs.{set_run, visible, IsTrue, Prunes, erased, length, Fills, IfOk};
-ghost use Rattle.termwiz_line.specs.{OnErr, blank, chars, false, IsOk, OnOk, drop, take, true, sem};
+ghost use Rattle.std.specs.Prelude.{◌≡◌, ◌<◌, ◌≤◌, ◌-◌, ◌↔◌, ◌++◌, [], IsTrue, length, replicate};
+ghost use Rattle.termwiz_line.specs.{AppendsCells, EditsElsewhere, IsPartlyFilled, columns_between};
+ghost use Rattle.termwiz_line.specs.{IsTakenFrom, IsUnchanged, MakesVector, cell_of, erased_within};
+ghost use Rattle.termwiz_line.specs.{AppendsAt, AreLetters, IsEditedAt, set_letters, with_halves};
+ghost use Rattle.termwiz_line.specs.{HasCells, IsEdited, IsFilled, IsPruned, LendsLine, needs_box};
+ghost use Rattle.termwiz_line.specs.{blank_of, inserted, is_plain, list_all, no_flags, set_cell};
+ghost use Rattle.termwiz_line.specs.{Fills, IfOk, OnErr, Prunes, erased, removed, set_run, visible};
+ghost use Rattle.termwiz_line.specs.{IsOk, OnOk, blank, chars, drop, false, max, sem, take, true};
 
 use crate::line::line::Line;
 use crate::line::line::zones::drop_zones;

@@ -1,7 +1,7 @@
 //! The number of a line, and its flags: how large its characters are, and the direction of its
 //! text.
-ghost use Rattle.termwiz_line.specs.{◌≡◌, ◌<◌, ◌↔◌, ◌&&◌, ◌||◌, ◌⊎◌, IsTrue, false, goes_left, max};
-ghost use Rattle.termwiz_line.specs.{is_auto, is_right_to_left, not, true, with_direction};
+ghost use Rattle.std.specs.Prelude.{◌≡◌, ◌<◌, ◌↔◌, ◌&&◌, ◌||◌, ◌⊎◌, IsTrue, false, max, not, true};
+ghost use Rattle.termwiz_line.specs.{goes_left, is_auto, is_right_to_left, with_direction};
 ghost use Rattle.termwiz_line.specs.{with_sizes};
 
 use crate::line::bidi::{Direction, ParagraphDirectionHint};

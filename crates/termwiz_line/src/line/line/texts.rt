@@ -1,12 +1,12 @@
 //! Lines of texts, and the texts of a line.
-ghost use Rattle.termwiz_line.specs.{◌≡◌, ◌≢◌, ◌+◌, ◌↔◌, ◌++◌, [], All, AppendsAt, EditsElsewhere};
-ghost use Rattle.termwiz_line.specs.{IfOk, IfSome, IsBorrowedStr, IsMade, IsOfCell, IsOkAnd, OnErr};
-ghost use Rattle.termwiz_line.specs.{IsPartlyOverlaid, IsTrue, OnOk, Overlays, at_columns, cell_at};
-ghost use Rattle.termwiz_line.specs.{at_version, cells_left, cells_of_text, columns, cow_str_bytes};
-ghost use Rattle.termwiz_line.specs.{default_attributes, false, indexed_cell, is_linked, list_any};
-ghost use Rattle.termwiz_line.specs.{measure, measured, no_flags, option_map, ref_cell, ref_index};
-ghost use Rattle.termwiz_line.specs.{space, stored_text, string_bytes, text_within, texts_between};
-ghost use Rattle.termwiz_line.specs.{texts_of, true, visible, wrapped_text};
+ghost use Rattle.std.specs.Prelude.{◌≡◌, ◌≢◌, ◌+◌, ◌↔◌, ◌++◌, [], IfSome, option_map, string_bytes};
+ghost use Rattle.termwiz_line.specs.{All, AppendsAt, EditsElsewhere, IfOk, IsBorrowedStr, IsMade};
+ghost use Rattle.termwiz_line.specs.{IsOfCell, IsOkAnd, IsPartlyOverlaid, IsTrue, OnErr, OnOk};
+ghost use Rattle.termwiz_line.specs.{Overlays, at_columns, at_version, cell_at, cells_left, false};
+ghost use Rattle.termwiz_line.specs.{cells_of_text, columns, cow_str_bytes, default_attributes};
+ghost use Rattle.termwiz_line.specs.{indexed_cell, is_linked, list_any, measure, measured, space};
+ghost use Rattle.termwiz_line.specs.{no_flags, ref_cell, ref_index, stored_text, text_within, true};
+ghost use Rattle.termwiz_line.specs.{texts_between, texts_of, visible, wrapped_text};
 
 use super::Line;
 use std::alloc::{AllocError, Global};

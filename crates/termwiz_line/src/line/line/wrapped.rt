@@ -1,6 +1,7 @@
 //! The mark of a line whose text goes on in the next one.
-ghost use Rattle.termwiz_line.specs.{◌≡◌, ◌<◌, IsEdited, IsOk, IsUnchanged, OnErr, OnOk, length};
-ghost use Rattle.termwiz_line.specs.{last_is_wrapped, set_last_wrapped, true, visible};
+ghost use Rattle.std.specs.Prelude.{◌≡◌, ◌<◌, IsOk, OnErr, OnOk, length, true};
+ghost use Rattle.termwiz_line.specs.{IsEdited, IsUnchanged, last_is_wrapped, set_last_wrapped};
+ghost use Rattle.termwiz_line.specs.{visible};
 
 use super::Line;
 use super::zones::drop_zones;

@@ -1,7 +1,7 @@
 //! A line that is cut into lines of a width.
-ghost use Rattle.termwiz_line.specs.{◌≡◌, ◌+◌, ◌<◌, ◌≤◌, ◌^◌, ◌∷◌, ◌++◌, ◌↔◌, AreLinesOf, IfOk};
-ghost use Rattle.termwiz_line.specs.{FitsWidth, IsOfCell, IsSpace, IsTrimmed, IsTrue, IsWrapped};
-ghost use Rattle.termwiz_line.specs.{OnOk, cells_left, indexed_cell, length, ref_cell, take, true};
+ghost use Rattle.std.specs.Prelude.{◌≡◌, ◌+◌, ◌<◌, ◌≤◌, ◌^◌, ◌∷◌, ◌++◌, ◌↔◌, IfOk, IsTrue, length};
+ghost use Rattle.termwiz_line.specs.{AreLinesOf, FitsWidth, IsOfCell, IsSpace, IsTrimmed, OnOk};
+ghost use Rattle.termwiz_line.specs.{IsWrapped, cells_left, indexed_cell, ref_cell, take, true};
 ghost use Rattle.termwiz_line.specs.{with_half, with_wrapped};
 
 use super::Line;

@@ -1,7 +1,7 @@
 //! Zones: the runs of cells of one semantic type.
-ghost use Rattle.termwiz_line.specs.{◌≡◌, ◌<◌, ◌^◌, ◌↔◌, ◌∷◌, [], AreZones, AreZonesOf, IfOk, sem};
-ghost use Rattle.termwiz_line.specs.{IsBlank, IsTrimmed, IsTrue, KeepsLine, cells_in, cells_left};
-ghost use Rattle.termwiz_line.specs.{indexed_cell, length, semantic, take, visible, zone_of};
+ghost use Rattle.std.specs.Prelude.{◌≡◌, ◌<◌, ◌^◌, ◌↔◌, ◌∷◌, [], IfOk, IsTrue, length, take};
+ghost use Rattle.termwiz_line.specs.{AreZones, AreZonesOf, IsBlank, IsTrimmed, KeepsLine, cells_in};
+ghost use Rattle.termwiz_line.specs.{cells_left, indexed_cell, sem, semantic, visible, zone_of};
 
 use super::Line;
 use std::alloc::{AllocError, Global};

@@ -1,6 +1,6 @@
 //! One text behind another.
-ghost use Rattle.termwiz_storage.specs.{◌≡◌, ◌++◌, IfOk, IsOfCell, OnErr, OnOk, ref_cell, visible};
-ghost use Rattle.termwiz_storage.specs.{with_half, with_halves};
+ghost use Rattle.std.specs.Prelude.{◌≡◌, ◌++◌, IfOk, OnErr, OnOk};
+ghost use Rattle.termwiz_storage.specs.{IsOfCell, ref_cell, visible, with_half, with_halves};
 
 use crate::line::cellref::CellRef;
 use crate::line::clusterline::run_lists::{append_attrs, append_shapes};

@@ -1,8 +1,8 @@
 //! Lists of runs: more cells, how many there are, a look at one, and a walk over all.
-ghost use Rattle.termwiz_storage.specs.{◌≡◌, ◌<◌, ◌≤◌, ◌+◌, ◌^◌, ◌++◌, ◌∷◌, [], AddsAttrs, IfOk};
-ghost use Rattle.termwiz_storage.specs.{IsTrue, MatchOption, OnErr, OnOk, attrs_of, false, is_some};
-ghost use Rattle.termwiz_storage.specs.{length, list_any, map_last, marked, option_copied, vec_len};
-ghost use Rattle.termwiz_storage.specs.{replicate, shape_in, shapes_of, slice_get, vec_capacity};
+ghost use Rattle.std.specs.Prelude.{◌≡◌, ◌<◌, ◌≤◌, ◌+◌, ◌^◌, ◌++◌, ◌∷◌, [], vec_capacity, vec_len};
+ghost use Rattle.termwiz_storage.specs.{AddsAttrs, IfOk, IsTrue, MatchOption, OnErr, OnOk, false};
+ghost use Rattle.termwiz_storage.specs.{attrs_of, is_some, length, list_any, map_last, marked};
+ghost use Rattle.termwiz_storage.specs.{option_copied, replicate, shape_in, shapes_of, slice_get};
 
 use crate::line::clusterline::runs::{AttrsRun, Shape, ShapeRun};
 use crate::line::vecstorage::set_wrapped;

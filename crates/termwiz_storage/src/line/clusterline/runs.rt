@@ -1,5 +1,5 @@
 //! Runs of cells that are alike: a value, and how many cells in a row have it.
-ghost use Rattle.termwiz_storage.specs.{◌<◌};
+ghost use Rattle.std.specs.Prelude.{◌<◌};
 
 use termwiz_cell::cell::CellAttributes;
 

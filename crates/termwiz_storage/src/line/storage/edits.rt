@@ -1,8 +1,7 @@
 //! Edits that move the stored cells.
-ghost use Rattle.termwiz_storage.specs.{◌≡◌, ◌≤◌, ◌++◌, IfOk, IsOk, OnErr, OnOk, blank_of, drop};
-ghost use Rattle.termwiz_storage.specs.{cells_in, columns_between, erased, erased_within, inserted};
-ghost use Rattle.termwiz_storage.specs.{is_vector, removed, replicate, take, true, visible};
-ghost use Rattle.termwiz_storage.specs.{with_halves};
+ghost use Rattle.std.specs.Prelude.{◌≡◌, ◌≤◌, ◌++◌, IfOk, IsOk, OnErr, OnOk, drop, replicate, take};
+ghost use Rattle.termwiz_storage.specs.{blank_of, cells_in, columns_between, erased, erased_within};
+ghost use Rattle.termwiz_storage.specs.{inserted, is_vector, removed, true, visible, with_halves};
 
 use crate::line::clusterline::ClusteredLine;
 use crate::line::storage::{CellStorage, expanded};

@@ -1,6 +1,6 @@
 //! Edits that move stored cells.
-ghost use Rattle.termwiz_storage.specs.{◌≡◌, [], ◌∷◌, ◌+◌, ◌<◌, ◌≤◌, ◌-◌, ◌++◌, ◌&&◌, IfOk, OnErr};
-ghost use Rattle.termwiz_storage.specs.{if◌then◌else◌, OnOk, blank, columns_between, drop, erased};
+ghost use Rattle.std.specs.Prelude.{◌≡◌, ◌∷◌, ◌+◌, ◌<◌, ◌≤◌, ◌-◌, ◌++◌, ◌&&◌, if◌then◌else◌, []};
+ghost use Rattle.termwiz_storage.specs.{IfOk, OnErr, OnOk, blank, columns_between, drop, erased};
 ghost use Rattle.termwiz_storage.specs.{erased_within, false, half, insert, inserted, is_wide, not};
 ghost use Rattle.termwiz_storage.specs.{inserted_at_margin, length, nat_le, padded, remove, take};
 ghost use Rattle.termwiz_storage.specs.{removed, removed_at_margin, replicate, vec_capacity};

@@ -1,7 +1,7 @@
 //! The walk of cells that are stored one by one.
-ghost use Rattle.termwiz_storage.specs.{◌≡◌, ◌↔◌, ◌∷◌, ◌<◌, [], IfSome, IsPlainFirst, IsSome, true};
-ghost use Rattle.termwiz_storage.specs.{MatchOption, YieldsCell, begins_plain, false, item_count};
-ghost use Rattle.termwiz_storage.specs.{is_plain_with, visible};
+ghost use Rattle.std.specs.Prelude.{◌≡◌, ◌↔◌, ◌∷◌, ◌<◌, [], IfSome, IsSome, MatchOption, false};
+ghost use Rattle.termwiz_storage.specs.{IsPlainFirst, YieldsCell, begins_plain, is_plain_with};
+ghost use Rattle.termwiz_storage.specs.{item_count, true, visible};
 
 use crate::line::cellref::CellRef;
 use std::marker::Model;

@@ -1,7 +1,7 @@
 //! The mark of the last visible cell, behind which the text goes on in the next line.
-ghost use Rattle.termwiz_storage.specs.{◌≡◌, ◌<◌, ◌≤◌, set_last_wrapped, option_copied, last_attrs};
-ghost use Rattle.termwiz_storage.specs.{with_wrapped, wrapped_last, last_index, slice_set, vec_len};
-ghost use Rattle.termwiz_storage.specs.{visible, IsTrue, length, stored, OnErr, hides, IsOk, OnOk};
+ghost use Rattle.std.specs.Prelude.{◌≡◌, ◌<◌, ◌≤◌, IsOk, IsTrue, OnErr, length, slice_set, vec_len};
+ghost use Rattle.termwiz_storage.specs.{OnOk, hides, last_attrs, last_index, option_copied, stored};
+ghost use Rattle.termwiz_storage.specs.{set_last_wrapped, visible, with_wrapped, wrapped_last};
 
 use super::VecStorage;
 use std::alloc::AllocError;

@@ -95,11 +95,11 @@ SPECS = {}
 
 
 def specs(path):
-    """The file of `specs/` that an import names, or none."""
+    """The file of `specs/` that an import names, which is a crate's list where it names no file, or none."""
     words = path.split(".")
-    if len(words) < 3 or words[1] != "specs" or words[2] == "declared":
+    if len(words) < 2 or words[1] != "specs" or words[2:3] == ["declared"]:
         return None
-    file = TOP / "crates" / words[0] / "specs" / ("/".join(words[2:]) + ".antt")
+    file = TOP / "crates" / words[0] / "specs" / ("/".join(words[2:] or ["Lib"]) + ".antt")
     if not file.is_file():
         return None
     if file not in SPECS:

@@ -1,8 +1,8 @@
-//! What is told of cells.
+//! Questions about cells.
 use crate::pens::pen;
 use crate::words::text;
 use cases_words::fault::Fault;
-use cases_words::words::{first, given, sides, told_truth};
+use cases_words::words::{first, given, sides, truth_word};
 use std::alloc::Global;
 use termwiz_cell::cell::{Cell, CellAttributes};
 use termwiz_cell::emoji::{OneColumn, UnicodeWidths, Widths};
@@ -12,7 +12,7 @@ pub fn answer(alloc: Global, words: &str) -> Result<String, Fault> {
     match what {
         "show" => show(alloc, words),
         "form" => form(alloc, words),
-        "same" => told_truth(alloc, is_same(alloc, words)?),
+        "same" => truth_word(alloc, is_same(alloc, words)?),
         "debug" => debug(alloc, words),
         _ => Err(Fault::Bad),
     }

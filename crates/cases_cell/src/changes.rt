@@ -1,10 +1,10 @@
-//! What is told of changes.
+//! Questions about changes.
 use crate::pens::pen;
 use crate::words::text;
 use cases_words::attributes::attribute;
 use cases_words::fault::Fault;
 use cases_words::shapes::{line_attribute, shape};
-use cases_words::words::{color, first, given, sides, told_truth};
+use cases_words::words::{color, first, given, sides, truth_word};
 use std::alloc::Global;
 use termwiz_cell::change::{Change, CursorVisibility, Position, SEQ_ZERO};
 
@@ -12,8 +12,8 @@ pub fn answer(alloc: Global, words: &str) -> Result<String, Fault> {
     let (what, words) = first(words)?;
     match what {
         "show" => show(alloc, words),
-        "same" => told_truth(alloc, is_same(alloc, words)?),
-        "blinks" => told_truth(alloc, shape(words)?.is_blinking()),
+        "same" => truth_word(alloc, is_same(alloc, words)?),
+        "blinks" => truth_word(alloc, shape(words)?.is_blinking()),
         _ => Err(Fault::Bad),
     }
 }

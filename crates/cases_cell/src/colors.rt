@@ -1,4 +1,4 @@
-//! What is told of colours.
+//! Questions about colours.
 use crate::words::text;
 use cases_words::fault::Fault;
 use std::alloc::Global;

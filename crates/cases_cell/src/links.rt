@@ -1,4 +1,4 @@
-//! What is told of links.
+//! Questions about links.
 use cases_words::fault::Fault;
 use cases_words::words::{first, sides};
 use std::alloc::Global;

@@ -1,7 +1,7 @@
-//! Tells worked cases of colours, links, attributes, cells, changes and widths. Standard input has
-//! the questions, and standard output tells each again with its answer below it. A line `case ..`
-//! is the title of a case, a blank line parts cases, and a line that begins with `#` is a comment
-//! and is not told.
+//! Plays worked cases of colours, links, attributes, cells, changes and widths. Standard input has
+//! the questions, and standard output repeats each with its answer below it. A line `case ..` is
+//! the title of a case, a blank line parts cases, and a line that begins with `#` is a comment and
+//! isn't repeated.
 //!
 //! A TEXT stands between quotes. `"␊"`, `"␍"`, `"␉"`, `"␍␊"` and `"aか␍␊"` have control
 //! characters where their pictures stand. A C is a colour: `default`, an index of the palette, or
@@ -38,7 +38,7 @@
 //! - `form TEXT`: how it is shown by default, the form that it asks for, and how its first
 //!   character is shown alone; `white TEXT`: whether it is white space, and its first character.
 //!
-//! Behind these cases it says how many of the recorded ones in `links.txt` agree.
+//! Behind these cases it prints how many of the recorded ones in `links.txt` agree.
 #![tactic(auto)]
 
 mod cells;
@@ -51,30 +51,13 @@ mod stage;
 mod widths;
 mod words;
 
-use cases_words::recorded::agrees;
+use cases_words::fault::Fault;
+use cases_words::play::play_input;
+use cases_words::recorded::play_recorded;
 use recorded::Player;
 use stage::Stage;
-use std::io::{Read, Write};
-use std::process::ExitCode;
 
-fn main(rt: HostRuntime) -> ExitCode {
-    let mut bytes = Vec::new(rt.alloc());
-    if rt.stdin().read_to_end(&mut bytes).is_err() {
-        return ExitCode::FAILURE;
-    }
-    let Ok(script) = str::from_utf8(bytes.as_slice()) else {
-        return ExitCode::FAILURE;
-    };
-    let mut stage = Stage::new(rt.alloc());
-    let played = stage.play(script);
-    if rt.stdout().write_all(stage.told().as_bytes()).is_err() {
-        return ExitCode::FAILURE;
-    }
-    if played.is_err() {
-        return ExitCode::FAILURE;
-    }
-    match agrees(&rt, "links.txt", "> ", &mut Player(rt.alloc())) {
-        Ok(true) => ExitCode::SUCCESS,
-        _ => ExitCode::FAILURE,
-    }
+fn main(rt: HostRuntime) -> Result<(), Fault> {
+    play_input(&rt, &mut Stage(rt.alloc()))?;
+    play_recorded(&rt, "links.txt", "> ", &mut Player(rt.alloc()))
 }

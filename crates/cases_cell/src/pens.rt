@@ -1,4 +1,4 @@
-//! What is told of attributes.
+//! Questions about attributes.
 use cases_words::fault::Fault;
 use cases_words::pens;
 use cases_words::words::{first, sides};

@@ -4,7 +4,7 @@
 //! texts of a colour.
 use cases_words::escapes::escaped;
 use cases_words::fault::Fault;
-use cases_words::recorded::Play;
+use cases_words::play::Play;
 use cases_words::words::first;
 use std::alloc::Global;
 use termwiz_cell::color::RgbColor;
@@ -21,10 +21,6 @@ impl Play for Player {
             None => color(self.0, line.strip_prefix("> color ").ok_or(Fault::Bad)?),
         }
     }
-
-    fn end(&mut self) -> Result<String, Fault> {
-        Ok(String::new(self.0))
-    }
 }
 
 // Behind each space stands a part.
@@ -34,7 +30,7 @@ fn parse(alloc: Global, words: &str) -> Result<String, Fault> {
         parts.push(bytes(alloc, word)?)?;
     }
     let lent: Vec<&[u8]> = parts.iter().map(|part| part.as_slice()).collect(alloc)?;
-    told(alloc, Hyperlink::parse(alloc, lent.as_slice()))
+    parsed_words(alloc, Hyperlink::parse(alloc, lent.as_slice()))
 }
 
 fn bytes(alloc: Global, word: &str) -> Result<Vec<u8>, Fault> {
@@ -52,9 +48,12 @@ fn byte(digits: &[u8]) -> Result<u8, Fault> {
     u8::from_str_radix(digits, 16).map_err(|_| Fault::Bad)
 }
 
-fn told(alloc: Global, parsed: Result<Option<Hyperlink>, LinkError>) -> Result<String, Fault> {
+fn parsed_words(
+    alloc: Global,
+    parsed: Result<Option<Hyperlink>, LinkError>,
+) -> Result<String, Fault> {
     match parsed {
-        Ok(Some(link)) => told_link(alloc, &link),
+        Ok(Some(link)) => link_words(alloc, &link),
         Ok(None) => Ok("none".to_owned(alloc)?),
         Err(LinkError::WrongParamCount) => Ok("fault count".to_owned(alloc)?),
         Err(LinkError::NotUtf8) => Ok("fault utf8".to_owned(alloc)?),
@@ -63,29 +62,29 @@ fn told(alloc: Global, parsed: Result<Option<Hyperlink>, LinkError>) -> Result<S
     }
 }
 
-fn told_link(alloc: Global, link: &Hyperlink) -> Result<String, Fault> {
-    let mut told = String::from_str(alloc, "link ")?;
-    told.push_str(escaped(alloc, link.uri())?.as_str())?;
+fn link_words(alloc: Global, link: &Hyperlink) -> Result<String, Fault> {
+    let mut words = String::from_str(alloc, "link ")?;
+    words.push_str(escaped(alloc, link.uri())?.as_str())?;
     for (key, value) in link.params() {
-        push_param(alloc, &mut told, key.as_str(), value.as_str())?;
+        push_param(alloc, &mut words, key.as_str(), value.as_str())?;
     }
     if link.params().len() <= 1 {
-        push_shown(alloc, &mut told, link)?;
+        push_shown(alloc, &mut words, link)?;
     }
-    Ok(told)
+    Ok(words)
 }
 
-fn push_param(alloc: Global, told: &mut String, key: &str, value: &str) -> Result<(), Fault> {
+fn push_param(alloc: Global, words: &mut String, key: &str, value: &str) -> Result<(), Fault> {
     let key = escaped(alloc, key)?;
     let value = escaped(alloc, value)?;
-    write!(told, " {key}={value}")?;
+    write!(words, " {key}={value}")?;
     Ok(())
 }
 
-fn push_shown(alloc: Global, told: &mut String, link: &Hyperlink) -> Result<(), Fault> {
+fn push_shown(alloc: Global, words: &mut String, link: &Hyperlink) -> Result<(), Fault> {
     let shown = format!(in alloc; "{link}")?;
     let word = escaped(alloc, shown.as_str())?;
-    write!(told, "\nshown {word}")?;
+    write!(words, "\nshown {word}")?;
     Ok(())
 }
 

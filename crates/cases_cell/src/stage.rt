@@ -1,56 +1,24 @@
-//! Lines, and what is told of each.
+//! Lines of the cases, and their answers by topic.
 use crate::{cells, changes, colors, links, pens, widths};
 use cases_words::fault::Fault;
+use cases_words::play::Play;
 use std::alloc::Global;
 
-/// What was told so far.
+/// Answers the lines.
 #[derive(Drop)]
-pub struct Stage {
-    alloc: Global,
-    told: String,
-}
+pub struct Stage(pub Global);
 
-impl Stage {
-    pub fn new(alloc: Global) -> Stage {
-        Stage {
-            alloc,
-            told: String::new(alloc),
+impl Play for Stage {
+    fn line(&mut self, line: &str) -> Result<String, Fault> {
+        match line.split_once(' ') {
+            Some(("case", _)) => Ok(String::new(self.0)),
+            Some((topic, rest)) => answer(self.0, topic, rest),
+            None => Err(Fault::Bad),
         }
-    }
-
-    pub fn told(&self) -> &str {
-        self.told.as_str()
-    }
-
-    /// Tells each line again with its answer. A line that has none is the last one that is told.
-    pub fn play(&mut self, script: &str) -> Result<(), Fault> {
-        for line in script.lines() {
-            if !line.starts_with('#') {
-                self.tell(line)?;
-                self.line(line)?;
-            }
-        }
-        Ok(())
-    }
-
-    fn tell(&mut self, line: &str) -> Result<(), Fault> {
-        self.told.push_str(line)?;
-        self.told.push('\n')?;
-        Ok(())
-    }
-
-    fn line(&mut self, line: &str) -> Result<(), Fault> {
-        if line.is_empty() || line.starts_with("case ") {
-            return Ok(());
-        }
-        let told = answer(self.alloc, line)?;
-        self.told.push_str("  ")?;
-        self.tell(told.as_str())
     }
 }
 
-fn answer(alloc: Global, line: &str) -> Result<String, Fault> {
-    let (topic, rest) = line.split_once(' ').ok_or(Fault::Bad)?;
+fn answer(alloc: Global, topic: &str, rest: &str) -> Result<String, Fault> {
     match topic {
         "colour" => colors::answer(alloc, rest),
         "link" => links::answer(alloc, rest),

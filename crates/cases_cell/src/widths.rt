@@ -1,4 +1,4 @@
-//! What is told of widths, forms and white space.
+//! Questions about widths, forms and white space.
 use crate::words::text;
 use cases_words::fault::Fault;
 use cases_words::words::first;

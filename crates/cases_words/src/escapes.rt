@@ -49,7 +49,7 @@ fn escaped_char(text: &str) -> Option<(char, &str)>
     numbered_char(text)
 }
 
-// The same of a character by its number: `u{H}`.
+// The character of the escape `u{H}`, by its number, and what follows it.
 fn numbered_char(text: &str) -> Option<(char, &str)>
     ensures { IfSome result (λ found. length found.1.now ≤ length text.now) }
 {

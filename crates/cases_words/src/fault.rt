@@ -1,13 +1,17 @@
-//! Why a line can't be played.
+//! Why a play ends early.
 use std::alloc::{AllocError, AllocFailed};
 
-/// Why a line can't be played.
-#[derive(Clone, Copy)]
+/// Why a play ends early.
+#[derive(Clone, Copy, Debug)]
 pub enum Fault {
-    /// It is no command, or names nothing that stands.
+    /// A line is no command, or names nothing that stands.
     Bad,
     /// Memory was refused.
     Memory,
+    /// A recorded answer differs.
+    Differs,
+    /// Input can't be read, or output can't be written.
+    Io,
 }
 
 impl From<AllocError> for Fault {

@@ -2,33 +2,31 @@
 //! line of a case asks. A case is played by writing its lines again, each with what is answered
 //! now.
 use crate::fault::Fault;
+use crate::play::{Play, push_lines};
 use std::alloc::Global;
 use std::io::Write;
 use std::{fs, mem};
 
-/// What answers the lines of cases.
-pub trait Play {
-    /// Plays a line, and gives the lines that are answered to it.
-    fn line(&mut self, line: &str) -> Result<String, Fault>;
-
-    /// The lines that are answered at the end of a case.
-    fn end(&mut self) -> Result<String, Fault>;
-}
-
-/// Plays the cases of a file, each of which begins with a line that begins so, and prints which of
-/// them differ, and how many agree. Returns whether all do.
-pub fn agrees<P: Play>(
+/// Plays the cases of a file, each of which begins with a line that begins with `first`, and prints
+/// which of them differ, and how many agree.
+pub fn play_recorded<P: Play>(
     rt: &HostRuntime,
     name: &str,
     first: &str,
     play: &mut P,
-) -> Result<bool, Fault> {
-    let recording = fs::read_to_string(rt, name).map_err(|_| Fault::Bad)?;
+) -> Result<(), Fault> {
+    let recording = fs::read_to_string(rt, name).map_err(|_| Fault::Io)?;
     let mut replay = Replay::new(rt.alloc());
     replay.play(recording.as_str(), first, play)?;
-    let told = replay.report(name)?;
-    let printed = rt.stdout().write_all(told.as_bytes());
-    Ok(printed.is_ok() && replay.agreeing == replay.cases)
+    let report = replay.report(name)?;
+    rt.stdout()
+        .write_all(report.as_bytes())
+        .map_err(|_| Fault::Io)?;
+    if replay.agreeing == replay.cases {
+        Ok(())
+    } else {
+        Err(Fault::Differs)
+    }
 }
 
 /// How the cases of a recording were played so far.
@@ -44,7 +42,8 @@ struct Replay {
     cases: usize,
     agreeing: usize,
     answers: usize,
-    told: String,
+    // A line for each case that differs.
+    differences: String,
 }
 
 impl Replay {
@@ -57,7 +56,7 @@ impl Replay {
             cases: 0,
             agreeing: 0,
             answers: 0,
-            told: String::new(alloc),
+            differences: String::new(alloc),
         }
     }
 
@@ -76,18 +75,18 @@ impl Replay {
     fn end_case<P: Play>(&mut self, play: &mut P) -> Result<(), Fault> {
         let case = mem::replace(&mut self.case, String::new(self.alloc));
         if !case.is_empty() {
-            self.compare(case.as_str(), retold(self.alloc, case.as_str(), play))?;
+            self.compare(case.as_str(), replayed(self.alloc, case.as_str(), play))?;
         }
         self.first = self.lines.saturating_add(1);
         Ok(())
     }
 
-    fn compare(&mut self, case: &str, retold: Result<String, Fault>) -> Result<(), Fault> {
+    fn compare(&mut self, case: &str, replayed: Result<String, Fault>) -> Result<(), Fault> {
         self.cases = self.cases.saturating_add(1);
-        match retold {
-            Ok(retold) if retold.as_str() == case => self.count(case),
-            Ok(retold) => self.tell_difference(case, retold.as_str())?,
-            Err(_) => self.tell_difference(case, "")?,
+        match replayed {
+            Ok(replayed) if replayed.as_str() == case => self.count(case),
+            Ok(replayed) => self.add_difference(case, replayed.as_str())?,
+            Err(_) => self.add_difference(case, "")?,
         }
         Ok(())
     }
@@ -102,12 +101,12 @@ impl Replay {
     }
 
     // Names the case, and the first line that differs.
-    fn tell_difference(&mut self, case: &str, retold: &str) -> Result<(), Fault> {
+    fn add_difference(&mut self, case: &str, replayed: &str) -> Result<(), Fault> {
         let title = case.lines().next().unwrap_or("");
-        let (recorded, own) = first_difference(case, retold);
+        let (recorded, own) = first_difference(case, replayed);
         let first = self.first;
         writeln!(
-            self.told,
+            self.differences,
             "line {first}, {title}: recorded `{recorded}`, here `{own}`"
         )?;
         Ok(())
@@ -115,40 +114,32 @@ impl Replay {
 
     fn report(&self, name: &str) -> Result<String, Fault> {
         let Replay {
-            told,
+            differences,
             agreeing,
             cases,
             answers,
             ..
         } = self;
         Ok(format!(in self.alloc;
-            "{told}{name}: {agreeing} of {cases} cases agree, {answers} lines of answers\n"
+            "{differences}{name}: {agreeing} of {cases} cases agree, {answers} lines of answers\n"
         )?)
     }
 }
 
 // The lines of a case that ask, each with what is answered to it now.
-fn retold<P: Play>(alloc: Global, case: &str, play: &mut P) -> Result<String, Fault> {
-    let mut told = String::new(alloc);
+fn replayed<P: Play>(alloc: Global, case: &str, play: &mut P) -> Result<String, Fault> {
+    let mut lines = String::new(alloc);
     for line in case.lines() {
         if !line.starts_with('<') {
-            push_lines(&mut told, "", line)?;
+            push_lines(&mut lines, "", line)?;
             let answer = play.line(line)?;
-            push_lines(&mut told, "< ", answer.as_str())?;
+            push_lines(&mut lines, "< ", answer.as_str())?;
         }
     }
-    let answer = play.end()?;
-    push_lines(&mut told, "< ", answer.as_str())?;
-    Ok(told)
-}
-
-fn push_lines(told: &mut String, mark: &str, lines: &str) -> Result<(), Fault> {
-    for line in lines.lines() {
-        told.push_str(mark)?;
-        told.push_str(line)?;
-        told.push('\n')?;
+    if let Some(answer) = play.end()? {
+        push_lines(&mut lines, "< ", answer.as_str())?;
     }
-    Ok(())
+    Ok(lines)
 }
 
 // The first line in which two texts differ, of each.

@@ -1,7 +1,7 @@
 //! Numbers, truths, colours and named values by their words, and the parts of a line.
 use crate::fault::Fault;
 use std::alloc::Global;
-use termwiz_cell::color::{ColorAttribute, RgbColor};
+use termwiz_cell::color::{AnsiColor, ColorAttribute, RgbColor};
 
 /// The first word, and what follows it.
 pub fn first(words: &str) -> Result<(&str, &str), Fault> {
@@ -37,7 +37,7 @@ pub fn pair(x: &str, y: &str) -> Result<(usize, usize), Fault> {
 }
 
 /// The word of a number.
-pub fn told_number(alloc: Global, number: usize) -> Result<String, Fault> {
+pub fn number_word(alloc: Global, number: usize) -> Result<String, Fault> {
     Ok(format!(in alloc; "{number}")?)
 }
 
@@ -50,7 +50,7 @@ pub fn truth(word: &str) -> Result<bool, Fault> {
 }
 
 /// The word of a truth.
-pub fn told_truth(alloc: Global, truth: bool) -> Result<String, Fault> {
+pub fn truth_word(alloc: Global, truth: bool) -> Result<String, Fault> {
     Ok(format!(in alloc; "{truth}")?)
 }
 
@@ -64,11 +64,12 @@ pub fn name_of<T: PartialEq>(names: &[(&'static str, T)], value: &T) -> &'static
     ""
 }
 
-/// A colour: `default`, an index of the palette, `true`, which is black or else the palette's 7,
-/// or `#RRGGBB`, with `+` and an index behind it where it falls back to the palette.
+/// A colour: `default`, an index of the palette, `maroon`, `true`, which is black or else the
+/// palette's 7, or `#RRGGBB`, with `+` and an index behind it where it falls back to the palette.
 pub fn color(word: &str) -> Result<ColorAttribute, Fault> {
     match word {
         "default" => Ok(ColorAttribute::Default),
+        "maroon" => Ok(AnsiColor::Maroon.into()),
         "true" => Ok(ColorAttribute::TrueColorWithPaletteFallback(RgbColor::default(), 7)),
         _ if word.starts_with('#') => true_color(word),
         _ => palette_color(word),
@@ -114,8 +115,8 @@ fn fallback_word(alloc: Global, color: RgbColor, index: u8) -> Result<String, Fa
 }
 
 /// Adds a word with `|` behind it.
-pub fn push_barred(told: &mut String, word: &str) -> Result<(), Fault> {
-    told.push_str(word)?;
-    told.push('|')?;
+pub fn push_barred(words: &mut String, word: &str) -> Result<(), Fault> {
+    words.push_str(word)?;
+    words.push('|')?;
     Ok(())
 }

@@ -1,11 +1,11 @@
-//! What is told of a line.
+//! Questions about a line.
 ghost use Rattle.std.specs.Prelude.{IfOk};
 ghost use Rattle.termwiz_storage.specs.CellsLeft.{IsOfCell};
 
 use crate::pens::{change_words, pen_words, text_lengths};
 use crate::{clicks, clusters, words};
 use cases_words::fault::Fault;
-use cases_words::words::{given, push_barred, told_number, told_truth};
+use cases_words::words::{given, number_word, push_barred, truth_word};
 use std::alloc::Global;
 use std::borrow::CowStr;
 use termwiz_cell::cell::{Cell, CellAttributes};
@@ -29,7 +29,7 @@ fn by_number(alloc: Global, line: &Line, name: &str, number: usize) -> Result<St
         "pen" => pen(alloc, line, number),
         "click" => click(alloc, line, number),
         "turning-click" => clicks::turning(alloc, line, number),
-        "changed" => told_truth(alloc, line.changed_since(number)),
+        "changed" => truth_word(alloc, line.changed_since(number)),
         _ => Err(Fault::Bad),
     }
 }
@@ -61,11 +61,11 @@ fn named(alloc: Global, line: &Line, name: &str) -> Result<String, Fault> {
 
 fn value(alloc: Global, line: &Line, name: &str) -> Result<String, Fault> {
     match name {
-        "len" => told_number(alloc, line.len()),
-        "number" => told_number(alloc, line.current_seqno()),
-        "spaces" => told_truth(alloc, line.is_whitespace()),
-        "link" => told_truth(alloc, line.has_hyperlink()),
-        "marked" => told_truth(alloc, line.last_cell_was_wrapped()),
+        "len" => number_word(alloc, line.len()),
+        "number" => number_word(alloc, line.current_seqno()),
+        "spaces" => truth_word(alloc, line.is_whitespace()),
+        "link" => truth_word(alloc, line.has_hyperlink()),
+        "marked" => truth_word(alloc, line.last_cell_was_wrapped()),
         _ => reading(alloc, line, name),
     }
 }
@@ -90,31 +90,31 @@ fn stored(alloc: Global, line: &Line) -> Result<String, Fault> {
 
 // The texts of these cells, between bars.
 fn texts(alloc: Global, cells: &[Cell]) -> Result<String, Fault> {
-    let mut told = String::from_str(alloc, "|")?;
+    let mut texts = String::from_str(alloc, "|")?;
     for cell in cells {
-        told.push_str(cell.str())?;
+        texts.push_str(cell.str())?;
     }
-    told.push('|')?;
-    Ok(told)
+    texts.push('|')?;
+    Ok(texts)
 }
 
 /// The texts of these cells, each with a bar behind it.
 pub fn texts_apart(alloc: Global, cells: &[Cell]) -> Result<String, Fault> {
-    let mut told = String::new(alloc);
+    let mut texts = String::new(alloc);
     for cell in cells {
-        push_barred(&mut told, cell.str())?;
+        push_barred(&mut texts, cell.str())?;
     }
-    Ok(told)
+    Ok(texts)
 }
 
 // The pens of all stored cells.
 fn pens(alloc: Global, line: &Line) -> Result<String, Fault> {
-    let mut told = String::new(alloc);
+    let mut pens = String::new(alloc);
     for cell in line.stored_cells().ok_or(Fault::Bad)? {
         let words = pen_words(alloc, cell.attrs())?;
-        push_barred(&mut told, words.as_str())?;
+        push_barred(&mut pens, words.as_str())?;
     }
-    Ok(told)
+    Ok(pens)
 }
 
 // The pen of the stored cell at a column.
@@ -126,33 +126,33 @@ fn pen(alloc: Global, line: &Line, column: usize) -> Result<String, Fault> {
 
 /// The texts of the visible cells, between bars.
 pub fn shown(alloc: Global, line: &Line) -> Result<String, Fault> {
-    let mut told = String::from_str(alloc, "|")?;
+    let mut texts = String::from_str(alloc, "|")?;
     for cell in line.visible_cells() {
-        told.push_str(cell.str())?;
+        texts.push_str(cell.str())?;
     }
-    told.push('|')?;
-    Ok(told)
+    texts.push('|')?;
+    Ok(texts)
 }
 
 // The visible texts, each behind its column, as `0a|1b|`.
 fn cells(alloc: Global, line: &Line) -> Result<String, Fault> {
-    let mut told = String::new(alloc);
+    let mut texts = String::new(alloc);
     for cell in line.visible_cells() {
         let column = cell.cell_index();
         let text = cell.str();
-        write!(told, "{column}{text}|")?;
+        write!(texts, "{column}{text}|")?;
     }
-    Ok(told)
+    Ok(texts)
 }
 
-// All that each visible cell tells.
+// The words of each visible cell.
 fn visible(alloc: Global, line: &Line) -> Result<String, Fault> {
-    let mut told = String::new(alloc);
+    let mut words = String::new(alloc);
     for cell in line.visible_cells() {
         let word = cell_words(alloc, cell)?;
-        push_barred(&mut told, word.as_str())?;
+        push_barred(&mut words, word.as_str())?;
     }
-    Ok(told)
+    Ok(words)
 }
 
 // Its text, column, width and pen, and how it is shown.
@@ -178,7 +178,7 @@ fn cell(alloc: Global, line: &Line, column: usize) -> Result<String, Fault> {
 // Whether the visible cells at two columns show the same.
 fn alike(alloc: Global, line: &Line, column: usize, other: usize) -> Result<String, Fault> {
     let (cell, other) = (visible_at(line, column)?, visible_at(line, other)?);
-    told_truth(alloc, cell.same_contents(&other))
+    truth_word(alloc, cell.same_contents(&other))
 }
 
 // Whether the copy of a visible cell is this cell, whether the visible one is its copy, and whether
@@ -228,13 +228,13 @@ fn size(alloc: Global, line: &Line) -> Result<String, Fault> {
         (line.is_double_height_top(), "top"),
         (line.is_double_height_bottom(), "bottom"),
     ];
-    let mut told = String::new(alloc);
+    let mut names = String::new(alloc);
     for (holds, name) in sizes {
         if holds {
-            push_barred(&mut told, name)?;
+            push_barred(&mut names, name)?;
         }
     }
-    Ok(told)
+    Ok(names)
 }
 
 fn bidi(alloc: Global, line: &Line) -> Result<String, Fault> {

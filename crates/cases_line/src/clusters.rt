@@ -1,4 +1,4 @@
-//! What is told of a line's clusters.
+//! Questions about a line's clusters.
 use crate::pens::pen_words;
 use cases_words::fault::Fault;
 use cases_words::words::push_barred;
@@ -21,14 +21,14 @@ pub fn answer(alloc: Global, line: &Line, name: &str) -> Result<String, Fault> {
 
 // The texts of the clusters, each behind its column and its width, as `0:2か|2:1a|`.
 fn shown(alloc: Global, clusters: &[CellCluster]) -> Result<String, Fault> {
-    let mut told = String::new(alloc);
+    let mut words = String::new(alloc);
     for cluster in clusters {
         let column = cluster.first_cell_idx;
         let width = cluster.width;
         let text = cluster.text.as_str();
-        write!(told, "{column}:{width}{text}|")?;
+        write!(words, "{column}:{width}{text}|")?;
     }
-    Ok(told)
+    Ok(words)
 }
 
 fn of_cells(alloc: Global, line: &Line) -> Result<String, Fault> {
@@ -43,35 +43,35 @@ fn bytes(alloc: Global, clusters: &[CellCluster]) -> Result<String, Fault> {
 
 // The column and the width of each byte's cell, as `0:2|0:2|0:2|2:1|`.
 fn cells_of_bytes(alloc: Global, cluster: &CellCluster) -> Result<String, Fault> {
-    let mut told = String::new(alloc);
+    let mut words = String::new(alloc);
     let count = cluster.text.len();
     for byte in 0..count {
         let column = cluster.byte_to_cell_idx(byte);
         let width = cluster.byte_to_cell_width(byte);
-        write!(told, "{column}:{width}|")?;
+        write!(words, "{column}:{width}|")?;
     }
-    Ok(told)
+    Ok(words)
 }
 
 // The pen of each cluster, how it is shown and where to.
 fn looks(alloc: Global, clusters: &[CellCluster]) -> Result<String, Fault> {
-    let mut told = String::new(alloc);
+    let mut words = String::new(alloc);
     for cluster in clusters {
         let pen = pen_words(alloc, &cluster.attrs)?;
         let (presentation, direction) = (cluster.presentation, cluster.direction);
-        write!(told, "pen {pen}, {presentation:?}, {direction:?}|")?;
+        write!(words, "pen {pen}, {presentation:?}, {direction:?}|")?;
     }
-    Ok(told)
+    Ok(words)
 }
 
 // Whether the copy of each cluster has the same cells of its bytes.
 fn copies(alloc: Global, clusters: &[CellCluster]) -> Result<String, Fault> {
-    let mut told = String::new(alloc);
+    let mut words = String::new(alloc);
     for cluster in clusters {
         let same = is_copied(alloc, cluster)?;
-        push_barred(&mut told, if same { "true" } else { "false" })?;
+        push_barred(&mut words, if same { "true" } else { "false" })?;
     }
-    Ok(told)
+    Ok(words)
 }
 
 fn is_copied(alloc: Global, cluster: &CellCluster) -> Result<bool, Fault> {
@@ -84,6 +84,6 @@ fn have_same_bytes(
     cluster: &CellCluster,
     other: &CellCluster,
 ) -> Result<bool, Fault> {
-    let told = cells_of_bytes(alloc, cluster)?;
-    Ok(told.as_str() == cells_of_bytes(alloc, other)?.as_str())
+    let cells = cells_of_bytes(alloc, cluster)?;
+    Ok(cells.as_str() == cells_of_bytes(alloc, other)?.as_str())
 }

@@ -1,6 +1,6 @@
 //! Edits of a line by the words of a line of the script.
-//! Those that have the same kinds of words are told apart where the words are values already, so
-//! that each word is read in one place for many edits.
+//! Edits with the same kinds of words are chosen once the words are values, so that each word is
+//! read in one place for many edits.
 use crate::words::{cell, direction, hint, pen, text};
 use cases_words::fault::Fault;
 use cases_words::pens::semantic_type;

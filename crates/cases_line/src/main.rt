@@ -1,20 +1,20 @@
-//! Plays worked cases: lines that are made and edited, and what is told of them.
-//! Standard input has the cases, and standard output tells them again with each answer below its
-//! line. A line `case ..` begins a case, and a line that begins with `#` is left out.
+//! Plays worked cases: lines that are made and edited, and questions about them.
+//! Standard input has the cases, and standard output repeats them with each answer below its line.
+//! A line `case ..` begins a case, and a line that begins with `#` is left out.
 //!
 //! A text is a word, in which `_` stands for a space and `\u{H}` for a character; `""` is no text.
 //! A pen is `-` or words with `,` between them: `italic`, `wrapped`, `output`, `input`, `prompt`,
 //! `link`, `bg=N` and others. A cell is `TEXT`, `TEXT:WIDTH` or `TEXT:WIDTH:PEN`. A number is
 //! decimal or `max`. SEQ is the number that a line is given, or that it takes.
 //!
-//! Lines have numbers from 0 on, and each of these makes the next one, which is edited and told of
-//! from then on:
+//! Lines have numbers from 0 on, and each of these makes the next one, on which edits and questions
+//! fall from then on:
 //!   new blanks WIDTH SEQ · new empty SEQ · new cells SEQ CELLS · new many WIDTH CELL SEQ
 //!   new set CELLS                 sets cells one behind another, with number 0
 //!   new plain TEXT · new text TEXT PEN SEQ · new wrapping TEXT [PEN] SEQ
 //!   clone · part FROM TO · split COLUMN SEQ
 //!
-//! Edits, of which an error is told as `refused`:
+//! Edits, whose answer is `refused` where memory is refused:
 //!   set COLUMN CELL SEQ · grapheme COLUMN TEXT WIDTH [PEN] SEQ · within COLUMN CELL WIDTH SEQ
 //!   insert COLUMN CELL MARGIN SEQ · fill FROM TO CELL SEQ
 //!   run COLUMN SEQ                sets `xy`
@@ -29,9 +29,9 @@
 //! Others:
 //!   on LINE                       goes on with another line
 //!   append LINE SEQ               appends a copy of another line
-//!   wrap WIDTH SEQ                tells of the pieces; the line has no cells then
+//!   wrap WIDTH SEQ                prints the pieces; the line has no cells then
 //!
-//! What is told, each behind `tell`:
+//! Questions, each behind `tell`:
 //!   stored · lent · pens · pen COLUMN             stored cells, or those lent for writing
 //!   shown · cells · visible · cell COLUMN         visible cells
 //!   alike COLUMN COLUMN · copied COLUMN CELL      visible cells that are compared
@@ -43,7 +43,7 @@
 //!   zones · fresh                                 the zones, and whether a copy has the same
 //!   clusters · cell-clusters · bytes · looks · cluster-copies
 //!
-//! Behind these cases it says how many of the recorded ones in `lines.txt` agree, first as the
+//! Behind these cases it prints how many of the recorded ones in `lines.txt` agree, first as the
 //! calls leave the lines, and then with each line compressed behind each call.
 #![tactic(auto)]
 
@@ -59,38 +59,14 @@ mod stage;
 mod words;
 
 use cases_words::fault::Fault;
-use cases_words::recorded::agrees;
+use cases_words::play::play_input;
+use cases_words::recorded::play_recorded;
 use recorded::Player;
 use stage::Stage;
-use std::io::{Read, Write};
-use std::process::ExitCode;
 
-fn main(rt: HostRuntime) -> ExitCode {
-    let mut bytes = Vec::new(rt.alloc());
-    if rt.stdin().read_to_end(&mut bytes).is_err() {
-        return ExitCode::FAILURE;
-    }
-    let Ok(script) = str::from_utf8(bytes.as_slice()) else {
-        return ExitCode::FAILURE;
-    };
-    let mut stage = Stage::new(rt.alloc());
-    let played = stage.play(script);
-    if rt.stdout().write_all(stage.told().as_bytes()).is_err() {
-        return ExitCode::FAILURE;
-    }
-    if played.is_err() {
-        return ExitCode::FAILURE;
-    }
-    match recorded_agree(&rt) {
-        Ok(true) => ExitCode::SUCCESS,
-        _ => ExitCode::FAILURE,
-    }
-}
-
-fn recorded_agree(rt: &HostRuntime) -> Result<bool, Fault> {
-    let mut player = Player::new(rt.alloc(), false);
-    let mut compressing = Player::new(rt.alloc(), true);
-    let agree = agrees(rt, "lines.txt", "case", &mut player)?;
-    let compressed_agree = agrees(rt, "lines.txt", "case", &mut compressing)?;
-    Ok(agree && compressed_agree)
+fn main(rt: HostRuntime) -> Result<(), Fault> {
+    let alloc = rt.alloc();
+    play_input(&rt, &mut Stage::new(alloc))?;
+    play_recorded(&rt, "lines.txt", "case", &mut Player::new(alloc, false))?;
+    play_recorded(&rt, "lines.txt", "case", &mut Player::new(alloc, true))
 }

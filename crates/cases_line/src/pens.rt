@@ -1,4 +1,4 @@
-//! What is told of attributes and of changes.
+//! The words of attributes and of changes.
 use crate::words::pen;
 use cases_words::fault::Fault;
 use cases_words::pens::{BLINKS, INTENSITIES, SEMANTIC_TYPES, UNDERLINES, VERTICAL_ALIGNS};
@@ -10,18 +10,18 @@ use termwiz_cell::color::ColorAttribute;
 
 /// The words of a pen, and `and more` where these do not say it all.
 pub fn pen_words(alloc: Global, attrs: &CellAttributes) -> Result<String, Fault> {
-    let mut told = String::new(alloc);
-    push_styles(&mut told, attrs)?;
-    push_flags(&mut told, attrs)?;
-    push_kinds(&mut told, attrs)?;
-    push_colors(alloc, &mut told, attrs)?;
-    if told.is_empty() {
-        told.push('-')?;
+    let mut words = String::new(alloc);
+    push_styles(&mut words, attrs)?;
+    push_flags(&mut words, attrs)?;
+    push_kinds(&mut words, attrs)?;
+    push_colors(alloc, &mut words, attrs)?;
+    if words.is_empty() {
+        words.push('-')?;
     }
-    if !has_words(alloc, attrs, told.as_str())? {
-        told.push_str(" and more")?;
+    if !has_words(alloc, attrs, words.as_str())? {
+        words.push_str(" and more")?;
     }
-    Ok(told)
+    Ok(words)
 }
 
 fn has_words(alloc: Global, attrs: &CellAttributes, words: &str) -> Result<bool, Fault> {
@@ -29,13 +29,13 @@ fn has_words(alloc: Global, attrs: &CellAttributes, words: &str) -> Result<bool,
     Ok(pen == *attrs)
 }
 
-fn push_styles(told: &mut String, attrs: &CellAttributes) -> Result<(), Fault> {
-    push_word(told, name_of(&INTENSITIES, &attrs.intensity()))?;
-    push_word(told, name_of(&UNDERLINES, &attrs.underline()))?;
-    push_word(told, name_of(&BLINKS, &attrs.blink()))
+fn push_styles(words: &mut String, attrs: &CellAttributes) -> Result<(), Fault> {
+    push_word(words, name_of(&INTENSITIES, &attrs.intensity()))?;
+    push_word(words, name_of(&UNDERLINES, &attrs.underline()))?;
+    push_word(words, name_of(&BLINKS, &attrs.blink()))
 }
 
-fn push_flags(told: &mut String, attrs: &CellAttributes) -> Result<(), Fault> {
+fn push_flags(words: &mut String, attrs: &CellAttributes) -> Result<(), Fault> {
     let flags = [
         (attrs.italic(), "italic"),
         (attrs.reverse(), "reverse"),
@@ -46,20 +46,20 @@ fn push_flags(told: &mut String, attrs: &CellAttributes) -> Result<(), Fault> {
     ];
     for (holds, word) in flags {
         if holds {
-            push_word(told, word)?;
+            push_word(words, word)?;
         }
     }
     Ok(())
 }
 
-fn push_kinds(told: &mut String, attrs: &CellAttributes) -> Result<(), Fault> {
+fn push_kinds(words: &mut String, attrs: &CellAttributes) -> Result<(), Fault> {
     let semantic_type = attrs.semantic_type();
     if semantic_type != SemanticType::Output {
-        push_word(told, name_of(&SEMANTIC_TYPES, &semantic_type))?;
+        push_word(words, name_of(&SEMANTIC_TYPES, &semantic_type))?;
     }
-    push_word(told, name_of(&VERTICAL_ALIGNS, &attrs.vertical_align()))?;
+    push_word(words, name_of(&VERTICAL_ALIGNS, &attrs.vertical_align()))?;
     push_word(
-        told,
+        words,
         if attrs.hyperlink().is_some() {
             "link"
         } else {
@@ -69,23 +69,23 @@ fn push_kinds(told: &mut String, attrs: &CellAttributes) -> Result<(), Fault> {
 }
 
 // Adds a word, if it has a letter.
-fn push_word(told: &mut String, word: &str) -> Result<(), Fault> {
-    if !told.is_empty() && !word.is_empty() {
-        told.push(',')?;
+fn push_word(words: &mut String, word: &str) -> Result<(), Fault> {
+    if !words.is_empty() && !word.is_empty() {
+        words.push(',')?;
     }
-    told.push_str(word)?;
+    words.push_str(word)?;
     Ok(())
 }
 
-fn push_colors(alloc: Global, told: &mut String, attrs: &CellAttributes) -> Result<(), Fault> {
-    push_color(alloc, told, "fg", attrs.foreground())?;
-    push_color(alloc, told, "bg", attrs.background())?;
-    push_color(alloc, told, "ul", attrs.underline_color())
+fn push_colors(alloc: Global, words: &mut String, attrs: &CellAttributes) -> Result<(), Fault> {
+    push_color(alloc, words, "fg", attrs.foreground())?;
+    push_color(alloc, words, "bg", attrs.background())?;
+    push_color(alloc, words, "ul", attrs.underline_color())
 }
 
 fn push_color(
     alloc: Global,
-    told: &mut String,
+    words: &mut String,
     name: &str,
     color: ColorAttribute,
 ) -> Result<(), Fault> {
@@ -94,17 +94,17 @@ fn push_color(
     }
     let color = color_word(alloc, color)?;
     let word = format!(in alloc; "{name}={color}")?;
-    push_word(told, word.as_str())
+    push_word(words, word.as_str())
 }
 
 /// Changes, each with `|` behind it.
 pub fn change_words(alloc: Global, changes: &[Change]) -> Result<String, Fault> {
-    let mut told = String::new(alloc);
+    let mut words = String::new(alloc);
     for change in changes {
         let word = change_word(alloc, change)?;
-        push_barred(&mut told, word.as_str())?;
+        push_barred(&mut words, word.as_str())?;
     }
-    Ok(told)
+    Ok(words)
 }
 
 fn change_word(alloc: Global, change: &Change) -> Result<String, Fault> {
@@ -122,12 +122,12 @@ fn pen_word(alloc: Global, attrs: &CellAttributes) -> Result<String, Fault> {
 
 /// How many bytes each text has, with `|` behind it.
 pub fn text_lengths(alloc: Global, changes: &[Change]) -> Result<String, Fault> {
-    let mut told = String::new(alloc);
+    let mut lengths = String::new(alloc);
     for change in changes {
         if let Change::Text(text) = change {
             let len = text.len();
-            write!(told, "{len}|")?;
+            write!(lengths, "{len}|")?;
         }
     }
-    Ok(told)
+    Ok(lengths)
 }

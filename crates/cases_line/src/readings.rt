@@ -32,26 +32,26 @@ pub fn yes(truth: bool) -> &'static str {
 
 /// Each reading on a line of its own.
 pub fn readings(alloc: Global, line: &Line) -> Result<String, Fault> {
-    let mut told = format!(in alloc; "line {}\n", summary(alloc, line)?)?;
-    push_flags(&mut told, line)?;
-    push_cells(alloc, &mut told, line)?;
-    push_ranges(alloc, &mut told, line)?;
+    let mut readings = format!(in alloc; "line {}\n", summary(alloc, line)?)?;
+    push_flags(&mut readings, line)?;
+    push_cells(alloc, &mut readings, line)?;
+    push_ranges(alloc, &mut readings, line)?;
     let (space, wrapped) = (yes(line.is_whitespace()), yes(line.last_cell_was_wrapped()));
-    writeln!(told, "space {space} wrapped {wrapped}")?;
+    writeln!(readings, "space {space} wrapped {wrapped}")?;
     if keeps_apart(alloc, line)? {
-        push_entries(alloc, &mut told, line)?;
+        push_entries(alloc, &mut readings, line)?;
     }
     if has_narrow_bytes(line) {
-        push_clusters(alloc, &mut told, line)?;
+        push_clusters(alloc, &mut readings, line)?;
     }
-    Ok(told)
+    Ok(readings)
 }
 
-fn push_flags(told: &mut String, line: &Line) -> Result<(), Fault> {
+fn push_flags(readings: &mut String, line: &Line) -> Result<(), Fault> {
     let (enabled, hint) = line.bidi_info();
     let direction = if enabled { "bidi" } else { "plain" };
     writeln!(
-        told,
+        readings,
         "flags {} {direction} {}",
         size(line),
         name_of(&HINTS, &hint)
@@ -72,31 +72,31 @@ fn size(line: &Line) -> &'static str {
 }
 
 // Visible cells, and stored ones where a cell is wide.
-fn push_cells(alloc: Global, told: &mut String, line: &Line) -> Result<(), Fault> {
+fn push_cells(alloc: Global, readings: &mut String, line: &Line) -> Result<(), Fault> {
     let mut has_wide = false;
-    told.push_str("cells")?;
+    readings.push_str("cells")?;
     for cell in line.visible_cells() {
         let word = cell_word(alloc, cell.str(), cell.width(), cell.attrs())?;
         let column = cell.cell_index();
-        write!(told, " {column}:{word}")?;
+        write!(readings, " {column}:{word}")?;
         has_wide |= cell.width() > 1;
     }
-    told.push('\n')?;
+    readings.push('\n')?;
     if has_wide {
-        push_stored(alloc, told, line)?;
+        push_stored(alloc, readings, line)?;
     }
     Ok(())
 }
 
-fn push_stored(alloc: Global, told: &mut String, line: &Line) -> Result<(), Fault> {
+fn push_stored(alloc: Global, readings: &mut String, line: &Line) -> Result<(), Fault> {
     let mut copy = line.clone()?;
     let cells: &[Cell] = copy.cells_mut()?;
-    told.push_str("stored")?;
+    readings.push_str("stored")?;
     for cell in cells {
         let word = cell_word(alloc, cell.str(), cell.width(), cell.attrs())?;
-        write!(told, " {word}")?;
+        write!(readings, " {word}")?;
     }
-    told.push('\n')?;
+    readings.push('\n')?;
     Ok(())
 }
 
@@ -112,47 +112,47 @@ fn cell_word(
 }
 
 // Texts of columns, double clicks and semantic zones.
-fn push_ranges(alloc: Global, told: &mut String, line: &Line) -> Result<(), Fault> {
-    told.push_str("columns")?;
+fn push_ranges(alloc: Global, readings: &mut String, line: &Line) -> Result<(), Fault> {
+    readings.push_str("columns")?;
     for columns in [1..3, 2..usize::MAX, 3..1, 0..line.len()] {
-        push_columns(alloc, told, line, columns)?;
+        push_columns(alloc, readings, line, columns)?;
     }
-    told.push_str("\nclick")?;
+    readings.push_str("\nclick")?;
     for column in 0..line.len().saturating_add(2) {
-        push_click(told, line, column)?;
+        push_click(readings, line, column)?;
     }
-    push_zones(told, line)
+    push_zones(readings, line)
 }
 
 fn push_columns(
     alloc: Global,
-    told: &mut String,
+    readings: &mut String,
     line: &Line,
     columns: Range<usize>,
 ) -> Result<(), Fault> {
     let text = line.columns_as_str(columns)?;
     let word = escaped(alloc, text.as_str())?;
-    write!(told, " {word}")?;
+    write!(readings, " {word}")?;
     Ok(())
 }
 
-fn push_click(told: &mut String, line: &Line, column: usize) -> Result<(), Fault> {
+fn push_click(readings: &mut String, line: &Line, column: usize) -> Result<(), Fault> {
     let (range, mark) = match line.compute_double_click_range(column, |text| text != " ") {
         DoubleClickRange::Range(range) => (range, '-'),
         DoubleClickRange::RangeWithWrap(range) => (range, '~'),
     };
-    write!(told, " {}{mark}{}", range.start, range.end)?;
+    write!(readings, " {}{mark}{}", range.start, range.end)?;
     Ok(())
 }
 
-fn push_zones(told: &mut String, line: &Line) -> Result<(), Fault> {
+fn push_zones(readings: &mut String, line: &Line) -> Result<(), Fault> {
     let mut copy = line.clone()?;
-    told.push_str("\nzones")?;
+    readings.push_str("\nzones")?;
     for zone in copy.semantic_zone_ranges()? {
         let name = name_of(&SEMANTIC_TYPES, &zone.semantic_type);
-        write!(told, " {name}:{}-{}", zone.range.start, zone.range.end)?;
+        write!(readings, " {name}:{}-{}", zone.range.start, zone.range.end)?;
     }
-    told.push('\n')?;
+    readings.push('\n')?;
     Ok(())
 }
 
@@ -170,21 +170,21 @@ fn keeps_apart(alloc: Global, line: &Line) -> Result<bool, Fault> {
     Ok(others.next().is_none())
 }
 
-fn push_entries(alloc: Global, told: &mut String, line: &Line) -> Result<(), Fault> {
+fn push_entries(alloc: Global, readings: &mut String, line: &Line) -> Result<(), Fault> {
     let changes = line.changes(&CellAttributes::blank())?;
-    told.push_str("entries")?;
+    readings.push_str("entries")?;
     for change in changes.as_slice() {
-        push_entry(alloc, told, change)?;
+        push_entry(alloc, readings, change)?;
     }
-    told.push('\n')?;
+    readings.push('\n')?;
     Ok(())
 }
 
-fn push_entry(alloc: Global, told: &mut String, change: &Change) -> Result<(), Fault> {
+fn push_entry(alloc: Global, readings: &mut String, change: &Change) -> Result<(), Fault> {
     match change {
-        Change::AllAttributes(attrs) => write!(told, " pen={}", pen_words(alloc, attrs)?)?,
-        Change::Text(text) => write!(told, " text={}", escaped(alloc, text.as_str())?)?,
-        Change::ClearToEndOfLine(color) => write!(told, " eol={}", color_word(alloc, *color)?)?,
+        Change::AllAttributes(attrs) => write!(readings, " pen={}", pen_words(alloc, attrs)?)?,
+        Change::Text(text) => write!(readings, " text={}", escaped(alloc, text.as_str())?)?,
+        Change::ClearToEndOfLine(color) => write!(readings, " eol={}", color_word(alloc, *color)?)?,
         _ => return Err(Fault::Bad),
     }
     Ok(())
@@ -200,13 +200,17 @@ fn has_narrow_bytes(line: &Line) -> bool {
     true
 }
 
-fn push_clusters(alloc: Global, told: &mut String, line: &Line) -> Result<(), Fault> {
+fn push_clusters(alloc: Global, readings: &mut String, line: &Line) -> Result<(), Fault> {
     let clusters = line.cluster(&UnicodeWidths)?;
-    told.push_str("clusters")?;
+    readings.push_str("clusters")?;
     for cluster in clusters.as_slice() {
         let word = escaped(alloc, cluster.text.as_str())?;
-        write!(told, " {}:{word}/{}", cluster.first_cell_idx, cluster.width)?;
+        write!(
+            readings,
+            " {}:{word}/{}",
+            cluster.first_cell_idx, cluster.width
+        )?;
     }
-    told.push('\n')?;
+    readings.push('\n')?;
     Ok(())
 }

@@ -7,7 +7,7 @@ use crate::makes::make;
 use crate::readings::{readings, summary, yes};
 use crate::words::{cell, pen};
 use cases_words::fault::Fault;
-use cases_words::recorded::Play;
+use cases_words::play::Play;
 use cases_words::words::{given, pair};
 use std::alloc::Global;
 use termwiz_cell::cell::{Cell, CellAttributes};
@@ -73,11 +73,11 @@ impl Player {
             }
             ["split", column, seqno, to] => self.split(own, pair(column, seqno)?, given(to)?),
             ["columns", from, end, to] => self.columns(own, pair(from, end)?, given(to)?),
-            _ => self.told_call(own, words),
+            _ => self.summarized(own, words),
         }
     }
 
-    fn told_call(&mut self, own: usize, words: &[&str]) -> Result<String, Fault> {
+    fn summarized(&mut self, own: usize, words: &[&str]) -> Result<String, Fault> {
         match words {
             ["copy", to] => self.copy(own, given(to)?)?,
             ["append", other, seqno] => self.append(own, given(other)?, given(seqno)?)?,
@@ -118,26 +118,26 @@ impl Player {
     fn split(&mut self, own: usize, at: (usize, usize), to: usize) -> Result<String, Fault> {
         let rest = self.get_mut(own)?.split_off(at.0, at.1)?;
         self.put(to, rest)?;
-        self.told_with(own, to)
+        self.summaries(own, to)
     }
 
     fn columns(&mut self, own: usize, from: (usize, usize), to: usize) -> Result<String, Fault> {
         let part = self.get(own)?.columns_as_line(from.0..from.1)?;
         self.put(to, part)?;
-        self.told_with(own, to)
+        self.summaries(own, to)
     }
 
-    // What is told of a line, and of another one, if it is one.
-    fn told_with(&self, own: usize, other: usize) -> Result<String, Fault> {
-        let mut told = summary(self.alloc, self.get(own)?)?;
+    // The summary of a line, and behind it that of another one.
+    fn summaries(&self, own: usize, other: usize) -> Result<String, Fault> {
+        let mut summaries = summary(self.alloc, self.get(own)?)?;
         if other != own {
             let other = summary(self.alloc, self.get(other)?)?;
-            write!(told, "\n{other}")?;
+            write!(summaries, "\n{other}")?;
         }
-        Ok(told)
+        Ok(summaries)
     }
 
-    // Tells the pieces of a copy, at a width and with a number, and puts one into a register.
+    // Lists the pieces of a copy, at a width and with a number, and puts one into a register.
     fn wrap(
         &mut self,
         own: usize,
@@ -145,12 +145,12 @@ impl Player {
         kept: (usize, usize),
     ) -> Result<String, Fault> {
         let pieces = self.get(own)?.clone()?.wrap(how.0, how.1)?;
-        let mut told = told_pieces(self.alloc, pieces.as_slice())?;
+        let mut answer = listed(self.alloc, pieces.as_slice())?;
         let piece = chosen(pieces.as_slice(), kept.1)?;
         self.put(kept.0, piece)?;
         let line = summary(self.alloc, self.get(own)?)?;
-        told.push_str(line.as_str())?;
-        Ok(told)
+        answer.push_str(line.as_str())?;
+        Ok(answer)
     }
 }
 
@@ -163,21 +163,17 @@ impl Play for Player {
             _ => Err(Fault::Bad),
         }
     }
-
-    fn end(&mut self) -> Result<String, Fault> {
-        Ok(String::new(self.alloc))
-    }
 }
 
-fn told_pieces(alloc: Global, pieces: &[Line]) -> Result<String, Fault> {
+fn listed(alloc: Global, pieces: &[Line]) -> Result<String, Fault> {
     let count = pieces.len();
-    let mut told = format!(in alloc; "wrap {count}\n")?;
+    let mut list = format!(in alloc; "wrap {count}\n")?;
     for piece in pieces {
         let line = summary(alloc, piece)?;
         let wrapped = yes(piece.last_cell_was_wrapped());
-        writeln!(told, "{line} {wrapped}")?;
+        writeln!(list, "{line} {wrapped}")?;
     }
-    Ok(told)
+    Ok(list)
 }
 
 // A copy of the piece of this number, counted round.

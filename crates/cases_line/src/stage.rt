@@ -3,19 +3,30 @@ use crate::asks::{answer, shown, texts_apart};
 use crate::edits::edit;
 use crate::makes::make;
 use cases_words::fault::Fault;
-use cases_words::words::{given, pair, told_truth};
+use cases_words::play::Play;
+use cases_words::words::{given, pair, truth_word};
 use std::alloc::{AllocError, Global};
 use std::mem;
 use termwiz_cell::cell::Cell;
 use termwiz_line::line::line::Line;
 
-/// The lines of a case by their numbers, from 0, and one that is edited and told of.
+/// The lines of a case by their numbers, from 0, and the number of the one for edits and questions.
 #[derive(Drop)]
 pub struct Stage {
     alloc: Global,
     lines: Vec<Line>,
     on: usize,
-    told: String,
+}
+
+impl Play for Stage {
+    fn line(&mut self, line: &str) -> Result<String, Fault> {
+        if line.starts_with("case ") {
+            *self = Stage::new(self.alloc);
+            return Ok(String::new(self.alloc));
+        }
+        let words: Vec<&str> = line.split(' ').collect(self.alloc)?;
+        self.command(words.as_slice())
+    }
 }
 
 impl Stage {
@@ -24,72 +35,29 @@ impl Stage {
             alloc,
             lines: Vec::new(alloc),
             on: 0,
-            told: String::new(alloc),
         }
     }
 
-    /// What was told so far.
-    pub fn told(&self) -> &str {
-        self.told.as_str()
-    }
-
-    /// Plays each line, and tells it again before its answer. A fault is told below its line, and
-    /// ends the play.
-    pub fn play(&mut self, script: &str) -> Result<(), Fault> {
-        for line in script.lines() {
-            if !line.starts_with('#') {
-                self.tell(line)?;
-                self.play_line(line)?;
-            }
-        }
-        Ok(())
-    }
-
-    fn play_line(&mut self, line: &str) -> Result<(), Fault> {
-        if line.is_empty() {
-            return Ok(());
-        }
-        let played = self.line(line);
-        if played.is_err() {
-            self.tell("  no such command here, or no memory")?;
-        }
-        played
-    }
-
-    fn tell(&mut self, line: &str) -> Result<(), Fault> {
-        self.told.push_str(line)?;
-        self.told.push('\n')?;
-        Ok(())
-    }
-
-    fn line(&mut self, line: &str) -> Result<(), Fault> {
-        if line.starts_with("case ") {
-            self.lines = Vec::new(self.alloc);
-            self.on = 0;
-            return Ok(());
-        }
-        let words: Vec<&str> = line.split(' ').collect(self.alloc)?;
-        self.command(words.as_slice())
-    }
-
-    fn command(&mut self, words: &[&str]) -> Result<(), Fault> {
+    fn command(&mut self, words: &[&str]) -> Result<String, Fault> {
         match words {
-            ["new", words @ ..] => self.add_made(words),
             ["tell", words @ ..] => self.asked(words),
+            ["wrap", width, seqno] => self.wrap(width, seqno),
+            _ => self.step(words),
+        }
+    }
+
+    // An edit that finds no memory is answered by `refused`, and no other step has an answer.
+    fn step(&mut self, words: &[&str]) -> Result<String, Fault> {
+        let made = match words {
+            ["new", words @ ..] => self.add_made(words),
             ["on", number] => self.go_on(number),
             ["clone"] => self.add_clone(),
             ["part", from, to] => self.add_part(from, to),
-            _ => self.other_command(words),
-        }
-    }
-
-    fn other_command(&mut self, words: &[&str]) -> Result<(), Fault> {
-        match words {
             ["split", column, seqno] => self.split(column, seqno),
             ["append", number, seqno] => self.append(number, seqno),
-            ["wrap", width, seqno] => self.wrap(width, seqno),
-            _ => self.edited(words),
-        }
+            _ => return self.edited(words),
+        };
+        made.map(|()| String::new(self.alloc))
     }
 
     fn own(&self) -> Result<&Line, Fault> {
@@ -146,52 +114,39 @@ impl Stage {
         Ok(())
     }
 
-    fn edited(&mut self, words: &[&str]) -> Result<(), Fault> {
+    fn edited(&mut self, words: &[&str]) -> Result<String, Fault> {
         let alloc = self.alloc;
         match edit(alloc, self.own_mut()?, words) {
-            Err(Fault::Memory) => self.tell("  refused"),
-            made => made,
+            Ok(()) => Ok(String::new(alloc)),
+            Err(Fault::Memory) => Ok("refused".to_owned(alloc)?),
+            Err(fault) => Err(fault),
         }
     }
 
-    // Tells the pieces into which the line is wrapped.
-    fn wrap(&mut self, width: &str, seqno: &str) -> Result<(), Fault> {
+    // The pieces into which the line is wrapped, each on a line of its own.
+    fn wrap(&mut self, width: &str, seqno: &str) -> Result<String, Fault> {
         let (width, seqno) = pair(width, seqno)?;
         let empty = Line::new(self.alloc, seqno);
         let line = mem::replace(self.own_mut()?, empty);
+        let mut pieces = String::new(self.alloc);
         for piece in line.wrap(width, seqno)? {
-            self.tell_piece(&piece)?;
+            push_piece(self.alloc, &mut pieces, &piece)?;
         }
-        Ok(())
+        Ok(pieces)
     }
 
-    // Its text, its length, and `>` where the text goes on.
-    fn tell_piece(&mut self, piece: &Line) -> Result<(), Fault> {
-        let text = shown(self.alloc, piece)?;
-        let len = piece.len();
-        let mark = if piece.last_cell_was_wrapped() {
-            ">"
-        } else {
-            ""
-        };
-        let told = format!(in self.alloc; "  {text}{len}{mark}")?;
-        self.tell(told.as_str())
-    }
-
-    fn asked(&mut self, words: &[&str]) -> Result<(), Fault> {
-        let told = match words {
+    fn asked(&mut self, words: &[&str]) -> Result<String, Fault> {
+        let answer = match words {
             ["same", number] => self.same(number),
             ["zones"] => self.zones(),
             ["fresh"] => self.fresh(),
             ["lent"] => self.lent(),
             _ => self.answered(words),
-        };
-        self.tell_answer(told?.as_str())
-    }
-
-    fn tell_answer(&mut self, answer: &str) -> Result<(), Fault> {
-        self.told.push_str("  ")?;
-        self.tell(if answer.is_empty() { "nothing" } else { answer })
+        }?;
+        if answer.is_empty() {
+            return Ok("nothing".to_owned(self.alloc)?);
+        }
+        Ok(answer)
     }
 
     fn answered(&self, words: &[&str]) -> Result<String, Fault> {
@@ -200,22 +155,22 @@ impl Stage {
 
     fn same(&self, number: &str) -> Result<String, Fault> {
         let same = *self.own()? == *self.other(number)?;
-        told_truth(self.alloc, same)
+        truth_word(self.alloc, same)
     }
 
     fn zones(&mut self) -> Result<String, Fault> {
-        let mut told = String::new(self.alloc);
+        let mut zones = String::new(self.alloc);
         for zone in self.own_mut()?.semantic_zone_ranges()? {
             let (semantic_type, range) = (zone.semantic_type, &zone.range);
-            write!(told, "{semantic_type:?} {range:?}|")?;
+            write!(zones, "{semantic_type:?} {range:?}|")?;
         }
-        Ok(told)
+        Ok(zones)
     }
 
     // Whether the zones are those of a copy, which keeps none.
     fn fresh(&mut self) -> Result<String, Fault> {
         let fresh = has_own_zones(self.own_mut()?)?;
-        told_truth(self.alloc, fresh)
+        truth_word(self.alloc, fresh)
     }
 
     // The texts of the cells that are lent for writing.
@@ -224,6 +179,19 @@ impl Stage {
         let cells: &[Cell] = self.own_mut()?.cells_mut()?;
         texts_apart(alloc, cells)
     }
+}
+
+// Adds a piece's text and length, and `>` where the text goes on.
+fn push_piece(alloc: Global, pieces: &mut String, piece: &Line) -> Result<(), Fault> {
+    let text = shown(alloc, piece)?;
+    let len = piece.len();
+    let mark = if piece.last_cell_was_wrapped() {
+        ">"
+    } else {
+        ""
+    };
+    writeln!(pieces, "{text}{len}{mark}")?;
+    Ok(())
 }
 
 fn has_own_zones(line: &mut Line) -> Result<bool, AllocError> {

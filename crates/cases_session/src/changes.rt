@@ -1,8 +1,9 @@
 //! Changes that no script makes, by their words.
 use cases_words::fault::Fault;
+use cases_words::places::position;
 use std::alloc::Global;
 use termwiz_cell::cell::{AttributeChange, CellAttributes, Intensity, Underline};
-use termwiz_cell::change::{Change, CursorShape, CursorVisibility, LineAttribute, Position};
+use termwiz_cell::change::{Change, CursorShape, CursorVisibility, LineAttribute};
 use termwiz_cell::color::{ColorAttribute, RgbColor};
 
 /// The change of these words.
@@ -52,19 +53,4 @@ fn moved(x: &str, y: &str) -> Result<Change, Fault> {
     let x = position(x)?;
     let y = position(y)?;
     Ok(Change::CursorPosition { x, y })
-}
-
-/// A place: `$` and a number from the end, or `~` and a distance.
-fn position(word: &str) -> Result<Position, Fault> {
-    if let Some(number) = word.strip_prefix('$') {
-        return Ok(Position::EndRelative(given(number)?));
-    }
-    let distance = word.strip_prefix('~').ok_or(Fault::Bad)?;
-    let distance = distance.parse().map_err(|_| Fault::Bad)?;
-    Ok(Position::Relative(distance))
-}
-
-/// The number that a word writes.
-pub fn given(word: &str) -> Result<usize, Fault> {
-    word.parse().map_err(|_| Fault::Bad)
 }

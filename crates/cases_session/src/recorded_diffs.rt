@@ -4,7 +4,7 @@
 //! changes as the program prints them, and `draw X Y`, of which the program shows the first one.
 use crate::shown::printed;
 use cases_words::fault::Fault;
-use cases_words::recorded::Play;
+use cases_words::play::Play;
 use cases_words::words::pair;
 use std::alloc::Global;
 use surfview_session::script::{Events, read};
@@ -41,7 +41,7 @@ impl Player {
                 Ok(String::new(self.alloc))
             }
             [">", "draw", x, y] => drawn(self.alloc, &mut self.a, &self.b, pair(x, y)?),
-            [">", words @ ..] => told_changes(self.alloc, self.diff(words)?),
+            [">", words @ ..] => changes_printed(self.alloc, self.diff(words)?),
             _ => Err(Fault::Bad),
         }
     }
@@ -83,10 +83,6 @@ impl Play for Player {
             }
         }
     }
-
-    fn end(&mut self) -> Result<String, Fault> {
-        Ok(String::new(self.alloc))
-    }
 }
 
 fn surface(alloc: Global, width: &str, height: &str) -> Result<Surface<UnicodeWidths>, Fault> {
@@ -98,7 +94,7 @@ fn surface(alloc: Global, width: &str, height: &str) -> Result<Surface<UnicodeWi
     }
 }
 
-// Makes the changes of a script's line, which are answered nothing.
+// Makes the changes of a script's line, which has no answer.
 fn make(alloc: Global, surface: &mut Surface<UnicodeWidths>, line: &str) -> Result<String, Fault> {
     let Ok(Events::OfOne(events)) = read(alloc, line) else {
         return Err(Fault::Bad);
@@ -113,9 +109,12 @@ fn make(alloc: Global, surface: &mut Surface<UnicodeWidths>, line: &str) -> Resu
 }
 
 // The changes as the program prints them.
-fn told_changes(alloc: Global, changes: Vec<Change>) -> Result<String, Fault> {
-    let told = printed(alloc, &Outcome::Asked(0, changes))?;
-    let lines = told.as_str().strip_prefix("number 0\n").ok_or(Fault::Bad)?;
+fn changes_printed(alloc: Global, changes: Vec<Change>) -> Result<String, Fault> {
+    let answer = printed(alloc, &Outcome::Asked(0, changes))?;
+    let lines = answer
+        .as_str()
+        .strip_prefix("number 0\n")
+        .ok_or(Fault::Bad)?;
     Ok(lines.to_owned(alloc)?)
 }
 

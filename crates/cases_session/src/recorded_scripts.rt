@@ -3,7 +3,7 @@
 use crate::stage::text_of;
 use crate::trial::Trial;
 use cases_words::fault::Fault;
-use cases_words::recorded::Play;
+use cases_words::play::Play;
 use std::alloc::Global;
 
 /// Runs the scripts.
@@ -45,9 +45,9 @@ impl Play for Player {
     }
 
     // A session that ends early prints no such answer.
-    fn end(&mut self) -> Result<String, Fault> {
+    fn end(&mut self) -> Result<Option<String>, Fault> {
         match self.trial.run() {
-            0 => text_of(self.alloc, self.trial.out.kept()),
+            0 => Ok(Some(text_of(self.alloc, self.trial.out.kept())?)),
             _ => Err(Fault::Bad),
         }
     }

@@ -1,4 +1,4 @@
-//! What outcomes and the events of scripts are told as.
+//! The printed forms of outcomes, and the events of scripts.
 use cases_words::fault::Fault;
 use std::alloc::{AllocError, Global};
 use surfview_session::printed::{Printed, PrintedMany};
@@ -29,12 +29,12 @@ pub fn made(alloc: Global, text: &str) -> Result<String, Fault> {
 }
 
 fn made_by_each(alloc: Global, events: Vec<Event<UnicodeWidths>>) -> Result<String, Fault> {
-    let mut told = String::new(alloc);
+    let mut lines = String::new(alloc);
     for event in events {
-        let lines = made_by(alloc, event)?;
-        told.push_str(lines.as_str())?;
+        let made = made_by(alloc, event)?;
+        lines.push_str(made.as_str())?;
     }
-    Ok(told)
+    Ok(lines)
 }
 
 fn made_by(alloc: Global, event: Event<UnicodeWidths>) -> Result<String, Fault> {
@@ -54,21 +54,21 @@ pub fn listed(alloc: Global, text: &str) -> Result<String, Fault> {
 }
 
 fn listed_for_one(alloc: Global, events: &[Event<UnicodeWidths>]) -> Result<String, Fault> {
-    let mut told = String::new(alloc);
+    let mut lines = String::new(alloc);
     for event in events {
         let line = named(alloc, event)?;
-        told.push_str(line.as_str())?;
+        lines.push_str(line.as_str())?;
     }
-    Ok(told)
+    Ok(lines)
 }
 
 fn listed_for_many(alloc: Global, events: &[ManyEvent<UnicodeWidths>]) -> Result<String, Fault> {
-    let mut told = String::new(alloc);
+    let mut lines = String::new(alloc);
     for event in events {
         let line = named_for_many(alloc, event)?;
-        told.push_str(line.as_str())?;
+        lines.push_str(line.as_str())?;
     }
-    Ok(told)
+    Ok(lines)
 }
 
 fn named_for_many(alloc: Global, event: &ManyEvent<UnicodeWidths>) -> Result<String, AllocError> {

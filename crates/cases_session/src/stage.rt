@@ -1,22 +1,30 @@
-//! What the lines of the cases do, and what is told of it.
-use crate::changes::{change, given};
+//! What the lines of the cases do, and their answers.
+use crate::changes::change;
 use crate::channels::Sink;
 use crate::shown::{accept_error, listed, made, printed, printed_many, surface_error};
 use crate::trial::Trial;
 use cases_words::fault::Fault;
+use cases_words::play::{Play, push_lines};
+use cases_words::words::{given, pair};
 use std::alloc::Global;
 use std::io::ErrorKind;
 use std::mem;
 use termwiz_cell::change::Change;
 use termwiz_surface::view::{ManyOutcome, Outcome};
 
-/// The session of a case, the changes for an outcome, and what was told so far.
+/// The session of a case, and the changes for an outcome.
 #[derive(Drop)]
 pub struct Stage {
     alloc: Global,
     trial: Trial,
     changes: Vec<Change>,
-    told: String,
+}
+
+impl Play for Stage {
+    fn line(&mut self, line: &str) -> Result<String, Fault> {
+        let answer = self.answer(line)?;
+        with_note(answer)
+    }
 }
 
 impl Stage {
@@ -25,43 +33,13 @@ impl Stage {
             alloc,
             trial: Trial::new(alloc),
             changes: Vec::new(alloc),
-            told: String::new(alloc),
         }
     }
 
-    /// What was told so far.
-    pub fn told(&self) -> &str {
-        self.told.as_str()
-    }
-
-    /// Plays each line, and tells it again before its answer. A fault is told below its line, and
-    /// ends the play.
-    pub fn play(&mut self, cases: &str) -> Result<(), Fault> {
-        for line in cases.lines() {
-            self.tell("", line)?;
-            if !line.is_empty() {
-                self.played(line)?;
-            }
-        }
-        Ok(())
-    }
-
-    fn played(&mut self, line: &str) -> Result<(), Fault> {
-        let played = self.line(line);
-        match played {
-            Ok(()) => Ok(()),
-            Err(fault) => self.tell_fault(fault),
-        }
-    }
-
-    fn tell_fault(&mut self, fault: Fault) -> Result<(), Fault> {
-        self.tell("  ", "no such command here, or no memory")?;
-        Err(fault)
-    }
-
-    fn line(&mut self, line: &str) -> Result<(), Fault> {
+    fn answer(&mut self, line: &str) -> Result<String, Fault> {
         if let Some(text) = line.strip_prefix('|') {
-            return self.add_line(text);
+            self.add_line(text)?;
+            return self.silent();
         }
         if let Some((name, text)) = bracketed(line) {
             return self.text(name, text);
@@ -70,72 +48,79 @@ impl Stage {
         self.command(words.as_slice())
     }
 
-    /// What a command does that has a text in brackets.
-    fn text(&mut self, name: &str, text: &str) -> Result<(), Fault> {
+    // No answer.
+    fn silent(&self) -> Result<String, Fault> {
+        Ok(String::new(self.alloc))
+    }
+
+    // The answer of a command that has a text in brackets.
+    fn text(&mut self, name: &str, text: &str) -> Result<String, Fault> {
         match name {
-            "part" => self.trial.add(text.as_bytes()),
-            "word" => self.trial.add_word(text),
             "alone" => self.run_alone(text),
             "bad" => self.run_bad(text),
-            "made" => self.tell_made(text),
-            _ => Err(Fault::Bad),
+            "made" => made(self.alloc, text),
+            _ => self.add_text(name, text),
         }
     }
 
-    fn command(&mut self, words: &[&str]) -> Result<(), Fault> {
+    fn add_text(&mut self, name: &str, text: &str) -> Result<String, Fault> {
+        match name {
+            "part" => self.trial.add(text.as_bytes())?,
+            "word" => self.trial.add_word(text)?,
+            _ => return Err(Fault::Bad),
+        }
+        self.silent()
+    }
+
+    fn command(&mut self, words: &[&str]) -> Result<String, Fault> {
         match words {
-            ["case", ..] => self.begin(),
-            ["words", words @ ..] => self.trial.set_words(words),
             ["run"] => self.run(),
-            ["bytes", bytes @ ..] => self.add_bytes(bytes),
-            _ => self.rarer(words),
-        }
-    }
-
-    fn rarer(&mut self, words: &[&str]) -> Result<(), Fault> {
-        match words {
             ["count"] => self.count(),
             ["report"] => self.report(),
-            ["events"] => self.tell_events(),
-            ["fails", words @ ..] => self.fail(words),
+            ["events"] => self.events(),
             _ => self.outcome(words),
         }
     }
 
+    fn outcome(&mut self, words: &[&str]) -> Result<String, Fault> {
+        match words {
+            ["answered", number] => self.answered(number),
+            ["refused", word] => self.refused(word),
+            ["shown", x, y] => self.shown(x, y),
+            ["asked", number] => self.asked(number),
+            ["unaccepted", word] => self.unaccepted(word),
+            ["unanswered", word] => self.unanswered(word),
+            _ => self.step(words),
+        }
+    }
+
+    fn step(&mut self, words: &[&str]) -> Result<String, Fault> {
+        match words {
+            ["case", ..] => self.begin(),
+            ["words", words @ ..] => self.trial.set_words(words)?,
+            ["bytes", bytes @ ..] => self.add_bytes(bytes)?,
+            ["change", words @ ..] => self.add_change(words)?,
+            ["fails", words @ ..] => self.fail(words)?,
+            _ => return Err(Fault::Bad),
+        }
+        self.silent()
+    }
+
     fn fail(&mut self, words: &[&str]) -> Result<(), Fault> {
         match words {
-            ["read"] => self.fail_to_read(ErrorKind::Other),
-            ["read", "memory"] => self.fail_to_read(ErrorKind::OutOfMemory),
-            ["flush"] => self.fail_to_flush(),
-            ["write", writes] => self.fail_to_write(writes),
-            ["error", writes] => self.fail_to_write_error(writes),
-            _ => Err(Fault::Bad),
+            ["read"] => self.trial.fail_to_read(ErrorKind::Other),
+            ["read", "memory"] => self.trial.fail_to_read(ErrorKind::OutOfMemory),
+            ["flush"] => self.trial.out.fail_to_flush(),
+            ["write", writes] => self.trial.out.fail_after(given(writes)?),
+            ["error", writes] => self.trial.err.fail_after(given(writes)?),
+            _ => return Err(Fault::Bad),
         }
+        Ok(())
     }
 
-    fn outcome(&mut self, words: &[&str]) -> Result<(), Fault> {
-        match words {
-            ["answered", number] => self.tell_answered(number),
-            ["refused", word] => self.tell_refused(word),
-            ["shown", x, y] => self.tell_shown(x, y),
-            ["change", words @ ..] => self.add_change(words),
-            ["asked", number] => self.tell_asked(number),
-            _ => self.outcome_of_many(words),
-        }
-    }
-
-    fn outcome_of_many(&mut self, words: &[&str]) -> Result<(), Fault> {
-        match words {
-            ["unaccepted", word] => self.tell_unaccepted(word),
-            ["unanswered", word] => self.tell_unanswered(word),
-            _ => Err(Fault::Bad),
-        }
-    }
-
-    fn begin(&mut self) -> Result<(), Fault> {
+    fn begin(&mut self) {
         self.trial = Trial::new(self.alloc);
         self.changes = Vec::new(self.alloc);
-        Ok(())
     }
 
     fn add_line(&mut self, text: &str) -> Result<(), Fault> {
@@ -150,160 +135,106 @@ impl Stage {
         Ok(())
     }
 
-    fn fail_to_read(&mut self, kind: ErrorKind) -> Result<(), Fault> {
-        self.trial.fail_to_read(kind);
-        Ok(())
-    }
-
-    fn fail_to_flush(&mut self) -> Result<(), Fault> {
-        self.trial.out.fail_to_flush();
-        Ok(())
-    }
-
-    fn fail_to_write(&mut self, writes: &str) -> Result<(), Fault> {
-        self.trial.out.fail_after(given(writes)?);
-        Ok(())
-    }
-
-    fn fail_to_write_error(&mut self, writes: &str) -> Result<(), Fault> {
-        self.trial.err.fail_after(given(writes)?);
-        Ok(())
-    }
-
-    fn run(&mut self) -> Result<(), Fault> {
-        let status = self.trial.run();
-        self.tell_end(status)
-    }
-
-    fn run_alone(&mut self, text: &str) -> Result<(), Fault> {
-        self.trial.add(text.as_bytes())?;
-        self.run()
-    }
-
-    /// The line stands between a good one and another that is bad.
-    fn run_bad(&mut self, line: &str) -> Result<(), Fault> {
-        self.add_line("show")?;
-        self.add_line(line)?;
-        self.add_line("fly")?;
-        self.run()
-    }
-
-    fn count(&mut self) -> Result<(), Fault> {
-        self.trial.run();
-        let Sink {
-            writes,
-            flushes,
-            ..
-        } = &self.trial.out;
-        let told = format!(in self.alloc; "writes {writes}, flushes {flushes}\n")?;
-        self.trial.clear();
-        self.tell_text("  ", told.as_str())
-    }
-
-    fn report(&mut self) -> Result<(), Fault> {
-        let status = self.trial.report_memory();
-        self.tell_end(status)
-    }
-
-    /// Tells what was written, and the status.
-    fn tell_end(&mut self, status: u8) -> Result<(), Fault> {
-        let out = text_of(self.alloc, self.trial.out.kept())?;
-        let err = text_of(self.alloc, self.trial.err.kept())?;
-        self.trial.clear();
-        self.tell_text("  ", out.as_str())?;
-        self.tell_text("  error: ", err.as_str())?;
-        self.tell_status(status)
-    }
-
-    fn tell_status(&mut self, status: u8) -> Result<(), Fault> {
-        let told = format!(in self.alloc; "status {status}")?;
-        self.tell("  ", told.as_str())
-    }
-
-    fn tell_made(&mut self, text: &str) -> Result<(), Fault> {
-        let told = made(self.alloc, text)?;
-        self.tell_text("  ", told.as_str())
-    }
-
-    fn tell_events(&mut self) -> Result<(), Fault> {
-        let told = listed(self.alloc, self.trial.text()?)?;
-        self.trial.clear();
-        self.tell_text("  ", told.as_str())
-    }
-
-    fn tell_outcome(&mut self, outcome: &Outcome) -> Result<(), Fault> {
-        let told = printed(self.alloc, outcome)?;
-        self.tell_text("  ", told.as_str())
-    }
-
-    fn tell_answered(&mut self, number: &str) -> Result<(), Fault> {
-        let number = given(number)?;
-        self.tell_outcome(&Outcome::Answered(number))
-    }
-
-    fn tell_refused(&mut self, word: &str) -> Result<(), Fault> {
-        let error = surface_error(word)?;
-        self.tell_outcome(&Outcome::Refused(error))
-    }
-
-    fn tell_unaccepted(&mut self, word: &str) -> Result<(), Fault> {
-        let error = accept_error(word)?;
-        self.tell_outcome_of_many(&ManyOutcome::NotAccepted(error))
-    }
-
-    fn tell_unanswered(&mut self, word: &str) -> Result<(), Fault> {
-        let error = surface_error(word)?;
-        self.tell_outcome_of_many(&ManyOutcome::Refused(error))
-    }
-
-    fn tell_outcome_of_many(&mut self, outcome: &ManyOutcome) -> Result<(), Fault> {
-        let told = printed_many(self.alloc, outcome)?;
-        self.tell_text("  ", told.as_str())
-    }
-
-    /// Tells the lines of the input as rows.
-    fn tell_shown(&mut self, x: &str, y: &str) -> Result<(), Fault> {
-        let (x, y) = (given(x)?, given(y)?);
-        let rows = String::from_str(self.alloc, self.trial.text()?)?;
-        self.trial.clear();
-        self.tell_outcome(&Outcome::Shown(rows, (x, y)))
-    }
-
     fn add_change(&mut self, words: &[&str]) -> Result<(), Fault> {
         let change = change(self.alloc, words)?;
         self.changes.push(change)?;
         Ok(())
     }
 
-    fn tell_asked(&mut self, number: &str) -> Result<(), Fault> {
+    fn run(&mut self) -> Result<String, Fault> {
+        let status = self.trial.run();
+        self.ending(status)
+    }
+
+    fn run_alone(&mut self, text: &str) -> Result<String, Fault> {
+        self.trial.add(text.as_bytes())?;
+        self.run()
+    }
+
+    // The line stands between a good one and another that is bad.
+    fn run_bad(&mut self, line: &str) -> Result<String, Fault> {
+        self.add_line("show")?;
+        self.add_line(line)?;
+        self.add_line("fly")?;
+        self.run()
+    }
+
+    fn count(&mut self) -> Result<String, Fault> {
+        self.trial.run();
+        let Sink {
+            writes,
+            flushes,
+            ..
+        } = &self.trial.out;
+        let counts = format!(in self.alloc; "writes {writes}, flushes {flushes}\n")?;
+        self.trial.clear();
+        Ok(counts)
+    }
+
+    fn report(&mut self) -> Result<String, Fault> {
+        let status = self.trial.report_memory();
+        self.ending(status)
+    }
+
+    // What was written, the error, and the status.
+    fn ending(&mut self, status: u8) -> Result<String, Fault> {
+        let mut ending = with_note(text_of(self.alloc, self.trial.out.kept())?)?;
+        let error = with_note(text_of(self.alloc, self.trial.err.kept())?)?;
+        self.trial.clear();
+        push_lines(&mut ending, "error: ", error.as_str())?;
+        writeln!(ending, "status {status}")?;
+        Ok(ending)
+    }
+
+    fn events(&mut self) -> Result<String, Fault> {
+        let events = listed(self.alloc, self.trial.text()?)?;
+        self.trial.clear();
+        Ok(events)
+    }
+
+    fn answered(&self, number: &str) -> Result<String, Fault> {
+        printed(self.alloc, &Outcome::Answered(given(number)?))
+    }
+
+    fn refused(&self, word: &str) -> Result<String, Fault> {
+        printed(self.alloc, &Outcome::Refused(surface_error(word)?))
+    }
+
+    fn unaccepted(&self, word: &str) -> Result<String, Fault> {
+        printed_many(self.alloc, &ManyOutcome::NotAccepted(accept_error(word)?))
+    }
+
+    fn unanswered(&self, word: &str) -> Result<String, Fault> {
+        printed_many(self.alloc, &ManyOutcome::Refused(surface_error(word)?))
+    }
+
+    // The lines of the input are the rows.
+    fn shown(&mut self, x: &str, y: &str) -> Result<String, Fault> {
+        let place = pair(x, y)?;
+        let rows = String::from_str(self.alloc, self.trial.text()?)?;
+        self.trial.clear();
+        printed(self.alloc, &Outcome::Shown(rows, place))
+    }
+
+    fn asked(&mut self, number: &str) -> Result<String, Fault> {
         let number = given(number)?;
         let changes = mem::replace(&mut self.changes, Vec::new(self.alloc));
-        self.tell_outcome(&Outcome::Asked(number, changes))
-    }
-
-    fn tell(&mut self, mark: &str, line: &str) -> Result<(), Fault> {
-        self.told.push_str(mark)?;
-        self.told.push_str(line)?;
-        self.told.push('\n')?;
-        Ok(())
-    }
-
-    /// Tells each line behind a mark, and where the last one has no end.
-    fn tell_text(&mut self, mark: &str, text: &str) -> Result<(), Fault> {
-        for line in text.split_inclusive('\n') {
-            self.told.push_str(mark)?;
-            self.told.push_str(line)?;
-        }
-        if text.is_empty() || text.ends_with('\n') {
-            return Ok(());
-        }
-        self.tell("\n  ", "no line end")
+        printed(self.alloc, &Outcome::Asked(number, changes))
     }
 }
 
-/// The name and the text of a command with a text in brackets.
+// The name and the text of a command with a text in brackets.
 fn bracketed(line: &str) -> Option<(&str, &str)> {
     line.strip_suffix(']')?.split_once(" [")
+}
+
+// The text, and a note where its last line has no end.
+fn with_note(text: String) -> Result<String, Fault> {
+    let mut text = text;
+    if !text.is_empty() && !text.as_str().ends_with('\n') {
+        text.push_str("\nno line end\n")?;
+    }
+    Ok(text)
 }
 
 /// The text of these bytes.

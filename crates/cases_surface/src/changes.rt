@@ -1,6 +1,11 @@
 //! Changes by the words of a line.
-use crate::fault::Fault;
-use crate::words::{attribute, color, given, line_attribute, pen, position, shape, unescaped};
+use cases_words::attributes::attribute;
+use cases_words::escapes::unescaped;
+use cases_words::fault::Fault;
+use cases_words::pens::pen;
+use cases_words::places::position;
+use cases_words::shapes::{line_attribute, shape};
+use cases_words::words::{color, given};
 use std::alloc::Global;
 use termwiz_cell::cell::CellAttributes;
 use termwiz_cell::change::{Change, CursorVisibility};
@@ -36,15 +41,15 @@ fn written(alloc: Global, name: &str, rest: &str) -> Result<Option<Change>, Faul
 }
 
 fn text(alloc: Global, rest: &str) -> Result<Option<Change>, Fault> {
-    Ok(Some(Change::Text(unescaped(alloc, rest)?)))
+    Ok(Some(Change::Text(unescaped(alloc, rest, ' ')?)))
 }
 
 fn title(alloc: Global, rest: &str) -> Result<Option<Change>, Fault> {
-    Ok(Some(Change::Title(unescaped(alloc, rest)?)))
+    Ok(Some(Change::Title(unescaped(alloc, rest, ' ')?)))
 }
 
 fn all_attributes(alloc: Global, rest: &str) -> Result<Option<Change>, Fault> {
-    Ok(Some(Change::AllAttributes(pen(alloc, rest)?)))
+    Ok(Some(Change::AllAttributes(pen(alloc, rest, ' ')?)))
 }
 
 fn moved(rest: &str) -> Result<Option<Change>, Fault> {
@@ -57,7 +62,7 @@ fn scrolled(alloc: Global, name: &str, rest: &str) -> Result<Option<Change>, Fau
     match name {
         "up" => scroll_up(alloc, rest),
         "down" => scroll_down(alloc, rest),
-        "set" => set(rest),
+        "set" => set(alloc, rest),
         "shape" => cursor_shape(rest),
         _ => cleared(name, rest),
     }
@@ -90,8 +95,8 @@ fn scroll_down(alloc: Global, rest: &str) -> Result<Option<Change>, Fault> {
     }))
 }
 
-fn set(rest: &str) -> Result<Option<Change>, Fault> {
-    Ok(Some(Change::Attribute(attribute(rest)?)))
+fn set(alloc: Global, rest: &str) -> Result<Option<Change>, Fault> {
+    Ok(Some(Change::Attribute(attribute(alloc, rest)?)))
 }
 
 fn cursor_shape(rest: &str) -> Result<Option<Change>, Fault> {

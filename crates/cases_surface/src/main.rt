@@ -1,9 +1,9 @@
-//! Plays worked cases: surfaces that are drawn in steps, and what is asked of them, line by line.
+//! Plays worked cases: surfaces that are drawn in steps, and questions about them, line by line.
 //!
-//! Standard input has the cases, and standard output tells them again with each answer below its
-//! line, two spaces in. A line that begins with `#` says what a case shows, or with `##` what the
-//! coming cases are about, and is not told. Words are parted by one space. The play ends at a line
-//! that is no command.
+//! Standard input has the cases, and standard output repeats them with each answer below its line,
+//! two spaces in. A line that begins with `#` says what a case shows, or with `##` what the coming
+//! cases are about, and isn't repeated. Words are parted by one space. The play ends at a line that
+//! is no command.
 //!
 //! A case:
 //! - `case TITLE`: begins a case, with nothing left of the one before.
@@ -11,15 +11,15 @@
 //! What a case has. Surfaces and viewers are numbered from 0 on, each by themselves:
 //! - `new WIDTH HEIGHT MEASURE`: a surface, on which the coming changes are made. A measure is
 //!   `unicode`, `one` (each grapheme has one column) or `wide` (all but a space have two).
-//! - `new-full WIDTH HEIGHT MEASURE`: the same of a full surface.
+//! - `new-full WIDTH HEIGHT MEASURE`: a full surface.
 //! - `clone`: one more surface, a clone of this one.
 //! - `on N`: the coming lines are about this surface.
 //! - `viewer`: a viewer of this surface, or of the viewer that is viewed.
-//! - `view N`: what is asked then is asked of this viewer's surface.
+//! - `view N`: the coming questions are about this viewer's surface.
 //! - `sequence WIDTH HEIGHT MEASURE`: a sequence in place of any before, to which the coming
 //!   changes are added.
 //!
-//! Changes. On a surface they tell their numbers, and everywhere why they are refused:
+//! Changes. On a surface each answers its number, and anywhere why it is refused:
 //! - `text TEXT`, `title TEXT` (or `title` alone): with `\n`, `\r`, `\t`, `\s` (a space), `\\` and
 //!   `\u{HEX}`.
 //! - `move X Y`: a place is `=N` from the start, `$N` from the end, or `~N` a distance.
@@ -36,16 +36,16 @@
 //! - `resize WIDTH HEIGHT`, `flush N`.
 //! - `draw N X Y`: surface N is drawn on this one.
 //! - `copy X Y WIDTH HEIGHT TO_X TO_Y`: a region is copied.
-//! - `lead N SEQ`: surface N makes what is due from a number on, and the number for the next time
-//!   is told.
-//! - `follow N`: viewer N follows this surface. Its answer, its last number, the surface's number
-//!   and whether both show the same are told.
+//! - `lead N SEQ`: surface N makes what is due from a number on; answers the number for the next
+//!   time.
+//! - `follow N`: viewer N follows this surface; answers what it returned, its last number, the
+//!   surface's number and whether both show the same.
 //! - `goto X Y`: a sequence moves to a place.
 //!
-//! What is asked:
+//! Questions:
 //! - `rows`: the rows and the cursor's place; `number`: that of the coming change; `kept`: the
 //!   title, the cursor's shape and whether it is shown.
-//! - `screen`: how many columns each row of the screen has; `flags`: the same of each line, and
+//! - `screen`: how many columns each row of the screen has; `flags`: how many each line has, and
 //!   whether it is double wide; `cells`: the texts of each row's stored cells.
 //! - `full`: the rows, the cursor, and all that a full surface carries; `full-same N`: whether
 //!   surface N has the same.
@@ -62,34 +62,17 @@
 //! Any number may be `max`, and a distance `min` too.
 #![tactic(auto)]
 
+mod answers;
 mod changes;
-mod fault;
 mod measure;
-mod play;
 mod sequences;
+mod sizes;
 mod stage;
-mod tell;
-mod words;
 
-use play::Play;
-use std::io::{Read, Write};
-use std::process::ExitCode;
+use cases_words::fault::Fault;
+use cases_words::play::play_input;
+use stage::Stage;
 
-fn main(rt: HostRuntime) -> ExitCode {
-    let mut bytes = Vec::new(rt.alloc());
-    if rt.stdin().read_to_end(&mut bytes).is_err() {
-        return ExitCode::FAILURE;
-    }
-    let Ok(script) = str::from_utf8(bytes.as_slice()) else {
-        return ExitCode::FAILURE;
-    };
-    let mut play = Play::new(rt.alloc());
-    let played = play.play(script);
-    if rt.stdout().write_all(play.told().as_bytes()).is_err() {
-        return ExitCode::FAILURE;
-    }
-    match played {
-        Ok(()) => ExitCode::SUCCESS,
-        Err(_) => ExitCode::FAILURE,
-    }
+fn main(rt: HostRuntime) -> Result<(), Fault> {
+    play_input(&rt, &mut Stage::new(rt.alloc()))
 }

@@ -1,12 +1,12 @@
 //! The surfaces of a case, and what the lines do with them.
-ghost use Rattle.std.specs.Prelude.{◌<◌, ◌^◌, IfOk};
-
+use crate::answers;
 use crate::changes::change;
-use crate::fault::Fault;
 use crate::measure::Measure;
 use crate::sequences::{Sequence, sequence_refusals};
-use crate::tell;
-use crate::words::{given, pair, size};
+use crate::sizes::{measured_size, size};
+use cases_words::fault::Fault;
+use cases_words::play::Play;
+use cases_words::words::{given, pair};
 use std::alloc::Global;
 use termwiz_cell::change::{Change, SequenceNo};
 use termwiz_surface::surface::{Surface, SurfaceError};
@@ -31,6 +31,19 @@ pub struct Stage {
     list: Option<Vec<Change>>,
 }
 
+impl Play for Stage {
+    fn line(&mut self, line: &str) -> Result<String, Fault> {
+        if line.starts_with("case ") {
+            *self = Stage::new(self.alloc);
+            return self.silent();
+        }
+        match change(self.alloc, line)? {
+            Some(change) => self.add(change),
+            None => self.command(line),
+        }
+    }
+}
+
 impl Stage {
     pub fn new(alloc: Global) -> Stage {
         Stage {
@@ -40,14 +53,6 @@ impl Stage {
             shown: Shown::Surface(0),
             sequence: None,
             list: None,
-        }
-    }
-
-    /// Plays a line, and gives its answer.
-    pub fn line(&mut self, line: &str) -> Result<String, Fault> {
-        match change(self.alloc, line)? {
-            Some(change) => self.add(change),
-            None => self.command(line),
         }
     }
 
@@ -101,16 +106,16 @@ impl Stage {
             "follow" => self.follow(words),
             "goto" => self.goto(words),
             "consume" => self.consume(),
-            _ => self.told(name, words),
+            _ => self.answer(name, words),
         }
     }
 
     // The answer of a command that changes nothing.
-    fn told(&self, name: &str, words: &[&str]) -> Result<String, Fault> {
+    fn answer(&self, name: &str, words: &[&str]) -> Result<String, Fault> {
         match name {
             "place" => self.place(),
-            "cell" => tell::cell(self.alloc, words),
-            "refusals" => tell::refusals(self.alloc),
+            "cell" => answers::cell(self.alloc, words),
+            "refusals" => answers::refusals(self.alloc),
             "sequence-refusals" => sequence_refusals(self.alloc),
             _ => self.read(name, words),
         }
@@ -127,11 +132,11 @@ impl Stage {
 
     fn asked(&self, own: &Surface<Measure>, name: &str, word: &str) -> Result<String, Fault> {
         match name {
-            "has" => tell::has(self.alloc, own, word),
-            "ask" => tell::answer(self.alloc, own, word),
-            "same" => tell::same(self.alloc, own, self.other(word)?),
-            "full-same" => tell::full_same(self.alloc, own, self.other(word)?),
-            "diff" => tell::diff(self.alloc, own, self.other(word)?),
+            "has" => answers::has(self.alloc, own, word),
+            "ask" => answers::answer(self.alloc, own, word),
+            "same" => answers::same(self.alloc, own, self.other(word)?),
+            "full-same" => answers::full_same(self.alloc, own, self.other(word)?),
+            "diff" => answers::diff(self.alloc, own, self.other(word)?),
             _ => Err(Fault::Bad),
         }
     }
@@ -143,8 +148,8 @@ impl Stage {
         words: &[&str],
     ) -> Result<String, Fault> {
         match name {
-            "diff-line" => tell::line_diff(self.alloc, own, words),
-            "diff-lines" => tell::lines_diff(self.alloc, own, words),
+            "diff-line" => answers::line_diff(self.alloc, own, words),
+            "diff-lines" => answers::lines_diff(self.alloc, own, words),
             "diff-region" => self.region_diff(own, words),
             _ => Err(Fault::Bad),
         }
@@ -155,7 +160,7 @@ impl Stage {
             return Err(Fault::Bad);
         };
         let corner = pair(x, y)?;
-        tell::region_diff(self.alloc, own, place, self.other(number)?, corner)
+        answers::region_diff(self.alloc, own, place, self.other(number)?, corner)
     }
 
     fn own(&self) -> Result<&Surface<Measure>, Fault> {
@@ -188,7 +193,7 @@ impl Stage {
             return sequence.add(change);
         }
         let made = self.own_mut()?.add_change(change);
-        tell::made(self.alloc, made)
+        answers::made(self.alloc, made)
     }
 
     fn begin_list(&mut self) -> Result<String, Fault> {
@@ -202,7 +207,7 @@ impl Stage {
             return sequence.add_changes(list);
         }
         let made = self.own_mut()?.add_changes(list);
-        tell::made(self.alloc, made)
+        answers::made(self.alloc, made)
     }
 
     fn make(&mut self, words: &[&str]) -> Result<String, Fault> {
@@ -237,7 +242,7 @@ impl Stage {
         let viewer = Viewer::new(self.alloc, self.own()?)?;
         let last = viewer.last();
         self.viewers.push(viewer)?;
-        Ok(format!(in self.alloc; "  last {last}\n")?)
+        Ok(format!(in self.alloc; "last {last}")?)
     }
 
     fn make_sequence(&mut self, words: &[&str]) -> Result<String, Fault> {
@@ -263,7 +268,7 @@ impl Stage {
         let (width, height) = size(width, height)?;
         match self.own_mut()?.resize(width, height) {
             Ok(()) => self.silent(),
-            Err(error) => tell::made(self.alloc, Err(error)),
+            Err(error) => answers::made(self.alloc, Err(error)),
         }
     }
 
@@ -288,7 +293,7 @@ impl Stage {
         place: (usize, usize),
     ) -> Result<String, Fault> {
         let made = self.own_mut()?.draw_from_screen(other, place.0, place.1);
-        tell::made(self.alloc, made)
+        answers::made(self.alloc, made)
     }
 
     fn copy(&mut self, words: &[&str]) -> Result<String, Fault> {
@@ -298,7 +303,7 @@ impl Stage {
         let (from, size, to) = (pair(x, y)?, pair(width, height)?, pair(to_x, to_y)?);
         let own = self.own_mut()?;
         let made = own.copy_region(from.0, from.1, size.0, size.1, to.0, to.1);
-        tell::made(self.alloc, made)
+        answers::made(self.alloc, made)
     }
 
     // Another surface makes what is due from a number on.
@@ -307,16 +312,16 @@ impl Stage {
             return Err(Fault::Bad);
         };
         let (number, seq) = pair(number, seq)?;
-        let (told, changes) = self.due(seq)?;
+        let (next, changes) = self.due(seq)?;
         let other = self.surfaces.get_mut(number).ok_or(Fault::Bad)?;
         match other.add_changes(changes) {
-            Ok(_) => tell::made(self.alloc, Ok(told)),
-            refused => tell::made(self.alloc, refused),
+            Ok(_) => answers::made(self.alloc, Ok(next)),
+            refused => answers::made(self.alloc, refused),
         }
     }
 
     fn due(&self, seq: SequenceNo) -> Result<(SequenceNo, Vec<Change>), Fault> {
-        let (number, changes) = tell::due(self.own()?, seq)?;
+        let (number, changes) = answers::due(self.own()?, seq)?;
         Ok((number, changes.into_owned(self.alloc)?))
     }
 
@@ -329,8 +334,8 @@ impl Stage {
     fn follow_source(&mut self, number: usize, source: &Surface<Measure>) -> Result<String, Fault> {
         let viewer = self.viewers.get_mut(number).ok_or(Fault::Bad)?;
         match viewer.follow(source) {
-            Ok(answer) => told_follower(self.alloc, viewer, answer, source),
-            Err(error) => tell::made(self.alloc, Err(error)),
+            Ok(answer) => followed_words(self.alloc, viewer, answer, source),
+            Err(error) => answers::made(self.alloc, Err(error)),
         }
     }
 
@@ -350,23 +355,10 @@ impl Stage {
 
     fn consume(&mut self) -> Result<String, Fault> {
         match self.sequence.take() {
-            Some(sequence) => tell::listed(self.alloc, sequence.into_changes().as_slice()),
+            Some(sequence) => answers::listed(self.alloc, sequence.into_changes().as_slice()),
             None => Err(Fault::Bad),
         }
     }
-}
-
-// A width and a height, and how columns are measured.
-fn measured_size(words: &[&str]) -> Result<(usize, usize, Measure), Fault>
-    ensures { IfOk result (λ made.
-        (0 < made.0) × (made.0 < 2 ^ 32) × (0 < made.1) × (made.1 < 2 ^ 32)) }
-{
-    let [width, height, measure] = words else {
-        return Err(Fault::Bad);
-    };
-    let measure = Measure::from_word(measure).ok_or(Fault::Bad)?;
-    let (width, height) = size(width, height)?;
-    Ok((width, height, measure))
 }
 
 // The only number of the words.
@@ -380,25 +372,25 @@ fn one(words: &[&str]) -> Result<usize, Fault> {
 // What is asked of a surface by a name alone.
 fn named(alloc: Global, own: &Surface<Measure>, name: &str) -> Result<String, Fault> {
     match name {
-        "rows" => tell::rows(alloc, own),
-        "number" => tell::number(alloc, own),
-        "kept" => tell::kept(alloc, own),
-        "full" => tell::full(alloc, own),
-        "screen" => tell::screen(alloc, own),
-        "flags" => tell::flags(alloc, own),
-        "cells" => tell::cells(alloc, own),
+        "rows" => answers::rows(alloc, own),
+        "number" => answers::number(alloc, own),
+        "kept" => answers::kept(alloc, own),
+        "full" => answers::full(alloc, own),
+        "screen" => answers::screen(alloc, own),
+        "flags" => answers::flags(alloc, own),
+        "cells" => answers::cells(alloc, own),
         _ => Err(Fault::Bad),
     }
 }
 
 // How a viewer followed: its answer, its last number, the source's, and whether both show the same.
-fn told_follower(
+fn followed_words(
     alloc: Global,
     viewer: &Viewer<Measure>,
     answer: SequenceNo,
     source: &Surface<Measure>,
 ) -> Result<String, Fault> {
-    let same = tell::is_same(viewer.surface(), source)?;
+    let same = answers::is_same(viewer.surface(), source)?;
     let (last, number) = (viewer.last(), source.current_seqno());
-    Ok(format!(in alloc; "  = {answer}, last {last}, of {number}, shows the same: {same}\n")?)
+    Ok(format!(in alloc; "= {answer}, last {last}, of {number}, shows the same: {same}")?)
 }

@@ -1,7 +1,8 @@
-//! What is told of a surface.
-use crate::fault::Fault;
+//! Answers to the questions about a surface.
 use crate::measure::Measure;
-use crate::words::{given, pair, unescaped};
+use cases_words::escapes::unescaped;
+use cases_words::fault::Fault;
+use cases_words::words::{given, number_word, pair, truth_word};
 use std::alloc::Global;
 use std::borrow::CowSlice;
 use termwiz_cell::cell::{Cell, CellAttributes};
@@ -13,31 +14,31 @@ use termwiz_surface::surface::{FullScreen, Screen, Surface, SurfaceError};
 /// The number of a change that was made, or why it was refused.
 pub fn made(alloc: Global, made: Result<SequenceNo, SurfaceError>) -> Result<String, Fault> {
     match made {
-        Ok(number) => Ok(format!(in alloc; "  = {number}\n")?),
-        Err(error) => Ok(format!(in alloc; "  refused: {error}\n")?),
+        Ok(number) => Ok(format!(in alloc; "= {number}")?),
+        Err(error) => Ok(format!(in alloc; "refused: {error}")?),
     }
 }
 
 /// The rows, and the cursor.
 pub fn rows(alloc: Global, surface: &Surface<Measure>) -> Result<String, Fault> {
     let shown = surface.screen_chars_to_string()?;
-    let mut told = framed(alloc, shown.as_str())?;
+    let mut rows = framed(alloc, shown.as_str())?;
     let (x, y) = surface.cursor_position();
-    writeln!(told, "  cursor {x} {y}")?;
-    Ok(told)
+    writeln!(rows, "cursor {x} {y}")?;
+    Ok(rows)
 }
 
 // Each row between bars.
 fn framed(alloc: Global, shown: &str) -> Result<String, Fault> {
-    let mut told = String::new(alloc);
+    let mut rows = String::new(alloc);
     for row in shown.lines() {
-        writeln!(told, "  |{row}|")?;
+        writeln!(rows, "|{row}|")?;
     }
-    Ok(told)
+    Ok(rows)
 }
 
 pub fn number(alloc: Global, surface: &Surface<Measure>) -> Result<String, Fault> {
-    Ok(format!(in alloc; "  {}\n", surface.current_seqno())?)
+    number_word(alloc, surface.current_seqno())
 }
 
 /// What is kept beside the screen.
@@ -45,34 +46,34 @@ pub fn kept(alloc: Global, surface: &Surface<Measure>) -> Result<String, Fault> 
     let title = surface.title();
     let shape = surface.cursor_shape();
     let cursor = surface.cursor_visibility();
-    Ok(format!(in alloc; "  title {title:?}, shape {shape:?}, cursor {cursor:?}\n")?)
+    Ok(format!(in alloc; "title {title:?}, shape {shape:?}, cursor {cursor:?}")?)
 }
 
 /// The rows and the cursor, and all that is kept beside the screen of a full surface.
 pub fn full(alloc: Global, surface: &Surface<Measure>) -> Result<String, Fault> {
-    let mut told = rows(alloc, surface)?;
+    let mut answer = rows(alloc, surface)?;
     let full = surface.full_screen()?;
     let kept = beside(alloc, &full)?;
-    told.push_str(kept.as_str())?;
-    Ok(told)
+    answer.push_str(kept.as_str())?;
+    Ok(answer)
 }
 
 fn beside(alloc: Global, full: &FullScreen) -> Result<String, Fault> {
     let ((x, y), visibility) = (full.screen.cursor, full.screen.visibility);
     let (title, shape, color) = (full.title.as_str(), full.shape, full.color);
-    let mut told = format!(in alloc;
-        "  at {x} {y} {visibility:?}, title {title:?}, shape {shape:?}"
+    let mut kept = format!(in alloc;
+        "at {x} {y} {visibility:?}, title {title:?}, shape {shape:?}"
     )?;
-    write!(told, ", color {color:?}, lines")?;
-    push_attributes(&mut told, full.lines.as_slice())?;
-    Ok(told)
+    write!(kept, ", color {color:?}, lines")?;
+    push_attributes(&mut kept, full.lines.as_slice())?;
+    Ok(kept)
 }
 
-fn push_attributes(told: &mut String, lines: &[LineAttribute]) -> Result<(), Fault> {
+fn push_attributes(kept: &mut String, lines: &[LineAttribute]) -> Result<(), Fault> {
     for line in lines {
-        write!(told, " {line:?}")?;
+        write!(kept, " {line:?}")?;
     }
-    told.push('\n')?;
+    kept.push('\n')?;
     Ok(())
 }
 
@@ -84,7 +85,7 @@ pub fn full_same(
 ) -> Result<String, Fault> {
     let full = one.full_screen()?;
     let same = has_full_screen(other, &full)?;
-    Ok(format!(in alloc; "  {same}\n")?)
+    truth_word(alloc, same)
 }
 
 fn has_full_screen(surface: &Surface<Measure>, full: &FullScreen) -> Result<bool, Fault> {
@@ -98,47 +99,49 @@ pub fn screen(alloc: Global, surface: &Surface<Measure>) -> Result<String, Fault
 }
 
 fn lengths(alloc: Global, rows: &[Line]) -> Result<String, Fault> {
-    let mut told = String::new(alloc);
+    let mut lengths = String::new(alloc);
     for row in rows {
-        writeln!(told, "  {} columns", row.len())?;
+        writeln!(lengths, "{} columns", row.len())?;
     }
-    Ok(told)
+    Ok(lengths)
 }
 
 /// How many columns each line has, and whether it is double wide.
 pub fn flags(alloc: Global, surface: &Surface<Measure>) -> Result<String, Fault> {
     let lines = surface.screen_lines()?;
-    let mut told = String::new(alloc);
+    let mut flags = String::new(alloc);
     for line in &lines {
         let (columns, double) = (line.len(), line.is_double_width());
-        writeln!(told, "  {columns} columns, double wide: {double}")?;
+        writeln!(flags, "{columns} columns, double wide: {double}")?;
     }
-    Ok(told)
+    Ok(flags)
 }
 
 /// The texts of each row's stored cells.
 pub fn cells(alloc: Global, surface: &Surface<Measure>) -> Result<String, Fault> {
     let rows = surface.screen_cells()?;
-    let mut told = String::new(alloc);
+    let mut cells = String::new(alloc);
     for row in &rows {
         let line = texts(alloc, row)?;
-        told.push_str(line.as_str())?;
+        cells.push_str(line.as_str())?;
     }
-    Ok(told)
+    Ok(cells)
 }
 
 fn texts(alloc: Global, row: &[Cell]) -> Result<String, Fault> {
-    let mut told = String::from_str(alloc, " ")?;
+    let mut texts = String::new(alloc);
     for cell in row {
-        write!(told, " {:?}", cell.str())?;
+        if !texts.is_empty() {
+            texts.push(' ')?;
+        }
+        write!(texts, "{:?}", cell.str())?;
     }
-    told.push('\n')?;
-    Ok(told)
+    texts.push('\n')?;
+    Ok(texts)
 }
 
 pub fn has(alloc: Global, surface: &Surface<Measure>, seq: &str) -> Result<String, Fault> {
-    let has = surface.has_changes(given(seq)?);
-    Ok(format!(in alloc; "  {has}\n")?)
+    truth_word(alloc, surface.has_changes(given(seq)?))
 }
 
 /// The answer to a number: whether it is lent, its number and its changes.
@@ -148,10 +151,10 @@ pub fn answer(alloc: Global, surface: &Surface<Measure>, seq: &str) -> Result<St
         CowSlice::Borrowed(_) => "lent",
         CowSlice::Owned(_) => "repaint",
     };
-    let mut told = format!(in alloc; "  {how} {number}\n")?;
+    let mut answer = format!(in alloc; "{how} {number}\n")?;
     let entries = listed(alloc, changes.as_slice())?;
-    told.push_str(entries.as_str())?;
-    Ok(told)
+    answer.push_str(entries.as_str())?;
+    Ok(answer)
 }
 
 /// What is due from a number on.
@@ -164,11 +167,11 @@ pub fn due(
 
 /// Each change on a line of its own.
 pub fn listed(alloc: Global, changes: &[Change]) -> Result<String, Fault> {
-    let mut told = String::new(alloc);
+    let mut list = String::new(alloc);
     for change in changes {
-        writeln!(told, "  {change:?}")?;
+        writeln!(list, "{change:?}")?;
     }
-    Ok(told)
+    Ok(list)
 }
 
 /// Whether both have the same screen.
@@ -187,7 +190,7 @@ pub fn same(
     other: &Surface<Measure>,
 ) -> Result<String, Fault> {
     let same = is_same(one, other)?;
-    Ok(format!(in alloc; "  {same}\n")?)
+    truth_word(alloc, same)
 }
 
 pub fn diff(
@@ -253,24 +256,24 @@ fn plain_lines(alloc: Global, texts: &[&str]) -> Result<Vec<Line>, Fault> {
 pub fn cell(alloc: Global, words: &[&str]) -> Result<String, Fault> {
     let text = match words {
         [] => String::new(alloc),
-        [word] => unescaped(alloc, word)?,
+        [word] => unescaped(alloc, word, ' ')?,
         _ => return Err(Fault::Bad),
     };
     let pen = CellAttributes::blank();
     let cell = Cell::new_grapheme(alloc, &UnicodeWidths, text.as_str(), pen, None)?;
     let (text, width) = (cell.str(), cell.width());
-    Ok(format!(in alloc; "  {text:?}, {width} columns\n")?)
+    Ok(format!(in alloc; "{text:?}, {width} columns")?)
 }
 
 /// What each error of a surface says.
 pub fn refusals(alloc: Global) -> Result<String, Fault> {
-    let mut told = String::new(alloc);
+    let mut messages = String::new(alloc);
     for error in [
         SurfaceError::ScrollRegion,
         SurfaceError::Numbers,
         SurfaceError::Memory,
     ] {
-        writeln!(told, "  {error}")?;
+        writeln!(messages, "{error}")?;
     }
-    Ok(told)
+    Ok(messages)
 }

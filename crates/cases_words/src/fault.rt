@@ -15,22 +15,12 @@ pub enum Fault {
 }
 
 impl From<AllocError> for Fault {
-    ghost use Rattle.std.specs.Prelude.{◌≡◌};
-    ghost use Rattle.cases_words.specs.declared.fault.Fault.TheVariants.{Memory};
-
-    ghost from_gives = { λ _ error. error ≡ Memory };
-
     fn from(_: AllocError) -> Fault {
         Fault::Memory
     }
 }
 
 impl<T: Drop> From<AllocFailed<T>> for Fault {
-    ghost use Rattle.std.specs.Prelude.{◌≡◌};
-    ghost use Rattle.cases_words.specs.declared.fault.Fault.TheVariants.{Memory};
-
-    ghost from_gives = { λ _ error. error ≡ Memory };
-
     fn from(_: AllocFailed<T>) -> Fault {
         Fault::Memory
     }

@@ -29,12 +29,12 @@ use std::process::ExitCode;
 use stop::Stop;
 
 fn main(rt: HostRuntime) -> ExitCode {
-    let told = match trial(&rt) {
-        Ok(()) => tell(&rt, &["done\n"]),
+    let printed = match trial(&rt) {
+        Ok(()) => print(&rt, &["done\n"]),
         Err(Stop::Refused(call)) => go_on(&rt, call),
-        Err(Stop::Wrong(call)) => tell_wrong(&rt, call),
+        Err(Stop::Wrong(call)) => print_wrong(&rt, call),
     };
-    match told {
+    match printed {
         Ok(status) => ExitCode::from(status),
         Err(_) => ExitCode::FAILURE,
     }
@@ -43,13 +43,13 @@ fn main(rt: HostRuntime) -> ExitCode {
 // Plays again, now that memory is there.
 fn go_on(rt: &HostRuntime, call: &str) -> io::Result<u8> {
     match trial(rt) {
-        Ok(()) => tell(rt, &["refused at ", call, ", went on\n"]),
-        Err(_) => tell_wrong(rt, call),
+        Ok(()) => print(rt, &["refused at ", call, ", went on\n"]),
+        Err(_) => print_wrong(rt, call),
     }
 }
 
-fn tell_wrong(rt: &HostRuntime, call: &str) -> io::Result<u8> {
-    tell(rt, &["wrong after ", call, "\n"])?;
+fn print_wrong(rt: &HostRuntime, call: &str) -> io::Result<u8> {
+    print(rt, &["wrong after ", call, "\n"])?;
     Ok(1)
 }
 
@@ -67,15 +67,15 @@ fn trial(rt: &HostRuntime) -> Result<(), Stop> {
 fn play_all(rt: &HostRuntime) -> Result<(), Stop> {
     for name in CASES {
         play(rt.alloc(), name)?;
-        if tell(rt, &[name, ": done\n"]).is_err() {
+        if print(rt, &[name, ": done\n"]).is_err() {
             return Err(Stop::Wrong("a write"));
         }
     }
     Ok(())
 }
 
-// Writes the words, which takes no memory.
-fn tell(rt: &HostRuntime, words: &[&str]) -> io::Result<u8> {
+// Prints the words, which takes no memory.
+fn print(rt: &HostRuntime, words: &[&str]) -> io::Result<u8> {
     for word in words {
         rt.stdout().write_all(word.as_bytes())?;
     }

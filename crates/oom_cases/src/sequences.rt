@@ -15,7 +15,7 @@ fn sequence(alloc: Global) -> ChangeSequence<UnicodeWidths> {
     ChangeSequence::new(alloc, 2, 10, UnicodeWidths)
 }
 
-// Whether the cursor and the rows of a sequence to which nothing was added are told.
+// Whether a sequence has the cursor and the rows of one to which nothing was added.
 fn is_new(sequence: &ChangeSequence<UnicodeWidths>) -> bool {
     let (x, y) = sequence.current_cursor_position();
     x == 0 && y == 0 && sequence.render_height() == 0

@@ -17,7 +17,7 @@ const MADE: usize = 9;
 /// Asks both lines at a column.
 pub fn ask_at(one: &Line, other: &Line, x: usize, ask: AskAt) -> Result<(), Fault> {
     match ask {
-        AskAt::Cell => told(has_same_cell(one, other, x)),
+        AskAt::Cell => expect_alike(has_same_cell(one, other, x)),
         AskAt::Text => texts(one, other, x, x.saturating_add(2)),
         AskAt::TextBefore => texts(one, other, 0, x),
         AskAt::Part => parts(one, other, x, x.saturating_add(2)),
@@ -28,9 +28,9 @@ pub fn ask_at(one: &Line, other: &Line, x: usize, ask: AskAt) -> Result<(), Faul
 
 fn ask_more(one: &Line, other: &Line, x: usize, ask: AskAt) -> Result<(), Fault> {
     match ask {
-        AskAt::Click => told(clicked(one, x) == clicked(other, x)),
-        AskAt::TurningClick => told(clicked_by_turns(one, x) == clicked_by_turns(other, x)),
-        AskAt::Changed => told(one.changed_since(x) == other.changed_since(x)),
+        AskAt::Click => expect_alike(clicked(one, x) == clicked(other, x)),
+        AskAt::TurningClick => expect_alike(clicked_by_turns(one, x) == clicked_by_turns(other, x)),
+        AskAt::Changed => expect_alike(one.changed_since(x) == other.changed_since(x)),
         AskAt::Wrap => pieces(one, other, x),
         AskAt::Resized => resized(one, other, x),
         _ => Ok(()),
@@ -40,10 +40,10 @@ fn ask_more(one: &Line, other: &Line, x: usize, ask: AskAt) -> Result<(), Fault>
 /// Asks both lines.
 pub fn ask_whole(alloc: Global, one: &Line, other: &Line, ask: Ask) -> Result<(), Fault> {
     match ask {
-        Ask::Text => told(has_same_text(one, other)?),
-        Ask::Spaces => told(one.is_whitespace() == other.is_whitespace()),
-        Ask::Link => told(one.has_hyperlink() == other.has_hyperlink()),
-        Ask::Marked => told(one.last_cell_was_wrapped() == other.last_cell_was_wrapped()),
+        Ask::Text => expect_alike(has_same_text(one, other)?),
+        Ask::Spaces => expect_alike(one.is_whitespace() == other.is_whitespace()),
+        Ask::Link => expect_alike(one.has_hyperlink() == other.has_hyperlink()),
+        Ask::Marked => expect_alike(one.last_cell_was_wrapped() == other.last_cell_was_wrapped()),
         Ask::Changes(pen) => changes(alloc, one, other, pen),
         _ => ask_long(alloc, one, other, ask),
     }
@@ -59,7 +59,7 @@ fn ask_long(alloc: Global, one: &Line, other: &Line, ask: Ask) -> Result<(), Fau
     }
 }
 
-fn told(alike: bool) -> Result<(), Fault> {
+fn expect_alike(alike: bool) -> Result<(), Fault> {
     expect(alike, Difference::Answer)
 }
 
@@ -77,7 +77,7 @@ fn has_same_cell(one: &Line, other: &Line, x: usize) -> bool {
 fn texts(one: &Line, other: &Line, from: usize, to: usize) -> Result<(), Fault> {
     let text = one.columns_as_str(from..to)?;
     let met = other.columns_as_str(from..to)?;
-    told(text.as_str() == met.as_str())
+    expect_alike(text.as_str() == met.as_str())
 }
 
 fn parts(one: &Line, other: &Line, from: usize, to: usize) -> Result<(), Fault> {
@@ -114,7 +114,7 @@ fn pieces(one: &Line, other: &Line, width: usize) -> Result<(), Fault> {
 }
 
 fn compare_lists(lines: &[Line], others: &[Line]) -> Result<(), Fault> {
-    told(lines.len() == others.len())?;
+    expect_alike(lines.len() == others.len())?;
     for (line, other) in lines.iter().zip(others.iter()) {
         compare_lines(line, other)?;
     }
@@ -141,7 +141,7 @@ fn changes(alloc: Global, one: &Line, other: &Line, pen: Pen) -> Result<(), Faul
     let attrs = attributes(alloc, pen)?;
     let changes = one.changes(&attrs)?;
     let met = other.changes(&attrs)?;
-    told(is_same_list(changes.as_slice(), met.as_slice()))
+    expect_alike(is_same_list(changes.as_slice(), met.as_slice()))
 }
 
 fn is_same_list(changes: &[Change], met: &[Change]) -> bool {
@@ -151,13 +151,13 @@ fn is_same_list(changes: &[Change], met: &[Change]) -> bool {
 fn clusters(one: &Line, other: &Line) -> Result<(), Fault> {
     let clusters = one.cluster(&UnicodeWidths)?;
     let met = other.cluster(&UnicodeWidths)?;
-    told(are_same_clusters(clusters.as_slice(), met.as_slice()))
+    expect_alike(are_same_clusters(clusters.as_slice(), met.as_slice()))
 }
 
 fn cell_clusters(alloc: Global, one: &Line, other: &Line) -> Result<(), Fault> {
     let clusters = CellCluster::make_cluster(alloc, &OneColumn, one.visible_cells())?;
     let met = CellCluster::make_cluster(alloc, &OneColumn, other.visible_cells())?;
-    told(are_same_clusters(clusters.as_slice(), met.as_slice()))
+    expect_alike(are_same_clusters(clusters.as_slice(), met.as_slice()))
 }
 
 fn are_same_clusters(clusters: &[CellCluster], others: &[CellCluster]) -> bool {
@@ -205,21 +205,21 @@ fn stored(one: &Line, other: &Line) -> Result<(), Fault> {
 pub fn compare_stored(one: &mut Line, other: &mut Line) -> Result<(), Fault> {
     let cells: &[Cell] = one.cells_mut()?;
     let met: &[Cell] = other.cells_mut()?;
-    told(*cells == *met)
+    expect_alike(*cells == *met)
 }
 
 /// Compares the stored cells, which both lend for writing attributes.
 pub fn compare_lent(one: &mut Line, other: &mut Line) -> Result<(), Fault> {
     let cells: &[Cell] = one.cells_mut_for_attr_changes_only()?;
     let met: &[Cell] = other.cells_mut_for_attr_changes_only()?;
-    told(*cells == *met)
+    expect_alike(*cells == *met)
 }
 
 /// Compares the zones, which both keep from then on.
 pub fn compare_zones(one: &mut Line, other: &mut Line) -> Result<(), Fault> {
     let zones = one.semantic_zone_ranges()?;
     let met = other.semantic_zone_ranges()?;
-    told(*zones == *met)
+    expect_alike(*zones == *met)
 }
 
 fn copies(one: &Line, other: &Line) -> Result<(), Fault> {

@@ -1,7 +1,7 @@
 //! Why a list of calls ends early.
 use std::alloc::{AllocError, AllocFailed};
 
-/// What tells two lines apart.
+/// In what two lines differ.
 #[derive(Clone, Copy, PartialEq, Eq, Debug)]
 pub enum Difference {
     /// One of them refuses a call.
@@ -14,7 +14,7 @@ pub enum Difference {
     Number,
     Sizes,
     Directions,
-    /// `==` tells them apart.
+    /// `==` says that they differ.
     Equality,
     /// They show other cells.
     Walk,
@@ -23,29 +23,21 @@ pub enum Difference {
 /// Why a list of calls ends early.
 #[derive(Clone, Copy, PartialEq, Eq, Debug)]
 pub enum Fault {
-    /// The lines are told apart.
+    /// The lines differ.
     Differs(Difference),
     /// Memory was refused.
     Memory,
+    /// The report can't be written.
+    Io,
 }
 
 impl From<AllocError> for Fault {
-    ghost use Rattle.std.specs.Prelude.{◌≡◌};
-    ghost use Rattle.storages_agree.specs.declared.fault.Fault.TheVariants.{Memory};
-
-    ghost from_gives = { λ _ error. error ≡ Memory };
-
     fn from(_: AllocError) -> Fault {
         Fault::Memory
     }
 }
 
 impl<T: Drop> From<AllocFailed<T>> for Fault {
-    ghost use Rattle.std.specs.Prelude.{◌≡◌};
-    ghost use Rattle.storages_agree.specs.declared.fault.Fault.TheVariants.{Memory};
-
-    ghost from_gives = { λ _ error. error ≡ Memory };
-
     fn from(_: AllocFailed<T>) -> Fault {
         Fault::Memory
     }

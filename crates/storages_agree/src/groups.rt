@@ -1,4 +1,4 @@
-//! The groups of lists, and what is told of them.
+//! The groups of lists, and the report on them.
 use crate::beginnings::{Beginning, FEW, SHORT};
 use crate::calls::Call;
 use crate::fault::Fault;
@@ -19,14 +19,14 @@ static NEAR_COLUMNS: [usize; 6] = [0, 1, 2, 3, 4, 5];
 // Columns of a long line.
 static FAR_COLUMNS: [usize; 7] = [0, 65_534, 65_535, 65_536, 69_999, 70_000, usize::MAX];
 
-/// Runs the groups of lists, and tells of them.
+/// Runs the groups of lists, and reports on them.
 #[derive(Drop)]
 pub struct Run {
     alloc: Global,
     lists: Lists,
-    // What the list begins with that runs.
+    // What the running list begins with.
     on: Beginning,
-    told: String,
+    report: String,
 }
 
 impl Run {
@@ -36,53 +36,53 @@ impl Run {
             alloc,
             lists: Lists::new(alloc),
             on: Beginning::Empty,
-            told: String::new(alloc),
+            report: String::new(alloc),
         }
     }
 
-    /// What was told so far.
-    pub fn told(&self) -> &str {
-        self.told.as_str()
+    /// The report so far.
+    pub fn report(&self) -> &str {
+        self.report.as_str()
     }
 
-    /// Runs all groups, and tells how many lists each has, or else of the first list that tells the
-    /// lines apart.
+    /// Runs all groups, and reports how many lists each has, or else the first list after which the
+    /// lines differ.
     pub fn all(&mut self) -> Result<(), Fault> {
         let ran = self.groups();
         if let Err(fault) = ran {
-            self.tell_fault(fault)?;
+            self.report_fault(fault)?;
         }
         ran
     }
 
     fn groups(&mut self) -> Result<(), Fault> {
         self.one_call()?;
-        self.tell_count("one call")?;
+        self.report_count("one call")?;
         self.two_calls()?;
-        self.tell_count("two calls")?;
+        self.report_count("two calls")?;
         self.three_calls()?;
-        self.tell_count("three calls")?;
+        self.report_count("three calls")?;
         self.more_calls()?;
-        self.tell_count("more calls")?;
-        self.told.push_str("0 differences\n")?;
+        self.report_count("more calls")?;
+        self.report.push_str("0 differences\n")?;
         Ok(())
     }
 
-    fn tell_count(&mut self, group: &str) -> Result<(), Fault> {
+    fn report_count(&mut self, group: &str) -> Result<(), Fault> {
         let count = self.lists.count();
-        write!(self.told, "{group}: {count} lists\n")?;
+        write!(self.report, "{group}: {count} lists\n")?;
         Ok(())
     }
 
-    fn tell_fault(&mut self, fault: Fault) -> Result<(), Fault> {
+    fn report_fault(&mut self, fault: Fault) -> Result<(), Fault> {
         let on = self.on;
-        write!(self.told, "{fault:?} on {on:?}")?;
+        write!(self.report, "{fault:?} on {on:?}")?;
         let mut before = " after ";
         for call in self.lists.trail() {
-            write!(self.told, "{before}{call:?}")?;
+            write!(self.report, "{before}{call:?}")?;
             before = ", ";
         }
-        self.told.push('\n')?;
+        self.report.push('\n')?;
         Ok(())
     }
 

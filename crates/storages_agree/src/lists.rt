@@ -30,7 +30,7 @@ impl Lists {
         tried
     }
 
-    /// The calls of the list that told the lines apart.
+    /// The calls of the list after which the lines differ.
     pub fn trail(&self) -> &[Call] {
         self.trail.as_slice()
     }

@@ -13,8 +13,8 @@
 //! - three calls: two edits of a few, and one of these or any question, on three beginnings
 //! - more calls: longer lists, with all questions after each edit, on each beginning
 //!
-//! It tells how many lists each group has. The first list that tells the lines apart ends it, and
-//! is told in their place: `Differs(Walk) on Wide after At(1, Erase)`.
+//! It reports how many lists each group has. The first list after which the lines differ ends it,
+//! and is reported in their place: `Differs(Walk) on Wide after At(1, Erase)`.
 #![tactic(auto)]
 
 mod answers;
@@ -30,18 +30,15 @@ mod pieces;
 mod same;
 mod tables;
 
+use fault::Fault;
 use groups::Run;
 use std::io::Write;
-use std::process::ExitCode;
 
-fn main(rt: HostRuntime) -> ExitCode {
+fn main(rt: HostRuntime) -> Result<(), Fault> {
     let mut run = Run::new(rt.alloc());
     let ran = run.all();
-    if rt.stdout().write_all(run.told().as_bytes()).is_err() {
-        return ExitCode::FAILURE;
-    }
-    match ran {
-        Ok(()) => ExitCode::SUCCESS,
-        Err(_) => ExitCode::FAILURE,
-    }
+    rt.stdout()
+        .write_all(run.report().as_bytes())
+        .map_err(|_| Fault::Io)?;
+    ran
 }

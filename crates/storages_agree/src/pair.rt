@@ -43,7 +43,7 @@ impl Pair {
         Ok(())
     }
 
-    /// Compares all that both tell without a question.
+    /// Compares all that can be read of both without a question.
     pub fn compare(&self) -> Result<(), Fault> {
         compare(&self.vector, &self.text)
     }

@@ -4,7 +4,7 @@ use termwiz_cell::cell::Cell;
 use termwiz_line::line::line::Line;
 use termwiz_storage::line::cellref::CellRef;
 
-/// Compares all that is told of two lines without a question.
+/// Compares all that can be read of two lines without a question.
 pub fn compare(vector: &Line, text: &Line) -> Result<(), Fault> {
     expect(has_right_forms(vector, text), Difference::Form)?;
     compare_lines(vector, text)

@@ -1,4 +1,4 @@
-//! What no worked case tells of cells: tables, constants, and attributes that are lent.
+//! What no worked case shows of cells: tables, constants, and attributes that are lent.
 #[cfg(test)]
 mod attributes;
 #[cfg(test)]

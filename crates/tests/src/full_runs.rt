@@ -29,8 +29,8 @@ fn followed(
 // A viewer followed to this number by this repaint.
 fn assert_followed(rt: &impl Abort, outcome: &Outcome, number: usize, repaint: &[Change]) {
     match outcome {
-        Outcome::FollowedFull(told, changes, _) => {
-            assert_eq!(rt; *told, number);
+        Outcome::FollowedFull(answered, changes, _) => {
+            assert_eq!(rt; *answered, number);
             assert_eq!(rt; changes.as_slice(), repaint);
         }
         _ => assert!(rt; false),

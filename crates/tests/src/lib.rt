@@ -1,5 +1,5 @@
-//! Tests of what no worked case tells, of all crates, and what they share. They stand in one crate,
-//! since a crate with tests is checked twice.
+//! Tests of all crates, of what no worked case shows. They stand in one crate, since a crate with
+//! tests is checked twice.
 #![tactic(auto)]
 
 #[cfg(test)]

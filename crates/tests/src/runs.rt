@@ -18,11 +18,11 @@ fn assert_shown(rt: &impl Abort, outcome: &Outcome, rows: &str, cursor: (usize, 
     }
 }
 
-// What was asked for is told: the surface's number, and how many changes lead there.
+// The answer to a question: the surface's number, and how many changes lead there.
 fn assert_asked(rt: &impl Abort, outcome: &Outcome, number: SequenceNo, count: usize) {
     match outcome {
-        Outcome::Asked(told, changes) => {
-            assert_eq!(rt; *told, number);
+        Outcome::Asked(answered, changes) => {
+            assert_eq!(rt; *answered, number);
             assert_eq!(rt; changes.len(), count);
         }
         _ => assert!(rt; false),
@@ -38,8 +38,8 @@ fn assert_followed(
     cursor: (usize, usize),
 ) {
     match outcome {
-        Outcome::Followed(told, changes, screen) => {
-            assert_eq!(rt; *told, number);
+        Outcome::Followed(answered, changes, screen) => {
+            assert_eq!(rt; *answered, number);
             assert_eq!(rt; changes.len(), count);
             assert_eq!(rt; screen.cursor, cursor);
         }

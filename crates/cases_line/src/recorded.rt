@@ -1,7 +1,7 @@
 //! Lists of calls with recorded answers. A `case` has registers, which hold empty lines at first,
 //! and a call is `> R NAME WORDS`, on the line in a register. Its answer is the line's length,
-//! number and text then, or what it is asked for. They are the same where each line is compressed
-//! behind each call.
+//! number and text then, or what the call asks for. The answers are the same where each line is
+//! compressed behind each call.
 use crate::edits::edit;
 use crate::makes::make;
 use crate::readings::{readings, summary, yes};

@@ -160,7 +160,7 @@ fn set(
     sheet.screen(rt)
 }
 
-// A surface's screen after the same.
+// The screen of a surface with these changes.
 fn printed(
     rt: &impl Abort,
     alloc: Global,

@@ -22,8 +22,8 @@
 //! - `cell show CELL`: its text and columns, and whether it is blank; `cell form CELL`: how it is
 //!   shown; `cell same CELL | CELL`: whether they are equal; `cell debug TEXT | PEN`: what `{:?}`
 //!   shows of a cell of this text with these attributes. A CELL is `blank`, `default`, or a
-//!   TEXT after `grapheme`, `char` (of its first character), `one` (of that one, where each text has
-//!   one column), or `0`, `1` or `2` (of so many columns); or `copy` and a CELL.
+//!   TEXT after `grapheme`, `char` (of its first character), `one` (of its first character, where
+//!   each text has one column), or `0`, `1` or `2` (of so many columns); or `copy` and a CELL.
 //! - `change show CHANGE`: the text that it prints, if any; `change same CHANGE | CHANGE`: whether
 //!   they are equal; `change blinks SHAPE`. A CHANGE is `text TEXT`, `from TEXT` (made of a
 //!   string), `title TEXT`, `pen PEN`, `set ATTRIBUTE`, `line LINE`, `size LINE` (made of the

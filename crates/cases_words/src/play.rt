@@ -7,15 +7,15 @@ pub trait Play {
     /// Plays a line, and returns the lines of its answer.
     fn line(&mut self, line: &str) -> Result<String, Fault>;
 
-    /// Returns the lines that are answered at the end of a case, if any.
+    /// Returns the lines of the answer to a whole recorded case, if it has one.
     fn end(&mut self) -> Result<Option<String>, Fault> {
         Ok(None)
     }
 }
 
 /// Plays the lines of standard input, and prints each again with its answer below it, two spaces
-/// in. A blank line isn't played, and a comment, which begins with `#`, isn't printed either. The
-/// play ends at the first line that can't be played, which is printed last with a note below it.
+/// in. A blank line isn't played, and a comment, which begins with `#`, isn't printed either. Fails
+/// at the first line that can't be played, which is printed last with a note below it.
 pub fn play_input<P: Play>(rt: &HostRuntime, play: &mut P) -> Result<(), Fault> {
     let script = io::read_to_string(rt.alloc(), rt.stdin()).map_err(|_| Fault::Io)?;
     let mut printed = String::new(rt.alloc());

@@ -1,6 +1,5 @@
 //! Cases with recorded answers. A line that begins with `<` is one of an answer, and each other
-//! line of a case asks. A case is played by writing its lines again, each with what is answered
-//! now.
+//! line of a case asks. A case agrees where its lines, played again, give the recorded answers.
 use crate::fault::Fault;
 use crate::play::{Play, push_lines};
 use std::alloc::Global;
@@ -8,7 +7,7 @@ use std::io::Write;
 use std::{fs, mem};
 
 /// Plays the cases of a file, each of which begins with a line that begins with `first`, and prints
-/// which of them differ, and how many agree.
+/// which of them differ, and how many agree. Fails with `Differs` unless all agree.
 pub fn play_recorded<P: Play>(
     rt: &HostRuntime,
     name: &str,

@@ -1,0 +1,89 @@
+//! Questions about a line's clusters.
+use crate::pens::pen_words;
+use cases_words::fault::Fault;
+use cases_words::words::push_barred;
+use std::alloc::Global;
+use termwiz_cell::emoji::UnicodeWidths;
+use termwiz_line::cellcluster::CellCluster;
+use termwiz_line::line::line::Line;
+
+pub fn answer(alloc: Global, line: &Line, name: &str) -> Result<String, Fault> {
+    let clusters = line.cluster(&UnicodeWidths)?;
+    match name {
+        "clusters" => shown(alloc, clusters.as_slice()),
+        "cell-clusters" => of_cells(alloc, line),
+        "bytes" => bytes(alloc, clusters.as_slice()),
+        "looks" => looks(alloc, clusters.as_slice()),
+        "cluster-copies" => copies(alloc, clusters.as_slice()),
+        _ => Err(Fault::Bad),
+    }
+}
+
+// The texts of the clusters, each behind its column and its width, as `0:2か|2:1a|`.
+fn shown(alloc: Global, clusters: &[CellCluster]) -> Result<String, Fault> {
+    let mut words = String::new(alloc);
+    for cluster in clusters {
+        let column = cluster.first_cell_idx;
+        let width = cluster.width;
+        let text = cluster.text.as_str();
+        write!(words, "{column}:{width}{text}|")?;
+    }
+    Ok(words)
+}
+
+fn of_cells(alloc: Global, line: &Line) -> Result<String, Fault> {
+    let clusters = CellCluster::make_cluster(alloc, &UnicodeWidths, line.visible_cells())?;
+    shown(alloc, clusters.as_slice())
+}
+
+// The cells of the bytes of the first cluster.
+fn bytes(alloc: Global, clusters: &[CellCluster]) -> Result<String, Fault> {
+    cells_of_bytes(alloc, clusters.first().ok_or(Fault::Bad)?)
+}
+
+// The column and the width of each byte's cell, as `0:2|0:2|0:2|2:1|`.
+fn cells_of_bytes(alloc: Global, cluster: &CellCluster) -> Result<String, Fault> {
+    let mut words = String::new(alloc);
+    let count = cluster.text.len();
+    for byte in 0..count {
+        let column = cluster.byte_to_cell_idx(byte);
+        let width = cluster.byte_to_cell_width(byte);
+        write!(words, "{column}:{width}|")?;
+    }
+    Ok(words)
+}
+
+// The pen of each cluster, how it is shown and where to.
+fn looks(alloc: Global, clusters: &[CellCluster]) -> Result<String, Fault> {
+    let mut words = String::new(alloc);
+    for cluster in clusters {
+        let pen = pen_words(alloc, &cluster.attrs)?;
+        let (presentation, direction) = (cluster.presentation, cluster.direction);
+        write!(words, "pen {pen}, {presentation:?}, {direction:?}|")?;
+    }
+    Ok(words)
+}
+
+// Whether the copy of each cluster has the same cells of its bytes.
+fn copies(alloc: Global, clusters: &[CellCluster]) -> Result<String, Fault> {
+    let mut words = String::new(alloc);
+    for cluster in clusters {
+        let same = is_copied(alloc, cluster)?;
+        push_barred(&mut words, if same { "true" } else { "false" })?;
+    }
+    Ok(words)
+}
+
+fn is_copied(alloc: Global, cluster: &CellCluster) -> Result<bool, Fault> {
+    let copy = cluster.clone()?;
+    have_same_bytes(alloc, &copy, cluster)
+}
+
+fn have_same_bytes(
+    alloc: Global,
+    cluster: &CellCluster,
+    other: &CellCluster,
+) -> Result<bool, Fault> {
+    let cells = cells_of_bytes(alloc, cluster)?;
+    Ok(cells.as_str() == cells_of_bytes(alloc, other)?.as_str())
+}

@@ -1,0 +1,202 @@
+//! The lines of a case, and what the script does with them.
+use crate::asks::{answer, shown, texts_apart};
+use crate::edits::edit;
+use crate::makes::make;
+use cases_words::fault::Fault;
+use cases_words::play::Play;
+use cases_words::words::{given, pair, truth_word};
+use std::alloc::{AllocError, Global};
+use std::mem;
+use termwiz_cell::cell::Cell;
+use termwiz_line::line::line::Line;
+
+/// The lines of a case by their numbers, from 0, and the number of the one for edits and questions.
+#[derive(Drop)]
+pub struct Stage {
+    alloc: Global,
+    lines: Vec<Line>,
+    on: usize,
+}
+
+impl Play for Stage {
+    fn line(&mut self, line: &str) -> Result<String, Fault> {
+        if line.starts_with("case ") {
+            *self = Stage::new(self.alloc);
+            return Ok(String::new(self.alloc));
+        }
+        let words: Vec<&str> = line.split(' ').collect(self.alloc)?;
+        self.command(words.as_slice())
+    }
+}
+
+impl Stage {
+    pub fn new(alloc: Global) -> Stage {
+        Stage {
+            alloc,
+            lines: Vec::new(alloc),
+            on: 0,
+        }
+    }
+
+    fn command(&mut self, words: &[&str]) -> Result<String, Fault> {
+        match words {
+            ["tell", words @ ..] => self.asked(words),
+            ["wrap", width, seqno] => self.wrap(width, seqno),
+            _ => self.step(words),
+        }
+    }
+
+    // An edit that finds no memory is answered by `refused`, and no other step has an answer.
+    fn step(&mut self, words: &[&str]) -> Result<String, Fault> {
+        let made = match words {
+            ["new", words @ ..] => self.add_made(words),
+            ["on", number] => self.go_on(number),
+            ["clone"] => self.add_clone(),
+            ["part", from, to] => self.add_part(from, to),
+            ["split", column, seqno] => self.split(column, seqno),
+            ["append", number, seqno] => self.append(number, seqno),
+            _ => return self.edited(words),
+        };
+        made.map(|()| String::new(self.alloc))
+    }
+
+    fn own(&self) -> Result<&Line, Fault> {
+        self.lines.get(self.on).ok_or(Fault::Bad)
+    }
+
+    fn own_mut(&mut self) -> Result<&mut Line, Fault> {
+        self.lines.get_mut(self.on).ok_or(Fault::Bad)
+    }
+
+    fn other(&self, word: &str) -> Result<&Line, Fault> {
+        self.lines.get(given(word)?).ok_or(Fault::Bad)
+    }
+
+    fn go_on(&mut self, number: &str) -> Result<(), Fault> {
+        self.on = given(number)?;
+        Ok(())
+    }
+
+    // Adds the line, and goes on with it.
+    fn add(&mut self, line: Line) -> Result<(), Fault> {
+        self.on = self.lines.len();
+        self.lines.push(line)?;
+        Ok(())
+    }
+
+    fn add_made(&mut self, words: &[&str]) -> Result<(), Fault> {
+        let line = make(self.alloc, words)?;
+        self.add(line)
+    }
+
+    fn add_clone(&mut self) -> Result<(), Fault> {
+        let clone = self.own()?.clone()?;
+        self.add(clone)
+    }
+
+    fn add_part(&mut self, from: &str, to: &str) -> Result<(), Fault> {
+        let (from, to) = pair(from, to)?;
+        let part = self.own()?.columns_as_line(from..to)?;
+        self.add(part)
+    }
+
+    fn split(&mut self, column: &str, seqno: &str) -> Result<(), Fault> {
+        let (column, seqno) = pair(column, seqno)?;
+        let rest = self.own_mut()?.split_off(column, seqno)?;
+        self.add(rest)
+    }
+
+    // Appends a copy of another line.
+    fn append(&mut self, number: &str, seqno: &str) -> Result<(), Fault> {
+        let seqno = given(seqno)?;
+        let other = self.other(number)?.clone()?;
+        self.own_mut()?.append_line(other, seqno)?;
+        Ok(())
+    }
+
+    fn edited(&mut self, words: &[&str]) -> Result<String, Fault> {
+        let alloc = self.alloc;
+        match edit(alloc, self.own_mut()?, words) {
+            Ok(()) => Ok(String::new(alloc)),
+            Err(Fault::Memory) => Ok("refused".to_owned(alloc)?),
+            Err(fault) => Err(fault),
+        }
+    }
+
+    // The pieces into which the line is wrapped, each on a line of its own.
+    fn wrap(&mut self, width: &str, seqno: &str) -> Result<String, Fault> {
+        let (width, seqno) = pair(width, seqno)?;
+        let empty = Line::new(self.alloc, seqno);
+        let line = mem::replace(self.own_mut()?, empty);
+        let mut pieces = String::new(self.alloc);
+        for piece in line.wrap(width, seqno)? {
+            push_piece(self.alloc, &mut pieces, &piece)?;
+        }
+        Ok(pieces)
+    }
+
+    fn asked(&mut self, words: &[&str]) -> Result<String, Fault> {
+        let answer = match words {
+            ["same", number] => self.same(number),
+            ["zones"] => self.zones(),
+            ["fresh"] => self.fresh(),
+            ["lent"] => self.lent(),
+            _ => self.answered(words),
+        }?;
+        if answer.is_empty() {
+            return Ok("nothing".to_owned(self.alloc)?);
+        }
+        Ok(answer)
+    }
+
+    fn answered(&self, words: &[&str]) -> Result<String, Fault> {
+        answer(self.alloc, self.own()?, words)
+    }
+
+    fn same(&self, number: &str) -> Result<String, Fault> {
+        let same = *self.own()? == *self.other(number)?;
+        truth_word(self.alloc, same)
+    }
+
+    fn zones(&mut self) -> Result<String, Fault> {
+        let mut zones = String::new(self.alloc);
+        for zone in self.own_mut()?.semantic_zone_ranges()? {
+            let (semantic_type, range) = (zone.semantic_type, &zone.range);
+            write!(zones, "{semantic_type:?} {range:?}|")?;
+        }
+        Ok(zones)
+    }
+
+    // Whether the zones are those of a copy, which keeps none.
+    fn fresh(&mut self) -> Result<String, Fault> {
+        let fresh = has_own_zones(self.own_mut()?)?;
+        truth_word(self.alloc, fresh)
+    }
+
+    // The texts of the cells that are lent for writing.
+    fn lent(&mut self) -> Result<String, Fault> {
+        let alloc = self.alloc;
+        let cells: &[Cell] = self.own_mut()?.cells_mut()?;
+        texts_apart(alloc, cells)
+    }
+}
+
+// Adds a piece's text and length, and `>` where the text goes on.
+fn push_piece(alloc: Global, pieces: &mut String, piece: &Line) -> Result<(), Fault> {
+    let text = shown(alloc, piece)?;
+    let len = piece.len();
+    let mark = if piece.last_cell_was_wrapped() {
+        ">"
+    } else {
+        ""
+    };
+    writeln!(pieces, "{text}{len}{mark}")?;
+    Ok(())
+}
+
+fn has_own_zones(line: &mut Line) -> Result<bool, AllocError> {
+    let mut copy = line.clone()?;
+    let fresh = copy.semantic_zone_ranges()?;
+    let kept = line.semantic_zone_ranges()?;
+    Ok(kept == fresh)
+}

@@ -1,0 +1,56 @@
+//! Changes that no script makes, by their words.
+use cases_words::fault::Fault;
+use cases_words::places::position;
+use std::alloc::Global;
+use termwiz_cell::cell::{AttributeChange, CellAttributes, Intensity, Underline};
+use termwiz_cell::change::{Change, CursorShape, CursorVisibility, LineAttribute};
+use termwiz_cell::color::{ColorAttribute, RgbColor};
+
+/// The change of these words.
+pub fn change(alloc: Global, words: &[&str]) -> Result<Change, Fault> {
+    match words {
+        ["move", x, y] => moved(x, y),
+        ["title", title] => titled(alloc, title),
+        ["hidden"] => Ok(Change::CursorVisibility(CursorVisibility::Hidden)),
+        ["visible"] => Ok(Change::CursorVisibility(CursorVisibility::Visible)),
+        _ => rarer(words),
+    }
+}
+
+fn rarer(words: &[&str]) -> Result<Change, Fault> {
+    match words {
+        ["eol", "red"] => Ok(Change::ClearToEndOfLine(red())),
+        ["cursor", "red"] => Ok(Change::CursorColor(red())),
+        ["shape", "bar"] => Ok(Change::CursorShape(CursorShape::SteadyBar)),
+        ["row", "double"] => Ok(Change::LineAttribute(LineAttribute::DoubleWidthLine)),
+        ["set", "bold"] => Ok(bold()),
+        ["pen", "double"] => Ok(underlined_twice()),
+        _ => Err(Fault::Bad),
+    }
+}
+
+/// The colour `#ff000a`, which falls back to the palette's second one.
+fn red() -> ColorAttribute {
+    ColorAttribute::TrueColorWithPaletteFallback(RgbColor::new_8bpc(255, 0, 10), 1)
+}
+
+fn bold() -> Change {
+    Change::Attribute(AttributeChange::Intensity(Intensity::Bold))
+}
+
+fn underlined_twice() -> Change {
+    let mut pen = CellAttributes::blank();
+    pen.set_underline(Underline::Double);
+    Change::AllAttributes(pen)
+}
+
+fn titled(alloc: Global, title: &str) -> Result<Change, Fault> {
+    let title = String::from_str(alloc, title)?;
+    Ok(Change::Title(title))
+}
+
+fn moved(x: &str, y: &str) -> Result<Change, Fault> {
+    let x = position(x)?;
+    let y = position(y)?;
+    Ok(Change::CursorPosition { x, y })
+}

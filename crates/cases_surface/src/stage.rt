@@ -1,0 +1,396 @@
+//! The surfaces of a case, and what the lines do with them.
+use crate::answers;
+use crate::changes::change;
+use crate::measure::Measure;
+use crate::sequences::{Sequence, sequence_refusals};
+use crate::sizes::{measured_size, size};
+use cases_words::fault::Fault;
+use cases_words::play::Play;
+use cases_words::words::{given, pair};
+use std::alloc::Global;
+use termwiz_cell::change::{Change, SequenceNo};
+use termwiz_surface::surface::{Surface, SurfaceError};
+use termwiz_surface::view::Viewer;
+
+/// What the lines are about, by its number.
+#[derive(Clone, Copy)]
+enum Shown {
+    Surface(usize),
+    Viewer(usize),
+}
+
+/// What a case has.
+#[derive(Drop)]
+pub struct Stage {
+    alloc: Global,
+    surfaces: Vec<Surface<Measure>>,
+    viewers: Vec<Viewer<Measure>>,
+    shown: Shown,
+    sequence: Option<Sequence>,
+    // The changes of a list that is not at its end.
+    list: Option<Vec<Change>>,
+}
+
+impl Play for Stage {
+    fn line(&mut self, line: &str) -> Result<String, Fault> {
+        if line.starts_with("case ") {
+            *self = Stage::new(self.alloc);
+            return self.silent();
+        }
+        match change(self.alloc, line)? {
+            Some(change) => self.add(change),
+            None => self.command(line),
+        }
+    }
+}
+
+impl Stage {
+    pub fn new(alloc: Global) -> Stage {
+        Stage {
+            alloc,
+            surfaces: Vec::new(alloc),
+            viewers: Vec::new(alloc),
+            shown: Shown::Surface(0),
+            sequence: None,
+            list: None,
+        }
+    }
+
+    fn command(&mut self, line: &str) -> Result<String, Fault> {
+        let words: Vec<&str> = line.split(' ').collect(self.alloc)?;
+        match words.as_slice() {
+            [name, rest @ ..] => self.made(name, rest),
+            [] => Err(Fault::Bad),
+        }
+    }
+
+    // No answer.
+    fn silent(&self) -> Result<String, Fault> {
+        Ok(String::new(self.alloc))
+    }
+
+    fn made(&mut self, name: &str, words: &[&str]) -> Result<String, Fault> {
+        match name {
+            "new" => self.make(words),
+            "new-full" => self.make_full(words),
+            "clone" => self.make_clone(),
+            "viewer" => self.make_viewer(),
+            "sequence" => self.make_sequence(words),
+            _ => self.turned(name, words),
+        }
+    }
+
+    fn turned(&mut self, name: &str, words: &[&str]) -> Result<String, Fault> {
+        match name {
+            "on" => self.turn_to(words),
+            "view" => self.turn_to_viewer(words),
+            "list" => self.begin_list(),
+            "end" => self.end_list(),
+            _ => self.drawn(name, words),
+        }
+    }
+
+    fn drawn(&mut self, name: &str, words: &[&str]) -> Result<String, Fault> {
+        match name {
+            "resize" => self.resize(words),
+            "flush" => self.flush(words),
+            "draw" => self.draw(words),
+            "copy" => self.copy(words),
+            _ => self.followed(name, words),
+        }
+    }
+
+    fn followed(&mut self, name: &str, words: &[&str]) -> Result<String, Fault> {
+        match name {
+            "lead" => self.lead(words),
+            "follow" => self.follow(words),
+            "goto" => self.goto(words),
+            "consume" => self.consume(),
+            _ => self.answer(name, words),
+        }
+    }
+
+    // The answer of a command that changes nothing.
+    fn answer(&self, name: &str, words: &[&str]) -> Result<String, Fault> {
+        match name {
+            "place" => self.place(),
+            "cell" => answers::cell(self.alloc, words),
+            "refusals" => answers::refusals(self.alloc),
+            "sequence-refusals" => sequence_refusals(self.alloc),
+            _ => self.read(name, words),
+        }
+    }
+
+    fn read(&self, name: &str, words: &[&str]) -> Result<String, Fault> {
+        let own = self.own()?;
+        match words {
+            [] => named(self.alloc, own, name),
+            [word] => self.asked(own, name, word),
+            _ => self.compared(own, name, words),
+        }
+    }
+
+    fn asked(&self, own: &Surface<Measure>, name: &str, word: &str) -> Result<String, Fault> {
+        match name {
+            "has" => answers::has(self.alloc, own, word),
+            "ask" => answers::answer(self.alloc, own, word),
+            "same" => answers::same(self.alloc, own, self.other(word)?),
+            "full-same" => answers::full_same(self.alloc, own, self.other(word)?),
+            "diff" => answers::diff(self.alloc, own, self.other(word)?),
+            _ => Err(Fault::Bad),
+        }
+    }
+
+    fn compared(
+        &self,
+        own: &Surface<Measure>,
+        name: &str,
+        words: &[&str],
+    ) -> Result<String, Fault> {
+        match name {
+            "diff-line" => answers::line_diff(self.alloc, own, words),
+            "diff-lines" => answers::lines_diff(self.alloc, own, words),
+            "diff-region" => self.region_diff(own, words),
+            _ => Err(Fault::Bad),
+        }
+    }
+
+    fn region_diff(&self, own: &Surface<Measure>, words: &[&str]) -> Result<String, Fault> {
+        let [place @ .., number, x, y] = words else {
+            return Err(Fault::Bad);
+        };
+        let corner = pair(x, y)?;
+        answers::region_diff(self.alloc, own, place, self.other(number)?, corner)
+    }
+
+    fn own(&self) -> Result<&Surface<Measure>, Fault> {
+        match self.shown {
+            Shown::Surface(number) => self.surfaces.get(number).ok_or(Fault::Bad),
+            Shown::Viewer(number) => {
+                let viewer = self.viewers.get(number).ok_or(Fault::Bad)?;
+                Ok(viewer.surface())
+            }
+        }
+    }
+
+    fn own_mut(&mut self) -> Result<&mut Surface<Measure>, Fault> {
+        match self.shown {
+            Shown::Surface(number) => self.surfaces.get_mut(number).ok_or(Fault::Bad),
+            Shown::Viewer(_) => Err(Fault::Bad),
+        }
+    }
+
+    fn other(&self, word: &str) -> Result<&Surface<Measure>, Fault> {
+        self.surfaces.get(given(word)?).ok_or(Fault::Bad)
+    }
+
+    fn add(&mut self, change: Change) -> Result<String, Fault> {
+        if let Some(list) = &mut self.list {
+            list.push(change)?;
+            return self.silent();
+        }
+        if let Some(sequence) = &mut self.sequence {
+            return sequence.add(change);
+        }
+        let made = self.own_mut()?.add_change(change);
+        answers::made(self.alloc, made)
+    }
+
+    fn begin_list(&mut self) -> Result<String, Fault> {
+        self.list = Some(Vec::new(self.alloc));
+        self.silent()
+    }
+
+    fn end_list(&mut self) -> Result<String, Fault> {
+        let list = self.list.take().ok_or(Fault::Bad)?;
+        if let Some(sequence) = &mut self.sequence {
+            return sequence.add_changes(list);
+        }
+        let made = self.own_mut()?.add_changes(list);
+        answers::made(self.alloc, made)
+    }
+
+    fn make(&mut self, words: &[&str]) -> Result<String, Fault> {
+        let (width, height, measure) = measured_size(words)?;
+        let surface = Surface::new(self.alloc, width, height, measure)?;
+        self.show(surface)
+    }
+
+    fn make_full(&mut self, words: &[&str]) -> Result<String, Fault> {
+        let (width, height, measure) = measured_size(words)?;
+        let surface = Surface::new_full(self.alloc, width, height, measure)?;
+        self.show(surface)
+    }
+
+    // The coming lines are about this new surface.
+    fn show(&mut self, surface: Surface<Measure>) -> Result<String, Fault> {
+        self.shown = Shown::Surface(self.surfaces.len());
+        self.keep(surface)
+    }
+
+    fn make_clone(&mut self) -> Result<String, Fault> {
+        let clone = self.own()?.clone()?;
+        self.keep(clone)
+    }
+
+    fn keep(&mut self, surface: Surface<Measure>) -> Result<String, Fault> {
+        self.surfaces.push(surface)?;
+        self.silent()
+    }
+
+    fn make_viewer(&mut self) -> Result<String, Fault> {
+        let viewer = Viewer::new(self.alloc, self.own()?)?;
+        let last = viewer.last();
+        self.viewers.push(viewer)?;
+        Ok(format!(in self.alloc; "last {last}")?)
+    }
+
+    fn make_sequence(&mut self, words: &[&str]) -> Result<String, Fault> {
+        let sequence = Sequence::new(self.alloc, words)?;
+        self.sequence = Some(sequence);
+        self.silent()
+    }
+
+    fn turn_to(&mut self, words: &[&str]) -> Result<String, Fault> {
+        self.shown = Shown::Surface(one(words)?);
+        self.silent()
+    }
+
+    fn turn_to_viewer(&mut self, words: &[&str]) -> Result<String, Fault> {
+        self.shown = Shown::Viewer(one(words)?);
+        self.silent()
+    }
+
+    fn resize(&mut self, words: &[&str]) -> Result<String, Fault> {
+        let [width, height] = words else {
+            return Err(Fault::Bad);
+        };
+        let (width, height) = size(width, height)?;
+        match self.own_mut()?.resize(width, height) {
+            Ok(()) => self.silent(),
+            Err(error) => answers::made(self.alloc, Err(error)),
+        }
+    }
+
+    fn flush(&mut self, words: &[&str]) -> Result<String, Fault> {
+        let seq = one(words)?;
+        self.own_mut()?.flush_changes_older_than(seq);
+        self.silent()
+    }
+
+    fn draw(&mut self, words: &[&str]) -> Result<String, Fault> {
+        let [number, x, y] = words else {
+            return Err(Fault::Bad);
+        };
+        let place = pair(x, y)?;
+        let other = self.other(number)?.clone()?;
+        self.draw_other(&other, place)
+    }
+
+    fn draw_other(
+        &mut self,
+        other: &Surface<Measure>,
+        place: (usize, usize),
+    ) -> Result<String, Fault> {
+        let made = self.own_mut()?.draw_from_screen(other, place.0, place.1);
+        answers::made(self.alloc, made)
+    }
+
+    fn copy(&mut self, words: &[&str]) -> Result<String, Fault> {
+        let [x, y, width, height, to_x, to_y] = words else {
+            return Err(Fault::Bad);
+        };
+        let (from, size, to) = (pair(x, y)?, pair(width, height)?, pair(to_x, to_y)?);
+        let own = self.own_mut()?;
+        let made = own.copy_region(from.0, from.1, size.0, size.1, to.0, to.1);
+        answers::made(self.alloc, made)
+    }
+
+    // Another surface makes what is due from a number on.
+    fn lead(&mut self, words: &[&str]) -> Result<String, Fault> {
+        let [number, seq] = words else {
+            return Err(Fault::Bad);
+        };
+        let (number, seq) = pair(number, seq)?;
+        let (next, changes) = self.due(seq)?;
+        let other = self.surfaces.get_mut(number).ok_or(Fault::Bad)?;
+        match other.add_changes(changes) {
+            Ok(_) => answers::made(self.alloc, Ok(next)),
+            refused => answers::made(self.alloc, refused),
+        }
+    }
+
+    fn due(&self, seq: SequenceNo) -> Result<(SequenceNo, Vec<Change>), Fault> {
+        let (number, changes) = answers::due(self.own()?, seq)?;
+        Ok((number, changes.into_owned(self.alloc)?))
+    }
+
+    fn follow(&mut self, words: &[&str]) -> Result<String, Fault> {
+        let number = one(words)?;
+        let source = self.own()?.clone()?;
+        self.follow_source(number, &source)
+    }
+
+    fn follow_source(&mut self, number: usize, source: &Surface<Measure>) -> Result<String, Fault> {
+        let viewer = self.viewers.get_mut(number).ok_or(Fault::Bad)?;
+        match viewer.follow(source) {
+            Ok(answer) => followed_words(self.alloc, viewer, answer, source),
+            Err(error) => answers::made(self.alloc, Err(error)),
+        }
+    }
+
+    fn goto(&mut self, words: &[&str]) -> Result<String, Fault> {
+        match &mut self.sequence {
+            Some(sequence) => sequence.goto(words),
+            None => Err(Fault::Bad),
+        }
+    }
+
+    fn place(&self) -> Result<String, Fault> {
+        match &self.sequence {
+            Some(sequence) => sequence.place(),
+            None => Err(Fault::Bad),
+        }
+    }
+
+    fn consume(&mut self) -> Result<String, Fault> {
+        match self.sequence.take() {
+            Some(sequence) => answers::listed(self.alloc, sequence.into_changes().as_slice()),
+            None => Err(Fault::Bad),
+        }
+    }
+}
+
+// The only number of the words.
+fn one(words: &[&str]) -> Result<usize, Fault> {
+    match words {
+        [word] => given(word),
+        _ => Err(Fault::Bad),
+    }
+}
+
+// What is asked of a surface by a name alone.
+fn named(alloc: Global, own: &Surface<Measure>, name: &str) -> Result<String, Fault> {
+    match name {
+        "rows" => answers::rows(alloc, own),
+        "number" => answers::number(alloc, own),
+        "kept" => answers::kept(alloc, own),
+        "full" => answers::full(alloc, own),
+        "screen" => answers::screen(alloc, own),
+        "flags" => answers::flags(alloc, own),
+        "cells" => answers::cells(alloc, own),
+        _ => Err(Fault::Bad),
+    }
+}
+
+// How a viewer followed: its answer, its last number, the source's, and whether both show the same.
+fn followed_words(
+    alloc: Global,
+    viewer: &Viewer<Measure>,
+    answer: SequenceNo,
+    source: &Surface<Measure>,
+) -> Result<String, Fault> {
+    let same = answers::is_same(viewer.surface(), source)?;
+    let (last, number) = (viewer.last(), source.current_seqno());
+    Ok(format!(in alloc; "= {answer}, last {last}, of {number}, shows the same: {same}")?)
+}

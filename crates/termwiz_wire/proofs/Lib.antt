@@ -6,3 +6,5 @@ pub mod Steps
 pub mod StyleFound
 pub mod Found
 pub mod Bounded
+pub mod AnswersAgain
+pub mod AnswersFound

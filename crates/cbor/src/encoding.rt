@@ -40,7 +40,7 @@ pub fn put_unsigned(out: &mut Vec<u8>, n: usize) -> Result<(), AllocError>
 }
 
 // How far a number below 0 is below -1.
-fn below(number: isize) -> usize
+pub(crate) fn below(number: isize) -> usize
     requires { number <ℤ pos 0 }
     ensures { number ≡ negsuc result }
 {

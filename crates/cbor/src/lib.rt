@@ -9,11 +9,13 @@
 mod encoding;
 mod error;
 mod kind;
+mod len;
 mod reader;
 
 pub use encoding::{put_array, put_bool, put_null, put_signed, put_text, put_unsigned};
 pub use error::{Fault, ReadError};
 pub use kind::Kind;
+pub use len::{array_len, signed_len, text_len, unsigned_len};
 pub use reader::{Reader, kinds};
 
 #[cfg(test)]

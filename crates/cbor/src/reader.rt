@@ -2,7 +2,8 @@
 ghost use Rattle.std.specs.Prelude.{◌≡◌, ◌++◌, ◌<◌, ◌^◌, ℕ, ℤ, Bool, List, Ok, pos, negsuc, IfOk};
 ghost use Rattle.std.specs.Prelude.{OnErr};
 ghost use Rattle.std.specs.Int.{w16, w32, w64};
-ghost use Rattle.cbor.specs.Encoding.{IsSigned, IsText, array, boolean, null, signed, text, unsigned};
+ghost use Rattle.cbor.specs.Encoding.{IsSigned, IsText, array, boolean, null, signed, text};
+ghost use Rattle.cbor.specs.Encoding.{unsigned};
 ghost use Rattle.cbor.specs.declared.kind.Kind.TheVariants.{Array, Boolean, Negative, Null, Text};
 ghost use Rattle.cbor.specs.declared.kind.Kind.TheVariants.{Unsigned};
 ghost use Rattle.cbor.specs.Decoding.{Gives, IsBytes, argument_at, array_at, array_of_at, below_at};
@@ -271,12 +272,14 @@ impl<'a> Reader<'a> {
     /// Decodes an integer that is not below 0.
     pub fn unsigned(&mut self) -> Result<usize, ReadError>
         // What is encoded so is decoded.
-        ensures again { (n : ℕ) (rest : List ℕ) → n < 2 ^ 64 → self.old.bytes.now ≡ unsigned n ++ rest →
+        ensures again { (n : ℕ) (rest : List ℕ) → n < 2 ^ 64 →
+            self.old.bytes.now ≡ unsigned n ++ rest →
             Gives (λ x. (x, self.new.bytes.now)) result (ok n rest) }
         // What is decoded was encoded so.
         ensures found { IfOk result (λ x. self.old.bytes.now ≡ unsigned x ++ self.new.bytes.now) }
         // It is this value, or this fault.
-        ensures exact { Gives (λ x. (x, self.new.bytes.now)) result (unsigned_at self.old.bytes.now) }
+        ensures exact { Gives (λ x. (x, self.new.bytes.now)) result
+            (unsigned_at self.old.bytes.now) }
         ensures left { OnErr result (self.new.bytes.now ≡ self.old.bytes.now) }
     {
         are_bytes(self.bytes);
@@ -287,12 +290,14 @@ impl<'a> Reader<'a> {
     pub fn below(&mut self, limit: usize) -> Result<usize, ReadError>
         ensures below { IfOk result (λ x. x < limit) }
         // What is encoded so is decoded.
-        ensures again { (n : ℕ) (rest : List ℕ) → n < limit → self.old.bytes.now ≡ unsigned n ++ rest →
+        ensures again { (n : ℕ) (rest : List ℕ) → n < limit →
+            self.old.bytes.now ≡ unsigned n ++ rest →
             Gives (λ x. (x, self.new.bytes.now)) result (ok n rest) }
         // What is decoded was encoded so.
         ensures found { IfOk result (λ x. self.old.bytes.now ≡ unsigned x ++ self.new.bytes.now) }
         // It is this value, or this fault.
-        ensures exact { Gives (λ x. (x, self.new.bytes.now)) result (below_at limit self.old.bytes.now) }
+        ensures exact { Gives (λ x. (x, self.new.bytes.now)) result
+            (below_at limit self.old.bytes.now) }
         ensures left { OnErr result (self.new.bytes.now ≡ self.old.bytes.now) }
     {
         are_bytes(self.bytes);
@@ -302,7 +307,8 @@ impl<'a> Reader<'a> {
     /// Decodes an integer that an `isize` has.
     pub fn signed(&mut self) -> Result<isize, ReadError>
         // What is encoded so is decoded.
-        ensures again { (n : ℤ) (rest : List ℕ) → IsSigned n → self.old.bytes.now ≡ signed n ++ rest →
+        ensures again { (n : ℤ) (rest : List ℕ) → IsSigned n →
+            self.old.bytes.now ≡ signed n ++ rest →
             Gives (λ x. (x, self.new.bytes.now)) result (ok n rest) }
         // What is decoded was encoded so.
         ensures found { IfOk result (λ x. self.old.bytes.now ≡ signed x ++ self.new.bytes.now) }
@@ -322,7 +328,8 @@ impl<'a> Reader<'a> {
         // What is decoded was encoded so.
         ensures found { IfOk result (λ x. self.old.bytes.now ≡ boolean x ++ self.new.bytes.now) }
         // It is this value, or this fault.
-        ensures exact { Gives (λ x. (x, self.new.bytes.now)) result (boolean_at self.old.bytes.now) }
+        ensures exact { Gives (λ x. (x, self.new.bytes.now)) result
+            (boolean_at self.old.bytes.now) }
         ensures left { OnErr result (self.new.bytes.now ≡ self.old.bytes.now) }
     {
         are_bytes(self.bytes);
@@ -347,12 +354,14 @@ impl<'a> Reader<'a> {
     /// Decodes a text, which is lent from the bytes.
     pub fn text(&mut self) -> Result<&'a str, ReadError>
         // What is encoded so is decoded.
-        ensures again { (t : List ℕ) (rest : List ℕ) → IsText t → self.old.bytes.now ≡ text t ++ rest →
+        ensures again { (t : List ℕ) (rest : List ℕ) → IsText t →
+            self.old.bytes.now ≡ text t ++ rest →
             Gives (λ x. (x.now, self.new.bytes.now)) result (ok t rest) }
         // What is decoded was encoded so.
         ensures found { IfOk result (λ x. self.old.bytes.now ≡ text x.now ++ self.new.bytes.now) }
         // It is this value, or this fault.
-        ensures exact { Gives (λ x. (x.now, self.new.bytes.now)) result (text_at self.old.bytes.now) }
+        ensures exact { Gives (λ x. (x.now, self.new.bytes.now)) result
+            (text_at self.old.bytes.now) }
         ensures left { OnErr result (self.new.bytes.now ≡ self.old.bytes.now) }
     {
         are_bytes(self.bytes);
@@ -362,7 +371,8 @@ impl<'a> Reader<'a> {
     /// Decodes the head of an array: the number of items that follow.
     pub fn array(&mut self) -> Result<usize, ReadError>
         // What is encoded so is decoded.
-        ensures again { (n : ℕ) (rest : List ℕ) → n < 2 ^ 64 → self.old.bytes.now ≡ array n ++ rest →
+        ensures again { (n : ℕ) (rest : List ℕ) → n < 2 ^ 64 →
+            self.old.bytes.now ≡ array n ++ rest →
             Gives (λ x. (x, self.new.bytes.now)) result (ok n rest) }
         // What is decoded was encoded so.
         ensures found { IfOk result (λ x. self.old.bytes.now ≡ array x ++ self.new.bytes.now) }
@@ -382,7 +392,8 @@ impl<'a> Reader<'a> {
         // What is decoded was encoded so.
         ensures found { IfOk result (λ x. self.old.bytes.now ≡ array count ++ self.new.bytes.now) }
         // It is this value, or this fault.
-        ensures exact { Gives (λ _. self.new.bytes.now) result (array_of_at count self.old.bytes.now) }
+        ensures exact { Gives (λ _. self.new.bytes.now) result
+            (array_of_at count self.old.bytes.now) }
         ensures left { OnErr result (self.new.bytes.now ≡ self.old.bytes.now) }
     {
         are_bytes(self.bytes);

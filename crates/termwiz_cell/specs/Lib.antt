@@ -59,4 +59,4 @@ pub use Rattle.termwiz_cell.specs.declared.change.sequence.SequenceError.TheVari
 pub use Rattle.termwiz_text.specs.Plain.{is_one_plain, is_plain}
 pub use Rattle.unicode_segmentation.specs.Grapheme.{graphemes}
 pub use Rattle.termwiz_cell.specs.Lending.{LendsAttrs}
-pub use Rattle.termwiz_cell.specs.Rgb.{Rgb, rgb}
+pub use Rattle.termwiz_cell.specs.Rgb.{rgb}

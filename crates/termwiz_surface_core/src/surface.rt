@@ -1,10 +1,9 @@
 //! Surfaces.
 ghost use Rattle.std.specs.Prelude.{◌≡◌, ◌+◌, ◌-◌, ◌<◌, ◌^◌, ◌∷◌, [], IfOk, OnErr, length, vec_len};
 ghost use Rattle.termwiz_surface_core.specs.{Adds, Becomes, IsOk, IsSound, KeepsNames, Makes, OnOk};
-ghost use Rattle.termwiz_surface_core.specs.{KeepsViewers, Refuses, SameFrame, SurfaceValue, false};
+ghost use Rattle.termwiz_surface_core.specs.{KeepsViewers, Refuses, SameFrame, screen_of, true};
 ghost use Rattle.termwiz_surface_core.specs.{blank_surface, change_value, kept_of, lengths_of, map};
-ghost use Rattle.termwiz_surface_core.specs.{measure, next_number, region_fits, regions_fit, true};
-ghost use Rattle.termwiz_surface_core.specs.{screen_of};
+ghost use Rattle.termwiz_surface_core.specs.{false, measure, next_number, region_fits, regions_fit};
 
 mod answer;
 mod answers;

@@ -1,3 +1,5 @@
 pub mod Encoding
 pub mod Decoding
 pub mod Forms
+pub mod Answers
+pub mod Lengths

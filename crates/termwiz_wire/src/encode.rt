@@ -1,8 +1,14 @@
 //! Values encoded at the end of bytes.
+mod answers;
 mod attributes;
 mod changes;
 mod links;
 mod small;
 
-pub(crate) use changes::change_count;
+pub use answers::encode_answer;
+pub(crate) use attributes::attribute_kind;
+pub(crate) use changes::{change_count, change_kind};
 pub use changes::{encode_change, encode_changes};
+pub(crate) use small::{
+    blink_number, intensity_number, line_number, shape_number, style_number, underline_number,
+};

@@ -1,5 +1,6 @@
 //! Changes.
-ghost use Rattle.std.specs.Prelude.{◌≡◌, ◌++◌, [], List, ℕ, map, OnErr};
+ghost use Rattle.std.specs.Prelude.{◌≡◌, ◌++◌, ◌+◌, ◌≤◌, [], List, ℕ, length, map};
+ghost use Rattle.std.specs.Prelude.{IfOk, OnErr};
 ghost use Rattle.cbor.specs.Decoding.{Gives, ok};
 ghost use Rattle.termwiz_cell.specs.ChangeValue as changed;
 ghost use Rattle.termwiz_cell.specs.ChangeValue.{ChangeValue, change_value};
@@ -22,11 +23,16 @@ pub fn decode_change(alloc: Global, reader: &mut Reader<'_>) -> Result<Change, R
     ensures again { (c : ChangeValue) (rest : List ℕ) → IsChange c →
         reader.old.bytes.now ≡ change c ++ rest →
         Gives (λ x. (change_value x, reader.new.bytes.now)) result (ok c rest) }
+    // What is decoded was encoded so.
+    ensures found { IfOk result (λ x.
+        reader.old.bytes.now ≡ change (change_value x) ++ reader.new.bytes.now) }
     // It is this value, or this fault.
     ensures exact { Gives (λ x. (change_value x, reader.new.bytes.now)) result
         (change_at reader.old.bytes.now) }
     ensures left { OnErr result (reader.new.bytes.now ≡ reader.old.bytes.now) }
 {
+    // Each byte is below 256.
+    let _bytes = reader.rest();
     whole_change(alloc, reader)
 }
 
@@ -47,11 +53,19 @@ pub fn decode_changes(alloc: Global, reader: &mut Reader<'_>) -> Result<Vec<Chan
     ensures again { (cs : List ChangeValue) (rest : List ℕ) → AreChanges cs →
         reader.old.bytes.now ≡ changes cs ++ rest →
         Gives (λ x. (map change_value x.items, reader.new.bytes.now)) result (ok cs rest) }
+    // What is decoded was encoded so.
+    ensures found { IfOk result (λ x.
+        reader.old.bytes.now ≡ changes (map change_value x.items) ++ reader.new.bytes.now) }
+    // There are no more of them than bytes that they took.
+    ensures bounded { IfOk result (λ x.
+        length x.items + length reader.new.bytes.now ≤ length reader.old.bytes.now) }
     // They are these values, or it is this fault.
     ensures exact { Gives (λ x. (map change_value x.items, reader.new.bytes.now)) result
         (changes_at reader.old.bytes.now) }
     ensures left { OnErr result (reader.new.bytes.now ≡ reader.old.bytes.now) }
 {
+    // Each byte is below 256.
+    let _bytes = reader.rest();
     whole_changes(alloc, reader)
 }
 

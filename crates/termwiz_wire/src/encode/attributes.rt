@@ -38,7 +38,7 @@ fn put_own_link(out: &mut Vec<u8>, attrs: &CellAttributes) -> Result<(), AllocEr
     }
 }
 
-fn attribute_kind(value: &AttributeChange) -> usize
+pub(crate) fn attribute_kind(value: &AttributeChange) -> usize
     ensures kind { result ≡ attribute_kind (attribute_change_value value.now) }
     ensures small { result < 10 }
 {

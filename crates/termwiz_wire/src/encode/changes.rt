@@ -24,7 +24,7 @@ pub fn encode_change(out: &mut Vec<u8>, value: &Change) -> Result<(), AllocError
     put_values(out, value)
 }
 
-fn change_kind(value: &Change) -> usize
+pub(crate) fn change_kind(value: &Change) -> usize
     ensures kind { result ≡ change_kind (change_value value.now) }
     ensures small { result < 14 }
 {

@@ -16,7 +16,8 @@ pub(super) fn put_optional_link(
     out: &mut Vec<u8>,
     target: &Option<Rc<Hyperlink>>,
 ) -> Result<(), AllocError>
-    ensures written { OnOk result (out.new.items ≡ out.old.items ++ optional_link (linked target.now)) }
+    ensures written { OnOk result
+        (out.new.items ≡ out.old.items ++ optional_link (linked target.now)) }
     ensures form { OnOk result (IsOptionalLink (linked target.now)) }
 {
     match target {

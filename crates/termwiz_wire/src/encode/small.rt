@@ -15,7 +15,7 @@ use termwiz_cell::cell::{
 use termwiz_cell::change::{CursorShape, CursorVisibility, LineAttribute, Position};
 use termwiz_cell::color::ColorAttribute;
 
-pub(super) fn intensity_number(value: Intensity) -> usize
+pub(crate) fn intensity_number(value: Intensity) -> usize
     ensures value { result ≡ intensity_number value }
     ensures small { result < 3 }
 {
@@ -26,7 +26,7 @@ pub(super) fn intensity_number(value: Intensity) -> usize
     }
 }
 
-pub(super) fn underline_number(value: Underline) -> usize
+pub(crate) fn underline_number(value: Underline) -> usize
     ensures value { result ≡ underline_number value }
     ensures small { result < 6 }
 {
@@ -40,7 +40,7 @@ pub(super) fn underline_number(value: Underline) -> usize
     }
 }
 
-pub(super) fn blink_number(value: Blink) -> usize
+pub(crate) fn blink_number(value: Blink) -> usize
     ensures value { result ≡ blink_number value }
     ensures small { result < 3 }
 {
@@ -73,7 +73,7 @@ fn vertical_number(value: VerticalAlign) -> usize
     }
 }
 
-pub(super) fn shape_number(value: CursorShape) -> usize
+pub(crate) fn shape_number(value: CursorShape) -> usize
     ensures { result ≡ shape_number value }
 {
     match value {
@@ -87,7 +87,7 @@ pub(super) fn shape_number(value: CursorShape) -> usize
     }
 }
 
-pub(super) fn line_number(value: LineAttribute) -> usize
+pub(crate) fn line_number(value: LineAttribute) -> usize
     ensures { result ≡ line_number value }
 {
     match value {
@@ -115,7 +115,7 @@ fn flag_number(on: bool) -> usize
 }
 
 /// The small attributes in their bit fields, the lowest first.
-pub(super) fn style_number(attrs: &CellAttributes) -> usize
+pub(crate) fn style_number(attrs: &CellAttributes) -> usize
     ensures { result ≡ style_number attrs.now }
 {
     let vertical = vertical_number(attrs.vertical_align());

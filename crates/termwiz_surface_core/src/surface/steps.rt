@@ -1,12 +1,12 @@
 //! What each change does to a surface.
 ghost use Rattle.std.specs.Prelude.{◌≡◌, ◌+◌, ◌-◌, ◌<◌, ◌≤◌, replicate, slice_index_or, slice_set};
-ghost use Rattle.termwiz_surface_core.specs.{Becomes, OnErr, OnOk, SameFrame, blank, change_value};
-ghost use Rattle.termwiz_surface_core.specs.{attribute_change_value, clear_eol, clear_eos, kept_of};
-ghost use Rattle.termwiz_surface_core.specs.{clear_screen, eol_lengths, eos_lengths, length, map};
-ghost use Rattle.termwiz_surface_core.specs.{measure, no_flags, placed, region_down, region_fits};
-ghost use Rattle.termwiz_surface_core.specs.{region_up, regions_fit, replay, replay_kept, step};
-ghost use Rattle.termwiz_surface_core.specs.{lengths_of, screen_lengths, screen_of, step_kept};
-ghost use Rattle.termwiz_surface_core.specs.{true, with_attribute, with_background, with_line_attribute};
+ghost use Rattle.termwiz_surface_core.specs.{attribute_change_value, no_flags, with_line_attribute};
+ghost use Rattle.termwiz_surface_core.specs.{OnOk, screen_lengths, with_attribute, with_background};
+ghost use Rattle.termwiz_surface_core.specs.{change_value, clear_screen, eol_lengths, eos_lengths};
+ghost use Rattle.termwiz_surface_core.specs.{region_down, region_fits, regions_fit, replay_kept};
+ghost use Rattle.termwiz_surface_core.specs.{Becomes, SameFrame, clear_eol, clear_eos, lengths_of};
+ghost use Rattle.termwiz_surface_core.specs.{kept_of, measure, region_up, screen_of, step_kept};
+ghost use Rattle.termwiz_surface_core.specs.{OnErr, blank, length, map, placed, replay, step, true};
 
 use super::Surface;
 use std::alloc::AllocError;

@@ -1,5 +1,5 @@
 //! Values in the diagnostic notation of CBOR, as `docs/stream.cddl` has them.
-use case_words::fault::Fault;
+use cases_words::fault::Fault;
 use std::alloc::Global;
 use termwiz_cell::cell::{
     AttributeChange, Blink, CellAttributes, Intensity, SemanticType, Underline, VerticalAlign,

@@ -3,7 +3,7 @@ use crate::channels::{Sink, Source};
 use cases_words::fault::Fault;
 use std::alloc::Global;
 use std::io::ErrorKind;
-use surfview_session::session::{SessionError, session};
+use surfview_session::session::{SessionError, USAGE, session};
 
 /// A session's words and input, and where it writes.
 #[derive(Drop)]
@@ -92,7 +92,7 @@ impl Trial {
 
     /// The status of refused memory, which is reported.
     pub fn report_memory(&mut self) -> u8 {
-        SessionError::Memory.report(&mut self.err)
+        SessionError::Memory.report(USAGE, &mut self.err)
     }
 }
 

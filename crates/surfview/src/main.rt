@@ -4,7 +4,7 @@
 use std::env;
 use std::io::ErrorKind;
 use std::process::ExitCode;
-use surfview_session::session::{SessionError, session};
+use surfview_session::session::{SessionError, USAGE, session};
 
 fn main(rt: HostRuntime) -> ExitCode {
     let status = match words(&rt) {
@@ -15,7 +15,7 @@ fn main(rt: HostRuntime) -> ExitCode {
             &mut rt.stdout(),
             &mut rt.stderr(),
         ),
-        Err(error) => error.report(&mut rt.stderr()),
+        Err(error) => error.report(USAGE, &mut rt.stderr()),
     };
     ExitCode::from(status)
 }

@@ -19,10 +19,22 @@ impl Display for Printed<'_> {
             Outcome::Answered(_) | Outcome::Done => Ok(()),
             Outcome::Refused(error) => write_refusal(f, *error),
             Outcome::Shown(rows, cursor) => write_shown(f, rows.as_str(), *cursor),
-            Outcome::Followed(seq, _, screen) => write_viewed(f, "viewer", *seq, screen),
-            Outcome::FollowedFull(seq, _, shown) => write_viewed(f, "viewer", *seq, &shown.screen),
+            Outcome::Followed(seq, _, screen) => write!(f, "{}", PrintedView(*seq, screen)),
+            Outcome::FollowedFull(seq, _, shown) => {
+                write!(f, "{}", PrintedView(*seq, &shown.screen))
+            }
             Outcome::Asked(seq, changes) => write_asked(f, *seq, changes.as_slice()),
         }
+    }
+}
+
+/// A viewer's number and what it shows, as the lines that are printed for them.
+#[derive(Drop)]
+pub struct PrintedView<'a>(pub SequenceNo, pub &'a Screen);
+
+impl Display for PrintedView<'_> {
+    fn fmt<W: fmt::Write>(&self, f: &mut Formatter<W>) -> fmt::Result {
+        write_viewed(f, "viewer", self.0, self.1)
     }
 }
 

@@ -36,10 +36,12 @@ pub enum ScriptError {
     Memory,
 }
 
-/// Why a line has no event.
+/// Why a line has no command.
 #[derive(Clone, Copy, PartialEq, Eq, Debug)]
-enum LineError {
+pub enum LineError {
+    /// The line is no command.
     BadCommand,
+    /// Memory was refused.
     Memory,
 }
 
@@ -64,7 +66,7 @@ impl LineError {
 }
 
 /// What a line of a script can say.
-trait Command: Drop {
+pub trait Command: Drop {
     /// Whether the sizes in it are such as a surface may have.
     ghost is_in_range: { Self → Type 0 };
 
@@ -109,7 +111,10 @@ pub fn read(alloc: Global, script: &str) -> Result<Events, ScriptError>
 }
 
 /// The commands of a script's lines.
-fn commands<C: Command>(alloc: Global, script: &str) -> Result<Vec<C>, ScriptError>
+///
+/// Lines end with LF. Empty lines and lines that begin with `#` are skipped. The error names the
+/// first line that is no command.
+pub fn commands<C: Command>(alloc: Global, script: &str) -> Result<Vec<C>, ScriptError>
     ensures { IfOk result (λ commands. All C.is_in_range commands.items) }
 {
     let mut commands = Vec::new(alloc);
@@ -178,7 +183,7 @@ fn resize_viewer(
 }
 
 /// The event of a line. Its words are parted by exactly one space.
-fn event(alloc: Global, line: &str) -> Result<Event<UnicodeWidths>, LineError>
+pub fn event(alloc: Global, line: &str) -> Result<Event<UnicodeWidths>, LineError>
     ensures { IfOk result (λ event. IsInRange event) }
 {
     if let Some(text) = line.strip_prefix("text ") {

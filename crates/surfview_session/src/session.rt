@@ -13,6 +13,9 @@ use std::fmt::Display;
 use std::io::{ErrorKind, Read, Write};
 use termwiz_surface::view::{ManyOutcome, Outcome};
 
+/// The program's name and the words that it takes.
+pub const USAGE: &str = "surfview WIDTH HEIGHT";
+
 /// Why a session ends before all is done.
 #[derive(Clone, Copy, PartialEq, Eq, Debug)]
 pub enum SessionError {
@@ -52,14 +55,15 @@ impl From<ScriptError> for SessionError {
 }
 
 impl SessionError {
-    /// Writes the error's line, where it has one, and answers the exit status, which is that of a
-    /// failed write where the line can't be written.
-    pub fn report<E: Write>(self, err: &mut E) -> u8
+    /// Writes the error's line, where it has one, and returns the exit status, which is that of a
+    /// failed write where the line can't be written. The usage is the program's name and the words
+    /// that it takes.
+    pub fn report<E: Write>(self, usage: &str, err: &mut E) -> u8
         ensures statuses { (result ≡ 2) ⊎ (result ≡ 3) }
         ensures status { (result ≡ status_of self) ⊎ (result ≡ status_of SessionError.Write) }
     {
         let written = match self {
-            SessionError::Usage => writeln!(err, "usage: surfview WIDTH HEIGHT"),
+            SessionError::Usage => writeln!(err, "usage: {usage}"),
             SessionError::Unreadable => writeln!(err, "input: unreadable"),
             SessionError::BadCommand(line) => writeln!(err, "line {line}: bad command"),
             SessionError::Memory => writeln!(err, "out of memory"),
@@ -102,9 +106,9 @@ pub fn session<R: Read, O: Write, E: Write>(
     match outcomes(alloc, args, input) {
         Ok(outcomes) => match print(alloc, &outcomes, out) {
             Ok(()) => 0,
-            Err(error) => error.report(err),
+            Err(error) => error.report(USAGE, err),
         },
-        Err(error) => error.report(err),
+        Err(error) => error.report(USAGE, err),
     }
 }
 
@@ -125,7 +129,7 @@ fn outcomes<R: Read>(
 }
 
 /// The width and the height that the words give.
-fn dimensions(args: &[String]) -> Option<(usize, usize)>
+pub fn dimensions(args: &[String]) -> Option<(usize, usize)>
     ensures sizes { IsSome result ↔ AreSizes args.now }
     ensures found { IfSome result (λ found. GiveSizes args.now found.0 found.1) }
 {
@@ -146,7 +150,10 @@ fn events<R: Read>(alloc: Global, input: &mut R) -> Result<Events, SessionError>
 }
 
 /// All bytes of the input.
-fn bytes<R: Read>(alloc: Global, input: &mut R) -> Result<Vec<u8>, SessionError> {
+pub fn bytes<R: Read>(alloc: Global, input: &mut R) -> Result<Vec<u8>, SessionError>
+    ensures { IfErr result (λ error. (error ≡ SessionError.Memory)
+        ⊎ (error ≡ SessionError.Unreadable)) }
+{
     let mut bytes = Vec::new(alloc);
     match input.read_to_end(&mut bytes) {
         Ok(_) => Ok(bytes),
@@ -195,7 +202,7 @@ fn print_each_of_many<O: Write>(
 }
 
 /// Writes the lines of an outcome at once.
-fn write<L: Display + Drop, O: Write>(
+pub fn write<L: Display + Drop, O: Write>(
     alloc: Global,
     lines: L,
     out: &mut O,

@@ -5,11 +5,14 @@
 //! - `change HEX` and `answer HEX`: the value that the bytes encode, in the diagnostic notation of
 //!   CBOR, or the fault. `-` stands for no bytes.
 //! - `stream HEX`: the answers one behind another, to the end of the bytes or the first fault.
+//! - `damaged`: how many inputs differ in one byte from those of the lines before, or are their
+//!   beginnings. Each of them was decoded, and its value encoded again.
 //!
 //! Where a value's encoding differs from the bytes that it was decoded from, or where a fault has
 //! taken bytes, another line says so.
 #![tactic(auto)]
 
+mod damaged;
 mod hex;
 mod shown;
 mod stage;

@@ -1,4 +1,5 @@
 //! Lines of bytes, and their answers.
+use crate::damaged::{Kind, count_damaged};
 use crate::hex::bytes_of;
 use crate::shown::{answer_text, change_text, error_word};
 use cases_words::fault::Fault;
@@ -10,11 +11,44 @@ use termwiz_wire::{Reader, WireError, decode_answer, decode_change, encode_answe
 #[derive(Drop)]
 pub struct Stage {
     alloc: Global,
+    // How many inputs were made of the lines by damaging their bytes.
+    damaged: usize,
 }
 
 impl Stage {
     pub fn new(alloc: Global) -> Stage {
-        Stage { alloc }
+        Stage { alloc, damaged: 0 }
+    }
+
+    // How many damaged inputs there were so far. Each ended as it has to, or the play had ended.
+    fn count(&self) -> Result<String, Fault> {
+        Ok(format!(in self.alloc; "{} inputs\n", self.damaged)?)
+    }
+
+    // What the bytes of a line encode.
+    fn decoded(&mut self, kind: &str, word: &str) -> Result<String, Fault> {
+        let bytes = bytes_of(self.alloc, word)?;
+        let mut lines = String::new(self.alloc);
+        let mut reader = Reader::new(bytes.as_slice());
+        match kind {
+            "change" => {
+                self.change(&mut reader, &mut lines)?;
+                self.damage(Kind::Change, bytes.as_slice())?;
+            }
+            "answer" => {
+                self.answer(&mut reader, &mut lines)?;
+                self.damage(Kind::Answer, bytes.as_slice())?;
+            }
+            "stream" => self.stream(&mut reader, &mut lines)?,
+            _ => return Err(Fault::Bad),
+        }
+        Ok(lines)
+    }
+
+    fn damage(&mut self, kind: Kind, bytes: &[u8]) -> Result<(), Fault> {
+        let count = count_damaged(self.alloc, kind, bytes)?;
+        self.damaged = self.damaged.wrapping_add(count);
+        Ok(())
     }
 
     // Adds the answers of a stream, each of which takes a byte or more.
@@ -61,20 +95,12 @@ impl Stage {
 
 impl Play for Stage {
     fn line(&mut self, line: &str) -> Result<String, Fault> {
-        let mut lines = String::new(self.alloc);
-        let (kind, word) = line.split_once(' ').ok_or(Fault::Bad)?;
-        if kind == "case" {
-            return Ok(lines);
-        }
-        let bytes = bytes_of(self.alloc, word)?;
-        let mut reader = Reader::new(bytes.as_slice());
+        let (kind, word) = line.split_once(' ').unwrap_or((line, ""));
         match kind {
-            "change" => self.change(&mut reader, &mut lines)?,
-            "answer" => self.answer(&mut reader, &mut lines)?,
-            "stream" => self.stream(&mut reader, &mut lines)?,
-            _ => return Err(Fault::Bad),
+            "case" => Ok(String::new(self.alloc)),
+            "damaged" => self.count(),
+            _ => self.decoded(kind, word),
         }
-        Ok(lines)
     }
 }
 

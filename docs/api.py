@@ -1,5 +1,6 @@
 #!/usr/bin/env python3
-"""Writes docs/API.md from the sources: every public call that `termwiz_surface` names.
+"""Writes docs/API.md from the sources: every public call that `termwiz_surface` and `termwiz_wire`
+name.
 
     docs/api.py           writes the page
     docs/api.py --check   fails where the page differs from the sources
@@ -14,12 +15,13 @@ from pathlib import Path
 TOP = Path(__file__).resolve().parent.parent
 PAGE = TOP / "docs" / "API.md"
 ROOT = "termwiz_surface"
+WIRE = "termwiz_wire"
 ORDER = "surface view line cellcluster cell change color hyperlink emoji laws".split()
 ITEM = re.compile(r"pub (fn|struct|enum|trait|type|const|static) (\w+)")
 IMPL = re.compile(r"impl(?:<.*?>)? (?:(.+?) for )?(\w+)")
 INTRODUCTION = """# Calls
 
-Every public call that `termwiz_surface` names, by module, with what it requires and the names of the clauses that it ensures. The page is made from the sources by `docs/api.py`; the clauses stand in the file that is named behind each module or type. Calls whose documentation is hidden are for the crates above and left out, as are the operations of traits.
+Every public call that `termwiz_surface` and `termwiz_wire` name, by module, with what it requires and the names of the clauses that it ensures. The page is made from the sources by `docs/api.py`; the clauses stand in the file that is named behind each module or type. Calls whose documentation is hidden are for the crates above and left out, as are the operations of traits.
 """
 
 
@@ -256,7 +258,9 @@ def page_of(name, at, shown, seen, out, counts):
 
 def main():
     out, counts = [], [0]
-    page_of(ROOT, (), (), set(), out, counts)
+    seen = set()
+    page_of(ROOT, (), (), seen, out, counts)
+    page_of(WIRE, (), (WIRE,), seen, out, counts)
     page = INTRODUCTION + f"\n{counts[0]} calls.\n" + "\n".join(out) + "\n"
     page = re.sub(r"\n{3,}", "\n\n", page)
     if sys.argv[1:] == ["--check"]:

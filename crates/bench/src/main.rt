@@ -9,6 +9,7 @@ mod diffs;
 mod drawn;
 mod lines;
 mod printing;
+mod sent;
 mod sizes;
 mod viewers;
 mod workload;

@@ -1,7 +1,7 @@
 //! What is measured, by its name.
 ghost use Rattle.std.specs.Prelude.{◌<◌, ◌^◌};
 
-use crate::{answers, attributes, diffs, lines, printing, sizes, viewers};
+use crate::{answers, attributes, diffs, lines, printing, sent, sizes, viewers};
 use std::alloc::Global;
 use termwiz_surface::surface::SurfaceError;
 
@@ -55,6 +55,12 @@ pub enum Workload {
     AcceptDelta,
     /// A line on 80x24 that a hundred viewers accept, each of which is answered.
     HundredViewers,
+    /// The encoding of an answer that is a repaint of a coloured 80x24, with room for it.
+    EncodeRepaint,
+    /// The decoding of such an answer.
+    DecodeRepaint,
+    /// `AcceptDelta`, where each answer is encoded and decoded on its way.
+    DeliverDelta,
     /// A 200x60 that is made an 80x24 and a 200x60 again.
     Resize,
     /// A 200x60 that loses its last row and gets one again.
@@ -87,7 +93,7 @@ pub enum Workload {
     Equality,
 }
 
-static NAMES: [(&str, Workload); 37] = [
+static NAMES: [(&str, Workload); 40] = [
     ("plain", Workload::Plain),
     ("colours", Workload::Colours),
     ("kana", Workload::Kana),
@@ -111,6 +117,9 @@ static NAMES: [(&str, Workload); 37] = [
     ("answer-repaint", Workload::AnswerRepaint),
     ("accept-delta", Workload::AcceptDelta),
     ("hundred-viewers", Workload::HundredViewers),
+    ("encode-repaint", Workload::EncodeRepaint),
+    ("decode-repaint", Workload::DecodeRepaint),
+    ("deliver-delta", Workload::DeliverDelta),
     ("resize", Workload::Resize),
     ("resize-one-row", Workload::ResizeOneRow),
     ("new", Workload::New),
@@ -178,6 +187,9 @@ pub fn run(
         Workload::AnswerRepaint => answers::repainted(alloc, count),
         Workload::AcceptDelta => answers::accepted(alloc, count),
         Workload::HundredViewers => answers::accepted_by_hundred(alloc, count),
+        Workload::EncodeRepaint => sent::encoded(alloc, count),
+        Workload::DecodeRepaint => sent::decoded(alloc, count),
+        Workload::DeliverDelta => sent::delivered(alloc, count),
         Workload::Resize => sizes::resized(alloc, count),
         Workload::ResizeOneRow => sizes::resized_by_a_row(alloc, count),
         Workload::New => sizes::made(alloc, count),

@@ -40,7 +40,7 @@ fn delivered(scene: &mut Scene) -> Result<(), Stop> {
 }
 
 // A viewer that found no memory has no number, and is to be answered anew.
-fn accepted(answer: &Answer, scene: &mut Scene) -> Result<(), Stop> {
+pub fn accepted(answer: &Answer, scene: &mut Scene) -> Result<(), Stop> {
     match scene.viewer.accept(answer) {
         Ok(number) => {
             let last = scene.viewer.last();

@@ -3,11 +3,13 @@ use crate::edits::{CELL_EDITS, OTHER_EDITS};
 use crate::form::Form;
 use crate::scene::Kind;
 use crate::stop::Stop;
-use crate::{answers, edits, made_lines, reads, sequences, setters, surface_reads, turns, values};
+use crate::{
+    answers, edits, made_lines, reads, sent, sequences, setters, surface_reads, turns, values,
+};
 use std::alloc::Global;
 
 /// The names of all cases.
-pub const CASES: [&str; 21] = [
+pub const CASES: [&str; 22] = [
     "values",
     "setters",
     "sequences",
@@ -29,6 +31,7 @@ pub const CASES: [&str; 21] = [
     "answers",
     "rich-answers",
     "full-answers",
+    "sent-answers",
 ];
 
 /// Makes the calls of a case until one is refused, or goes on behind that where the case is about
@@ -74,6 +77,7 @@ fn play_readings(alloc: Global, name: &str) -> Result<(), Stop> {
         "answers" => answers::play(alloc, Kind::Plain),
         "rich-answers" => answers::play(alloc, Kind::Rich),
         "full-answers" => answers::play(alloc, Kind::Full),
+        "sent-answers" => sent::play(alloc),
         _ => Err(Stop::Wrong("the name of a case, which no case has")),
     }
 }

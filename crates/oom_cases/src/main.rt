@@ -15,6 +15,7 @@ mod given;
 mod made_lines;
 mod reads;
 mod scene;
+mod sent;
 mod sequences;
 mod setters;
 mod stop;

@@ -56,7 +56,6 @@ pub enum SurfaceError {
 }
 
 impl From<AllocError> for SurfaceError {
-    ghost use Rattle.std.specs.Prelude.{◌≡◌};
     ghost use Rattle.termwiz_surface_core.specs.declared.surface.SurfaceError.TheVariants.{Memory};
 
     ghost from_gives = { λ _ error. error ≡ Memory };

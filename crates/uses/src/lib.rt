@@ -1,6 +1,7 @@
 //! Proved callers of surfaces and lines: each file is one that a reader may begin with.
 #![tactic(auto)]
 
+pub mod carried;
 pub mod comparison;
 pub mod damage;
 pub mod follower;

@@ -36,7 +36,6 @@ pub enum AcceptError {
 }
 
 impl From<AllocError> for AcceptError {
-    ghost use Rattle.std.specs.Prelude.{◌≡◌};
     ghost use Rattle.termwiz_surface.specs.declared.view.viewer.AcceptError.TheVariants.{Memory};
 
     ghost from_gives = { λ _ error. error ≡ Memory };

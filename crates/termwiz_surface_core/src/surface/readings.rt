@@ -1,8 +1,8 @@
 //! What a surface shows and keeps, for reading.
 ghost use Rattle.std.specs.Prelude.{◌≡◌, ◌-◌, ◌<◌, ◌^◌, IfOk, string_bytes};
 ghost use Rattle.termwiz_surface_core.specs.{All, HasFullSize, HasSize, IsPrintable, IsSound};
-ghost use Rattle.termwiz_surface_core.specs.{full_of, measure, next_number, no_flags, screen_value};
-ghost use Rattle.termwiz_surface_core.specs.{shown_chars};
+ghost use Rattle.termwiz_surface_core.specs.{full_of, lengths_of, measure, next_number, no_flags};
+ghost use Rattle.termwiz_surface_core.specs.{screen_of, screen_value, shown_chars};
 
 use super::Surface;
 use std::alloc::AllocError;

@@ -4,7 +4,8 @@ ghost use Rattle.termwiz_surface_core.specs.{attribute_change_value, no_flags, w
 ghost use Rattle.termwiz_surface_core.specs.{OnOk, screen_lengths, with_attribute, with_background};
 ghost use Rattle.termwiz_surface_core.specs.{change_value, clear_screen, eol_lengths, eos_lengths};
 ghost use Rattle.termwiz_surface_core.specs.{region_down, region_fits, regions_fit, replay_kept};
-ghost use Rattle.termwiz_surface_core.specs.{clear_eol, clear_eos, measure, region_up, step_kept};
+ghost use Rattle.termwiz_surface_core.specs.{Becomes, SameFrame, clear_eol, clear_eos, lengths_of};
+ghost use Rattle.termwiz_surface_core.specs.{kept_of, measure, region_up, screen_of, step_kept};
 ghost use Rattle.termwiz_surface_core.specs.{OnErr, blank, length, map, placed, replay, step, true};
 
 use super::Surface;

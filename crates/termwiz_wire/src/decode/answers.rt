@@ -6,12 +6,14 @@ ghost use Rattle.termwiz_surface_core.specs.Answer.{AnswerValue};
 ghost use Rattle.termwiz_wire.specs.Answers.{IsAnswer, answer, answer_at, size_at, version_at};
 
 use super::changes::changes_of;
-use cbor::{Fault, ReadError, Reader};
+use crate::WireError;
+use cbor::{Fault, Reader};
 use std::alloc::Global;
 use termwiz_surface_core::surface::Answer;
 
-/// Decodes the answer at the front of the bytes. An error leaves the reader as it was.
-pub fn decode_answer(alloc: Global, reader: &mut Reader<'_>) -> Result<Answer, ReadError>
+/// Decodes the answer at the front of the bytes. An error leaves the reader as it was. Whether the
+/// regions of scrolls lie within the height is looked at behind the last change.
+pub fn decode_answer(alloc: Global, reader: &mut Reader<'_>) -> Result<Answer, WireError>
     // What is encoded so is decoded, whatever follows it.
     ensures again { (a : AnswerValue) (rest : List ℕ) → IsAnswer a →
         reader.old.bytes.now ≡ answer a ++ rest →
@@ -32,7 +34,7 @@ pub fn decode_answer(alloc: Global, reader: &mut Reader<'_>) -> Result<Answer, R
     whole_answer(alloc, reader)
 }
 
-fn whole_answer(alloc: Global, reader: &mut Reader<'_>) -> Result<Answer, ReadError>
+fn whole_answer(alloc: Global, reader: &mut Reader<'_>) -> Result<Answer, WireError>
     ensures exact { Gives (λ x. (x, reader.new.bytes.now)) result
         (answer_at reader.old.bytes.now) }
     ensures left { OnErr result (reader.new.bytes.now ≡ reader.old.bytes.now) }
@@ -44,7 +46,7 @@ fn whole_answer(alloc: Global, reader: &mut Reader<'_>) -> Result<Answer, ReadEr
 }
 
 #[tactic(auto, unfolding(crate::specs::Answers::answer_at))]
-fn answer_of(alloc: Global, reader: &mut Reader<'_>) -> Result<Answer, ReadError>
+fn answer_of(alloc: Global, reader: &mut Reader<'_>) -> Result<Answer, WireError>
     ensures { Gives (λ x. (x, reader.new.bytes.now)) result (answer_at reader.old.bytes.now) }
 {
     reader.array_of(7)?;
@@ -57,30 +59,30 @@ fn answer_of(alloc: Global, reader: &mut Reader<'_>) -> Result<Answer, ReadError
     let changes = changes_of(alloc, reader)?;
     match Answer::from_parts((width, height), base, number, is_repaint, changes) {
         Some(answer) => Ok(answer),
-        None => Err(ReadError::Fault(Fault::Region)),
+        None => Err(WireError::Fault(Fault::Region)),
     }
 }
 
 #[tactic(auto, unfolding(crate::specs::Answers::version_at))]
-fn version_of(reader: &mut Reader<'_>) -> Result<(), ReadError>
+fn version_of(reader: &mut Reader<'_>) -> Result<(), WireError>
     ensures { Gives (λ _. reader.new.bytes.now) result (version_at reader.old.bytes.now) }
 {
     match reader.unsigned()? {
         1 => Ok(()),
-        _ => Err(ReadError::Fault(Fault::Version)),
+        _ => Err(WireError::Fault(Fault::Version)),
     }
 }
 
 // A width or a height.
 #[tactic(auto, unfolding(crate::specs::Answers::size_at))]
-fn size_of(reader: &mut Reader<'_>) -> Result<usize, ReadError>
+fn size_of(reader: &mut Reader<'_>) -> Result<usize, WireError>
     ensures value { Gives (λ x. (x, reader.new.bytes.now)) result (size_at reader.old.bytes.now) }
     ensures some { IfOk result (λ x. 0 < x) }
     ensures fits { IfOk result (λ x. x < 2 ^ 32) }
 {
     let size = reader.below(4294967296)?;
     if size == 0 {
-        return Err(ReadError::Fault(Fault::Range));
+        return Err(WireError::Fault(Fault::Range));
     }
     Ok(size)
 }

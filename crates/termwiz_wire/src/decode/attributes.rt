@@ -7,7 +7,8 @@ ghost use Rattle.termwiz_wire.specs.Decoding.{attribute_change_at, attributes_at
 
 use super::links::optional_link_of;
 use super::small::{blink_from, color_of, intensity_from, style_of, styled, underline_from};
-use cbor::{Fault, ReadError, Reader};
+use crate::WireError;
+use cbor::{Fault, Reader};
 use std::alloc::{AllocError, Global};
 use std::rc::Rc;
 use termwiz_cell::cell::{AttributeChange, CellAttributes};
@@ -19,7 +20,7 @@ use termwiz_cell::hyperlink::Hyperlink;
 pub(super) fn attributes_of(
     alloc: Global,
     reader: &mut Reader<'_>,
-) -> Result<CellAttributes, ReadError>
+) -> Result<CellAttributes, WireError>
     ensures { Gives (λ x. (x, reader.new.bytes.now)) result (attributes_at reader.old.bytes.now) }
 {
     reader.array_of(5)?;
@@ -66,7 +67,7 @@ fn colored(
 pub(super) fn attribute_change_of(
     alloc: Global,
     reader: &mut Reader<'_>,
-) -> Result<AttributeChange, ReadError>
+) -> Result<AttributeChange, WireError>
     ensures { Gives (λ x. (attribute_change_value x, reader.new.bytes.now)) result
         (attribute_change_at reader.old.bytes.now) }
 {
@@ -82,7 +83,7 @@ pub(super) fn attribute_change_of(
         7 => AttributeChange::Foreground(color_of(reader)?),
         8 => AttributeChange::Background(color_of(reader)?),
         9 => AttributeChange::Hyperlink(optional_link_of(alloc, reader)?),
-        _ => return Err(ReadError::Fault(Fault::Type)),
+        _ => return Err(WireError::Fault(Fault::Type)),
     };
     Ok(change)
 }

@@ -12,13 +12,14 @@ ghost use Rattle.termwiz_wire.specs.Forms.{AreChanges, IsChange};
 use super::attributes::{attribute_change_of, attributes_of};
 use super::links::owned_of;
 use super::small::{color_of, line_from, position_of, shape_from, visibility_of};
+use crate::WireError;
 use crate::encode::change_count;
-use cbor::{Fault, ReadError, Reader};
+use cbor::{Fault, Reader};
 use std::alloc::Global;
 use termwiz_cell::change::Change;
 
 /// Decodes the change at the front of the bytes. An error leaves the reader as it was.
-pub fn decode_change(alloc: Global, reader: &mut Reader<'_>) -> Result<Change, ReadError>
+pub fn decode_change(alloc: Global, reader: &mut Reader<'_>) -> Result<Change, WireError>
     // What is encoded so is decoded, whatever follows it.
     ensures again { (c : ChangeValue) (rest : List ℕ) → IsChange c →
         reader.old.bytes.now ≡ change c ++ rest →
@@ -36,7 +37,7 @@ pub fn decode_change(alloc: Global, reader: &mut Reader<'_>) -> Result<Change, R
     whole_change(alloc, reader)
 }
 
-fn whole_change(alloc: Global, reader: &mut Reader<'_>) -> Result<Change, ReadError>
+fn whole_change(alloc: Global, reader: &mut Reader<'_>) -> Result<Change, WireError>
     ensures exact { Gives (λ x. (change_value x, reader.new.bytes.now)) result
         (change_at reader.old.bytes.now) }
     ensures left { OnErr result (reader.new.bytes.now ≡ reader.old.bytes.now) }
@@ -48,7 +49,7 @@ fn whole_change(alloc: Global, reader: &mut Reader<'_>) -> Result<Change, ReadEr
 }
 
 /// Decodes the list of changes at the front of the bytes. An error leaves the reader as it was.
-pub fn decode_changes(alloc: Global, reader: &mut Reader<'_>) -> Result<Vec<Change>, ReadError>
+pub fn decode_changes(alloc: Global, reader: &mut Reader<'_>) -> Result<Vec<Change>, WireError>
     // What is encoded so is decoded, whatever follows it.
     ensures again { (cs : List ChangeValue) (rest : List ℕ) → AreChanges cs →
         reader.old.bytes.now ≡ changes cs ++ rest →
@@ -69,7 +70,7 @@ pub fn decode_changes(alloc: Global, reader: &mut Reader<'_>) -> Result<Vec<Chan
     whole_changes(alloc, reader)
 }
 
-fn whole_changes(alloc: Global, reader: &mut Reader<'_>) -> Result<Vec<Change>, ReadError>
+fn whole_changes(alloc: Global, reader: &mut Reader<'_>) -> Result<Vec<Change>, WireError>
     ensures exact { Gives (λ x. (map change_value x.items, reader.new.bytes.now)) result
         (changes_at reader.old.bytes.now) }
     ensures left { OnErr result (reader.new.bytes.now ≡ reader.old.bytes.now) }
@@ -81,7 +82,7 @@ fn whole_changes(alloc: Global, reader: &mut Reader<'_>) -> Result<Vec<Change>, 
 }
 
 #[tactic(auto, unfolding(crate::specs::Decoding::changes_at))]
-pub(super) fn changes_of(alloc: Global, reader: &mut Reader<'_>) -> Result<Vec<Change>, ReadError>
+pub(super) fn changes_of(alloc: Global, reader: &mut Reader<'_>) -> Result<Vec<Change>, WireError>
     ensures { Gives (λ x. (map change_value x.items, reader.new.bytes.now)) result
         (changes_at reader.old.bytes.now) }
 {
@@ -89,7 +90,7 @@ pub(super) fn changes_of(alloc: Global, reader: &mut Reader<'_>) -> Result<Vec<C
     each_of(alloc, count, reader)
 }
 
-fn each_of(alloc: Global, count: usize, reader: &mut Reader<'_>) -> Result<Vec<Change>, ReadError>
+fn each_of(alloc: Global, count: usize, reader: &mut Reader<'_>) -> Result<Vec<Change>, WireError>
     ensures { Gives (λ x. (map change_value x.items, reader.new.bytes.now)) result
         (each_at [] count reader.old.bytes.now) }
 {
@@ -102,7 +103,7 @@ fn each_of(alloc: Global, count: usize, reader: &mut Reader<'_>) -> Result<Vec<C
 }
 
 #[tactic(auto, unfolding(crate::specs::Decoding::change_at))]
-fn change_of(alloc: Global, reader: &mut Reader<'_>) -> Result<Change, ReadError>
+fn change_of(alloc: Global, reader: &mut Reader<'_>) -> Result<Change, WireError>
     ensures { Gives (λ x. (change_value x, reader.new.bytes.now)) result
         (change_at reader.old.bytes.now) }
 {
@@ -111,12 +112,12 @@ fn change_of(alloc: Global, reader: &mut Reader<'_>) -> Result<Change, ReadError
     if count == change_count(kind) {
         values_of(alloc, kind, reader)
     } else {
-        Err(ReadError::Fault(Fault::Type))
+        Err(WireError::Fault(Fault::Type))
     }
 }
 
 // The change of this kind.
-fn values_of(alloc: Global, kind: usize, reader: &mut Reader<'_>) -> Result<Change, ReadError>
+fn values_of(alloc: Global, kind: usize, reader: &mut Reader<'_>) -> Result<Change, WireError>
     ensures { Gives (λ x. (change_value x, reader.new.bytes.now)) result
         (change_by kind reader.old.bytes.now) }
 {
@@ -135,13 +136,13 @@ fn values_of(alloc: Global, kind: usize, reader: &mut Reader<'_>) -> Result<Chan
         11 => scroll_down_of(reader)?,
         12 => Change::Title(owned_of(alloc, reader)?),
         13 => Change::LineAttribute(line_from(reader.below(4)?)),
-        _ => return Err(ReadError::Fault(Fault::Type)),
+        _ => return Err(WireError::Fault(Fault::Type)),
     };
     Ok(change)
 }
 
 #[tactic(auto, unfolding(crate::specs::Decoding::place_at))]
-fn place_of(reader: &mut Reader<'_>) -> Result<Change, ReadError>
+fn place_of(reader: &mut Reader<'_>) -> Result<Change, WireError>
     ensures { Gives (λ x. (change_value x, reader.new.bytes.now)) result
         (place_at reader.old.bytes.now) }
 {
@@ -151,7 +152,7 @@ fn place_of(reader: &mut Reader<'_>) -> Result<Change, ReadError>
 }
 
 #[tactic(auto, unfolding(crate::specs::Decoding::scroll_at))]
-fn scroll_up_of(reader: &mut Reader<'_>) -> Result<Change, ReadError>
+fn scroll_up_of(reader: &mut Reader<'_>) -> Result<Change, WireError>
     ensures { Gives (λ x. (change_value x, reader.new.bytes.now)) result
         (scroll_at changed.ScrollRegionUp reader.old.bytes.now) }
 {
@@ -166,7 +167,7 @@ fn scroll_up_of(reader: &mut Reader<'_>) -> Result<Change, ReadError>
 }
 
 #[tactic(auto, unfolding(crate::specs::Decoding::scroll_at))]
-fn scroll_down_of(reader: &mut Reader<'_>) -> Result<Change, ReadError>
+fn scroll_down_of(reader: &mut Reader<'_>) -> Result<Change, WireError>
     ensures { Gives (λ x. (change_value x, reader.new.bytes.now)) result
         (scroll_at changed.ScrollRegionDown reader.old.bytes.now) }
 {

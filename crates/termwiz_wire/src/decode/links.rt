@@ -7,7 +7,8 @@ ghost use Rattle.termwiz_cell.specs.LinkPairs.{with_pair};
 ghost use Rattle.termwiz_wire.specs.Decoding.{ascends, link_at, optional_link_at, param_at};
 ghost use Rattle.termwiz_wire.specs.Decoding.{params_at};
 
-use cbor::{Fault, Kind, ReadError, Reader};
+use crate::WireError;
+use cbor::{Fault, Kind, Reader};
 use std::alloc::{AllocError, Global};
 use std::collections::BTreeMap;
 use std::rc::Rc;
@@ -18,7 +19,7 @@ use termwiz_cell::hyperlink::Hyperlink;
 pub(super) fn optional_link_of(
     alloc: Global,
     reader: &mut Reader<'_>,
-) -> Result<Option<Rc<Hyperlink>>, ReadError>
+) -> Result<Option<Rc<Hyperlink>>, WireError>
     ensures { Gives (λ x. (linked x, reader.new.bytes.now)) result
         (optional_link_at reader.old.bytes.now) }
 {
@@ -32,12 +33,12 @@ pub(super) fn optional_link_of(
             let link = Rc::new(alloc, link)?;
             Ok(Some(link))
         }
-        _ => Err(ReadError::Fault(Fault::Type)),
+        _ => Err(WireError::Fault(Fault::Type)),
     }
 }
 
 #[tactic(auto, unfolding(crate::specs::Decoding::link_at))]
-fn link_of(alloc: Global, reader: &mut Reader<'_>) -> Result<Hyperlink, ReadError>
+fn link_of(alloc: Global, reader: &mut Reader<'_>) -> Result<Hyperlink, WireError>
     ensures { Gives (λ x. (x, reader.new.bytes.now)) result (link_at reader.old.bytes.now) }
 {
     reader.array_of(3)?;
@@ -49,7 +50,7 @@ fn link_of(alloc: Global, reader: &mut Reader<'_>) -> Result<Hyperlink, ReadErro
 }
 
 /// Decodes a text of its own.
-pub(super) fn owned_of(alloc: Global, reader: &mut Reader<'_>) -> Result<String, ReadError>
+pub(super) fn owned_of(alloc: Global, reader: &mut Reader<'_>) -> Result<String, WireError>
     ensures { Gives (λ x. (string_bytes x, reader.new.bytes.now)) result
         (text_at reader.old.bytes.now) }
 {
@@ -62,7 +63,7 @@ fn params_of(
     alloc: Global,
     count: usize,
     reader: &mut Reader<'_>,
-) -> Result<BTreeMap<String, String>, ReadError>
+) -> Result<BTreeMap<String, String>, WireError>
     ensures { Gives (λ x. (map param_bytes x.entries, reader.new.bytes.now)) result
         (params_at [] count reader.old.bytes.now) }
 {
@@ -80,7 +81,7 @@ fn param_of(
     alloc: Global,
     before: &BTreeMap<String, String>,
     reader: &mut Reader<'_>,
-) -> Result<(String, String), ReadError>
+) -> Result<(String, String), WireError>
     ensures value { Gives (λ x. ((string_bytes x.0, string_bytes x.1), reader.new.bytes.now)) result
         (param_at (map param_bytes before.now.entries) reader.old.bytes.now) }
     ensures above { IfOk result (λ x.
@@ -89,7 +90,7 @@ fn param_of(
     reader.array_of(2)?;
     let key = reader.text()?;
     if !ascends(before, key) {
-        return Err(ReadError::Fault(Fault::Range));
+        return Err(WireError::Fault(Fault::Range));
     }
     let key = String::from_str(alloc, key)?;
     let value = owned_of(alloc, reader)?;

@@ -9,7 +9,8 @@ ghost use Rattle.termwiz_wire.specs.Decoding.{rgb_at, rgb_palette_at, split, sty
 ghost use Rattle.termwiz_wire.specs.Decoding.{visibility_of};
 ghost use Rattle.termwiz_wire.specs.Encoding.{fields};
 
-use cbor::{Fault, Kind, ReadError, Reader};
+use crate::WireError;
+use cbor::{Fault, Kind, Reader};
 use termwiz_cell::cell::{
     Blink, CellAttributes, Intensity, SemanticType, Underline, VerticalAlign,
 };
@@ -121,14 +122,14 @@ fn has_small_fields(number: usize) -> bool
 
 /// The small attributes as one number.
 #[tactic(auto, unfolding(crate::specs::Decoding::style_at))]
-pub(super) fn style_of(reader: &mut Reader<'_>) -> Result<usize, ReadError>
+pub(super) fn style_of(reader: &mut Reader<'_>) -> Result<usize, WireError>
     ensures { Gives (λ x. (x, reader.new.bytes.now)) result (style_at reader.old.bytes.now) }
 {
     let number = reader.below(131072)?;
     if has_small_fields(number) {
         Ok(number)
     } else {
-        Err(ReadError::Fault(Fault::Range))
+        Err(WireError::Fault(Fault::Range))
     }
 }
 
@@ -162,7 +163,7 @@ pub(super) fn styled(number: usize) -> CellAttributes
 }
 
 #[tactic(auto, unfolding(crate::specs::Decoding::palette_at))]
-fn palette_of(reader: &mut Reader<'_>) -> Result<ColorAttribute, ReadError>
+fn palette_of(reader: &mut Reader<'_>) -> Result<ColorAttribute, WireError>
     ensures { Gives (λ x. (x, reader.new.bytes.now)) result (palette_at reader.old.bytes.now) }
 {
     let index = reader.below(256)?;
@@ -170,7 +171,7 @@ fn palette_of(reader: &mut Reader<'_>) -> Result<ColorAttribute, ReadError>
 }
 
 #[tactic(auto, unfolding(crate::specs::Decoding::rgb_at))]
-fn rgb_of(reader: &mut Reader<'_>) -> Result<ColorAttribute, ReadError>
+fn rgb_of(reader: &mut Reader<'_>) -> Result<ColorAttribute, WireError>
     ensures { Gives (λ x. (x, reader.new.bytes.now)) result (rgb_at reader.old.bytes.now) }
 {
     let red = reader.below(256)?;
@@ -181,7 +182,7 @@ fn rgb_of(reader: &mut Reader<'_>) -> Result<ColorAttribute, ReadError>
 }
 
 #[tactic(auto, unfolding(crate::specs::Decoding::rgb_palette_at))]
-fn rgb_palette_of(reader: &mut Reader<'_>) -> Result<ColorAttribute, ReadError>
+fn rgb_palette_of(reader: &mut Reader<'_>) -> Result<ColorAttribute, WireError>
     ensures { Gives (λ x. (x, reader.new.bytes.now)) result
         (rgb_palette_at reader.old.bytes.now) }
 {
@@ -195,7 +196,7 @@ fn rgb_palette_of(reader: &mut Reader<'_>) -> Result<ColorAttribute, ReadError>
 
 /// Decodes a colour.
 #[tactic(auto, unfolding(crate::specs::Decoding::color_at))]
-pub(super) fn color_of(reader: &mut Reader<'_>) -> Result<ColorAttribute, ReadError>
+pub(super) fn color_of(reader: &mut Reader<'_>) -> Result<ColorAttribute, WireError>
     ensures { Gives (λ x. (x, reader.new.bytes.now)) result (color_at reader.old.bytes.now) }
 {
     match reader.kind()? {
@@ -207,15 +208,15 @@ pub(super) fn color_of(reader: &mut Reader<'_>) -> Result<ColorAttribute, ReadEr
         Kind::Array => match reader.array()? {
             3 => rgb_of(reader),
             4 => rgb_palette_of(reader),
-            _ => Err(ReadError::Fault(Fault::Type)),
+            _ => Err(WireError::Fault(Fault::Type)),
         },
-        _ => Err(ReadError::Fault(Fault::Type)),
+        _ => Err(WireError::Fault(Fault::Type)),
     }
 }
 
 /// Decodes a column or a row.
 #[tactic(auto, unfolding(crate::specs::Decoding::position_at))]
-pub(super) fn position_of(reader: &mut Reader<'_>) -> Result<Position, ReadError>
+pub(super) fn position_of(reader: &mut Reader<'_>) -> Result<Position, WireError>
     ensures { Gives (λ x. (x, reader.new.bytes.now)) result (position_at reader.old.bytes.now) }
 {
     reader.array_of(2)?;
@@ -223,6 +224,6 @@ pub(super) fn position_of(reader: &mut Reader<'_>) -> Result<Position, ReadError
         0 => Ok(Position::Relative(reader.signed()?)),
         1 => Ok(Position::Absolute(reader.unsigned()?)),
         2 => Ok(Position::EndRelative(reader.unsigned()?)),
-        _ => Err(ReadError::Fault(Fault::Type)),
+        _ => Err(WireError::Fault(Fault::Type)),
     }
 }

@@ -1,13 +1,11 @@
 -- How long the bytes of an answer are, and which answers bytes are.
-use Rattle.std.proofs.Common.{◌≡◌, ℕ, ◌+◌, ◌<◌, ◌≤◌, ◌∙◌, List, [], ◌∷◌, ◌++◌, length, refl, sym, ap, subst, append-nil, arith}
+use Rattle.std.proofs.Common.{◌≡◌, ℕ, ◌+◌, ◌<◌, ◌≤◌, List, [], ◌++◌, length, sym, ap, append-nil, arith}
 use Rattle.std.proofs.lemmas.List.{length-append}
 use Rattle.cbor.specs.Encoding.{head, unsigned, boolean, array}
-use Rattle.termwiz_surface.specs.ManySchedule.{Held}
 use Rattle.termwiz_surface_core.specs.Answer.{AnswerValue}
 use Rattle.termwiz_wire.proofs.Bounded.{changes-some}
 use Rattle.termwiz_wire.specs.Answers.{answer}
 use Rattle.termwiz_wire.specs.Encoding.{changes}
-use Rattle.stream_session.specs.Chain.{encoded}
 
 -- there are more of them than it has changes
 pub answer-longer : (a : AnswerValue) → length a.changes < length (answer a)
@@ -23,7 +21,3 @@ answer-longer a =
 -- what is taken off the front
 pub taken : (a : AnswerValue) (bytes rest : List ℕ) → bytes ≡ answer a ++ rest → length a.changes + 1 + length rest ≤ length bytes
 taken a bytes rest e = omega (arith, ap length e, length-append (answer a) rest, answer-longer a)
-
-pub none_encoded : (held : List Held) → encoded held ≡ [] → held ≡ []
-none_encoded [] e = refl
-none_encoded (h ∷ held) e = absurd (omega (arith, ap length e, length-append (answer h.answer) (encoded held), answer-longer h.answer))

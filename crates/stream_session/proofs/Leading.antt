@@ -1,9 +1,9 @@
 -- What a surface answers leads on whoever has the number that it answers.
-use Rattle.std.proofs.Common.{◌≡◌, ℕ, ◌≤◌, ◌∙◌, true, false, List, [], ◌∷◌, refl, sym, ap, subst, arith}
+use Rattle.std.proofs.Common.{◌≡◌, ℕ, ◌∙◌, true, false, List, [], ◌∷◌, refl, sym, ap, arith}
 use Rattle.std.proofs.lemmas.Bool.{true≢false}
 use Rattle.termwiz_cell.specs.Width.{unicode_columns}
 use Rattle.termwiz_cell.specs.declared.emoji.UnicodeWidths.{UnicodeWidths}
-use Rattle.termwiz_screen.specs.Log.{next_number, is_known, delta_limit}
+use Rattle.termwiz_screen.specs.Log.{is_known, delta_limit}
 use Rattle.termwiz_screen.specs.Picture.{screens}
 use Rattle.termwiz_screen.specs.Screen.{Screen}
 use Rattle.termwiz_screen.specs.Step.{replay}

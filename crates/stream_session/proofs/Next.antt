@@ -1,9 +1,10 @@
 -- What the next answer of a chain makes of a viewer.
 use Rattle.std.proofs.Common.{◌≡◌, ℕ, ◌+◌, ◌∙◌, List, length, sym, ap, subst, arith}
-use Rattle.std.specs.Prelude.{Ok}
+use Rattle.std.specs.Prelude.{Ok, Err}
 use Rattle.std.proofs.lemmas.List.{length-append}
 use Rattle.cbor.proofs.Steps.{ok_is}
 use Rattle.cbor.specs.Decoding.{ok}
+use Rattle.cbor.specs.declared.error.Fault.{Fault}
 use Rattle.termwiz_cell.specs.ChangeValue.{ChangeValue}
 use Rattle.termwiz_cell.specs.Width.{unicode_columns}
 use Rattle.termwiz_cell.specs.declared.emoji.UnicodeWidths.{UnicodeWidths}
@@ -16,6 +17,7 @@ use Rattle.termwiz_surface_core.specs.Adding.{Makes, with_log}
 use Rattle.termwiz_surface_core.specs.Answer.{AnswerValue}
 use Rattle.termwiz_surface_core.specs.Following.{ViewerValue}
 use Rattle.termwiz_surface_core.specs.SurfaceValue.{SurfaceValue, screen_of}
+use Rattle.termwiz_wire.specs.Answers.{answer_at}
 use Rattle.stream_session.specs.Chain.{LeadsOn}
 use Rattle.stream_session.specs.Watching.{HasShown}
 use Rattle.stream_session.specs.declared.watching.View.{View}
@@ -44,3 +46,7 @@ shown_next v mid made u h a rest bytes seen n led read same size makes last numb
       screen = ap screen_of forgets ∙ shows;
       behind = ap (λ (x : AnswerValue × List ℕ). x.1) (sym both);
     }
+
+-- what was decoded has no fault
+pub decoded_not : (a : AnswerValue) (bytes rest : List ℕ) (f : Fault) → answer_at bytes ≡ Ok (a, rest) → answer_at bytes ≡ Err f → ⊥
+decoded_not a bytes rest f is e = cc

@@ -1,6 +1,6 @@
 -- What each event makes of what is sent, and runs of events.
-use Rattle.std.proofs.Common.{◌≡◌, ℕ, ◌∙◌, List, [], ◌∷◌, ◌++◌, refl, sym, ap, subst, append_assoc, append-nil}
-use Rattle.std.specs.List.{All, flat_map}
+use Rattle.std.proofs.Common.{◌≡◌, ℕ, List, [], ◌∷◌, ◌++◌, refl, sym, subst, append_assoc, append-nil}
+use Rattle.std.specs.List.{All}
 use Rattle.std.specs.Prelude.{Vec}
 use Rattle.std.specs.declared.alloc.Global.{Global}
 use Rattle.termwiz_cell.specs.Width.{unicode_columns}
@@ -17,7 +17,7 @@ use Rattle.termwiz_surface_core.specs.SurfaceValue.{SurfaceValue, screen_of}
 use Rattle.termwiz_wire.specs.Answers.{IsAnswer, answer}
 use Rattle.stream_session.specs.Chain.{LeadOn, IsChain, encoded}
 use Rattle.stream_session.specs.SendSteps.{HasNamed, Steps}
-use Rattle.stream_session.specs.Sending.{columns, own, IsInRange, bytes_of, stream_of, Sends, Ended, Made, Given, first_surface, AreSent}
+use Rattle.stream_session.specs.Sending.{columns, own, IsInRange, stream_of, Sends, Ended, Made, Given, first_surface, AreSent}
 use Rattle.stream_session.specs.declared.sending.SendEvent.{SendEvent}
 use Rattle.stream_session.specs.declared.sending.SendEvent.TheVariants.{Send}
 use Rattle.stream_session.specs.declared.sending.SendOutcome.{SendOutcome}

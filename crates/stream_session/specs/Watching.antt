@@ -1,12 +1,15 @@
 -- What is shown of a stream.
 use Rattle.std.specs.Bool.{⊤}
-use Rattle.std.specs.Prelude.{◌≡◌, ℕ, ◌-◌, Bool, List, map, drop, length, None, Result, Ok, Err, if◌then◌else◌}
+use Rattle.std.specs.Prelude.{◌≡◌, ℕ, ◌+◌, ◌-◌, Bool, List, map, drop, length, Some, None, Result, Ok, Err, if◌then◌else◌}
+use Rattle.cbor.specs.declared.error.Fault as wire
 use Rattle.termwiz_cell.specs.declared.emoji.UnicodeWidths.{UnicodeWidths}
 use Rattle.termwiz_screen.specs.Screen.{Screen}
 use Rattle.termwiz_screen.specs.ScreenValue.{screen_value}
 use Rattle.termwiz_surface.specs.ManySchedule.{Held}
 use Rattle.termwiz_surface_core.specs.Following.{ViewerValue}
 use Rattle.termwiz_surface_core.specs.SurfaceValue.{screen_of}
+use Rattle.stream_session.specs.declared.watching.AnswerFault.{AnswerFault}
+use Rattle.stream_session.specs.declared.watching.AnswerFault.TheVariants.{Bytes}
 use Rattle.stream_session.specs.declared.watching.View.{View}
 use Rattle.stream_session.specs.declared.watching.WatchError.{WatchError}
 use Rattle.stream_session.specs.declared.watching.WatchError.TheVariants.{Fault, Memory}
@@ -32,6 +35,17 @@ kept each shown = if each then shown else drop (length shown - 1) shown
 pub record ShowsAll (each : Bool) (held : List Held) (w : Watched) : Type 0 where
   pub views : map shown_by w.views.items ≡ kept each (map shown_of held)
   pub fault : w.fault ≡ None
+
+-- so many answers are shown, and the next one has a fault
+pub record ShowsUpTo (each : Bool) (held : List Held) (why : AnswerFault) (w : Watched) : Type 0 where
+  pub views : map shown_by w.views.items ≡ kept each (map shown_of held)
+  pub fault : w.fault ≡ Some (length held + 1, why)
+
+-- no answer is decoded, for this fault, or memory was refused
+abbrev pub FailsWith : wire.Fault → Result View WatchError → Type 0
+FailsWith f (Ok view) = ⊥
+FailsWith f (Err Memory) = ⊤
+FailsWith f (Err (Fault fault)) = fault ≡ Bytes f
 
 -- an answer with this rest behind it is shown, or memory was refused
 pub record HasShown (h : Held) (rest : List ℕ) (seen : View) (v : ViewerValue UnicodeWidths) (bytes : List ℕ) : Type 0 where

@@ -1,6 +1,7 @@
 //! What is shown of a stream of answers.
 ghost use Rattle.std.specs.Prelude.{◌≡◌, ◌⊎◌, ◌+◌, ◌<◌, ◌≤◌, ◌^◌, ◌++◌, ◌∷◌, [], ℕ, List, length};
-ghost use Rattle.std.specs.Prelude.{IfErr, IfOk, OnOk, if◌then◌else◌, true};
+ghost use Rattle.cbor.specs.declared.error.Fault.{Fault};
+ghost use Rattle.std.specs.Prelude.{Err, IfErr, IfOk, OnOk, if◌then◌else◌, true};
 ghost use Rattle.termwiz_cell.specs.Width.{unicode_columns};
 ghost use Rattle.termwiz_screen.specs.Log.{next_number};
 ghost use Rattle.termwiz_screen.specs.Printable.{HasSize};
@@ -8,9 +9,9 @@ ghost use Rattle.termwiz_surface.specs.ManySchedule.{Held};
 ghost use Rattle.termwiz_surface_core.specs.Adding.{Makes};
 ghost use Rattle.termwiz_surface_core.specs.Answer.{is_stale};
 ghost use Rattle.termwiz_surface_core.specs.SurfaceValue.{screen_of};
-ghost use Rattle.termwiz_wire.specs.Answers.{answer};
+ghost use Rattle.termwiz_wire.specs.Answers.{answer, answer_at};
 ghost use Rattle.stream_session.specs.Chain.{IsChain, LeadsOn, encoded};
-ghost use Rattle.stream_session.specs.Watching.{ShowsAll, ShowsNext};
+ghost use Rattle.stream_session.specs.Watching.{FailsWith, ShowsAll, ShowsNext, ShowsUpTo};
 
 use std::alloc::{AllocError, Global};
 use std::fmt;
@@ -99,6 +100,10 @@ pub fn watch(alloc: Global, bytes: &[u8], each: bool) -> Result<Watched, AllocEr
     // Of a chain of answers each is shown.
     ensures shows { (held : List Held) → IsChain held → bytes.now ≡ encoded held →
         IfOk result (λ watched. ShowsAll each held watched) }
+    // Of a chain with no answer behind it each is shown, and then the fault is reported.
+    ensures fault { (held : List Held) (rest : List ℕ) (f : Fault) → IsChain held →
+        bytes.now ≡ encoded held ++ rest → (rest ≡ [] → ⊥) → answer_at rest ≡ Err f →
+        IfOk result (λ watched. ShowsUpTo each held (AnswerFault.Bytes f) watched) }
 {
     let source = Surface::new(alloc, 1, 1, UnicodeWidths)?;
     let mut viewer = Viewer::new(alloc, &source)?;
@@ -142,6 +147,7 @@ fn next(
         LeadsOn viewer.old.last (screen_of viewer.old.surface) h →
         reader.old.bytes.now ≡ answer h.answer ++ rest →
         ShowsNext h rest result viewer.new reader.new.bytes.now }
+    ensures fault { (f : Fault) → answer_at reader.old.bytes.now ≡ Err f → FailsWith f result }
     ensures room { OnOk result (next_number viewer.new.surface.log + length reader.new.bytes.now
         ≤ next_number viewer.old.surface.log + length reader.old.bytes.now) }
     ensures shorter { OnOk result (length reader.new.bytes.now < length reader.old.bytes.now) }

@@ -1,7 +1,7 @@
-use Rattle.std.proofs.Common.{◌≡◌, ℕ, ◌+◌, ◌≤◌, List, length, ap, ◌∙◌, arith}
+use Rattle.std.proofs.Common.{ap, ◌∙◌, arith}
 use Rattle.termwiz_surface_core.specs.SurfaceValue.{screen_of}
 use Rattle.stream_session.proofs.Bytes.{taken}
-use Rattle.stream_session.proofs.Next.{numbers_left, shown_next}
+use Rattle.stream_session.proofs.Next.{decoded_not, numbers_left, shown_next}
 use Rattle.stream_session.proofs.watching.next.Goals as goal
 
 pub fit-requires : goal.fit-requires
@@ -31,3 +31,6 @@ pub returns-clause-shorter : goal.returns-clause-shorter
 returns-clause-shorter c =
     let took = taken c.in_ok-answer.answer c.args.reader.now.bytes.now c.decode_answer.new.reader.bytes.now c.in_ok-answer.ensures.found in
     omega (arith, took)
+
+pub returns-clause-fault : goal.returns-clause-fault
+returns-clause-fault c = λ f e. decoded_not c.in_ok-answer.answer c.args.reader.now.bytes.now c.decode_answer.new.reader.bytes.now f c.in_ok-answer.ensures.exact e

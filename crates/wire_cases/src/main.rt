@@ -6,8 +6,8 @@
 //!   CBOR, or the fault. `-` stands for no bytes.
 //! - `stream HEX`: the answers one behind another, to the end of the bytes or the first fault.
 //!
-//! Where the value's encoding differs from the bytes that it was decoded from, where bytes are left
-//! behind it, or where a fault has taken bytes, the line below says so.
+//! Where a value's encoding or its length differs from the bytes that it was decoded from, and
+//! where a fault has taken bytes, the next line says so.
 #![tactic(auto)]
 
 mod hex;

@@ -3,7 +3,9 @@ use crate::hex::bytes_of;
 use crate::shown::{answer_text, change_text, error_word};
 use case_words::fault::Fault;
 use std::alloc::Global;
-use termwiz_wire::{Reader, WireError, decode_answer, decode_change, encode_answer, encode_change};
+use termwiz_wire::{
+    Reader, WireError, decode_answer, decode_change, encode_answer, encode_change, encoded_len,
+};
 
 /// What was told so far.
 #[derive(Drop)]
@@ -95,10 +97,18 @@ impl Stage {
                 self.tell("  ", text.as_str())?;
                 let mut bytes = Vec::new(self.alloc);
                 encode_answer(&mut bytes, &answer)?;
+                self.measure(encoded_len(&answer), bytes.len())?;
                 self.compare(bytes.as_slice(), before, reader)
             }
             Err(error) => self.fault(error, before, reader),
         }
+    }
+
+    fn measure(&mut self, said: usize, len: usize) -> Result<(), Fault> {
+        if said == len {
+            return Ok(());
+        }
+        self.tell("  ", "its length differs")
     }
 
     // Whether the value's bytes are those that it was decoded from.

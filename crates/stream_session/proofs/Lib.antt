@@ -1,0 +1,5 @@
+pub mod Bytes
+pub mod Leading
+pub mod Next
+pub mod Sent
+pub mod Shown

@@ -1,0 +1,62 @@
+-- What is sent of a surface: what each event makes of it and of the number of the last answer that was sent, and whole runs.
+use Rattle.std.specs.List.{flat_map}
+use Rattle.std.specs.Prelude.{◌≡◌, ℕ, false, List, [], ◌∷◌, Vec}
+use Rattle.std.specs.declared.alloc.Global.{Global}
+use Rattle.surfview_session.specs.Run.{unicode}
+use Rattle.termwiz_cell.specs.Width.{unicode_columns}
+use Rattle.termwiz_cell.specs.declared.emoji.UnicodeWidths.{UnicodeWidths}
+use Rattle.termwiz_screen.specs.Picture.{screens}
+use Rattle.termwiz_surface.specs.ManySchedule.{Held}
+use Rattle.termwiz_surface.specs.Schedule.{Acts}
+use Rattle.termwiz_surface.specs.Schedule as schedule
+use Rattle.termwiz_surface.specs.declared.view.Event.{Event}
+use Rattle.termwiz_surface.specs.declared.view.Event.TheVariants as event
+use Rattle.termwiz_surface.specs.declared.view.Outcome.{Outcome}
+use Rattle.termwiz_surface_core.specs.Answer.{AnswerValue}
+use Rattle.termwiz_surface_core.specs.Carried.{IsGivenBy}
+use Rattle.termwiz_surface_core.specs.SurfaceValue.{SurfaceValue, blank_surface, screen_of}
+use Rattle.termwiz_wire.specs.Answers.{answer}
+use Rattle.stream_session.specs.declared.sending.SendEvent.{SendEvent}
+use Rattle.stream_session.specs.declared.sending.SendEvent.TheVariants.{Changes, Flush, Resize, Send}
+use Rattle.stream_session.specs.declared.sending.SendOutcome.{SendOutcome}
+use Rattle.stream_session.specs.declared.sending.SendOutcome.TheVariants.{Of, Sent}
+
+-- how texts are measured
+abbrev pub columns : UnicodeWidths → List ℕ → ℕ
+columns widths = unicode_columns
+
+-- what happens to the surface itself; what is sent leaves it
+abbrev pub own : SendEvent → Event UnicodeWidths
+own (Changes changes) = event.Changes changes
+own (Flush n) = event.Flush n
+own (Resize w h) = event.Resize w h
+own Send = event.Follow
+
+-- the sizes that the event names are those that a surface may have
+abbrev pub IsInRange : SendEvent → Type 0
+IsInRange e = schedule.IsInRange (own e)
+
+-- the bytes that were sent
+abbrev pub bytes_of : SendOutcome → List ℕ
+bytes_of (Of outcome) = []
+bytes_of (Sent bytes) = bytes.items
+
+abbrev pub stream_of : List SendOutcome → List ℕ
+stream_of outcomes = flat_map bytes_of outcomes
+
+-- from this surface, with n as the number of the last answer that was sent, the events may have these outcomes, where these answers are sent
+pub data Sends : SurfaceValue UnicodeWidths → ℕ → List SendEvent → List SendOutcome → List Held → Type 0 where
+  Ended : (s : SurfaceValue UnicodeWidths) (n : ℕ) → Sends s n [] [] []
+  Made : (s t : SurfaceValue UnicodeWidths) (n : ℕ) (e : SendEvent) (outcome : Outcome) (events : List SendEvent) (outcomes : List SendOutcome) (held : List Held)
+      → Acts columns s (own e) outcome t → Sends t n events outcomes held → Sends s n (e ∷ events) (Of outcome ∷ outcomes) held
+  Given : (s : SurfaceValue UnicodeWidths) (n : ℕ) (a : AnswerValue) (bytes : Vec ℕ Global) (events : List SendEvent) (outcomes : List SendOutcome) (held : List Held)
+      → IsGivenBy screens columns s n a → bytes.items ≡ answer a → Sends s a.number events outcomes held
+      → Sends s n (Send ∷ events) (Sent bytes ∷ outcomes) (record { answer = a; screen = screen_of s } ∷ held)
+
+-- the surface of a run before its first event
+abbrev pub first_surface : ℕ → ℕ → SurfaceValue UnicodeWidths
+first_surface w h = blank_surface unicode w h false
+
+-- the events may have these outcomes on a blank surface of this size
+abbrev pub AreSent : ℕ → ℕ → List SendEvent → List SendOutcome → List Held → Type 0
+AreSent w h events outcomes held = Sends (first_surface w h) 0 events outcomes held

@@ -1,0 +1,52 @@
+//! Both ends of a stream.
+ghost use Rattle.std.specs.Prelude.{◌≡◌, ◌<◌, ◌^◌, IfOk};
+ghost use Rattle.std.specs.List.{All};
+ghost use Rattle.stream_session.specs.Pipe.{IsPiped};
+ghost use Rattle.stream_session.specs.Sending.{IsInRange, bytes_of, stream_of};
+
+use crate::sending::{SendEvent, SendOutcome, sent};
+use crate::watching::{Watched, watch};
+use std::alloc::{AllocError, Global};
+
+/// What is shown of the stream that is sent: after each of its answers, or after the last one
+/// alone. It fails where memory is refused.
+pub fn piped(
+    alloc: Global,
+    width: usize,
+    height: usize,
+    events: Vec<SendEvent>,
+    each: bool,
+) -> Result<Watched, AllocError>
+    requires some_column { 0 < width }
+    requires some_row { 0 < height }
+    requires fits { width < 2 ^ 32 }
+    requires fits_height { height < 2 ^ 32 }
+    requires sizes { All IsInRange events.items }
+    ensures { IfOk result (λ shown. IsPiped width height events.items each shown) }
+{
+    let outcomes = sent(alloc, width, height, events)?;
+    let bytes = stream(alloc, outcomes.as_slice())?;
+    let shown = watch(alloc, bytes.as_slice(), each)?;
+    Ok(shown)
+}
+
+/// The bytes that were sent, one answer behind another.
+pub fn stream(alloc: Global, outcomes: &[SendOutcome]) -> Result<Vec<u8>, AllocError>
+    ensures { IfOk result (λ stream. stream.items ≡ stream_of outcomes.now) }
+{
+    let mut stream = Vec::new(alloc);
+    for outcome in outcomes {
+        stream.extend_from_slice(bytes_of(outcome))?;
+    }
+    Ok(stream)
+}
+
+// The bytes that were sent, where any were.
+fn bytes_of(outcome: &SendOutcome) -> &[u8]
+    ensures { result.now ≡ bytes_of outcome.now }
+{
+    match outcome {
+        SendOutcome::Of(_) => &[],
+        SendOutcome::Sent(bytes) => bytes.as_slice(),
+    }
+}

@@ -1,0 +1,96 @@
+//! One run of `surfsend`: from its words and its input to what it sends and its exit status.
+ghost use Rattle.std.specs.Prelude.{◌≡◌, ◌⊎◌, IfErr, IfOk, IsErr};
+ghost use Rattle.std.specs.List.{All};
+ghost use Rattle.stream_session.specs.Sending.{IsInRange};
+ghost use Rattle.stream_session.specs.SendRun.{IsSendRun};
+ghost use Rattle.surfview_session.specs.Size.{AreSizes};
+ghost use Rattle.surfview_session.specs.Status.{status_of};
+
+use crate::script::read;
+use crate::sending::{SendEvent, SendOutcome, sent};
+use std::alloc::Global;
+use std::io::{Read, Write};
+use surfview_session::printed::Printed;
+use surfview_session::session::{SessionError, bytes, dimensions, write};
+
+/// The program's name and the words that it takes.
+pub const USAGE: &str = "surfsend WIDTH HEIGHT";
+
+/// Runs the script that `input` holds on a surface of the size that `args` give, in columns and
+/// rows, and sends its answers to `out`. What is refused goes to `err`.
+///
+/// The result is the exit status: 0 where all is done, 2 for words that are no size, an input that
+/// can't be read or a bad command, and 3 for refused memory or a failed write. The line that says
+/// which goes to `err`, and a failed write has none. With status 2 nothing is written to `out`.
+pub fn send_session<R: Read, O: Write, E: Write>(
+    alloc: Global,
+    args: &[String],
+    input: &mut R,
+    out: &mut O,
+    err: &mut E,
+) -> u8
+    ensures statuses { (result ≡ 0) ⊎ (result ≡ 2) ⊎ (result ≡ 3) }
+    ensures done { result ≡ 0 → AreSizes args.now }
+    ensures refused { result ≡ 2 → out.new ≡ out.old }
+    ensures usage { AreSizes args.now ⊎ ((input.new ≡ input.old) × (out.new ≡ out.old)) }
+{
+    match outcomes(alloc, args, input) {
+        Ok(outcomes) => match send_each(alloc, outcomes.as_slice(), out, err) {
+            Ok(()) => 0,
+            Err(error) => error.report(USAGE, err),
+        },
+        Err(error) => error.report(USAGE, err),
+    }
+}
+
+/// What comes of the script that `input` holds, on a surface of the width and the height that the
+/// words give.
+fn outcomes<R: Read>(
+    alloc: Global,
+    args: &[String],
+    input: &mut R,
+) -> Result<Vec<SendOutcome>, SessionError>
+    ensures usage { AreSizes args.now ⊎ (IsErr result × (input.new ≡ input.old)) }
+    ensures run { IfOk result (λ outcomes. IsSendRun args.now outcomes.items) }
+{
+    let (width, height) = dimensions(args).ok_or(SessionError::Usage)?;
+    let events = events(alloc, input)?;
+    let outcomes = sent(alloc, width, height, events)?;
+    Ok(outcomes)
+}
+
+/// The events of the script that `input` holds.
+fn events<R: Read>(alloc: Global, input: &mut R) -> Result<Vec<SendEvent>, SessionError>
+    ensures { IfOk result (λ events. All IsInRange events.items) }
+{
+    let bytes = bytes(alloc, input)?;
+    let script = str::from_utf8(bytes.as_slice()).map_err(|_| SessionError::Unreadable)?;
+    let events = read(alloc, script)?;
+    Ok(events)
+}
+
+/// Sends each answer, and reports what was refused.
+fn send_each<O: Write, E: Write>(
+    alloc: Global,
+    outcomes: &[SendOutcome],
+    out: &mut O,
+    err: &mut E,
+) -> Result<(), SessionError>
+    ensures { IfErr result (λ error. status_of error ≡ 3) }
+{
+    for outcome in outcomes {
+        match outcome {
+            SendOutcome::Of(outcome) => write(alloc, Printed(outcome), err)?,
+            SendOutcome::Sent(bytes) => send(bytes.as_slice(), out)?,
+        }
+    }
+    Ok(())
+}
+
+/// Writes an answer's bytes, and lets them go.
+fn send<O: Write>(bytes: &[u8], out: &mut O) -> Result<(), SessionError>
+    ensures { IfErr result (λ error. status_of error ≡ 3) }
+{
+    out.write_all(bytes).map_err(|_| SessionError::Write)?;
+    out.flush().map_err(|_| SessionError::Write)
+}

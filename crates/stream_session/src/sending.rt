@@ -1,0 +1,139 @@
+//! What is sent of a surface: its answers as bytes, each for a viewer that accepted all before it.
+ghost use Rattle.std.specs.Prelude.{◌≡◌, ◌<◌, ◌^◌, IfOk, List};
+ghost use Rattle.std.specs.List.{All};
+ghost use Rattle.termwiz_screen.specs.Screen.{Screen};
+ghost use Rattle.termwiz_surface.specs.ManySchedule.{Held};
+ghost use Rattle.termwiz_surface.specs.Schedule.{Acts};
+ghost use Rattle.termwiz_surface.specs.declared.view.Event.TheVariants as event;
+ghost use Rattle.termwiz_surface.specs.{IsGivenBy, KeepsNames, screens};
+ghost use Rattle.termwiz_cell.specs.Width.{unicode_columns};
+ghost use Rattle.termwiz_wire.specs.Answers.{IsAnswer, answer};
+ghost use Rattle.termwiz_surface_core.specs.Answer.{AnswerValue};
+ghost use Rattle.stream_session.specs.Chain.{IsChain};
+ghost use Rattle.stream_session.specs.SendSteps.{HasNamed, Steps};
+ghost use Rattle.stream_session.specs.Sending.{AreSent, IsInRange, columns};
+
+use std::alloc::{AllocError, Global};
+use termwiz_surface::view::Outcome;
+use termwiz_surface::{Change, SEQ_ZERO, SequenceNo, Surface, SurfaceError, UnicodeWidths};
+use termwiz_wire::encode_answer;
+
+/// What happens to a surface whose answers are sent.
+#[derive(Drop, Debug)]
+pub enum SendEvent {
+    /// The changes are added, as one list.
+    Changes(Vec<Change>),
+    /// The changes before this number are forgotten.
+    Flush(SequenceNo),
+    /// The surface takes this width and height.
+    Resize(usize, usize),
+    /// An answer is sent, for the number of the last one that was sent, or for 0.
+    Send,
+}
+
+/// What came of such an event.
+#[derive(Drop, Debug)]
+pub enum SendOutcome {
+    /// What came of an event on the surface.
+    Of(Outcome),
+    /// The answer that was sent, as bytes.
+    Sent(Vec<u8>),
+}
+
+/// Does the events on one blank surface, of this width in columns and this height in rows, and
+/// returns one outcome for each.
+///
+/// - A refused event is an outcome, and the run goes on.
+/// - It fails where there is no memory for the surface, an answer, its bytes, or the list of
+///   outcomes.
+pub fn sent(
+    alloc: Global,
+    width: usize,
+    height: usize,
+    events: Vec<SendEvent>,
+) -> Result<Vec<SendOutcome>, AllocError>
+    requires some_column { 0 < width }
+    requires some_row { 0 < height }
+    requires fits { width < 2 ^ 32 }
+    requires fits_height { height < 2 ^ 32 }
+    requires sizes { All IsInRange events.items }
+    ensures { IfOk result (λ outcomes. (held : List Held) ×
+        AreSent width height events.items outcomes.items held × IsChain held) }
+{
+    let mut surface = Surface::new(alloc, width, height, UnicodeWidths)?;
+    let mut last = SEQ_ZERO;
+    let mut outcomes = Vec::new(alloc);
+    for event in events {
+        let outcome = serve(alloc, &mut surface, &mut last, event)?;
+        outcomes.push(outcome)?;
+    }
+    Ok(outcomes)
+}
+
+// Does one event. The number of the last answer that was sent is `last`.
+fn serve(
+    alloc: Global,
+    surface: &mut Surface<UnicodeWidths>,
+    last: &mut SequenceNo,
+    event: SendEvent,
+) -> Result<SendOutcome, AllocError>
+    requires { IsInRange event }
+    ensures { IfOk result (λ outcome. (p : Screen) → HasNamed surface.old last.old p →
+        Steps surface.old last.old p event outcome surface.new last.new) }
+{
+    match event {
+        SendEvent::Changes(changes) => Ok(SendOutcome::Of(added(surface, changes))),
+        SendEvent::Flush(seq) => {
+            surface.flush_changes_older_than(seq);
+            Ok(SendOutcome::Of(Outcome::Done))
+        }
+        SendEvent::Resize(width, height) => Ok(SendOutcome::Of(resized(surface, width, height))),
+        SendEvent::Send => {
+            let bytes = send(alloc, surface, last)?;
+            Ok(SendOutcome::Sent(bytes))
+        }
+    }
+}
+
+// Adds a list of changes.
+fn added(surface: &mut Surface<UnicodeWidths>, changes: Vec<Change>) -> Outcome
+    ensures acts { Acts columns surface.old (event.Changes changes) result surface.new }
+    ensures remembered { KeepsNames unicode_columns surface.old surface.new }
+{
+    match surface.add_changes(changes) {
+        Ok(number) => Outcome::Answered(number),
+        Err(error) => Outcome::Refused(error),
+    }
+}
+
+// Takes another size.
+fn resized(surface: &mut Surface<UnicodeWidths>, width: usize, height: usize) -> Outcome
+    requires some_column { 0 < width }
+    requires some_row { 0 < height }
+    requires fits { width < 2 ^ 32 }
+    requires fits_height { height < 2 ^ 32 }
+    ensures acts { Acts columns surface.old (event.Resize width height) result surface.new }
+    ensures remembered { KeepsNames unicode_columns surface.old surface.new }
+{
+    match surface.resize(width, height) {
+        Ok(()) => Outcome::Done,
+        Err(error) => Outcome::Refused(error),
+    }
+}
+
+// The bytes of the answer for the last number, which is the answer's number then.
+fn send(
+    alloc: Global,
+    surface: &Surface<UnicodeWidths>,
+    last: &mut SequenceNo,
+) -> Result<Vec<u8>, AllocError>
+    ensures { IfOk result (λ bytes. (a : AnswerValue)
+        × IsGivenBy screens columns surface.now last.old a × IsAnswer a
+        × (bytes.items ≡ answer a) × (last.new ≡ a.number)) }
+{
+    let answer = surface.answer(*last)?;
+    let mut bytes = Vec::new(alloc);
+    encode_answer(&mut bytes, &answer)?;
+    *last = answer.number();
+    Ok(bytes)
+}

@@ -8,8 +8,8 @@
 //! - `damaged`: how many inputs differ in one byte from those of the lines before, or are their
 //!   beginnings. Each of them was decoded, and its value encoded again.
 //!
-//! Where a value's encoding differs from the bytes that it was decoded from, or where a fault has
-//! taken bytes, another line says so.
+//! Where a value's encoding, or the length that it is said to have, differs from the bytes that it
+//! was decoded from, or where a fault has taken bytes, another line says so.
 #![tactic(auto)]
 
 mod damaged;

@@ -5,7 +5,7 @@ use termwiz_cell::cell::{
     AttributeChange, Blink, CellAttributes, Intensity, SemanticType, Underline, VerticalAlign,
 };
 use termwiz_cell::change::{Change, CursorShape, CursorVisibility, LineAttribute, Position};
-use termwiz_cell::color::{ColorAttribute, RgbColor};
+use termwiz_cell::color::ColorAttribute;
 use termwiz_cell::hyperlink::Hyperlink;
 use termwiz_surface_core::surface::Answer;
 use termwiz_wire::{Fault as Wrong, WireError};

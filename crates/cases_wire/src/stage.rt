@@ -5,7 +5,9 @@ use crate::shown::{answer_text, change_text, error_word};
 use cases_words::fault::Fault;
 use cases_words::play::Play;
 use std::alloc::Global;
-use termwiz_wire::{Reader, WireError, decode_answer, decode_change, encode_answer, encode_change};
+use termwiz_wire::{
+    Reader, WireError, decode_answer, decode_change, encode_answer, encode_change, encoded_len,
+};
 
 /// What decodes the bytes of lines.
 #[derive(Drop)]
@@ -86,6 +88,9 @@ impl Stage {
                 push(lines, answer_text(self.alloc, &answer)?.as_str())?;
                 let mut bytes = Vec::new(self.alloc);
                 encode_answer(&mut bytes, &answer)?;
+                if encoded_len(&answer) != bytes.len() {
+                    push(lines, "its length is another one")?;
+                }
                 compare(bytes.as_slice(), before, reader, lines)
             }
             Err(error) => push_fault(error, before, reader, lines),

@@ -111,8 +111,8 @@ impl Log {
         Ok(())
     }
 
-    /// Logs clones of changes that are lent. On an error nothing has changed. An empty list asks for
-    /// no memory, so that it never fails.
+    /// Logs clones of changes that are lent. On an error nothing has changed. An empty list asks
+    /// for no memory, so that it never fails.
     pub fn append_clones(&mut self, changes: &[Change]) -> Result<(), AllocError>
         ensures ok { OnOk result (self.new ≡ appended self.old (map change_value changes.now)) }
         ensures err { OnErr result (self.new ≡ self.old) }

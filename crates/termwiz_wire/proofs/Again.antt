@@ -1,11 +1,11 @@
 -- What is encoded is decoded again, whatever follows it.
-use Rattle.std.proofs.Common.{◌≡◌, ℕ, zero, suc, ◌+◌, ◌^◌, ◌<◌, ◌≤◌, Bool, true, false, cond, ltb, List, [], ◌∷◌, ◌++◌, length, Option, Some, None, Result, Ok, Err, refl, sym, ap, subst, ◌∙◌, append_assoc, arith}
+use Rattle.std.proofs.Common.{◌≡◌, ℕ, suc, ◌^◌, ◌<◌, true, List, [], ◌∷◌, ◌++◌, length, Option, Some, None, Ok, refl, sym, ap, subst, ◌∙◌, append_assoc, arith}
 use Rattle.std.specs.List.{flat_map, AllByRecursion}
 use Rattle.std.proofs.lemmas.Bool.{eq-eqb}
 use Rattle.std.proofs.lemmas.List.{append-nil}
 use Rattle.std.proofs.lemmas.List.Concat.{flat_map-cons}
 use Rattle.cbor.specs.declared.kind.Kind.TheVariants as kinds
-use Rattle.cbor.specs.Encoding.{IsText, unsigned, signed, boolean, text, array}
+use Rattle.cbor.specs.Encoding.{unsigned, signed, boolean, text, array}
 use Rattle.cbor.specs.Decoding.{◌>>=◌, ok, kind_at, kind_of, null_at, below_at, boolean_at}
 use Rattle.cbor.proofs.Heads.{head_again, limited_again}
 use Rattle.cbor.proofs.Items.{signed_again, boolean_again, text_again, array_of_again, kind_unsigned, kind_array}

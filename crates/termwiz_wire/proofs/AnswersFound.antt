@@ -1,5 +1,5 @@
 -- An answer that is decoded was encoded so.
-use Rattle.std.proofs.Common.{◌≡◌, ℕ, ◌+◌, ◌<◌, ◌≤◌, ◌^◌, Bool, true, false, cond, eqb, ltb, List, ◌++◌, length, Result, Ok, Err, refl, sym, ap, subst, ◌∙◌, arith}
+use Rattle.std.proofs.Common.{◌≡◌, ℕ, ◌+◌, ◌≤◌, ◌^◌, Bool, cond, eqb, List, ◌++◌, length, Result, Ok, Err, refl, ap, subst, ◌∙◌, arith}
 use Rattle.std.proofs.lemmas.Bool.{eqb-true}
 use Rattle.std.proofs.lemmas.List.{length-append}
 use Rattle.cbor.specs.declared.error.Fault.{Fault}
@@ -8,7 +8,7 @@ use Rattle.cbor.specs.Encoding.{unsigned, boolean, array}
 use Rattle.cbor.specs.Decoding.{◌>>=◌, ok, IsBytes, unsigned_at, below_at, boolean_at, array_of_at}
 use Rattle.cbor.proofs.Heads.{head_takes}
 use Rattle.cbor.proofs.Items.{boolean_takes, array_of_takes}
-use Rattle.cbor.proofs.Steps.{Takes, Takes-then, bind_ok, guard_ok, guard_ended, ok_is}
+use Rattle.cbor.proofs.Steps.{Takes, Takes-then, bind_ok, guard_ok, guard_ended}
 use Rattle.termwiz_cell.specs.ChangeValue.{ChangeValue}
 use Rattle.termwiz_screen.specs.Step.{regions_fit}
 use Rattle.termwiz_surface_core.specs.Answer.{AnswerValue}

@@ -1,8 +1,7 @@
 -- What is decoded was encoded so.
-use Rattle.std.proofs.Common.{◌≡◌, ℕ, zero, suc, ◌+◌, ◌^◌, ◌<◌, Bool, true, false, cond, eqb, List, [], ◌∷◌, ◌++◌, length, Option, Some, None, Result, Ok, Err, refl, sym, ap, subst, ◌∙◌, append_assoc, arith, inl, inr}
+use Rattle.std.proofs.Common.{◌≡◌, ℕ, zero, suc, ◌^◌, ◌<◌, Bool, true, false, cond, eqb, List, [], ◌∷◌, ◌++◌, length, Option, Some, None, Result, Ok, Err, refl, sym, ap, subst, ◌∙◌, append_assoc, arith, inl, inr}
 use Rattle.std.specs.List.{flat_map, AllByRecursion}
 use Rattle.std.specs.List.Sorted.{IsStrictlySortedBy}
-use Rattle.std.proofs.lemmas.Bool.{eqb-true, ltb-true}
 use Rattle.std.proofs.lemmas.List.{append-nil}
 use Rattle.std.proofs.lemmas.List.Concat.{flat_map-cons}
 use Rattle.cbor.specs.declared.error.Fault.{Fault}
@@ -10,11 +9,11 @@ use Rattle.cbor.specs.declared.error.Fault.TheVariants.{Range}
 use Rattle.cbor.specs.declared.error.Fault.TheVariants as faults
 use Rattle.cbor.specs.declared.kind.Kind.{Kind}
 use Rattle.cbor.specs.declared.kind.Kind.TheVariants as kinds
-use Rattle.cbor.specs.Encoding.{IsText, unsigned, signed, boolean, text, array}
+use Rattle.cbor.specs.Encoding.{unsigned, signed, boolean, text, array}
 use Rattle.cbor.specs.Decoding.{◌>>=◌, ok, IsBytes, kind_at, null_at, unsigned_at, below_at, signed_at, boolean_at, text_at, array_at, array_of_at}
 use Rattle.cbor.proofs.Heads.{head_takes}
 use Rattle.cbor.proofs.Items.{null_takes, signed_takes, boolean_takes, text_takes, array_of_takes}
-use Rattle.cbor.proofs.Steps.{Takes, Takes-then, bind_ok, guard_ended, chosen, ok_is}
+use Rattle.cbor.proofs.Steps.{Takes, Takes-then, bind_ok, chosen, ok_is}
 use Rattle.termwiz_cell.specs.Attributes.{Attributes}
 use Rattle.termwiz_cell.specs.AttributeChangeValue.{AttributeChangeValue}
 use Rattle.termwiz_cell.specs.AttributeChangeValue as attribute
@@ -29,7 +28,7 @@ use Rattle.termwiz_cell.specs.declared.color.ColorAttribute.{ColorAttribute}
 use Rattle.termwiz_cell.specs.declared.color.ColorAttribute.TheVariants as colors
 use Rattle.termwiz_cell.specs.declared.change.Position.{Position}
 use Rattle.termwiz_cell.specs.declared.change.Position.TheVariants.{Relative, Absolute, EndRelative}
-use Rattle.termwiz_wire.specs.Encoding.{color, style_number, param, link, optional_link, attributes, attribute_kind, attribute_value, attribute_change, position, is_visible, scroll, change_kind, change_count, change_values, change, changes}
+use Rattle.termwiz_wire.specs.Encoding.{color, param, link, optional_link, attributes, attribute_kind, attribute_value, attribute_change, position, is_visible, scroll, change_kind, change_count, change_values, change, changes}
 use Rattle.termwiz_wire.specs.Decoding.{palette_at, rgb_at, rgb_palette_at, color_by, color_at, styled, style_at, ascends, param_at, params_at, link_at, optional_link_by, optional_link_at, attributes_at, attribute_change_by, attribute_change_at, position_by, position_at, place_at, scroll_at, visibility_of, change_by, change_at, each_at, changes_at}
 use Rattle.termwiz_wire.specs.Forms.{IsColor, IsParam, IsLink, IsOptionalLink, AreAttributes, IsAttributeChange, IsPosition, IsScroll, IsChange, AreChanges}
 use Rattle.termwiz_wire.proofs.Params.{order-push}

@@ -1,10 +1,10 @@
 -- Steps of a decoding that did not fail.
-use Rattle.std.proofs.Common.{◌≡◌, ℕ, ◌<◌, Bool, true, false, cond, ltb, eqb, ◌&&◌, List, Result, Ok, Err, refl, ap, subst, ◌∙◌, arith, inl, inr}
-use Rattle.std.proofs.lemmas.Bool.{eqb-true, ltb-true}
+use Rattle.std.proofs.Common.{◌≡◌, ℕ, ◌<◌, Bool, true, false, cond, eqb, ◌&&◌, List, Result, Ok, refl, inl, inr}
+use Rattle.std.proofs.lemmas.Bool.{eqb-true}
 use Rattle.cbor.specs.declared.error.Fault.{Fault}
-use Rattle.cbor.specs.Decoding.{◌>>=◌, ok, IsBytes, below_at, unsigned_at, array_at}
-use Rattle.cbor.specs.Encoding.{unsigned, array}
-use Rattle.cbor.proofs.Heads.{head_takes, limited_takes}
+use Rattle.cbor.specs.Decoding.{◌>>=◌, ok, IsBytes, below_at}
+use Rattle.cbor.specs.Encoding.{unsigned}
+use Rattle.cbor.proofs.Heads.{limited_takes}
 use Rattle.cbor.proofs.Steps.{Takes, bind_ok, chosen, ok_is}
 
 -- which way a chain of tests went

@@ -1,5 +1,5 @@
 -- The small attributes are the values in the bit fields of their number.
-use Rattle.std.proofs.Common.{◌≡◌, ℕ, zero, suc, ◌+◌, ◌*◌, ◌/◌, ◌%◌, ◌<◌, ◌≤◌, Bool, true, false, List, [], ◌∷◌, ◌++◌, refl, sym, ap, ◌∙◌, arith, Ok}
+use Rattle.std.proofs.Common.{◌≡◌, ℕ, ◌+◌, ◌*◌, ◌/◌, ◌%◌, ◌<◌, ◌≤◌, Bool, true, false, List, [], ◌∷◌, ◌++◌, refl, ap, ◌∙◌, arith, Ok}
 use Rattle.std.proofs.lemmas.Bool.{lt-ltb}
 use Rattle.cbor.proofs.Heads.{limited_again}
 use Rattle.cbor.specs.Encoding.{unsigned}

@@ -1,5 +1,5 @@
 -- How answers are encoded and decoded.
-use Rattle.std.specs.Prelude.{◌≡◌, ℕ, ◌<◌, ◌^◌, ◌==◌, List, ◌++◌, Result, Ok, Err, if◌then◌else◌}
+use Rattle.std.specs.Prelude.{ℕ, ◌<◌, ◌^◌, ◌==◌, List, ◌++◌, Result, Ok, Err, if◌then◌else◌}
 use Rattle.cbor.specs.Encoding.{unsigned, boolean, array}
 use Rattle.cbor.specs.Decoding.{◌>>=◌, ok, unsigned_at, below_at, boolean_at, array_of_at}
 use Rattle.cbor.specs.declared.error.Fault.{Fault}

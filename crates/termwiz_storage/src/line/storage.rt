@@ -108,8 +108,8 @@ impl CellStorage {
     /// a blank with its attributes.
     ///
     /// - Right behind the last cell of a text the cell is appended to the text.
-    /// - Anywhere else, and by each other edit but `append_visible` and the mark of the last cell, a
-    ///   text becomes a vector, also where the list stays as it is.
+    /// - Anywhere else, and by each other edit but `append_visible` and the mark of the last cell,
+    ///   a text becomes a vector, also where the list stays as it is.
     /// - On an error, which a cell past the greatest column gives too, the cells are as before.
     pub fn set_cell(&mut self, i: usize, cell: Cell) -> Result<(), AllocError>
         ensures ok { OnOk result (cells_in self.new ≡ set_cell i cell (cells_in self.old)) }
@@ -325,7 +325,7 @@ impl CellStorage {
     /// The storage as a vector, which it is from then on. Its cells can be written: the list is
     /// then what was written, and another vector where one was assigned. With a vector it never
     /// fails. On an error nothing changed.
-    #[inline]
+    #[inline(always)]
     pub fn coerce_vec(&mut self) -> Result<&mut VecStorage, AllocError>
         ensures* writes_back { sem 𝓛 (LendsVector self.entry result) }
         ensures value { IfOk result (λ v. v.now ≡ cells_in self.old) }

@@ -1,6 +1,3 @@
-use Rattle.std.proofs.Common.{◌≡◌, map, string_bytes, ◌∙◌, sym}
-use Rattle.termwiz_cell.specs.Link.{param_bytes}
-use Rattle.termwiz_wire.specs.Decoding.{ascends}
 use Rattle.termwiz_wire.proofs.Params.{last-ascends}
 use Rattle.termwiz_wire.proofs.decode.links.ascends.Goals as goal
 

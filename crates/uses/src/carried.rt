@@ -1,14 +1,11 @@
 //! An answer that goes from a surface to a viewer as bytes.
 ghost use Rattle.std.specs.Prelude.{◌≡◌, ℕ, IfErr, IfOk, OnOk};
 ghost use Rattle.cbor.specs.declared.error.ReadError.TheVariants.{Memory};
-ghost use Rattle.termwiz_surface.specs.{IsPastOf, MeasureAlike, Screen, ShowsNamed};
-ghost use Rattle.termwiz_surface.specs.{measure, screen_of, screens};
+ghost use Rattle.uses.specs.{IsPastOf, MeasureAlike, Screen, ShowsNamed, measure, screen_of};
+ghost use Rattle.uses.specs.{screens};
 
 use std::alloc::{AllocError, Global};
-use termwiz_surface::change::{Change, SequenceNo};
-use termwiz_surface::emoji::Widths;
-use termwiz_surface::surface::{Answer, Surface};
-use termwiz_surface::view::{AcceptError, Viewer};
+use termwiz_surface::{AcceptError, Answer, Change, SequenceNo, Surface, Viewer, Widths};
 use termwiz_wire::{Reader, WireError, decode_answer, encode_answer};
 
 /// Why an answer wasn't delivered.

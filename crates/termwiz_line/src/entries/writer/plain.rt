@@ -1,0 +1,116 @@
+//! Rows of cells that are stored one by one, most of which are one character of printable ASCII in
+//! the pen that stands.
+ghost use Rattle.std.specs.Prelude.{◌≡◌, ◌++◌, ◌∷◌, ◌≤◌, ◌&&◌, ◌==◌, []};
+ghost use Rattle.termwiz_line.specs.{IsInText, IsUnderWay, IsWritten, List, OnOk, VisibleCell};
+ghost use Rattle.termwiz_line.specs.{and_cells, ends_printable, last_is, length, spaces_of, true};
+ghost use Rattle.termwiz_text.specs.Plain as plain;
+ghost use Rattle.termwiz_line.specs.Entries as spec;
+
+use super::{RowWriter, added};
+use std::alloc::AllocError;
+use termwiz_cell::cell::CellAttributes;
+use termwiz_storage::line::vecstorage::VecStorageIter;
+
+impl<'a> RowWriter<'a> {
+    // Cells that are stored one by one come next. Behind each one the plain cells in its pen are
+    // written in a loop of their own, which asks only what they need.
+    pub(super) fn stored_cells(&mut self, cells: VecStorageIter<'a>) -> Result<(), AllocError>
+        ensures { OnOk result (
+            (from : spec.Penned) (before : List VisibleCell) → IsWritten from before self.old →
+            IsWritten from (before ++ cells.entry) self.new) }
+    {
+        let mut left = cells;
+        while let Some(cell) = left.next() {
+            self.cell(cell.str(), cell.attrs())?;
+            self.plain_cells(&mut left)?;
+        }
+        Ok(())
+    }
+
+    // The plain cells that come next in the pen that stands are written, where the text grows
+    // behind printable ASCII.
+    #[inline(always)]
+    fn plain_cells(&mut self, left: &mut VecStorageIter<'a>) -> Result<(), AllocError>
+        ensures written { OnOk result (
+            (from : spec.Penned) (all : List VisibleCell) →
+            IsUnderWay from all left.old self.old → IsUnderWay from all left.new self.new) }
+        ensures shorter { length left.new ≤ length left.old }
+    {
+        if !self.is_in_text() {
+            return Ok(());
+        }
+        // A pen in a place of its own is compared without a look behind a reference.
+        match self.pen.unboxed_copy() {
+            Some(pen) => self.plain_run(left, &pen),
+            None => Ok(()),
+        }
+    }
+
+    // Writes the plain cells that come next in a pen that is equal to the one that stands.
+    #[inline(always)]
+    fn plain_run(
+        &mut self,
+        left: &mut VecStorageIter<'a>,
+        pen: &CellAttributes,
+    ) -> Result<(), AllocError>
+        requires spaces { self.old.spaces ≡ 0 }
+        requires text { last_is ends_printable self.old.printed.entries ≡ true }
+        requires pen { pen.now ≡ self.old.printed.pen }
+        ensures written { OnOk result (
+            (from : spec.Penned) (all : List VisibleCell) →
+            IsUnderWay from all left.old self.old → IsUnderWay from all left.new self.new) }
+        ensures shorter { length left.new ≤ length left.old }
+    {
+        self.space_attrs = self.pen;
+        while let Some(byte) = left.next_plain(pen) {
+            self.plain_cell(byte)?;
+        }
+        Ok(())
+    }
+
+    // Whether the text grows, no space is held back behind it, and it ends in printable ASCII.
+    fn is_in_text(&self) -> bool
+        ensures { result
+            ≡ (self.now.spaces == 0 && last_is ends_printable self.now.printed.entries) }
+    {
+        self.spaces == 0 && self.entries.ends_printable()
+    }
+
+    // A cell of one character of printable ASCII comes next, in the pen that stands.
+    #[inline(always)]
+    fn plain_cell(&mut self, byte: u8) -> Result<(), AllocError>
+        requires plain { plain.is_plain byte ≡ true }
+        requires text { IsInText self.old }
+        ensures cell { OnOk result (
+            (from : spec.Penned) (cells : List VisibleCell) (p : VisibleCell) →
+            p.cell.text ≡ byte ∷ [] → p.cell.attrs ≡ self.old.printed.pen →
+            IsWritten from cells self.old → IsWritten from (cells ++ p ∷ []) self.new) }
+        ensures text { OnOk result (IsInText self.new) }
+        ensures pen { OnOk result (self.new.printed.pen ≡ self.old.printed.pen) }
+    {
+        if byte == b' ' {
+            self.spaces = added(self.spaces, 1)?;
+            return Ok(());
+        }
+        self.push_spaces()?;
+        self.entries.push_plain(byte)?;
+        Ok(())
+    }
+
+    // The spaces held back, whose pen stands, are printed behind printable ASCII.
+    #[inline(always)]
+    pub(super) fn push_spaces(&mut self) -> Result<(), AllocError>
+        requires { IsInText self.old }
+        ensures printed { OnOk result (
+            self.new.printed
+            ≡ and_cells self.old.printed (spaces_of self.old.spaces self.old.space_attrs)) }
+        ensures spaces { OnOk result (self.new.spaces ≡ 0) }
+        ensures space_attrs { self.new.space_attrs ≡ self.old.space_attrs }
+    {
+        while self.spaces > 0 {
+            self.entries.push_plain(b' ')?;
+            self.spaces -= 1;
+        }
+        Ok(())
+    }
+}

@@ -1,8 +1,9 @@
 //! Both ends of a stream.
-ghost use Rattle.std.specs.Prelude.{◌≡◌, ◌<◌, ◌^◌, IfOk};
+ghost use Rattle.std.specs.Prelude.{◌≡◌, IfOk};
 ghost use Rattle.std.specs.List.{All};
 ghost use Rattle.stream_session.specs.Pipe.{IsPiped};
 ghost use Rattle.stream_session.specs.Sending.{IsInRange, bytes_of, stream_of};
+ghost use Rattle.termwiz_surface.specs.{IsSurfaceSize};
 
 use crate::sending::{SendEvent, SendOutcome, sent};
 use crate::watching::{Watched, watch};
@@ -17,10 +18,7 @@ pub fn piped(
     events: Vec<SendEvent>,
     each: bool,
 ) -> Result<Watched, AllocError>
-    requires some_column { 0 < width }
-    requires some_row { 0 < height }
-    requires fits { width < 2 ^ 32 }
-    requires fits_height { height < 2 ^ 32 }
+    requires size { IsSurfaceSize width height }
     requires sizes { All IsInRange events.items }
     ensures { IfOk result (λ shown. IsPiped width height events.items each shown) }
 {

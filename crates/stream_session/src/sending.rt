@@ -1,11 +1,11 @@
 //! What is sent of a surface: its answers as bytes, each for a viewer that accepted all before it.
-ghost use Rattle.std.specs.Prelude.{◌≡◌, ◌<◌, ◌^◌, IfOk, List};
+ghost use Rattle.std.specs.Prelude.{◌≡◌, IfOk, List};
 ghost use Rattle.std.specs.List.{All};
 ghost use Rattle.termwiz_screen.specs.Screen.{Screen};
 ghost use Rattle.termwiz_surface.specs.ManySchedule.{Held};
 ghost use Rattle.termwiz_surface.specs.Schedule.{Acts};
 ghost use Rattle.termwiz_surface.specs.declared.view.Event.TheVariants as event;
-ghost use Rattle.termwiz_surface.specs.{IsGivenBy, KeepsNames, screens};
+ghost use Rattle.termwiz_surface.specs.{IsGivenBy, IsSurfaceSize, KeepsNames, screens};
 ghost use Rattle.termwiz_cell.specs.Width.{unicode_columns};
 ghost use Rattle.termwiz_wire.specs.Answers.{IsAnswer, answer};
 ghost use Rattle.termwiz_surface_core.specs.Answer.{AnswerValue};
@@ -52,10 +52,7 @@ pub fn sent(
     height: usize,
     events: Vec<SendEvent>,
 ) -> Result<Vec<SendOutcome>, AllocError>
-    requires some_column { 0 < width }
-    requires some_row { 0 < height }
-    requires fits { width < 2 ^ 32 }
-    requires fits_height { height < 2 ^ 32 }
+    requires size { IsSurfaceSize width height }
     requires sizes { All IsInRange events.items }
     ensures { IfOk result (λ outcomes. (held : List Held) ×
         AreSent width height events.items outcomes.items held × IsChain held) }
@@ -108,10 +105,7 @@ fn added(surface: &mut Surface<UnicodeWidths>, changes: Vec<Change>) -> Outcome
 
 // Takes another size.
 fn resized(surface: &mut Surface<UnicodeWidths>, width: usize, height: usize) -> Outcome
-    requires some_column { 0 < width }
-    requires some_row { 0 < height }
-    requires fits { width < 2 ^ 32 }
-    requires fits_height { height < 2 ^ 32 }
+    requires size { IsSurfaceSize width height }
     ensures acts { Acts columns surface.old (event.Resize width height) result surface.new }
     ensures remembered { KeepsNames unicode_columns surface.old surface.new }
 {

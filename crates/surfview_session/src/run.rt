@@ -1,7 +1,8 @@
 //! Runs of scripts.
-ghost use Rattle.std.specs.Prelude.{◌<◌, ◌^◌, IfOk};
+ghost use Rattle.std.specs.Prelude.{IfOk};
 ghost use Rattle.surfview_session.specs.Events.{AreInRange};
 ghost use Rattle.surfview_session.specs.Run.{ComeFrom};
+ghost use Rattle.termwiz_surface.specs.{IsSurfaceSize};
 
 use crate::script::Events;
 use std::alloc::{AllocError, Global};
@@ -27,10 +28,7 @@ pub fn run(
     height: usize,
     events: Events,
 ) -> Result<Outcomes, AllocError>
-    requires some_column { 0 < width }
-    requires some_row { 0 < height }
-    requires fits { width < 2 ^ 32 }
-    requires fits_height { height < 2 ^ 32 }
+    requires size { IsSurfaceSize width height }
     requires sizes { AreInRange events }
     ensures { IfOk result (λ outcomes. ComeFrom width height events outcomes) }
 {

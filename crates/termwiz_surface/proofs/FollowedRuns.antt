@@ -28,10 +28,10 @@ module _ {W : Type 0} (f : W → List ℕ → ℕ) (s : SurfaceValue W) (old : V
     shows = shown ∙ shows;
   }
 
-  pub Views-followed : s.full ≡ false → (told : Vec Change Global) (screen : code.Screen) → map change_value told.items ≡ cs → screen_value screen ≡ screen_of new.surface → HasUnmarkedRows screen → Views f s old (Followed k told screen) new
-  Views-followed plain told screen made shown unmarked =
-      (plain, catches_up screens (map change_value told.items) (screen_value screen) made shown (accepted_shows f s old mid new n cs number fitted size answer follows (Ok k) accepted).0, unmarked)
+  pub Views-followed : s.full ≡ false → (copies : Vec Change Global) (screen : code.Screen) → map change_value copies.items ≡ cs → screen_value screen ≡ screen_of new.surface → HasUnmarkedRows screen → Views f s old (Followed k copies screen) new
+  Views-followed plain copies screen made shown unmarked =
+      (plain, catches_up screens (map change_value copies.items) (screen_value screen) made shown (accepted_shows f s old mid new n cs number fitted size answer follows (Ok k) accepted).0, unmarked)
 
-  pub Views-followed_full : s.full ≡ true → (told : Vec Change Global) (picture : full_code.FullScreen) → map change_value told.items ≡ cs → full_value picture ≡ full_of new.surface → HasUnmarkedRows picture.screen → Views f s old (FollowedFull k told picture) new
-  Views-followed_full full told picture made shown unmarked =
-      (full, catches_up full_screens (map change_value told.items) (full_value picture) made shown (accepted_shows_fully f s old mid new n cs number fitted size answer follows (Ok k) accepted full), unmarked)
+  pub Views-followed_full : s.full ≡ true → (copies : Vec Change Global) (picture : full_code.FullScreen) → map change_value copies.items ≡ cs → full_value picture ≡ full_of new.surface → HasUnmarkedRows picture.screen → Views f s old (FollowedFull k copies picture) new
+  Views-followed_full full copies picture made shown unmarked =
+      (full, catches_up full_screens (map change_value copies.items) (full_value picture) made shown (accepted_shows_fully f s old mid new n cs number fitted size answer follows (Ok k) accepted full), unmarked)

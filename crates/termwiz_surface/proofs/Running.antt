@@ -4,21 +4,21 @@ use Rattle.std.specs.Prelude.{Result}
 use Rattle.termwiz_surface_core.specs.Following.{ViewerValue, Follows}
 use Rattle.termwiz_surface_core.specs.SurfaceValue.{SurfaceValue}
 use Rattle.termwiz_surface_core.specs.declared.surface.SurfaceError.{SurfaceError}
-use Rattle.termwiz_surface.specs.Schedule.{Tells, Acts, Views, Allows, Runs, Ended, Next, with_empty_log}
+use Rattle.termwiz_surface.specs.Schedule.{Reports, Acts, Views, Allows, Runs, Ended, Next, with_empty_log}
 use Rattle.termwiz_surface.specs.declared.view.Event.{Event}
 use Rattle.termwiz_surface.specs.declared.view.Event.TheVariants.{Changes, Draw, Copy, Flush, Resize, Follow, Show, Ask}
 use Rattle.termwiz_surface.specs.declared.view.Outcome.{Outcome}
 use Rattle.termwiz_surface.specs.declared.view.Outcome.TheVariants.{Answered, Done, Refused, Followed, FollowedFull, Shown, Asked}
 
--- what holds of an answer holds of what is told of it
-pub Tells-answer : (holds : Result ℕ SurfaceError → Type 0) (answer : Result ℕ SurfaceError) (outcome : Outcome) → Tells (λ told. told ≡ answer) outcome → holds answer → Tells holds outcome
-Tells-answer holds answer (Answered n) e h = subst holds (sym e) h
-Tells-answer holds answer (Refused x) e h = subst holds (sym e) h
-Tells-answer holds answer Done e h = absurd e
-Tells-answer holds answer (Followed n changes screen) e h = absurd e
-Tells-answer holds answer (FollowedFull n changes picture) e h = absurd e
-Tells-answer holds answer (Shown text cursor) e h = absurd e
-Tells-answer holds answer (Asked n changes) e h = absurd e
+-- what holds of an answer holds of the outcome that reports it
+pub Reports-answer : (holds : Result ℕ SurfaceError → Type 0) (answer : Result ℕ SurfaceError) (outcome : Outcome) → Reports (λ told. told ≡ answer) outcome → holds answer → Reports holds outcome
+Reports-answer holds answer (Answered n) e h = subst holds (sym e) h
+Reports-answer holds answer (Refused x) e h = subst holds (sym e) h
+Reports-answer holds answer Done e h = absurd e
+Reports-answer holds answer (Followed n changes screen) e h = absurd e
+Reports-answer holds answer (FollowedFull n changes picture) e h = absurd e
+Reports-answer holds answer (Shown text cursor) e h = absurd e
+Reports-answer holds answer (Asked n changes) e h = absurd e
 
 module _ {W : Type 0} (f : W → List ℕ → ℕ) where
   -- what a surface does leaves its viewer

@@ -1,10 +1,10 @@
 -- What asking and applying make of a viewer is what following may make of it.
-use Rattle.std.proofs.Common.{◌≡◌, ℕ, ◌+◌, ◌<◌, ◌≤◌, ◌^◌, inl, inr, true, List, length, refl, sym, ap, subst, ◌∙◌, arith}
+use Rattle.std.proofs.Common.{◌≡◌, ℕ, ◌+◌, ◌<◌, ◌≤◌, ◌^◌, inl, inr, true, List, length, sym, ap, subst, ◌∙◌, arith}
 use Rattle.std.specs.Prelude.{Result, Ok, Err, OnOk, ◌==◌}
 use Rattle.std.proofs.lemmas.Bool.{cases_Bool, eqb-true, true≢false}
 use Rattle.std.proofs.lemmas.Bool.Decides.{nat_tests}
 use Rattle.termwiz_cell.specs.ChangeValue.{ChangeValue}
-use Rattle.termwiz_surface_core.specs.Following.{ViewerValue, Follows, forgetful, Fits, IsFitted, IsAnswer, Fetches, Accepts, IsLost, HasNoRoom, HasRoom, FollowsTo, has_size_of}
+use Rattle.termwiz_surface_core.specs.Following.{ViewerValue, Follows, Fits, IsFitted, IsAnswer, Fetches, Accepts, IsLost, HasNoRoom, HasRoom, FollowsTo, has_size_of}
 use Rattle.termwiz_screen.specs.Log.{LogValue, next_number, restarted}
 use Rattle.termwiz_screen.specs.Picture.{Pictures, screens, full_screens}
 use Rattle.termwiz_surface_core.specs.Adding.{Makes}
@@ -52,14 +52,6 @@ module _ {W : Type 0} where
   lost_alike old mid new w k g n l e =
       let same = ap (λ (s : SurfaceValue W). next_number s.log) e in
       record { last = l; widths = ap (λ (s : SurfaceValue W). s.widths) e ∙ w; full = ap (λ (s : SurfaceValue W). s.full) e ∙ k; grows = omega (arith, g, same); number = omega (arith, n, same) }
-
-  lost_forgetful : (old new : ViewerValue W) → new ≡ forgetful old → IsLost old new
-  lost_forgetful old new e = lost_alike old old new refl refl (omega arith) (omega arith) (ap (λ (v : ViewerValue W). v.last) e) (ap (λ (v : ViewerValue W). v.surface) e)
-
-  -- a viewer that has taken the surface's size, and then no number
-  lost_fitted : (s : SurfaceValue W) (old mid new : ViewerValue W) → IsFitted old s mid → new ≡ forgetful mid → IsLost old new
-  lost_fitted s old mid new h e =
-      lost_alike old mid new (fitted_widths old s mid h) (fitted_full old s mid h) (fitted_grows old s mid h) (fitted_number old s mid h) (ap (λ (v : ViewerValue W). v.last) e) (ap (λ (v : ViewerValue W). v.surface) e)
 
   -- the changes that are asked for have no room
   no_room : (measure : List ℕ → ℕ) (s : SurfaceValue W) (old mid : ViewerValue W) (cs : List ChangeValue) → IsFitted old s mid → IsAnswer measure s mid.last cs → 2 ^ 64 ≤ next_number mid.surface.log + length cs → HasNoRoom old s
@@ -119,14 +111,6 @@ module _ {W : Type 0} where
         },
         has_room (f s.widths) s old mid cs fitted answer h.1.1,
       )
-
-  -- nothing is got
-  pub FollowsTo-missed : (f : W → List ℕ → ℕ) (measure : List ℕ → ℕ) (s : SurfaceValue W) (old mid new : ViewerValue W) (e : SurfaceError) → Fetches measure s old (Err e) mid → new ≡ forgetful mid → FollowsTo f s old (Err e) new
-  FollowsTo-missed f measure s old mid new ScrollRegion h e = h
-  FollowsTo-missed f measure s old mid new Numbers (inl h, r) e = (lost_forgetful old new (e ∙ ap forgetful h.2), r)
-  FollowsTo-missed f measure s old mid new Numbers (inr h, r) e = (lost_fitted s old mid new h e, r)
-  FollowsTo-missed f measure s old mid new Memory (inl h, r) e = (lost_forgetful old new (e ∙ ap forgetful h.2), r)
-  FollowsTo-missed f measure s old mid new Memory (inr h, r) e = (lost_fitted s old mid new h e, r)
 
   -- after each error the viewer has no number
   pub FollowsTo-lost : (f : W → List ℕ → ℕ) (s : SurfaceValue W) (old new : ViewerValue W) (e : SurfaceError) → FollowsTo f s old (Err e) new → IsLost old new

@@ -47,7 +47,7 @@ pub use Rattle.termwiz_screen.specs.Fewest
 pub use Rattle.termwiz_screen.specs.SequenceLaws
 pub use Rattle.termwiz_cell.specs.ChangeValue
 -- what callers cite, by its name alone: surfaces, viewers and answers,
-pub use Rattle.termwiz_surface_core.specs.SurfaceValue.{SurfaceValue, blank_surface, screen_of, kept_of, full_of, IsSound, SameFrame}
+pub use Rattle.termwiz_surface_core.specs.SurfaceValue.{SurfaceValue, blank_surface, screen_of, kept_of, full_of, IsSound, IsSurfaceSize, SameFrame}
 pub use Rattle.termwiz_surface_core.specs.Adding.{Adds, Makes, with_log}
 pub use Rattle.termwiz_surface_core.specs.Resizing.{HasResized, Resizes}
 pub use Rattle.termwiz_surface_core.specs.Copies.{IsDrawn, IsCopied, drawn_region, copied_region}
@@ -126,6 +126,6 @@ pub use Rattle.termwiz_surface.specs.FollowingLaws.{ChangesLeadOn, FlushesKeepLe
 pub use Rattle.termwiz_surface.specs.HistoryLaws.{AnswersStay, CarriedLead, ChangesGoOn, FlushesKeepPast, GivenCarry, NamedAreLed, NamesStay, NothingIsNamedAtFirst, NumberNamesPicture, RestartsGoOn}
 pub use Rattle.termwiz_surface.specs.ManySchedule.{Held, IsManyInRange, ResizesAs}
 pub use Rattle.termwiz_surface.specs.ManySteps.{AnswersTo, DeliversTo, Remembers, Serves}
-pub use Rattle.termwiz_surface.specs.Schedule.{Acts, Allows, IsInRange, IsScheduleOf, Tells, Views, with_empty_log}
+pub use Rattle.termwiz_surface.specs.Schedule.{Acts, Allows, IsInRange, IsScheduleOf, Reports, Views, with_empty_log}
 pub use Rattle.termwiz_surface.specs.ScheduleLaws.{BrokenListsLeaveForm, FollowedFullLeadOn, FollowedLeadOn, LackMemory, LackNumbers}
 pub use Rattle.termwiz_surface_core.specs.Following.{Accepts, Fetches, Fits, forgetful}

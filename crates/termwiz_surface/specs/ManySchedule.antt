@@ -1,6 +1,6 @@
 -- Which outcomes a list of events may have on one surface and several viewers, whose answers are kept, and delivered late, repeatedly, in any order, or never.
 use Rattle.std.specs.Bool.{⊤}
-use Rattle.std.specs.Prelude.{◌≡◌, ◌⊎◌, false, ℕ, ◌<◌, ◌≤◌, ◌^◌, List, [], ◌∷◌, ◌++◌, length, slice_index_or, set, replicate, Ok, Err}
+use Rattle.std.specs.Prelude.{◌≡◌, ◌⊎◌, false, ℕ, ◌<◌, ◌≤◌, List, [], ◌∷◌, ◌++◌, length, slice_index_or, set, replicate, Ok, Err}
 use Rattle.termwiz_screen.specs.Picture.{screens}
 use Rattle.termwiz_screen.specs.Screen.{Screen}
 use Rattle.termwiz_screen.specs.ScreenValue.{screen_value}
@@ -9,7 +9,7 @@ use Rattle.termwiz_surface_core.specs.Asking.{knows, own_repaint}
 use Rattle.termwiz_surface_core.specs.Carried.{IsGivenBy}
 use Rattle.termwiz_surface_core.specs.Following.{ViewerValue, blank_viewer}
 use Rattle.termwiz_surface_core.specs.Resizing.{Resizes}
-use Rattle.termwiz_surface_core.specs.SurfaceValue.{SurfaceValue, blank_surface, screen_of}
+use Rattle.termwiz_surface_core.specs.SurfaceValue.{IsSurfaceSize, SurfaceValue, blank_surface, screen_of}
 use Rattle.termwiz_surface_core.specs.declared.surface.SurfaceError.TheVariants as refused
 use Rattle.termwiz_surface.specs.Accepting.{Takes}
 use Rattle.termwiz_surface.specs.Schedule.{Acts, HasUnmarkedRows, IsInRange}
@@ -36,7 +36,7 @@ first_many widths w h n = let s = blank_surface widths w h false in record { sur
 
 abbrev pub IsManyInRange : {W : Type 0} → ManyEvent W → Type 0
 IsManyInRange (On e) = IsInRange e
-IsManyInRange (ResizeViewer v w h) = (0 < w) × (0 < h) × (w < 2 ^ 32) × (h < 2 ^ 32)
+IsManyInRange (ResizeViewer v w h) = IsSurfaceSize w h
 IsManyInRange _ = ⊤
 
 -- element k of the list is x

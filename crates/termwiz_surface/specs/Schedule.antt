@@ -1,7 +1,7 @@
 -- Which outcomes a list of events may have: what each event may answer and make of a surface and its viewer, by the words of the calls themselves, and whole runs.
 use Rattle.std.specs.Bool.{⊤}
 use Rattle.std.specs.List.{All}
-use Rattle.std.specs.Prelude.{◌≡◌, Bool, true, false, ℕ, ◌+◌, ◌-◌, ◌^◌, ◌<◌, List, [], ◌∷◌, map, string_bytes, Result, Ok, Err, vec_len}
+use Rattle.std.specs.Prelude.{◌≡◌, Bool, true, false, ℕ, ◌+◌, ◌-◌, List, [], ◌∷◌, map, string_bytes, Result, Ok, Err, vec_len}
 use Rattle.termwiz_cell.specs.ChangeValue.{ChangeValue, change_value}
 use Rattle.termwiz_line.specs.LineFlags.{no_flags}
 use Rattle.termwiz_line.specs.LineValue.{LineValue}
@@ -15,7 +15,7 @@ use Rattle.termwiz_surface_core.specs.Adding.{Adds, with_log}
 use Rattle.termwiz_surface_core.specs.Copies.{IsDrawn, IsCopied}
 use Rattle.termwiz_surface_core.specs.Following.{ViewerValue, Follows, FollowsTo, IsAnswer, blank_viewer}
 use Rattle.termwiz_surface_core.specs.Resizing.{Resizes}
-use Rattle.termwiz_surface_core.specs.SurfaceValue.{SurfaceValue, blank_surface, screen_of, lengths_of, full_of}
+use Rattle.termwiz_surface_core.specs.SurfaceValue.{IsSurfaceSize, SurfaceValue, blank_surface, screen_of, lengths_of, full_of}
 use Rattle.termwiz_surface_core.specs.declared.surface.SurfaceError.{SurfaceError}
 use Rattle.termwiz_surface_core.specs.declared.surface.SurfaceError.TheVariants.{Memory}
 use Rattle.termwiz_surface.specs.declared.view.Event.{Event}
@@ -25,14 +25,14 @@ use Rattle.termwiz_surface.specs.declared.view.Outcome.TheVariants.{Answered, Do
 
 -- the sizes that an event names are those that a surface may have
 abbrev pub IsInRange : {W : Type 0} → Event W → Type 0
-IsInRange (Resize w h) = (0 < w) × (0 < h) × (w < 2 ^ 32) × (h < 2 ^ 32)
+IsInRange (Resize w h) = IsSurfaceSize w h
 IsInRange _ = ⊤
 
 -- the outcome has a number, or an error, of which this holds
-abbrev pub Tells : (Result ℕ SurfaceError → Type 0) → Outcome → Type 0
-Tells holds (Answered n) = holds (Ok n)
-Tells holds (Refused e) = holds (Err e)
-Tells holds _ = ⊥
+abbrev pub Reports : (Result ℕ SurfaceError → Type 0) → Outcome → Type 0
+Reports holds (Answered n) = holds (Ok n)
+Reports holds (Refused e) = holds (Err e)
+Reports holds _ = ⊥
 
 -- each row of the copied screen has the number 0 and no flags
 pub record HasUnmarkedRows (screen : code.Screen) : Type 0 where
@@ -46,9 +46,9 @@ with_empty_log v = record v { surface = with_log v.surface (flushed v.surface.lo
 module _ {W : Type 0} (measure_of : W → List ℕ → ℕ) where
   -- the surface does an event of its own
   abbrev pub Acts : SurfaceValue W → Event W → Outcome → SurfaceValue W → Type 0
-  Acts s (Changes changes) outcome t = Tells (λ result. Adds (measure_of s.widths) s (map change_value changes.items) (next_number s.log - 1 + vec_len changes) result t) outcome
-  Acts s (Draw other x y) outcome t = Tells (λ result. IsDrawn measure_of s other x y result t) outcome
-  Acts s (Copy from_x from_y w h x y) outcome t = Tells (λ result. IsCopied measure_of s from_x from_y w h x y result t) outcome
+  Acts s (Changes changes) outcome t = Reports (λ result. Adds (measure_of s.widths) s (map change_value changes.items) (next_number s.log - 1 + vec_len changes) result t) outcome
+  Acts s (Draw other x y) outcome t = Reports (λ result. IsDrawn measure_of s other x y result t) outcome
+  Acts s (Copy from_x from_y w h x y) outcome t = Reports (λ result. IsCopied measure_of s from_x from_y w h x y result t) outcome
   Acts s (Flush n) Done t = t ≡ with_log s (flushed s.log n)
   Acts s (Resize w h) Done t = Resizes s w h (Ok tt) t
   Acts s (Resize w h) (Refused e) t = Resizes s w h (Err e) t

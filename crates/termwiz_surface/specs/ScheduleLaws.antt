@@ -61,5 +61,5 @@ module _ {W : Type 0} (measure_of : W → List ℕ → ℕ) where
 -- a list of changes that ran out of memory, of a draw or a copy too, leaves a screen of that size that texts can print
 abbrev pub BrokenListsLeaveForm : Type 0 → Type 0
 BrokenListsLeaveForm W =
-    (measure : List ℕ → ℕ) (s t : SurfaceValue W) (changes : List ChangeValue) (told : ℕ) → Adds measure s changes told (Err Memory) t →
+    (measure : List ℕ → ℕ) (s t : SurfaceValue W) (changes : List ChangeValue) (number : ℕ) → Adds measure s changes number (Err Memory) t →
     HasSize s.width s.height (screen_of t) × IsPrintable measure (screen_of t)

@@ -25,11 +25,11 @@ module _ {W : Type 0} where
 
   -- a list of changes is made, and this number returned, or it is refused
   abbrev pub Adds : (List ℕ → ℕ) → SurfaceValue W → List ChangeValue → ℕ → Result ℕ SurfaceError → SurfaceValue W → Type 0
-  Adds measure old changes told (Ok n) new = (regions_fit old.height changes ≡ true) × (next_number old.log + length changes < 2 ^ 64) × (n ≡ told) × Makes measure old changes new
+  Adds measure old changes number (Ok n) new = (regions_fit old.height changes ≡ true) × (next_number old.log + length changes < 2 ^ 64) × (n ≡ number) × Makes measure old changes new
   -- a scroll's region goes past the last row: nothing has changed
-  Adds measure old changes told (Err ScrollRegion) new = (regions_fit old.height changes ≡ false) × (new ≡ old)
+  Adds measure old changes number (Err ScrollRegion) new = (regions_fit old.height changes ≡ false) × (new ≡ old)
   -- the numbers would pass the greatest: nothing has changed
-  Adds measure old changes told (Err Numbers) new = (regions_fit old.height changes ≡ true) × (2 ^ 64 ≤ next_number old.log + length changes) × (new ≡ old)
+  Adds measure old changes number (Err Numbers) new = (regions_fit old.height changes ≡ true) × (2 ^ 64 ≤ next_number old.log + length changes) × (new ≡ old)
   -- some memory was refused: the surface is any one of that size in its form, with an empty log under a new number, or 0 where that was the number
-  Adds measure old changes told (Err Memory) new =
+  Adds measure old changes number (Err Memory) new =
       (regions_fit old.height changes ≡ true) × (next_number old.log + length changes < 2 ^ 64) × (0 < length changes) × SameFrame (with_log old (restarted old.log)) new × IsSound measure new

@@ -53,7 +53,7 @@ pub use Rattle.termwiz_surface_core.specs.Following.{KeepsViewers}
 pub use Rattle.termwiz_surface_core.specs.History.{KeepsNames}
 pub use Rattle.termwiz_surface_core.specs.Printing.{PrintsFirst, PrintsGraphemes}
 pub use Rattle.termwiz_surface_core.specs.Resizing.{HasResized, Resizes}
-pub use Rattle.termwiz_surface_core.specs.SurfaceValue.{Becomes, IsSound, SameFrame, blank_surface, full_of, kept_of, lengths_of, screen_of}
+pub use Rattle.termwiz_surface_core.specs.SurfaceValue.{Becomes, IsSound, IsSurfaceSize, SameFrame, blank_surface, full_of, kept_of, lengths_of, screen_of}
 pub use Rattle.termwiz_surface_core.specs.declared.surface.SurfaceError.TheVariants.{ScrollRegion}
 pub use Rattle.termwiz_text.specs.Letter.{AreLetters}
 pub use Rattle.termwiz_text.specs.Plain.{is_plain}

@@ -69,6 +69,13 @@ module _ {W : Type 0} where
 abbrev pub full_of : {W : Type 0} → SurfaceValue W → FullScreen
 full_of s = full_screen (screen_of s) (kept_of s)
 
+-- a width in columns and a height in rows that a surface may have
+pub record IsSurfaceSize (width height : ℕ) : Type 0 where
+  pub some_column : 0 < width
+  pub some_row : 0 < height
+  pub fits : width < 2 ^ 32
+  pub fits_height : height < 2 ^ 32
+
 -- the form that every surface keeps
 pub record IsSound {W : Type 0} (measure : List ℕ → ℕ) (s : SurfaceValue W) : Type 0 where
   pub some_column : 0 < s.width

@@ -1,9 +1,10 @@
 //! Surfaces.
 ghost use Rattle.std.specs.Prelude.{◌≡◌, ◌+◌, ◌-◌, ◌<◌, ◌^◌, ◌∷◌, [], IfOk, OnErr, length, vec_len};
-ghost use Rattle.termwiz_surface_core.specs.{Adds, Becomes, IsOk, IsSound, KeepsNames, Makes, OnOk};
-ghost use Rattle.termwiz_surface_core.specs.{KeepsViewers, Refuses, SameFrame, screen_of, true};
-ghost use Rattle.termwiz_surface_core.specs.{blank_surface, change_value, kept_of, lengths_of, map};
-ghost use Rattle.termwiz_surface_core.specs.{false, measure, next_number, region_fits, regions_fit};
+ghost use Rattle.termwiz_surface_core.specs.{Adds, Becomes, IsOk, IsSound, IsSurfaceSize};
+ghost use Rattle.termwiz_surface_core.specs.{KeepsNames, KeepsViewers, Makes, OnOk, Refuses};
+ghost use Rattle.termwiz_surface_core.specs.{SameFrame, blank_surface, change_value, false};
+ghost use Rattle.termwiz_surface_core.specs.{kept_of, lengths_of, map, measure, next_number};
+ghost use Rattle.termwiz_surface_core.specs.{region_fits, regions_fit, screen_of, true};
 
 mod answer;
 mod answers;
@@ -178,10 +179,7 @@ impl<W: Widths> Surface<W> {
         height: usize,
         widths: W,
     ) -> Result<Surface<W>, AllocError>
-        requires some_column { 0 < width }
-        requires some_row { 0 < height }
-        requires fits { width < 2 ^ 32 }
-        requires fits_height { height < 2 ^ 32 }
+        requires size { IsSurfaceSize width height }
         ensures { IfOk result (λ s. s ≡ blank_surface widths width height false) }
     {
         Surface::blank(alloc, width, height, widths, false)
@@ -196,10 +194,7 @@ impl<W: Widths> Surface<W> {
         height: usize,
         widths: W,
     ) -> Result<Surface<W>, AllocError>
-        requires some_column { 0 < width }
-        requires some_row { 0 < height }
-        requires fits { width < 2 ^ 32 }
-        requires fits_height { height < 2 ^ 32 }
+        requires size { IsSurfaceSize width height }
         ensures { IfOk result (λ s. s ≡ blank_surface widths width height true) }
     {
         Surface::blank(alloc, width, height, widths, true)
@@ -215,10 +210,7 @@ impl<W: Widths> Surface<W> {
         widths: W,
         full: bool,
     ) -> Result<Surface<W>, AllocError>
-        requires some_column { 0 < width }
-        requires some_row { 0 < height }
-        requires fits { width < 2 ^ 32 }
-        requires fits_height { height < 2 ^ 32 }
+        requires size { IsSurfaceSize width height }
         ensures { IfOk result (λ s. s ≡ blank_surface widths width height full) }
     {
         let rows = blank_rows(alloc, width, height)?;

@@ -1,5 +1,5 @@
 //! Runs on full surfaces.
-ghost use Rattle.std.specs.Prelude.{◌<◌, ◌^◌};
+ghost use Rattle.termwiz_surface.specs.{IsSurfaceSize};
 
 use std::alloc::Global;
 use std::process::Abort;
@@ -17,10 +17,7 @@ fn followed(
     height: usize,
     list: Vec<Change>,
 ) -> Vec<Outcome>
-    requires some_column { 0 < width }
-    requires few_columns { width < 2 ^ 32 }
-    requires some_row { 0 < height }
-    requires few_rows { height < 2 ^ 32 }
+    requires size { IsSurfaceSize width height }
 {
     let events = vec![in alloc; Event::Changes(list), Event::Follow].expect(rt, "memory");
     run_full(alloc, UnicodeWidths, width, height, events).expect(rt, "a run")

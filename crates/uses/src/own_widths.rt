@@ -1,5 +1,6 @@
 //! A width value of one's own: the widths of the Unicode tables, but for one character.
-ghost use Rattle.std.specs.Prelude.{◌≡◌, ◌<◌, ◌^◌, IfOk};
+ghost use Rattle.std.specs.Prelude.{◌≡◌, IfOk};
+ghost use Rattle.uses.specs.{IsSurfaceSize};
 
 use std::alloc::{AllocError, Global};
 use termwiz_surface::emoji::{Presentation, UnicodeVersion};
@@ -51,10 +52,7 @@ pub fn surface_with_wide_ellipses(
     width: usize,
     height: usize,
 ) -> Result<Surface<WideEllipsis>, AllocError>
-    requires some_column { 0 < width }
-    requires some_row { 0 < height }
-    requires fits { width < 2 ^ 32 }
-    requires fits_height { height < 2 ^ 32 }
+    requires size { IsSurfaceSize width height }
     ensures width { IfOk result (λ surface. surface.width ≡ width) }
     ensures height { IfOk result (λ surface. surface.height ≡ height) }
 {

@@ -139,7 +139,14 @@ impl CellText {
     /// Whether both are the same text of the same width. A text's length and width decide its form,
     /// so texts of two forms differ.
     #[inline(always)]
-    #[tactic(auto, using(crate::proofs::TextForms::short_differs_from_long, crate::proofs::TextForms::long_differs_from_short, crate::proofs::TextForms::clean_filled))]
+    #[tactic(
+        auto,
+        using(
+            crate::proofs::TextForms::short_differs_from_long,
+            crate::proofs::TextForms::long_differs_from_short,
+            crate::proofs::TextForms::clean_filled
+        )
+    )]
     pub(super) fn is_same(&self, other: &CellText) -> bool
         requires self_stored { HasTextForm self.now }
         requires other_stored { HasTextForm other.now }

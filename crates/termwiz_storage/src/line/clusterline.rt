@@ -155,7 +155,7 @@ impl ClusteredLine {
     pub(super) fn get_cell(&self, i: usize) -> Option<CellRef<'_>>
         ensures cell { option_map ref_cell result ≡ cell_at (visible self.now) i }
         ensures index { IfSome result (λ cell. ref_index cell ≡ i) }
-        ensures told { IfSome result IsOfCell }
+        ensures of_cell { IfSome result IsOfCell }
     {
         if !self.has_byte_cells() {
             return self.walked_cell(i);
@@ -182,7 +182,7 @@ impl ClusteredLine {
     fn walked_cell(&self, i: usize) -> Option<CellRef<'_>>
         ensures cell { option_map ref_cell result ≡ cell_at (visible self.now) i }
         ensures index { IfSome result (λ cell. ref_index cell ≡ i) }
-        ensures told { IfSome result IsOfCell }
+        ensures of_cell { IfSome result IsOfCell }
     {
         for cell in self.iter() {
             if cell.cell_index() == i {

@@ -286,7 +286,7 @@ impl CellStorage {
     pub fn get_cell(&self, i: usize) -> Option<CellRef<'_>>
         ensures cell { option_map ref_cell result ≡ cell_at (visible (cells_in self.now)) i }
         ensures index { IfSome result (λ cell. ref_index cell ≡ i) }
-        ensures told { IfSome result IsOfCell }
+        ensures of_cell { IfSome result IsOfCell }
     {
         match self {
             CellStorage::V(storage) => storage.get_cell(i),

@@ -407,7 +407,7 @@ impl VecStorage {
     pub(crate) fn get_cell(&self, i: usize) -> Option<CellRef<'_>>
         ensures cell { option_map ref_cell result ≡ cell_at (visible self.now) i }
         ensures index { IfSome result (λ cell. ref_index cell ≡ i) }
-        ensures told { IfSome result IsOfCell }
+        ensures of_cell { IfSome result IsOfCell }
     {
         if i >= self.cells.len() || self.is_hidden(i) {
             return None;

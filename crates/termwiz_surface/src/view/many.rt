@@ -1,10 +1,12 @@
 //! Runs of events on one surface and several viewers.
-ghost use Rattle.std.specs.Prelude.{◌≡◌, ◌^◌, ◌<◌, IfOk, List, replicate};
-ghost use Rattle.termwiz_surface.specs.{All, AnswersTo, DeliversTo, Held, IsManyInRange, Remembers};
-ghost use Rattle.termwiz_surface.specs.{IsManySchedule, ResizesAs, Serves, blank_viewer, measure};
+ghost use Rattle.std.specs.Prelude.{◌≡◌, IfOk, List, replicate};
+ghost use Rattle.termwiz_surface.specs.{All, AnswersTo, DeliversTo, Held, IsManyInRange};
+ghost use Rattle.termwiz_surface.specs.{IsManySchedule, IsSurfaceSize, Remembers, ResizesAs};
+ghost use Rattle.termwiz_surface.specs.{Serves, blank_viewer, measure};
 
+use super::serving::act;
 use super::waiting::Waiting;
-use super::{AcceptError, Event, Outcome, Viewer, act};
+use super::{AcceptError, Event, Outcome, Viewer};
 use crate::surface::{Answer, Screen, Surface, SurfaceError};
 use std::alloc::{AllocError, Global};
 use termwiz_cell::change::SequenceNo;
@@ -57,10 +59,7 @@ pub fn run_many<W: Widths>(
     viewers: usize,
     events: Vec<ManyEvent<W>>,
 ) -> Result<Vec<ManyOutcome>, AllocError>
-    requires some_column { 0 < width }
-    requires some_row { 0 < height }
-    requires fits { width < 2 ^ 32 }
-    requires fits_height { height < 2 ^ 32 }
+    requires size { IsSurfaceSize width height }
     requires sizes { All IsManyInRange events.items }
     ensures { IfOk result (λ outcomes. IsManySchedule (measure W.width_of)
         widths width height viewers events.items outcomes.items) }
@@ -166,10 +165,7 @@ fn deliver<W: Widths>(viewer: &mut Viewer<W>, answer: &Answer) -> Result<ManyOut
 
 // A viewer takes another size.
 fn resize<W: Widths>(viewer: &mut Viewer<W>, width: usize, height: usize) -> ManyOutcome
-    requires some_column { 0 < width }
-    requires some_row { 0 < height }
-    requires fits { width < 2 ^ 32 }
-    requires fits_height { height < 2 ^ 32 }
+    requires size { IsSurfaceSize width height }
     ensures { ResizesAs viewer.old width height result viewer.new }
 {
     match viewer.resize(width, height) {

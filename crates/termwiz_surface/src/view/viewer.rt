@@ -1,11 +1,12 @@
 //! Viewers: surfaces that follow another one, or accept its answers.
-ghost use Rattle.std.specs.Prelude.{◌≡◌, ◌+◌, ◌-◌, ◌<◌, ◌^◌, [], IfOk, OnErr, OnOk, length, nat_lt};
+ghost use Rattle.std.specs.Prelude.{◌≡◌, ◌+◌, ◌-◌, ◌<◌, ◌^◌, [], Err, IfErr, IfOk, Ok, OnErr, OnOk};
+ghost use Rattle.std.specs.Prelude.{length, nat_lt};
 ghost use Rattle.termwiz_surface.specs.{Accepts, Adds, Declines, Fetches, Fits, Follows, FollowsTo};
-ghost use Rattle.termwiz_surface.specs.{HasCaughtUp, HasDropped, HasFullSize, KeepsNames, Makes};
-ghost use Rattle.termwiz_surface.specs.{KeepsShowing, KeepsViewers, MayTake, Resizes, ShowsCarried};
-ghost use Rattle.termwiz_surface.specs.{StaysNamed, Takes, blank_viewer, flushed, forgetful, true};
-ghost use Rattle.termwiz_surface.specs.{full_of, full_screens, measure, next_number, screens};
-ghost use Rattle.termwiz_surface.specs.{stream_of, with_log};
+ghost use Rattle.termwiz_surface.specs.{HasCaughtUp, HasDropped, HasFullSize, IsSurfaceSize};
+ghost use Rattle.termwiz_surface.specs.{KeepsNames, KeepsShowing, KeepsViewers, Makes, MayTake};
+ghost use Rattle.termwiz_surface.specs.{Resizes, ShowsCarried, StaysNamed, Takes, blank_viewer};
+ghost use Rattle.termwiz_surface.specs.{flushed, forgetful, full_of, full_screens, measure};
+ghost use Rattle.termwiz_surface.specs.{next_number, screens, stream_of, true, with_log};
 ghost use Rattle.termwiz_surface_core.specs.SurfaceValue.{SurfaceValue};
 
 use crate::surface::{Answer, Surface, SurfaceError};
@@ -130,9 +131,9 @@ impl<W: Widths> Viewer<W> {
         Ok(())
     }
 
-    /// Takes the source's size, and asks the source for its number and what changed since the
-    /// viewer's. After an error the viewer may have taken the size, and shows the same otherwise.
-    pub(crate) fn fetch<'s>(
+    // Takes the source's size, and asks the source for its number and what changed since the
+    // viewer's. After an error the viewer may have taken the size, and shows the same otherwise.
+    fn ask<'s>(
         &mut self,
         source: &'s Surface<W>,
     ) -> Result<(SequenceNo, CowSlice<'s, Change>), SurfaceError>
@@ -149,8 +150,33 @@ impl<W: Widths> Viewer<W> {
         Ok((number, changes))
     }
 
-    /// Makes the changes, and takes the source's number, which is the answer. After an error the
-    /// viewer has no number.
+    /// The first half of following: the viewer takes the source's size, and gets the source's
+    /// number and the changes that are to be made. After an error it has no number.
+    pub(crate) fn fetch<'s>(
+        &mut self,
+        source: &'s Surface<W>,
+    ) -> Result<(SequenceNo, CowSlice<'s, Change>), SurfaceError>
+        ensures fetched { IfOk result (λ answer. Fetches (measure W.width_of source.now.widths)
+            source.now self.old (Ok answer) self.new) }
+        ensures missed { IfErr result (λ error.
+            FollowsTo (measure W.width_of) source.now self.old (Err error) self.new) }
+        ensures sized { OnOk result (
+            HasFullSize source.now.width source.now.height (full_of self.new.surface)) }
+        ensures followed { KeepsViewers (measure W.width_of) self.old.surface self.new.surface }
+        ensures remembered { KeepsNames (measure W.width_of self.old.surface.widths)
+            self.old.surface self.new.surface }
+    {
+        match self.ask(source) {
+            Ok(answer) => Ok(answer),
+            Err(error) => {
+                self.forget();
+                Err(error)
+            }
+        }
+    }
+
+    /// The other half: the viewer makes the changes, and takes the source's number, which is the
+    /// answer. After an error it has no number.
     pub(crate) fn make(
         &mut self,
         number: SequenceNo,
@@ -274,10 +300,7 @@ impl<W: Widths> Viewer<W> {
     /// Takes another size, as a surface does, and has no number then: so it is to be answered by a
     /// repaint of that size. After an error nothing has changed.
     pub fn resize(&mut self, width: usize, height: usize) -> Result<(), SurfaceError>
-        requires some_column { 0 < width }
-        requires some_row { 0 < height }
-        requires fits { width < 2 ^ 32 }
-        requires fits_height { height < 2 ^ 32 }
+        requires size { IsSurfaceSize width height }
         ensures resizes { Resizes self.old.surface width height result self.new.surface }
         ensures ok { OnOk result (self.new.last ≡ 0) }
         ensures err { OnErr result (self.new ≡ self.old) }
@@ -349,12 +372,7 @@ impl<W: Widths> Viewer<W> {
         ensures remembered { KeepsNames (measure W.width_of self.old.surface.widths)
             self.old.surface self.new.surface }
     {
-        match self.fetch(source) {
-            Ok((number, changes)) => self.make(number, changes),
-            Err(error) => {
-                self.forget();
-                Err(error)
-            }
-        }
+        let (number, changes) = self.fetch(source)?;
+        self.make(number, changes)
     }
 }

@@ -1,9 +1,10 @@
 //! Answers that can be carried off, and accepted by viewers later.
-ghost use Rattle.std.specs.Prelude.{◌≡◌, ◌<◌, ◌≤◌, ◌^◌, if◌then◌else◌, IfOk, None, false, length};
-ghost use Rattle.termwiz_surface_core.specs.{CarriesTo, FullScreen, IsBorrowedSlice, IsGivenBy, ℕ};
-ghost use Rattle.termwiz_surface_core.specs.{IsOwnedSlice, IsPastOf, Screen, Some, change_value};
-ghost use Rattle.termwiz_surface_core.specs.{full_screens, knows, map, measure, most_own_entries};
-ghost use Rattle.termwiz_surface_core.specs.{own_repaint, regions_fit, screens, true};
+ghost use Rattle.std.specs.Prelude.{◌≡◌, ◌≤◌, if◌then◌else◌, IfOk, None, false, length};
+ghost use Rattle.termwiz_surface_core.specs.{CarriesTo, FullScreen, IsBorrowedSlice, IsGivenBy};
+ghost use Rattle.termwiz_surface_core.specs.{IsOwnedSlice, IsPastOf, IsSurfaceSize, Screen, Some};
+ghost use Rattle.termwiz_surface_core.specs.{change_value, full_screens, knows, map, measure};
+ghost use Rattle.termwiz_surface_core.specs.{most_own_entries, own_repaint, regions_fit, screens};
+ghost use Rattle.termwiz_surface_core.specs.{true, ℕ};
 
 use super::Surface;
 use std::alloc::AllocError;
@@ -55,10 +56,7 @@ impl Answer {
         is_repaint: bool,
         changes: Vec<Change>,
     ) -> Option<Answer>
-        requires some_column { 0 < size.0 }
-        requires some_row { 0 < size.1 }
-        requires fits { size.0 < 2 ^ 32 }
-        requires fits_height { size.1 < 2 ^ 32 }
+        requires size { IsSurfaceSize size.0 size.1 }
         ensures { result
             ≡ (if regions_fit size.1 (map change_value changes.items) then Some (record {
               width = size.0;
@@ -89,10 +87,7 @@ impl Answer {
         ensures width { result.0 ≡ self.now.width }
         ensures height { result.1 ≡ self.now.height }
         // It is a size that a surface may have.
-        ensures some_column { 0 < self.now.width }
-        ensures some_row { 0 < self.now.height }
-        ensures fits { self.now.width < 2 ^ 32 }
-        ensures fits_height { self.now.height < 2 ^ 32 }
+        ensures valid { IsSurfaceSize self.now.width self.now.height }
     {
         (self.width, self.height)
     }

@@ -1,7 +1,7 @@
 //! Surfaces that take another size.
 ghost use Rattle.std.specs.Prelude.{◌≡◌, ◌+◌, ◌<◌, ◌^◌, OnErr, OnOk};
-ghost use Rattle.termwiz_surface_core.specs.{HasResized, KeepsNames, KeepsViewers, Resizes};
-ghost use Rattle.termwiz_surface_core.specs.{measure, next_number};
+ghost use Rattle.termwiz_surface_core.specs.{HasResized, IsSurfaceSize, KeepsNames, KeepsViewers};
+ghost use Rattle.termwiz_surface_core.specs.{Resizes, measure, next_number};
 
 use super::{Surface, SurfaceError};
 use std::alloc::AllocError;
@@ -20,10 +20,7 @@ impl<W: Widths> Surface<W> {
     /// - `Numbers`: the number is the greatest. `Memory`: a growth was refused. After both nothing
     ///   has changed.
     pub fn resize(&mut self, width: usize, height: usize) -> Result<(), SurfaceError>
-        requires some_column { 0 < width }
-        requires some_row { 0 < height }
-        requires fits { width < 2 ^ 32 }
-        requires fits_height { height < 2 ^ 32 }
+        requires size { IsSurfaceSize width height }
         ensures resizes { Resizes self.old width height result self.new }
         // Each viewer that follows the surface goes on to, also after an error.
         ensures followed { KeepsViewers (measure W.width_of) self.old self.new }
@@ -38,10 +35,7 @@ impl<W: Widths> Surface<W> {
     }
 
     fn change_size(&mut self, width: usize, height: usize) -> Result<(), AllocError>
-        requires some_column { 0 < width }
-        requires some_row { 0 < height }
-        requires fits { width < 2 ^ 32 }
-        requires fits_height { height < 2 ^ 32 }
+        requires size { IsSurfaceSize width height }
         requires number { next_number self.old.log + 1 < 2 ^ 64 }
         ensures ok { OnOk result (HasResized self.old width height self.new) }
         ensures err { OnErr result (self.new ≡ self.old) }

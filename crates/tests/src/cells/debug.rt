@@ -23,6 +23,7 @@ fn a_bold_red_cell_shows_what_is_not_default(rt: HostRuntime) {
     let cell = made.expect(&rt, "memory");
     assert_eq!(rt;
         shown(&rt, rt.alloc(), &cell).as_str(),
-        "Cell { text: \"x\", width: 1, attrs: CellAttributes { intensity: Bold, foreground: PaletteIndex(1) } }"
+        "Cell { text: \"x\", width: 1, attrs: CellAttributes { \
+         intensity: Bold, foreground: PaletteIndex(1) } }"
     );
 }

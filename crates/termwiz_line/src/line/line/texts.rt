@@ -150,7 +150,7 @@ impl Line {
     pub fn get_cell(&self, cell_index: usize) -> Option<CellRef<'_>>
         ensures cell { option_map ref_cell result ≡ cell_at (visible self.now.cells) cell_index }
         ensures index { IfSome result (λ cell. ref_index cell ≡ cell_index) }
-        ensures told { IfSome result IsOfCell }
+        ensures of_cell { IfSome result IsOfCell }
     {
         self.storage.get_cell(cell_index)
     }

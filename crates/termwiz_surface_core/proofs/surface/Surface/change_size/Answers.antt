@@ -14,15 +14,15 @@ invariant_of-self-2 g c =
     let s = c.self.inside in
     let form = c.self.invariant.0 in (
       rw (c.in_ok-resize_rows.ensures.ok, c.restart.ensures, c.min-self-inside.ensures, c.min-self-inside-2.ensures) (record {
-        some_column = c.requires.some_column;
-        some_row = c.requires.some_row;
-        fits = c.requires.fits;
-        fits_height = c.requires.fits_height;
+        some_column = c.requires.size.some_column;
+        some_row = c.requires.size.some_row;
+        fits = c.requires.size.fits;
+        fits_height = c.requires.size.fits_height;
         full = length-resized_stored c.args.width c.args.height (cells_of s.rows.items);
         sides = sides-full c.resize_rows.new.rows.items (ap length c.in_ok-resize_rows.ensures.ok ∙ length-resized_stored c.args.width c.args.height (cells_of s.rows.items));
-        column = omega (arith, c.requires.some_column);
-        row = omega (arith, c.requires.some_row);
-        stored_so = stored-resized (measure g.W.Widths.width_of s.widths) s.width c.args.width c.args.height s.height (cells_of s.rows.items) (record { space = g.met.W.Widths.space_has_one s.widths None }) c.requires.some_column form.full form.stored_so;
+        column = omega (arith, c.requires.size.some_column);
+        row = omega (arith, c.requires.size.some_row);
+        stored_so = stored-resized (measure g.W.Widths.width_of s.widths) s.width c.args.width c.args.height s.height (cells_of s.rows.items) (record { space = g.met.W.Widths.space_has_one s.widths None }) c.requires.size.some_column form.full form.stored_so;
         regions = refl;
         number_fits = restarted_fits s.log (subst (λ (v : SurfaceValue _). next_number v.log + 1 < 2 ^ 64) (sym c.self.view_is) c.requires.number);
       }),
@@ -44,14 +44,14 @@ returns-clause-ok g c =
       screen_is = λ i. record {
         width = c.args.width;
         height = c.args.height;
-        rows = shown-resized (measure g.W.Widths.width_of s.widths) s.width c.args.width c.args.height s.height (cells_of s.rows.items) (record { space = g.met.W.Widths.space_has_one s.widths None }) c.requires.some_column form.full form.stored_so i;
+        rows = shown-resized (measure g.W.Widths.width_of s.widths) s.width c.args.width c.args.height s.height (cells_of s.rows.items) (record { space = g.met.W.Widths.space_has_one s.widths None }) c.requires.size.some_column form.full form.stored_so i;
         x = x_is i;
         y = y_is i;
         visibility = s.visibility;
         pen = s.pen;
       };
       kept_is = λ i. record {
-        lengths = lengths-resized (measure g.W.Widths.width_of s.widths) s.width c.args.width c.args.height s.height (cells_of s.rows.items) (record { space = g.met.W.Widths.space_has_one s.widths None }) c.requires.some_column form.full form.stored_so i;
+        lengths = lengths-resized (measure g.W.Widths.width_of s.widths) s.width c.args.width c.args.height s.height (cells_of s.rows.items) (record { space = g.met.W.Widths.space_has_one s.widths None }) c.requires.size.some_column form.full form.stored_so i;
         flags = c.in_ok-resize_rows.ensures.flags i;
         title = string_bytes s.title;
         shape = s.shape;

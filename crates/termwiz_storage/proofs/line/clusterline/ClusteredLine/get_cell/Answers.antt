@@ -55,8 +55,8 @@ returns-clause-cell c =
     ap (λ (x : List ℕ). Some (record { text = x; wide = false; attrs = a })) text
     ∙ sym (byte_visible c.args.self.now t (shapes_of s.shapes.items) (attrs_of s.attrs.items) s.len c.self.view_is c.self.invariant i a (c.has_byte_cells.ensures.0 c.if-not-has_byte_cells.false) some)
 
-pub returns-clause-told : goal.returns-clause-told
-returns-clause-told c =
+pub returns-clause-of_cell : goal.returns-clause-of_cell
+returns-clause-of_cell c =
     let s = c.self.inside in
     let i : ℕ = c.args.i in
     let a : Attributes = c.in_ok-attrs.attrs.now in

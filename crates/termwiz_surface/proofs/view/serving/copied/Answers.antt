@@ -2,7 +2,7 @@ use Rattle.std.proofs.lemmas.Result.{MatchResult-weaker}
 use Rattle.std.proofs.Common.{ap, map, inl, inr}
 use Rattle.termwiz_cell.specs.ChangeValue.{change_value}
 use Rattle.termwiz_cell.proofs.Lists.{map-clone}
-use Rattle.termwiz_surface.proofs.view.copied.Goals as goal
+use Rattle.termwiz_surface.proofs.view.serving.copied.Goals as goal
 
 pub returns : goal.returns
 returns c =

@@ -1,7 +1,7 @@
 use Rattle.std.proofs.Common.{ap, ◌∙◌}
 use Rattle.termwiz_screen.specs.Log.{flushed, next_number}
 use Rattle.termwiz_surface_core.specs.Adding.{with_log}
-use Rattle.termwiz_surface.proofs.view.forget_made.Goals as goal
+use Rattle.termwiz_surface.proofs.view.serving.forget_made.Goals as goal
 
 pub returns-clause-forgets : goal.returns-clause-forgets
 returns-clause-forgets g c =

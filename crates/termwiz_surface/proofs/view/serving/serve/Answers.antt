@@ -1,7 +1,7 @@
 use Rattle.std.proofs.Common.{refl}
 use Rattle.termwiz_cell.specs.Measure.{measure}
 use Rattle.termwiz_surface.proofs.Running.{Allows-acts, Allows-follows}
-use Rattle.termwiz_surface.proofs.view.serve.Goals as goal
+use Rattle.termwiz_surface.proofs.view.serving.serve.Goals as goal
 
 pub returns-in-Some-clause-step : goal.returns-in-Some-clause-step
 returns-in-Some-clause-step g c =

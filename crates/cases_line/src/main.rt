@@ -31,7 +31,7 @@
 //!   append LINE SEQ               appends a copy of another line
 //!   wrap WIDTH SEQ                prints the pieces; the line has no cells then
 //!
-//! Questions, each behind `tell`:
+//! Questions, each behind `ask`:
 //!   stored · lent · pens · pen COLUMN             stored cells, or those lent for writing
 //!   shown · cells · visible · cell COLUMN         visible cells
 //!   alike COLUMN COLUMN · copied COLUMN CELL      visible cells that are compared

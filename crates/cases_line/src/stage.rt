@@ -40,7 +40,7 @@ impl Stage {
 
     fn command(&mut self, words: &[&str]) -> Result<String, Fault> {
         match words {
-            ["tell", words @ ..] => self.asked(words),
+            ["ask", words @ ..] => self.asked(words),
             ["wrap", width, seqno] => self.wrap(width, seqno),
             _ => self.step(words),
         }

@@ -1,11 +1,9 @@
 //! `surfsend WIDTH HEIGHT` reads a script of changes and sends the answers of a surface as bytes.
 #![tactic(auto)]
 
-use std::env;
-use std::io::ErrorKind;
 use std::process::ExitCode;
 use stream_session::send_session::{USAGE, send_session};
-use surfview_session::session::SessionError;
+use surfview_session::session::words;
 
 fn main(rt: HostRuntime) -> ExitCode {
     let status = match words(&rt) {
@@ -19,14 +17,4 @@ fn main(rt: HostRuntime) -> ExitCode {
         Err(error) => error.report(USAGE, &mut rt.stderr()),
     };
     ExitCode::from(status)
-}
-
-/// The words after the program's name.
-fn words(rt: &HostRuntime) -> Result<Vec<String>, SessionError> {
-    let all = env::args(rt).map_err(|error| match error.kind() {
-        ErrorKind::OutOfMemory => SessionError::Memory,
-        _ => SessionError::Usage,
-    })?;
-    let words = all.skip(1).collect(rt.alloc())?;
-    Ok(words)
 }

@@ -9,6 +9,7 @@ use crate::printed::{Printed, PrintedMany};
 use crate::run::{Outcomes, run};
 use crate::script::{self, Events, ScriptError, size};
 use std::alloc::{AllocError, Global};
+use std::env;
 use std::fmt::Display;
 use std::io::{ErrorKind, Read, Write};
 use termwiz_surface::view::{ManyOutcome, Outcome};
@@ -83,6 +84,16 @@ impl SessionError {
             SessionError::Memory | SessionError::Write => 3,
         }
     }
+}
+
+/// The words after the program's name. Words that aren't UTF-8 are no usage of any program here.
+pub fn words(rt: &HostRuntime) -> Result<Vec<String>, SessionError> {
+    let all = env::args(rt).map_err(|error| match error.kind() {
+        ErrorKind::OutOfMemory => SessionError::Memory,
+        _ => SessionError::Usage,
+    })?;
+    let words = all.skip(1).collect(rt.alloc())?;
+    Ok(words)
 }
 
 /// Runs the script that `input` holds on a surface of the size that `args` give, in columns and

@@ -47,8 +47,8 @@ impl<W: Widths> Surface<W> {
         ensures remembered { KeepsNames (measure W.width_of self.old.widths) self.old self.new }
     {
         let (width, height) = other.dimensions();
-        let changes = self.diff_region(x, y, width, height, other, 0, 0)?;
-        let changes = restored(changes, (self.x, self.y), &self.pen)?;
+        let printed = self.diff_region(x, y, width, height, other, 0, 0)?;
+        let changes = restored(printed, (self.x, self.y), &self.pen)?;
         self.add_changes(changes)
     }
 
@@ -87,8 +87,8 @@ impl<W: Widths> Surface<W> {
         // What its numbers named they name still, also after an error.
         ensures remembered { KeepsNames (measure W.width_of self.old.widths) self.old self.new }
     {
-        let changes = self.diff_region(dest_x, dest_y, width, height, self, src_x, src_y)?;
-        self.add_changes(changes)
+        let copies = self.diff_region(dest_x, dest_y, width, height, self, src_x, src_y)?;
+        self.add_changes(copies)
     }
 }
 

@@ -248,6 +248,55 @@ module _ (own : List CellValue) (x : ℕ) (cs : List CellValue) (q n w row : ℕ
   pub printed_start : (d : PrintedOut) (k : ℕ) → ((j : ℕ) → q ≤ j → j < k → hides cs j ≡ true) → q + n ≤ w → d ≡ fold print_out d (map (in_row row) (row_need own x (row_of w cs) q (min n (k - q))))
   printed_start d k h l = sym (ap (λ ps. fold print_out d (map (in_row row) ps)) (nothing_hidden (min n (k - q)) (λ j a b. h j a (omega (arith, b))) (omega (arith, l))))
 
+-- what the columns before k need is printed, and a cell starts there
+pub record IsPrintedTo (own : List CellValue) (x : ℕ) (cs : List CellValue) (q n row : ℕ) (d e : PrintedOut) (k : ℕ) : Type 0 where
+  pub within : q ≤ k
+  pub visible : hides cs k ≡ false
+  pub printed : (w : ℕ) → q + n ≤ w → e ≡ fold print_out d (map (in_row row) (row_need own x (row_of w cs) q (min n (k - q))))
+
+module _ (own : List CellValue) (x : ℕ) (cs : List CellValue) (q n row : ℕ) (d : PrintedOut) where
+  pub printed_to_start : (k : ℕ) → q ≤ k → hides cs k ≡ false → ((j : ℕ) → q ≤ j → j < k → hides cs j ≡ true) → IsPrintedTo own x cs q n row d d k
+  printed_to_start k a v h = record { within = a; visible = v; printed = λ w l. printed_start own x cs q n w row d k h l }
+
+  pub printed_to_next : (e g : PrintedOut) (k : ℕ) (c : CellValue) → IsPrintedTo own x cs q n row d e k → c ≡ stored cs k → k < q + n →
+      g ≡ fold print_out e (map (in_row row) (cond (shows own (x + (k - q)) c) [] (at_column (x + (k - q)) c ∷ []))) → IsPrintedTo own x cs q n row d g (k + columns c)
+  printed_to_next e g k c z s b u = record {
+    within = omega (arith, z.within);
+    visible = ap (λ (y : CellValue). hides cs (k + columns y)) s ∙ starts_behind cs k z.visible;
+    printed = λ w l. printed_next own x cs q n w row d e g k c s z.visible z.within b l (z.printed w l) u;
+  }
+
+  -- narrow cells that are the same in both, of which the first stands where the own row has no half
+  pub printed_to_run : (e : PrintedOut) (k m p : ℕ) → IsPrintedTo own x cs q n row d e k → p ≡ x + (k - q) → is_hidden own p ≡ false → k + m ≤ q + n →
+      ((j : ℕ) → j < m → stored own (p + j) ≡ stored cs (k + j)) → ((j : ℕ) → j < m → is_wide (stored cs (k + j)) ≡ false) → IsPrintedTo own x cs q n row d e (k + m)
+  printed_to_run e k zero p z r h l same narrow =
+      let all : k ≡ k + 0 = omega arith in
+      subst (IsPrintedTo own x cs q n row d e) all z
+  printed_to_run e k (suc m) p z r h l same narrow =
+      subst (IsPrintedTo own x cs q n row d e) one
+      (printed_to_next e e (k + m) (stored cs (k + m)) (printed_to_run e k m p z r h (omega (arith, l)) (λ j a. same j (omega (arith, a))) (λ j a. narrow j (omega (arith, a)))) refl (omega (arith, l))
+      (ap (λ s. fold print_out e (map (in_row row) (cond s [] (at_column (x + (k + m - q)) (stored cs (k + m)) ∷ [])))) (sym shown)))
+    where
+      one : k + m + columns (stored cs (k + m)) ≡ k + suc m
+      one =
+          let wide : columns (stored cs (k + m)) ≡ 1 = ap (λ b. cond {A = ℕ} b 2 1) (narrow m (omega arith)) in
+          omega (arith, wide)
+
+      start : (j : ℕ) → j ≤ m → is_hidden own (p + j) ≡ false
+      start zero a =
+          let first : p + 0 ≡ p = omega arith in
+          ap (is_hidden own) first ∙ h
+      start (suc j) a =
+          let next : p + suc j ≡ suc (p + j) = omega arith in
+          ap (is_hidden own) next ∙ ap is_wide (same j (omega (arith, a))) ∙ narrow j (omega (arith, a))
+
+      place : p + m ≡ x + (k + m - q)
+      place = omega (arith, r, z.within)
+
+      shown : shows own (x + (k + m - q)) (stored cs (k + m)) ≡ true
+      shown = ap (λ i. shows own i (stored cs (k + m))) (sym place)
+          ∙ and_from _ _ (not_from_false _ (start m (omega arith))) ((cell_eq-Decides (stored own (p + m)) (stored cs (k + m))).1 (same m (omega arith)))
+
 -- behind a narrow cell that a row shows stands no half
 shown_cell : (x y : Bool) → (x && y) ≡ true → y ≡ true
 shown_cell true y e = e

@@ -1,10 +1,11 @@
 //! The cells that a diff prints, row by row.
-ghost use Rattle.std.specs.Prelude.{◌≡◌, ◌+◌, ◌-◌, ◌<◌, ◌≤◌, ◌^◌, ◌∷◌, if◌then◌else◌, [], length};
+ghost use Rattle.std.specs.Prelude.{◌≡◌, ◌+◌, ◌-◌, ◌<◌, ◌≤◌, ◌^◌, ◌∷◌, ◌↔◌, if◌then◌else◌, [], IsTrue};
 ghost use Rattle.termwiz_screen.specs.{AreHalved, AreVectors, CellValue, EndsBlank, HasHalves, map};
 ghost use Rattle.termwiz_screen.specs.{IfOk, IsOfCell, List, OnOk, at_column, band, blank, cell_eq};
 ghost use Rattle.termwiz_screen.specs.{cells_left, cells_of, deque_len, false, fold, hides, in_row};
-ghost use Rattle.termwiz_screen.specs.{is_hidden, min, nat_lt, need, print_out, ref_cell, ℕ, true};
-ghost use Rattle.termwiz_screen.specs.{region_value, row_need, row_of, shows, visible};
+ghost use Rattle.termwiz_screen.specs.{is_hidden, is_wide, length, min, nat_lt, need, print_out, ℕ};
+ghost use Rattle.termwiz_screen.specs.{ref_cell, region_value, row_need, row_of, shows, stored, true};
+ghost use Rattle.termwiz_screen.specs.{visible};
 
 use super::region::Region;
 use super::writer::DiffWriter;
@@ -173,14 +174,14 @@ fn print_stored<'a>(
 {
     let end = cells.len().min(region.other_x + region.width);
     let mut next = first_visible(cells, region.other_x);
-    // Whether the own column is known to hold no half.
-    let mut starts = false;
     while next < end {
         let cell = &cells[next];
         let column = region.x + (next - region.other_x);
-        let shown = print_unless_stored(writer, own, padding, row, column, cell, starts)?;
-        starts = shown && cell.width() == 1;
+        let shown = print_unless_stored(writer, own, padding, row, column, cell)?;
         next += cell.width();
+        if shown && cell.width() == 1 {
+            next += count_same(own, column + 1, cells, next, end);
+        }
     }
     Ok(next)
 }
@@ -198,6 +199,33 @@ fn first_visible(cells: &[Cell], from: usize) -> usize
     next.max(from)
 }
 
+// How many narrow cells from these columns on are the same. Behind a narrow cell that is shown no
+// half stands, so they are shown too.
+#[inline(never)]
+fn count_same(own: &[Cell], column: usize, cells: &[Cell], from: usize, end: usize) -> usize
+    requires within { from ≤ end }
+    requires stored { end ≤ length cells.now }
+    ensures end { from + result ≤ end }
+    ensures same { (k : ℕ) → k < result →
+        stored own.now (column + k) ≡ stored cells.now (from + k) }
+    ensures narrow { (k : ℕ) → k < result → is_wide (stored cells.now (from + k)) ≡ false }
+{
+    let count = own.len().saturating_sub(column).min(end - from);
+    for k in 0..count {
+        if !is_same_narrow(&own[column + k], &cells[from + k]) {
+            return k;
+        }
+    }
+    count
+}
+
+#[inline(always)]
+fn is_same_narrow(own: &Cell, cell: &Cell) -> bool
+    ensures { IsTrue result ↔ ((own.now ≡ cell.now) × (is_wide cell.now ≡ false)) }
+{
+    *own == *cell && cell.width() == 1
+}
+
 // Prints a stored cell at a column, unless the own row shows it there. Returns whether it does.
 #[inline(always)]
 fn print_unless_stored<'a>(
@@ -207,11 +235,9 @@ fn print_unless_stored<'a>(
     row: usize,
     column: usize,
     cell: &'a Cell,
-    starts: bool,
 ) -> Result<bool, AllocError>
     requires blank { padding.now ≡ blank }
     requires fits { column < 2 ^ 32 }
-    requires starts { starts ≡ true → is_hidden own.now column ≡ false }
     ensures shown { IfOk result (λ shown. shown ≡ shows own.now column cell.now) }
     ensures printed { OnOk result (
         writer.new ≡ fold print_out writer.old (map (in_row row)
@@ -224,11 +250,7 @@ fn print_unless_stored<'a>(
         cell_index: column,
         cell,
     };
-    let shown = if starts && column < own.len() {
-        own[column] == *cell
-    } else {
-        is_shown(own, padding, column, &lent)
-    };
+    let shown = is_shown(own, padding, column, &lent);
     if !shown {
         writer.print(row, column, lent)?;
     }

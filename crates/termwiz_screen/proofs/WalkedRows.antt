@@ -4,7 +4,7 @@ use Rattle.std.proofs.Math.Seq.{drop-cons}
 use Rattle.std.proofs.lemmas.List.{drop_all, get_or_past, map-append, append-nil}
 use Rattle.std.proofs.lemmas.List.Sums.{fold-append}
 use Rattle.std.proofs.lemmas.Bool.{cases_lt, and_from, and_left, not_from_false, false≢true}
-use Rattle.termwiz_cell.specs.CellValue.{CellValue, blank, columns, is_wide}
+use Rattle.termwiz_cell.specs.CellValue.{CellValue, blank, cell_eq, cell_eq-Decides, columns, is_wide}
 use Rattle.termwiz_storage.specs.Stored.{stored, visible, visible_from, hides}
 use Rattle.termwiz_storage.specs.VisibleCell.{VisibleCell, at_column}
 use Rattle.termwiz_line.specs.Row.{is_hidden, row_of}
@@ -30,12 +30,43 @@ drop_one k cs = elim (cases_lt k (length cs)) [
   | inr l ↦ ap (drop 1) (drop_all k cs l) ∙ sym (drop_all (suc k) cs (omega arith))
 ]
 
+-- behind a cell that starts the next one starts
+starts_over : (cs : List CellValue) (k : ℕ) (wide : Bool) → is_wide (stored cs k) ≡ wide → hides cs k ≡ false → hides cs (k + cond {A = ℕ} wide 2 1) ≡ false
+starts_over cs k true w h = ap (hides cs) (sym next) ∙ rw hidden (no_and (is_wide (stored cs (suc k))))
+  where
+    next : suc (suc k) ≡ k + 2
+    next = omega arith
+
+    hidden : hides cs (suc k) ≡ true
+    hidden = and_from _ _ w (not_from_false _ h)
+
+    no_and : (b : Bool) → (b && false) ≡ false
+    no_and true = refl
+    no_and false = refl
+starts_over cs k false w h = ap (hides cs) (sym next) ∙ and_left _ (not (hides cs k)) w
+  where
+    next : suc k ≡ k + 1
+    next = omega arith
+
+pub starts_behind : (cs : List CellValue) (k : ℕ) → hides cs k ≡ false → hides cs (k + columns (stored cs k)) ≡ false
+starts_behind cs k h = starts_over cs k (is_wide (stored cs k)) refl h
+
+-- between them is at most its half
+hidden_over : (cs : List CellValue) (k j : ℕ) (wide : Bool) → is_wide (stored cs k) ≡ wide → hides cs k ≡ false → k < j → j < k + cond {A = ℕ} wide 2 1 → hides cs j ≡ true
+hidden_over cs k j true w h a b =
+    let same : j ≡ suc k = omega (arith, a, b) in
+    ap (hides cs) same ∙ and_from _ _ w (not_from_false _ h)
+hidden_over cs k j false w h a b = absurd (omega (arith, a, b))
+
+pub hidden_behind : (cs : List CellValue) (k j : ℕ) → hides cs k ≡ false → k < j → j < k + columns (stored cs k) → hides cs j ≡ true
+hidden_behind cs k j h a b = hidden_over cs k j (is_wide (stored cs k)) refl h a b
+
 -- what is behind the first cell
 behind : (cs : List CellValue) (k : ℕ) (wide : Bool) (more : List VisibleCell) → is_wide (stored cs k) ≡ wide → hides cs k ≡ false →
     more ≡ visible_from (k + 1) (cond {A = ℕ} wide 2 1 - 1) (drop (suc k) cs) → IsAt cs (k + cond wide 2 1) more
 behind cs k true more w h e = record {
   rest = e ∙ skip_one (k + 1) (drop (suc k) cs) ∙ ap₂ (λ i l. visible_from i 0 l) two (drop_one (suc k) cs ∙ ap (λ i. drop i cs) next);
-  starts = ap (hides cs) (sym next) ∙ and_right_false;
+  starts = starts_over cs k true w h;
 }
   where
     two : k + 1 + 1 ≡ k + 2
@@ -43,19 +74,9 @@ behind cs k true more w h e = record {
 
     next : suc (suc k) ≡ k + 2
     next = omega arith
-
-    hidden : hides cs (suc k) ≡ true
-    hidden = and_from _ _ w (not_from_false _ h)
-
-    and_right_false : hides cs (suc (suc k)) ≡ false
-    and_right_false = rw hidden (no_and (is_wide (stored cs (suc k))))
-      where
-        no_and : (b : Bool) → (b && false) ≡ false
-        no_and true = refl
-        no_and false = refl
 behind cs k false more w h e = record {
   rest = e ∙ ap (λ i. visible_from (k + 1) 0 (drop i cs)) next;
-  starts = ap (hides cs) (sym next) ∙ and_left _ (not (hides cs k)) w;
+  starts = starts_over cs k false w h;
 }
   where
     next : suc k ≡ k + 1
@@ -87,12 +108,26 @@ at_next cs k left p more z e = elim (cases_lt k (length cs)) [
         is_none [] = false
         is_none (x ∷ xs) = true
 
+-- behind all stored cells each column starts a blank
+pub starts_past : (cs : List CellValue) (k j : ℕ) → length cs ≤ k → hides cs k ≡ false → k ≤ j → hides cs j ≡ false
+starts_past cs k j over h a = elim (cases_lt k j) [
+  | inl l ↦
+      let same : j ≡ suc (j - 1) = omega arith in
+      ap (hides cs) same ∙ and_left (is_wide (stored cs (j - 1))) (not (hides cs (j - 1))) (ap is_wide (get_or_past cs (j - 1) blank (omega (arith, over))))
+  | inr l ↦
+      let same : j ≡ k = omega arith in
+      ap (hides cs) same ∙ h
+]
+
+pub ends_blank : (w : ℕ) (cs : List CellValue) (k : ℕ) → length cs ≤ k → hides cs k ≡ false → EndsBlank w (row_of w cs) k
+ends_blank w cs k over h = record {
+  blanks = λ j a b. row_of_at w cs j b ∙ settled_visible cs j (starts_past cs k j over h a) ∙ get_or_past cs j blank (omega (arith, over));
+  starts = λ j a b. hidden_row w cs j (omega arith) ∙ starts_past cs k j over h a;
+}
+
 -- nothing is left: what follows is blank
 pub at_end : (w : ℕ) (cs : List CellValue) (k : ℕ) (left : List VisibleCell) → IsAt cs k left → left ≡ [] → EndsBlank w (row_of w cs) k
-at_end w cs k left z e = record {
-  blanks = λ j a b. row_of_at w cs j b ∙ settled_visible cs j (shown j a) ∙ get_or_past cs j blank (omega (arith, over));
-  starts = λ j a b. hidden_row w cs j (omega arith) ∙ shown j a;
-}
+at_end w cs k left z e = ends_blank w cs k over z.starts
   where
     over : length cs ≤ k
     over = elim (cases_lt k (length cs)) [
@@ -106,16 +141,6 @@ at_end w cs k left z e = record {
 
         some : {p : VisibleCell} {ps : List VisibleCell} → [] ≡ p ∷ ps → ⊥
         some h = false≢true (ap is_some h)
-
-    shown : (j : ℕ) → k ≤ j → hides cs j ≡ false
-    shown j a = elim (cases_lt k j) [
-      | inl l ↦
-          let same : j ≡ suc (j - 1) = omega arith in
-          ap (hides cs) same ∙ and_left (is_wide (stored cs (j - 1))) (not (hides cs (j - 1))) (ap is_wide (get_or_past cs (j - 1) blank (omega (arith, over))))
-      | inr l ↦
-          let same : j ≡ k = omega arith in
-          ap (hides cs) same ∙ z.starts
-    ]
 
 -- one more column of what is needed
 module _ (own : List CellValue) (x : ℕ) (b : List CellValue) (q : ℕ) where
@@ -211,3 +236,77 @@ module _ (own : List CellValue) (x : ℕ) (cs : List CellValue) (q n w row : ℕ
       u ∙ ap (λ ps. fold print_out d (map (in_row row) ps)) (ap (row_need own x (row_of w cs) q) nothing
       ∙ sym (before_region k (is_wide (stored cs k)) refl h a l)
       ∙ ap (λ (y : CellValue). row_need own x (row_of w cs) q (min n (k + columns y - q))) (sym s))
+
+  -- hidden columns need nothing
+  nothing_hidden : (m : ℕ) → ((j : ℕ) → q ≤ j → j < q + m → hides cs j ≡ true) → q + m ≤ w → row_need own x (row_of w cs) q m ≡ []
+  nothing_hidden zero h l = refl
+  nothing_hidden (suc m) h l =
+      needed_hidden own x (row_of w cs) q m (hidden_row w cs (q + m) (omega (arith, l)) ∙ h (q + m) (omega arith) (omega arith))
+      ∙ nothing_hidden m (λ j a b. h j a (omega (arith, b))) (omega (arith, l))
+
+  -- before the first cell that starts in the region
+  pub printed_start : (d : PrintedOut) (k : ℕ) → ((j : ℕ) → q ≤ j → j < k → hides cs j ≡ true) → q + n ≤ w → d ≡ fold print_out d (map (in_row row) (row_need own x (row_of w cs) q (min n (k - q))))
+  printed_start d k h l = sym (ap (λ ps. fold print_out d (map (in_row row) ps)) (nothing_hidden (min n (k - q)) (λ j a b. h j a (omega (arith, b))) (omega (arith, l))))
+
+-- what the columns before k need is printed, and a cell starts there
+pub record IsPrintedTo (own : List CellValue) (x : ℕ) (cs : List CellValue) (q n row : ℕ) (d e : PrintedOut) (k : ℕ) : Type 0 where
+  pub within : q ≤ k
+  pub visible : hides cs k ≡ false
+  pub printed : (w : ℕ) → q + n ≤ w → e ≡ fold print_out d (map (in_row row) (row_need own x (row_of w cs) q (min n (k - q))))
+
+module _ (own : List CellValue) (x : ℕ) (cs : List CellValue) (q n row : ℕ) (d : PrintedOut) where
+  pub printed_to_start : (k : ℕ) → q ≤ k → hides cs k ≡ false → ((j : ℕ) → q ≤ j → j < k → hides cs j ≡ true) → IsPrintedTo own x cs q n row d d k
+  printed_to_start k a v h = record { within = a; visible = v; printed = λ w l. printed_start own x cs q n w row d k h l }
+
+  pub printed_to_next : (e g : PrintedOut) (k : ℕ) (c : CellValue) → IsPrintedTo own x cs q n row d e k → c ≡ stored cs k → k < q + n →
+      g ≡ fold print_out e (map (in_row row) (cond (shows own (x + (k - q)) c) [] (at_column (x + (k - q)) c ∷ []))) → IsPrintedTo own x cs q n row d g (k + columns c)
+  printed_to_next e g k c z s b u = record {
+    within = omega (arith, z.within);
+    visible = ap (λ (y : CellValue). hides cs (k + columns y)) s ∙ starts_behind cs k z.visible;
+    printed = λ w l. printed_next own x cs q n w row d e g k c s z.visible z.within b l (z.printed w l) u;
+  }
+
+  -- narrow cells that are the same in both, of which the first stands where the own row has no half
+  pub printed_to_run : (e : PrintedOut) (k m p : ℕ) → IsPrintedTo own x cs q n row d e k → p ≡ x + (k - q) → is_hidden own p ≡ false → k + m ≤ q + n →
+      ((j : ℕ) → j < m → stored own (p + j) ≡ stored cs (k + j)) → ((j : ℕ) → j < m → is_wide (stored cs (k + j)) ≡ false) → IsPrintedTo own x cs q n row d e (k + m)
+  printed_to_run e k zero p z r h l same narrow =
+      let all : k ≡ k + 0 = omega arith in
+      subst (IsPrintedTo own x cs q n row d e) all z
+  printed_to_run e k (suc m) p z r h l same narrow =
+      subst (IsPrintedTo own x cs q n row d e) one
+      (printed_to_next e e (k + m) (stored cs (k + m)) (printed_to_run e k m p z r h (omega (arith, l)) (λ j a. same j (omega (arith, a))) (λ j a. narrow j (omega (arith, a)))) refl (omega (arith, l))
+      (ap (λ s. fold print_out e (map (in_row row) (cond s [] (at_column (x + (k + m - q)) (stored cs (k + m)) ∷ [])))) (sym shown)))
+    where
+      one : k + m + columns (stored cs (k + m)) ≡ k + suc m
+      one =
+          let wide : columns (stored cs (k + m)) ≡ 1 = ap (λ b. cond {A = ℕ} b 2 1) (narrow m (omega arith)) in
+          omega (arith, wide)
+
+      start : (j : ℕ) → j ≤ m → is_hidden own (p + j) ≡ false
+      start zero a =
+          let first : p + 0 ≡ p = omega arith in
+          ap (is_hidden own) first ∙ h
+      start (suc j) a =
+          let next : p + suc j ≡ suc (p + j) = omega arith in
+          ap (is_hidden own) next ∙ ap is_wide (same j (omega (arith, a))) ∙ narrow j (omega (arith, a))
+
+      place : p + m ≡ x + (k + m - q)
+      place = omega (arith, r, z.within)
+
+      shown : shows own (x + (k + m - q)) (stored cs (k + m)) ≡ true
+      shown = ap (λ i. shows own i (stored cs (k + m))) (sym place)
+          ∙ and_from _ _ (not_from_false _ (start m (omega arith))) ((cell_eq-Decides (stored own (p + m)) (stored cs (k + m))).1 (same m (omega arith)))
+
+-- behind a narrow cell that a row shows stands no half
+shown_cell : (x y : Bool) → (x && y) ≡ true → y ≡ true
+shown_cell true y e = e
+shown_cell false y e = absurd (false≢true e)
+
+one_column : (wide : Bool) → cond {A = ℕ} wide 2 1 ≡ 1 → wide ≡ false
+one_column true e = absurd (omega (arith, e))
+one_column false e = refl
+
+pub shown_narrow : (own : List CellValue) (k j : ℕ) (c : CellValue) → shows own k c ≡ true → columns c ≡ 1 → j ≡ k + 1 → is_hidden own j ≡ false
+shown_narrow own k j c s n e =
+    let next : j ≡ suc k = omega (arith, e) in
+    ap (is_hidden own) next ∙ ap is_wide ((cell_eq-Decides (stored own k) c).0 (shown_cell (not (is_hidden own k)) (cell_eq (stored own k) c) s)) ∙ one_column (is_wide c) n

@@ -86,7 +86,7 @@ pub use Rattle.termwiz_storage.specs.CellRef.{ref_cell, ref_width}
 pub use Rattle.termwiz_storage.specs.CellsLeft.{IsOfCell, cells_left}
 pub use Rattle.termwiz_storage.specs.Halves.{resized}
 pub use Rattle.termwiz_storage.specs.Letters.{set_letters}
-pub use Rattle.termwiz_storage.specs.Stored.{IsPruned, fill, set_run, stored, visible}
+pub use Rattle.termwiz_storage.specs.Stored.{IsPruned, fill, hides, set_run, stored, visible}
 pub use Rattle.termwiz_storage.specs.VisibleCell.{at_column}
 pub use Rattle.termwiz_text.specs.Letter.{AreLetters}
 pub use Rattle.termwiz_text.specs.Plain.{is_plain}

@@ -1,10 +1,11 @@
 //! The cells that a diff prints, row by row.
-ghost use Rattle.std.specs.Prelude.{◌≡◌, ◌+◌, ◌-◌, ◌<◌, ◌≤◌, ◌^◌, ◌∷◌, if◌then◌else◌, [], length};
+ghost use Rattle.std.specs.Prelude.{◌≡◌, ◌+◌, ◌-◌, ◌<◌, ◌≤◌, ◌^◌, ◌∷◌, ◌↔◌, if◌then◌else◌, [], IsTrue};
 ghost use Rattle.termwiz_screen.specs.{AreHalved, AreVectors, CellValue, EndsBlank, HasHalves, map};
 ghost use Rattle.termwiz_screen.specs.{IfOk, IsOfCell, List, OnOk, at_column, band, blank, cell_eq};
-ghost use Rattle.termwiz_screen.specs.{cells_left, cells_of, deque_len, fold, in_row, is_hidden, ℕ};
-ghost use Rattle.termwiz_screen.specs.{min, nat_lt, need, print_out, ref_cell, region_value, shows};
-ghost use Rattle.termwiz_screen.specs.{row_need, row_of, true, visible};
+ghost use Rattle.termwiz_screen.specs.{cells_left, cells_of, deque_len, false, fold, hides, in_row};
+ghost use Rattle.termwiz_screen.specs.{is_hidden, is_wide, length, min, nat_lt, need, print_out, ℕ};
+ghost use Rattle.termwiz_screen.specs.{ref_cell, region_value, row_need, row_of, shows, stored, true};
+ghost use Rattle.termwiz_screen.specs.{visible};
 
 use super::region::Region;
 use super::writer::DiffWriter;
@@ -116,7 +117,7 @@ fn print_cells<'a>(
         writer.new ≡ fold print_out writer.old (map (in_row row)
         (row_need own.now region.x (row_of w other.now.cells) region.other_x region.width))) }
 {
-    let next = print_visible(writer, own, other.visible_cells(), padding, region, row)?;
+    let next = print_visible(writer, own, other, padding, region, row)?;
     let met = next.saturating_sub(region.other_x).min(region.width);
     let end = region.x + region.width;
     // Behind the stored cells of both are default blanks. The first column there may be the half of
@@ -128,11 +129,10 @@ fn print_cells<'a>(
 
 // Prints the visible cells of a line at the region's columns, and returns the column behind the
 // last one.
-// Each form of storage is walked apart, so that the walk needs no test for each cell.
 fn print_visible<'a>(
     writer: &mut DiffWriter<'a>,
     own: &[Cell],
-    cells: VisibleCellIter<'a>,
+    other: &'a Line,
     padding: &Cell,
     region: Region,
     row: usize,
@@ -140,28 +140,124 @@ fn print_visible<'a>(
     requires blank { padding.now ≡ blank }
     requires own_fits { region.x + region.width < 2 ^ 32 }
     requires other_fits { region.other_x + region.width < 2 ^ 32 }
-    ensures printed { IfOk result (λ next. (w : ℕ) (cs : List CellValue) →
-        cells_left cells.entry ≡ visible cs → region.other_x + region.width ≤ w →
+    ensures printed { IfOk result (λ next. (w : ℕ) → region.other_x + region.width ≤ w →
         writer.new ≡ fold print_out writer.old (map (in_row row)
-        (row_need own.now region.x (row_of w cs) region.other_x
+        (row_need own.now region.x (row_of w other.now.cells) region.other_x
         (min region.width (next - region.other_x))))) }
-    ensures rest { IfOk result (λ next. (w : ℕ) (cs : List CellValue) →
-        cells_left cells.entry ≡ visible cs → next < region.other_x + region.width →
-        EndsBlank w (row_of w cs) next) }
+    ensures rest { IfOk result (λ next. (w : ℕ) → next < region.other_x + region.width →
+        EndsBlank w (row_of w other.now.cells) next) }
 {
-    match cells {
-        VisibleCellIter::V(cells) => {
-            let cells = VisibleCellIter::V(cells);
-            print_walk(writer, own, cells, padding, region, row)
-        }
-        VisibleCellIter::Cluster(cells) => {
-            let cells = VisibleCellIter::Cluster(cells);
-            print_walk(writer, own, cells, padding, region, row)
-        }
+    match other.stored_cells() {
+        Some(cells) => print_stored(writer, own, cells, padding, region, row),
+        None => print_walk(writer, own, other.visible_cells(), padding, region, row),
     }
 }
 
+// The same of stored cells, which are read beside the own ones.
+fn print_stored<'a>(
+    writer: &mut DiffWriter<'a>,
+    own: &[Cell],
+    cells: &'a [Cell],
+    padding: &Cell,
+    region: Region,
+    row: usize,
+) -> Result<usize, AllocError>
+    requires blank { padding.now ≡ blank }
+    requires own_fits { region.x + region.width < 2 ^ 32 }
+    requires other_fits { region.other_x + region.width < 2 ^ 32 }
+    ensures printed { IfOk result (λ next. (w : ℕ) → region.other_x + region.width ≤ w →
+        writer.new ≡ fold print_out writer.old (map (in_row row)
+        (row_need own.now region.x (row_of w cells.now) region.other_x
+        (min region.width (next - region.other_x))))) }
+    ensures rest { IfOk result (λ next. (w : ℕ) → next < region.other_x + region.width →
+        EndsBlank w (row_of w cells.now) next) }
+{
+    let end = cells.len().min(region.other_x + region.width);
+    let mut next = first_visible(cells, region.other_x);
+    while next < end {
+        let cell = &cells[next];
+        let column = region.x + (next - region.other_x);
+        let shown = print_unless_stored(writer, own, padding, row, column, cell)?;
+        next += cell.width();
+        if shown && cell.width() == 1 {
+            next += count_same(own, column + 1, cells, next, end);
+        }
+    }
+    Ok(next)
+}
+
+// The first column from this one on that is not hidden behind a wide cell.
+fn first_visible(cells: &[Cell], from: usize) -> usize
+    ensures from { from ≤ result }
+    ensures visible { hides cells.now result ≡ false }
+    ensures hidden { (k : ℕ) → from ≤ k → k < result → hides cells.now k ≡ true }
+{
+    let mut next = 0;
+    while next < from && next < cells.len() {
+        next += cells[next].width();
+    }
+    next.max(from)
+}
+
+// How many narrow cells from these columns on are the same. Behind a narrow cell that is shown no
+// half stands, so they are shown too.
+#[inline(never)]
+fn count_same(own: &[Cell], column: usize, cells: &[Cell], from: usize, end: usize) -> usize
+    requires within { from ≤ end }
+    requires stored { end ≤ length cells.now }
+    ensures end { from + result ≤ end }
+    ensures same { (k : ℕ) → k < result →
+        stored own.now (column + k) ≡ stored cells.now (from + k) }
+    ensures narrow { (k : ℕ) → k < result → is_wide (stored cells.now (from + k)) ≡ false }
+{
+    let count = own.len().saturating_sub(column).min(end - from);
+    for k in 0..count {
+        if !is_same_narrow(&own[column + k], &cells[from + k]) {
+            return k;
+        }
+    }
+    count
+}
+
 #[inline(always)]
+fn is_same_narrow(own: &Cell, cell: &Cell) -> bool
+    ensures { IsTrue result ↔ ((own.now ≡ cell.now) × (is_wide cell.now ≡ false)) }
+{
+    *own == *cell && cell.width() == 1
+}
+
+// Prints a stored cell at a column, unless the own row shows it there. Returns whether it does.
+#[inline(always)]
+fn print_unless_stored<'a>(
+    writer: &mut DiffWriter<'a>,
+    own: &[Cell],
+    padding: &Cell,
+    row: usize,
+    column: usize,
+    cell: &'a Cell,
+) -> Result<bool, AllocError>
+    requires blank { padding.now ≡ blank }
+    requires fits { column < 2 ^ 32 }
+    ensures shown { IfOk result (λ shown. shown ≡ shows own.now column cell.now) }
+    ensures printed { OnOk result (
+        writer.new ≡ fold print_out writer.old (map (in_row row)
+        (if shows own.now column cell.now then []
+        else at_column column cell.now ∷ []))) }
+{
+    // A cell's text is clean, as `str` promises.
+    let _text = cell.str();
+    let lent = CellRef::CellRef {
+        cell_index: column,
+        cell,
+    };
+    let shown = is_shown(own, padding, column, &lent);
+    if !shown {
+        writer.print(row, column, lent)?;
+    }
+    Ok(shown)
+}
+
+// The same of a line that is stored as one text, by a walk.
 fn print_walk<'a>(
     writer: &mut DiffWriter<'a>,
     own: &[Cell],

@@ -1,4 +1,5 @@
 mod ClearedRow
+mod Client
 mod Followed
 mod HeadingRow
 mod RowsOfForm

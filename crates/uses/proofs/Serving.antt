@@ -1,6 +1,7 @@
 -- Viewers that accept answers while the surface goes on.
 use Rattle.std.proofs.Common.{◌≡◌, ℕ, ◌≤◌, List, [], ◌∷◌, ◌++◌, refl, sym, ap, subst, ◌∙◌, arith}
-use Rattle.termwiz_surface.specs.{ChangeValue, IsPast, KeepsNames, ShowsNamed, SurfaceValue, ViewerValue, full_of, full_screens, next_number, screens}
+use Rattle.std.specs.Prelude.{Result, Ok, Err, OnOk, OnErr}
+use Rattle.termwiz_surface.specs.{ChangeValue, Follows, HasCaughtUp, IsPast, KeepsNames, NamedAreLed, NumberNamesPicture, ShowsNamed, SurfaceValue, ViewerValue, full_of, full_screens, next_number, screen_of, screens}
 use Rattle.termwiz_surface.specs.History.{NamesGoOn}
 use Rattle.termwiz_surface.specs.Picture.{Pictures}
 use Rattle.uses.specs.Late.{AddsEach, AddsOne, IsServed}
@@ -44,3 +45,31 @@ module _ {W : Type 0} (f : W → List ℕ → ℕ) where
         not_ahead = omega (arith, below, g.grows);
         names = record { named = λ some. g.alike w.last below ∙ named.named some };
       }
+
+  -- a viewer that a full surface serves follows it
+  pub served_follows : (v : ViewerValue W) (s : SurfaceValue W) → NamedAreLed screens → NamedAreLed full_screens → IsServed screens f v s → IsServed full_screens f v s → Follows f v s
+  served_follows v s led fully_led h k = record {
+    one_measure = h.one_measure;
+    leads = led (f s.widths) h.past (screen_of v.surface) (screen_of s) v.last s.log h.is_past h.not_ahead h.names;
+    full = λ full. fully_led (f s.widths) k.past (full_of v.surface) (full_of s) v.last s.log k.is_past k.not_ahead k.names;
+  }
+
+  -- and is served on once it has followed it: it shows what the surface shows, or has no number
+  pub IsServed-followed : {P : Type 0} (pictures : Pictures P) {E : Type 0} (v w : ViewerValue W) (s : SurfaceValue W) (r : Result ℕ E) → NumberNamesPicture pictures → IsServed pictures f v s → Follows f w s
+      → OnOk r (HasCaughtUp w s) → OnOk r (full_of w.surface ≡ full_of s) → OnErr r (w.last ≡ 0) → IsServed pictures f w s
+  IsServed-followed pictures v w s (Ok n) number h follows caught full failed = record {
+    one_measure = follows.one_measure;
+    past = h.past;
+    is_past = h.is_past;
+    not_ahead = follows.leads.not_ahead;
+    names = record {
+      named = λ some. ap h.past caught.1 ∙ (number (f s.widths) h.past (pictures.shown (full_of s)) s.log h.is_past).named (λ none. some (caught.1 ∙ none)) ∙ sym (ap pictures.shown full);
+    };
+  }
+  IsServed-followed pictures v w s (Err e) number h follows caught full failed = record {
+    one_measure = follows.one_measure;
+    past = h.past;
+    is_past = h.is_past;
+    not_ahead = follows.leads.not_ahead;
+    names = record { named = λ some. absurd (some failed) };
+  }

@@ -207,6 +207,8 @@ pub fn reconnect_fully<W: Widths>(
     ensures names { (past : ℕ → FullScreen) →
         IsPastOf full_screens (measure W.width_of) past surface.now →
         OnOk result (ShowsNamed full_screens past viewer.new) }
+    ensures served { IsServed screens (measure W.width_of) viewer.new surface.now }
+    ensures served_fully { IsServed full_screens (measure W.width_of) viewer.new surface.now }
 {
     history_laws();
     full_history_laws();

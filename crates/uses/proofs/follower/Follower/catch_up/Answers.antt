@@ -1,15 +1,7 @@
 use Rattle.std.proofs.Common.{◌≡◌, ℕ, true, List, refl, sym, ap, ◌∙◌, subst, arith}
 use Rattle.termwiz_surface.specs.{Follows, HasFullSize, HasSize, IsFullStream, IsStream, SurfaceValue, ViewerValue, full_of, full_replay, full_screen, kept_of, measure, replay, screen_of, stream_of}
+use Rattle.uses.proofs.Followed.{unnumbered}
 use Rattle.uses.proofs.follower.Follower.catch_up.Goals as goal
-
-module _ {W : Type 0} where
-  -- whatever is shown, a follower with no number follows
-  unnumbered : (f : W → List ℕ → ℕ) (v : ViewerValue W) (s : SurfaceValue W) → f v.surface.widths ≡ f s.widths → v.last ≡ 0 → Follows f v s
-  unnumbered f v s one none = record {
-    one_measure = one;
-    leads = record { not_ahead = omega (arith, none); leads = λ some le. absurd (some none) };
-    full = λ full. record { not_ahead = omega (arith, none); leads = λ some le. absurd (some none) };
-  }
 
 pub returns-in_err-copied-clause-follows : goal.returns-in_err-copied-clause-follows
 returns-in_err-copied-clause-follows g c =

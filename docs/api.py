@@ -143,7 +143,8 @@ def read_use(use, module, hidden):
         if hidden:
             module.hidden.add(name)
         else:
-            module.uses[name.rsplit("::", 1)[-1]] = f"{base}::{name}".split("::")
+            name, _, alias = name.partition(" as ")
+            module.uses[alias or name.rsplit("::", 1)[-1]] = f"{base}::{name}".split("::")
 
 
 def read_crate(name):
@@ -249,6 +250,9 @@ def page_of(name, at, shown, seen, out, counts):
             for method in methods:
                 counts[0] += 1
                 body += entry(method)
+    # What is passed on by another name has that name here.
+    for alias, path in module.uses.items():
+        body = [re.sub(rf"\b{path[-1]}\b", alias, line) for line in body]
     if body:
         source = module.file.relative_to(TOP)
         out += ["", f"## `{'::'.join(shown) or ROOT}`", "", f"`{source}`", ""] + body

@@ -1,5 +1,5 @@
 -- How items are decoded, from left to right, with the first fault that is met.
-use Rattle.std.specs.Prelude.{◌≡◌, ℕ, ℤ, pos, negsuc, ◌-◌, ◌*◌, ◌^◌, Bool, true, false, List, [], ◌∷◌, length, get_or, ◌<◌, take, drop, Result, Ok, Err, nat_lt, ◌==◌, if◌then◌else◌}
+use Rattle.std.specs.Prelude.{◌≡◌, ℕ, ℤ, pos, negsuc, ◌-◌, ◌*◌, ◌^◌, Bool, true, false, List, [], ◌∷◌, length, get_or, ◌<◌, take, drop, Option, Some, None, IfSome, Result, Ok, Err, nat_lt, ◌==◌, if◌then◌else◌}
 use Rattle.core.specs.Str.{is_utf8}
 use Rattle.std.specs.Int.{Width, w16, w32, w64, byte_len, from_be_bytes}
 use Rattle.cbor.specs.declared.error.Fault.{Fault}
@@ -15,10 +15,19 @@ abbrev pub ◌>>=◌ : {A B : Type 0} → Result A Fault → (A → Result B Fau
 (Ok x) >>= f = f x
 (Err e) >>= f = Err e
 
+-- the fault that an error is, if memory was not refused
+abbrev pub fault_of : ReadError → Option Fault
+fault_of errors.Truncated = Some Truncated
+fault_of errors.Version = Some faults.Version
+fault_of errors.Type = Some faults.Type
+fault_of errors.Utf8 = Some Utf8
+fault_of errors.Range = Some Range
+fault_of errors.Region = Some faults.Region
+fault_of errors.Memory = None
+
 -- a call fails with the fault that decoding gives, unless memory was refused
 abbrev pub Fails : {Y : Type 0} → ReadError → Result Y Fault → Type 0
-Fails errors.Memory read = Unit {0}
-Fails (errors.Fault f) read = read ≡ Err f
+Fails error read = IfSome (fault_of error) (λ f. read ≡ Err f)
 
 -- a call returns what decoding gives, seen by view, or fails so
 abbrev pub Gives : {X Y : Type 0} → (X → Y) → Result X ReadError → Result Y Fault → Type 0

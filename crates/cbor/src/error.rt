@@ -1,13 +1,25 @@
 //! Why bytes were not decoded.
 ghost use Rattle.std.specs.Prelude.{◌≡◌};
+ghost use Rattle.cbor.specs.Decoding.{fault_of};
 ghost use Rattle.cbor.specs.declared.error.ReadError.TheVariants.{Memory};
 
 use std::alloc::{AllocError, AllocFailed};
 use thiserror::Error;
 
-/// What is wrong with the bytes: the first fault from left to right.
-#[derive(Clone, Copy, Debug, PartialEq, Eq, Error)]
+/// What is wrong with the bytes: the first fault from left to right. Each is an error of its name.
+#[derive(Clone, Copy, Debug, PartialEq, Eq)]
 pub enum Fault {
+    Truncated,
+    Version,
+    Type,
+    Utf8,
+    Range,
+    Region,
+}
+
+/// Why nothing was decoded: the fault of the bytes, or want of memory.
+#[derive(Clone, Copy, Debug, PartialEq, Eq, Error)]
+pub enum ReadError {
     /// The bytes end within a value. More bytes may complete it.
     #[error("the bytes end within a value")]
     Truncated,
@@ -27,15 +39,26 @@ pub enum Fault {
     /// A scroll's region goes past the last row. It is for formats that have scrolls.
     #[error("a scroll's region goes past the last row")]
     Region,
-}
-
-/// Why nothing was decoded: memory was refused, or the bytes have a fault.
-#[derive(Clone, Copy, Debug, PartialEq, Eq, Error)]
-pub enum ReadError {
+    /// Memory was refused. The bytes may have no fault.
     #[error("out of memory")]
     Memory,
-    #[error("{0}")]
-    Fault(Fault),
+}
+
+impl ReadError {
+    /// What is wrong with the bytes, or none where memory was refused.
+    pub fn fault(self) -> Option<Fault>
+        ensures { result ≡ fault_of self }
+    {
+        match self {
+            ReadError::Truncated => Some(Fault::Truncated),
+            ReadError::Version => Some(Fault::Version),
+            ReadError::Type => Some(Fault::Type),
+            ReadError::Utf8 => Some(Fault::Utf8),
+            ReadError::Range => Some(Fault::Range),
+            ReadError::Region => Some(Fault::Region),
+            ReadError::Memory => None,
+        }
+    }
 }
 
 impl From<AllocError> for ReadError {

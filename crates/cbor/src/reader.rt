@@ -1,6 +1,6 @@
 //! Items decoded from the front of bytes.
-ghost use Rattle.std.specs.Prelude.{◌≡◌, ◌++◌, ◌<◌, ◌^◌, ℕ, ℤ, Bool, List, Ok, pos, negsuc, IfOk};
-ghost use Rattle.std.specs.Prelude.{OnErr};
+ghost use Rattle.std.specs.Prelude.{◌≡◌, ◌++◌, ◌<◌, ◌≤◌, ◌^◌, ℕ, ℤ, Bool, List, Ok, pos, negsuc};
+ghost use Rattle.std.specs.Prelude.{IfOk, OnErr};
 ghost use Rattle.std.specs.Int.{w16, w32, w64};
 ghost use Rattle.cbor.specs.Encoding.{IsSigned, IsText, array, boolean, null, signed, text};
 ghost use Rattle.cbor.specs.Encoding.{unsigned};
@@ -11,7 +11,7 @@ ghost use Rattle.cbor.specs.Decoding.{boolean_at, byte_at, first_at, head_at, ki
 ghost use Rattle.cbor.specs.Decoding.{limited_at, null_at, ok, short_at, signed_at, text_at};
 ghost use Rattle.cbor.specs.Decoding.{unsigned_at, utf8_at, wide_at};
 
-use crate::error::{Fault, ReadError};
+use crate::error::ReadError;
 use crate::kind::Kind;
 
 /// Decodes items from the front of bytes. What a call decodes is taken from the front, and an error
@@ -44,7 +44,7 @@ impl<'a> Reader<'a> {
         ensures { Gives (λ x. x) result (first_at self.now.bytes.now) }
     {
         match self.bytes {
-            [] => Err(ReadError::Fault(Fault::Truncated)),
+            [] => Err(ReadError::Truncated),
             [byte, ..] => Ok(*byte),
         }
     }
@@ -54,7 +54,7 @@ impl<'a> Reader<'a> {
         ensures { Gives (λ x. (x, self.new.bytes.now)) result (byte_at self.old.bytes.now) }
     {
         match self.bytes {
-            [] => Err(ReadError::Fault(Fault::Truncated)),
+            [] => Err(ReadError::Truncated),
             [byte, rest @ ..] => {
                 self.bytes = rest;
                 Ok(*byte)
@@ -68,7 +68,7 @@ impl<'a> Reader<'a> {
     {
         let byte = self.byte()?;
         if byte < 24 {
-            return Err(ReadError::Fault(Fault::Range));
+            return Err(ReadError::Range);
         }
         Ok(byte as usize)
     }
@@ -78,12 +78,12 @@ impl<'a> Reader<'a> {
             (wide_at w16 256 self.old.bytes.now) }
     {
         if self.bytes.len() < 2 {
-            return Err(ReadError::Fault(Fault::Truncated));
+            return Err(ReadError::Truncated);
         }
         let (front, rest) = self.bytes.split_at(2);
         let number = u16::from_be_bytes([front[0], front[1]]);
         if number < 256 {
-            return Err(ReadError::Fault(Fault::Range));
+            return Err(ReadError::Range);
         }
         self.bytes = rest;
         Ok(number as usize)
@@ -94,12 +94,12 @@ impl<'a> Reader<'a> {
             (wide_at w32 65536 self.old.bytes.now) }
     {
         if self.bytes.len() < 4 {
-            return Err(ReadError::Fault(Fault::Truncated));
+            return Err(ReadError::Truncated);
         }
         let (front, rest) = self.bytes.split_at(4);
         let number = u32::from_be_bytes([front[0], front[1], front[2], front[3]]);
         if number < 65536 {
-            return Err(ReadError::Fault(Fault::Range));
+            return Err(ReadError::Range);
         }
         self.bytes = rest;
         Ok(number as usize)
@@ -110,21 +110,37 @@ impl<'a> Reader<'a> {
             (wide_at w64 4294967296 self.old.bytes.now) }
     {
         if self.bytes.len() < 8 {
-            return Err(ReadError::Fault(Fault::Truncated));
+            return Err(ReadError::Truncated);
         }
         let (front, rest) = self.bytes.split_at(8);
         let number = u64::from_be_bytes([
             front[0], front[1], front[2], front[3], front[4], front[5], front[6], front[7],
         ]);
         if number < 4294967296 {
-            return Err(ReadError::Fault(Fault::Range));
+            return Err(ReadError::Range);
         }
         self.bytes = rest;
         Ok(number as usize)
     }
 
+    #[inline(always)]
     #[tactic(auto, unfolding(crate::specs::Decoding::argument_at))]
     fn argument(&mut self, info: u8) -> Result<usize, ReadError>
+        ensures { Gives (λ x. (x, self.new.bytes.now)) result
+            (argument_at info self.old.bytes.now) }
+    {
+        if info < 24 {
+            Ok(info as usize)
+        } else {
+            self.long_argument(info)
+        }
+    }
+
+    // An argument that follows the first byte.
+    #[inline(never)]
+    #[tactic(auto, unfolding(crate::specs::Decoding::argument_at))]
+    fn long_argument(&mut self, info: u8) -> Result<usize, ReadError>
+        requires { 24 ≤ info }
         ensures { Gives (λ x. (x, self.new.bytes.now)) result
             (argument_at info self.old.bytes.now) }
     {
@@ -133,17 +149,12 @@ impl<'a> Reader<'a> {
             25 => self.two_bytes(),
             26 => self.four_bytes(),
             27 => self.eight_bytes(),
-            _ => {
-                if info < 24 {
-                    Ok(info as usize)
-                } else {
-                    Err(ReadError::Fault(Fault::Type))
-                }
-            }
+            _ => Err(ReadError::Type),
         }
     }
 
     // The argument of a head of this major type.
+    #[inline(always)]
     #[tactic(auto, unfolding(crate::specs::Decoding::head_at))]
     fn head(&mut self, major: u8) -> Result<usize, ReadError>
         requires { major < 8 }
@@ -152,12 +163,13 @@ impl<'a> Reader<'a> {
         let byte = self.byte()?;
         let first = 32 * major;
         if byte < first {
-            return Err(ReadError::Fault(Fault::Type));
+            return Err(ReadError::Type);
         }
         self.argument(byte - first)
     }
 
     // The argument of such a head, which stays where it has a fault.
+    #[inline(always)]
     fn any_head(&mut self, major: u8) -> Result<usize, ReadError>
         requires { major < 8 }
         ensures value { Gives (λ x. (x, self.new.bytes.now)) result
@@ -171,6 +183,7 @@ impl<'a> Reader<'a> {
     }
 
     // An argument below the limit.
+    #[inline(always)]
     #[tactic(auto, unfolding(crate::specs::Decoding::limited_at))]
     fn limited(&mut self, major: u8, limit: usize) -> Result<usize, ReadError>
         requires { major < 8 }
@@ -185,7 +198,7 @@ impl<'a> Reader<'a> {
             self.bytes = ahead.bytes;
             Ok(number)
         } else {
-            Err(ReadError::Fault(Fault::Range))
+            Err(ReadError::Range)
         }
     }
 
@@ -215,7 +228,7 @@ impl<'a> Reader<'a> {
         let on = match ahead.byte()? {
             244 => false,
             245 => true,
-            _ => return Err(ReadError::Fault(Fault::Type)),
+            _ => return Err(ReadError::Type),
         };
         self.bytes = ahead.bytes;
         Ok(on)
@@ -232,7 +245,7 @@ impl<'a> Reader<'a> {
                 self.bytes = ahead.bytes;
                 Ok(())
             }
-            _ => Err(ReadError::Fault(Fault::Type)),
+            _ => Err(ReadError::Type),
         }
     }
 
@@ -245,7 +258,7 @@ impl<'a> Reader<'a> {
         let mut ahead = *self;
         let len = ahead.head(3)?;
         if ahead.bytes.len() < len {
-            return Err(ReadError::Fault(Fault::Truncated));
+            return Err(ReadError::Truncated);
         }
         let (front, rest) = ahead.bytes.split_at(len);
         let text = text_in(front)?;
@@ -265,11 +278,12 @@ impl<'a> Reader<'a> {
             self.bytes = ahead.bytes;
             Ok(())
         } else {
-            Err(ReadError::Fault(Fault::Type))
+            Err(ReadError::Type)
         }
     }
 
     /// Decodes an integer that is not below 0.
+    #[inline]
     pub fn unsigned(&mut self) -> Result<usize, ReadError>
         // What is encoded so is decoded.
         ensures again { (n : ℕ) (rest : List ℕ) → n < 2 ^ 64 →
@@ -287,6 +301,7 @@ impl<'a> Reader<'a> {
     }
 
     /// Decodes an integer from 0 up to the limit, which is out of range.
+    #[inline]
     pub fn below(&mut self, limit: usize) -> Result<usize, ReadError>
         ensures below { IfOk result (λ x. x < limit) }
         // What is encoded so is decoded.
@@ -337,6 +352,7 @@ impl<'a> Reader<'a> {
     }
 
     /// Decodes null.
+    #[inline]
     pub fn null(&mut self) -> Result<(), ReadError>
         // What is encoded so is decoded.
         ensures again { (rest : List ℕ) → self.old.bytes.now ≡ null ++ rest →
@@ -369,6 +385,7 @@ impl<'a> Reader<'a> {
     }
 
     /// Decodes the head of an array: the number of items that follow.
+    #[inline]
     pub fn array(&mut self) -> Result<usize, ReadError>
         // What is encoded so is decoded.
         ensures again { (n : ℕ) (rest : List ℕ) → n < 2 ^ 64 →
@@ -385,6 +402,7 @@ impl<'a> Reader<'a> {
     }
 
     /// Decodes the head of an array of so many items.
+    #[inline]
     pub fn array_of(&mut self, count: usize) -> Result<(), ReadError>
         // What is encoded so is decoded.
         ensures again { (rest : List ℕ) → self.old.bytes.now ≡ array count ++ rest →
@@ -401,6 +419,7 @@ impl<'a> Reader<'a> {
     }
 
     /// The kind of the item that comes next, which stays.
+    #[inline]
     pub fn kind(&self) -> Result<Kind, ReadError>
         ensures { Gives (λ x. x) result (kind_at self.now.bytes.now) }
     {
@@ -446,31 +465,34 @@ fn text_in(bytes: &[u8]) -> Result<&str, ReadError>
 {
     match str::from_utf8(bytes) {
         Ok(text) => Ok(text),
-        Err(_) => Err(ReadError::Fault(Fault::Utf8)),
+        Err(_) => Err(ReadError::Utf8),
     }
 }
 
+// The kind by the major type, which the highest three bits are.
 #[tactic(auto, unfolding(crate::specs::Decoding::kind_of))]
 fn kind_from(byte: u8) -> Kind
     ensures { result ≡ kind_of byte }
 {
-    if byte < 32 {
-        Kind::Unsigned
-    } else if byte < 64 {
-        Kind::Negative
-    } else if byte < 96 {
-        Kind::Other
-    } else if byte < 128 {
-        Kind::Text
-    } else if byte < 160 {
-        Kind::Array
-    } else if byte == 244 {
-        Kind::Boolean
-    } else if byte == 245 {
-        Kind::Boolean
-    } else if byte == 246 {
-        Kind::Null
-    } else {
-        Kind::Other
+    match byte / 32 {
+        0 => Kind::Unsigned,
+        1 => Kind::Negative,
+        3 => Kind::Text,
+        4 => Kind::Array,
+        7 => simple_kind(byte),
+        _ => Kind::Other,
+    }
+}
+
+#[tactic(auto, unfolding(crate::specs::Decoding::kind_of))]
+fn simple_kind(byte: u8) -> Kind
+    requires { 224 ≤ byte }
+    ensures { result ≡ kind_of byte }
+{
+    match byte {
+        244 => Kind::Boolean,
+        245 => Kind::Boolean,
+        246 => Kind::Null,
+        _ => Kind::Other,
     }
 }

@@ -1,12 +1,11 @@
 use super::*;
-use std::alloc::Global;
 use std::process::Abort;
 use std::test::*;
 
 // The vectors are from RFC 8949, appendix A, and from another encoder (cbor2, canonical).
 
-fn unsigned(rt: &impl Abort, alloc: Global, n: usize, bytes: &[u8]) -> Result<(), Fail> {
-    let mut out = Vec::new(alloc);
+fn unsigned(rt: &HostRuntime, n: usize, bytes: &[u8]) -> Result<(), Fail> {
+    let mut out = Vec::new(rt.alloc());
     put_unsigned(&mut out, n)?;
     assert_eq!(rt; out.as_slice(), bytes);
     let mut reader = Reader::new(bytes);
@@ -16,8 +15,8 @@ fn unsigned(rt: &impl Abort, alloc: Global, n: usize, bytes: &[u8]) -> Result<()
     Ok(())
 }
 
-fn signed(rt: &impl Abort, alloc: Global, n: isize, bytes: &[u8]) -> Result<(), Fail> {
-    let mut out = Vec::new(alloc);
+fn signed(rt: &HostRuntime, n: isize, bytes: &[u8]) -> Result<(), Fail> {
+    let mut out = Vec::new(rt.alloc());
     put_signed(&mut out, n)?;
     assert_eq!(rt; out.as_slice(), bytes);
     let mut reader = Reader::new(bytes);
@@ -26,8 +25,8 @@ fn signed(rt: &impl Abort, alloc: Global, n: isize, bytes: &[u8]) -> Result<(), 
     Ok(())
 }
 
-fn text(rt: &impl Abort, alloc: Global, t: &str, bytes: &[u8]) -> Result<(), Fail> {
-    let mut out = Vec::new(alloc);
+fn text(rt: &HostRuntime, t: &str, bytes: &[u8]) -> Result<(), Fail> {
+    let mut out = Vec::new(rt.alloc());
     put_text(&mut out, t)?;
     assert_eq!(rt; out.as_slice(), bytes);
     let mut reader = Reader::new(bytes);
@@ -39,42 +38,30 @@ fn text(rt: &impl Abort, alloc: Global, t: &str, bytes: &[u8]) -> Result<(), Fai
 
 #[test]
 fn numbers(rt: HostRuntime) -> Result<(), Fail> {
-    unsigned(&rt, rt.alloc(), 0, b"\x00")?;
-    unsigned(&rt, rt.alloc(), 1, b"\x01")?;
-    unsigned(&rt, rt.alloc(), 10, b"\x0a")?;
-    unsigned(&rt, rt.alloc(), 23, b"\x17")?;
-    unsigned(&rt, rt.alloc(), 24, b"\x18\x18")?;
-    unsigned(&rt, rt.alloc(), 25, b"\x18\x19")?;
-    unsigned(&rt, rt.alloc(), 79, b"\x18\x4f")?;
-    unsigned(&rt, rt.alloc(), 100, b"\x18\x64")?;
-    unsigned(&rt, rt.alloc(), 255, b"\x18\xff")?;
-    unsigned(&rt, rt.alloc(), 256, b"\x19\x01\x00")?;
-    unsigned(&rt, rt.alloc(), 1000, b"\x19\x03\xe8")?;
-    unsigned(&rt, rt.alloc(), 65535, b"\x19\xff\xff")?;
-    unsigned(&rt, rt.alloc(), 65536, b"\x1a\x00\x01\x00\x00")?;
-    unsigned(&rt, rt.alloc(), 1000000, b"\x1a\x00\x0f\x42\x40")?;
-    unsigned(&rt, rt.alloc(), 4294967295, b"\x1a\xff\xff\xff\xff")?;
+    unsigned(&rt, 0, b"\x00")?;
+    unsigned(&rt, 1, b"\x01")?;
+    unsigned(&rt, 10, b"\x0a")?;
+    unsigned(&rt, 23, b"\x17")?;
+    unsigned(&rt, 24, b"\x18\x18")?;
+    unsigned(&rt, 25, b"\x18\x19")?;
+    unsigned(&rt, 79, b"\x18\x4f")?;
+    unsigned(&rt, 100, b"\x18\x64")?;
+    unsigned(&rt, 255, b"\x18\xff")?;
+    unsigned(&rt, 256, b"\x19\x01\x00")?;
+    unsigned(&rt, 1000, b"\x19\x03\xe8")?;
+    unsigned(&rt, 65535, b"\x19\xff\xff")?;
+    unsigned(&rt, 65536, b"\x1a\x00\x01\x00\x00")?;
+    unsigned(&rt, 1000000, b"\x1a\x00\x0f\x42\x40")?;
+    unsigned(&rt, 4294967295, b"\x1a\xff\xff\xff\xff")?;
+    unsigned(&rt, 4294967296, b"\x1b\x00\x00\x00\x01\x00\x00\x00\x00")?;
+    unsigned(&rt, 1000000000000, b"\x1b\x00\x00\x00\xe8\xd4\xa5\x10\x00")?;
     unsigned(
         &rt,
-        rt.alloc(),
-        4294967296,
-        b"\x1b\x00\x00\x00\x01\x00\x00\x00\x00",
-    )?;
-    unsigned(
-        &rt,
-        rt.alloc(),
-        1000000000000,
-        b"\x1b\x00\x00\x00\xe8\xd4\xa5\x10\x00",
-    )?;
-    unsigned(
-        &rt,
-        rt.alloc(),
         9223372036854775807,
         b"\x1b\x7f\xff\xff\xff\xff\xff\xff\xff",
     )?;
     unsigned(
         &rt,
-        rt.alloc(),
         18446744073709551615,
         b"\x1b\xff\xff\xff\xff\xff\xff\xff\xff",
     )?;
@@ -85,24 +72,22 @@ fn numbers(rt: HostRuntime) -> Result<(), Fail> {
 fn signed_numbers(rt: HostRuntime) -> Result<(), Fail> {
     signed(
         &rt,
-        rt.alloc(),
         -9223372036854775808,
         b"\x3b\x7f\xff\xff\xff\xff\xff\xff\xff",
     )?;
-    signed(&rt, rt.alloc(), -1000, b"\x39\x03\xe7")?;
-    signed(&rt, rt.alloc(), -100, b"\x38\x63")?;
-    signed(&rt, rt.alloc(), -25, b"\x38\x18")?;
-    signed(&rt, rt.alloc(), -24, b"\x37")?;
-    signed(&rt, rt.alloc(), -10, b"\x29")?;
-    signed(&rt, rt.alloc(), -3, b"\x22")?;
-    signed(&rt, rt.alloc(), -1, b"\x20")?;
-    signed(&rt, rt.alloc(), 0, b"\x00")?;
-    signed(&rt, rt.alloc(), 1, b"\x01")?;
-    signed(&rt, rt.alloc(), 23, b"\x17")?;
-    signed(&rt, rt.alloc(), 24, b"\x18\x18")?;
+    signed(&rt, -1000, b"\x39\x03\xe7")?;
+    signed(&rt, -100, b"\x38\x63")?;
+    signed(&rt, -25, b"\x38\x18")?;
+    signed(&rt, -24, b"\x37")?;
+    signed(&rt, -10, b"\x29")?;
+    signed(&rt, -3, b"\x22")?;
+    signed(&rt, -1, b"\x20")?;
+    signed(&rt, 0, b"\x00")?;
+    signed(&rt, 1, b"\x01")?;
+    signed(&rt, 23, b"\x17")?;
+    signed(&rt, 24, b"\x18\x18")?;
     signed(
         &rt,
-        rt.alloc(),
         9223372036854775807,
         b"\x1b\x7f\xff\xff\xff\xff\xff\xff\xff",
     )?;
@@ -111,24 +96,18 @@ fn signed_numbers(rt: HostRuntime) -> Result<(), Fail> {
 
 #[test]
 fn texts(rt: HostRuntime) -> Result<(), Fail> {
-    text(&rt, rt.alloc(), "", b"`")?;
-    text(&rt, rt.alloc(), "a", b"aa")?;
-    text(&rt, rt.alloc(), "IETF", b"dIETF")?;
-    text(&rt, rt.alloc(), "\"\\", b"b\x22\x5c")?;
-    text(&rt, rt.alloc(), "ü", b"b\xc3\xbc")?;
-    text(&rt, rt.alloc(), "水", b"c\xe6\xb0\xb4")?;
-    text(&rt, rt.alloc(), "𐅑", b"d\xf0\x90\x85\x91")?;
-    text(&rt, rt.alloc(), "hello か", b"ihello\x20\xe3\x81\x8b")?;
-    text(&rt, rt.alloc(), "title", b"etitle")?;
+    text(&rt, "", b"`")?;
+    text(&rt, "a", b"aa")?;
+    text(&rt, "IETF", b"dIETF")?;
+    text(&rt, "\"\\", b"b\x22\x5c")?;
+    text(&rt, "ü", b"b\xc3\xbc")?;
+    text(&rt, "水", b"c\xe6\xb0\xb4")?;
+    text(&rt, "𐅑", b"d\xf0\x90\x85\x91")?;
+    text(&rt, "hello か", b"ihello\x20\xe3\x81\x8b")?;
+    text(&rt, "title", b"etitle")?;
+    text(&rt, "xxxxxxxxxxxxxxxxxxxxxxx", b"wxxxxxxxxxxxxxxxxxxxxxxx")?;
     text(
         &rt,
-        rt.alloc(),
-        "xxxxxxxxxxxxxxxxxxxxxxx",
-        b"wxxxxxxxxxxxxxxxxxxxxxxx",
-    )?;
-    text(
-        &rt,
-        rt.alloc(),
         "xxxxxxxxxxxxxxxxxxxxxxxx",
         b"x\x18xxxxxxxxxxxxxxxxxxxxxxxx",
     )?;
@@ -157,38 +136,32 @@ fn booleans_null_and_arrays(rt: HostRuntime) -> Result<(), Fail> {
     Ok(())
 }
 
-fn fault<T: Drop>(read: Result<T, ReadError>) -> Option<Fault> {
-    match read {
-        Err(ReadError::Fault(fault)) => Some(fault),
-        _ => None,
+fn unsigned_error(rt: &impl Abort, inputs: &[&[u8]], wanted: ReadError) {
+    for bytes in inputs {
+        assert_eq!(rt; Reader::new(bytes).unsigned(), Err(wanted));
     }
 }
 
 #[test]
-fn faults(rt: HostRuntime) {
-    for bytes in [
+fn heads_with_a_fault(rt: HostRuntime) {
+    let cut = [
         b"".as_slice(),
         b"\x18",
         b"\x19\x01",
         b"\x1a\x00\x01\x00",
         b"\x1b\x00\x00\x00\x01\x00\x00\x00",
-    ] {
-        assert_eq!(rt;
-            fault(Reader::new(bytes).unsigned()),
-            Some(Fault::Truncated)
-        );
-    }
-    for bytes in [
+    ];
+    unsigned_error(&rt, cut.as_slice(), ReadError::Truncated);
+    let too_long = [
         b"\x18\x02".as_slice(),
         b"\x18\x17",
         b"\x19\x00\x09",
         b"\x19\x00\xff",
         b"\x1a\x00\x00\xff\xff",
         b"\x1b\x00\x00\x00\x00\xff\xff\xff\xff",
-    ] {
-        assert_eq!(rt; fault(Reader::new(bytes).unsigned()), Some(Fault::Range));
-    }
-    for bytes in [
+    ];
+    unsigned_error(&rt, too_long.as_slice(), ReadError::Range);
+    let others = [
         b"\x1c".as_slice(),
         b"\x1f",
         b"\x20",
@@ -197,41 +170,32 @@ fn faults(rt: HostRuntime) {
         b"\xf6",
         b"\xf7",
         b"\xf9\x3c\x00",
-    ] {
-        assert_eq!(rt; fault(Reader::new(bytes).unsigned()), Some(Fault::Type));
-    }
+    ];
+    unsigned_error(&rt, others.as_slice(), ReadError::Type);
+}
+
+#[test]
+fn items_with_a_fault(rt: HostRuntime) {
+    let above = b"\x1b\x80\x00\x00\x00\x00\x00\x00\x00";
+    let below = b"\x3b\x80\x00\x00\x00\x00\x00\x00\x00";
+    let long_text = b"\x7b\xff\xff\xff\xff\xff\xff\xff\xffa";
     assert_eq!(rt;
-        fault(Reader::new(b"\x19\x01\x00").below(256)),
-        Some(Fault::Range)
+        Reader::new(b"\x19\x01\x00").below(256),
+        Err(ReadError::Range)
     );
+    assert_eq!(rt; Reader::new(above).signed(), Err(ReadError::Range));
+    assert_eq!(rt; Reader::new(below).signed(), Err(ReadError::Range));
+    assert_eq!(rt; Reader::new(b"\x60").signed(), Err(ReadError::Type));
+    assert_eq!(rt; Reader::new(b"\x42\x61\x61").text(), Err(ReadError::Type));
+    assert_eq!(rt; Reader::new(b"\x78\x01a").text(), Err(ReadError::Range));
+    assert_eq!(rt; Reader::new(b"\x61\xff").text(), Err(ReadError::Utf8));
     assert_eq!(rt;
-        fault(Reader::new(b"\x1b\x80\x00\x00\x00\x00\x00\x00\x00").signed()),
-        Some(Fault::Range)
+        Reader::new(b"\x63\xed\xa0\x80").text(),
+        Err(ReadError::Utf8)
     );
-    assert_eq!(rt;
-        fault(Reader::new(b"\x3b\x80\x00\x00\x00\x00\x00\x00\x00").signed()),
-        Some(Fault::Range)
-    );
-    assert_eq!(rt; fault(Reader::new(b"\x60").signed()), Some(Fault::Type));
-    assert_eq!(rt;
-        fault(Reader::new(b"\x42\x61\x61").text()),
-        Some(Fault::Type)
-    );
-    assert_eq!(rt; fault(Reader::new(b"\x78\x01a").text()), Some(Fault::Range));
-    assert_eq!(rt; fault(Reader::new(b"\x61\xff").text()), Some(Fault::Utf8));
-    assert_eq!(rt;
-        fault(Reader::new(b"\x63\xed\xa0\x80").text()),
-        Some(Fault::Utf8)
-    );
-    assert_eq!(rt;
-        fault(Reader::new(b"\x7b\xff\xff\xff\xff\xff\xff\xff\xffa").text()),
-        Some(Fault::Truncated)
-    );
-    assert_eq!(rt; fault(Reader::new(b"\x9f").array()), Some(Fault::Type));
-    assert_eq!(rt; fault(Reader::new(b"\x83").array_of(2)), Some(Fault::Type));
-    assert_eq!(rt;
-        fault(Reader::new(b"\xf8\x14").boolean()),
-        Some(Fault::Type)
-    );
-    assert_eq!(rt; fault(Reader::new(b"\xf7").null()), Some(Fault::Type));
+    assert_eq!(rt; Reader::new(long_text).text(), Err(ReadError::Truncated));
+    assert_eq!(rt; Reader::new(b"\x9f").array(), Err(ReadError::Type));
+    assert_eq!(rt; Reader::new(b"\x83").array_of(2), Err(ReadError::Type));
+    assert_eq!(rt; Reader::new(b"\xf8\x14").boolean(), Err(ReadError::Type));
+    assert_eq!(rt; Reader::new(b"\xf7").null(), Err(ReadError::Type));
 }

@@ -1,9 +1,9 @@
 -- A loop that decodes so many values, one behind the other.
-use Rattle.std.proofs.Common.{◌≡◌, ℕ, zero, suc, ◌-◌, ◌+◌, ◌≤◌, ◌<◌, List, [], ◌∷◌, ◌++◌, Result, Ok, Err, refl, sym, ap, ◌∙◌, arith}
+use Rattle.std.proofs.Common.{◌≡◌, ℕ, zero, suc, ◌-◌, ◌+◌, ◌≤◌, ◌<◌, List, [], ◌∷◌, ◌++◌, Option, Some, None, Result, Ok, Err, refl, sym, ap, ◌∙◌, arith}
+use Rattle.std.specs.Prelude.{IfSome}
 use Rattle.cbor.specs.declared.error.Fault.{Fault}
 use Rattle.cbor.specs.declared.error.ReadError.{ReadError}
-use Rattle.cbor.specs.declared.error.ReadError.TheVariants as errors
-use Rattle.cbor.specs.Decoding.{◌>>=◌, Fails}
+use Rattle.cbor.specs.Decoding.{◌>>=◌, Fails, fault_of}
 use Rattle.termwiz_cell.specs.ChangeValue.{ChangeValue}
 use Rattle.termwiz_wire.specs.Decoding.{param_at, params_at, change_at, each_at}
 
@@ -15,12 +15,15 @@ module _ {S X : Type 0} (read : S → List ℕ → Result (X × List ℕ) Fault)
       let one : many s (count - i) bytes ≡ many (add s x) (count - (i + 1)) after = ap (λ (n : ℕ). many s n bytes) k ∙ some s (count - (i + 1)) bytes ∙ ap (λ (r : Result (X × List ℕ) Fault). r >>= λ x. many (add s x.0) (count - (i + 1)) x.1) h in
       sym one ∙ so_far
 
-  pub ends : (e : ReadError) (s : S) (count i : ℕ) (bytes : List ℕ) (total : Result (S × List ℕ) Fault) → i < count → Fails e (read s bytes) → many s (count - i) bytes ≡ total → Fails e total
-  ends errors.Memory s count i bytes total lt h so_far = tt
-  ends (errors.Fault f) s count i bytes total lt h so_far =
+  ends_with : (f : Option Fault) (s : S) (count i : ℕ) (bytes : List ℕ) (total : Result (S × List ℕ) Fault) → i < count → IfSome f (λ f. read s bytes ≡ Err f) → many s (count - i) bytes ≡ total → IfSome f (λ f. total ≡ Err f)
+  ends_with None s count i bytes total lt h so_far = tt
+  ends_with (Some f) s count i bytes total lt h so_far =
       let k : count - i ≡ suc (count - (i + 1)) = omega arith in
       let one : many s (count - i) bytes ≡ Err f = ap (λ (n : ℕ). many s n bytes) k ∙ some s (count - (i + 1)) bytes ∙ ap (λ (r : Result (X × List ℕ) Fault). r >>= λ x. many (add s x.0) (count - (i + 1)) x.1) h in
       sym so_far ∙ one
+
+  pub ends : (e : ReadError) (s : S) (count i : ℕ) (bytes : List ℕ) (total : Result (S × List ℕ) Fault) → i < count → Fails e (read s bytes) → many s (count - i) bytes ≡ total → Fails e total
+  ends e = ends_with (fault_of e)
 
   pub is_done : (s : S) (count i : ℕ) (bytes : List ℕ) (total : Result (S × List ℕ) Fault) → count ≤ i → many s (count - i) bytes ≡ total → total ≡ Ok (s, bytes)
   is_done s count i bytes total le so_far =

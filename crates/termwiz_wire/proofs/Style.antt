@@ -4,7 +4,7 @@ use Rattle.std.proofs.lemmas.Bool.{lt-ltb}
 use Rattle.cbor.proofs.Heads.{limited_again}
 use Rattle.cbor.specs.Encoding.{unsigned}
 use Rattle.std.proofs.Math.Nat.{add-mul-mod_self_left, mod-eq_of_lt, add-mul-div_left, div-eq_of_lt, mul-le-mul_left}
-use Rattle.termwiz_cell.specs.Attributes.{Attributes, bits_of, without_colors}
+use Rattle.termwiz_cell.specs.Attributes.{Attributes, bits_of, default_attributes, without_colors}
 use Rattle.termwiz_cell.specs.Style.{intensity_number, underline_number, blink_number, semantic_number, vertical_number, flag_number, intensity-back, underline-back, blink-back, semantic-back, vertical-back, flag-back}
 use Rattle.termwiz_cell.specs.declared.cell.style.Intensity.{Intensity}
 use Rattle.termwiz_cell.specs.declared.cell.style.Intensity.TheVariants.{Normal, Bold, Half}
@@ -119,3 +119,6 @@ unfolding style_at
 style_again a rest =
     let small : are_small (split fields (style_number a)) ≡ true = ap are_small (split-joined fields (bits_of a) (bits-fit a)) ∙ small-fields a in
     rw (limited_again 0 style_limit (style_number a) rest (omega (arith, style-below a)) (style-below a), small) refl
+
+pub plain_style : (a : Attributes) → without_colors a ≡ without_colors default_attributes → style_number a ≡ 0
+plain_style a e = ap style_number e

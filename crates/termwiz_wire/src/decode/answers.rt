@@ -7,7 +7,7 @@ ghost use Rattle.termwiz_wire.specs.Answers.{IsAnswer, answer, answer_at, size_a
 
 use super::changes::changes_of;
 use crate::WireError;
-use cbor::{Fault, Reader};
+use cbor::Reader;
 use std::alloc::Global;
 use termwiz_surface_core::surface::Answer;
 
@@ -59,7 +59,7 @@ fn answer_of(alloc: Global, reader: &mut Reader<'_>) -> Result<Answer, WireError
     let changes = changes_of(alloc, reader)?;
     match Answer::from_parts((width, height), base, number, is_repaint, changes) {
         Some(answer) => Ok(answer),
-        None => Err(WireError::Fault(Fault::Region)),
+        None => Err(WireError::Region),
     }
 }
 
@@ -69,7 +69,7 @@ fn version_of(reader: &mut Reader<'_>) -> Result<(), WireError>
 {
     match reader.unsigned()? {
         1 => Ok(()),
-        _ => Err(WireError::Fault(Fault::Version)),
+        _ => Err(WireError::Version),
     }
 }
 
@@ -82,7 +82,7 @@ fn size_of(reader: &mut Reader<'_>) -> Result<usize, WireError>
 {
     let size = reader.below(4294967296)?;
     if size == 0 {
-        return Err(WireError::Fault(Fault::Range));
+        return Err(WireError::Range);
     }
     Ok(size)
 }

@@ -8,7 +8,7 @@ ghost use Rattle.termwiz_wire.specs.Decoding.{attribute_change_at, attributes_at
 use super::links::optional_link_of;
 use super::small::{blink_from, color_of, intensity_from, style_of, styled, underline_from};
 use crate::WireError;
-use cbor::{Fault, Reader};
+use cbor::Reader;
 use std::alloc::{AllocError, Global};
 use std::rc::Rc;
 use termwiz_cell::cell::{AttributeChange, CellAttributes};
@@ -83,7 +83,7 @@ pub(super) fn attribute_change_of(
         7 => AttributeChange::Foreground(color_of(reader)?),
         8 => AttributeChange::Background(color_of(reader)?),
         9 => AttributeChange::Hyperlink(optional_link_of(alloc, reader)?),
-        _ => return Err(WireError::Fault(Fault::Type)),
+        _ => return Err(WireError::Type),
     };
     Ok(change)
 }

@@ -14,7 +14,7 @@ use super::links::owned_of;
 use super::small::{color_of, line_from, position_of, shape_from, visibility_of};
 use crate::WireError;
 use crate::encode::change_count;
-use cbor::{Fault, Reader};
+use cbor::Reader;
 use std::alloc::Global;
 use termwiz_cell::change::Change;
 
@@ -112,7 +112,7 @@ fn change_of(alloc: Global, reader: &mut Reader<'_>) -> Result<Change, WireError
     if count == change_count(kind) {
         values_of(alloc, kind, reader)
     } else {
-        Err(WireError::Fault(Fault::Type))
+        Err(WireError::Type)
     }
 }
 
@@ -136,7 +136,7 @@ fn values_of(alloc: Global, kind: usize, reader: &mut Reader<'_>) -> Result<Chan
         11 => scroll_down_of(reader)?,
         12 => Change::Title(owned_of(alloc, reader)?),
         13 => Change::LineAttribute(line_from(reader.below(4)?)),
-        _ => return Err(WireError::Fault(Fault::Type)),
+        _ => return Err(WireError::Type),
     };
     Ok(change)
 }

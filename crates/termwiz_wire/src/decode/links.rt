@@ -8,7 +8,7 @@ ghost use Rattle.termwiz_wire.specs.Decoding.{ascends, link_at, optional_link_at
 ghost use Rattle.termwiz_wire.specs.Decoding.{params_at};
 
 use crate::WireError;
-use cbor::{Fault, Kind, Reader};
+use cbor::{Kind, Reader};
 use std::alloc::{AllocError, Global};
 use std::collections::BTreeMap;
 use std::rc::Rc;
@@ -33,7 +33,7 @@ pub(super) fn optional_link_of(
             let link = Rc::new(alloc, link)?;
             Ok(Some(link))
         }
-        _ => Err(WireError::Fault(Fault::Type)),
+        _ => Err(WireError::Type),
     }
 }
 
@@ -90,7 +90,7 @@ fn param_of(
     reader.array_of(2)?;
     let key = reader.text()?;
     if !ascends(before, key) {
-        return Err(WireError::Fault(Fault::Range));
+        return Err(WireError::Range);
     }
     let key = String::from_str(alloc, key)?;
     let value = owned_of(alloc, reader)?;

@@ -10,7 +10,7 @@ ghost use Rattle.termwiz_wire.specs.Decoding.{visibility_of};
 ghost use Rattle.termwiz_wire.specs.Encoding.{fields};
 
 use crate::WireError;
-use cbor::{Fault, Kind, Reader};
+use cbor::{Kind, Reader};
 use termwiz_cell::cell::{
     Blink, CellAttributes, Intensity, SemanticType, Underline, VerticalAlign,
 };
@@ -129,7 +129,7 @@ pub(super) fn style_of(reader: &mut Reader<'_>) -> Result<usize, WireError>
     if has_small_fields(number) {
         Ok(number)
     } else {
-        Err(WireError::Fault(Fault::Range))
+        Err(WireError::Range)
     }
 }
 
@@ -208,9 +208,9 @@ pub(super) fn color_of(reader: &mut Reader<'_>) -> Result<ColorAttribute, WireEr
         Kind::Array => match reader.array()? {
             3 => rgb_of(reader),
             4 => rgb_palette_of(reader),
-            _ => Err(WireError::Fault(Fault::Type)),
+            _ => Err(WireError::Type),
         },
-        _ => Err(WireError::Fault(Fault::Type)),
+        _ => Err(WireError::Type),
     }
 }
 
@@ -224,6 +224,6 @@ pub(super) fn position_of(reader: &mut Reader<'_>) -> Result<Position, WireError
         0 => Ok(Position::Relative(reader.signed()?)),
         1 => Ok(Position::Absolute(reader.unsigned()?)),
         2 => Ok(Position::EndRelative(reader.unsigned()?)),
-        _ => Err(WireError::Fault(Fault::Type)),
+        _ => Err(WireError::Type),
     }
 }

@@ -27,6 +27,7 @@ pub(super) fn put_attributes(out: &mut Vec<u8>, attrs: &CellAttributes) -> Resul
     put_own_link(out, attrs)
 }
 
+#[inline(always)]
 fn put_own_link(out: &mut Vec<u8>, attrs: &CellAttributes) -> Result<(), AllocError>
     ensures written { OnOk result
         (out.new.items ≡ out.old.items ++ optional_link attrs.now.hyperlink) }

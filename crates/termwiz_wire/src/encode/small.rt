@@ -5,7 +5,7 @@ ghost use Rattle.termwiz_cell.specs.Shapes.{line_number, shape_number};
 ghost use Rattle.termwiz_cell.specs.Style.{blink_number, flag_number, intensity_number};
 ghost use Rattle.termwiz_cell.specs.Style.{semantic_number, underline_number, vertical_number};
 ghost use Rattle.termwiz_wire.specs.Encoding.{color, is_visible, position, style_number};
-ghost use Rattle.termwiz_wire.specs.Forms.{IsColor, IsPosition};
+ghost use Rattle.termwiz_wire.specs.Forms.{IsColor, IsPosition, IsRgb};
 
 use cbor::{put_array, put_null, put_signed, put_unsigned};
 use std::alloc::AllocError;
@@ -13,7 +13,7 @@ use termwiz_cell::cell::{
     Blink, CellAttributes, Intensity, SemanticType, Underline, VerticalAlign,
 };
 use termwiz_cell::change::{CursorShape, CursorVisibility, LineAttribute, Position};
-use termwiz_cell::color::ColorAttribute;
+use termwiz_cell::color::{ColorAttribute, RgbColor};
 
 pub(crate) fn intensity_number(value: Intensity) -> usize
     ensures value { result ≡ intensity_number value }
@@ -114,8 +114,19 @@ fn flag_number(on: bool) -> usize
     if on { 1 } else { 0 }
 }
 
-/// The small attributes in their bit fields, the lowest first.
+/// The small attributes in their bit fields, the lowest first. Most cells have the default ones.
+#[tactic(auto, using(crate::proofs::Style::plain_style))]
 pub(crate) fn style_number(attrs: &CellAttributes) -> usize
+    ensures { result ≡ style_number attrs.now }
+{
+    if attrs.attribute_bits_equal(&CellAttributes::blank()) {
+        0
+    } else {
+        joined_fields(attrs)
+    }
+}
+
+fn joined_fields(attrs: &CellAttributes) -> usize
     ensures { result ≡ style_number attrs.now }
 {
     let vertical = vertical_number(attrs.vertical_align());
@@ -132,6 +143,7 @@ pub(crate) fn style_number(attrs: &CellAttributes) -> usize
 }
 
 /// Appends a kind and the head of the array that it shares with one value, which is to follow.
+#[inline]
 pub(super) fn put_kind(out: &mut Vec<u8>, kind: usize) -> Result<(), AllocError>
     ensures { OnOk result (out.new.items ≡ out.old.items ++ array 2 ++ unsigned kind) }
 {
@@ -140,6 +152,7 @@ pub(super) fn put_kind(out: &mut Vec<u8>, kind: usize) -> Result<(), AllocError>
 }
 
 /// Appends a colour.
+#[inline(always)]
 #[tactic(auto, unfolding(crate::specs::Encoding::color))]
 pub(super) fn put_color(out: &mut Vec<u8>, value: ColorAttribute) -> Result<(), AllocError>
     ensures written { OnOk result (out.new.items ≡ out.old.items ++ color value) }
@@ -149,21 +162,27 @@ pub(super) fn put_color(out: &mut Vec<u8>, value: ColorAttribute) -> Result<(), 
         ColorAttribute::Default => put_null(out),
         ColorAttribute::PaletteIndex(index) => put_unsigned(out, index as usize),
         ColorAttribute::TrueColorWithDefaultFallback(color) => {
-            let (red, green, blue) = color.to_tuple_rgb8();
             put_array(out, 3)?;
-            put_unsigned(out, red as usize)?;
-            put_unsigned(out, green as usize)?;
-            put_unsigned(out, blue as usize)
+            put_rgb(out, color)
         }
         ColorAttribute::TrueColorWithPaletteFallback(color, index) => {
-            let (red, green, blue) = color.to_tuple_rgb8();
             put_array(out, 4)?;
-            put_unsigned(out, red as usize)?;
-            put_unsigned(out, green as usize)?;
-            put_unsigned(out, blue as usize)?;
+            put_rgb(out, color)?;
             put_unsigned(out, index as usize)
         }
     }
+}
+
+#[inline(never)]
+fn put_rgb(out: &mut Vec<u8>, color: RgbColor) -> Result<(), AllocError>
+    ensures written { OnOk result (out.new.items
+        ≡ out.old.items ++ unsigned color.red ++ unsigned color.green ++ unsigned color.blue) }
+    ensures form { OnOk result (IsRgb color) }
+{
+    let (red, green, blue) = color.to_tuple_rgb8();
+    put_unsigned(out, red as usize)?;
+    put_unsigned(out, green as usize)?;
+    put_unsigned(out, blue as usize)
 }
 
 /// Appends a column or a row.

@@ -1,28 +1,33 @@
 //! Workloads that compare two 80x24 full of text.
-use crate::drawn::{EIGHT, OTHER_EIGHT, full, speckle};
+use crate::drawn::{EIGHT, OTHER_EIGHT, Pens, full, speckle};
 use std::alloc::Global;
 use termwiz_cell::emoji::UnicodeWidths;
 use termwiz_surface::surface::{Surface, SurfaceError};
 
-pub fn none(alloc: Global, count: u32) -> Result<usize, SurfaceError> {
-    let to = full(alloc, EIGHT)?;
-    diffed(alloc, &to, count)
+pub fn none(alloc: Global, pens: Pens, count: u32) -> Result<usize, SurfaceError> {
+    let to = full(alloc, pens, EIGHT)?;
+    diffed(alloc, pens, &to, count)
 }
 
-pub fn some(alloc: Global, count: u32) -> Result<usize, SurfaceError> {
-    let mut to = full(alloc, EIGHT)?;
-    speckle(alloc, &mut to)?;
-    diffed(alloc, &to, count)
+pub fn some(alloc: Global, pens: Pens, count: u32) -> Result<usize, SurfaceError> {
+    let mut to = full(alloc, pens, EIGHT)?;
+    speckle(alloc, pens, &mut to)?;
+    diffed(alloc, pens, &to, count)
 }
 
-pub fn all(alloc: Global, count: u32) -> Result<usize, SurfaceError> {
-    let to = full(alloc, OTHER_EIGHT)?;
-    diffed(alloc, &to, count)
+pub fn all(alloc: Global, pens: Pens, count: u32) -> Result<usize, SurfaceError> {
+    let to = full(alloc, pens, OTHER_EIGHT)?;
+    diffed(alloc, pens, &to, count)
 }
 
 // From an 80x24 full of one text.
-fn diffed(alloc: Global, to: &Surface<UnicodeWidths>, count: u32) -> Result<usize, SurfaceError> {
-    let from = full(alloc, EIGHT)?;
+fn diffed(
+    alloc: Global,
+    pens: Pens,
+    to: &Surface<UnicodeWidths>,
+    count: u32,
+) -> Result<usize, SurfaceError> {
+    let from = full(alloc, pens, EIGHT)?;
     diffs(&from, to, count)
 }
 

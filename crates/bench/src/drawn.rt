@@ -20,6 +20,15 @@ pub const EIGHT: &str = "colours ";
 /// Another, which differs in each.
 pub const OTHER_EIGHT: &str = "COLOURED";
 
+/// The pens of an 80x24 full of text.
+#[derive(Clone, Copy)]
+pub enum Pens {
+    /// One for all its cells.
+    One,
+    /// A colour for every 8 columns.
+    Ten,
+}
+
 /// A blank surface of 80 columns and so many rows.
 pub fn blank(alloc: Global, rows: usize) -> Result<Surface<UnicodeWidths>, SurfaceError>
     requires some { 0 < rows }
@@ -40,21 +49,28 @@ pub fn coloured(
     requires fits_height { height < 2 ^ 32 }
 {
     let mut surface = Surface::new(alloc, width, height, UnicodeWidths)?;
-    add_colours(alloc, &mut surface, width * height / 8)?;
+    add_colours(alloc, &mut surface, EIGHT, width * height / 8)?;
     Ok(surface)
 }
 
 /// A full surface of 80x24, with a colour for every 8 columns.
 pub fn coloured_full(alloc: Global) -> Result<Surface<UnicodeWidths>, SurfaceError> {
     let mut surface = Surface::new_full(alloc, 80, 24, UnicodeWidths)?;
-    add_colours(alloc, &mut surface, 80 * 24 / 8)?;
+    add_colours(alloc, &mut surface, EIGHT, 80 * 24 / 8)?;
     Ok(surface)
 }
 
 /// An 80x24 full of a text of eight characters.
-pub fn full(alloc: Global, eight: &str) -> Result<Surface<UnicodeWidths>, SurfaceError> {
+pub fn full(
+    alloc: Global,
+    pens: Pens,
+    eight: &str,
+) -> Result<Surface<UnicodeWidths>, SurfaceError> {
     let mut surface = Surface::new(alloc, 80, 24, UnicodeWidths)?;
-    add_texts(alloc, &mut surface, eight, 80 * 24 / 8)?;
+    match pens {
+        Pens::One => add_texts(alloc, &mut surface, eight, 80 * 24 / 8)?,
+        Pens::Ten => add_colours(alloc, &mut surface, eight, 80 * 24 / 8)?,
+    }
     Ok(surface)
 }
 
@@ -83,22 +99,24 @@ pub fn add_texts(
     Ok(())
 }
 
-/// Prints so many texts of eight characters, each in the next of ten colours.
+/// Prints a text of eight characters so often, each time in the next of ten colours.
 #[inline(always)]
 pub fn add_colours(
     alloc: Global,
     surface: &mut Surface<UnicodeWidths>,
+    eight: &str,
     count: usize,
 ) -> Result<(), SurfaceError> {
     for index in 0..count {
         add_pen(alloc, surface, (index % 10) as u8)?;
-        add_text(alloc, surface, EIGHT)?;
+        add_text(alloc, surface, eight)?;
     }
     Ok(())
 }
 
+/// Sets the pen to one of the colours.
 #[inline(always)]
-fn add_pen(
+pub fn add_pen(
     alloc: Global,
     surface: &mut Surface<UnicodeWidths>,
     index: u8,
@@ -115,11 +133,32 @@ fn pen(alloc: Global, index: u8) -> Result<Change, AllocError> {
     Ok(Change::AllAttributes(attrs))
 }
 
-/// Prints another character in each twentieth cell of an 80x24.
-pub fn speckle(alloc: Global, surface: &mut Surface<UnicodeWidths>) -> Result<(), SurfaceError> {
+/// Puts the cursor there.
+#[inline(always)]
+pub fn move_to(
+    surface: &mut Surface<UnicodeWidths>,
+    x: usize,
+    y: usize,
+) -> Result<(), SurfaceError> {
+    surface.add_change(Change::CursorPosition {
+        x: Position::Absolute(x),
+        y: Position::Absolute(y),
+    })?;
+    Ok(())
+}
+
+/// Prints another character in each twentieth cell of an 80x24, in the cell's own pen.
+pub fn speckle(
+    alloc: Global,
+    pens: Pens,
+    surface: &mut Surface<UnicodeWidths>,
+) -> Result<(), SurfaceError> {
     for y in 0..24 {
         for x in 0..4 {
-            add_speck(alloc, surface, 20 * x, y)?;
+            if matches!(pens, Pens::Ten) {
+                add_pen(alloc, surface, 20 * x / 8)?;
+            }
+            add_speck(alloc, surface, 20 * usize::from(x), y)?;
         }
     }
     Ok(())
@@ -131,9 +170,6 @@ fn add_speck(
     x: usize,
     y: usize,
 ) -> Result<(), SurfaceError> {
-    surface.add_change(Change::CursorPosition {
-        x: Position::Absolute(x),
-        y: Position::Absolute(y),
-    })?;
+    move_to(surface, x, y)?;
     add_text(alloc, surface, "#")
 }

@@ -7,6 +7,7 @@ mod answers;
 mod attributes;
 mod diffs;
 mod drawn;
+mod frames;
 mod lines;
 mod printing;
 mod sent;

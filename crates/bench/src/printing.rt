@@ -1,9 +1,9 @@
 //! Workloads that print on an 80x24, or on a surface of so many rows or columns.
 ghost use Rattle.std.specs.Prelude.{◌<◌, ◌^◌};
 
-use crate::drawn::{SHORT, add_colours, add_text, add_texts, blank};
+use crate::drawn::{EIGHT, SHORT, add_colours, add_text, add_texts, blank, move_to};
 use std::alloc::Global;
-use termwiz_cell::change::{Change, Position};
+use termwiz_cell::change::Change;
 use termwiz_cell::color::ColorAttribute;
 use termwiz_cell::emoji::UnicodeWidths;
 use termwiz_surface::surface::{Surface, SurfaceError};
@@ -12,6 +12,10 @@ const PLAIN: &str =
     "The quick brown fox jumps over the lazy dog; 0123456789 and then some more text.\r\n";
 
 const KANA: &str = "かきくけこさしすせそたちつてとなにぬねのはひふへほまみむめもやゆよらりるれろわを\r\n";
+
+// A line of 60 characters, and one of 120.
+const LINES: &str = "12:00:01 started, and reads what its settings say to be read\r\n\
+12:00:02 listening at port 8080 of each address; says nothing more of those that were refused than what is said here now\r\n";
 
 pub fn plain(alloc: Global, count: u32) -> Result<usize, SurfaceError> {
     printed(alloc, 24, PLAIN, count)
@@ -85,7 +89,7 @@ fn print_colours(
     count: u32,
 ) -> Result<usize, SurfaceError> {
     for _ in 0..count {
-        add_colours(alloc, surface, 10)?;
+        add_colours(alloc, surface, EIGHT, 10)?;
         add_text(alloc, surface, "\r\n")?;
     }
     Ok(surface.current_seqno())
@@ -114,17 +118,25 @@ fn print_and_flush(
 pub fn flushed_behind(alloc: Global, behind: usize, count: u32) -> Result<usize, SurfaceError> {
     let mut surface = blank(alloc, 24)?;
     add_texts(alloc, &mut surface, SHORT, behind)?;
-    print_and_flush_behind(alloc, &mut surface, behind, count)
+    print_and_flush_behind(alloc, &mut surface, SHORT, behind, count)
+}
+
+/// Here a pipe gives the text, in pieces of 4 KB, and no viewer lacks a change.
+pub fn piped(alloc: Global, count: u32) -> Result<usize, SurfaceError> {
+    let mut surface = Surface::new(alloc, 200, 50, UnicodeWidths)?;
+    let piece = LINES.repeat(alloc, 22)?;
+    print_and_flush_behind(alloc, &mut surface, piece.as_str(), 0, count)
 }
 
 fn print_and_flush_behind(
     alloc: Global,
     surface: &mut Surface<UnicodeWidths>,
+    text: &str,
     behind: usize,
     count: u32,
 ) -> Result<usize, SurfaceError> {
     for _ in 0..count {
-        add_text(alloc, surface, SHORT)?;
+        add_text(alloc, surface, text)?;
         surface.flush_changes_older_than(surface.current_seqno().saturating_sub(behind));
     }
     Ok(surface.current_seqno())
@@ -149,18 +161,10 @@ fn erase_wide(
     requires { 1 < columns }
 {
     for _ in 0..count {
-        move_to(surface, columns - 1)?;
+        move_to(surface, columns - 1, 0)?;
         surface.add_change(Change::ClearToEndOfLine(ColorAttribute::Default))?;
-        move_to(surface, columns - 2)?;
+        move_to(surface, columns - 2, 0)?;
         add_text(alloc, surface, "わ")?;
     }
     Ok(surface.current_seqno())
-}
-
-fn move_to(surface: &mut Surface<UnicodeWidths>, x: usize) -> Result<(), SurfaceError> {
-    surface.add_change(Change::CursorPosition {
-        x: Position::Absolute(x),
-        y: Position::Absolute(0),
-    })?;
-    Ok(())
 }

@@ -1,7 +1,7 @@
 //! Workloads that ask a surface what changed.
 ghost use Rattle.std.specs.Prelude.{◌<◌, ◌^◌};
 
-use crate::drawn::{EIGHT, SHORT, add_text, add_texts, blank, coloured, coloured_full};
+use crate::drawn::{EIGHT, SHORT, add_text, add_texts, blank, coloured, coloured_full, move_to};
 use std::alloc::Global;
 use termwiz_cell::change::{Change, CursorVisibility, SequenceNo};
 use termwiz_cell::emoji::UnicodeWidths;
@@ -70,7 +70,7 @@ fn follow_deltas(
     count: u32,
 ) -> Result<usize, SurfaceError> {
     for round in 0..count {
-        follow_delta(alloc, surface, viewer)?;
+        follow_text(alloc, surface, viewer, SHORT)?;
         if round % 64 == 63 {
             surface.flush_changes_older_than(viewer.last());
         }
@@ -79,12 +79,13 @@ fn follow_deltas(
 }
 
 #[inline(always)]
-fn follow_delta(
+fn follow_text(
     alloc: Global,
     surface: &mut Surface<UnicodeWidths>,
     viewer: &mut Viewer<UnicodeWidths>,
+    text: &str,
 ) -> Result<(), SurfaceError> {
-    add_text(alloc, surface, SHORT)?;
+    add_text(alloc, surface, text)?;
     viewer.follow(surface)?;
     Ok(())
 }
@@ -102,9 +103,43 @@ fn refresh_lines(
     count: u32,
 ) -> Result<usize, SurfaceError> {
     for _ in 0..count {
-        follow_delta(alloc, surface, viewer)?;
-        surface.flush_changes_older_than(viewer.last());
-        viewer.flush_changes_older_than(viewer.surface().current_seqno());
+        refresh_text(alloc, surface, viewer, SHORT)?;
+    }
+    Ok(viewer.last())
+}
+
+// Both logs are flushed.
+#[inline(always)]
+fn refresh_text(
+    alloc: Global,
+    surface: &mut Surface<UnicodeWidths>,
+    viewer: &mut Viewer<UnicodeWidths>,
+    text: &str,
+) -> Result<(), SurfaceError> {
+    follow_text(alloc, surface, viewer, text)?;
+    surface.flush_changes_older_than(viewer.last());
+    viewer.flush_changes_older_than(viewer.surface().current_seqno());
+    Ok(())
+}
+
+pub fn typed(alloc: Global, count: u32) -> Result<usize, SurfaceError> {
+    let mut surface = coloured(alloc, 80, 24)?;
+    let mut viewer = Viewer::new(alloc, &surface)?;
+    type_in_row(alloc, &mut surface, &mut viewer, count)
+}
+
+// Types character by character, in 70 columns of one row over and over.
+fn type_in_row(
+    alloc: Global,
+    surface: &mut Surface<UnicodeWidths>,
+    viewer: &mut Viewer<UnicodeWidths>,
+    count: u32,
+) -> Result<usize, SurfaceError> {
+    for index in 0..count {
+        if index % 70 == 0 {
+            move_to(surface, 0, 12)?;
+        }
+        refresh_text(alloc, surface, viewer, "k")?;
     }
     Ok(viewer.last())
 }

@@ -1,7 +1,8 @@
 //! What is measured, by its name.
 ghost use Rattle.std.specs.Prelude.{◌<◌, ◌^◌};
 
-use crate::{answers, attributes, diffs, lines, printing, sent, sizes, viewers};
+use crate::drawn::Pens;
+use crate::{answers, attributes, diffs, frames, lines, printing, sent, sizes, viewers};
 use std::alloc::Global;
 use termwiz_surface::surface::SurfaceError;
 
@@ -22,6 +23,8 @@ pub enum Workload {
     Log,
     /// The same, where the log is flushed each time, and 8,000 changes are kept, or SIZE.
     FlushBehind,
+    /// Lines of text on 200x50, in pieces of 4 KB, where the log is flushed each time.
+    Cat,
     /// A row of 80 columns, or SIZE, that ends in a wide character, whose last column is cleared,
     /// and which is printed again.
     EraseWide,
@@ -34,15 +37,19 @@ pub enum Workload {
     /// A repaint of a 200x60 full of text in one pen.
     OnePen,
     /// A diff of two 80x24 full of text that show the same.
-    DiffNone,
+    DiffNone(Pens),
     /// A diff of two that differ in each twentieth cell.
-    DiffSome,
+    DiffSome(Pens),
     /// A diff of two that differ in all cells.
-    DiffAll,
+    DiffAll(Pens),
+    /// A frame of 80x24 that is drawn from parts, and a diff from the last one.
+    Frame,
     /// A viewer of an 80x24 that follows by a delta of one line, whose printing counts too.
     FollowDelta,
     /// The same, where both logs are flushed each time.
     ViewerMemory,
+    /// A character on a coloured 80x24, which a viewer follows, and both logs are flushed.
+    TypeAndFollow,
     /// A viewer of a coloured 80x24 that follows by a repaint.
     FollowRepaint,
     /// A viewer of a full surface of the same that follows by a repaint.
@@ -65,6 +72,10 @@ pub enum Workload {
     Resize,
     /// A 200x60 that loses its last row and gets one again.
     ResizeOneRow,
+    /// A step of a storm of sizes of a coloured 80x24, each by a column, and some by a row.
+    Storm,
+    /// A clone of a coloured 80x24.
+    SurfaceClone,
     /// Making an 80x24.
     New,
     /// A clone of a line of 120 columns, or SIZE, with a colour for every 8, each cell in a place
@@ -93,7 +104,7 @@ pub enum Workload {
     Equality,
 }
 
-static NAMES: [(&str, Workload); 40] = [
+static NAMES: [(&str, Workload); 48] = [
     ("plain", Workload::Plain),
     ("colours", Workload::Colours),
     ("kana", Workload::Kana),
@@ -101,16 +112,22 @@ static NAMES: [(&str, Workload); 40] = [
     ("scroll-two", Workload::ScrollTwo),
     ("log", Workload::Log),
     ("flush-behind", Workload::FlushBehind),
+    ("cat", Workload::Cat),
     ("erase-wide", Workload::EraseWide),
     ("delta", Workload::Delta),
     ("repaint", Workload::Repaint),
     ("large-repaint", Workload::LargeRepaint),
     ("one-pen", Workload::OnePen),
-    ("diff-0", Workload::DiffNone),
-    ("diff-5", Workload::DiffSome),
-    ("diff-100", Workload::DiffAll),
+    ("diff-0", Workload::DiffNone(Pens::Ten)),
+    ("diff-5", Workload::DiffSome(Pens::Ten)),
+    ("diff-100", Workload::DiffAll(Pens::Ten)),
+    ("plain-diff-0", Workload::DiffNone(Pens::One)),
+    ("plain-diff-5", Workload::DiffSome(Pens::One)),
+    ("plain-diff-100", Workload::DiffAll(Pens::One)),
+    ("frame", Workload::Frame),
     ("follow-delta", Workload::FollowDelta),
     ("viewer-memory", Workload::ViewerMemory),
+    ("type-and-follow", Workload::TypeAndFollow),
     ("follow-repaint", Workload::FollowRepaint),
     ("follow-full-repaint", Workload::FollowFullRepaint),
     ("answer-delta", Workload::AnswerDelta),
@@ -122,6 +139,8 @@ static NAMES: [(&str, Workload); 40] = [
     ("deliver-delta", Workload::DeliverDelta),
     ("resize", Workload::Resize),
     ("resize-one-row", Workload::ResizeOneRow),
+    ("storm", Workload::Storm),
+    ("surface-clone", Workload::SurfaceClone),
     ("new", Workload::New),
     ("line-clone", Workload::LineClone),
     ("compress", Workload::Compress),
@@ -171,16 +190,19 @@ pub fn run(
         Workload::ScrollTwo => printing::scrolled_in_two(alloc, given(size, 24), count),
         Workload::Log => printing::flushed(alloc, count),
         Workload::FlushBehind => printing::flushed_behind(alloc, given(size, 8_000), count),
+        Workload::Cat => printing::piped(alloc, count),
         Workload::EraseWide => printing::erased_wide(alloc, given(size, 80), count),
         Workload::Delta => viewers::due(alloc, given(size, 11), count),
         Workload::Repaint => viewers::repainted(alloc, 80, 24, count),
         Workload::LargeRepaint => viewers::repainted(alloc, 200, 60, count),
         Workload::OnePen => viewers::one_pen(alloc, count),
-        Workload::DiffNone => diffs::none(alloc, count),
-        Workload::DiffSome => diffs::some(alloc, count),
-        Workload::DiffAll => diffs::all(alloc, count),
+        Workload::DiffNone(pens) => diffs::none(alloc, pens, count),
+        Workload::DiffSome(pens) => diffs::some(alloc, pens, count),
+        Workload::DiffAll(pens) => diffs::all(alloc, pens, count),
+        Workload::Frame => frames::framed(alloc, count),
         Workload::FollowDelta => viewers::followed_by_deltas(alloc, count),
         Workload::ViewerMemory => viewers::refreshed(alloc, count),
+        Workload::TypeAndFollow => viewers::typed(alloc, count),
         Workload::FollowRepaint => viewers::followed_by_repaints(alloc, count),
         Workload::FollowFullRepaint => viewers::followed_by_full_repaints(alloc, count),
         Workload::AnswerDelta => answers::due(alloc, count),
@@ -192,6 +214,8 @@ pub fn run(
         Workload::DeliverDelta => sent::delivered(alloc, count),
         Workload::Resize => sizes::resized(alloc, count),
         Workload::ResizeOneRow => sizes::resized_by_a_row(alloc, count),
+        Workload::Storm => sizes::stormed(alloc, count),
+        Workload::SurfaceClone => sizes::cloned(alloc, count),
         Workload::New => sizes::made(alloc, count),
         Workload::LineClone => lines::cloned(alloc, given(size, 120), count),
         Workload::Compress => lines::compressed(alloc, given(size, 120), count),

@@ -9,7 +9,8 @@ use Rattle.cbor.proofs.Steps.{ok_is}
 use Rattle.cbor.specs.Decoding.{Fails, ok}
 use Rattle.cbor.specs.Encoding.{head}
 use Rattle.cbor.specs.declared.error.ReadError.{ReadError}
-use Rattle.cbor.specs.declared.error.ReadError.TheVariants.{Memory, Fault}
+use Rattle.cbor.specs.declared.error.ReadError.TheVariants.{Memory}
+use Rattle.cbor.specs.declared.error.ReadError.TheVariants as errors
 use Rattle.termwiz_surface.specs.{AnswerValue, Carries, ShowsNamed, Takes, ViewerValue, full_of}
 use Rattle.termwiz_surface.specs.Answer.{suits}
 use Rattle.termwiz_surface.specs.Picture.{Pictures}
@@ -33,7 +34,12 @@ taken-shorter bytes v left h = omega (arith, ap length h.bytes_are, length-appen
 -- what was sent is decoded, so no fault comes
 pub only_memory : (failed e : ReadError) (a : AnswerValue) (rest : List ℕ) → Fails failed (ok a rest) → Wire failed ≡ Wire e → e ≡ Memory
 only_memory Memory e a rest fails is = cc
-only_memory (Fault f) e a rest fails is = absurd cc
+only_memory errors.Truncated e a rest fails is = absurd cc
+only_memory errors.Version e a rest fails is = absurd cc
+only_memory errors.Type e a rest fails is = absurd cc
+only_memory errors.Utf8 e a rest fails is = absurd cc
+only_memory errors.Range e a rest fails is = absurd cc
+only_memory errors.Region e a rest fails is = absurd cc
 
 -- the bytes behind it are left
 left_behind : (a x : AnswerValue) (rest left : List ℕ) → ok a rest ≡ ok x left → left ≡ rest

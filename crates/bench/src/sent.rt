@@ -4,7 +4,7 @@ use std::alloc::{AllocError, Global};
 use termwiz_cell::emoji::UnicodeWidths;
 use termwiz_surface::surface::{Answer, Surface, SurfaceError};
 use termwiz_surface::view::Viewer;
-use termwiz_wire::{Reader, WireError, decode_answer, encode_answer, encoded_len};
+use termwiz_wire::{Reader, decode_answer, encode_answer, encoded_len};
 
 pub fn encoded(alloc: Global, count: u32) -> Result<usize, SurfaceError> {
     let surface = coloured(alloc, 80, 24)?;
@@ -37,10 +37,7 @@ fn bytes_of(alloc: Global, answer: &Answer) -> Result<Vec<u8>, AllocError> {
 }
 
 fn answer_of(alloc: Global, bytes: &[u8]) -> Result<Answer, SurfaceError> {
-    match decode_answer(alloc, &mut Reader::new(bytes)) {
-        Ok(answer) => Ok(answer),
-        Err(WireError::Memory | WireError::Fault(_)) => Err(SurfaceError::Memory),
-    }
+    decode_answer(alloc, &mut Reader::new(bytes)).map_err(|_| SurfaceError::Memory)
 }
 
 pub fn delivered(alloc: Global, count: u32) -> Result<usize, SurfaceError> {

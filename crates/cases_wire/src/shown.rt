@@ -8,18 +8,18 @@ use termwiz_cell::change::{Change, CursorShape, CursorVisibility, LineAttribute,
 use termwiz_cell::color::ColorAttribute;
 use termwiz_cell::hyperlink::Hyperlink;
 use termwiz_surface_core::surface::Answer;
-use termwiz_wire::{Fault as Wrong, WireError};
+use termwiz_wire::WireError;
 
 /// The word of an error.
 pub fn error_word(error: WireError) -> &'static str {
     match error {
+        WireError::Truncated => "Truncated",
+        WireError::Version => "Version",
+        WireError::Type => "Type",
+        WireError::Utf8 => "Utf8",
+        WireError::Range => "Range",
+        WireError::Region => "Region",
         WireError::Memory => "Memory",
-        WireError::Fault(Wrong::Truncated) => "Truncated",
-        WireError::Fault(Wrong::Version) => "Version",
-        WireError::Fault(Wrong::Type) => "Type",
-        WireError::Fault(Wrong::Utf8) => "Utf8",
-        WireError::Fault(Wrong::Range) => "Range",
-        WireError::Fault(Wrong::Region) => "Region",
     }
 }
 

@@ -27,6 +27,6 @@ fn received(alloc: Global, bytes: &[u8], scene: &mut Scene) -> Result<(), Stop> 
     match decode_answer(alloc, &mut reader) {
         Ok(answer) => accepted(&answer, scene),
         Err(WireError::Memory) => { refused("decode_answer", reader.rest().len() == bytes.len()) }
-        Err(WireError::Fault(_)) => Err(Stop::Wrong("decode_answer")),
+        Err(_) => Err(Stop::Wrong("decode_answer")),
     }
 }

@@ -85,9 +85,9 @@ impl From<WireError> for WatchError {
     ghost from_gives = { λ error made. made ≡ of_wire error };
 
     fn from(error: WireError) -> WatchError {
-        match error {
-            WireError::Memory => WatchError::Memory,
-            WireError::Fault(fault) => WatchError::Fault(AnswerFault::Bytes(fault)),
+        match error.fault() {
+            Some(fault) => WatchError::Fault(AnswerFault::Bytes(fault)),
+            None => WatchError::Memory,
         }
     }
 }

@@ -1,10 +1,10 @@
 -- A cell, as contracts see it: a text, whether it takes two columns, and attributes.
-use Rattle.std.specs.Prelude.{◌≡◌, ℕ, Bool, false, ◌&&◌, ◌||◌, ◌==◌, nat_lt, List, [], ◌∷◌, bytes_eq, if◌then◌else◌}
+use Rattle.std.specs.Prelude.{◌≡◌, ℕ, Bool, false, ◌&&◌, ◌||◌, ◌==◌, nat_lt, List, [], ◌∷◌, length, bytes_eq, if◌then◌else◌}
 use Rattle.std.specs.Bool.{Decides, beq}
 use Rattle.std.specs.Cmp.{booleans_Decides}
 use Rattle.std.specs.Cmp.Lexicographic.{bytes_decides}
 use Rattle.std.proofs.lemmas.Bool.Decides.{Decides-like, Decides-and}
-use Rattle.termwiz_cell.specs.Attributes.{Attributes, default_attributes, attributes_eq, attributes_eq-Decides}
+use Rattle.termwiz_cell.specs.Attributes.{Attributes, default_attributes, attributes_eq, attributes_eq-Decides, needs_box}
 
 pub record CellValue : Type 0 where
   pub text : List ℕ
@@ -33,6 +33,10 @@ half c = blank_of c.attrs
 
 abbrev pub is_wide : CellValue → Bool
 is_wide c = c.wide
+
+-- a cell owns memory for a text of more than seven bytes, and for attributes that take memory
+abbrev pub owns_memory : CellValue → Bool
+owns_memory c = nat_lt 7 (length c.text) || needs_box c.attrs
 
 -- how many columns a cell takes
 abbrev pub columns : CellValue → ℕ

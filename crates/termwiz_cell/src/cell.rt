@@ -1,10 +1,11 @@
 //! Cells.
-ghost use Rattle.std.specs.Prelude.{◌≡◌, ◌↔◌, ◌≤◌, ◌&&◌, IfOk, MatchOption, encode_utf8, unwrap_or};
+ghost use Rattle.std.specs.Prelude.{◌≡◌, ◌↔◌, ◌≤◌, ◌&&◌, IfOk, IsSome, MatchOption, encode_utf8};
+ghost use Rattle.std.specs.Prelude.{unwrap_or};
 ghost use Rattle.termwiz_cell.specs.{IfSome, IsOk, IsTrue, LendsAttrs, at_version, blank, blank_of};
 ghost use Rattle.termwiz_cell.specs.{cell_eq, cell_eq-Decides, cell_of, clean, columns, decided};
 ghost use Rattle.termwiz_cell.specs.{false, is_one_plain, is_plain, is_wide, length, measure, not};
-ghost use Rattle.termwiz_cell.specs.{measured, needs_box, partial_equiv_from_equiv, plain_cell};
-ghost use Rattle.termwiz_cell.specs.{sem, true};
+ghost use Rattle.termwiz_cell.specs.{measured, needs_box, owns_memory, partial_equiv_from_equiv};
+ghost use Rattle.termwiz_cell.specs.{plain_cell, sem, true};
 
 mod attribute_change;
 mod attributes;
@@ -229,14 +230,25 @@ impl Clone for Cell {
 }
 
 impl Cell {
-    // A copy, where that takes no memory.
+    /// A copy, where that takes no memory, and else `None`.
+    #[doc(hidden)]
     #[inline(always)]
-    fn short_copy(&self) -> Option<Cell>
-        ensures { IfSome result (λ copy. copy ≡ self.now) }
+    pub fn short_copy(&self) -> Option<Cell>
+        ensures same { IfSome result (λ copy. copy ≡ self.now) }
+        ensures short { IsSome result ↔ (owns_memory self.now ≡ false) }
     {
         let text = self.text.short_copy()?;
         let attrs = self.attrs.unboxed_copy()?;
         Some(Cell { text, attrs })
+    }
+
+    /// Whether the text or the attributes take memory.
+    #[doc(hidden)]
+    #[inline(always)]
+    pub fn owns_memory(&self) -> bool
+        ensures { result ≡ owns_memory self.now }
+    {
+        self.short_copy().is_none()
     }
 
     // A copy, whether that takes memory or not.

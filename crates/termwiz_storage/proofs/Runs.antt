@@ -1,8 +1,8 @@
 -- A run of ASCII that is stored at once.
-use Rattle.std.proofs.Common.{◌≡◌, ℕ, suc, ◌+◌, ◌-◌, ◌<◌, ◌≤◌, false, ◌&&◌, max, List, [], ◌∷◌, length, map, take, drop, set, refl, subst, sym, ◌∙◌, ap, arith, add-one, append_assoc, drop-drop, take_at}
+use Rattle.std.proofs.Common.{◌≡◌, ◌++◌, get_or, ℕ, suc, ◌+◌, ◌-◌, ◌<◌, ◌≤◌, false, ◌&&◌, max, List, [], ◌∷◌, length, map, take, drop, set, refl, subst, sym, ◌∙◌, ap, arith, add-one, append_assoc, drop-drop, take_at}
 use Rattle.std.specs.Prelude.{nat_lt}
 use Rattle.std.proofs.lemmas.Bool.{and_right}
-use Rattle.std.proofs.lemmas.List.{append-nil, get_or-set_same, length-map, length-set}
+use Rattle.std.proofs.lemmas.List.{append-nil, get_or-set_same, length-map, length-set, map-append, take_more, take_more_set}
 use Rattle.std.proofs.lemmas.List.Edits.{sets-eq}
 use Rattle.std.proofs.Math.Seq.{length-sets, sets}
 use Rattle.std.specs.List.{refill}
@@ -77,6 +77,14 @@ put_run-sets i [] a cs = refl
 put_run-sets i (b ∷ bs) a cs = rw add-one (put_run-sets (suc i) bs a (set cs i (plain_cell b a)))
 
 -- a run that is written to a slice of the list, from column i on
+-- one more cell of a run is written
+pub run_more : (k : ℕ) (a : Attributes) (cells : List CellValue) (run : List ℕ) → k < length cells → k < length run → take k cells ≡ map (λ b. plain_cell b a) (take k run) → take (k + 1) (set cells k (plain_cell (get_or run k 0) a)) ≡ map (λ b. plain_cell b a) (take (k + 1) run)
+run_more k a cells run l m h =
+    let b : ℕ = get_or run k 0 in
+    take_more_set cells k (plain_cell b a) l
+    ∙ ap (λ (xs : List CellValue). xs ++ plain_cell b a ∷ []) h
+    ∙ sym (ap (map (λ b. plain_cell b a)) (take_more run k 0 m) ∙ map-append (λ b. plain_cell b a) (take k run) (b ∷ []))
+
 pub put_run-part : (i n : ℕ) (bs : List ℕ) (a : Attributes) (cs ws : List CellValue) → i + length bs ≤ length cs → n ≡ length cs → ws ≡ map (λ b. plain_cell b a) bs → refill n cs (put_mid i (i + length bs - i) cs ws) ≡ put_run i bs a cs
 put_run-part i n bs a cs ws l m w =
     let len : length ws ≡ length bs = ap length w ∙ length-map bs (λ b. plain_cell b a) in

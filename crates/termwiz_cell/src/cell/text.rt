@@ -1,5 +1,6 @@
 //! The text of a cell, and whether it takes two columns.
-ghost use Rattle.std.specs.Prelude.{◌≡◌, ◌↔◌, ◌≤◌, ◌&&◌, ◌∷◌, [], MatchOption, false, string_bytes};
+ghost use Rattle.std.specs.Prelude.{◌≡◌, ◌↔◌, ◌≤◌, ◌&&◌, ◌∷◌, [], IsSome, MatchOption, false};
+ghost use Rattle.std.specs.Prelude.{string_bytes};
 ghost use Rattle.termwiz_cell.specs.{HasTextForm, IfOk, IfSome, IsOk, IsTrue, beq, bytes_eq, clean};
 ghost use Rattle.termwiz_cell.specs.{is_one_plain, is_plain, length, not, space, text_in, true};
 ghost use Rattle.termwiz_cell.specs.{wide_in};
@@ -172,6 +173,7 @@ impl CellText {
         ensures text { IfSome result (λ copy. text_in copy ≡ text_in self.now) }
         ensures wide { IfSome result (λ copy. wide_in copy ≡ wide_in self.now) }
         ensures stored { IfSome result (λ copy. HasTextForm copy) }
+        ensures short { IsSome result ↔ (length (text_in self.now) ≤ 7) }
     {
         match self {
             CellText::Narrow(short) => Some(CellText::Narrow(*short)),

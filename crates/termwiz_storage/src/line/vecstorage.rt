@@ -1,12 +1,14 @@
 //! Cells stored one by one.
-ghost use Rattle.std.specs.Prelude.{◌≡◌, ◌+◌, ◌*◌, ◌-◌, ◌<◌, ◌≤◌, ◌↔◌, [], replicate, vec_capacity};
+ghost use Rattle.std.specs.Prelude.{◌≡◌, ◌+◌, ◌*◌, ◌-◌, ◌<◌, ◌≤◌, ◌↔◌, ◌++◌, [], replicate};
+ghost use Rattle.std.specs.Prelude.{vec_capacity};
 ghost use Rattle.termwiz_storage.specs.{AreLetters, IfOk, IfSome, IsBlanked, IsFilledTo, IsKept};
-ghost use Rattle.termwiz_storage.specs.{IsOfCell, IsOk, IsTrue, IsUsedTo, LendsCells, OnErr, OnOk};
-ghost use Rattle.termwiz_storage.specs.{blank, cell_at, cells_eq, cells_eq-Decides, chars, decided};
-ghost use Rattle.termwiz_storage.specs.{false, fill, half, hides, is_linked, is_plain, is_wide};
-ghost use Rattle.termwiz_storage.specs.{length, list_all, list_any, map, needs_box, option_map};
-ghost use Rattle.termwiz_storage.specs.{padded, partial_equiv_from_equiv, plain_cell, put_letters};
-ghost use Rattle.termwiz_storage.specs.{put_run, ref_cell, ref_index, resized, sem, set_cell, take};
+ghost use Rattle.termwiz_storage.specs.{IsOfCell, IsOk, IsTrue, LendsCells, OnErr, OnOk};
+ghost use Rattle.termwiz_storage.specs.{OwnNothing, blank, cell_at, cells_eq, cells_eq-Decides};
+ghost use Rattle.termwiz_storage.specs.{chars, decided, false, fill, half, hides, is_linked};
+ghost use Rattle.termwiz_storage.specs.{is_plain, is_wide, length, list_all, list_any, map};
+ghost use Rattle.termwiz_storage.specs.{needs_box, option_map, owns_memory, padded};
+ghost use Rattle.termwiz_storage.specs.{partial_equiv_from_equiv, plain_cell, put_letters, put_run};
+ghost use Rattle.termwiz_storage.specs.{ref_cell, ref_index, resized, sem, set_cell, take};
 ghost use Rattle.termwiz_storage.specs.{set_letters, set_run, slice_set, stored, torn, true};
 ghost use Rattle.termwiz_storage.specs.{vec_len, visible};
 
@@ -28,33 +30,51 @@ pub(crate) use walk::plain_byte;
 pub(crate) use wrapped::set_wrapped;
 
 /// The cells of a line, each with a place of its own. It is read, and written, as a slice of cells.
-#[derive(Drop, Debug)]
+#[derive(Debug)]
 pub struct VecStorage {
     cells: Vec<Cell>,
     // From this column on each cell is a default blank.
     used: usize,
+    // Whether a cell may own memory. Where none does, cells are overwritten, copied and let go
+    // without a look at what each holds.
+    owns: bool,
 }
 
 impl Model for VecStorage {
     ghost use Rattle.std.specs.Prelude.{List};
     ghost use Rattle.termwiz_cell.specs.CellValue.{CellValue};
-    ghost use Rattle.termwiz_storage.specs.Used.{IsUsedTo};
+    ghost use Rattle.termwiz_storage.specs.Used.{IsMarked};
 
     ghost Value = { List CellValue };
 
     ghost view = { λ s. s.cells.items };
 
-    ghost invariant = { λ s. IsUsedTo s.used s.cells.items };
+    ghost invariant = { λ s. IsMarked s.used s.owns s.cells.items };
+}
+
+// Where no cell owns memory, none is looked at.
+impl Drop for VecStorage {
+    fn drop(self) {
+        let VecStorage {
+            cells,
+            used: _,
+            owns,
+        } = self;
+        let mut cells = cells;
+        cut(&mut cells, 0, owns);
+    }
 }
 
 impl VecStorage {
     /// A storage of these cells.
     #[doc(hidden)]
+    #[tactic(auto, using(crate::proofs::Owned::marked_new))]
     pub fn new(cells: Vec<Cell>) -> VecStorage
         ensures { result ≡ cells.items }
     {
         let used = cells.len();
-        VecStorage { cells, used }
+        let owns = !own_nothing(&cells);
+        VecStorage { cells, used, owns }
     }
 
     /// How many cells are stored, hidden ones among them.
@@ -92,6 +112,7 @@ impl VecStorage {
     }
 
     /// Pads with default blanks to at least this many cells. On an error nothing changed.
+    #[tactic(auto, using(crate::proofs::Owned::marked_padded))]
     pub(crate) fn pad(&mut self, len: usize) -> Result<(), AllocError>
         ensures ok { OnOk result (self.new ≡ padded len self.old) }
         ensures err { OnErr result (self.new ≡ self.old) }
@@ -104,6 +125,7 @@ impl VecStorage {
     }
 
     // A wide cell that column i cuts becomes a blank with its attributes.
+    #[tactic(auto, using(crate::proofs::Owned::marked_halved))]
     fn tear(&mut self, i: usize)
         requires { i ≤ length self.old }
         ensures { self.new ≡ torn i self.old }
@@ -133,6 +155,7 @@ impl VecStorage {
         ensures { self.new ≡ slice_set self.old i cell }
     {
         self.used = self.used.max(i + 1);
+        self.owns |= cell.owns_memory();
         self.cells[i] = cell;
     }
 
@@ -143,6 +166,7 @@ impl VecStorage {
         ensures { self.new ≡ slice_set (slice_set self.old (i + 1) half) i cell }
     {
         self.used = self.used.max(i + 2);
+        self.owns |= cell.owns_memory() | half.owns_memory();
         self.cells[i + 1] = half;
         self.cells[i] = cell;
     }
@@ -236,7 +260,7 @@ impl VecStorage {
         ensures { self.new ≡ put_run i run.now attrs.now self.old }
     {
         self.used = self.used.max(i + run.len());
-        put_cells(&mut self.cells[i..i + run.len()], run, attrs);
+        put_cells(&mut self.cells[i..i + run.len()], run, attrs, self.owns);
     }
 
     /// Sets the cell of each letter of a run, of two columns, in order from a column on, and behind
@@ -273,7 +297,13 @@ impl VecStorage {
         let alloc = *self.cells.allocator();
         let columns = 2 * letter_count(run);
         self.used = self.used.max(i + columns);
-        put_letter_cells(alloc, &mut self.cells[i..i + columns], run, attrs);
+        put_letter_cells(
+            alloc,
+            &mut self.cells[i..i + columns],
+            run,
+            attrs,
+            self.owns,
+        );
     }
 
     /// Sets a default blank in each of the columns from `from` up to `to`, which is not among them,
@@ -295,9 +325,11 @@ impl VecStorage {
         requires { to ≤ length self.old }
         ensures { IsBlanked from to self.old self.new }
     {
-        blank_cells(&mut self.cells, from, to.min(self.used));
+        blank_cells(&mut self.cells, from, to.min(self.used), self.owns);
         if self.used <= to {
             self.used = self.used.min(from);
+            // Default blanks own nothing.
+            self.owns &= self.used > 0;
         }
     }
 
@@ -308,8 +340,9 @@ impl VecStorage {
         ensures { self.new ≡ take len self.old }
     {
         if len < self.cells.len() {
-            self.cells.truncate(len);
+            cut(&mut self.cells, len, self.owns);
             self.used = self.used.min(len);
+            self.owns &= self.used > 0;
         }
     }
 
@@ -386,9 +419,10 @@ impl VecStorage {
     {
         let have = len.min(self.cells.len());
         let used = have.min(self.used);
-        let mut cells = copied_cells(self.allocator(), &self.cells[..used], len)?;
+        let owns = self.owns;
+        let mut cells = copied_cells(self.allocator(), &self.cells[..used], len, owns)?;
         pad_cells(&mut cells, have)?;
-        Ok(VecStorage { cells, used })
+        Ok(VecStorage { cells, used, owns })
     }
 
     /// How many cells are left without the visible default blanks that end the list.
@@ -489,33 +523,100 @@ fn with_blanks(cells: Vec<Cell>, len: usize) -> Vec<Cell>
     cells
 }
 
-// Copies of cells, with room for so many.
-fn copied_cells(alloc: Global, cells: &[Cell], room: usize) -> Result<Vec<Cell>, AllocError>
+// Whether no cell owns memory.
+fn own_nothing(cells: &[Cell]) -> bool
+    ensures { IsTrue result ↔ OwnNothing cells.now }
+{
+    cells.iter().all(|cell| !cell.owns_memory())
+}
+
+// Copies of cells, with room for so many. Those that own no memory are copied without a call.
+fn copied_cells(
+    alloc: Global,
+    cells: &[Cell],
+    room: usize,
+    owns: bool,
+) -> Result<Vec<Cell>, AllocError>
+    requires room { length cells.now ≤ room }
+    requires unowned { owns ≡ false → OwnNothing cells.now }
     ensures { IfOk result (λ copy. copy.items ≡ cells.now) }
 {
     let mut copy = Vec::with_capacity(alloc, room)?;
-    VecCloneMethods::extend_from_slice(&mut copy, cells)?;
-    Ok(copy)
+    if owns {
+        VecCloneMethods::extend_from_slice(&mut copy, cells)?;
+        return Ok(copy);
+    }
+    Ok(with_short_copies(copy, cells))
+}
+
+// Copies of cells that own no memory, in a list that has room for them.
+fn with_short_copies(list: Vec<Cell>, cells: &[Cell]) -> Vec<Cell>
+    requires unowned { OwnNothing cells.now }
+    requires room { vec_len list + length cells.now ≤ vec_capacity list }
+    ensures { result.items ≡ list.items ++ cells.now }
+{
+    let mut list = list;
+    for i in 0..cells.len() {
+        list.push_reserved(cells[i].short_copy().unwrap());
+    }
+    list
+}
+
+// A cell comes in the place of another, which is dropped only where it may own memory.
+#[inline(always)]
+fn overwrite(place: &mut Cell, cell: Cell, owns: bool)
+    requires { owns ≡ false → owns_memory place.old ≡ false }
+    ensures { place.new ≡ cell }
+{
+    let old = mem::replace(place, cell);
+    if !owns {
+        mem::forget(old);
+    }
+}
+
+// Cuts the list to at most this many cells. Those behind are dropped only where they may own
+// memory.
+fn cut(cells: &mut Vec<Cell>, len: usize, owns: bool)
+    requires { owns ≡ false → OwnNothing cells.old.items }
+    ensures { cells.new.items ≡ take len cells.old.items }
+{
+    if owns {
+        cells.truncate(len);
+        return;
+    }
+    while cells.len() > len {
+        if let Some(cell) = cells.pop() {
+            mem::forget(cell);
+        }
+    }
 }
 
 // The cells of the run come in the place of as many others.
-fn put_cells(cells: &mut [Cell], run: &[u8], attrs: &CellAttributes)
+fn put_cells(cells: &mut [Cell], run: &[u8], attrs: &CellAttributes, owns: bool)
     requires plain { list_all is_plain run.now ≡ true }
     requires unboxed { needs_box attrs.now ≡ false }
+    requires unowned { owns ≡ false → OwnNothing cells.old }
     requires len { length cells.old ≡ length run.now }
     ensures { cells.new ≡ map (λ b. plain_cell b attrs.now) run.now }
 {
     let own = attrs.unboxed_copy().unwrap();
     for k in 0..run.len() {
         let copy = own.unboxed_copy().unwrap();
-        cells[k] = Cell::plain(run[k], copy);
+        overwrite(&mut cells[k], Cell::plain(run[k], copy), owns);
     }
 }
 
 // The cells of the letters and their halves come in the place of others, from the first one on.
-fn put_letter_cells(alloc: Global, cells: &mut [Cell], run: &str, attrs: &CellAttributes)
+fn put_letter_cells(
+    alloc: Global,
+    cells: &mut [Cell],
+    run: &str,
+    attrs: &CellAttributes,
+    owns: bool,
+)
     requires letters { AreLetters run.now }
     requires unboxed { needs_box attrs.now ≡ false }
+    requires unowned { owns ≡ false → OwnNothing cells.old }
     requires room { 2 * length (chars run.now) ≤ length cells.old }
     ensures { cells.new ≡ put_letters 0 (chars run.now) attrs.now cells.old }
 {
@@ -524,19 +625,20 @@ fn put_letter_cells(alloc: Global, cells: &mut [Cell], run: &str, attrs: &CellAt
         let copy = own.unboxed_copy().unwrap();
         let cell = Cell::new_grapheme_with_width(alloc, letter_at(run, k), 2, copy).unwrap();
         let copy = own.unboxed_copy().unwrap();
-        cells[2 * k + 1] = Cell::blank_with_attrs(copy);
-        cells[2 * k] = cell;
+        overwrite(&mut cells[2 * k + 1], Cell::blank_with_attrs(copy), owns);
+        overwrite(&mut cells[2 * k], cell, owns);
     }
 }
 
 // The cells from one column up to another become default blanks.
 #[inline(always)]
-fn blank_cells(cells: &mut Vec<Cell>, from: usize, to: usize)
-    requires { to ≤ vec_len cells.old }
+fn blank_cells(cells: &mut Vec<Cell>, from: usize, to: usize, owns: bool)
+    requires range { to ≤ vec_len cells.old }
+    requires unowned { owns ≡ false → OwnNothing cells.old.items }
     ensures { IsBlanked from to cells.old.items cells.new.items }
 {
     for i in from..to {
-        cells[i] = Cell::blank();
+        overwrite(&mut cells[i], Cell::blank(), owns);
     }
 }
 
@@ -586,11 +688,13 @@ impl DerefSlice for VecStorage {
 
 impl DerefSliceMut for VecStorage {
     // Any cell may be written.
+    #[tactic(auto, using(crate::proofs::Owned::marked_lent))]
     fn deref_mut(&mut self) -> &mut [Cell]
         ensures* writes_back { sem 𝓛 (LendsCells self.entry result) }
         ensures value { result.now ≡ self.old }
     {
         self.used = self.cells.len();
+        self.owns = true;
         &mut self.cells
     }
 }

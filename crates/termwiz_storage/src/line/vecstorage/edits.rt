@@ -16,9 +16,11 @@ impl VecStorage {
     pub(crate) fn copies(alloc: Global, len: usize, cell: Cell) -> Result<VecStorage, AllocError>
         ensures { IfOk result (λ storage. storage ≡ replicate len cell) }
     {
+        let owns = cell.owns_memory();
         let mut cells = Vec::new(alloc);
         VecCloneMethods::resize(&mut cells, len, cell)?;
-        Ok(VecStorage::new(cells))
+        let used = len;
+        Ok(VecStorage { cells, used, owns })
     }
 
     /// Removes the stored cell at a column, where there is one. A wide cell stored right before it
@@ -58,14 +60,17 @@ impl VecStorage {
         ensures err { OnErr result (self.new ≡ self.old) }
     {
         let blank = Cell::blank_with_attrs(attrs);
+        let owned = blank.owns_memory();
         if x < self.cells.len() {
             self.tear(x);
             shift_to_margin(&mut self.cells, x, margin, blank);
             self.used = self.cells.len();
+            self.owns |= owned;
             return Ok(());
         }
         insert_at_margin(&mut self.cells, margin, blank)?;
         self.used = self.cells.len();
+        self.owns |= owned;
         Ok(())
     }
 
@@ -83,8 +88,10 @@ impl VecStorage {
         ensures ok { OnOk result (self.new ≡ inserted x cell margin self.old) }
         ensures err { OnErr result (self.new ≡ self.old) }
     {
+        let owned = cell.owns_memory();
         insert_moving(&mut self.cells, x, cell, margin)?;
         self.used = self.cells.len();
+        self.owns |= owned;
         Ok(())
     }
 
@@ -97,7 +104,11 @@ impl VecStorage {
         let at = at.min(self.cells.len());
         let rest = self.cells.split_off(at)?;
         self.used = self.used.min(at);
-        Ok(VecStorage::new(rest))
+        Ok(VecStorage {
+            used: rest.len(),
+            cells: rest,
+            owns: self.owns,
+        })
     }
 
     /// Appends the visible cells of another list, the half of each wide one behind it. On an error
@@ -109,6 +120,7 @@ impl VecStorage {
         let mut more = other.columns(0, other.len())?;
         self.cells.append(&mut more.cells)?;
         self.used = self.cells.len();
+        self.owns |= more.owns;
         Ok(())
     }
 

@@ -1,10 +1,11 @@
-use Rattle.std.proofs.Common.{◌<◌, ◌≤◌}
-use Rattle.termwiz_storage.specs.Used.{IsBlanked}
+use Rattle.std.proofs.Common.{◌≡◌, ◌<◌, ◌≤◌, false}
+use Rattle.termwiz_storage.specs.Used.{IsBlanked, OwnNothing}
 use Rattle.termwiz_storage.proofs.line.vecstorage.blank_cells.Given as goal
 
 abbrev pub invariant-loop-i : goal.invariant-loop-i
 invariant-loop-i l = record {
   blanked : IsBlanked l.from l.i l.initial.cells.items l.cells.items;
+  unowned : l.owns ≡ false → OwnNothing l.cells.items;
   from : l.from ≤ l.i;
   upto : l.from < l.i → l.i ≤ l.to;
 }

@@ -1,8 +1,12 @@
-use Rattle.std.proofs.Common.{◌≡◌, ◌*◌, drop}
+use Rattle.std.proofs.Common.{◌≡◌, ◌*◌, false, drop}
 use Rattle.std.specs.Str.{chars}
 use Rattle.termwiz_storage.specs.Letters.{put_letters}
+use Rattle.termwiz_storage.specs.Used.{OwnNothing}
 use Rattle.termwiz_storage.proofs.line.vecstorage.put_letter_cells.Given as goal
 
 -- what is left to write leads to the whole run
 abbrev pub invariant-loop-k : goal.invariant-loop-k
-invariant-loop-k l = put_letters (2 * l.k) (drop l.k (chars l.run)) l.attrs l.cells ≡ put_letters 0 (chars l.run) l.attrs l.initial.cells
+invariant-loop-k l = record {
+  written : put_letters (2 * l.k) (drop l.k (chars l.run)) l.attrs l.cells ≡ put_letters 0 (chars l.run) l.attrs l.initial.cells;
+  unowned : l.owns ≡ false → OwnNothing l.cells;
+}

@@ -2,8 +2,8 @@ use Rattle.std.proofs.Common.{◌≡◌, ◌-◌, ◌<◌, ◌≤◌, sym, ◌�
 use Rattle.termwiz_cell.specs.CellValue.{CellValue, half}
 use Rattle.termwiz_storage.specs.Stored.{stored, hides}
 use Rattle.termwiz_storage.specs.Halves.{missing_half}
-use Rattle.termwiz_storage.specs.Used.{IsUsedTo}
-use Rattle.termwiz_storage.proofs.Used.{used-all, used-more, used-padded}
+use Rattle.termwiz_storage.specs.Used.{IsMarked}
+use Rattle.termwiz_storage.proofs.Owned.{marked_half, marked_padded}
 use Rattle.termwiz_storage.proofs.Halves.{grown-wide, grown-narrow, resized-grown}
 use Rattle.termwiz_storage.proofs.line.vecstorage.VecStorage.resize.Goals as goal
 use Rattle.termwiz_storage.proofs.line.vecstorage.VecStorage.resize.Goals.{then-lacks_half+in_ok-half+in_ok-push, else-lacks_half}
@@ -24,10 +24,10 @@ returns-clause-ok c =
 
 pub invariant_of-self-3 : goal.invariant_of-self-3
 invariant_of-self-3 c =
-    let before : IsUsedTo c.if-lacks_half.self-inside.used c.if-lacks_half.self-inside.cells.items = elim c.if-lacks_half.branch [
+    let before : IsMarked c.if-lacks_half.self-inside.used c.if-lacks_half.self-inside.owns c.if-lacks_half.self-inside.cells.items = elim c.if-lacks_half.branch [
       | then-lacks_half+in_ok-half+in_ok-push w ↦
           let long : length w.push.new.self.items ≤ w.len-self-inside.result = omega (arith, w.push.new.self.ok.0) in
-          rw w.self-inside-is (used-more _ _ w.push.new.self.items long (used-all w.push.new.self.items))
+          rw w.self-inside-is (marked_half c.self.inside.used w.len-self-inside.result c.self.inside.owns c.reserve.new.self.items w.in_ok-half.half w.push.new.self.items long w.in_ok-half.ensures w.in_ok-push.ensures.items (rw c.in_ok-reserve.ensures.items c.self.invariant))
       | else-lacks_half w ↦ rw w.self-inside-is (rw c.in_ok-reserve.ensures.items c.self.invariant)
     ] in
-    rw c.in_ok-pad_cells.ensures.ok (used-padded _ c.args.len _ before)
+    rw c.in_ok-pad_cells.ensures.ok (marked_padded _ c.args.len _ _ before)

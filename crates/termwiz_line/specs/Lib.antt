@@ -7,7 +7,6 @@ pub mod Wraps
 pub mod LineFlags
 pub mod Directions
 pub mod LineValue
-pub mod InWidth
 pub mod LineEdits
 pub mod EditLaws
 pub mod Lending
@@ -50,7 +49,6 @@ pub use Rattle.termwiz_line.specs.EditLaws.{AllColumnsShow, StoredAgainShows}
 pub use Rattle.termwiz_line.specs.Entries.{add_text, joins, pen_entry, row_entries}
 pub use Rattle.termwiz_line.specs.Filled.{AppendsCells, Fills, IsFilled, IsPartlyFilled, MakesVector}
 pub use Rattle.termwiz_line.specs.GrowingText.{IsLastOf, ends_printable, with_text}
-pub use Rattle.termwiz_line.specs.InWidth.{in_width}
 pub use Rattle.termwiz_line.specs.LastChange.{last_is}
 pub use Rattle.termwiz_line.specs.Lending.{KeepsLine, LendsLine}
 pub use Rattle.termwiz_line.specs.LineEdits.{HasCells, IsEditedAt, IsMade, IsTakenFrom}

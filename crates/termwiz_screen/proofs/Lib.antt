@@ -25,6 +25,7 @@ pub mod Regions
 pub mod ReversedRegions
 pub mod ScrolledRows
 pub mod ResizedRows
+mod GrownRows
 pub mod LogRegions
 pub mod RepaintRegions
 mod WalkedRows

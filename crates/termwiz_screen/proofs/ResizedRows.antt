@@ -8,14 +8,13 @@ use Rattle.termwiz_cell.specs.CellValue.{CellValue, blank}
 use Rattle.termwiz_cell.specs.Attributes.{default_attributes}
 use Rattle.termwiz_storage.specs.Stored.{stored, hides}
 use Rattle.termwiz_storage.specs.Halves.{resized}
-use Rattle.termwiz_line.specs.InWidth.{in_width}
 use Rattle.termwiz_line.specs.LineFlags.{LineFlags, no_flags}
 use Rattle.termwiz_line.specs.LineValue.{LineValue}
 use Rattle.termwiz_line.specs.Row.{IsRow, row_of, settled_at}
 use Rattle.termwiz_line.proofs.Resized.{resized_is_row}
 use Rattle.termwiz_line.proofs.RowOf.{length-row_of, row_of_at, row_of_row}
 use Rattle.termwiz_line.proofs.StoredRows.{row_stored, row_ext, row_alike, row_blank}
-use Rattle.termwiz_screen.specs.Resized.{resized_rows, resized_stored, resized_flags}
+use Rattle.termwiz_screen.specs.Resized.{in_width, resized_flags, resized_rows, resized_stored}
 use Rattle.termwiz_screen.specs.Screen.{row_at}
 use Rattle.termwiz_screen.specs.ScreenValue.{cells_of, numberless}
 use Rattle.termwiz_screen.specs.Sides.{row_flags, AreVectors}

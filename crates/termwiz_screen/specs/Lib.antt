@@ -49,7 +49,6 @@ pub use Rattle.termwiz_cell.specs.CellValue.{CellValue, blank, blank_of, cell_eq
 pub use Rattle.termwiz_cell.specs.ChangeValue.{ChangeValue, change_value, is_text, visibility_eq}
 pub use Rattle.termwiz_cell.specs.Measure.{measure}
 pub use Rattle.termwiz_cell.specs.Shapes.{line_attribute_eq, shape_eq}
-pub use Rattle.termwiz_line.specs.InWidth.{in_width}
 pub use Rattle.termwiz_line.specs.LastChange.{last_is}
 pub use Rattle.termwiz_line.specs.LineFlags.{no_flags}
 pub use Rattle.termwiz_line.specs.PennedValue.{penned_value}
@@ -72,7 +71,7 @@ pub use Rattle.termwiz_screen.specs.Place.{cursor_at, moved, place_column, place
 pub use Rattle.termwiz_screen.specs.Print.{piece_of, printed_cell, scrolled}
 pub use Rattle.termwiz_screen.specs.RegionValue.{region_value}
 pub use Rattle.termwiz_screen.specs.RepaintLaws.{LineEntriesGiveRow, RepaintGivesScreen, RepaintIsShort}
-pub use Rattle.termwiz_screen.specs.Resized.{copy_in, cuts_in_place, resized_flags, resized_stored}
+pub use Rattle.termwiz_screen.specs.Resized.{HaveGrown, Undoes, can_undo, cuts_in_place, grown, in_width, resized_flags, resized_stored, undone}
 pub use Rattle.termwiz_screen.specs.Rows.{AreFilled, ArePartly, ArePartlyReset, IsPartly, painted_in}
 pub use Rattle.termwiz_screen.specs.Runs.{AreNarrow, AreWide, IsMeasuredPiece, IsNarrowRun, IsWideRun}
 pub use Rattle.termwiz_screen.specs.Screen.{row_at}

@@ -1,15 +1,17 @@
 //! The rows of a surface: lines that all have the number 0.
 ghost use Rattle.std.specs.Prelude.{◌≡◌, ◌+◌, ◌∷◌, ◌-◌, ◌<◌, ◌≤◌, ◌++◌, [], length, slice_index_or};
-ghost use Rattle.termwiz_screen.specs.{AreFilled, AreLetters, ArePartly, ArePartlyReset, IfOk, map};
-ghost use Rattle.termwiz_screen.specs.{AreVectors, IsPartly, IsPruned, KeepSides, KeepsSide, OnErr};
-ghost use Rattle.termwiz_screen.specs.{OnOk, blank, cells_of, chars, copy_in, cuts_in_place, drop};
-ghost use Rattle.termwiz_screen.specs.{deque_capacity, deque_len, false, fill, in_width, is_plain};
-ghost use Rattle.termwiz_screen.specs.{list_all, needs_box, no_flags, numberless, painted_in, take};
-ghost use Rattle.termwiz_screen.specs.{region_down, region_reversed, region_turned, region_up, ℕ};
-ghost use Rattle.termwiz_screen.specs.{replicate, resized, resized_flags, resized_stored, row_at};
+ghost use Rattle.termwiz_screen.specs.{AreFilled, AreLetters, ArePartly, ArePartlyReset, IsPartly};
+ghost use Rattle.termwiz_screen.specs.{AreVectors, IfOk, IsPruned, KeepSides, KeepsSide, OnErr, ℕ};
+ghost use Rattle.termwiz_screen.specs.{OnOk, blank, cells_of, chars, deque_capacity, deque_len};
+ghost use Rattle.termwiz_screen.specs.{drop, false, fill, is_plain, list_all, map, needs_box, take};
+ghost use Rattle.termwiz_screen.specs.{no_flags, numberless, painted_in, region_down, region_up};
+ghost use Rattle.termwiz_screen.specs.{region_reversed, region_turned, replicate, resized, row_at};
 ghost use Rattle.termwiz_screen.specs.{row_chars, row_flags, screen_chars, scrolled, set_letters};
 ghost use Rattle.termwiz_screen.specs.{set_run, slice_set, string_bytes, true, with_line_attribute};
 
+mod resizing;
+
+pub use resizing::resize_rows;
 use std::alloc::{AllocError, Global};
 use std::collections::VecDeque;
 use termwiz_cell::cell::{Cell, CellAttributes};
@@ -294,92 +296,6 @@ pub fn scroll_region_down(
     let kept = size - gone;
     blank_some(rows, width, first + kept, gone)?;
     turn_region(rows, first, size, kept);
-    Ok(())
-}
-
-// Whether a row can be cut to the width in place, for which it needs no memory.
-fn is_cut_in_place(row: &Line, width: usize) -> bool
-    ensures { result ≡ cuts_in_place width row.now }
-{
-    row.stored_cells().is_some() && width <= row.len()
-}
-
-// The row in the width, where it can't be cut in place.
-fn copy_in_width(row: &Line, width: usize) -> Result<Option<Line>, AllocError>
-    ensures { IfOk result (λ copy. copy ≡ copy_in width row.now) }
-{
-    if is_cut_in_place(row, width) {
-        return Ok(None);
-    }
-    let copy = row.resized_clone(width)?;
-    Ok(Some(copy))
-}
-
-// The copies in this width of the first rows, for those that get longer.
-fn copies_in_width(
-    alloc: Global,
-    rows: &VecDeque<Line>,
-    width: usize,
-    height: usize,
-) -> Result<VecDeque<Option<Line>>, AllocError>
-    ensures { IfOk result (λ made. made.items ≡ map (copy_in width) (take height rows.now.items)) }
-{
-    let end = height.min(rows.len());
-    let mut copies = VecDeque::with_capacity(alloc, end)?;
-    for i in 0..end {
-        copies.push_back_reserved(copy_in_width(&rows[i], width)?);
-    }
-    Ok(copies)
-}
-
-// Cuts a row in place, or puts its copy there.
-fn put_width(row: &mut Line, copy: Option<Line>, width: usize)
-    requires { copy ≡ copy_in width row.old }
-    ensures { row.new ≡ in_width width row.old }
-{
-    match copy {
-        Some(copy) => *row = copy,
-        None => row.resize(width, SEQ_ZERO).unwrap(),
-    }
-}
-
-// Cuts each row in place, or puts its copy there.
-fn put_widths(rows: &mut VecDeque<Line>, copies: VecDeque<Option<Line>>, width: usize)
-    requires { copies.items ≡ map (copy_in width) rows.old.items }
-    ensures rows { rows.new.items ≡ map (in_width width) rows.old.items }
-    ensures room { deque_capacity rows.new ≡ deque_capacity rows.old }
-{
-    let mut copies = copies;
-    for i in 0..rows.len() {
-        let copy = copies.pop_front().unwrap();
-        put_width(&mut rows[i], copy, width);
-    }
-}
-
-/// Cuts or fills each row to the width, and their number to the height by rows of default blanks.
-/// On an error the rows are as before.
-pub fn resize_rows(
-    alloc: Global,
-    rows: &mut VecDeque<Line>,
-    width: usize,
-    height: usize,
-) -> Result<(), AllocError>
-    ensures ok { OnOk result (
-        cells_of rows.new.items ≡ resized_stored width height (cells_of rows.old.items)) }
-    ensures flags { OnOk result (
-        row_flags rows.new.items ≡ resized_flags height (row_flags rows.old.items)) }
-    ensures err { OnErr result (rows.new.items ≡ rows.old.items) }
-    ensures vectors { AreVectors rows.old.items → AreVectors rows.new.items }
-{
-    // All that can fail comes before the first row is changed.
-    let copies = copies_in_width(alloc, rows, width, height)?;
-    let missing = height - copies.len();
-    let mut below = VecDeque::with_capacity(alloc, missing)?;
-    add_blank_rows(alloc, &mut below, width, missing)?;
-    rows.reserve(missing)?;
-    rows.truncate(height);
-    put_widths(rows, copies, width);
-    rows.append(&mut below).unwrap();
     Ok(())
 }
 

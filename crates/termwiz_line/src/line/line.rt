@@ -3,9 +3,9 @@ ghost use Rattle.std.specs.Prelude.{◌≡◌, ◌≤◌, ◌↔◌, if◌then�
 ghost use Rattle.termwiz_line.specs.{AreClusters, IfOk, IsEdited, IsOk, IsTrue, IsUnchanged, None};
 ghost use Rattle.termwiz_line.specs.{IsWhole, OnOk, Some, blank, cells_eq, cells_in, cells_left};
 ghost use Rattle.termwiz_line.specs.{change_value, contents_eq, contents_eq-Decides, decided, map};
-ghost use Rattle.termwiz_line.specs.{false, flags_eq, in_width, is_vector, length, line_contents};
-ghost use Rattle.termwiz_line.specs.{line_eq, no_flags, on_equiv, on_per, partial_equiv_from_equiv};
-ghost use Rattle.termwiz_line.specs.{resized, row_entries, true, visible};
+ghost use Rattle.termwiz_line.specs.{false, flags_eq, is_vector, length, line_contents, line_eq};
+ghost use Rattle.termwiz_line.specs.{no_flags, on_equiv, on_per, partial_equiv_from_equiv, resized};
+ghost use Rattle.termwiz_line.specs.{row_entries, true, visible};
 
 use crate::cellcluster::CellCluster;
 use crate::entries::row_entries;
@@ -212,18 +212,6 @@ impl Line {
     {
         let storage = self.storage.resized_copy(width)?;
         Ok(Line::of(self.alloc, storage, seqno))
-    }
-
-    /// A copy that is stored as a vector, with the line's number and flags, cut to this many
-    /// columns, or grown to them as by `resize`.
-    #[doc(hidden)]
-    pub fn resized_clone(&self, width: usize) -> Result<Line, AllocError>
-        ensures { IfOk result (λ line. line ≡ in_width width self.now) }
-    {
-        let storage = self.storage.resized_copy(width)?;
-        let mut line = Line::of(self.alloc, storage, self.seqno);
-        line.bits = self.bits;
-        Ok(line)
     }
 
     /// Stores the cells as one text, which mostly takes far less memory than a vector: for what is

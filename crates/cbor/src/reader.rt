@@ -40,6 +40,7 @@ impl<'a> Reader<'a> {
     }
 
     // The first byte, which stays.
+    #[inline(always)]
     fn first(&self) -> Result<u8, ReadError>
         ensures { Gives (λ x. x) result (first_at self.now.bytes.now) }
     {
@@ -50,6 +51,7 @@ impl<'a> Reader<'a> {
     }
 
     // The first byte.
+    #[inline(always)]
     fn byte(&mut self) -> Result<u8, ReadError>
         ensures { Gives (λ x. (x, self.new.bytes.now)) result (byte_at self.old.bytes.now) }
     {
@@ -283,7 +285,7 @@ impl<'a> Reader<'a> {
     }
 
     /// Decodes an integer that is not below 0.
-    #[inline]
+    #[inline(always)]
     pub fn unsigned(&mut self) -> Result<usize, ReadError>
         // What is encoded so is decoded.
         ensures again { (n : ℕ) (rest : List ℕ) → n < 2 ^ 64 →
@@ -301,7 +303,7 @@ impl<'a> Reader<'a> {
     }
 
     /// Decodes an integer from 0 up to the limit, which is out of range.
-    #[inline]
+    #[inline(always)]
     pub fn below(&mut self, limit: usize) -> Result<usize, ReadError>
         ensures below { IfOk result (λ x. x < limit) }
         // What is encoded so is decoded.
@@ -352,7 +354,7 @@ impl<'a> Reader<'a> {
     }
 
     /// Decodes null.
-    #[inline]
+    #[inline(always)]
     pub fn null(&mut self) -> Result<(), ReadError>
         // What is encoded so is decoded.
         ensures again { (rest : List ℕ) → self.old.bytes.now ≡ null ++ rest →
@@ -385,7 +387,7 @@ impl<'a> Reader<'a> {
     }
 
     /// Decodes the head of an array: the number of items that follow.
-    #[inline]
+    #[inline(always)]
     pub fn array(&mut self) -> Result<usize, ReadError>
         // What is encoded so is decoded.
         ensures again { (n : ℕ) (rest : List ℕ) → n < 2 ^ 64 →
@@ -402,7 +404,7 @@ impl<'a> Reader<'a> {
     }
 
     /// Decodes the head of an array of so many items.
-    #[inline]
+    #[inline(always)]
     pub fn array_of(&mut self, count: usize) -> Result<(), ReadError>
         // What is encoded so is decoded.
         ensures again { (rest : List ℕ) → self.old.bytes.now ≡ array count ++ rest →
@@ -419,7 +421,7 @@ impl<'a> Reader<'a> {
     }
 
     /// The kind of the item that comes next, which stays.
-    #[inline]
+    #[inline(always)]
     pub fn kind(&self) -> Result<Kind, ReadError>
         ensures { Gives (λ x. x) result (kind_at self.now.bytes.now) }
     {

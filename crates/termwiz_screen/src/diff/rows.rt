@@ -153,7 +153,8 @@ fn print_visible<'a>(
     }
 }
 
-// The same of stored cells, which are read beside the own ones.
+// Prints stored cells at the region's columns, read beside the own ones, and returns the column
+// behind the last one.
 fn print_stored<'a>(
     writer: &mut DiffWriter<'a>,
     own: &[Cell],
@@ -257,7 +258,8 @@ fn print_unless_stored<'a>(
     Ok(shown)
 }
 
-// The same of a line that is stored as one text, by a walk.
+// Prints the visible cells of a line that is stored as one text, and returns the column behind the
+// last one.
 fn print_walk<'a>(
     writer: &mut DiffWriter<'a>,
     own: &[Cell],

@@ -1,5 +1,5 @@
 //! A width value of one's own: the widths of the Unicode tables, but for one character.
-ghost use Rattle.std.specs.Prelude.{◌≡◌, ◌∷◌, [], IfOk, bytes_eq, if◌then◌else◌};
+ghost use Rattle.std.specs.Prelude.{◌≡◌, IfOk};
 ghost use Rattle.uses.specs.{IsSurfaceSize};
 
 use std::alloc::{AllocError, Global};
@@ -11,6 +11,7 @@ use termwiz_surface::{Surface, UnicodeWidths, Widths};
 pub struct WideEllipsis;
 
 impl Widths for WideEllipsis {
+    ghost use Rattle.std.specs.Prelude.{[], ◌∷◌, if◌then◌else◌, bytes_eq};
     ghost use Rattle.std.proofs.Common.{arith};
     ghost use Rattle.termwiz_surface.specs.{Text, unicode_columns, unicode_columns-le, variation};
     ghost use Rattle.termwiz_surface.specs.{unicode_columns-space};

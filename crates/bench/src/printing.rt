@@ -15,7 +15,8 @@ const KANA: &str = "かきくけこさしすせそたちつてとなにぬねの
 
 // A line of 60 characters, and one of 120.
 const LINES: &str = "12:00:01 started, and reads what its settings say to be read\r\n\
-12:00:02 listening at port 8080 of each address; says nothing more of those that were refused than what is said here now\r\n";
+12:00:02 listening at port 8080 of each address; says nothing more of those that were \
+refused than what is said here now\r\n";
 
 pub fn plain(alloc: Global, count: u32) -> Result<usize, SurfaceError> {
     printed(alloc, 24, PLAIN, count)

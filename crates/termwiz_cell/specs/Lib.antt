@@ -35,7 +35,7 @@ pub use Rattle.std.specs.Fmt.{WritesOnOk}
 pub use Rattle.std.specs.Int.{int_rem_euclid, w64}
 pub use Rattle.std.specs.Int.RustNames.{FitsSigned, int_rem}
 pub use Rattle.std.specs.List.{list_all}
-pub use Rattle.std.specs.Prelude.{IfErr, IfOk, IfSome, IsOk, IsTrue, IsUtf8, None, OnErr, OnOk, Some, bytes_eq, codes, false, length, map, not, pos, true, ℤ}
+pub use Rattle.std.specs.Prelude.{IfErr, IfOk, IfSome, IsOk, IsSome, IsTrue, IsUtf8, None, OnErr, OnOk, Some, ℤ, bytes_eq, codes, false, length, map, not, pos, true}
 pub use Rattle.std.specs.Str.{chars}
 pub use Rattle.termwiz_cell.specs.AnsiColor.{ansi_index}
 pub use Rattle.termwiz_cell.specs.AttributeChangeValue.{attribute_change_eq, attribute_change_eq-Decides, attribute_change_value, is_link, takes_memory, with_attribute}

@@ -1,11 +1,10 @@
 //! Cells.
-ghost use Rattle.std.specs.Prelude.{◌≡◌, ◌↔◌, ◌≤◌, ◌&&◌, IfOk, IsSome, MatchOption, encode_utf8};
-ghost use Rattle.std.specs.Prelude.{unwrap_or};
-ghost use Rattle.termwiz_cell.specs.{IfSome, IsOk, IsTrue, LendsAttrs, at_version, blank, blank_of};
-ghost use Rattle.termwiz_cell.specs.{cell_eq, cell_eq-Decides, cell_of, clean, columns, decided};
-ghost use Rattle.termwiz_cell.specs.{false, is_one_plain, is_plain, is_wide, length, measure, not};
-ghost use Rattle.termwiz_cell.specs.{measured, needs_box, owns_memory, partial_equiv_from_equiv};
-ghost use Rattle.termwiz_cell.specs.{plain_cell, sem, true};
+ghost use Rattle.std.specs.Prelude.{IfOk, MatchOption, encode_utf8, unwrap_or, ◌&&◌, ◌↔◌, ◌≡◌, ◌≤◌};
+ghost use Rattle.termwiz_cell.specs.{IsOk, cell_eq-Decides, is_one_plain, partial_equiv_from_equiv};
+ghost use Rattle.termwiz_cell.specs.{LendsAttrs, at_version, needs_box, owns_memory, plain_cell};
+ghost use Rattle.termwiz_cell.specs.{blank_of, cell_eq, cell_of, columns, is_plain, measured, true};
+ghost use Rattle.termwiz_cell.specs.{IfSome, IsSome, IsTrue, decided, is_wide, length, measure};
+ghost use Rattle.termwiz_cell.specs.{blank, clean, false, not, sem};
 
 mod attribute_change;
 mod attributes;

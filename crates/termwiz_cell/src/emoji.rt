@@ -189,13 +189,7 @@ impl Widths for UnicodeWidths {
     ghost space_has_one = { λ _ _. unicode_columns-space };
 
     // For one character of printable ASCII, of kana, or of the common ideographs no table is read.
-    #[tactic(
-        auto,
-        using(
-            crate::proofs::PlainWidths::one_plain_width,
-            crate::proofs::PlainWidths::one_letter_width
-        )
-    )]
+    #[tactic(auto, using(crate::proofs::PlainWidths::one_plain_width, crate::proofs::PlainWidths::one_letter_width))]
     fn width(&self, text: &str, _version: Option<UnicodeVersion>) -> usize {
         if is_one_plain(text) {
             1

@@ -41,7 +41,7 @@ pub use Rattle.std.specs.Cmp.{decided, on_equiv, on_per, partial_equiv_from_equi
 pub use Rattle.std.specs.Cmp.Lexicographic.{pointwise}
 pub use Rattle.std.specs.List.{list_all}
 pub use Rattle.std.specs.Option.{IfSome, IsNone, option_copied}
-pub use Rattle.std.specs.Prelude.{IfOk, IsOk, List, OnErr, OnOk, drop, false, fold, length, map, min, nat_lt, not, replicate, slice_set, string_bytes, take, true, ℕ}
+pub use Rattle.std.specs.Prelude.{IfOk, IsOk, IsTrue, List, OnErr, OnOk, drop, false, fold, length, map, min, nat_lt, not, replicate, slice_set, string_bytes, take, true, ℕ}
 pub use Rattle.std.specs.Str.{chars}
 pub use Rattle.std.specs.VecDeque.{deque_capacity, deque_len}
 pub use Rattle.termwiz_cell.specs.Attributes.{attributes_eq, color_eq, default_attributes, has_only_background, needs_box, with_background}

@@ -120,7 +120,7 @@ pub use Rattle.termwiz_cell.specs.declared.change.LineAttribute.TheVariants.{Dou
 pub use Rattle.std.specs.Cow.{cow_slice_items}
 pub use Rattle.std.specs.List.{All, Any}
 pub use Rattle.std.specs.Option.{IfSome, IsNone}
-pub use Rattle.std.specs.Prelude.{true}
+pub use Rattle.std.specs.Prelude.{IfOk, length, nat_lt, true}
 pub use Rattle.termwiz_surface.specs.Accepting.{Declines, HasDropped, MayTake}
 pub use Rattle.termwiz_surface.specs.FollowingLaws.{ChangesLeadOn, FlushesKeepLeading, LeadsWhereItIs, RestartsKeepLeading, StreamsLeadOn}
 pub use Rattle.termwiz_surface.specs.HistoryLaws.{AnswersStay, CarriedLead, ChangesGoOn, FlushesKeepPast, GivenCarry, NamedAreLed, NamesStay, NothingIsNamedAtFirst, NumberNamesPicture, RestartsGoOn}

@@ -1,7 +1,6 @@
 //! Runs of events on a surface.
-ghost use Rattle.std.specs.Prelude.{IfOk};
-ghost use Rattle.termwiz_surface.specs.{All, IsFullSchedule, IsInRange, IsSchedule};
-ghost use Rattle.termwiz_surface.specs.{IsScheduleOf, IsSurfaceSize, measure};
+ghost use Rattle.termwiz_surface.specs.{IsFullSchedule, IsSchedule, IsScheduleOf, IsSurfaceSize};
+ghost use Rattle.termwiz_surface.specs.{All, IfOk, IsInRange, measure};
 
 mod many;
 mod serving;

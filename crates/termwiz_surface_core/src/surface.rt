@@ -1,10 +1,9 @@
 //! Surfaces.
 ghost use Rattle.std.specs.Prelude.{◌≡◌, ◌+◌, ◌-◌, ◌<◌, ◌^◌, ◌∷◌, [], IfOk, OnErr, length, vec_len};
-ghost use Rattle.termwiz_surface_core.specs.{Adds, Becomes, IsOk, IsSound, IsSurfaceSize};
-ghost use Rattle.termwiz_surface_core.specs.{KeepsNames, KeepsViewers, Makes, OnOk, Refuses};
-ghost use Rattle.termwiz_surface_core.specs.{SameFrame, blank_surface, change_value, false};
-ghost use Rattle.termwiz_surface_core.specs.{kept_of, lengths_of, map, measure, next_number};
-ghost use Rattle.termwiz_surface_core.specs.{region_fits, regions_fit, screen_of, true};
+ghost use Rattle.termwiz_surface_core.specs.{IsSurfaceSize, KeepsViewers, SameFrame, blank_surface};
+ghost use Rattle.termwiz_surface_core.specs.{change_value, next_number, region_fits, regions_fit};
+ghost use Rattle.termwiz_surface_core.specs.{IsSound, KeepsNames, Makes, Refuses, false, measure};
+ghost use Rattle.termwiz_surface_core.specs.{Adds, IsOk, OnOk, map, true};
 
 mod answer;
 mod answers;

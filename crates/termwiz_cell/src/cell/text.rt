@@ -1,9 +1,8 @@
 //! The text of a cell, and whether it takes two columns.
-ghost use Rattle.std.specs.Prelude.{◌≡◌, ◌↔◌, ◌≤◌, ◌&&◌, ◌∷◌, [], IsSome, MatchOption, false};
-ghost use Rattle.std.specs.Prelude.{string_bytes};
-ghost use Rattle.termwiz_cell.specs.{HasTextForm, IfOk, IfSome, IsOk, IsTrue, beq, bytes_eq, clean};
-ghost use Rattle.termwiz_cell.specs.{is_one_plain, is_plain, length, not, space, text_in, true};
-ghost use Rattle.termwiz_cell.specs.{wide_in};
+ghost use Rattle.std.specs.Prelude.{MatchOption, [], false, string_bytes, ◌&&◌, ◌↔◌, ◌∷◌, ◌≡◌, ◌≤◌};
+ghost use Rattle.termwiz_cell.specs.{HasTextForm, bytes_eq, clean, is_one_plain, is_plain, text_in};
+ghost use Rattle.termwiz_cell.specs.{IfOk, IfSome, IsOk, IsSome, IsTrue, length, space, wide_in};
+ghost use Rattle.termwiz_cell.specs.{beq, not, true};
 
 use super::short_text::{is_same_short, only_byte, plain_text, short_text, space_text};
 use arrayvec::ArrayString;
@@ -140,14 +139,7 @@ impl CellText {
     /// Whether both are the same text of the same width. A text's length and width decide its form,
     /// so texts of two forms differ.
     #[inline(always)]
-    #[tactic(
-        auto,
-        using(
-            crate::proofs::TextForms::short_differs_from_long,
-            crate::proofs::TextForms::long_differs_from_short,
-            crate::proofs::TextForms::clean_filled
-        )
-    )]
+    #[tactic(auto, using(crate::proofs::TextForms::short_differs_from_long, crate::proofs::TextForms::long_differs_from_short, crate::proofs::TextForms::clean_filled))]
     pub(super) fn is_same(&self, other: &CellText) -> bool
         requires self_stored { HasTextForm self.now }
         requires other_stored { HasTextForm other.now }

@@ -42,7 +42,8 @@ impl From<AllocError> for SequenceError {
 ///
 /// It serves a program that doesn't own the whole screen, as a line editor, whose output begins
 /// wherever the cursor was when it was called. So places are counted from there: the cursor begins
-/// at column 0 of row 0, and rows above that one are below 0. Nothing scrolls, and rows have no end.
+/// at column 0 of row 0, and rows above that one are below 0. Nothing scrolls, and rows have no
+/// end.
 ///
 /// A text moves the cursor's column as on a surface of that many columns and with that width value.
 #[derive(Drop)]

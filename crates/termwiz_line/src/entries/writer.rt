@@ -1,11 +1,9 @@
 //! A writer of row entries.
 ghost use Rattle.std.specs.Prelude.{◌≡◌, ◌++◌, ◌∷◌, ◌+◌, ◌&&◌, ◌-◌, ◌<◌, [], IsTrue, bytes_eq};
-ghost use Rattle.termwiz_line.specs.{IfOk, IsInText, IsLastOf, IsUnderWay, IsWritten, List, OnOk};
-ghost use Rattle.termwiz_line.specs.{VisibleCell, and_cells, attributes_eq, behind, cells_left};
-ghost use Rattle.termwiz_line.specs.{change_value, ends_printable, false, is_text, last_is, length};
-ghost use Rattle.termwiz_line.specs.{nat_lt, not, option_copied, penned_value, space, spaces_of};
-ghost use Rattle.termwiz_line.specs.{true};
-ghost use Rattle.termwiz_text.specs.Plain as plain;
+ghost use Rattle.termwiz_line.specs.{attributes_eq, change_value, not, option_copied, penned_value};
+ghost use Rattle.termwiz_line.specs.{IsWritten, VisibleCell, and_cells, cells_left, spaces_of};
+ghost use Rattle.termwiz_line.specs.{IsInText, IsLastOf, behind, is_text, last_is, length, nat_lt};
+ghost use Rattle.termwiz_line.specs.{IfOk, List, OnOk, false, space, true};
 ghost use Rattle.termwiz_cell.specs.Attributes as attributes;
 ghost use Rattle.termwiz_line.specs.Entries as spec;
 
@@ -17,7 +15,6 @@ use std::marker::Model;
 use termwiz_cell::cell::CellAttributes;
 use termwiz_cell::change::Change;
 use termwiz_storage::line::cellref::VisibleCellIter;
-use termwiz_storage::line::vecstorage::VecStorageIter;
 
 /// Writes rows of visible cells as entries: a pen for each run of equal attributes, then its texts.
 /// Spaces at the end of a row are left out where their attributes are default but for the

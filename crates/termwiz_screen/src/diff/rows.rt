@@ -1,11 +1,11 @@
 //! The cells that a diff prints, row by row.
-ghost use Rattle.std.specs.Prelude.{◌≡◌, ◌+◌, ◌-◌, ◌<◌, ◌≤◌, ◌^◌, ◌∷◌, ◌↔◌, if◌then◌else◌, [], IsTrue};
+ghost use Rattle.std.specs.Prelude.{◌≡◌, ◌+◌, ◌-◌, ◌<◌, ◌≤◌, ◌^◌, ◌∷◌, ◌↔◌, if◌then◌else◌, []};
 ghost use Rattle.termwiz_screen.specs.{AreHalved, AreVectors, CellValue, EndsBlank, HasHalves, map};
 ghost use Rattle.termwiz_screen.specs.{IfOk, IsOfCell, List, OnOk, at_column, band, blank, cell_eq};
 ghost use Rattle.termwiz_screen.specs.{cells_left, cells_of, deque_len, false, fold, hides, in_row};
 ghost use Rattle.termwiz_screen.specs.{is_hidden, is_wide, length, min, nat_lt, need, print_out, ℕ};
-ghost use Rattle.termwiz_screen.specs.{ref_cell, region_value, row_need, row_of, shows, stored, true};
-ghost use Rattle.termwiz_screen.specs.{visible};
+ghost use Rattle.termwiz_screen.specs.{ref_cell, region_value, row_need, row_of, shows, stored};
+ghost use Rattle.termwiz_screen.specs.{IsTrue, true, visible};
 
 use super::region::Region;
 use super::writer::DiffWriter;

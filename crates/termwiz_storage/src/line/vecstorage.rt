@@ -1,16 +1,14 @@
 //! Cells stored one by one.
-ghost use Rattle.std.specs.Prelude.{◌≡◌, ◌+◌, ◌*◌, ◌-◌, ◌<◌, ◌≤◌, ◌↔◌, ◌++◌, [], replicate};
-ghost use Rattle.std.specs.Prelude.{vec_capacity};
-ghost use Rattle.termwiz_storage.specs.{AreLetters, IfOk, IfSome, IsBlanked, IsFilledTo, IsKept};
-ghost use Rattle.termwiz_storage.specs.{IsOfCell, IsOk, IsTrue, LendsCells, OnErr, OnOk};
-ghost use Rattle.termwiz_storage.specs.{OwnNothing, blank, cell_at, cells_eq, cells_eq-Decides};
-ghost use Rattle.termwiz_storage.specs.{chars, decided, false, fill, half, hides, is_linked};
-ghost use Rattle.termwiz_storage.specs.{is_plain, is_wide, length, list_all, list_any, map};
-ghost use Rattle.termwiz_storage.specs.{needs_box, option_map, owns_memory, padded};
-ghost use Rattle.termwiz_storage.specs.{partial_equiv_from_equiv, plain_cell, put_letters, put_run};
-ghost use Rattle.termwiz_storage.specs.{ref_cell, ref_index, resized, sem, set_cell, take};
-ghost use Rattle.termwiz_storage.specs.{set_letters, set_run, slice_set, stored, torn, true};
-ghost use Rattle.termwiz_storage.specs.{vec_len, visible};
+ghost use Rattle.std.specs.Prelude.{[], vec_capacity, ◌*◌, ◌++◌, ◌+◌, ◌-◌, ◌<◌, ◌↔◌, ◌≡◌, ◌≤◌};
+ghost use Rattle.termwiz_storage.specs.{cells_eq-Decides, owns_memory, partial_equiv_from_equiv};
+ghost use Rattle.termwiz_storage.specs.{AreLetters, IsFilledTo, IsOfCell, put_letters, set_letters};
+ghost use Rattle.termwiz_storage.specs.{IsBlanked, LendsCells, OwnNothing, option_map, plain_cell};
+ghost use Rattle.termwiz_storage.specs.{is_linked, map, needs_box, ref_index, replicate, slice_set};
+ghost use Rattle.termwiz_storage.specs.{cells_eq, is_plain, list_all, list_any, ref_cell, set_cell};
+ghost use Rattle.termwiz_storage.specs.{IfOk, cell_at, decided, is_wide, put_run, resized, set_run};
+ghost use Rattle.termwiz_storage.specs.{IfSome, IsKept, IsTrue, length, padded, vec_len, visible};
+ghost use Rattle.termwiz_storage.specs.{IsOk, OnErr, OnOk, blank, chars, false, hides, sem, stored};
+ghost use Rattle.termwiz_storage.specs.{fill, half, take, torn, true};
 
 mod edits;
 mod walk;

@@ -1,12 +1,11 @@
 //! Viewers: surfaces that follow another one, or accept its answers.
-ghost use Rattle.std.specs.Prelude.{◌≡◌, ◌+◌, ◌-◌, ◌<◌, ◌^◌, [], Err, IfErr, IfOk, Ok, OnErr, OnOk};
-ghost use Rattle.std.specs.Prelude.{length, nat_lt};
-ghost use Rattle.termwiz_surface.specs.{Accepts, Adds, Declines, Fetches, Fits, Follows, FollowsTo};
-ghost use Rattle.termwiz_surface.specs.{HasCaughtUp, HasDropped, HasFullSize, IsSurfaceSize};
-ghost use Rattle.termwiz_surface.specs.{KeepsNames, KeepsShowing, KeepsViewers, Makes, MayTake};
-ghost use Rattle.termwiz_surface.specs.{Resizes, ShowsCarried, StaysNamed, Takes, blank_viewer};
-ghost use Rattle.termwiz_surface.specs.{flushed, forgetful, full_of, full_screens, measure};
-ghost use Rattle.termwiz_surface.specs.{next_number, screens, stream_of, true, with_log};
+ghost use Rattle.std.specs.Prelude.{Err, IfErr, IfOk, Ok, OnErr, OnOk, [], ◌+◌, ◌-◌, ◌<◌, ◌^◌, ◌≡◌};
+ghost use Rattle.termwiz_surface.specs.{IsSurfaceSize, KeepsShowing, KeepsViewers, ShowsCarried};
+ghost use Rattle.termwiz_surface.specs.{Adds, HasCaughtUp, HasFullSize, blank_viewer, full_screens};
+ghost use Rattle.termwiz_surface.specs.{FollowsTo, HasDropped, KeepsNames, StaysNamed, next_number};
+ghost use Rattle.termwiz_surface.specs.{Accepts, Declines, Fetches, forgetful, stream_of, with_log};
+ghost use Rattle.termwiz_surface.specs.{Fits, Follows, MayTake, Resizes, flushed, full_of, measure};
+ghost use Rattle.termwiz_surface.specs.{Makes, Takes, length, nat_lt, screens, true};
 ghost use Rattle.termwiz_surface_core.specs.SurfaceValue.{SurfaceValue};
 
 use crate::surface::{Answer, Surface, SurfaceError};

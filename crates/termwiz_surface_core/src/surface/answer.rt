@@ -1,10 +1,9 @@
 //! Answers that can be carried off, and accepted by viewers later.
 ghost use Rattle.std.specs.Prelude.{◌≡◌, ◌≤◌, if◌then◌else◌, IfOk, None, false, length};
-ghost use Rattle.termwiz_surface_core.specs.{CarriesTo, FullScreen, IsBorrowedSlice, IsGivenBy};
-ghost use Rattle.termwiz_surface_core.specs.{IsOwnedSlice, IsPastOf, IsSurfaceSize, Screen, Some};
-ghost use Rattle.termwiz_surface_core.specs.{change_value, full_screens, knows, map, measure};
-ghost use Rattle.termwiz_surface_core.specs.{most_own_entries, own_repaint, regions_fit, screens};
-ghost use Rattle.termwiz_surface_core.specs.{true, ℕ};
+ghost use Rattle.termwiz_surface_core.specs.{IsBorrowedSlice, IsSurfaceSize, map, most_own_entries};
+ghost use Rattle.termwiz_surface_core.specs.{IsOwnedSlice, change_value, full_screens, own_repaint};
+ghost use Rattle.termwiz_surface_core.specs.{CarriesTo, FullScreen, IsGivenBy, Screen, regions_fit};
+ghost use Rattle.termwiz_surface_core.specs.{IsPastOf, Some, ℕ, knows, measure, screens, true};
 
 use super::Surface;
 use std::alloc::AllocError;

@@ -1,9 +1,8 @@
 //! Rows of cells that are stored one by one, most of which are one character of printable ASCII in
 //! the pen that stands.
-ghost use Rattle.std.specs.Prelude.{◌≡◌, ◌++◌, ◌∷◌, ◌≤◌, ◌&&◌, ◌==◌, []};
+ghost use Rattle.std.specs.Prelude.{◌≡◌, ◌++◌, ◌∷◌, ◌≤◌, ◌&&◌, ◌==◌, [], length, true};
 ghost use Rattle.termwiz_line.specs.{IsInText, IsUnderWay, IsWritten, List, OnOk, VisibleCell};
-ghost use Rattle.termwiz_line.specs.{and_cells, ends_printable, last_is, length, spaces_of, true};
-ghost use Rattle.termwiz_text.specs.Plain as plain;
+ghost use Rattle.termwiz_line.specs.{and_cells, ends_printable, is_plain, last_is, spaces_of};
 ghost use Rattle.termwiz_line.specs.Entries as spec;
 
 use super::{RowWriter, added};
@@ -79,7 +78,7 @@ impl<'a> RowWriter<'a> {
     // A cell of one character of printable ASCII comes next, in the pen that stands.
     #[inline(always)]
     fn plain_cell(&mut self, byte: u8) -> Result<(), AllocError>
-        requires plain { plain.is_plain byte ≡ true }
+        requires plain { is_plain byte ≡ true }
         requires text { IsInText self.old }
         ensures cell { OnOk result (
             (from : spec.Penned) (cells : List VisibleCell) (p : VisibleCell) →

@@ -1,4 +1,6 @@
 //! Surfaces that are changed, and followed by a viewer.
+ghost use Rattle.termwiz_surface.specs.{IsSurfaceSize};
+
 use crate::given::colored_pen;
 use crate::scene::{
     Before, Kind, Scene, Shown, catches_up, frame_of, is_after_refused_list, is_as_before,
@@ -18,18 +20,20 @@ enum Turn {
     Draw,
     Copy,
     Resize,
+    Grow,
     Ask,
     Read,
 }
 
 // One behind another.
-const TURNS: [Turn; 9] = [
+const TURNS: [Turn; 10] = [
     Turn::Print,
     Turn::Follow,
     Turn::Scroll,
     Turn::Draw,
     Turn::Copy,
     Turn::Resize,
+    Turn::Grow,
     Turn::Follow,
     Turn::Ask,
     Turn::Read,
@@ -74,7 +78,8 @@ fn take(alloc: Global, scene: &mut Scene, turn: Turn) -> Result<(), Stop> {
         Turn::Follow => followed(scene),
         Turn::Draw => drawn(sprite(alloc)?, scene),
         Turn::Copy => copied(scene),
-        Turn::Resize => resized(scene),
+        Turn::Resize => resized(scene, 2, 3),
+        Turn::Grow => resized(scene, 40, 3),
         Turn::Ask => asked(&scene.surface),
         Turn::Read => read(&scene.surface),
     }
@@ -145,13 +150,15 @@ fn copied_to(
     }
 }
 
-fn resized(scene: &mut Scene) -> Result<(), Stop> {
+fn resized(scene: &mut Scene, width: usize, height: usize) -> Result<(), Stop>
+    requires { IsSurfaceSize width height }
+{
     let before = stand(&scene.surface)?;
-    match scene.surface.resize(2, 3) {
+    match scene.surface.resize(width, height) {
         Ok(()) => Ok(()),
         Err(SurfaceError::Memory) => {
             let stood = is_as_before(&scene.surface, &before);
-            let again = scene.surface.resize(2, 3).is_ok();
+            let again = scene.surface.resize(width, height).is_ok();
             refused("resize", stood && again && catches_up(scene))
         }
         Err(_) => Err(Stop::Wrong("resize")),

@@ -1,8 +1,9 @@
 //! How wide texts are, and how they are shown.
-ghost use Rattle.std.specs.Prelude.{◌≡◌, false};
+ghost use Rattle.std.specs.Prelude.{◌≡◌, None, false, refl};
 ghost use Rattle.termwiz_cell.specs.{at_version, chars, columns_of, is_whitespace, list_all};
 ghost use Rattle.termwiz_cell.specs.{unicode_columns};
 ghost use Rattle.termwiz_cell.specs.Width as spec;
+ghost use Rattle.termwiz_cell.specs.declared.emoji.Presentation.TheVariants.{Text};
 
 use termwiz_text::{Graphemes, is_one_letter, is_one_plain};
 use unicode_width::UnicodeWidthStr;
@@ -137,9 +138,7 @@ pub trait Widths: Copy {
 pub struct OneColumn;
 
 impl Widths for OneColumn {
-    ghost use Rattle.std.specs.Prelude.{None, refl};
     ghost use Rattle.std.proofs.Common.{rules};
-    ghost use Rattle.termwiz_cell.specs.declared.emoji.Presentation.TheVariants.{Text};
 
     ghost width_of = { λ _ _ _. 1 };
 
@@ -176,7 +175,6 @@ pub struct UnicodeWidths;
 
 impl Widths for UnicodeWidths {
     ghost use Rattle.termwiz_cell.specs.WidthLaws.{unicode_columns-le, unicode_columns-space};
-    ghost use Rattle.termwiz_cell.specs.declared.emoji.Presentation.TheVariants.{Text};
 
     ghost width_of = { λ _ text _. unicode_columns text };
 

@@ -5,9 +5,7 @@ ghost use Rattle.termwiz_surface.specs.{FlushesKeepPast, FollowedFullLeadOn, Fol
 ghost use Rattle.termwiz_surface.specs.{LackNumbers, LeadsWhereItIs, NamedAreLed, NamesStay};
 ghost use Rattle.termwiz_surface.specs.{NothingIsNamedAtFirst, NumberNamesPicture, RestartsGoOn};
 ghost use Rattle.termwiz_surface.specs.{RestartsKeepLeading, StreamsLeadOn, full_screens, measure};
-ghost use Rattle.termwiz_surface.specs.{screens};
-ghost use Rattle.termwiz_screen.specs.FullScreen.{FullScreen};
-ghost use Rattle.termwiz_screen.specs.Screen.{Screen};
+ghost use Rattle.termwiz_surface.specs.{FullScreen, Screen, screens};
 
 use termwiz_cell::emoji::Widths;
 pub use termwiz_line::laws::{

@@ -251,7 +251,6 @@ impl<'a> Graphemes<'a> {
 impl<'a> Iterator for Graphemes<'a> {
     ghost use Rattle.std.specs.Iterator.{item_count};
     ghost use Rattle.unicode_segmentation.specs.Segments.{GivesFirst};
-    ghost use Rattle.termwiz_text.specs.Left.{graphemes_to_come};
 
     type Item = &'a str;
 

@@ -7,16 +7,15 @@ use termwiz_cell::color::ColorAttribute;
 use termwiz_cell::emoji::UnicodeWidths;
 use termwiz_surface::surface::Surface;
 use termwiz_surface::view::Viewer;
-use uses::comparison::show_the_same;
+use uses::damage::show_the_same;
 use uses::follower::{Follower, make_and_show};
-use uses::last_row::clear_last_row;
+use uses::last_row::{clear_last_row, draw_status};
 use uses::lines::{heading, word_at};
 use uses::mirror::Mirror;
 use uses::one_by_one::make_one_by_one;
 use uses::prompt::show_prompt;
 use uses::remote::show_heading;
 use uses::renderer::{refresh, refresh_all};
-use uses::status::draw_status;
 use uses::window::show_widget;
 
 fn text(rt: &impl Abort, alloc: Global, text: &str) -> Change {

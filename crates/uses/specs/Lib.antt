@@ -7,13 +7,13 @@ pub mod FirstLetters
 pub mod Late
 pub mod Client
 -- what the contracts of this crate use, by its name alone
-pub use Rattle.termwiz_surface.specs.{All, Any, AreRows, CellValue, DoubleWidthLine, Follows, FullScreen, HasDrawn, IsDiff, IsLower, IsPastOf, IsSurfaceSize, IsUnchanged, IsUpper, IsWrapped, KeepsNames, KeepsShowing, LineValue, MeasureAlike, Print, PrintsWithin, Screen, ShowsNamed, SingleWidthLine, SurfaceValue, ViewerValue, appended, blank_of, change_value, default_attributes, flushed, full_of, full_screens, is_known, line_contents, line_eq, measure, need, next_number, no_flags, print_all, printed, row_at, screen_after, screen_of, screens, stored, stored_text, texts_of, visible, whole, with_background, with_sizes}
+pub use Rattle.termwiz_surface.specs.{All, Any, AreRows, CellValue, DoubleWidthLine, Follows, FullScreen, HasDrawn, IsDiff, IsLower, IsPastOf, IsSurfaceSize, IsUnchanged, IsUpper, IsWrapped, KeepsNames, KeepsShowing, LineValue, MeasureAlike, Print, PrintsWithin, Screen, ShowsNamed, SingleWidthLine, SurfaceValue, ViewerValue, appended, change_value, default_attributes, flushed, full_of, full_screens, is_known, line_contents, line_eq, measure, need, next_number, no_flags, print_all, printed, row_at, screen_after, screen_of, screens, stored, stored_text, texts_of, visible, whole, with_sizes}
 pub use Rattle.cbor.specs.declared.error.ReadError.TheVariants.{Memory}
 pub use Rattle.uses.specs.declared.carried.ClientError.TheVariants.{Wire, Resize, Accept}
 pub use Rattle.uses.specs.Client.{Brings, BringsAll, HasTaken, IsLeft, Receives, ReceivesAll, Sent}
 pub use Rattle.uses.specs.FirstLetters.{SetsFirstLetters}
 pub use Rattle.uses.specs.Headings.{heading_changes}
-pub use Rattle.uses.specs.LastRow.{last_row_cleared}
+pub use Rattle.uses.specs.LastRow.{blank_in, last_row_cleared}
 pub use Rattle.uses.specs.Late.{AddsOne, IsOneBehind, IsServed}
 pub use Rattle.uses.specs.Prompt.{prompted}
 pub use Rattle.uses.specs.Status.{status_line}

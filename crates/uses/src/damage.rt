@@ -1,10 +1,24 @@
-//! Damage: what has to be painted anew on a canvas that is painted cell by cell.
-ghost use Rattle.std.specs.Prelude.{◌≡◌, [], IfOk, map};
+//! Whether two surfaces show the same, and the damage between them: what has to be painted anew on a
+//! canvas that is painted cell by cell.
+ghost use Rattle.std.specs.Prelude.{◌≡◌, ◌↔◌, [], IfOk, IsTrue, map};
 ghost use Rattle.uses.specs.{MeasureAlike, change_value, measure, print_all, printed, screen_of};
 
 use std::alloc::AllocError;
 use termwiz_surface::laws::need_laws;
 use termwiz_surface::{Change, Surface, Widths};
+
+/// Whether two surfaces show the same: size, rows, cursor, visibility and pen. They may measure
+/// texts differently.
+pub fn show_the_same<A: Widths, B: Widths>(
+    one: &Surface<A>,
+    other: &Surface<B>,
+) -> Result<bool, AllocError>
+    ensures { IfOk result (λ same. IsTrue same ↔ (screen_of one.now ≡ screen_of other.now)) }
+{
+    let one = one.screen()?;
+    let other = other.screen()?;
+    Ok(one == other)
+}
 
 /// The changes that print the damage between two surfaces of one size. A canvas that shows the rows
 /// of the last one shows those of the next one once just the cells that they print are painted, one

@@ -1,11 +1,13 @@
-//! The last row, cleared: what a reader wants of it in words, by the laws of rows.
-ghost use Rattle.std.specs.Prelude.{◌≡◌, ◌-◌, ◌<◌, IfOk, OnOk, map, ℕ};
-ghost use Rattle.uses.specs.{blank_of, change_value, last_row_cleared, row_at, screen_of, stored};
-ghost use Rattle.uses.specs.{with_background};
+//! The last row of a surface: cleared, or drawn as a status line.
+ghost use Rattle.std.specs.Prelude.{◌≡◌, ◌+◌, ◌-◌, ◌<◌, IfOk, OnOk, map, ℕ};
+ghost use Rattle.uses.specs.{appended, blank_in, change_value, last_row_cleared, measure, row_at};
+ghost use Rattle.uses.specs.{next_number, screen_after, screen_of, status_line, stored};
 
 use std::alloc::{AllocError, Global};
 use termwiz_surface::laws::{row_laws, stored_row_laws};
-use termwiz_surface::{Change, ColorAttribute, Position, Surface, SurfaceError, Widths};
+use termwiz_surface::{
+    CellAttributes, Change, ColorAttribute, Position, Surface, SurfaceError, Widths,
+};
 
 /// Clears the last row with a background. The rows above stay.
 /// At an error the surface keeps its size.
@@ -18,7 +20,7 @@ pub fn clear_last_row<W: Widths>(
         row_at (screen_of surface.new).rows j ≡ row_at (screen_of surface.old).rows j) }
     ensures cleared { OnOk result ((k : ℕ) → k < surface.old.width →
         stored (row_at (screen_of surface.new).rows (surface.old.height - 1)) k
-        ≡ blank_of (with_background background)) }
+        ≡ blank_in background) }
     ensures width { surface.new.width ≡ surface.old.width }
     ensures height { surface.new.height ≡ surface.old.height }
 {
@@ -41,6 +43,50 @@ fn clear_changes(alloc: Global, background: ColorAttribute) -> Result<Vec<Change
             y: Position::EndRelative(1),
         },
         Change::ClearToEndOfLine(background),
+    ]?;
+    Ok(changes)
+}
+
+/// Clears the last row with a background, and prints a text there with a pen.
+/// At an error the row may hold anything, and the surface keeps its size.
+pub fn draw_status<W: Widths>(
+    alloc: Global,
+    surface: &mut Surface<W>,
+    background: ColorAttribute,
+    pen: CellAttributes,
+    text: &str,
+) -> Result<(), SurfaceError>
+    ensures ok { OnOk result (screen_of surface.new
+        ≡ screen_after (measure W.width_of) surface.old (status_line background pen text.now)) }
+    ensures log { OnOk result (
+        surface.new.log ≡ appended surface.old.log (status_line background pen text.now)) }
+    ensures numbers { OnOk result (next_number surface.new.log ≡ next_number surface.old.log + 4) }
+    ensures width { surface.new.width ≡ surface.old.width }
+    ensures height { surface.new.height ≡ surface.old.height }
+{
+    let changes = status_changes(alloc, background, pen, text)?;
+    surface.add_changes(changes)?;
+    Ok(())
+}
+
+fn status_changes(
+    alloc: Global,
+    background: ColorAttribute,
+    pen: CellAttributes,
+    text: &str,
+) -> Result<Vec<Change>, AllocError>
+    ensures { IfOk result (λ changes.
+        map change_value changes.items ≡ status_line background pen text.now) }
+{
+    let text = Change::text_from(alloc, text)?;
+    let changes = vec![in alloc;
+        Change::CursorPosition {
+            x: Position::Absolute(0),
+            y: Position::EndRelative(1),
+        },
+        Change::ClearToEndOfLine(background),
+        Change::AllAttributes(pen),
+        text,
     ]?;
     Ok(changes)
 }

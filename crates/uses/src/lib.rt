@@ -2,7 +2,6 @@
 #![tactic(auto)]
 
 pub mod carried;
-pub mod comparison;
 pub mod damage;
 pub mod follower;
 pub mod last_row;
@@ -18,5 +17,4 @@ pub mod renderer;
 pub mod scrollback;
 pub mod shaper;
 pub mod sharing;
-pub mod status;
 pub mod window;

@@ -3,6 +3,7 @@ ghost use Rattle.std.specs.Prelude.{◌≡◌, ◌<◌};
 ghost use Rattle.termwiz_cell.specs.{blink_at, blink_number, intensity_at, intensity_number};
 ghost use Rattle.termwiz_cell.specs.{semantic_at, semantic_number, underline_at, underline_number};
 ghost use Rattle.termwiz_cell.specs.{vertical_at, vertical_number};
+ghost use Rattle.termwiz_cell.specs.Style.{is_blinking, is_underlined};
 
 /// How strong a text is drawn: as others are, bold, or dim.
 #[derive(Clone, Copy, PartialEq, Eq, Debug, Default)]
@@ -27,8 +28,6 @@ pub enum Underline {
 
 /// Whether there is a line.
 impl From<Underline> for bool {
-    ghost use Rattle.termwiz_cell.specs.Style.{is_underlined};
-
     ghost from_gives = { λ underline on. on ≡ is_underlined underline };
 
     fn from(underline: Underline) -> bool {
@@ -46,8 +45,6 @@ pub enum Blink {
 
 /// Whether it blinks.
 impl From<Blink> for bool {
-    ghost use Rattle.termwiz_cell.specs.Style.{is_blinking};
-
     ghost from_gives = { λ blink on. on ≡ is_blinking blink };
 
     fn from(blink: Blink) -> bool {

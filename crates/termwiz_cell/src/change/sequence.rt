@@ -27,7 +27,6 @@ pub enum SequenceError {
 }
 
 impl From<AllocError> for SequenceError {
-    ghost use Rattle.std.specs.Prelude.{◌≡◌};
     ghost use Rattle.termwiz_cell.specs.declared.change.sequence.SequenceError.TheVariants.{Memory};
 
     ghost from_gives = { λ _ error. error ≡ Memory };

@@ -18,7 +18,6 @@ pub struct VecStorageIter<'a> {
 impl<'a> Model for VecStorageIter<'a> {
     ghost use Rattle.std.specs.Prelude.{◌+◌, ◌<◌, ◌^◌, List, length, ℕ};
     ghost use Rattle.std.specs.Slice.Iter.{iter_rest};
-    ghost use Rattle.termwiz_cell.specs.CellValue.{CellValue};
     ghost use Rattle.termwiz_storage.specs.Stored.{visible_from};
     ghost use Rattle.termwiz_storage.specs.VisibleCell.{VisibleCell};
 

@@ -1,5 +1,5 @@
 //! The rows of a surface, lent as lines or as cells.
-ghost use Rattle.std.specs.Prelude.{◌≡◌, IfOk, map};
+ghost use Rattle.std.specs.Prelude.{◌≡◌, IfOk, map, option_map, slice_get};
 ghost use Rattle.termwiz_surface_core.specs.{AreVectors, cells_of, row_flags};
 
 use super::Surface;
@@ -25,6 +25,24 @@ impl<W: Widths> Surface<W> {
         ensures { IfOk result (λ rows. map (λ r. r.now) rows.items ≡ self.now.lines) }
     {
         lent_cells(self.alloc, &self.rows)
+    }
+
+    /// The row at this index from the top, or none past the last one. It is the line that
+    /// `screen_lines` lends there, and takes no memory.
+    pub fn screen_line(&self, row: usize) -> Option<&Line>
+        ensures cells { option_map (λ l. l.now.cells) result ≡ slice_get self.now.lines row }
+        ensures flags { option_map (λ l. l.now.flags) result ≡ slice_get self.now.flags row }
+    {
+        self.rows.get(row)
+    }
+
+    /// The stored cells of the row at this index from the top, or none past the last one. They are
+    /// those that `screen_cells` lends there, and take no memory.
+    pub fn row_cells(&self, row: usize) -> Option<&[Cell]>
+        ensures { option_map (λ r. r.now) result ≡ slice_get self.now.lines row }
+    {
+        let line = self.rows.get(row)?;
+        Some(line.vector_cells())
     }
 }
 

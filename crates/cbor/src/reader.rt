@@ -125,28 +125,14 @@ impl<'a> Reader<'a> {
         Ok(number as usize)
     }
 
-    #[inline(always)]
+    // The argument, by the low bits of the head's first byte.
     #[tactic(auto, unfolding(crate::specs::Decoding::argument_at))]
     fn argument(&mut self, info: u8) -> Result<usize, ReadError>
         ensures { Gives (λ x. (x, self.new.bytes.now)) result
             (argument_at info self.old.bytes.now) }
     {
-        if info < 24 {
-            Ok(info as usize)
-        } else {
-            self.long_argument(info)
-        }
-    }
-
-    // An argument that follows the first byte.
-    #[inline(never)]
-    #[tactic(auto, unfolding(crate::specs::Decoding::argument_at))]
-    fn long_argument(&mut self, info: u8) -> Result<usize, ReadError>
-        requires { 24 ≤ info }
-        ensures { Gives (λ x. (x, self.new.bytes.now)) result
-            (argument_at info self.old.bytes.now) }
-    {
         match info {
+            0..24 => Ok(info as usize),
             24 => self.one_byte(),
             25 => self.two_bytes(),
             26 => self.four_bytes(),
@@ -155,22 +141,46 @@ impl<'a> Reader<'a> {
         }
     }
 
-    // The argument of a head of this major type.
+    // The argument of a head of this major type, and the bytes behind the head.
     #[inline(always)]
-    #[tactic(auto, unfolding(crate::specs::Decoding::head_at))]
-    fn head(&mut self, major: u8) -> Result<usize, ReadError>
+    #[tactic(auto, unfolding(crate::specs::Decoding::head_at, crate::specs::Decoding::argument_at))]
+    fn head(&self, major: u8) -> Result<(usize, &'a [u8]), ReadError>
         requires { major < 8 }
-        ensures { Gives (λ x. (x, self.new.bytes.now)) result (head_at major self.old.bytes.now) }
+        ensures { Gives (λ x. (x.0, x.1.now)) result (head_at major self.now.bytes.now) }
     {
-        let byte = self.byte()?;
+        let first = 32 * major;
+        match self.bytes {
+            [byte, rest @ ..] if first <= *byte && *byte < first + 24 => {
+                Ok(((*byte - first) as usize, rest))
+            }
+            _ => {
+                // Taken apart, since a result that the call wrote itself would stay in memory, that
+                // of the short way too.
+                let (number, rest) = self.long_head(major)?;
+                Ok((number, rest))
+            }
+        }
+    }
+
+    // Decodes a head of any length as `head` does. It stands apart, so that the way of a head of one
+    // byte is short.
+    #[inline(never)]
+    #[tactic(auto, unfolding(crate::specs::Decoding::head_at))]
+    fn long_head(&self, major: u8) -> Result<(usize, &'a [u8]), ReadError>
+        requires { major < 8 }
+        ensures { Gives (λ x. (x.0, x.1.now)) result (head_at major self.now.bytes.now) }
+    {
+        let mut ahead = *self;
+        let byte = ahead.byte()?;
         let first = 32 * major;
         if byte < first {
             return Err(ReadError::Type);
         }
-        self.argument(byte - first)
+        let number = ahead.argument(byte - first)?;
+        Ok((number, ahead.bytes))
     }
 
-    // The argument of such a head, which stays where it has a fault.
+    // The argument of a head of this major type, which stays where it has a fault.
     #[inline(always)]
     fn any_head(&mut self, major: u8) -> Result<usize, ReadError>
         requires { major < 8 }
@@ -178,9 +188,8 @@ impl<'a> Reader<'a> {
             (head_at major self.old.bytes.now) }
         ensures left { OnErr result (self.new.bytes.now ≡ self.old.bytes.now) }
     {
-        let mut ahead = *self;
-        let number = ahead.head(major)?;
-        self.bytes = ahead.bytes;
+        let (number, rest) = self.head(major)?;
+        self.bytes = rest;
         Ok(number)
     }
 
@@ -194,10 +203,9 @@ impl<'a> Reader<'a> {
         ensures below { IfOk result (λ x. x < limit) }
         ensures left { OnErr result (self.new.bytes.now ≡ self.old.bytes.now) }
     {
-        let mut ahead = *self;
-        let number = ahead.head(major)?;
+        let (number, rest) = self.head(major)?;
         if number < limit {
-            self.bytes = ahead.bytes;
+            self.bytes = rest;
             Ok(number)
         } else {
             Err(ReadError::Range)
@@ -257,27 +265,26 @@ impl<'a> Reader<'a> {
             (text_at self.old.bytes.now) }
         ensures left { OnErr result (self.new.bytes.now ≡ self.old.bytes.now) }
     {
-        let mut ahead = *self;
-        let len = ahead.head(3)?;
-        if ahead.bytes.len() < len {
+        let (len, behind) = self.head(3)?;
+        if behind.len() < len {
             return Err(ReadError::Truncated);
         }
-        let (front, rest) = ahead.bytes.split_at(len);
+        let (front, rest) = behind.split_at(len);
         let text = text_in(front)?;
         self.bytes = rest;
         Ok(text)
     }
 
+    #[inline(always)]
     #[tactic(auto, unfolding(crate::specs::Decoding::array_of_at))]
     fn any_array_of(&mut self, count: usize) -> Result<(), ReadError>
         ensures value { Gives (λ _. self.new.bytes.now) result
             (array_of_at count self.old.bytes.now) }
         ensures left { OnErr result (self.new.bytes.now ≡ self.old.bytes.now) }
     {
-        let mut ahead = *self;
-        let found = ahead.head(4)?;
+        let (found, rest) = self.head(4)?;
         if found == count {
-            self.bytes = ahead.bytes;
+            self.bytes = rest;
             Ok(())
         } else {
             Err(ReadError::Type)

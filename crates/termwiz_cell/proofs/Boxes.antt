@@ -5,13 +5,15 @@ use Rattle.std.specs.Bool.{Decides}
 use Rattle.std.proofs.lemmas.Bool.Decides.{Decides-like, Decides-and, same_from_decides}
 use Rattle.termwiz_cell.specs.declared.color.ColorAttribute.{ColorAttribute}
 use Rattle.termwiz_cell.specs.declared.color.ColorAttribute.TheVariants as color
+use Rattle.termwiz_cell.specs.declared.cell.form.RareColor.{RareColor}
+use Rattle.termwiz_cell.specs.declared.cell.form.RareColor.TheVariants as which
 use Rattle.termwiz_cell.specs.Style.{Style}
 use Rattle.termwiz_cell.specs.declared.cell.attributes.CellAttributes.TheInside.{Inside}
 use Rattle.termwiz_cell.specs.declared.cell.form.Form.TheVariants as form
 use Rattle.termwiz_cell.specs.StyleWord.{style_at}
 use Rattle.termwiz_cell.specs.Link.{Link}
 use Rattle.termwiz_cell.specs.Attributes.{Attributes, default_attributes, is_default, color_eq-Decides, attributes_eq, attributes_eq-Decides, option_link_eq-Decides}
-use Rattle.termwiz_cell.specs.AttributesLayout.{Rare, rare_default, is_rare_default, style_in, rare_in, rare_eq, shown, is_apart, rare_part, palette_part, attributes_from, attributes_of, IsCanonical}
+use Rattle.termwiz_cell.specs.AttributesLayout.{Rare, rare_default, is_rare_default, with_color, style_in, rare_in, rare_eq, shown, is_apart, rare_part, palette_part, attributes_from, attributes_of, IsCanonical}
 
 rare_part-shown : (rare : ColorAttribute) (index : Option ℕ) → is_apart rare index ≡ true → rare_part (shown rare index) ≡ rare
 rare_part-shown color.Default None h = refl
@@ -90,6 +92,12 @@ rare_default-Decides r =
 
 pub rare_default_only : (r : Rare) → is_rare_default r ≡ true → r ≡ rare_default
 rare_default_only r h = (rare_default-Decides r).0 h
+
+-- where all are defaults with one colour set, that colour is
+pub default_color_alone : (which : RareColor) (value : ColorAttribute) → is_rare_default (with_color which rare_default value) ≡ true → is_default value ≡ true
+default_color_alone which.Foreground value h = ap (λ (r : Rare). is_default r.foreground) (rare_default_only (with_color which.Foreground rare_default value) h)
+default_color_alone which.Background value h = ap (λ (r : Rare). is_default r.background) (rare_default_only (with_color which.Background rare_default value) h)
+default_color_alone which.Underline value h = ap (λ (r : Rare). is_default r.underline_color) (rare_default_only (with_color which.Underline rare_default value) h)
 
 -- attributes are equal exactly where word and box are
 pub same-parts : (a b : Inside) → IsCanonical a → IsCanonical b → (same : Bool) → Decides same ((style_in a.form ≡ style_in b.form) × (rare_in a.form ≡ rare_in b.form)) → same ≡ attributes_eq (attributes_of a) (attributes_of b)

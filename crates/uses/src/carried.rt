@@ -185,6 +185,11 @@ pub fn receive_all<W: Widths>(
         BringsAll screens (measure W.width_of viewer.old.surface.widths)
         past sent rest reader.old.bytes.now → ShowsNamed screens past viewer.old →
         ReceivesAll screens past sent rest viewer.old result viewer.new reader.new.bytes.now }
+    ensures receives_fully { (past : ℕ → FullScreen) (sent : List (Sent FullScreen))
+        (rest : List ℕ) →
+        BringsAll full_screens (measure W.width_of viewer.old.surface.widths)
+        past sent rest reader.old.bytes.now → ShowsNamed full_screens past viewer.old →
+        ReceivesAll full_screens past sent rest viewer.old result viewer.new reader.new.bytes.now }
 {
     let mut count = 0;
     'answers: while !reader.bytes.is_empty() {

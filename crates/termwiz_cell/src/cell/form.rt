@@ -198,7 +198,7 @@ impl Form {
     }
 
     /// Sets one of the rare colours. It can only fail where a box is needed that was not there.
-    #[tactic(auto, using(crate::proofs::Boxes::rare_default_only))]
+    #[tactic(auto, using(crate::proofs::Boxes::rare_default_only, crate::proofs::Boxes::default_color_alone))]
     pub(super) fn set_color(
         &mut self,
         alloc: Global,
@@ -217,9 +217,9 @@ impl Form {
     {
         match self {
             Form::Plain(style) => {
-                let mut made = Full::new(style.copied());
-                made.put(which, value);
-                if !made.is_default() {
+                if !is_default_color(value) {
+                    let mut made = Full::new(style.copied());
+                    made.put(which, value);
                     *self = Form::Boxed(Box::new(alloc, made)?);
                 }
             }

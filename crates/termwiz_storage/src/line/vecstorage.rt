@@ -1,5 +1,5 @@
 //! Cells stored one by one.
-ghost use Rattle.std.specs.Prelude.{[], vec_capacity, ◌*◌, ◌++◌, ◌+◌, ◌-◌, ◌<◌, ◌↔◌, ◌≡◌, ◌≤◌};
+ghost use Rattle.std.specs.Prelude.{[], vec_capacity, ◌*◌, ◌++◌, ◌+◌, ◌-◌, ◌<◌, ◌↔◌, ◌∷◌, ◌≡◌, ◌≤◌};
 ghost use Rattle.termwiz_storage.specs.{cells_eq-Decides, owns_memory, partial_equiv_from_equiv};
 ghost use Rattle.termwiz_storage.specs.{AreLetters, IsFilledTo, IsOfCell, put_letters, set_letters};
 ghost use Rattle.termwiz_storage.specs.{IsBlanked, LendsCells, OwnNothing, option_map, plain_cell};
@@ -547,16 +547,39 @@ fn copied_cells(
     Ok(with_short_copies(copy, cells))
 }
 
-// Copies of cells that own no memory, in a list that has room for them.
+// Copies of cells that own no memory, in a list that has room for them. A turn copies four, so that
+// few instructions are the loop's own.
 fn with_short_copies(list: Vec<Cell>, cells: &[Cell]) -> Vec<Cell>
     requires unowned { OwnNothing cells.now }
     requires room { vec_len list + length cells.now ≤ vec_capacity list }
     ensures { result.items ≡ list.items ++ cells.now }
 {
     let mut list = list;
-    for i in 0..cells.len() {
-        list.push_reserved(cells[i].short_copy().unwrap());
+    let mut rest = cells;
+    'fours: while let [a, b, c, d, more @ ..] = rest {
+        list = with_short_copy(list, a);
+        list = with_short_copy(list, b);
+        list = with_short_copy(list, c);
+        list = with_short_copy(list, d);
+        rest = more;
     }
+    for cell in rest {
+        list = with_short_copy(list, cell);
+    }
+    list
+}
+
+// A copy of a cell that owns no memory, behind those of a list that has room for it.
+#[inline(always)]
+fn with_short_copy(list: Vec<Cell>, cell: &Cell) -> Vec<Cell>
+    requires unowned { owns_memory cell.now ≡ false }
+    requires room { vec_len list < vec_capacity list }
+    ensures items { result.items ≡ list.items ++ cell.now ∷ [] }
+    ensures len { vec_len result ≡ vec_len list + 1 }
+    ensures capacity { vec_capacity result ≡ vec_capacity list }
+{
+    let mut list = list;
+    list.push_reserved(cell.short_copy().unwrap());
     list
 }
 

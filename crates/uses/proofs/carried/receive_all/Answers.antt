@@ -1,7 +1,7 @@
 use Rattle.std.proofs.Common.{◌≡◌, [], length, refl, sym, subst, ◌∙◌, arith}
 use Rattle.std.proofs.lemmas.Bool.{eqb-true}
 use Rattle.std.proofs.lemmas.List.{nil_from_length}
-use Rattle.termwiz_surface.specs.{measure, screens}
+use Rattle.termwiz_surface.specs.{full_screens, measure, screens}
 use Rattle.uses.proofs.Client.{all_received, first_so_far, next_so_far, stops_so_far, taken-shorter}
 use Rattle.uses.proofs.carried.receive_all.Goals as goal
 use Rattle.uses.specs.Client.{Brings}
@@ -14,6 +14,7 @@ answers-init g c =
       counted = omega arith;
       one_measure = refl;
       received = λ past sent rest brings named. first_so_far screens past (measure g.W.Widths.width_of v.surface.widths) sent rest v bytes brings named;
+      received_fully = λ past sent rest brings named. first_so_far full_screens past (measure g.W.Widths.width_of v.surface.widths) sent rest v bytes brings named;
     }
 
 pub answers-preserved : goal.answers-preserved
@@ -30,6 +31,10 @@ answers-preserved g c =
           next_so_far screens past m sent rest c.args.viewer.now at.viewer left at.count u after c.in-Ok.ensures.takes
           (λ names s tail next. c.in-Ok.ensures.receives past s tail (subst (λ w. Brings screens w past s tail left) (sym at.invariant.one_measure) next) names)
           (at.invariant.received past sent rest brings named);
+      received_fully = λ past sent rest brings named.
+          next_so_far full_screens past m sent rest c.args.viewer.now at.viewer left at.count u after c.in-Ok.ensures.takes
+          (λ names s tail next. c.in-Ok.ensures.receives_fully past s tail (subst (λ w. Brings full_screens w past s tail left) (sym at.invariant.one_measure) next) names)
+          (at.invariant.received_fully past sent rest brings named);
     }
 
 pub returns-in-Err : goal.returns-in-Err
@@ -42,6 +47,10 @@ returns-in-Err g c =
           stops_so_far screens past m sent rest c.args.viewer.now at.viewer left at.count c.receive.new.viewer c.receive.new.reader.bytes.now c.in-Err.error c.in-Err.ensures.left
           (λ names s tail next. c.in-Err.ensures.receives past s tail (subst (λ w. Brings screens w past s tail left) (sym at.invariant.one_measure) next) names)
           (at.invariant.received past sent rest brings named);
+      receives_fully = λ past sent rest brings named.
+          stops_so_far full_screens past m sent rest c.args.viewer.now at.viewer left at.count c.receive.new.viewer c.receive.new.reader.bytes.now c.in-Err.error c.in-Err.ensures.left
+          (λ names s tail next. c.in-Err.ensures.receives_fully past s tail (subst (λ w. Brings full_screens w past s tail left) (sym at.invariant.one_measure) next) names)
+          (at.invariant.received_fully past sent rest brings named);
     }
 
 pub returns : goal.returns
@@ -52,6 +61,8 @@ returns g c =
     record {
       receives = λ past sent rest brings named.
           all_received screens past m sent rest c.args.viewer.now at.viewer at.reader.bytes.now at.count empty (at.invariant.received past sent rest brings named);
+      receives_fully = λ past sent rest brings named.
+          all_received full_screens past m sent rest c.args.viewer.now at.viewer at.reader.bytes.now at.count empty (at.invariant.received_fully past sent rest brings named);
     }
 
 pub answers-smaller : goal.answers-smaller

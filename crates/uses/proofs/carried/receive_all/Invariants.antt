@@ -1,5 +1,5 @@
 use Rattle.std.proofs.Common.{◌≡◌, ◌≤◌, ◌+◌, ℕ, List, length}
-use Rattle.termwiz_surface.specs.{Screen, ShowsNamed, measure, screens}
+use Rattle.termwiz_surface.specs.{FullScreen, Screen, ShowsNamed, full_screens, measure, screens}
 use Rattle.uses.proofs.Client.{HasSoFar}
 use Rattle.uses.proofs.carried.receive_all.Given as goal
 use Rattle.uses.specs.Client.{BringsAll, Sent}
@@ -14,6 +14,8 @@ invariant-answers g l =
       one_measure : f l.viewer.surface.widths ≡ m;
       received : (past : ℕ → Screen) (sent : List (Sent Screen)) (rest : List ℕ) → BringsAll screens m past sent rest l.initial.reader.bytes.now → ShowsNamed screens past l.initial.viewer
           → HasSoFar screens past m sent rest l.initial.viewer l.viewer l.reader.bytes.now l.count;
+      received_fully : (past : ℕ → FullScreen) (sent : List (Sent FullScreen)) (rest : List ℕ) → BringsAll full_screens m past sent rest l.initial.reader.bytes.now → ShowsNamed full_screens past l.initial.viewer
+          → HasSoFar full_screens past m sent rest l.initial.viewer l.viewer l.reader.bytes.now l.count;
     }
 
 abbrev pub decreases-answers : goal.decreases-answers

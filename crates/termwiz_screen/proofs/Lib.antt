@@ -29,6 +29,7 @@ mod GrownRows
 pub mod LogRegions
 pub mod RepaintRegions
 mod WalkedRows
+mod PlainRuns
 mod NeededRows
 pub mod DiffCalls
 mod DiffRows

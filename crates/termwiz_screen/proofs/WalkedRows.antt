@@ -10,7 +10,7 @@ use Rattle.termwiz_storage.specs.VisibleCell.{VisibleCell, at_column}
 use Rattle.termwiz_line.specs.Row.{is_hidden, row_of}
 use Rattle.termwiz_line.proofs.RowOf.{hidden_row, row_of_at, settled_visible}
 use Rattle.termwiz_screen.specs.Diff.{shows, row_need, in_row, PrintedOut, print_out}
-use Rattle.termwiz_screen.specs.Walked.{EndsBlank}
+use Rattle.termwiz_screen.specs.Walked.{EndsBlank, IsPrintedTo}
 
 -- a walk of stored cells stands at the start of a cell at column k, and has this left
 pub record IsAt (cs : List CellValue) (k : ℕ) (left : List VisibleCell) : Type 0 where
@@ -248,12 +248,7 @@ module _ (own : List CellValue) (x : ℕ) (cs : List CellValue) (q n w row : ℕ
   pub printed_start : (d : PrintedOut) (k : ℕ) → ((j : ℕ) → q ≤ j → j < k → hides cs j ≡ true) → q + n ≤ w → d ≡ fold print_out d (map (in_row row) (row_need own x (row_of w cs) q (min n (k - q))))
   printed_start d k h l = sym (ap (λ ps. fold print_out d (map (in_row row) ps)) (nothing_hidden (min n (k - q)) (λ j a b. h j a (omega (arith, b))) (omega (arith, l))))
 
--- what the columns before k need is printed, and a cell starts there
-pub record IsPrintedTo (own : List CellValue) (x : ℕ) (cs : List CellValue) (q n row : ℕ) (d e : PrintedOut) (k : ℕ) : Type 0 where
-  pub within : q ≤ k
-  pub visible : hides cs k ≡ false
-  pub printed : (w : ℕ) → q + n ≤ w → e ≡ fold print_out d (map (in_row row) (row_need own x (row_of w cs) q (min n (k - q))))
-
+-- how far a row is printed
 module _ (own : List CellValue) (x : ℕ) (cs : List CellValue) (q n row : ℕ) (d : PrintedOut) where
   pub printed_to_start : (k : ℕ) → q ≤ k → hides cs k ≡ false → ((j : ℕ) → q ≤ j → j < k → hides cs j ≡ true) → IsPrintedTo own x cs q n row d d k
   printed_to_start k a v h = record { within = a; visible = v; printed = λ w l. printed_start own x cs q n w row d k h l }

@@ -45,10 +45,11 @@ pub use Rattle.std.specs.Prelude.{IfOk, IsOk, IsTrue, List, OnErr, OnOk, drop, f
 pub use Rattle.std.specs.Str.{chars}
 pub use Rattle.std.specs.VecDeque.{deque_capacity, deque_len}
 pub use Rattle.termwiz_cell.specs.Attributes.{attributes_eq, color_eq, default_attributes, has_only_background, needs_box, with_background}
-pub use Rattle.termwiz_cell.specs.CellValue.{CellValue, blank, blank_of, cell_eq, columns, is_wide, measured}
+pub use Rattle.termwiz_cell.specs.CellValue.{CellValue, blank, blank_of, cell_eq, columns, is_wide, measured, plain_cell}
 pub use Rattle.termwiz_cell.specs.ChangeValue.{ChangeValue, change_value, is_text, visibility_eq}
 pub use Rattle.termwiz_cell.specs.Measure.{measure}
 pub use Rattle.termwiz_cell.specs.Shapes.{line_attribute_eq, shape_eq}
+pub use Rattle.termwiz_line.specs.GrowingText.{ends_printable}
 pub use Rattle.termwiz_line.specs.LastChange.{last_is}
 pub use Rattle.termwiz_line.specs.LineFlags.{no_flags}
 pub use Rattle.termwiz_line.specs.PennedValue.{penned_value}
@@ -80,7 +81,7 @@ pub use Rattle.termwiz_screen.specs.ScrollRegions.{region_down, region_reversed,
 pub use Rattle.termwiz_screen.specs.SequenceLaws.{MovesLeadThere, TextsMoveAlike}
 pub use Rattle.termwiz_screen.specs.Sides.{AreVectors, KeepSides, KeepsSide, row_flags}
 pub use Rattle.termwiz_screen.specs.Step.{region_fits, regions_fit}
-pub use Rattle.termwiz_screen.specs.Walked.{AreHalved, EndsBlank}
+pub use Rattle.termwiz_screen.specs.Walked.{AreHalved, EndsBlank, IsPrintedTo}
 pub use Rattle.termwiz_storage.specs.CellRef.{ref_cell, ref_width}
 pub use Rattle.termwiz_storage.specs.CellsLeft.{IsOfCell, cells_left}
 pub use Rattle.termwiz_storage.specs.Halves.{resized}

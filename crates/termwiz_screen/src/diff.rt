@@ -3,4 +3,5 @@
 pub mod lists;
 pub mod region;
 mod rows;
+mod runs;
 mod writer;

@@ -8,6 +8,7 @@ ghost use Rattle.termwiz_screen.specs.{ref_cell, region_value, row_need, row_of,
 ghost use Rattle.termwiz_screen.specs.{IsTrue, true, visible};
 
 use super::region::Region;
+use super::runs::{count_same, print_run};
 use super::writer::DiffWriter;
 use std::alloc::AllocError;
 use std::collections::VecDeque;
@@ -180,8 +181,12 @@ fn print_stored<'a>(
         let column = region.x + (next - region.other_x);
         let shown = print_unless_stored(writer, own, padding, row, column, cell)?;
         next += cell.width();
-        if shown && cell.width() == 1 {
-            next += count_same(own, column + 1, cells, next, end);
+        if cell.width() == 1 {
+            next += if shown {
+                count_same(own, column + 1, cells, next, end)
+            } else {
+                print_run(writer, own, cells, region, next, end)?
+            };
         }
     }
     Ok(next)
@@ -198,33 +203,6 @@ fn first_visible(cells: &[Cell], from: usize) -> usize
         next += cells[next].width();
     }
     next.max(from)
-}
-
-// How many narrow cells from these columns on are the same. Behind a narrow cell that is shown no
-// half stands, so they are shown too.
-#[inline(never)]
-fn count_same(own: &[Cell], column: usize, cells: &[Cell], from: usize, end: usize) -> usize
-    requires within { from ≤ end }
-    requires stored { end ≤ length cells.now }
-    ensures end { from + result ≤ end }
-    ensures same { (k : ℕ) → k < result →
-        stored own.now (column + k) ≡ stored cells.now (from + k) }
-    ensures narrow { (k : ℕ) → k < result → is_wide (stored cells.now (from + k)) ≡ false }
-{
-    let count = own.len().saturating_sub(column).min(end - from);
-    for k in 0..count {
-        if !is_same_narrow(&own[column + k], &cells[from + k]) {
-            return k;
-        }
-    }
-    count
-}
-
-#[inline(always)]
-fn is_same_narrow(own: &Cell, cell: &Cell) -> bool
-    ensures { IsTrue result ↔ ((own.now ≡ cell.now) × (is_wide cell.now ≡ false)) }
-{
-    *own == *cell && cell.width() == 1
 }
 
 // Prints a stored cell at a column, unless the own row shows it there. Returns whether it does.

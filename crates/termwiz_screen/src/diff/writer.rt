@@ -1,6 +1,7 @@
 //! A writer of the changes that print cells at their places.
-ghost use Rattle.std.specs.Prelude.{◌≡◌, ◌<◌, ◌^◌, ◌++◌, ◌∷◌, [], IfOk, OnOk, map};
-ghost use Rattle.termwiz_screen.specs.{IsOfCell, change_value, cursor_at, end_value, ref_cell};
+ghost use Rattle.std.specs.Prelude.{◌≡◌, ◌<◌, ◌^◌, ◌++◌, ◌∷◌, [], IfOk, OnOk, Some, map};
+ghost use Rattle.termwiz_screen.specs.{IfSome, IsOfCell, change_value, cursor_at, end_value, true};
+ghost use Rattle.termwiz_screen.specs.{ends_printable, is_plain, last_is, plain_cell, ref_cell};
 ghost use Rattle.termwiz_screen.specs.Diff as spec;
 ghost use Rattle.termwiz_screen.specs.Prints.{Print};
 
@@ -68,6 +69,42 @@ impl<'a> DiffWriter<'a> {
         push_place(&mut self.entries, self.end, row, column, pen)?;
         self.entries.push_text(cell.str())?;
         self.end = Some(End { x, y: row, pen });
+        Ok(())
+    }
+
+    /// The pen of the last cell, where that ended in printable ASCII and its pen takes no memory.
+    pub(super) fn plain_pen(&self) -> Option<CellAttributes>
+        ensures text { IfSome result (λ pen. last_is ends_printable self.now.entries ≡ true) }
+        ensures pen { IfSome result (λ pen. (e : spec.End) → self.now.end ≡ Some e →
+            e.pen ≡ pen) }
+    {
+        let end = self.end?;
+        if !self.entries.ends_printable() {
+            return None;
+        }
+        end.pen.unboxed_copy()
+    }
+
+    /// A plain cell comes right behind the last one, which ended at this column in printable ASCII,
+    /// in the same pen.
+    #[inline(always)]
+    pub(super) fn print_plain(&mut self, column: usize, byte: u8) -> Result<(), AllocError>
+        requires fits { column < 2 ^ 32 }
+        requires plain { is_plain byte ≡ true }
+        requires text { last_is ends_printable self.old.entries ≡ true }
+        ensures printed { OnOk result (
+            (e : spec.End) → self.old.end ≡ Some e → e.x ≡ column →
+            self.new ≡ spec.print_out self.old (record {
+              row = e.y;
+              column = column;
+              cell = plain_cell byte e.pen;
+            })) }
+        ensures text { OnOk result (last_is ends_printable self.new.entries ≡ true) }
+    {
+        self.entries.push_plain(byte)?;
+        if let Some(end) = &mut self.end {
+            end.x = column + 1;
+        }
         Ok(())
     }
 

@@ -1,9 +1,13 @@
-use Rattle.std.proofs.Common.{◌≡◌, ◌+◌, ◌-◌, ◌<◌, arith, min, length, refl, subst, sym, ◌∙◌}
+use Rattle.std.proofs.Common.{◌≡◌, ◌+◌, ◌-◌, ◌<◌, Some, [], ◌∷◌, arith, cond, fold, map, min, length, refl, subst, sym, ap, ◌∙◌}
 use Rattle.std.proofs.lemmas.List.{get_or_read}
 use Rattle.termwiz_cell.specs.CellValue.{blank, columns}
 use Rattle.termwiz_storage.specs.Stored.{stored}
-use Rattle.termwiz_screen.proofs.WalkedRows.{IsPrintedTo, ends_blank, printed_to_next, printed_to_run, printed_to_start, shown_narrow}
+use Rattle.termwiz_storage.specs.VisibleCell.{at_column}
+use Rattle.termwiz_screen.specs.Diff.{PrintedOut, end_of, in_row, print_out}
+use Rattle.termwiz_screen.specs.Walked.{IsPrintedTo}
+use Rattle.termwiz_screen.proofs.WalkedRows.{ends_blank, printed_to_next, printed_to_run, printed_to_start, shown_narrow}
 use Rattle.termwiz_screen.proofs.diff.rows.print_stored.Goals as goal
+use Rattle.termwiz_screen.proofs.diff.rows.print_stored.Goals.{then-shown, else-shown+in_ok-next}
 
 pub loop-next-init : goal.loop-next-init
 loop-next-init c =
@@ -20,18 +24,34 @@ loop-next-preserved-then-width-eq1 c =
     let cells = c.args.cells.now in
     let next = c.loop-next.next in
     let cell = c.index-cells-next.result in
-    let to = IsPrintedTo own r.x cells r.other_x r.width c.args.row c.args.writer.now c.print_unless_stored.new.writer in
+    let printed = c.print_unless_stored.new.writer in
+    let column = r.x + (next - r.other_x) in
     let inside : next < min (length cells) (r.other_x + r.width) = omega (arith, c.loop-next-test.true, c.min-end.ensures) in
     let same : cell ≡ stored cells next = get_or_read cells next cell (omega (arith, inside)) c.index-cells-next.is blank in
-    let narrow : columns cell ≡ 1 = sym c.width.ensures.value ∙ c.if-width-eq1.true in
-    let column : r.x + (next - r.other_x) + 1 ≡ r.x + (next + c.width-next.result - r.other_x) = omega (arith, c.loop-next.invariant.within, narrow, c.width-next.ensures.value) in
-    let step : to (next + c.width-next.result) =
-    subst (λ n. to (next + n)) (sym c.width-next.ensures.value)
-    (printed_to_next own r.x cells r.other_x r.width c.args.row c.args.writer.now c.loop-next.writer c.print_unless_stored.new.writer next cell c.loop-next.invariant same (omega (arith, inside)) c.in_ok-shown.ensures.printed)
+    let narrow : columns cell ≡ 1 = sym c.width-in-loop-next.ensures.value ∙ c.if-width-eq1.true in
+    let behind : column + 1 ≡ r.x + (next + c.width.result - r.other_x) = omega (arith, c.loop-next.invariant.within, narrow, c.width.ensures.value) in
+    let step : IsPrintedTo own r.x cells r.other_x r.width c.args.row c.args.writer.now printed (next + c.width.result) =
+    subst (λ n. IsPrintedTo own r.x cells r.other_x r.width c.args.row c.args.writer.now printed (next + n)) (sym c.width.ensures.value)
+    (printed_to_next own r.x cells r.other_x r.width c.args.row c.args.writer.now c.loop-next.writer printed next cell c.loop-next.invariant same (omega (arith, inside)) c.in_ok-shown.ensures.printed)
     in
-    printed_to_run own r.x cells r.other_x r.width c.args.row c.args.writer.now c.print_unless_stored.new.writer (next + c.width-next.result) c.count_same-next.result (r.x + (next - r.other_x) + 1) step column
-    (shown_narrow own (r.x + (next - r.other_x)) (r.x + (next - r.other_x) + 1) cell (sym c.in_ok-shown.ensures.shown ∙ c.if-shown.true) narrow refl)
-    (omega (arith, c.count_same-next.ensures.end, c.min-end.ensures)) c.count_same-next.ensures.same c.count_same-next.ensures.narrow
+    elim c.if-shown.branch [
+      | then-shown t ↦
+          let run = t.count_same.ensures in
+          subst (λ e. IsPrintedTo own r.x cells r.other_x r.width c.args.row c.args.writer.now e (next + c.width.result + c.if-shown.next)) (sym t.writer-is)
+          (subst (λ n. IsPrintedTo own r.x cells r.other_x r.width c.args.row c.args.writer.now printed (next + c.width.result + n)) (sym t.next-is)
+          (printed_to_run own r.x cells r.other_x r.width c.args.row c.args.writer.now printed (next + c.width.result) t.count_same.result (column + 1) step behind
+          (shown_narrow own column (column + 1) cell (sym c.in_ok-shown.ensures.shown ∙ t.if-shown.true) narrow refl)
+          (omega (arith, run.end, c.min-end.ensures)) run.same run.narrow))
+      | else-shown+in_ok-next t ↦
+          let end : printed.end ≡ Some (end_of (in_row c.args.row (at_column column cell))) =
+          ap (λ (d : PrintedOut). d.end)
+          (c.in_ok-shown.ensures.printed
+          ∙ ap (λ s. fold print_out c.loop-next.writer (map (in_row c.args.row) (cond s [] (at_column column cell ∷ [])))) (sym c.in_ok-shown.ensures.shown ∙ t.if-shown.false))
+          in
+          subst (λ e. IsPrintedTo own r.x cells r.other_x r.width c.args.row c.args.writer.now e (next + c.width.result + c.if-shown.next)) (sym t.writer-is)
+          (subst (λ n. IsPrintedTo own r.x cells r.other_x r.width c.args.row c.args.writer.now t.print_run.new.writer (next + c.width.result + n)) (sym t.next-is)
+          (t.in_ok-next.ensures.printed c.args.writer.now (end_of (in_row c.args.row (at_column column cell))) end (omega (arith, behind, narrow)) step))
+    ]
 
 pub loop-next-preserved : goal.loop-next-preserved
 loop-next-preserved c =
@@ -41,6 +61,6 @@ loop-next-preserved c =
     let next = c.loop-next.next in
     let cell = c.index-cells-next.result in
     let inside : next < min (length cells) (r.other_x + r.width) = omega (arith, c.loop-next-test.true, c.min-end.ensures) in
-    subst (λ n. IsPrintedTo own r.x cells r.other_x r.width c.args.row c.args.writer.now c.print_unless_stored.new.writer (next + n)) (sym c.width-next.ensures.value)
+    subst (λ n. IsPrintedTo own r.x cells r.other_x r.width c.args.row c.args.writer.now c.print_unless_stored.new.writer (next + n)) (sym c.width.ensures.value)
     (printed_to_next own r.x cells r.other_x r.width c.args.row c.args.writer.now c.loop-next.writer c.print_unless_stored.new.writer next cell c.loop-next.invariant
     (get_or_read cells next cell (omega (arith, inside)) c.index-cells-next.is blank) (omega (arith, inside)) c.in_ok-shown.ensures.printed)

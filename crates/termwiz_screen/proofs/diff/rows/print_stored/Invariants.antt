@@ -1,5 +1,5 @@
 use Rattle.std.proofs.Common.{◌-◌}
-use Rattle.termwiz_screen.proofs.WalkedRows.{IsPrintedTo}
+use Rattle.termwiz_screen.specs.Walked.{IsPrintedTo}
 use Rattle.termwiz_screen.proofs.diff.rows.print_stored.Given as goal
 
 -- what the columns so far need is printed

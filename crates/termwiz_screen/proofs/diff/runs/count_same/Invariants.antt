@@ -1,7 +1,7 @@
 use Rattle.std.proofs.Common.{◌≡◌, ◌+◌, ◌<◌, ℕ, false}
 use Rattle.termwiz_cell.specs.CellValue.{is_wide}
 use Rattle.termwiz_storage.specs.Stored.{stored}
-use Rattle.termwiz_screen.proofs.diff.rows.count_same.Given as goal
+use Rattle.termwiz_screen.proofs.diff.runs.count_same.Given as goal
 
 abbrev pub invariant-loop-k : goal.invariant-loop-k
 invariant-loop-k l = record {

@@ -6,7 +6,9 @@ use Rattle.std.specs.Str.{IsCharBoundary}
 use Rattle.std.proofs.lemmas.List.Sums.{AllPass-from_list_all}
 use Rattle.std.proofs.lemmas.Bool.{cases_Bool, le-ltb, leb-true, and_parts, ne_eqb}
 use Rattle.std.proofs.lemmas.List.{get_or_append_left, get_or-take, length-take, drop_more}
+use Rattle.std.proofs.lemmas.Str.{chars-nil}
 use Rattle.unicode_segmentation.specs.Grapheme.{graphemes}
+use Rattle.termwiz_text.specs.Letter.{begins_simple}
 use Rattle.termwiz_text.specs.Plain.{is_plain}
 use Rattle.termwiz_text.proofs.Plain.{graphemes_plain, utf8_one}
 use Rattle.termwiz_cell.specs.Attributes.{Attributes}
@@ -26,7 +28,7 @@ plain_to : (b : ℕ) → is_plain b ≡ true → b ≤ 126
 plain_to b h = leb-true b 126 (and_parts (nat_le 0x20 b) (nat_le b 0x7E) h).1
 
 alone-plain : (b : ℕ) → is_plain b ≡ true → graphemes true (b ∷ []) ≡ (b ∷ []) ∷ []
-alone-plain b h = graphemes_plain b [] (utf8_one b h) h refl ∙ ap (λ gs. (b ∷ []) ∷ gs) graphemes-nothing
+alone-plain b h = graphemes_plain b [] (utf8_one b h) h (ap begins_simple chars-nil) ∙ ap (λ gs. (b ∷ []) ∷ gs) graphemes-nothing
 
 clean-plain : (b : ℕ) → is_plain b ≡ true → clean (b ∷ []) ≡ b ∷ []
 clean-plain b h =

@@ -1,7 +1,8 @@
 -- Up to which column cells were used, once they are edited.
-use Rattle.std.proofs.Common.{◌≡◌, ◌≢◌, ℕ, ◌+◌, ◌-◌, ◌<◌, ◌≤◌, inl, inr, min, max, List, length, take, set, replicate, refl, sym, ◌∙◌, ap, arith, length-append, suc}
+use Rattle.std.proofs.Common.{◌≡◌, ◌≢◌, ℕ, ◌+◌, ◌-◌, ◌<◌, ◌≤◌, inl, inr, min, max, List, ◌++◌, length, take, drop, set, replicate, refl, sym, ◌∙◌, ap, arith, length-append, suc}
 use Rattle.std.proofs.lemmas.Bool.{cases_Bool, cases_lt, cases_eq}
 use Rattle.std.proofs.lemmas.List.{get_or_past, get_or-take, length-take, get_or-set_other, length-replicate, ext_get_or, get_or-replicate, length-set, get_or-set_same}
+use Rattle.std.proofs.Math.Seq.{take-append_seam}
 use Rattle.termwiz_cell.specs.CellValue.{CellValue, blank, half, is_wide, columns}
 use Rattle.termwiz_storage.specs.Stored.{stored, padded, torn, fill}
 use Rattle.termwiz_storage.specs.Used.{IsUsedTo, IsBlanked}
@@ -50,6 +51,10 @@ blanked-cut a b i old new l m p = record {
     ]
   ];
 }
+
+-- cells that are written over a whole list
+pub written-whole : (n : ℕ) (old new : List CellValue) → length new ≡ n → take n (new ++ drop (length new) old) ≡ new
+written-whole n old new e = ap (λ (k : ℕ). take k (new ++ drop (length new) old)) (sym e) ∙ take-append_seam new (drop (length new) old)
 
 pub blanked-all : (n : ℕ) (old new : List CellValue) → length old ≡ n → IsBlanked 0 n old new → new ≡ replicate n blank
 blanked-all n old new e p = ext_get_or blank new (replicate n blank) (omega (arith, p.len, length-replicate n blank))

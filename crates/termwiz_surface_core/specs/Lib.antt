@@ -31,7 +31,7 @@ pub use Rattle.termwiz_screen.specs.Log.{due, flushed, is_known, next_number}
 pub use Rattle.termwiz_screen.specs.Measured.{IsMeasured}
 pub use Rattle.termwiz_screen.specs.Picture.{full_screens, screens}
 pub use Rattle.termwiz_screen.specs.Place.{placed}
-pub use Rattle.termwiz_screen.specs.Print.{columns_left, down, down_kept, one_kept, print, print_kept, print_one, put_at_cursor, put_kept, wrapped, wrapped_kept}
+pub use Rattle.termwiz_screen.specs.Print.{columns_left, down, down_kept, one_kept, print, print_kept, print_one, put_at_cursor, put_kept, returned, wrapped, wrapped_kept}
 pub use Rattle.termwiz_screen.specs.Printable.{ArePrintable, HasSize, IsPrintable}
 pub use Rattle.termwiz_screen.specs.Prints.{printed}
 pub use Rattle.termwiz_screen.specs.RegionValue.{region_value}

@@ -62,6 +62,16 @@ first_line_end (c ∷ (d ∷ text)) one rest u h a b =
     let front : one ≡ 13 ∷ (10 ∷ []) = a ∙ ap₂ (λ x y. x ∷ (y ∷ [])) is_cr is_lf in
     rw (front, b) (first_before (c ∷ (d ∷ text)) (13 ∷ (10 ∷ [])) text u later (ap (graphemes true) same ∙ graphemes_line_end text v))
 
+line_end_is : (text : List ℕ) → begins_line_end text ≡ true → 13 ∷ (10 ∷ []) ≡ take 2 text
+line_end_is [] h = absurd cc
+line_end_is (c ∷ []) h = absurd cc
+line_end_is (c ∷ (d ∷ text)) h =
+    let parts = and_parts (c == 13) (d == 10) h in
+    sym (ap₂ (λ x y. x ∷ (y ∷ [])) (eqb-true c 13 parts.0) (eqb-true d 10 parts.1))
+
+pub line_end_before : (text rest : List ℕ) → IsUtf8 text → begins_line_end text ≡ true → rest ≡ drop 2 text → first.IsFirst text (13 ∷ (10 ∷ [])) rest
+line_end_before text rest u h b = first_line_end text (13 ∷ (10 ∷ [])) rest u h (line_end_is text h) b
+
 pub boundary_after_line_end : (text : List ℕ) → IsUtf8 text → begins_line_end text ≡ true → IsCharBoundary text 2
 boundary_after_line_end [] u h = absurd cc
 boundary_after_line_end (c ∷ []) u h = absurd cc

@@ -21,7 +21,7 @@ use Rattle.termwiz_text.proofs.Letters.{letter_from}
 use Rattle.termwiz_text.proofs.Pieces.{IsUtf8-past, graphemes_past_char}
 use Rattle.termwiz_text.proofs.Simple.{simple_breaks}
 
-letter_to : (c : ℕ) → is_letter c ≡ true → c ≤ 0x9FFF
+pub letter_to : (c : ℕ) → is_letter c ≡ true → c ≤ 0x9FFF
 letter_to c h = elim (or_cases (is_in_range 0x3041 0x3096 c || is_in_range 0x30A1 0x30FA c) (is_in_range 0x4E00 0x9FFF c) h) [
   | inl kana ↦ elim (or_cases (is_in_range 0x3041 0x3096 c) (is_in_range 0x30A1 0x30FA c) kana) [
     | inl x ↦ let l = highest 0x3041 0x3096 x in omega arith

@@ -7,5 +7,6 @@ pub mod Ascii
 pub mod First
 pub mod Plain
 pub mod LetterRuns
+pub mod LetterBytes
 pub mod Seam
 pub mod CutAt

@@ -2,20 +2,22 @@
 use Rattle.std.specs.Prelude.{◌≡◌, ℕ, ◌<◌, ◌≤◌, Bool, true, false, ◌&&◌, nat_le, List, [], ◌∷◌, ◌++◌, map, length}
 use Rattle.std.specs.Char.{is_ascii}
 use Rattle.std.specs.List.{list_all}
+use Rattle.std.specs.Str.{chars}
 use Rattle.unicode_segmentation.specs.Grapheme.{graphemes}
+use Rattle.termwiz_text.specs.Letter.{begins_simple}
 
 abbrev pub is_plain : ℕ → Bool
 is_plain c = nat_le 0x20 c && nat_le c 0x7E
 
--- nothing, or something that begins with any character of ASCII, which is no mark on the character before it
-abbrev pub begins_unmarked : List ℕ → Bool
-begins_unmarked [] = true
-begins_unmarked (c ∷ cs) = is_ascii c
+-- nothing, or a character of ASCII first
+abbrev pub begins_ascii : List ℕ → Bool
+begins_ascii [] = true
+begins_ascii (c ∷ cs) = is_ascii c
 
--- the text begins with printable ASCII, behind which it ends or goes on with ASCII
+-- the text begins with printable ASCII, behind which it ends or goes on with a simple character, which is no mark on it
 abbrev pub begins_alone : List ℕ → Bool
 begins_alone [] = false
-begins_alone (c ∷ cs) = is_plain c && begins_unmarked cs
+begins_alone (c ∷ cs) = is_plain c && begins_simple (chars cs)
 
 -- the text is one character of printable ASCII
 abbrev pub is_one_plain : List ℕ → Bool

@@ -7,7 +7,8 @@
 //! common ideographs (`specs/Letter.antt`) need no tables: a run of either is split off at once.
 #![tactic(auto)]
 
-ghost use Rattle.std.specs.Prelude.{◌≡◌, ◌≤◌, ◌<◌, ◌↔◌, ◌∷◌, ◌++◌, [], MatchOption, slice_index_or};
+ghost use Rattle.std.specs.Prelude.{◌≡◌, ◌≤◌, ◌<◌, ◌↔◌, ◌∷◌, ◌++◌, [], IsUtf8, MatchOption};
+ghost use Rattle.std.specs.Prelude.{slice_index_or};
 ghost use Rattle.termwiz_text.specs.{IfSome, IsFirst, IsTrue, List, chars, drop, encode_utf8, min};
 ghost use Rattle.termwiz_text.specs.{false, graphemes, graphemes_to_come, length, list_all, take};
 ghost use Rattle.termwiz_text.specs.{slice_index, true, ℕ};
@@ -35,6 +36,18 @@ pub fn is_one_plain(text: &str) -> bool
     }
 }
 
+/// What follows the CR LF that the text begins with.
+#[inline]
+pub fn after_line_end(text: &str) -> Option<&str>
+    ensures { IfSome result (λ rest. IsFirst text.now (13 ∷ (10 ∷ [])) rest.now) }
+{
+    if begins_line_end(text) {
+        let (_, rest) = text.split_at(2);
+        return Some(rest);
+    }
+    None
+}
+
 // Whether the text begins with a CR and an LF.
 fn begins_line_end(text: &str) -> bool
     ensures { result ≡ letter.begins_line_end text.now }
@@ -50,7 +63,14 @@ fn begins_line_end(text: &str) -> bool
 pub fn is_letter(c: char) -> bool
     ensures { result ≡ letter.is_letter c }
 {
-    matches!(c, 'ぁ'..='ゖ' | 'ァ'..='ヺ' | '\u{4E00}'..='\u{9FFF}')
+    is_letter_number(u32::from(c))
+}
+
+// Whether the character of this number is such a letter.
+fn is_letter_number(number: u32) -> bool
+    ensures { result ≡ letter.is_letter number }
+{
+    matches!(number, 0x3041..=0x3096 | 0x30A1..=0x30FA | 0x4E00..=0x9FFF)
 }
 
 /// Whether the text is one character for which `is_letter` holds.
@@ -74,9 +94,16 @@ fn is_simple(c: char) -> bool
 fn begins_simple(text: &str) -> bool
     ensures { result ≡ letter.begins_simple (chars text.now) }
 {
-    match text.chars().next() {
-        Some(first) => is_simple(first),
-        None => true,
+    begins_ascii(text) || begins_letter(text)
+}
+
+// Whether nothing stands there, or a character of ASCII first.
+fn begins_ascii(text: &str) -> bool
+    ensures { result ≡ plain.begins_ascii text.now }
+{
+    match text.as_bytes() {
+        [first, ..] => first.is_ascii(),
+        [] => true,
     }
 }
 
@@ -112,6 +139,36 @@ pub fn split_first_grapheme(text: &str) -> Option<(&str, &str)>
     Some((first, pieces.as_str()))
 }
 
+/// How many bytes are looked at side by side.
+const BLOCK: usize = 16;
+
+// Whether all bytes are printable ASCII. The loop goes over all of them, so that those of a block
+// are looked at side by side.
+#[inline(always)]
+fn are_plain(bytes: &[u8]) -> bool
+    ensures { result ≡ list_all plain.is_plain bytes.now }
+{
+    let mut all = true;
+    for k in 0..bytes.len() {
+        all &= is_plain(bytes[k]);
+    }
+    all
+}
+
+// How many bytes of the beginning, `end` at most, are printable ASCII, as far as whole blocks are.
+fn count_plain_blocks(bytes: &[u8], end: usize) -> usize
+    requires { end ≤ length bytes.now }
+    ensures within { result ≤ end }
+    ensures plain { list_all plain.is_plain (take result bytes.now) ≡ true }
+{
+    for k in 0..end / BLOCK {
+        if !are_plain(&bytes[BLOCK * k..BLOCK * k + BLOCK]) {
+            return BLOCK * k;
+        }
+    }
+    end / BLOCK * BLOCK
+}
+
 // How many bytes of the beginning, `limit` at most, are printable ASCII.
 fn count_plain(bytes: &[u8], limit: usize) -> usize
     ensures within { result ≤ min limit (length bytes.now) }
@@ -120,7 +177,7 @@ fn count_plain(bytes: &[u8], limit: usize) -> usize
         plain.is_plain (slice_index bytes.now result) ≡ false }
 {
     let end = limit.min(bytes.len());
-    for i in 0..end {
+    for i in count_plain_blocks(bytes, end)..end {
         if !is_plain(bytes[i]) {
             return i;
         }
@@ -128,32 +185,36 @@ fn count_plain(bytes: &[u8], limit: usize) -> usize
     end
 }
 
-// How many bytes of the beginning, `limit` at most, are printable ASCII on which no mark can stand:
-// the last one is left out where another character than ASCII follows it.
-fn count_unmarked(bytes: &[u8], limit: usize) -> usize
-    ensures within { result ≤ min limit (length bytes.now) }
-    ensures plain { list_all plain.is_plain (take result bytes.now) ≡ true }
-    ensures unmarked { 0 < result → plain.begins_unmarked (drop result bytes.now) ≡ true }
-    ensures longest { result < limit → plain.begins_alone (drop result bytes.now) ≡ false }
-{
-    let count = count_plain(bytes, limit);
-    if 0 < count && count < bytes.len() && !bytes[count].is_ascii() {
-        return count - 1;
-    }
-    count
-}
-
 /// Splits off a run of printable ASCII, U+0020 to U+007E, of at most `limit` bytes, with which the
 /// text begins. Each byte of the run is a grapheme by itself, and the rest is cut as a text of its
 /// own.
 ///
 /// The run may be empty. It is shorter than `limit` only where the rest is empty, begins with
-/// another character, or begins with printable ASCII right before a character past ASCII, which may
-/// be a mark on it.
+/// another character, or begins with printable ASCII right before a character that is neither ASCII
+/// nor a letter for which `is_letter` holds, which may be a mark on it.
 pub fn split_plain_run(text: &str, limit: usize) -> (&str, &str)
     ensures { plain.IsPlainRun text.now limit result.0.now result.1.now }
 {
-    text.split_at(count_unmarked(text.as_bytes(), limit))
+    let count = count_plain(text.as_bytes(), limit);
+    let (run, rest) = text.split_at(count);
+    if count == 0 || begins_simple(rest) {
+        return (run, rest);
+    }
+    text.split_at(count - 1)
+}
+
+// Whether a text of these bytes begins with a letter, which has three of them.
+#[inline(always)]
+fn bytes_begin_letter(bytes: &[u8]) -> bool
+    requires { IsUtf8 bytes.now }
+    ensures { result ≡ letter.begins_letter (chars bytes.now) }
+{
+    match bytes {
+        [first @ 0xE0..=0xEF, second, third, ..] => is_letter_number(
+            u32::from(*first % 16) * 4096 + u32::from(*second % 64) * 64 + u32::from(*third % 64),
+        ),
+        _ => false,
+    }
 }
 
 /// Whether the text begins with a letter for which `is_letter` holds.
@@ -161,10 +222,7 @@ pub fn split_plain_run(text: &str, limit: usize) -> (&str, &str)
 pub fn begins_letter(text: &str) -> bool
     ensures { result ≡ letter.begins_letter (chars text.now) }
 {
-    match text.chars().next() {
-        Some(first) => is_letter(first),
-        None => false,
-    }
+    bytes_begin_letter(text.as_bytes())
 }
 
 // How many letters the text begins with, `limit` at most.
@@ -174,11 +232,10 @@ fn count_letters(text: &str, limit: usize) -> usize
     ensures stops { result < limit →
         letter.begins_letter (drop result (chars text.now)) ≡ false }
 {
-    let mut chars = text.chars();
+    let bytes = text.as_bytes();
     for k in 0..limit {
-        match chars.next() {
-            Some(c) if is_letter(c) => {}
-            _ => return k,
+        if !bytes_begin_letter(&bytes[3 * k..]) {
+            return k;
         }
     }
     limit

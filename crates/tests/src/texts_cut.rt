@@ -105,6 +105,8 @@ fn a_run_is_cut_by_its_characters(rt: HostRuntime) {
     }
     assert_split(&rt, "abce\u{301}", 10, "abc", "e\u{301}");
     assert_split(&rt, "abc\r\n", 2, "ab", "c\r\n");
+    assert_split(&rt, "abか\u{3099}", 10, "ab", "か\u{3099}");
+    assert_split(&rt, "ab\u{3099}か", 10, "a", "b\u{3099}か");
     assert_letter_split(&rt, "かきく\u{3099}", 10, "かき", "く\u{3099}");
     assert_letter_split(&rt, "かき\u{200d}く", 10, "か", "き\u{200d}く");
     assert_letter_split(&rt, "漢字かなx", 3, "漢字か", "なx");

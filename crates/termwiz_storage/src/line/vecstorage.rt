@@ -653,10 +653,10 @@ fn put_letter_cells(
 
 // The cells from one column up to another become default blanks.
 #[inline(always)]
-fn blank_cells(cells: &mut Vec<Cell>, from: usize, to: usize, owns: bool)
-    requires range { to ≤ vec_len cells.old }
-    requires unowned { owns ≡ false → OwnNothing cells.old.items }
-    ensures { IsBlanked from to cells.old.items cells.new.items }
+fn blank_cells(cells: &mut [Cell], from: usize, to: usize, owns: bool)
+    requires range { to ≤ length cells.old }
+    requires unowned { owns ≡ false → OwnNothing cells.old }
+    ensures { IsBlanked from to cells.old cells.new }
 {
     for i in from..to {
         overwrite(&mut cells[i], Cell::blank(), owns);

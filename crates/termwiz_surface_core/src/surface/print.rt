@@ -5,7 +5,7 @@ ghost use Rattle.termwiz_surface_core.specs.{IsMeasured, PrintsFirst, PrintsGrap
 ghost use Rattle.termwiz_surface_core.specs.{chars, columns_left, down, down_kept, false, is_plain};
 ghost use Rattle.termwiz_surface_core.specs.{graphemes, kept_of, list_all, map, measure, needs_box};
 ghost use Rattle.termwiz_surface_core.specs.{one_kept, print, print_kept, print_one, put_at_cursor};
-ghost use Rattle.termwiz_surface_core.specs.{put_kept, screen_of, true, wrapped, wrapped_kept};
+ghost use Rattle.termwiz_surface_core.specs.{put_kept, returned, screen_of, true, wrapped, wrapped_kept};
 
 use super::Surface;
 use std::alloc::AllocError;
@@ -15,7 +15,7 @@ use termwiz_screen::print::{
     Piece, begins_letters, begins_plain, printed_piece, split_narrow_run, split_wide_run,
 };
 use termwiz_screen::rows::{paint_letters, paint_row, paint_run, scroll_rows};
-use termwiz_text::{letter_count, split_first_grapheme};
+use termwiz_text::{after_line_end, letter_count, split_first_grapheme};
 
 impl<W: Widths> Surface<W> {
     fn line_feed(&mut self) -> Result<(), AllocError>
@@ -28,6 +28,17 @@ impl<W: Widths> Surface<W> {
             return Ok(());
         }
         scroll_rows(&mut self.rows, self.width)?;
+        Ok(())
+    }
+
+    // Goes to the beginning of the next row.
+    fn next_line(&mut self) -> Result<(), AllocError>
+        ensures ok { OnOk result (Becomes self.old (returned (down (screen_of self.old)))
+            (down_kept (screen_of self.old) (kept_of self.old)) self.new) }
+        ensures err { OnErr result (self.new ≡ self.old) }
+    {
+        self.line_feed()?;
+        self.x = 0;
         Ok(())
     }
 
@@ -53,8 +64,7 @@ impl<W: Widths> Surface<W> {
         ensures err { OnErr result (self.new ≡ self.old) }
     {
         if self.x >= self.width {
-            self.line_feed()?;
-            self.x = 0;
+            self.next_line()?;
         }
         Ok(())
     }
@@ -70,10 +80,7 @@ impl<W: Widths> Surface<W> {
         match printed_piece(self.alloc, &self.widths, grapheme, &self.pen)? {
             Piece::CarriageReturn => self.x = 0,
             Piece::LineFeed => self.line_feed()?,
-            Piece::CarriageReturnLineFeed => {
-                self.line_feed()?;
-                self.x = 0;
-            }
+            Piece::CarriageReturnLineFeed => self.next_line()?,
             Piece::Cell(cell) => {
                 self.wrap()?;
                 self.put(cell)?;
@@ -159,8 +166,8 @@ impl<W: Widths> Surface<W> {
         Ok(())
     }
 
-    // Prints the run of ASCII or of letters that the text begins with, or else its first grapheme,
-    // and gives what is left.
+    // Prints the run of ASCII or of letters or the CR LF that the text begins with, or else its first
+    // grapheme, and gives what is left.
     fn print_first<'a>(&mut self, text: &'a str) -> Result<&'a str, AllocError>
         requires { 0 < length text.now }
         ensures ok { IfOk result (λ rest. PrintsFirst (measure W.width_of self.old.widths)
@@ -173,6 +180,10 @@ impl<W: Widths> Surface<W> {
                 self.print_run(run)?;
                 return Ok(rest);
             }
+        }
+        if let Some(rest) = after_line_end(text) {
+            self.next_line()?;
+            return Ok(rest);
         }
         if begins_letters(text) {
             let (run, rest) = split_wide_run(&self.widths, text, self.run_limit());

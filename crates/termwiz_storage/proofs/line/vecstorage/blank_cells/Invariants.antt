@@ -4,8 +4,8 @@ use Rattle.termwiz_storage.proofs.line.vecstorage.blank_cells.Given as goal
 
 abbrev pub invariant-loop-i : goal.invariant-loop-i
 invariant-loop-i l = record {
-  blanked : IsBlanked l.from l.i l.initial.cells.items l.cells.items;
-  unowned : l.owns ≡ false → OwnNothing l.cells.items;
+  blanked : IsBlanked l.from l.i l.initial.cells l.cells;
+  unowned : l.owns ≡ false → OwnNothing l.cells;
   from : l.from ≤ l.i;
   upto : l.from < l.i → l.i ≤ l.to;
 }

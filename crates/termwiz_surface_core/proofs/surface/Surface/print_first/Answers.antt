@@ -21,11 +21,22 @@ print_letters-requires-clause-unboxed g c =
     let some : 0 < length (chars run) = some_letters run (eqb-false (length run) 0 (sym c.is_empty-then-begins_letters.ensures ∙ c.if-not-is_empty-2.true)) (length-letters run is_text c.split_wide_run.ensures.letters) in
     c.run_limit-then-begins_letters.ensures.unboxed (omega (arith, c.split_wide_run.ensures.within))
 
+pub returns-in-Some-clause-ok : goal.returns-in-Some-clause-ok
+returns-in-Some-clause-ok g c =
+    let first = rw c.in-Some.rest-is at c.in-Some.ensures in
+    record {
+      printed = (13 ∷ (10 ∷ [])) ∷ [];
+      graphemes_are = first.graphemes_are;
+      prints = c.in_ok-next_line.ensures.ok;
+      shrinks = first.shrinks;
+      is_text = search rules;
+    }
+
 pub returns-clause-ok : goal.returns-clause-ok
 returns-clause-ok g c =
-    let first = rw (c.in-Some.grapheme-is, c.in-Some.rest-is) at c.in-Some.ensures in
+    let first = rw (c.in-Some-split_first_grapheme.grapheme-is, c.in-Some-split_first_grapheme.rest-is) at c.in-Some-split_first_grapheme.ensures in
     record {
-      printed = c.in-Some.grapheme.now ∷ [];
+      printed = c.in-Some-split_first_grapheme.grapheme.now ∷ [];
       graphemes_are = first.graphemes_are;
       prints = c.in_ok-print_one.ensures.ok;
       shrinks = first.shrinks;
@@ -34,5 +45,5 @@ returns-clause-ok g c =
 
 pub unreachable-requires : goal.unreachable-requires
 unreachable-requires g c =
-    let nothing : c.args.text.now ≡ [] = no_grapheme c.args.text.now c.utf8.text c.in_default.ensures in
+    let nothing : c.args.text.now ≡ [] = no_grapheme c.args.text.now c.utf8.text c.in_default-split_first_grapheme.ensures in
     absurd (omega (arith, ap length nothing))

@@ -36,10 +36,11 @@ pub fn is_one_plain(text: &str) -> bool
     }
 }
 
-/// What follows the CR LF that the text begins with.
+/// What follows the CR LF that the text begins with, which is a grapheme.
 #[inline]
 pub fn after_line_end(text: &str) -> Option<&str>
-    ensures { IfSome result (λ rest. IsFirst text.now (13 ∷ (10 ∷ [])) rest.now) }
+    ensures { MatchOption result (letter.begins_line_end text.now ≡ false) (λ rest.
+        IsFirst text.now (13 ∷ (10 ∷ [])) rest.now) }
 {
     if begins_line_end(text) {
         let (_, rest) = text.split_at(2);
@@ -203,7 +204,8 @@ pub fn split_plain_run(text: &str, limit: usize) -> (&str, &str)
     text.split_at(count - 1)
 }
 
-// Whether a text of these bytes begins with a letter, which has three of them.
+// Whether a text of these bytes begins with a letter. Each has three bytes, of which the first has
+// four bits of its number, and each of the others has six.
 #[inline(always)]
 fn bytes_begin_letter(bytes: &[u8]) -> bool
     requires { IsUtf8 bytes.now }

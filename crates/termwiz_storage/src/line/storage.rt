@@ -200,6 +200,7 @@ impl CellStorage {
 
     /// Makes the list this many default blanks, in a vector. It can only fail where the list grows,
     /// or a text becomes a vector. On an error the cells are as before.
+    #[inline(always)]
     pub fn blank_out(&mut self, len: usize) -> Result<(), AllocError>
         ensures ok { OnOk result (cells_in self.new ≡ replicate len blank) }
         ensures err { OnErr result (cells_in self.new ≡ cells_in self.old) }
@@ -331,13 +332,26 @@ impl CellStorage {
         ensures value { IfOk result (λ v. v.now ≡ cells_in self.old) }
         ensures succeeds { is_vector self.old ≡ true → IsOk result }
     {
-        if let CellStorage::Cluster(line) = self {
-            *self = CellStorage::V(expanded(line)?);
+        if let CellStorage::Cluster(_) = self {
+            self.expand()?;
         }
         match self {
             CellStorage::V(storage) => Ok(storage),
             CellStorage::Cluster(_) => unreachable!(),
         }
+    }
+
+    // A text becomes a vector of its cells. It stands apart, so that the way of a vector is short.
+    #[inline(never)]
+    fn expand(&mut self) -> Result<(), AllocError>
+        ensures cells { cells_in self.new ≡ cells_in self.old }
+        ensures vector { OnOk result (is_vector self.new ≡ true) }
+        ensures err { OnErr result (self.new ≡ self.old) }
+    {
+        if let CellStorage::Cluster(line) = self {
+            *self = CellStorage::V(expanded(line)?);
+        }
+        Ok(())
     }
 
     /// Puts the cells in a text, which takes far less memory where cells in a row are alike. The

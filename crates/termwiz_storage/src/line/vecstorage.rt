@@ -641,6 +641,28 @@ fn put_letter_cells(
     requires room { 2 * length (chars run.now) ≤ length cells.old }
     ensures { cells.new ≡ put_letters 0 (chars run.now) attrs.now cells.old }
 {
+    // Neither loop asks for each cell whether another one is to be dropped.
+    if owns {
+        overwrite_by_letters(alloc, cells, run, attrs, true);
+    } else {
+        overwrite_by_letters(alloc, cells, run, attrs, false);
+    }
+}
+
+#[inline(always)]
+fn overwrite_by_letters(
+    alloc: Global,
+    cells: &mut [Cell],
+    run: &str,
+    attrs: &CellAttributes,
+    owns: bool,
+)
+    requires letters { AreLetters run.now }
+    requires unboxed { needs_box attrs.now ≡ false }
+    requires unowned { owns ≡ false → OwnNothing cells.old }
+    requires room { 2 * length (chars run.now) ≤ length cells.old }
+    ensures { cells.new ≡ put_letters 0 (chars run.now) attrs.now cells.old }
+{
     let own = attrs.unboxed_copy().unwrap();
     for k in 0..letter_count(run) {
         let copy = own.unboxed_copy().unwrap();

@@ -5,7 +5,8 @@ ghost use Rattle.termwiz_surface_core.specs.{IsMeasured, PrintsFirst, PrintsGrap
 ghost use Rattle.termwiz_surface_core.specs.{chars, columns_left, down, down_kept, false, is_plain};
 ghost use Rattle.termwiz_surface_core.specs.{graphemes, kept_of, list_all, map, measure, needs_box};
 ghost use Rattle.termwiz_surface_core.specs.{one_kept, print, print_kept, print_one, put_at_cursor};
-ghost use Rattle.termwiz_surface_core.specs.{put_kept, returned, screen_of, true, wrapped, wrapped_kept};
+ghost use Rattle.termwiz_surface_core.specs.{put_kept, returned, screen_of, true, wrapped};
+ghost use Rattle.termwiz_surface_core.specs.{wrapped_kept};
 
 use super::Surface;
 use std::alloc::AllocError;
@@ -166,8 +167,8 @@ impl<W: Widths> Surface<W> {
         Ok(())
     }
 
-    // Prints the run of ASCII or of letters or the CR LF that the text begins with, or else its first
-    // grapheme, and gives what is left.
+    // Prints the run of ASCII or of letters, or the CR LF, that the text begins with, or else its
+    // first grapheme, and gives what is left.
     fn print_first<'a>(&mut self, text: &'a str) -> Result<&'a str, AllocError>
         requires { 0 < length text.now }
         ensures ok { IfOk result (λ rest. PrintsFirst (measure W.width_of self.old.widths)

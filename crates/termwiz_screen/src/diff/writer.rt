@@ -1,13 +1,14 @@
 //! A writer of the changes that print cells at their places.
-ghost use Rattle.std.specs.Prelude.{◌≡◌, ◌<◌, ◌^◌, ◌++◌, ◌∷◌, [], IfOk, OnOk, Some, map};
-ghost use Rattle.termwiz_screen.specs.{IfSome, IsOfCell, change_value, cursor_at, end_value, true};
-ghost use Rattle.termwiz_screen.specs.{ends_printable, is_plain, last_is, plain_cell, ref_cell};
+ghost use Rattle.std.specs.Prelude.{◌≡◌, ◌+◌, ◌-◌, ◌<◌, ◌≤◌, ◌^◌, ◌++◌, ◌∷◌, [], IfOk, OnOk, Some};
+ghost use Rattle.termwiz_screen.specs.{IsOfCell, IsPrintedTo, change_value, cursor_at, end_value};
+ghost use Rattle.termwiz_screen.specs.{length, map, ref_cell, ℕ};
 ghost use Rattle.termwiz_screen.specs.Diff as spec;
 ghost use Rattle.termwiz_screen.specs.Prints.{Print};
 
+use super::runs::push_run;
 use std::alloc::{AllocError, Global};
 use std::marker::Model;
-use termwiz_cell::cell::CellAttributes;
+use termwiz_cell::cell::{Cell, CellAttributes};
 use termwiz_cell::change::{Change, Position};
 use termwiz_line::entries::EntryList;
 use termwiz_storage::line::cellref::CellRef;
@@ -72,40 +73,42 @@ impl<'a> DiffWriter<'a> {
         Ok(())
     }
 
-    /// The pen of the last cell, where that ended in printable ASCII and its pen takes no memory.
-    pub(super) fn plain_pen(&self) -> Option<CellAttributes>
-        ensures text { IfSome result (λ pen. last_is ends_printable self.now.entries ≡ true) }
-        ensures pen { IfSome result (λ pen. (e : spec.End) → self.now.end ≡ Some e →
-            e.pen ≡ pen) }
+    /// Prints the plain cells from a column on that go right behind the last one, in its pen, and
+    /// that the own row doesn't show. Returns how many.
+    ///
+    /// They need no move and no pen, and printable ASCII always joins a text that ends in it.
+    pub(super) fn print_run(
+        &mut self,
+        own: &[Cell],
+        column: usize,
+        cells: &[Cell],
+        from: usize,
+        end: usize,
+    ) -> Result<usize, AllocError>
+        requires within { from ≤ end }
+        requires stored { end ≤ length cells.now }
+        requires fits { column + (end - from) ≤ 2 ^ 32 }
+        ensures end { IfOk result (λ count. from + count ≤ end) }
+        ensures printed { IfOk result (λ count. (e : spec.End) (x q n : ℕ) (d : spec.PrintedOut) →
+            self.old.end ≡ Some e → e.x ≡ column → column ≡ x + (from - q) → end ≤ q + n →
+            IsPrintedTo own.now x cells.now q n e.y d self.old from →
+            IsPrintedTo own.now x cells.now q n e.y d self.new (from + count)) }
     {
-        let end = self.end?;
         if !self.entries.ends_printable() {
-            return None;
+            return Ok(0);
         }
-        end.pen.unboxed_copy()
-    }
-
-    /// A plain cell comes right behind the last one, which ended at this column in printable ASCII,
-    /// in the same pen.
-    #[inline(always)]
-    pub(super) fn print_plain(&mut self, column: usize, byte: u8) -> Result<(), AllocError>
-        requires fits { column < 2 ^ 32 }
-        requires plain { is_plain byte ≡ true }
-        requires text { last_is ends_printable self.old.entries ≡ true }
-        ensures printed { OnOk result (
-            (e : spec.End) → self.old.end ≡ Some e → e.x ≡ column →
-            self.new ≡ spec.print_out self.old (record {
-              row = e.y;
-              column = column;
-              cell = plain_cell byte e.pen;
-            })) }
-        ensures text { OnOk result (last_is ends_printable self.new.entries ≡ true) }
-    {
-        self.entries.push_plain(byte)?;
-        if let Some(end) = &mut self.end {
-            end.x = column + 1;
-        }
-        Ok(())
+        let Some(last) = self.end else {
+            return Ok(0);
+        };
+        let Some(pen) = last.pen.unboxed_copy() else {
+            return Ok(0);
+        };
+        let count = push_run(&mut self.entries, &pen, own, column, cells, from, end)?;
+        self.end = Some(End {
+            x: column + count,
+            ..last
+        });
+        Ok(count)
     }
 
     /// The changes in a list.

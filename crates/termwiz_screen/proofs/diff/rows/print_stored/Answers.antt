@@ -49,8 +49,8 @@ loop-next-preserved-then-width-eq1 c =
           ∙ ap (λ s. fold print_out c.loop-next.writer (map (in_row c.args.row) (cond s [] (at_column column cell ∷ [])))) (sym c.in_ok-shown.ensures.shown ∙ t.if-shown.false))
           in
           subst (λ e. IsPrintedTo own r.x cells r.other_x r.width c.args.row c.args.writer.now e (next + c.width.result + c.if-shown.next)) (sym t.writer-is)
-          (subst (λ n. IsPrintedTo own r.x cells r.other_x r.width c.args.row c.args.writer.now t.print_run.new.writer (next + c.width.result + n)) (sym t.next-is)
-          (t.in_ok-next.ensures.printed c.args.writer.now (end_of (in_row c.args.row (at_column column cell))) end (omega (arith, behind, narrow)) step))
+          (subst (λ n. IsPrintedTo own r.x cells r.other_x r.width c.args.row c.args.writer.now t.print_run.new.self (next + c.width.result + n)) (sym t.next-is)
+          (t.in_ok-next.ensures.printed (end_of (in_row c.args.row (at_column column cell))) r.x r.other_x r.width c.args.writer.now end (omega (arith, narrow)) behind (omega (arith, c.min-end.ensures)) step))
     ]
 
 pub loop-next-preserved : goal.loop-next-preserved

@@ -1,4 +1,4 @@
-use Rattle.std.proofs.Common.{◌≡◌, List, [], ◌∷◌, ℕ, ◌++◌, true, length, ap, sym, ◌∙◌, subst}
+use Rattle.std.proofs.Common.{◌≡◌, ◌<◌, ◌%◌, List, [], ◌∷◌, ℕ, ◌++◌, true, length, ap, arith, sym, ◌∙◌, subst}
 use Rattle.std.specs.Prelude.{string_bytes}
 use Rattle.std.specs.Str.{IsUtf8}
 use Rattle.termwiz_text.specs.Plain.{is_plain_last}
@@ -20,7 +20,9 @@ invariant_of-self-2 c =
     let more : List ℕ = c.args.byte ∷ [] in
     let utf8 : IsUtf8 old = subst IsUtf8 c.as_str-seam.ensures.value c.as_str-seam.utf8 in
     let last : is_plain_last old ≡ true = sym (ap is_plain_last same) ∙ c.requires.behind in
-    let text : string_bytes c.push.new.self ≡ old ++ more = c.in_ok-push.ensures.bytes ∙ ap (λ (t : List ℕ). old ++ t) (c.in_ok-push.ensures.ascii (plain_ascii c.args.byte c.requires.plain)) in
+    let byte : c.args.byte % 128 ≡ c.args.byte = omega (arith, plain_ascii c.args.byte c.requires.plain) in
+    let ascii : c.args.byte % 128 < 128 = omega arith in
+    let text : string_bytes c.push.new.self ≡ old ++ more = c.in_ok-push.ensures.bytes ∙ ap (λ (t : List ℕ). old ++ t) (c.in_ok-push.ensures.ascii ascii ∙ ap (λ b. b ∷ []) byte) in
     let seam : length c.as_str-seam.result.now ≡ length old = ap length c.as_str-seam.ensures.value in
     rw (text, seam) (cut_at_seam old more utf8 (utf8_one c.args.byte c.requires.plain) (seam_behind old c.args.byte utf8 last c.requires.plain), λ _. one_plain_last old more c.requires.plain)
 
@@ -34,5 +36,7 @@ pub returns-clause-ends : goal.returns-clause-ends
 returns-clause-ends c =
     let old : List ℕ = string_bytes c.self.inside.text in
     let more : List ℕ = c.args.byte ∷ [] in
-    let text : string_bytes c.push.new.self ≡ old ++ more = c.in_ok-push.ensures.bytes ∙ ap (λ (t : List ℕ). old ++ t) (c.in_ok-push.ensures.ascii (plain_ascii c.args.byte c.requires.plain)) in
+    let byte : c.args.byte % 128 ≡ c.args.byte = omega (arith, plain_ascii c.args.byte c.requires.plain) in
+    let ascii : c.args.byte % 128 < 128 = omega arith in
+    let text : string_bytes c.push.new.self ≡ old ++ more = c.in_ok-push.ensures.bytes ∙ ap (λ (t : List ℕ). old ++ t) (c.in_ok-push.ensures.ascii ascii ∙ ap (λ b. b ∷ []) byte) in
     ap is_plain_last text ∙ one_plain_last old more c.requires.plain

@@ -7,6 +7,8 @@ use termwiz_cell::color::ColorAttribute;
 use termwiz_cell::emoji::UnicodeWidths;
 use termwiz_surface::surface::Surface;
 use termwiz_surface::view::Viewer;
+use termwiz_wire::{Reader, encode_answer};
+use uses::carried::receive_all;
 use uses::damage::show_the_same;
 use uses::follower::{Follower, make_and_show};
 use uses::last_row::{clear_last_row, draw_status};
@@ -14,8 +16,10 @@ use uses::lines::{heading, word_at};
 use uses::mirror::Mirror;
 use uses::one_by_one::make_one_by_one;
 use uses::prompt::show_prompt;
+use uses::relay::relay;
 use uses::remote::show_heading;
 use uses::renderer::{refresh, refresh_all};
+use uses::sharing::{deliver_each_late, join, reconnect};
 use uses::window::show_widget;
 
 fn text(rt: &impl Abort, alloc: Global, text: &str) -> Change {
@@ -195,4 +199,63 @@ fn a_remote_terminal_has_the_title_and_the_heading(rt: HostRuntime) {
         LineAttribute::SingleWidthLine,
     ];
     assert_eq!(rt; shown.lines.as_slice(), lines.as_slice());
+}
+
+#[test]
+fn late_answers_leave_a_viewer_one_change_behind(rt: HostRuntime) {
+    let alloc = rt.alloc();
+    let mut surface = Surface::new(alloc, 6, 1, UnicodeWidths).expect(&rt, "a surface");
+    let mut viewer = join(alloc, &surface).expect(&rt, "a viewer");
+    let first = text(&rt, alloc, "w00");
+    let second = text(&rt, alloc, "t");
+    let third = text(&rt, alloc, "!");
+    let changes = vec![in alloc; first, second, third].expect(&rt, "a list");
+    deliver_each_late(&mut surface, &mut viewer, changes).expect(&rt, "three answers");
+    assert_rows(&rt, viewer.surface(), "w00t  \n");
+    assert_eq!(rt; viewer.last(), 2);
+    assert!(rt; !surface.is_full());
+    reconnect(&surface, &mut viewer).expect(&rt, "a followed surface");
+    assert_rows(&rt, viewer.surface(), "w00t! \n");
+    // A far viewer shows what the near one shows.
+    let mut far = Viewer::new(alloc, viewer.surface()).expect(&rt, "a far viewer");
+    relay(&surface, &mut viewer, &mut far).expect(&rt, "two followed surfaces");
+    assert_rows(&rt, far.surface(), "w00t! \n");
+}
+
+// Sends what a viewer with this number needs.
+fn send(
+    rt: &impl Abort,
+    surface: &Surface<UnicodeWidths>,
+    number: SequenceNo,
+    bytes: &mut Vec<u8>,
+) {
+    let answer = surface.answer(number).expect(rt, "an answer");
+    encode_answer(bytes, &answer).expect(rt, "an encoded answer");
+}
+
+#[test]
+fn a_client_receives_a_stream(rt: HostRuntime) {
+    let alloc = rt.alloc();
+    let mut surface = Surface::new(alloc, 4, 1, UnicodeWidths).expect(&rt, "a surface");
+    let mut viewer = Viewer::new(alloc, &surface).expect(&rt, "a viewer");
+    let mut bytes = Vec::new(alloc);
+    print(&rt, alloc, &mut surface, "w");
+    send(&rt, &surface, 0, &mut bytes);
+    print(&rt, alloc, &mut surface, "00t");
+    send(&rt, &surface, 1, &mut bytes);
+    surface.resize(6, 1).expect(&rt, "a resized surface");
+    send(&rt, &surface, 2, &mut bytes);
+    // All but the last byte: the last answer is cut.
+    let cut = bytes.len().saturating_sub(1);
+    let front = bytes.get(..cut).unwrap_or(&[]);
+    let mut reader = Reader::new(front);
+    let stop = receive_all(alloc, &mut viewer, &mut reader).expect_err(&rt, "a cut stream");
+    assert_eq!(rt; stop.index, 2);
+    assert_eq!(rt; viewer.last(), 2);
+    assert_rows(&rt, viewer.surface(), "w00t\n");
+    // Received again from its first answer, a repaint, the whole stream leads on from there.
+    let mut reader = Reader::new(&bytes);
+    let count = receive_all(alloc, &mut viewer, &mut reader).expect(&rt, "a whole stream");
+    assert_eq!(rt; count, 3);
+    assert_rows(&rt, viewer.surface(), "w00t  \n");
 }

@@ -29,12 +29,22 @@ pub(super) fn optional_link_of(
             Ok(None)
         }
         Kind::Array => {
-            let link = link_of(alloc, reader)?;
-            let link = Rc::new(alloc, link)?;
+            let link = some_link_of(alloc, reader)?;
             Ok(Some(link))
         }
         _ => Err(WireError::Type),
     }
+}
+
+// A link. It stands apart, so that the way of no link is short.
+#[inline(never)]
+fn some_link_of(alloc: Global, reader: &mut Reader<'_>) -> Result<Rc<Hyperlink>, WireError>
+    ensures { Gives (λ x. (x.value, reader.new.bytes.now)) result
+        (link_at reader.old.bytes.now) }
+{
+    let link = link_of(alloc, reader)?;
+    let link = Rc::new(alloc, link)?;
+    Ok(link)
 }
 
 #[tactic(auto, unfolding(crate::specs::Decoding::link_at))]

@@ -54,7 +54,7 @@ pub use Rattle.termwiz_cell.specs.Shapes.{is_blinking_shape, line_attribute_eq, 
 pub use Rattle.termwiz_cell.specs.Style.{blink_at, blink_eq, blink_number, flag_number, intensity_at, intensity_eq, intensity_number, semantic_at, semantic_number, underline_at, underline_eq, underline_number, vertical_at, vertical_number}
 pub use Rattle.termwiz_cell.specs.StyleLending.{LendsStyle}
 pub use Rattle.termwiz_cell.specs.StyleWord.{IsPalette, bits_at, palette_at, palette_number, style_at, style_sgr_only}
-pub use Rattle.termwiz_cell.specs.Width.{at_version, columns_of, unicode_columns}
+pub use Rattle.termwiz_cell.specs.Width.{asked_by, at_version, columns_of, unicode_columns, variation, version_index}
 pub use Rattle.termwiz_cell.specs.declared.change.sequence.SequenceError.TheVariants.{Range}
 pub use Rattle.termwiz_text.specs.Plain.{is_one_plain, is_plain}
 pub use Rattle.unicode_segmentation.specs.Grapheme.{graphemes}

@@ -1,8 +1,7 @@
 //! How wide texts are, and how they are shown.
 ghost use Rattle.std.specs.Prelude.{◌≡◌, None, false, refl};
-ghost use Rattle.termwiz_cell.specs.{at_version, chars, columns_of, is_whitespace, list_all};
-ghost use Rattle.termwiz_cell.specs.{unicode_columns};
-ghost use Rattle.termwiz_cell.specs.Width as spec;
+ghost use Rattle.termwiz_cell.specs.{asked_by, at_version, chars, columns_of, is_whitespace};
+ghost use Rattle.termwiz_cell.specs.{list_all, unicode_columns, variation, version_index};
 ghost use Rattle.termwiz_cell.specs.declared.emoji.Presentation.TheVariants.{Text};
 
 use termwiz_text::{Graphemes, is_one_letter, is_one_plain};
@@ -69,7 +68,7 @@ impl UnicodeVersion {
     /// where characters of ambiguous width take two columns. A width value may have a table for
     /// each kind; `UnicodeWidths` has one for all.
     pub fn idx(&self) -> usize
-        ensures { result ≡ spec.version_index self.now }
+        ensures { result ≡ version_index self.now }
     {
         let newer = if self.version > 9 { 2 } else { 0 };
         let wide = if self.ambiguous_are_wide { 1 } else { 0 };
@@ -178,7 +177,7 @@ impl Widths for UnicodeWidths {
 
     ghost width_of = { λ _ text _. unicode_columns text };
 
-    ghost presentation_of = { λ _ text. (Text, spec.variation text) };
+    ghost presentation_of = { λ _ text. (Text, variation text) };
 
     ghost char_presentation_of = { λ _ _. Text };
 
@@ -267,13 +266,13 @@ pub fn is_white_space_grapheme(text: &str) -> bool
 }
 
 fn variation(text: &str) -> Option<Presentation>
-    ensures { result ≡ spec.variation text.now }
+    ensures { result ≡ variation text.now }
 {
     text.chars().find_map(asked_by)
 }
 
 fn asked_by(c: char) -> Option<Presentation>
-    ensures { result ≡ spec.asked_by c }
+    ensures { result ≡ asked_by c }
 {
     match c {
         '\u{FE0E}' => Some(Presentation::Text),

@@ -35,7 +35,7 @@ pub use Rattle.std.specs.List.{All, list_all, list_any}
 pub use Rattle.std.specs.Option.{option_copied}
 pub use Rattle.std.specs.Prelude.{IfOk, IfSome, IsOk, IsOkAnd, IsSome, IsTrue, List, None, OnErr, OnOk, Some, drop, false, length, map, max, nat_lt, not, take, true}
 pub use Rattle.std.specs.Str.{chars}
-pub use Rattle.termwiz_cell.specs.Attributes.{attributes_eq, default_attributes, needs_box}
+pub use Rattle.termwiz_cell.specs.Attributes.{attributes_eq, default_attributes, has_only_background, needs_box}
 pub use Rattle.termwiz_cell.specs.CellValue.{blank, blank_of, cell_of, columns, measured, space}
 pub use Rattle.termwiz_cell.specs.ChangeValue.{change_value, is_text}
 pub use Rattle.termwiz_cell.specs.Measure.{measure}
@@ -46,7 +46,7 @@ pub use Rattle.termwiz_line.specs.Clusters.{AreClusters, ClusterValue, cluster_o
 pub use Rattle.termwiz_line.specs.CutLaws.{BytesTellTheirCells, ClustersAreOne, ClustersJoin, WrapsAreAlike, WrapsAreOne, ZonesAreOne}
 pub use Rattle.termwiz_line.specs.Directions.{goes_left, is_auto, is_right_to_left}
 pub use Rattle.termwiz_line.specs.EditLaws.{AllColumnsShow, StoredAgainShows}
-pub use Rattle.termwiz_line.specs.Entries.{add_text, joins, pen_entry, row_entries}
+pub use Rattle.termwiz_line.specs.Entries.{Penned, add_text, joins, pen_entry, row_entries}
 pub use Rattle.termwiz_line.specs.Filled.{AppendsCells, Fills, IsFilled, IsPartlyFilled, MakesVector}
 pub use Rattle.termwiz_line.specs.GrowingText.{IsLastOf, ends_printable, with_text}
 pub use Rattle.termwiz_line.specs.LastChange.{last_is}

@@ -1,7 +1,6 @@
 //! Row entries: the changes that print rows of visible cells, written cell by cell.
 ghost use Rattle.std.specs.Prelude.{◌≡◌, IfOk};
-ghost use Rattle.termwiz_line.specs.{cells_left, penned_value};
-ghost use Rattle.termwiz_line.specs.Entries as spec;
+ghost use Rattle.termwiz_line.specs.{cells_left, penned_value, row_entries};
 
 mod list;
 mod writer;
@@ -29,7 +28,7 @@ pub fn row_entries<'a>(
     pen: &'a CellAttributes,
 ) -> Result<Penned<'a>, AllocError>
     ensures { IfOk result (λ row.
-        penned_value row ≡ spec.row_entries pen.now (cells_left cells.entry)) }
+        penned_value row ≡ row_entries pen.now (cells_left cells.entry)) }
 {
     let mut writer = RowWriter::new(alloc, pen);
     writer.row(cells, 0, pen)?;

@@ -56,7 +56,7 @@ pub use Rattle.termwiz_line.specs.PennedValue.{penned_value}
 pub use Rattle.termwiz_line.specs.Row.{HasHalves, is_hidden, row_of, visible_upto}
 pub use Rattle.termwiz_line.specs.Writing.{behind}
 pub use Rattle.termwiz_screen.specs.Chars.{row_chars, screen_chars}
-pub use Rattle.termwiz_screen.specs.Diff.{band, cut, diff, in_row, need, print_out, row_need, shows}
+pub use Rattle.termwiz_screen.specs.Diff.{PrintedOut, band, cut, diff, fitting, in_row, need, print_out, row_need, shows}
 pub use Rattle.termwiz_screen.specs.DiffLaws.{CutIsInside, DiffGivesBand, DiffGivesRegion, DiffGivesRows, DrawingRestores, LinesArePrintable, NeedGivesRegion, NeedGivesRows, NeedIs, PrintsAreDiff, RegionIsDiff}
 pub use Rattle.termwiz_screen.specs.Drawing.{AreApart, IsBeforeRow, IsWrittenUpto, clears}
 pub use Rattle.termwiz_screen.specs.Ends.{end_value, ended_at}
@@ -75,7 +75,7 @@ pub use Rattle.termwiz_screen.specs.RepaintLaws.{LineEntriesGiveRow, RepaintGive
 pub use Rattle.termwiz_screen.specs.Resized.{HaveGrown, Undoes, can_undo, cuts_in_place, grown, in_width, resized_flags, resized_stored, undone}
 pub use Rattle.termwiz_screen.specs.Rows.{AreFilled, ArePartly, ArePartlyReset, IsPartly, painted_in}
 pub use Rattle.termwiz_screen.specs.Runs.{AreNarrow, AreWide, IsMeasuredPiece, IsNarrowRun, IsWideRun}
-pub use Rattle.termwiz_screen.specs.Screen.{row_at}
+pub use Rattle.termwiz_screen.specs.Screen.{Screen, row_at}
 pub use Rattle.termwiz_screen.specs.ScreenValue.{cells_of, numberless, rows_eq, screen_eq, screen_eq-Decides, screen_value}
 pub use Rattle.termwiz_screen.specs.ScrollRegions.{region_down, region_reversed, region_turned, region_up}
 pub use Rattle.termwiz_screen.specs.SequenceLaws.{MovesLeadThere, TextsMoveAlike}

@@ -7,11 +7,10 @@
 //! common ideographs (`specs/Letter.antt`) need no tables: a run of either is split off at once.
 #![tactic(auto)]
 
-ghost use Rattle.std.specs.Prelude.{◌≡◌, ◌≤◌, ◌<◌, ◌↔◌, ◌∷◌, ◌++◌, [], IsUtf8, MatchOption};
-ghost use Rattle.std.specs.Prelude.{slice_index_or};
-ghost use Rattle.termwiz_text.specs.{IfSome, IsFirst, IsTrue, List, chars, drop, encode_utf8, min};
-ghost use Rattle.termwiz_text.specs.{false, graphemes, graphemes_to_come, length, list_all, take};
-ghost use Rattle.termwiz_text.specs.{slice_index, true, ℕ};
+ghost use Rattle.std.specs.Prelude.{◌++◌, [], IsUtf8, List, MatchOption, drop, min, slice_index_or};
+ghost use Rattle.std.specs.Prelude.{◌<◌, ◌↔◌, ◌∷◌, ◌≡◌, ◌≤◌, ℕ};
+ghost use Rattle.termwiz_text.specs.{IfSome, IsFirst, IsTrue, false, length, list_all, take, true};
+ghost use Rattle.termwiz_text.specs.{chars, encode_utf8, graphemes, graphemes_to_come, slice_index};
 ghost use Rattle.termwiz_text.specs.Plain as plain;
 ghost use Rattle.termwiz_text.specs.Letter as letter;
 

@@ -3,8 +3,7 @@ ghost use Rattle.std.specs.Prelude.{◌≡◌, ◌++◌, ◌∷◌, ◌+◌, ◌
 ghost use Rattle.termwiz_line.specs.{attributes_eq, change_value, not, option_copied, penned_value};
 ghost use Rattle.termwiz_line.specs.{IsWritten, VisibleCell, and_cells, cells_left, spaces_of};
 ghost use Rattle.termwiz_line.specs.{IsInText, IsLastOf, behind, is_text, last_is, length, nat_lt};
-ghost use Rattle.termwiz_line.specs.{IfOk, List, OnOk, false, space, true};
-ghost use Rattle.termwiz_cell.specs.Attributes as attributes;
+ghost use Rattle.termwiz_line.specs.{IfOk, List, OnOk, false, has_only_background, space, true};
 ghost use Rattle.termwiz_line.specs.Entries as spec;
 
 mod plain;
@@ -227,7 +226,7 @@ impl<'a> RowWriter<'a> {
     // Whether the spaces held back are left out where the row ends.
     fn leaves_out(&self) -> bool
         ensures { result ≡ (nat_lt 0 self.now.spaces
-            && attributes.has_only_background self.now.space_attrs) }
+            && has_only_background self.now.space_attrs) }
     {
         self.spaces > 0 && self.space_attrs.has_only_background()
     }

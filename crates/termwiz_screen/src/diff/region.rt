@@ -1,7 +1,6 @@
 //! Regions: a rectangle of own columns and rows, and as large a one of another's.
 ghost use Rattle.std.specs.Prelude.{◌≡◌, ◌||◌, ◌==◌};
-ghost use Rattle.termwiz_screen.specs.{region_value};
-ghost use Rattle.termwiz_screen.specs.Diff as spec;
+ghost use Rattle.termwiz_screen.specs.{band, cut, fitting, region_value};
 
 /// A rectangle of own columns and rows, and as large a one of another's.
 #[derive(Clone, Copy)]
@@ -17,7 +16,7 @@ pub struct Region {
 impl Region {
     /// This many whole rows, from a row on, and another's from its first one on.
     pub fn band(width: usize, y: usize, height: usize) -> Region
-        ensures { region_value result ≡ spec.band width y 0 height }
+        ensures { region_value result ≡ band width y 0 height }
     {
         Region {
             x: 0,
@@ -31,7 +30,7 @@ impl Region {
 
     /// The part that fits in an own width and height, and in another's.
     pub fn cut(self, own: (usize, usize), other: (usize, usize)) -> Region
-        ensures { region_value result ≡ spec.cut (region_value self) own.0 own.1 other.0 other.1 }
+        ensures { region_value result ≡ cut (region_value self) own.0 own.1 other.0 other.1 }
     {
         Region {
             x: self.x,
@@ -52,7 +51,7 @@ impl Region {
 }
 
 fn fitting(count: usize, own: usize, from: usize, other: usize, other_from: usize) -> usize
-    ensures { result ≡ spec.fitting count own from other other_from }
+    ensures { result ≡ fitting count own from other other_from }
 {
     let own_left = own.saturating_sub(from);
     let other_left = other.saturating_sub(other_from);

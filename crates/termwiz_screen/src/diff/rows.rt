@@ -1,11 +1,10 @@
 //! The cells that a diff prints, row by row.
-ghost use Rattle.std.specs.Prelude.{◌≡◌, ◌+◌, ◌-◌, ◌<◌, ◌≤◌, ◌^◌, ◌∷◌, ◌↔◌, if◌then◌else◌, []};
-ghost use Rattle.termwiz_screen.specs.{AreHalved, AreVectors, CellValue, EndsBlank, HasHalves, map};
-ghost use Rattle.termwiz_screen.specs.{IfOk, IsOfCell, List, OnOk, at_column, band, blank, cell_eq};
-ghost use Rattle.termwiz_screen.specs.{cells_left, cells_of, deque_len, false, fold, hides, in_row};
-ghost use Rattle.termwiz_screen.specs.{is_hidden, is_wide, length, min, nat_lt, need, print_out, ℕ};
-ghost use Rattle.termwiz_screen.specs.{ref_cell, region_value, row_need, row_of, shows, stored};
-ghost use Rattle.termwiz_screen.specs.{IsTrue, true, visible};
+ghost use Rattle.std.specs.Prelude.{◌≡◌, ◌+◌, ◌-◌, ◌<◌, ◌≤◌, ◌^◌, ◌∷◌, if◌then◌else◌, [], length, map};
+ghost use Rattle.termwiz_screen.specs.{AreHalved, AreVectors, CellValue, cells_left, region_value};
+ghost use Rattle.termwiz_screen.specs.{EndsBlank, HasHalves, IfOk, at_column, deque_len, is_hidden};
+ghost use Rattle.termwiz_screen.specs.{IsOfCell, cell_eq, cells_of, print_out, ref_cell, row_need};
+ghost use Rattle.termwiz_screen.specs.{List, blank, false, in_row, nat_lt, row_of, stored, visible};
+ghost use Rattle.termwiz_screen.specs.{OnOk, band, fold, hides, min, need, shows, true, ℕ};
 
 use super::region::Region;
 use super::runs::count_same;

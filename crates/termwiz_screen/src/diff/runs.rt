@@ -1,8 +1,7 @@
 //! Runs of cells, which need fewer tests than cells alone.
 ghost use Rattle.std.specs.Prelude.{◌≡◌, ◌+◌, ◌-◌, ◌<◌, ◌≤◌, ◌↔◌, IfOk, IfSome, IsTrue, false, true};
 ghost use Rattle.termwiz_screen.specs.{IsPrintedTo, cell_eq, ended_at, ends_printable, is_plain, ℕ};
-ghost use Rattle.termwiz_screen.specs.{is_wide, last_is, length, plain_cell, stored};
-ghost use Rattle.termwiz_screen.specs.Diff as spec;
+ghost use Rattle.termwiz_screen.specs.{PrintedOut, is_wide, last_is, length, plain_cell, stored};
 
 use std::alloc::AllocError;
 use termwiz_cell::cell::{Cell, CellAttributes};
@@ -83,7 +82,7 @@ pub(super) fn push_run(
     requires stored { end ≤ length cells.now }
     requires text { last_is ends_printable entries.old ≡ true }
     ensures end { IfOk result (λ count. from + count ≤ end) }
-    ensures printed { IfOk result (λ count. (x q n row : ℕ) (d : spec.PrintedOut) →
+    ensures printed { IfOk result (λ count. (x q n row : ℕ) (d : PrintedOut) →
         column ≡ x + (from - q) → end ≤ q + n →
         IsPrintedTo own.now x cells.now q n row d
         (ended_at entries.old column row pen.now) from →

@@ -1,28 +1,29 @@
 //! Cells stored one by one.
-ghost use Rattle.std.specs.Prelude.{[], vec_capacity, ◌*◌, ◌++◌, ◌+◌, ◌-◌, ◌<◌, ◌↔◌, ◌∷◌, ◌≡◌, ◌≤◌};
-ghost use Rattle.termwiz_storage.specs.{cells_eq-Decides, owns_memory, partial_equiv_from_equiv};
-ghost use Rattle.termwiz_storage.specs.{AreLetters, IsFilledTo, IsOfCell, put_letters, set_letters};
-ghost use Rattle.termwiz_storage.specs.{IsBlanked, LendsCells, OwnNothing, option_map, plain_cell};
-ghost use Rattle.termwiz_storage.specs.{is_linked, map, needs_box, ref_index, replicate, slice_set};
-ghost use Rattle.termwiz_storage.specs.{cells_eq, is_plain, list_all, list_any, ref_cell, set_cell};
-ghost use Rattle.termwiz_storage.specs.{IfOk, cell_at, decided, is_wide, put_run, resized, set_run};
+ghost use Rattle.std.specs.Prelude.{◌≡◌, ◌↔◌, ◌<◌, ◌≤◌, ◌+◌, ◌-◌, ◌*◌, [], option_map, replicate};
+ghost use Rattle.termwiz_storage.specs.{AreLetters, IsBlanked, IsFilledTo, LendsCells, set_letters};
+ghost use Rattle.termwiz_storage.specs.{IfOk, IsOfCell, is_linked, needs_box, ref_index, slice_set};
 ghost use Rattle.termwiz_storage.specs.{IfSome, IsKept, IsTrue, length, padded, vec_len, visible};
-ghost use Rattle.termwiz_storage.specs.{IsOk, OnErr, OnOk, blank, chars, false, hides, sem, stored};
-ghost use Rattle.termwiz_storage.specs.{fill, half, take, torn, true};
+ghost use Rattle.termwiz_storage.specs.{IsOk, cell_at, decided, is_wide, put_run, resized, set_run};
+ghost use Rattle.termwiz_storage.specs.{OnErr, OnOk, blank, chars, false, fill, hides, sem, stored};
+ghost use Rattle.termwiz_storage.specs.{cells_eq, is_plain, list_all, list_any, ref_cell, set_cell};
+ghost use Rattle.termwiz_storage.specs.{cells_eq-Decides, partial_equiv_from_equiv, put_letters};
+ghost use Rattle.termwiz_storage.specs.{half, take, torn, true};
 
 mod edits;
+mod lists;
 mod walk;
 mod wrapped;
 
 use crate::line::cellref::CellRef;
 pub(crate) use edits::hides_next;
 pub use edits::push_with_half;
+use lists::{blank_cells, copied_cells, cut, own_nothing, pad_cells, put_cells, put_letter_cells};
 use std::alloc::{AllocError, Global};
 use std::marker::Model;
 use std::mem;
 use std::ops::{DerefSlice, DerefSliceMut};
 use termwiz_cell::cell::{Cell, CellAttributes};
-use termwiz_text::{letter_at, letter_count};
+use termwiz_text::letter_count;
 pub use walk::VecStorageIter;
 pub(crate) use walk::plain_byte;
 pub(crate) use wrapped::set_wrapped;
@@ -483,205 +484,6 @@ fn has_link(cell: &Cell) -> bool
     match cell.attrs().hyperlink() {
         Some(_) => true,
         None => false,
-    }
-}
-
-// Pads with default blanks, for which there may be room. It stands apart, so that the way of a list
-// that is long enough is short.
-#[inline(never)]
-fn pad_cells(cells: &mut Vec<Cell>, len: usize) -> Result<(), AllocError>
-    ensures ok { OnOk result (cells.new.items ≡ padded len cells.old.items) }
-    ensures err { OnErr result (cells.new.items ≡ cells.old.items) }
-    ensures succeeds { len ≤ vec_capacity cells.old → IsOk result }
-    ensures capacity { vec_capacity cells.old ≤ vec_capacity cells.new }
-{
-    let have = cells.len();
-    if have < len {
-        cells.reserve(len - have)?;
-        // A list of the function's own is filled faster than one behind a reference.
-        let none = Vec::new(*cells.allocator());
-        let own = mem::replace(cells, none);
-        *cells = with_blanks(own, len);
-    }
-    Ok(())
-}
-
-// Pads with default blanks, for which there is room.
-fn with_blanks(cells: Vec<Cell>, len: usize) -> Vec<Cell>
-    requires longer { vec_len cells ≤ len }
-    requires room { len ≤ vec_capacity cells }
-    ensures items { result.items ≡ padded len cells.items }
-    ensures capacity { vec_capacity result ≡ vec_capacity cells }
-{
-    let have = cells.len();
-    let mut cells = cells;
-    for _ in have..len {
-        cells.push_reserved(Cell::blank());
-    }
-    cells
-}
-
-// Whether no cell owns memory.
-fn own_nothing(cells: &[Cell]) -> bool
-    ensures { IsTrue result ↔ OwnNothing cells.now }
-{
-    cells.iter().all(|cell| !cell.owns_memory())
-}
-
-// Copies of cells, with room for so many. Those that own no memory are copied without a call.
-fn copied_cells(
-    alloc: Global,
-    cells: &[Cell],
-    room: usize,
-    owns: bool,
-) -> Result<Vec<Cell>, AllocError>
-    requires room { length cells.now ≤ room }
-    requires unowned { owns ≡ false → OwnNothing cells.now }
-    ensures { IfOk result (λ copy. copy.items ≡ cells.now) }
-{
-    let mut copy = Vec::with_capacity(alloc, room)?;
-    if owns {
-        VecCloneMethods::extend_from_slice(&mut copy, cells)?;
-        return Ok(copy);
-    }
-    Ok(with_short_copies(copy, cells))
-}
-
-// Copies of cells that own no memory, in a list that has room for them. A turn copies four, so that
-// few instructions are the loop's own.
-fn with_short_copies(list: Vec<Cell>, cells: &[Cell]) -> Vec<Cell>
-    requires unowned { OwnNothing cells.now }
-    requires room { vec_len list + length cells.now ≤ vec_capacity list }
-    ensures { result.items ≡ list.items ++ cells.now }
-{
-    let mut list = list;
-    let mut rest = cells;
-    'fours: while let [a, b, c, d, more @ ..] = rest {
-        list = with_short_copy(list, a);
-        list = with_short_copy(list, b);
-        list = with_short_copy(list, c);
-        list = with_short_copy(list, d);
-        rest = more;
-    }
-    for cell in rest {
-        list = with_short_copy(list, cell);
-    }
-    list
-}
-
-// A copy of a cell that owns no memory, behind those of a list that has room for it.
-#[inline(always)]
-fn with_short_copy(list: Vec<Cell>, cell: &Cell) -> Vec<Cell>
-    requires unowned { owns_memory cell.now ≡ false }
-    requires room { vec_len list < vec_capacity list }
-    ensures items { result.items ≡ list.items ++ cell.now ∷ [] }
-    ensures len { vec_len result ≡ vec_len list + 1 }
-    ensures capacity { vec_capacity result ≡ vec_capacity list }
-{
-    let mut list = list;
-    list.push_reserved(cell.short_copy().unwrap());
-    list
-}
-
-// A cell comes in the place of another, which is dropped only where it may own memory.
-#[inline(always)]
-fn overwrite(place: &mut Cell, cell: Cell, owns: bool)
-    requires { owns ≡ false → owns_memory place.old ≡ false }
-    ensures { place.new ≡ cell }
-{
-    let old = mem::replace(place, cell);
-    if !owns {
-        mem::forget(old);
-    }
-}
-
-// Cuts the list to at most this many cells. Those behind are dropped only where they may own
-// memory.
-fn cut(cells: &mut Vec<Cell>, len: usize, owns: bool)
-    requires { owns ≡ false → OwnNothing cells.old.items }
-    ensures { cells.new.items ≡ take len cells.old.items }
-{
-    if owns {
-        cells.truncate(len);
-        return;
-    }
-    while cells.len() > len {
-        if let Some(cell) = cells.pop() {
-            mem::forget(cell);
-        }
-    }
-}
-
-// The cells of the run come in the place of as many others.
-fn put_cells(cells: &mut [Cell], run: &[u8], attrs: &CellAttributes, owns: bool)
-    requires plain { list_all is_plain run.now ≡ true }
-    requires unboxed { needs_box attrs.now ≡ false }
-    requires unowned { owns ≡ false → OwnNothing cells.old }
-    requires len { length cells.old ≡ length run.now }
-    ensures { cells.new ≡ map (λ b. plain_cell b attrs.now) run.now }
-{
-    let own = attrs.unboxed_copy().unwrap();
-    for k in 0..run.len() {
-        let copy = own.unboxed_copy().unwrap();
-        overwrite(&mut cells[k], Cell::plain(run[k], copy), owns);
-    }
-}
-
-// The cells of the letters and their halves come in the place of others, from the first one on.
-fn put_letter_cells(
-    alloc: Global,
-    cells: &mut [Cell],
-    run: &str,
-    attrs: &CellAttributes,
-    owns: bool,
-)
-    requires letters { AreLetters run.now }
-    requires unboxed { needs_box attrs.now ≡ false }
-    requires unowned { owns ≡ false → OwnNothing cells.old }
-    requires room { 2 * length (chars run.now) ≤ length cells.old }
-    ensures { cells.new ≡ put_letters 0 (chars run.now) attrs.now cells.old }
-{
-    // Neither loop asks for each cell whether another one is to be dropped.
-    if owns {
-        overwrite_by_letters(alloc, cells, run, attrs, true);
-    } else {
-        overwrite_by_letters(alloc, cells, run, attrs, false);
-    }
-}
-
-#[inline(always)]
-fn overwrite_by_letters(
-    alloc: Global,
-    cells: &mut [Cell],
-    run: &str,
-    attrs: &CellAttributes,
-    owns: bool,
-)
-    requires letters { AreLetters run.now }
-    requires unboxed { needs_box attrs.now ≡ false }
-    requires unowned { owns ≡ false → OwnNothing cells.old }
-    requires room { 2 * length (chars run.now) ≤ length cells.old }
-    ensures { cells.new ≡ put_letters 0 (chars run.now) attrs.now cells.old }
-{
-    let own = attrs.unboxed_copy().unwrap();
-    for k in 0..letter_count(run) {
-        let copy = own.unboxed_copy().unwrap();
-        let cell = Cell::new_grapheme_with_width(alloc, letter_at(run, k), 2, copy).unwrap();
-        let copy = own.unboxed_copy().unwrap();
-        overwrite(&mut cells[2 * k + 1], Cell::blank_with_attrs(copy), owns);
-        overwrite(&mut cells[2 * k], cell, owns);
-    }
-}
-
-// The cells from one column up to another become default blanks.
-#[inline(always)]
-fn blank_cells(cells: &mut [Cell], from: usize, to: usize, owns: bool)
-    requires range { to ≤ length cells.old }
-    requires unowned { owns ≡ false → OwnNothing cells.old }
-    ensures { IsBlanked from to cells.old cells.new }
-{
-    for i in from..to {
-        overwrite(&mut cells[i], Cell::blank(), owns);
     }
 }
 

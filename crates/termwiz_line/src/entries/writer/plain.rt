@@ -1,9 +1,8 @@
 //! Rows of cells that are stored one by one, most of which are one character of printable ASCII in
 //! the pen that stands.
-ghost use Rattle.std.specs.Prelude.{◌≡◌, ◌++◌, ◌∷◌, ◌≤◌, ◌&&◌, ◌==◌, [], length, true};
-ghost use Rattle.termwiz_line.specs.{IsInText, IsUnderWay, IsWritten, List, OnOk, VisibleCell};
+ghost use Rattle.std.specs.Prelude.{◌≡◌, ◌++◌, ◌∷◌, ◌≤◌, ◌&&◌, ◌==◌, [], List, OnOk, length, true};
+ghost use Rattle.termwiz_line.specs.{IsInText, IsUnderWay, IsWritten, Penned, VisibleCell};
 ghost use Rattle.termwiz_line.specs.{and_cells, ends_printable, is_plain, last_is, spaces_of};
-ghost use Rattle.termwiz_line.specs.Entries as spec;
 
 use super::{RowWriter, added};
 use std::alloc::AllocError;
@@ -15,7 +14,7 @@ impl<'a> RowWriter<'a> {
     // written in a loop of their own, which asks only what they need.
     pub(super) fn stored_cells(&mut self, cells: VecStorageIter<'a>) -> Result<(), AllocError>
         ensures { OnOk result (
-            (from : spec.Penned) (before : List VisibleCell) → IsWritten from before self.old →
+            (from : Penned) (before : List VisibleCell) → IsWritten from before self.old →
             IsWritten from (before ++ cells.entry) self.new) }
     {
         let mut left = cells;
@@ -31,7 +30,7 @@ impl<'a> RowWriter<'a> {
     #[inline(always)]
     fn plain_cells(&mut self, left: &mut VecStorageIter<'a>) -> Result<(), AllocError>
         ensures written { OnOk result (
-            (from : spec.Penned) (all : List VisibleCell) →
+            (from : Penned) (all : List VisibleCell) →
             IsUnderWay from all left.old self.old → IsUnderWay from all left.new self.new) }
         ensures shorter { length left.new ≤ length left.old }
     {
@@ -56,7 +55,7 @@ impl<'a> RowWriter<'a> {
         requires text { last_is ends_printable self.old.printed.entries ≡ true }
         requires pen { pen.now ≡ self.old.printed.pen }
         ensures written { OnOk result (
-            (from : spec.Penned) (all : List VisibleCell) →
+            (from : Penned) (all : List VisibleCell) →
             IsUnderWay from all left.old self.old → IsUnderWay from all left.new self.new) }
         ensures shorter { length left.new ≤ length left.old }
     {
@@ -81,7 +80,7 @@ impl<'a> RowWriter<'a> {
         requires plain { is_plain byte ≡ true }
         requires text { IsInText self.old }
         ensures cell { OnOk result (
-            (from : spec.Penned) (cells : List VisibleCell) (p : VisibleCell) →
+            (from : Penned) (cells : List VisibleCell) (p : VisibleCell) →
             p.cell.text ≡ byte ∷ [] → p.cell.attrs ≡ self.old.printed.pen →
             IsWritten from cells self.old → IsWritten from (cells ++ p ∷ []) self.new) }
         ensures text { OnOk result (IsInText self.new) }

@@ -1,6 +1,6 @@
 use Rattle.std.proofs.Common.{◌≡◌, ◌-◌, ◌≤◌, ◌++◌, replicate, vec_capacity}
 use Rattle.termwiz_cell.specs.CellValue.{blank}
-use Rattle.termwiz_storage.proofs.line.vecstorage.with_blanks.Given as goal
+use Rattle.termwiz_storage.proofs.line.vecstorage.lists.with_blanks.Given as goal
 
 abbrev pub invariant-loop : goal.invariant-loop
 invariant-loop l = record {

@@ -1,7 +1,7 @@
 use Rattle.std.proofs.Common.{◌<◌, length, arith, refl}
 use Rattle.termwiz_storage.proofs.Owned.{nothing_set}
 use Rattle.termwiz_storage.proofs.Used.{blanked-more, blanked-cut}
-use Rattle.termwiz_storage.proofs.line.vecstorage.blank_cells.Goals as goal
+use Rattle.termwiz_storage.proofs.line.vecstorage.lists.blank_cells.Goals as goal
 
 pub overwrite-requires : goal.overwrite-requires
 overwrite-requires c = λ h. c.loop-i.invariant.unowned h c.loop-i.i _ (omega (arith, c.loop-i.invariant.blanked.len))

@@ -2,7 +2,7 @@ use Rattle.std.proofs.Common.{◌≡◌, ◌≤◌, List, [], ◌∷◌, ◌++�
 use Rattle.std.proofs.lemmas.List.{take_rest}
 use Rattle.std.proofs.lemmas.List.Elements.{All-drop}
 use Rattle.termwiz_storage.proofs.Owned.{Unowned}
-use Rattle.termwiz_storage.proofs.line.vecstorage.with_short_copies.Goals as goal
+use Rattle.termwiz_storage.proofs.line.vecstorage.lists.with_short_copies.Goals as goal
 
 -- four elements go from the front of a list behind another
 four_behind : {A : Type 0} (s xs : List A) (a b c d : A) → 4 ≤ length xs → a ≡ get_or xs 0 a → b ≡ get_or xs 1 b → c ≡ get_or xs 2 c → d ≡ get_or xs 3 d → ((((s ++ a ∷ []) ++ b ∷ []) ++ c ∷ []) ++ d ∷ []) ++ drop 4 xs ≡ s ++ xs

@@ -1,6 +1,6 @@
 use Rattle.std.proofs.Common.{◌≡◌, ◌≤◌, ◌+◌, ◌++◌, length, take}
 use Rattle.std.specs.Prelude.{vec_capacity, vec_len}
-use Rattle.termwiz_storage.proofs.line.vecstorage.with_short_copies.Given as goal
+use Rattle.termwiz_storage.proofs.line.vecstorage.lists.with_short_copies.Given as goal
 use Rattle.termwiz_storage.specs.Used.{OwnNothing}
 
 -- what is copied, and what is left, are all

@@ -1,6 +1,6 @@
 use Rattle.std.proofs.Common.{◌≡◌, ◌<◌, ◌≤◌, false}
 use Rattle.termwiz_storage.specs.Used.{IsBlanked, OwnNothing}
-use Rattle.termwiz_storage.proofs.line.vecstorage.blank_cells.Given as goal
+use Rattle.termwiz_storage.proofs.line.vecstorage.lists.blank_cells.Given as goal
 
 abbrev pub invariant-loop-i : goal.invariant-loop-i
 invariant-loop-i l = record {

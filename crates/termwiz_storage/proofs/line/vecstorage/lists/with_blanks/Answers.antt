@@ -1,7 +1,7 @@
 use Rattle.std.proofs.Common.{◌≡◌, ℕ, ◌+◌, ◌-◌, ◌∙◌, ◌++◌, length, replicate, append_assoc, arith, refl, ap}
 use Rattle.std.proofs.lemmas.List.{replicate_more}
 use Rattle.termwiz_cell.specs.CellValue.{blank}
-use Rattle.termwiz_storage.proofs.line.vecstorage.with_blanks.Goals as goal
+use Rattle.termwiz_storage.proofs.line.vecstorage.lists.with_blanks.Goals as goal
 
 pub loop-preserved : goal.loop-preserved
 loop-preserved c =

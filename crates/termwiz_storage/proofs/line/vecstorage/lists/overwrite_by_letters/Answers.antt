@@ -9,7 +9,7 @@ use Rattle.termwiz_cell.specs.CellValue.{blank_of, cell_of}
 use Rattle.termwiz_cell.proofs.Cleaned.{length_clean}
 use Rattle.termwiz_storage.specs.Letters.{letter_cell, put_letters}
 use Rattle.termwiz_storage.proofs.Owned.{nothing_set, unowned_letter}
-use Rattle.termwiz_storage.proofs.line.vecstorage.overwrite_by_letters.Goals as goal
+use Rattle.termwiz_storage.proofs.line.vecstorage.lists.overwrite_by_letters.Goals as goal
 
 pub unwrap-cell-requires : goal.unwrap-cell-requires
 unwrap-cell-requires c =

@@ -1,5 +1,5 @@
 use Rattle.std.proofs.Common.{◌≡◌, length, take}
-use Rattle.termwiz_storage.proofs.line.vecstorage.cut.Given as goal
+use Rattle.termwiz_storage.proofs.line.vecstorage.lists.cut.Given as goal
 
 -- the cells that are kept stay
 abbrev pub invariant-loop-cells : goal.invariant-loop-cells

@@ -47,7 +47,7 @@ enum {
     TK_SIZE = 5,       /* the answer is for another size */
     TK_STALE = 6,      /* the answer leads from another number than the viewer's */
     TK_NO_HANDLE = 7,  /* a handle has no value */
-    TK_WRONG_KIND = 8, /* a handle has a viewer where a surface is wanted, or a surface for a viewer */
+    TK_WRONG_KIND = 8, /* a handle has a viewer for a surface, or a surface for a viewer */
     TK_RANGE = 9,      /* a row, a column, a size or another number is outside of its range */
     TK_SHORT = 10      /* the buffer is too short: *len is the length that is needed */
 };
@@ -123,7 +123,8 @@ enum {
  * the cursor home and shown and the number 0. Repaints of a full surface carry the title, the
  * cursor's shape and colour and the sizes of lines too. What the handle had is freed.
  * TK_RANGE: width, height or widths. */
-tk_status tk_surface_new(tk_handle *surface, size_t width, size_t height, uint8_t widths, bool full);
+tk_status tk_surface_new(tk_handle *surface, size_t width, size_t height, uint8_t widths,
+                         bool is_full);
 
 /* Makes a viewer for what the source shows, a surface or a viewer: blank, with the number 0, and of
  * the source's size, widths and kind. What the first handle had is freed. The source stays. */

@@ -1,8 +1,9 @@
 -- What adding changes makes of a surface.
-use Rattle.std.specs.Prelude.{◌≡◌, ◌⊎◌, ℕ, ℤ, Result, Ok, Err, Option, Some, None, List, [], ◌∷◌, map}
+use Rattle.std.specs.Prelude.{◌≡◌, ◌⊎◌, ℕ, ℤ, Result, Ok, Err, Option, Some, None, List, [], ◌∷◌, false, map}
 use Rattle.std.specs.declared.alloc.Global.{Global}
 use Rattle.std.specs.declared.vec.Vec.{Vec}
-use Rattle.termwiz_cell.specs.ChangeValue.{ChangeValue, change_value}
+use Rattle.termwiz_cell.specs.AttributeChangeValue.{Hyperlink}
+use Rattle.termwiz_cell.specs.ChangeValue.{Attribute, ChangeValue, change_value}
 use Rattle.termwiz_cell.specs.declared.change.Change.{Change}
 use Rattle.termwiz_surface_core.specs.Adding.{Adds}
 use Rattle.termwiz_surface_core.specs.Following.{KeepsViewers}
@@ -59,3 +60,7 @@ Leaves failure old number new = (number ≡ status_of (Err failure)) × (kept_of
 abbrev pub MakesIfSome : Option ChangeValue → Handle → ℤ → Handle → Type 0
 MakesIfSome (Some change) old number new = Makes change old number new
 MakesIfSome None old number new = Leaves Range old number new
+
+-- the change that gives the pen a link to this uri
+abbrev pub link_to : List ℕ → ChangeValue
+link_to uri = Attribute (Hyperlink (Some (record { uri = uri; params = []; implicit = false })))

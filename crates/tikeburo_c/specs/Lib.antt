@@ -1,5 +1,6 @@
 pub mod Cells
 pub mod Changes
+pub mod Drawing
 pub mod Fields
 pub mod Handles
 pub mod Held

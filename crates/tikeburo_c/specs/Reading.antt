@@ -21,3 +21,7 @@ is_visible Visible = true
 -- the texts of all rows
 abbrev pub text_of : SurfaceValue ChosenWidths → List ℕ
 text_of s = shown_chars (screen_of s).rows (lengths_of s)
+
+abbrev pub visibility_of : Bool → CursorVisibility
+visibility_of true = Visible
+visibility_of false = Hidden

@@ -1,12 +1,10 @@
 //! Changes of surfaces.
-ghost use Rattle.std.specs.Prelude.{IfErr, IfOk, IsUtf8, map, ◌≡◌};
-ghost use Rattle.termwiz_cell.specs.ChangeValue.{Text, change_value};
-ghost use Rattle.tikeburo_c.specs.Changes.{AddsBytes, AddsList, AddsOne, IsOnlyList, Leaves};
-ghost use Rattle.tikeburo_c.specs.Changes.{MakesCopy};
+ghost use Rattle.std.specs.Prelude.{map};
+ghost use Rattle.termwiz_cell.specs.ChangeValue.{change_value};
+ghost use Rattle.tikeburo_c.specs.Changes.{AddsBytes, AddsList, AddsOne, IsOnlyList};
 ghost use Rattle.tikeburo_c.specs.Outcomes.{Reports};
 ghost use Rattle.tikeburo_c.specs.Handles.{kept_of};
-ghost use Rattle.tikeburo_c.specs.Results.{OnSurface, OrNoMemory, Refused};
-ghost use Rattle.tikeburo_c.specs.declared.failure.Failure.TheVariants.{Unreadable};
+ghost use Rattle.tikeburo_c.specs.Results.{OnSurface};
 
 use crate::failure::{Failure, status};
 use crate::handle::Handle;
@@ -37,39 +35,6 @@ fn add_to(surface: &mut Surface<ChosenWidths>, change: Change) -> Result<(), Fai
 {
     surface.add_change(change)?;
     Ok(())
-}
-
-/// The text that the bytes are.
-pub(crate) fn text_in(bytes: &[u8]) -> Result<&str, Failure>
-    ensures text { IfOk result (λ text. (text.now ≡ bytes.now) × IsUtf8 bytes.now) }
-    ensures unreadable { IfErr result (λ failure.
-        (failure ≡ Unreadable) × ¬ (IsUtf8 bytes.now)) }
-{
-    match str::from_utf8(bytes) {
-        Ok(text) => Ok(text),
-        Err(_) => Err(Failure::Unreadable),
-    }
-}
-
-fn print(alloc: Global, handle: &mut Handle, text: &[u8]) -> Result<(), Failure>
-    ensures text { IsUtf8 text.now → OrNoMemory (OnSurface (AddsOne (Text text.now)))
-        (kept_of handle.old) result (kept_of handle.new) }
-    ensures unreadable { ¬ (IsUtf8 text.now) → Refused Unreadable
-        (kept_of handle.old) result (kept_of handle.new) }
-{
-    let text = text_in(text)?;
-    let change = Change::text_from(alloc, text)?;
-    add(alloc, handle, change)
-}
-
-/// Prints a text at the cursor with the pen.
-#[unsafe(no_mangle)]
-pub extern "C" fn tk_print(alloc: Global, handle: &mut Handle, text: &[u8]) -> i32
-    ensures text { IsUtf8 text.now → MakesCopy (Text text.now) handle.old result handle.new }
-    ensures unreadable { ¬ (IsUtf8 text.now) → Leaves Unreadable handle.old result handle.new }
-{
-    let outcome = print(alloc, handle, text);
-    status(outcome)
 }
 
 // The list of changes that the bytes encode, with nothing behind it.

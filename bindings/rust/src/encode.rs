@@ -3,11 +3,7 @@
 use crate::attributes::{AttributeChange, Attributes, Hyperlink};
 use crate::change::{Change, CursorVisibility, Position};
 use crate::color::ColorAttribute;
-
-const UNSIGNED: u8 = 0;
-const NEGATIVE: u8 = 1;
-const TEXT: u8 = 3;
-const ARRAY: u8 = 4;
+use crate::head::{self, ARRAY, NEGATIVE, TEXT, UNSIGNED};
 
 /// The bytes of a list of changes.
 pub(crate) fn changes(changes: &[Change]) -> Vec<u8> {
@@ -22,18 +18,8 @@ pub(crate) fn changes(changes: &[Change]) -> Vec<u8> {
 struct Encoder(Vec<u8>);
 
 impl Encoder {
-    /// The head of an item of this major type, in its shortest form.
     fn head(&mut self, major: u8, value: u64) {
-        let bytes = value.to_be_bytes();
-        let (short, taken) = match value {
-            0..=23 => (value as u8, 0),
-            24..=0xff => (24, 1),
-            0x100..=0xffff => (25, 2),
-            0x1_0000..=0xffff_ffff => (26, 4),
-            _ => (27, 8),
-        };
-        self.0.push(major << 5 | short);
-        self.0.extend_from_slice(&bytes[8 - taken..]);
+        head::put(&mut self.0, major, value);
     }
 
     fn array(&mut self, len: usize) {
@@ -242,26 +228,17 @@ mod tests {
         assert_eq!(text, b"\x81\x82\x02\x69hello \xe3\x81\x8b");
     }
 
-    // RFC 8949, appendix A.
     #[test]
-    fn heads_are_the_shortest() {
-        let head = |value| {
+    fn a_distance_may_be_negative() {
+        let distance = |value| {
             let mut out = Encoder(Vec::new());
             out.signed(value);
             out.0
         };
-        assert_eq!(head(23), [0x17]);
-        assert_eq!(head(24), [0x18, 0x18]);
-        assert_eq!(head(1000), [0x19, 0x03, 0xe8]);
-        assert_eq!(head(1000000), [0x1a, 0x00, 0x0f, 0x42, 0x40]);
+        assert_eq!(distance(-1), [0x20]);
+        assert_eq!(distance(-1000), [0x39, 3, 0xe7]);
         assert_eq!(
-            head(1000000000000),
-            [0x1b, 0, 0, 0, 0xe8, 0xd4, 0xa5, 0x10, 0]
-        );
-        assert_eq!(head(-1), [0x20]);
-        assert_eq!(head(-1000), [0x39, 0x03, 0xe7]);
-        assert_eq!(
-            head(isize::MIN),
+            distance(isize::MIN),
             [0x3b, 0x7f, 255, 255, 255, 255, 255, 255, 255]
         );
     }

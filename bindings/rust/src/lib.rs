@@ -45,6 +45,7 @@ mod encode;
 mod error;
 mod ffi;
 mod handle;
+mod head;
 mod rows;
 mod surface;
 mod viewer;

@@ -29,7 +29,8 @@ pub struct Options {
     pub is_full: bool,
 }
 
-/// What a terminal's screen shows, with no terminal behind it: rows of cells, a cursor, and the pen.
+/// What a terminal's screen shows, with no terminal behind it: rows of cells, a cursor, and the pen,
+/// which is the attributes of coming texts.
 ///
 /// ```
 /// use tikeburo::{Change, CursorVisibility, Surface};
@@ -122,8 +123,8 @@ impl Surface {
         Error::check(unsafe { ffi::tk_draw(self.handle.get(), other.handle.get(), x, y) })
     }
 
-    /// Copies what the region of this column, row, width and height shows to the region of this size
-    /// at another column and row. Both are cut to what fits.
+    /// Copies what the region of this column, row, width and height shows to the region of this
+    /// size at another column and row. Both are cut to what fits.
     pub fn copy_region(
         &mut self,
         src_x: usize,

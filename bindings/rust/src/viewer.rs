@@ -4,6 +4,7 @@ use crate::change::SequenceNo;
 use crate::error::Error;
 use crate::ffi;
 use crate::handle::Handle;
+use crate::head::{self, ARRAY, UNSIGNED};
 use crate::surface::Surface;
 
 /// What a viewer accepts to show what a surface showed when it answered: bytes, which can go over
@@ -17,6 +18,31 @@ impl Answer {
     /// Its bytes: one answer of `docs/stream.cddl`.
     pub fn as_bytes(&self) -> &[u8] {
         &self.bytes
+    }
+
+    /// The width and the height of the surface that gave it, as the front of the bytes has them, or
+    /// nothing where they are no answer's. A viewer takes this size where it has another one.
+    ///
+    /// ```
+    /// use tikeburo::{Answer, Error, Viewer};
+    ///
+    /// fn receive(viewer: &mut Viewer, answer: &Answer) -> Result<(), Error> {
+    ///     match (viewer.accept(answer), answer.size()) {
+    ///         (Err(Error::Size), Some((width, height))) => {
+    ///             viewer.resize(width, height)?;
+    ///             viewer.accept(answer)
+    ///         }
+    ///         (result, _) => result,
+    ///     }
+    /// }
+    /// ```
+    pub fn size(&self) -> Option<(usize, usize)> {
+        let mut bytes = self.as_bytes();
+        let is_answer = head::take(&mut bytes, ARRAY)? == 7;
+        let is_known = head::take(&mut bytes, UNSIGNED)? == 1;
+        let width = head::take(&mut bytes, UNSIGNED)?.try_into().ok()?;
+        let height = head::take(&mut bytes, UNSIGNED)?.try_into().ok()?;
+        (is_answer && is_known).then_some((width, height))
     }
 
     /// Its bytes.

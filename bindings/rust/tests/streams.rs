@@ -50,6 +50,9 @@ fn answers_are_refused_by_name() {
     viewer.resize(5, 5).unwrap();
     assert_eq!(viewer.accept(&repaint), Err(Error::Size));
     assert_eq!(viewer.last(), 0);
+    assert_eq!(repaint.size(), Some((12, 3)));
+    viewer.resize(12, 3).unwrap();
+    assert_eq!(viewer.accept(&repaint), Ok(()));
 }
 
 #[test]

@@ -1,11 +1,12 @@
 -- Colours, attributes and cells, as the structs that C has of them.
-use Rattle.std.specs.Prelude.{Option, Some, None, is_some, ◌==◌, if◌then◌else◌}
+use Rattle.std.specs.Prelude.{◌≡◌, Option, Some, None, is_some, ◌==◌, if◌then◌else◌}
 use Rattle.termwiz_cell.specs.Attributes.{Attributes}
 use Rattle.termwiz_cell.specs.CellValue.{CellValue, columns}
 use Rattle.termwiz_cell.specs.Rgb.{rgb}
 use Rattle.termwiz_cell.specs.Style.{blink_number, intensity_number, semantic_number, underline_number, vertical_number}
 use Rattle.termwiz_cell.specs.declared.color.ColorAttribute.{ColorAttribute}
 use Rattle.termwiz_cell.specs.declared.color.ColorAttribute.TheVariants as colors
+use Rattle.tikeburo_c.specs.Numbers.{align_in, blink_in, intensity_in, semantic_in, underline_in}
 use Rattle.tikeburo_c.specs.declared.fields.AttributeFields.{AttributeFields}
 use Rattle.tikeburo_c.specs.declared.fields.CellFields.{CellFields}
 use Rattle.tikeburo_c.specs.declared.fields.ColorFields.{ColorFields}
@@ -45,3 +46,25 @@ attribute_fields a = record {
 
 abbrev pub cell_fields : CellValue → CellFields
 cell_fields c = record { columns = columns c; has_link = is_some c.attrs.hyperlink; attributes = attribute_fields c.attrs }
+
+-- attributes with no link whose other parts than colours are those of the struct
+pub record HasStyles (f : AttributeFields) (a : Attributes) : Type 0 where
+  pub intensity : intensity_in f.intensity ≡ Some a.intensity
+  pub underline : underline_in f.underline ≡ Some a.underline
+  pub blink : blink_in f.blink ≡ Some a.blink
+  pub semantic_type : semantic_in f.semantic_type ≡ Some a.semantic_type
+  pub vertical_align : align_in f.vertical_align ≡ Some a.vertical_align
+  pub italic : a.italic ≡ f.italic
+  pub reverse : a.reverse ≡ f.reverse
+  pub strikethrough : a.strikethrough ≡ f.strikethrough
+  pub invisible : a.invisible ≡ f.invisible
+  pub wrapped : a.wrapped ≡ f.wrapped
+  pub overline : a.overline ≡ f.overline
+  pub hyperlink : a.hyperlink ≡ None
+
+-- and whose colours are
+pub record HasFields (f : AttributeFields) (a : Attributes) : Type 0 where
+  pub styles : HasStyles f a
+  pub foreground : color_in f.foreground ≡ Some a.foreground
+  pub background : color_in f.background ≡ Some a.background
+  pub underline_color : color_in f.underline_color ≡ Some a.underline_color

@@ -1,10 +1,16 @@
 //! Colours, attributes and cells, as the structs that C has of them.
-ghost use Rattle.std.specs.Prelude.{◌≡◌};
+ghost use Rattle.std.specs.Prelude.{◌≡◌, ◌⊎◌, IfErr, IfOk, None, Some};
+ghost use Rattle.termwiz_cell.specs.Attributes.{Attributes};
+ghost use Rattle.tikeburo_c.specs.Fields.{HasFields, HasStyles};
+ghost use Rattle.tikeburo_c.specs.declared.failure.Failure.TheVariants.{Memory, Range};
 ghost use Rattle.tikeburo_c.specs.Fields as specs_of;
 
+use crate::failure::Failure;
 use crate::numbers::{
-    align_number, blink_number, intensity_number, semantic_number, underline_number,
+    align_in, align_number, blink_in, blink_number, intensity_in, intensity_number, semantic_in,
+    semantic_number, underline_in, underline_number,
 };
+use std::alloc::Global;
 use termwiz_surface::{Cell, CellAttributes, ColorAttribute, RgbColor};
 
 /// A colour. What its kind doesn't name is 0 where a call writes it, and isn't read.
@@ -125,4 +131,59 @@ pub(crate) fn cell_fields(cell: &Cell) -> CellFields
         has_link: cell.attrs().hyperlink().is_some(),
         attributes: attribute_fields(cell.attrs()),
     }
+}
+
+fn in_range<T: Drop>(value: Option<T>) -> Result<T, Failure>
+    ensures found { IfOk result (λ x. value ≡ Some x) }
+    ensures missing { IfErr result (λ failure. (failure ≡ Range) × (value ≡ None)) }
+{
+    match value {
+        Some(value) => Ok(value),
+        None => Err(Failure::Range),
+    }
+}
+
+// The attributes of this struct that are no colours.
+fn styled(fields: &AttributeFields) -> Result<CellAttributes, Failure>
+    ensures found { IfOk result (HasStyles fields.now) }
+    ensures missing { IfErr result (λ failure. (failure ≡ Range)
+        × ((a : Attributes) → HasFields fields.now a → ⊥)) }
+{
+    let intensity = in_range(intensity_in(fields.intensity))?;
+    let underline = in_range(underline_in(fields.underline))?;
+    let blink = in_range(blink_in(fields.blink))?;
+    let semantic_type = in_range(semantic_in(fields.semantic_type))?;
+    let vertical_align = in_range(align_in(fields.vertical_align))?;
+    let mut attrs = CellAttributes::blank();
+    attrs.set_intensity(intensity);
+    attrs.set_underline(underline);
+    attrs.set_blink(blink);
+    attrs.set_semantic_type(semantic_type);
+    attrs.set_vertical_align(vertical_align);
+    attrs.set_italic(fields.italic);
+    attrs.set_reverse(fields.reverse);
+    attrs.set_strikethrough(fields.strikethrough);
+    attrs.set_invisible(fields.invisible);
+    attrs.set_wrapped(fields.wrapped);
+    attrs.set_overline(fields.overline);
+    Ok(attrs)
+}
+
+/// The attributes of this struct, if each of them is in its range.
+pub(crate) fn attributes_in(
+    alloc: Global,
+    fields: &AttributeFields,
+) -> Result<CellAttributes, Failure>
+    ensures found { IfOk result (HasFields fields.now) }
+    ensures missing { IfErr result (λ failure. (failure ≡ Memory)
+        ⊎ ((failure ≡ Range) × ((a : Attributes) → HasFields fields.now a → ⊥))) }
+{
+    let mut attrs = styled(fields)?;
+    let foreground = in_range(color_in(&fields.foreground))?;
+    let background = in_range(color_in(&fields.background))?;
+    let underline_color = in_range(color_in(&fields.underline_color))?;
+    attrs.change_foreground(alloc, foreground)?;
+    attrs.change_background(alloc, background)?;
+    attrs.change_underline_color(alloc, underline_color)?;
+    Ok(attrs)
 }

@@ -1,20 +1,54 @@
-//! The pen, one attribute at a time.
+//! The pen: as a whole, and one attribute at a time.
 ghost use Rattle.std.specs.Prelude.{None, Some};
 ghost use Rattle.std.specs.Option.{option_map};
+ghost use Rattle.termwiz_cell.specs.Attributes.{Attributes};
 ghost use Rattle.termwiz_cell.specs.AttributeChangeValue as values;
 ghost use Rattle.termwiz_cell.specs.AttributeChangeValue.{attribute_change_value};
 ghost use Rattle.termwiz_cell.specs.ChangeValue as changes;
-ghost use Rattle.tikeburo_c.specs.Changes.{Makes, MakesIfSome};
+ghost use Rattle.tikeburo_c.specs.Changes.{AddsOne, Makes, MakesCopy, MakesIfSome};
+ghost use Rattle.tikeburo_c.specs.Fields.{HasFields};
+ghost use Rattle.tikeburo_c.specs.Handles.{kept_of};
+ghost use Rattle.tikeburo_c.specs.Outcomes.{Reports};
+ghost use Rattle.tikeburo_c.specs.Results.{OnSurface, OrNoMemory, Refused};
+ghost use Rattle.tikeburo_c.specs.declared.failure.Failure.TheVariants.{Range};
 ghost use Rattle.tikeburo_c.specs.Fields as fields;
 ghost use Rattle.tikeburo_c.specs.Numbers as numbers;
 
 use crate::changes::add;
 use crate::failure::{Failure, status};
-use crate::fields::{ColorFields, color_in};
+use crate::fields::{AttributeFields, ColorFields, attributes_in, color_in};
 use crate::handle::Handle;
 use crate::numbers::{blink_in, intensity_in, underline_in};
 use std::alloc::Global;
 use termwiz_surface::{AttributeChange, Change};
+
+fn set_pen(alloc: Global, handle: &mut Handle, attributes: &AttributeFields) -> Result<(), Failure>
+    ensures made { (a : Attributes) → HasFields attributes.now a →
+        OrNoMemory (OnSurface (AddsOne (changes.AllAttributes a)))
+        (kept_of handle.old) result (kept_of handle.new) }
+    ensures range { ((a : Attributes) → HasFields attributes.now a → ⊥) →
+        OrNoMemory (Refused Range) (kept_of handle.old) result (kept_of handle.new) }
+{
+    let attrs = attributes_in(alloc, attributes)?;
+    add(alloc, handle, Change::AllAttributes(attrs))
+}
+
+/// Sets the whole pen, with no link.
+#[unsafe(no_mangle)]
+pub extern "C" fn tk_set_pen(
+    alloc: Global,
+    handle: &mut Handle,
+    attributes: &AttributeFields,
+) -> i32
+    ensures made { (a : Attributes) → HasFields attributes.now a →
+        MakesCopy (changes.AllAttributes a) handle.old result handle.new }
+    ensures range { ((a : Attributes) → HasFields attributes.now a → ⊥) →
+        Reports result (λ outcome.
+        OrNoMemory (Refused Range) (kept_of handle.old) outcome (kept_of handle.new)) }
+{
+    let outcome = set_pen(alloc, handle, attributes);
+    status(outcome)
+}
 
 fn set(alloc: Global, handle: &mut Handle, change: AttributeChange) -> i32
     ensures { Makes (changes.Attribute (attribute_change_value change))

@@ -16,6 +16,14 @@ static const tk_color ORANGE_OR_RED = {
     .kind = TK_COLOR_TRUE_OR_PALETTE, .red = 255, .green = 128, .index = 1};
 static const tk_color NO_SUCH_COLOR = {.kind = 4};
 
+/* bindings/rust/src/ffi.rs has the same numbers. */
+static void test_structs(void) {
+    CHECK(sizeof(tk_handle) == 16);
+    CHECK(sizeof(tk_color) == 5);
+    CHECK(sizeof(tk_attributes) == 26);
+    CHECK(sizeof(tk_cell) == 28);
+}
+
 static void test_surfaces(void) {
     tk_handle surface = TK_NONE;
     CHECK(tk_surface_new(&surface, 4, 2, TK_WIDTHS_UNICODE, false) == TK_DONE);
@@ -478,6 +486,7 @@ static void test_full(void) {
 }
 
 int main(void) {
+    test_structs();
     test_surfaces();
     test_sizes();
     test_prints();

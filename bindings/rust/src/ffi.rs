@@ -3,7 +3,6 @@
 
 use std::os::raw::c_void;
 
-pub const DONE: i32 = 0;
 pub const SHORT: i32 = 10;
 
 #[repr(C)]
@@ -126,4 +125,19 @@ extern "C" {
     pub fn tk_accept(viewer: *mut tk_handle, bytes: *const u8, len: usize) -> i32;
     pub fn tk_last(viewer: *mut tk_handle, number: *mut usize) -> i32;
     pub fn tk_follow(viewer: *mut tk_handle, source: *mut tk_handle) -> i32;
+}
+
+#[cfg(test)]
+mod tests {
+    use super::*;
+    use std::mem::size_of;
+
+    // bindings/c/tests.c has the same numbers of the header's structs.
+    #[test]
+    fn structs_have_the_sizes_of_the_header() {
+        assert_eq!(size_of::<tk_handle>(), 16);
+        assert_eq!(size_of::<tk_color>(), 5);
+        assert_eq!(size_of::<tk_attributes>(), 26);
+        assert_eq!(size_of::<tk_cell>(), 28);
+    }
 }

@@ -57,26 +57,25 @@ impl Drop for Handle {
     }
 }
 
-/// The bytes that a call writes to a buffer of this room, returning its status, and whose length it
-/// writes in any case.
+/// The bytes that a call writes: to this front where they fit, and else to as much room as the call
+/// says that they need. The call is passed a buffer, its room, and where it writes their length.
 pub(crate) fn bytes(
+    front: &mut [u8],
     mut write: impl FnMut(*mut u8, usize, *mut usize) -> i32,
 ) -> Result<Vec<u8>, Error> {
-    let mut bytes = vec![0; 64];
-    loop {
-        let mut len = 0;
-        match write(bytes.as_mut_ptr(), bytes.len(), &mut len) {
-            ffi::DONE => {
-                bytes.truncate(len);
-                return Ok(bytes);
-            }
-            ffi::SHORT => bytes.resize(len, 0),
-            status => Error::check(status)?,
-        }
+    let mut len = 0;
+    let status = write(front.as_mut_ptr(), front.len(), &mut len);
+    if status != ffi::SHORT {
+        Error::check(status)?;
+        return Ok(front[..len].to_vec());
     }
+    let mut bytes = vec![0; len];
+    Error::check(write(bytes.as_mut_ptr(), bytes.len(), &mut len))?;
+    Ok(bytes)
 }
 
 /// The text that a call writes, as `bytes` has it.
 pub(crate) fn text(write: impl FnMut(*mut u8, usize, *mut usize) -> i32) -> Result<String, Error> {
-    String::from_utf8(bytes(write)?).map_err(|_| Error::Unreadable)
+    let bytes = bytes(&mut [0; 128], write)?;
+    String::from_utf8(bytes).map_err(|_| Error::Unreadable)
 }

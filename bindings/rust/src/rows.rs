@@ -75,9 +75,10 @@ impl<'a> Row<'a> {
     /// Its visible cells from the left, up to the surface's width: behind a wide cell comes the one
     /// that is two columns further. The last item is the first error, if there is one.
     pub fn cells(&self) -> Cells<'a> {
+        let (width, _) = self.surface.dimensions();
         Cells {
             row: *self,
-            column: 0,
+            columns: 0..width,
         }
     }
 
@@ -116,21 +117,18 @@ impl<'a> Row<'a> {
 #[derive(Clone, Debug)]
 pub struct Cells<'a> {
     row: Row<'a>,
-    column: usize,
+    columns: Range<usize>,
 }
 
 impl Iterator for Cells<'_> {
     type Item = Result<Cell, Error>;
 
     fn next(&mut self) -> Option<Result<Cell, Error>> {
-        let (width, _) = self.row.surface.dimensions();
-        if self.column >= width {
-            return None;
-        }
-        let cell = self.row.cell(self.column);
-        self.column = match &cell {
-            Ok(cell) => self.column + cell.width.max(1),
-            Err(_) => usize::MAX,
+        let column = self.columns.next()?;
+        let cell = self.row.cell(column);
+        self.columns.start = match &cell {
+            Ok(cell) => self.columns.end.min(column + cell.width.max(1)),
+            Err(_) => self.columns.end,
         };
         Some(cell)
     }

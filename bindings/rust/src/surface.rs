@@ -156,8 +156,10 @@ impl Surface {
     /// doesn't have them or they are more than the screen is worth.
     pub fn answer(&self, seq: SequenceNo) -> Result<Answer, Error> {
         let handle = self.handle.get();
+        // Room for most answers, since a second call would make the answer anew.
+        let mut front = [0; 1 << 14];
         // Safety: the handle is live, and the buffer has the room that is named.
-        let bytes = handle::bytes(|bytes, room, len| unsafe {
+        let bytes = handle::bytes(&mut front, |bytes, room, len| unsafe {
             ffi::tk_answer(handle, seq, bytes, room, len)
         })?;
         Ok(Answer::from(bytes))

@@ -1,4 +1,4 @@
-/* Workloads of crates/bench by way of C, each run as often as it is told:
+/* Workloads of crates/bench by way of C, each run COUNT times:
  *
  *     measure plain COUNT     a line of 80 characters and CR LF on 80x24
  *     measure answer COUNT    the bytes of a repaint of a coloured 80x24

@@ -111,7 +111,7 @@ static void test_moves(void) {
 }
 
 static void test_whole_pen(void) {
-    tk_handle surface = made(8, 1), none = TK_NONE;
+    tk_handle surface = made(8, 1);
     tk_attributes pen = {.intensity = TK_INTENSITY_HALF,
                          .underline = TK_UNDERLINE_DASHED,
                          .blink = TK_BLINK_RAPID,
@@ -141,7 +141,17 @@ static void test_whole_pen(void) {
     CHECK(same_color(cell.attributes.background, ORANGE));
     CHECK(same_color(cell.attributes.underline_color, ORANGE_OR_RED));
     CHECK(cell_at(&surface, 1, 0, " ").columns == 1); /* the second column of a wide cell */
-    pen.intensity = 3;
+    memset(&pen, 0, sizeof pen);
+    CHECK(tk_set_pen(&surface, &pen) == TK_DONE);
+    CHECK(print(&surface, "x") == TK_DONE);
+    cell = cell_at(&surface, 2, 0, "x");
+    CHECK(cell.columns == 1 && memcmp(&cell.attributes, &pen, sizeof pen) == 0);
+    tk_free(&surface);
+}
+
+static void test_pen_ranges(void) {
+    tk_handle surface = made(8, 1), none = TK_NONE;
+    tk_attributes pen = {.intensity = 3};
     CHECK(tk_set_pen(&surface, &pen) == TK_RANGE);
     pen.intensity = 0;
     pen.underline = 6;
@@ -156,15 +166,18 @@ static void test_whole_pen(void) {
     pen.vertical_align = 3;
     CHECK(tk_set_pen(&surface, &pen) == TK_RANGE);
     pen.vertical_align = 0;
+    pen.foreground = NO_SUCH_COLOR;
+    CHECK(tk_set_pen(&surface, &pen) == TK_RANGE);
+    pen.foreground = NO_COLOR;
+    pen.background = NO_SUCH_COLOR;
+    CHECK(tk_set_pen(&surface, &pen) == TK_RANGE);
+    pen.background = NO_COLOR;
     pen.underline_color = NO_SUCH_COLOR;
     CHECK(tk_set_pen(&surface, &pen) == TK_RANGE);
-    CHECK(number_is(&surface, 2));
-    memset(&pen, 0, sizeof pen);
+    pen.underline_color = NO_COLOR;
+    CHECK(number_is(&surface, 0));
     CHECK(tk_set_pen(&surface, &pen) == TK_DONE);
     CHECK(tk_set_pen(&none, &pen) == TK_NO_HANDLE);
-    CHECK(print(&surface, "x") == TK_DONE);
-    cell = cell_at(&surface, 2, 0, "x");
-    CHECK(cell.columns == 1 && memcmp(&cell.attributes, &pen, sizeof pen) == 0);
     tk_free(&surface);
 }
 
@@ -492,6 +505,7 @@ int main(void) {
     test_prints();
     test_moves();
     test_whole_pen();
+    test_pen_ranges();
     test_one_attribute();
     test_links();
     test_clears();

@@ -15,6 +15,10 @@ pub enum Intensity {
     Half,
 }
 
+impl Intensity {
+    const ALL: [Intensity; 3] = [Intensity::Normal, Intensity::Bold, Intensity::Half];
+}
+
 /// How a text is underlined.
 #[derive(Clone, Copy, PartialEq, Eq, Hash, Debug, Default)]
 pub enum Underline {
@@ -33,6 +37,17 @@ pub enum Underline {
     Dashed,
 }
 
+impl Underline {
+    const ALL: [Underline; 6] = [
+        Underline::None,
+        Underline::Single,
+        Underline::Double,
+        Underline::Curly,
+        Underline::Dotted,
+        Underline::Dashed,
+    ];
+}
+
 /// How a text blinks.
 #[derive(Clone, Copy, PartialEq, Eq, Hash, Debug, Default)]
 pub enum Blink {
@@ -43,6 +58,10 @@ pub enum Blink {
     Slow,
     /// Fast.
     Rapid,
+}
+
+impl Blink {
+    const ALL: [Blink; 3] = [Blink::None, Blink::Slow, Blink::Rapid];
 }
 
 /// What a text is to a shell.
@@ -57,6 +76,14 @@ pub enum SemanticType {
     Prompt,
 }
 
+impl SemanticType {
+    const ALL: [SemanticType; 3] = [
+        SemanticType::Output,
+        SemanticType::Input,
+        SemanticType::Prompt,
+    ];
+}
+
 /// Where a text stands on its line.
 #[derive(Clone, Copy, PartialEq, Eq, Hash, Debug, Default)]
 pub enum VerticalAlign {
@@ -67,6 +94,14 @@ pub enum VerticalAlign {
     SuperScript,
     /// Lowered.
     SubScript,
+}
+
+impl VerticalAlign {
+    const ALL: [VerticalAlign; 3] = [
+        VerticalAlign::BaseLine,
+        VerticalAlign::SuperScript,
+        VerticalAlign::SubScript,
+    ];
 }
 
 /// The attributes of a text: `termwiz`'s `CellAttributes`, as fields.
@@ -119,34 +154,11 @@ impl Attributes {
     /// The attributes that the library wrote, and this link.
     pub(crate) fn new(read: &tk_attributes, hyperlink: Option<Hyperlink>) -> Attributes {
         Attributes {
-            intensity: match read.intensity {
-                1 => Intensity::Bold,
-                2 => Intensity::Half,
-                _ => Intensity::Normal,
-            },
-            underline: match read.underline {
-                1 => Underline::Single,
-                2 => Underline::Double,
-                3 => Underline::Curly,
-                4 => Underline::Dotted,
-                5 => Underline::Dashed,
-                _ => Underline::None,
-            },
-            blink: match read.blink {
-                1 => Blink::Slow,
-                2 => Blink::Rapid,
-                _ => Blink::None,
-            },
-            semantic_type: match read.semantic_type {
-                1 => SemanticType::Input,
-                2 => SemanticType::Prompt,
-                _ => SemanticType::Output,
-            },
-            vertical_align: match read.vertical_align {
-                1 => VerticalAlign::SuperScript,
-                2 => VerticalAlign::SubScript,
-                _ => VerticalAlign::BaseLine,
-            },
+            intensity: at(&Intensity::ALL, read.intensity),
+            underline: at(&Underline::ALL, read.underline),
+            blink: at(&Blink::ALL, read.blink),
+            semantic_type: at(&SemanticType::ALL, read.semantic_type),
+            vertical_align: at(&VerticalAlign::ALL, read.vertical_align),
             italic: read.italic,
             reverse: read.reverse,
             strikethrough: read.strikethrough,
@@ -159,6 +171,11 @@ impl Attributes {
             hyperlink,
         }
     }
+}
+
+/// The value of this number in the header, which counts them in this order.
+fn at<T: Copy + Default>(all: &[T], number: u8) -> T {
+    all.get(usize::from(number)).copied().unwrap_or_default()
 }
 
 /// A link, which a text may have.

@@ -59,14 +59,8 @@ impl Encoder {
 
     fn change(&mut self, change: &Change) {
         match change {
-            Change::Attribute(change) => {
-                self.kind(0, 1);
-                self.attribute_change(change);
-            }
-            Change::AllAttributes(attributes) => {
-                self.kind(1, 1);
-                self.attributes(attributes);
-            }
+            Change::Attribute(change) => self.attribute_change(change),
+            Change::AllAttributes(attributes) => self.attributes_change(attributes),
             Change::Text(text) => self.text_change(2, text),
             Change::ClearScreen(color) => self.color_change(3, color),
             Change::ClearToEndOfLine(color) => self.color_change(4, color),
@@ -79,8 +73,7 @@ impl Encoder {
             Change::CursorColor(color) => self.color_change(7, color),
             Change::CursorShape(shape) => self.number_change(8, *shape as usize),
             Change::CursorVisibility(visibility) => {
-                self.kind(9, 1);
-                self.bool(*visibility == CursorVisibility::Visible);
+                self.bool_change(9, *visibility == CursorVisibility::Visible);
             }
             Change::ScrollRegionUp {
                 first_row,
@@ -138,6 +131,7 @@ impl Encoder {
     }
 
     fn attribute_change(&mut self, change: &AttributeChange) {
+        self.kind(0, 1);
         match change {
             AttributeChange::Intensity(value) => self.number_change(0, *value as usize),
             AttributeChange::Underline(value) => self.number_change(1, *value as usize),
@@ -155,7 +149,8 @@ impl Encoder {
         }
     }
 
-    fn attributes(&mut self, attributes: &Attributes) {
+    fn attributes_change(&mut self, attributes: &Attributes) {
+        self.kind(1, 1);
         self.array(5);
         self.number(style(attributes));
         self.color(&attributes.foreground);

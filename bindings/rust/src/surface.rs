@@ -29,8 +29,8 @@ pub struct Options {
     pub is_full: bool,
 }
 
-/// What a terminal's screen shows, with no terminal behind it: rows of cells, a cursor, and the pen,
-/// which is the attributes of coming texts.
+/// What a terminal's screen shows, with no terminal behind it: rows of cells, a cursor, and the
+/// pen, which is the attributes of coming texts.
 ///
 /// ```
 /// use tikeburo::{Change, CursorVisibility, Surface};

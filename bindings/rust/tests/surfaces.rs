@@ -96,120 +96,128 @@ fn all_attributes_are_read_as_they_were_set() {
         underline_color: ColorAttribute::TrueColorWithPaletteFallback(ORANGE, 9),
         hyperlink: Some(Hyperlink::new("http://a/".repeat(30))),
     };
-    let mut surface = Surface::new(4, 1).unwrap();
+    check_attributes(attributes);
+}
+
+/// Prints with these attributes, and reads them again.
+fn check_attributes(attributes: Attributes) {
+    let mut surface = Surface::new(1, 1).unwrap();
     let pen = Change::AllAttributes(attributes.clone());
     surface.add_changes(&[pen, "x".into()]).unwrap();
-    assert_eq!(*surface.row(0).cell(0).unwrap().attrs(), attributes);
+    assert_eq!(first_attributes(&surface), attributes);
+}
+
+fn first_attributes(surface: &Surface) -> Attributes {
+    surface.row(0).cell(0).unwrap().attrs().clone()
 }
 
 #[test]
-fn each_small_attribute_is_read_as_it_was_set() {
-    let mut surface = Surface::new(1, 1).unwrap();
-    let mut check = |attributes: Attributes| {
-        let pen = Change::AllAttributes(attributes.clone());
-        surface.add_changes(&[pen, "\rx".into()]).unwrap();
-        assert_eq!(*surface.row(0).cell(0).unwrap().attrs(), attributes);
-    };
-    let plain = Attributes::default();
+fn each_value_of_an_attribute_is_read_as_it_was_set() {
     for intensity in [Intensity::Normal, Intensity::Bold, Intensity::Half] {
-        check(Attributes {
+        check_attributes(Attributes {
             intensity,
-            ..plain.clone()
+            ..Attributes::default()
         });
     }
     use Underline::{Curly, Dashed, Dotted, Double, Single};
     for underline in [Underline::None, Single, Double, Curly, Dotted, Dashed] {
-        check(Attributes {
+        check_attributes(Attributes {
             underline,
-            ..plain.clone()
+            ..Attributes::default()
         });
     }
     for blink in [Blink::None, Blink::Slow, Blink::Rapid] {
-        check(Attributes {
+        check_attributes(Attributes {
             blink,
-            ..plain.clone()
+            ..Attributes::default()
         });
     }
     use SemanticType::{Input, Output, Prompt};
     for semantic_type in [Output, Input, Prompt] {
-        check(Attributes {
+        check_attributes(Attributes {
             semantic_type,
-            ..plain.clone()
+            ..Attributes::default()
         });
     }
     use VerticalAlign::{BaseLine, SubScript, SuperScript};
     for vertical_align in [BaseLine, SuperScript, SubScript] {
-        check(Attributes {
+        check_attributes(Attributes {
             vertical_align,
-            ..plain.clone()
+            ..Attributes::default()
         });
     }
-    check(Attributes {
-        italic: true,
-        ..plain.clone()
-    });
-    check(Attributes {
-        reverse: true,
-        ..plain.clone()
-    });
-    check(Attributes {
-        strikethrough: true,
-        ..plain.clone()
-    });
-    check(Attributes {
-        invisible: true,
-        ..plain.clone()
-    });
-    check(Attributes {
-        wrapped: true,
-        ..plain.clone()
-    });
-    check(Attributes {
-        overline: true,
-        ..plain
-    });
 }
 
 #[test]
-fn one_attribute_leaves_the_others() {
-    let mut surface = Surface::new(1, 1).unwrap();
+fn each_flag_is_read_as_it_was_set() {
+    let flags: [fn(&mut Attributes) -> &mut bool; 6] = [
+        |attributes| &mut attributes.italic,
+        |attributes| &mut attributes.reverse,
+        |attributes| &mut attributes.strikethrough,
+        |attributes| &mut attributes.invisible,
+        |attributes| &mut attributes.wrapped,
+        |attributes| &mut attributes.overline,
+    ];
+    for flag in flags {
+        let mut attributes = Attributes::default();
+        *flag(&mut attributes) = true;
+        check_attributes(attributes);
+    }
+}
+
+#[test]
+fn one_attribute_is_set_alone() {
     let link = Hyperlink::new("uri:a");
     let color = ColorAttribute::PaletteIndex(3);
-    let changes = [
-        AttributeChange::Intensity(Intensity::Bold),
-        AttributeChange::Underline(Underline::Double),
-        AttributeChange::Italic(true),
-        AttributeChange::Blink(Blink::Slow),
-        AttributeChange::Reverse(true),
-        AttributeChange::StrikeThrough(true),
-        AttributeChange::Invisible(true),
-        AttributeChange::Foreground(color),
-        AttributeChange::Background(ColorAttribute::TrueColorWithDefaultFallback(ORANGE)),
-        AttributeChange::Hyperlink(Some(link.clone())),
-    ];
-    for change in changes {
-        surface.add_change(change).unwrap();
-    }
-    surface.add_change(AttributeChange::Italic(false)).unwrap();
-    surface.add_change("x").unwrap();
     let wanted = Attributes {
         intensity: Intensity::Bold,
         underline: Underline::Double,
+        italic: true,
         blink: Blink::Slow,
         reverse: true,
         strikethrough: true,
         invisible: true,
         foreground: color,
         background: ColorAttribute::TrueColorWithDefaultFallback(ORANGE),
-        hyperlink: Some(link),
+        hyperlink: Some(link.clone()),
         ..Attributes::default()
     };
-    assert_eq!(*surface.row(0).cell(0).unwrap().attrs(), wanted);
+    let changes = [
+        AttributeChange::Intensity(wanted.intensity),
+        AttributeChange::Underline(wanted.underline),
+        AttributeChange::Italic(true),
+        AttributeChange::Blink(wanted.blink),
+        AttributeChange::Reverse(true),
+        AttributeChange::StrikeThrough(true),
+        AttributeChange::Invisible(true),
+        AttributeChange::Foreground(wanted.foreground),
+        AttributeChange::Background(wanted.background),
+        AttributeChange::Hyperlink(Some(link)),
+    ];
+    let mut surface = Surface::new(1, 1).unwrap();
+    surface.add_changes(&changes.map(Change::from)).unwrap();
+    surface.add_change("x").unwrap();
+    assert_eq!(first_attributes(&surface), wanted);
+}
+
+#[test]
+fn one_attribute_leaves_the_others() {
+    let mut surface = Surface::new(1, 1).unwrap();
+    surface.add_change(AttributeChange::Reverse(true)).unwrap();
+    surface
+        .add_change(AttributeChange::Hyperlink(Some(Hyperlink::new("uri:a"))))
+        .unwrap();
     surface
         .add_change(AttributeChange::Hyperlink(None))
         .unwrap();
-    surface.add_change("\ry").unwrap();
-    assert_eq!(surface.row(0).cell(0).unwrap().attrs().hyperlink, None);
+    surface.add_change("x").unwrap();
+    assert_eq!(
+        first_attributes(&surface),
+        Attributes {
+            reverse: true,
+            ..Attributes::default()
+        }
+    );
 }
 
 #[test]

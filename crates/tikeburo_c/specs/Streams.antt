@@ -9,7 +9,7 @@ use Rattle.termwiz_surface.specs.declared.view.viewer.AcceptError.{AcceptError}
 use Rattle.termwiz_surface_core.specs.Answer.{AnswerValue}
 use Rattle.termwiz_surface_core.specs.Carried.{CarriesTo, IsGivenBy, IsPastOf}
 use Rattle.termwiz_surface_core.specs.Following.{Follows, FollowsTo, ViewerValue}
-use Rattle.termwiz_surface_core.specs.SurfaceValue.{SurfaceValue, full_of}
+use Rattle.termwiz_surface_core.specs.SurfaceValue.{SurfaceValue, full_of, screen_of}
 use Rattle.termwiz_surface_core.specs.declared.surface.SurfaceError.{SurfaceError}
 use Rattle.termwiz_wire.specs.Answers.{IsAnswer, answer}
 use Rattle.tikeburo_c.specs.Changes.{GoesOn}
@@ -83,3 +83,8 @@ FollowsOne source old outcome new = (result : Result ℕ SurfaceError) × (outco
 abbrev pub FollowsSource : Option Kept → Option Kept → Outcome → Option Kept → Type 0
 FollowsSource (Some source) old outcome new = OnViewer (FollowsOne (shown_of source)) old outcome new
 FollowsSource None old outcome new = Refused NoHandle old outcome new
+
+-- what the handle has, or its viewer shows, has the screen of this surface
+abbrev pub ShowsScreen : Option Kept → SurfaceValue ChosenWidths → Type 0
+ShowsScreen (Some kept) s = screen_of (shown_of kept) ≡ screen_of s
+ShowsScreen None s = ⊥

@@ -2,6 +2,7 @@
 #![tactic(auto)]
 
 mod buffers;
+mod carried;
 mod cells;
 mod changes;
 mod clears;

@@ -1,0 +1,115 @@
+/* Checks that are counted, and what tests.c checks of a handle. */
+#ifndef TIKEBURO_CHECKS_H
+#define TIKEBURO_CHECKS_H
+
+#include "tikeburo.h"
+#include <stdio.h>
+#include <string.h>
+
+static int checks = 0;
+static int failures = 0;
+
+static void check(bool holds, const char *what, int line) {
+    checks++;
+    if (!holds) {
+        failures++;
+        printf("FAILED: line %d: %s\n", line, what);
+    }
+}
+
+#define CHECK(what) check(what, #what, __LINE__)
+
+static tk_handle made(size_t width, size_t height) {
+    tk_handle surface = TK_NONE;
+    check(tk_surface_new(&surface, width, height, TK_WIDTHS_UNICODE, false) == TK_DONE,
+          "tk_surface_new", __LINE__);
+    return surface;
+}
+
+static tk_status print(tk_handle *surface, const char *text) {
+    return tk_print(surface, text, strlen(text));
+}
+
+/* Whether a text that a call gave is this one. */
+static bool is(tk_status status, const char *text, size_t len, const char *wanted) {
+    return status == TK_DONE && len == strlen(wanted) && memcmp(text, wanted, len) == 0;
+}
+
+/* Drops the blanks at the ends of rows, since a row may be stored without them. */
+static size_t trim(char *text, size_t len) {
+    size_t kept = 0, end = 0;
+    for (size_t i = 0; i < len; i++) {
+        if (text[i] == '\n')
+            kept = end;
+        text[kept++] = text[i];
+        if (text[i] != ' ')
+            end = kept;
+    }
+    return end;
+}
+
+static bool row_is(tk_handle *handle, size_t row, const char *wanted) {
+    char text[256];
+    size_t len = 0;
+    tk_status status = tk_row_text(handle, row, text, sizeof text, &len);
+    return is(status, text, trim(text, len), wanted);
+}
+
+static bool screen_is(tk_handle *handle, const char *wanted) {
+    char text[1024];
+    size_t len = 0;
+    tk_status status = tk_screen_text(handle, text, sizeof text, &len);
+    return is(status, text, trim(text, len), wanted);
+}
+
+static bool title_is(tk_handle *handle, const char *wanted) {
+    char text[64];
+    size_t len = 0;
+    tk_status status = tk_title(handle, text, sizeof text, &len);
+    return is(status, text, len, wanted);
+}
+
+static bool link_is(tk_handle *handle, size_t column, size_t row, const char *wanted) {
+    char uri[64];
+    size_t len = 0;
+    tk_status status = tk_link_at(handle, column, row, uri, sizeof uri, &len);
+    return is(status, uri, len, wanted);
+}
+
+static bool cursor_is(tk_handle *handle, size_t column, size_t row) {
+    size_t x = 99, y = 99;
+    return tk_cursor(handle, &x, &y) == TK_DONE && x == column && y == row;
+}
+
+static bool size_is(tk_handle *handle, size_t width, size_t height) {
+    size_t w = 99, h = 99;
+    return tk_size(handle, &w, &h) == TK_DONE && w == width && h == height;
+}
+
+static bool number_is(tk_handle *handle, size_t wanted) {
+    size_t number = 99;
+    return tk_number(handle, &number) == TK_DONE && number == wanted;
+}
+
+static bool is_visible(tk_handle *handle, bool wanted) {
+    bool visible = !wanted;
+    return tk_cursor_is_visible(handle, &visible) == TK_DONE && visible == wanted;
+}
+
+/* The cell at this place, whose text has to be this one. */
+static tk_cell cell_at(tk_handle *handle, size_t column, size_t row, const char *wanted) {
+    tk_cell cell;
+    char text[64];
+    size_t len = 0;
+    memset(&cell, 0xee, sizeof cell);
+    tk_status status = tk_cell_at(handle, column, row, &cell, text, sizeof text, &len);
+    check(is(status, text, len, wanted), wanted, __LINE__);
+    return cell;
+}
+
+static bool same_color(tk_color a, tk_color b) {
+    return a.kind == b.kind && a.red == b.red && a.green == b.green && a.blue == b.blue &&
+           a.index == b.index;
+}
+
+#endif

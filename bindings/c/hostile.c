@@ -1,0 +1,331 @@
+/* Gives the library what a caller may give it by mistake or by ill will: random bytes, answers that
+ * are damaged or cut short, claims of great lengths, handles that are freed, and random calls with
+ * random arguments. Each call has to return what the header names, and a viewer that accepts a
+ * surface's answer has to show what the surface shows, whatever came before.
+ *
+ *     hostile [ROUNDS]
+ *
+ * It ends with `N calls`, the same for the same ROUNDS, or with status 1 and what went wrong. */
+#include "tikeburo.h"
+#include <stdint.h>
+#include <stdio.h>
+#include <stdlib.h>
+#include <string.h>
+
+static long calls = 0;
+static uint64_t state = 0x9e3779b97f4a7c15;
+
+/* A number below the limit, by xorshift. */
+static size_t below(size_t limit) {
+    state ^= state << 13;
+    state ^= state >> 7;
+    state ^= state << 17;
+    return (size_t)(state >> 11) % limit;
+}
+
+/* Counts a call, and ends the program where what has to hold doesn't. */
+static void expect(bool holds, const char *what) {
+    calls++;
+    if (!holds) {
+        printf("FAILED: %s, after %ld calls\n", what, calls);
+        exit(1);
+    }
+}
+
+#define EXPECT(what) expect(what, #what)
+
+/* What a call may return that has bytes of any kind to read. */
+static bool is_answered(tk_status status) {
+    return status == TK_DONE || status == TK_UNREADABLE || status == TK_REGION ||
+           status == TK_SIZE || status == TK_STALE;
+}
+
+/* Random bytes: small numbers for the most part, since they are heads of CBOR. */
+static size_t fill(uint8_t *bytes, size_t room) {
+    size_t len = below(room + 1);
+    for (size_t i = 0; i < len; i++)
+        bytes[i] = (uint8_t)(below(4) == 0   ? below(256)
+                             : below(2) == 0 ? 0x80 + below(9)
+                                             : below(15));
+    return len;
+}
+
+/* A change of each kind, as docs/stream.cddl has it. */
+static const char *const CHANGES[] = {"\x82\0\x82\0\x01",
+                                      "\x82\0\x82\x09\x83\x61u\xf4\x80",
+                                      "\x82\x01\x85\x19\x01\x2c\x05\xf6\xf6\xf6",
+                                      "\x82\x02\x61x",
+                                      "\x82\x03\xf6",
+                                      "\x82\x04\x05",
+                                      "\x82\x05\x83\x01\x02\x03",
+                                      "\x83\x06\x82\0\x20\x82\x01\x02",
+                                      "\x82\x07\x84\x01\x02\x03\x04",
+                                      "\x82\x08\x03",
+                                      "\x82\x09\xf5",
+                                      "\x84\x0a\0\x02\x01",
+                                      "\x84\x0b\x01\x01\x01",
+                                      "\x82\x0c\x61t",
+                                      "\x82\x0d\x01"};
+static const uint8_t LENGTHS[] = {5, 9, 10, 4, 3, 3, 6, 8, 7, 3, 3, 5, 5, 4, 3};
+
+/* An answer of a few of them, in which every other time a byte is altered. Its list of changes
+ * begins at byte 7. */
+static size_t random_answer(uint8_t *bytes) {
+    size_t count = below(4), len = 8;
+    uint8_t head[] = {0x87,
+                      1,
+                      12,
+                      3,
+                      0,
+                      (uint8_t)below(24),
+                      (uint8_t)(below(8) ? 0xf5 : 0xf4),
+                      (uint8_t)(0x80 + count)};
+    memcpy(bytes, head, sizeof head);
+    for (size_t change = 0; change < count; change++) {
+        size_t kind = below(sizeof LENGTHS);
+        memcpy(bytes + len, CHANGES[kind], LENGTHS[kind]);
+        len += LENGTHS[kind];
+    }
+    if (below(2) == 0)
+        bytes[below(len)] = (uint8_t)(below(2) == 0 ? below(256) : below(24));
+    return len;
+}
+
+static bool same_cells(tk_handle *a, tk_handle *b, size_t column, size_t row) {
+    char text_a[256], text_b[256];
+    size_t len_a = 0, len_b = 0;
+    tk_cell cell_a, cell_b;
+    EXPECT(tk_cell_at(a, column, row, &cell_a, text_a, sizeof text_a, &len_a) == TK_DONE);
+    EXPECT(tk_cell_at(b, column, row, &cell_b, text_b, sizeof text_b, &len_b) == TK_DONE);
+    return len_a == len_b && memcmp(text_a, text_b, len_a) == 0 &&
+           memcmp(&cell_a, &cell_b, sizeof cell_a) == 0;
+}
+
+static bool same_screens(tk_handle *a, tk_handle *b) {
+    size_t width, height, x_a, y_a, x_b, y_b;
+    bool visible_a, visible_b;
+    EXPECT(tk_size(a, &width, &height) == TK_DONE);
+    EXPECT(tk_cursor(a, &x_a, &y_a) == TK_DONE && tk_cursor(b, &x_b, &y_b) == TK_DONE);
+    EXPECT(tk_cursor_is_visible(a, &visible_a) == TK_DONE);
+    EXPECT(tk_cursor_is_visible(b, &visible_b) == TK_DONE);
+    bool same = x_a == x_b && y_a == y_b && visible_a == visible_b && x_a <= width && y_a < height;
+    for (size_t row = 0; row < height; row++)
+        for (size_t column = 0; column < width; column++)
+            same = same && same_cells(a, b, column, row);
+    return same;
+}
+
+/* The viewer is given what it lacks, and shows what the surface shows. */
+static void deliver(tk_handle *surface, tk_handle *viewer) {
+    static uint8_t bytes[1 << 16];
+    size_t last, len;
+    EXPECT(tk_last(viewer, &last) == TK_DONE);
+    EXPECT(tk_answer(surface, last, bytes, sizeof bytes, &len) == TK_DONE);
+    tk_status status = tk_accept(viewer, bytes, len);
+    if (status == TK_SIZE) {
+        size_t width, height;
+        EXPECT(tk_size(surface, &width, &height) == TK_DONE);
+        EXPECT(tk_resize(viewer, width, height) == TK_DONE);
+        EXPECT(tk_answer(surface, 0, bytes, sizeof bytes, &len) == TK_DONE);
+        status = tk_accept(viewer, bytes, len);
+    }
+    EXPECT(status == TK_DONE);
+    EXPECT(same_screens(surface, viewer));
+}
+
+static void random_bytes(tk_handle *surface, tk_handle *viewer, size_t rounds) {
+    uint8_t bytes[64];
+    for (size_t round = 0; round < rounds; round++) {
+        size_t len = fill(bytes, sizeof bytes);
+        EXPECT(is_answered(tk_accept(viewer, bytes, len)));
+        EXPECT(is_answered(tk_add_changes(surface, bytes, len)));
+        len = random_answer(bytes);
+        EXPECT(is_answered(tk_accept(viewer, bytes, len)));
+        EXPECT(is_answered(tk_add_changes(surface, bytes + 7, len - 7)));
+        if (round % 64 == 0)
+            deliver(surface, viewer);
+    }
+}
+
+/* Each front of an answer, and the answer with each of its bytes at each value. */
+static void damaged_answers(tk_handle *surface, tk_handle *viewer, size_t values) {
+    uint8_t bytes[1024];
+    size_t len;
+    EXPECT(tk_answer(surface, 0, bytes, sizeof bytes, &len) == TK_DONE);
+    for (size_t front = 0; front < len; front++)
+        EXPECT(tk_accept(viewer, bytes, front) == TK_UNREADABLE);
+    for (size_t at = 0; at < len; at++) {
+        uint8_t right = bytes[at];
+        for (size_t value = 0; value < values; value++) {
+            bytes[at] = (uint8_t)(right + value);
+            EXPECT(is_answered(tk_accept(viewer, bytes, len)));
+        }
+        bytes[at] = right;
+        EXPECT(tk_accept(viewer, bytes, len) == TK_DONE); /* it is a repaint */
+    }
+    EXPECT(same_screens(surface, viewer));
+}
+
+/* Lists and texts that claim to be longer than any memory. */
+static void great_claims(tk_handle *surface, tk_handle *viewer) {
+    static const uint8_t list[] = {0x9b, 0x7f, 255, 255, 255, 255, 255, 255, 255, 0x82, 8, 0};
+    static const uint8_t text[] = {0x81, 0x82, 2,   0x7b, 255, 255, 255,
+                                   255,  255,  255, 255,  255, 'x'};
+    static const uint8_t answer[] = {0x87, 1,   1,   1,   0,   1,   0xf5, 0x9b,
+                                     0x7f, 255, 255, 255, 255, 255, 255,  255};
+    EXPECT(tk_add_changes(surface, list, sizeof list) == TK_UNREADABLE);
+    EXPECT(tk_add_changes(surface, text, sizeof text) == TK_UNREADABLE);
+    EXPECT(tk_accept(viewer, answer, sizeof answer) == TK_UNREADABLE);
+    EXPECT(tk_add_changes(surface, list, 0) == TK_UNREADABLE);
+    EXPECT(tk_accept(viewer, answer, 0) == TK_UNREADABLE);
+    for (size_t depth = 0; depth < 64; depth++) { /* arrays in arrays */
+        uint8_t nested[64];
+        memset(nested, 0x81, sizeof nested);
+        EXPECT(tk_add_changes(surface, nested, depth) == TK_UNREADABLE);
+        EXPECT(tk_accept(viewer, nested, depth) == TK_UNREADABLE);
+    }
+}
+
+/* A handle that is freed has no value, and may be used again. */
+static void freed_handles(void) {
+    tk_handle handle = TK_NONE, other = TK_NONE;
+    tk_color color = {0};
+    char text[4];
+    size_t number = 0, len = 0;
+    for (int round = 0; round < 3; round++) {
+        EXPECT(tk_surface_new(&handle, 3, 3, TK_WIDTHS_UNICODE, false) == TK_DONE);
+        EXPECT(tk_print(&handle, "x", 1) == TK_DONE);
+        tk_free(&handle);
+        tk_free(&handle);
+        EXPECT(tk_print(&handle, "x", 1) == TK_NO_HANDLE);
+        EXPECT(tk_print(&handle, text, 0) == TK_NO_HANDLE);
+        EXPECT(tk_clear_screen(&handle, &color) == TK_NO_HANDLE);
+        EXPECT(tk_resize(&handle, 2, 2) == TK_NO_HANDLE);
+        EXPECT(tk_screen_text(&handle, text, sizeof text, &len) == TK_NO_HANDLE);
+        EXPECT(tk_answer(&handle, 0, (uint8_t *)text, sizeof text, &len) == TK_NO_HANDLE);
+        EXPECT(tk_accept(&handle, (uint8_t *)text, 0) == TK_NO_HANDLE);
+        EXPECT(tk_last(&handle, &number) == TK_NO_HANDLE);
+        EXPECT(tk_viewer_new(&other, &handle) == TK_NO_HANDLE);
+        EXPECT(tk_follow(&other, &handle) == TK_NO_HANDLE);
+        EXPECT(tk_draw(&other, &handle, 0, 0) == TK_NO_HANDLE);
+    }
+    EXPECT(len == 0 && number == 0);
+}
+
+/* Mostly a place on the screen or near it, and at times any number. */
+static size_t place(void) { return below(16) == 0 ? SIZE_MAX - below(3) : below(14); }
+
+static bool is_changed(tk_status status) {
+    return status == TK_DONE || status == TK_RANGE || status == TK_REGION;
+}
+
+static void random_print(tk_handle *surface) {
+    static const char *const texts[] = {
+        "a", "hello", "かな", "\r\n", "e\u0301", "😀", "\t", "", "👩‍👩‍👧"};
+    const char *text = texts[below(sizeof texts / sizeof *texts)];
+    EXPECT(tk_print(surface, text, strlen(text)) == TK_DONE);
+}
+
+static void random_pen(tk_handle *surface) {
+    tk_color color = {(uint8_t)below(5), (uint8_t)below(256), 7, 9, (uint8_t)below(256)};
+    tk_attributes pen = {.intensity = (uint8_t)below(4),
+                         .underline = (uint8_t)below(7),
+                         .italic = below(2),
+                         .background = color};
+    switch (below(6)) {
+    case 0:
+        EXPECT(is_changed(tk_set_pen(surface, &pen)));
+        break;
+    case 1:
+        EXPECT(is_changed(tk_set_foreground(surface, &color)));
+        break;
+    case 2:
+        EXPECT(is_changed(tk_set_blink(surface, (uint8_t)below(256))));
+        break;
+    case 3:
+        EXPECT(tk_set_link(surface, "uri:a", 4 + below(2)) == TK_DONE);
+        break;
+    case 4:
+        EXPECT(tk_clear_link(surface) == TK_DONE);
+        break;
+    default:
+        EXPECT(tk_show_cursor(surface, below(2)) == TK_DONE);
+    }
+}
+
+static void random_change(tk_handle *surface, tk_handle *source) {
+    tk_color color = {(uint8_t)below(5), 1, 2, 3, 4};
+    switch (below(10)) {
+    case 0:
+        EXPECT(tk_move_to(surface, place(), place()) == TK_DONE);
+        break;
+    case 1:
+        EXPECT(tk_move_by(surface, (ptrdiff_t)place() - 7, (ptrdiff_t)place() - 7) == TK_DONE);
+        break;
+    case 2:
+        EXPECT(is_changed(tk_clear_to_end_of_line(surface, &color)));
+        break;
+    case 3:
+        EXPECT(is_changed(below(4) == 0 ? tk_clear_screen(surface, &color)
+                                        : tk_clear_to_end_of_screen(surface, &color)));
+        break;
+    case 4:
+        EXPECT(is_changed(tk_scroll_up(surface, place(), place(), place())));
+        break;
+    case 5:
+        EXPECT(is_changed(tk_scroll_down(surface, place(), place(), place())));
+        break;
+    case 6:
+        EXPECT(tk_copy(surface, place(), place(), place(), place(), place(), place()) == TK_DONE);
+        break;
+    case 7:
+        EXPECT(tk_draw(surface, source, place(), place()) == TK_DONE);
+        break;
+    case 8:
+        random_pen(surface);
+        break;
+    default:
+        random_print(surface);
+    }
+}
+
+static void random_calls(size_t rounds) {
+    tk_handle surface = TK_NONE, viewer = TK_NONE, follower = TK_NONE;
+    EXPECT(tk_surface_new(&surface, 11, 5, TK_WIDTHS_UNICODE, true) == TK_DONE);
+    EXPECT(tk_viewer_new(&viewer, &surface) == TK_DONE);
+    EXPECT(tk_viewer_new(&follower, &surface) == TK_DONE);
+    for (size_t round = 0; round < rounds; round++) {
+        random_change(&surface, &follower);
+        if (below(8) == 0)
+            deliver(&surface, &viewer);
+        if (below(16) == 0) {
+            EXPECT(tk_follow(&follower, &surface) == TK_DONE);
+            EXPECT(same_screens(&surface, &follower));
+        }
+        if (below(32) == 0)
+            EXPECT(is_changed(tk_resize(&surface, below(13), below(9))));
+        if (below(32) == 0)
+            EXPECT(tk_flush(&surface, below(round + 1)) == TK_DONE);
+    }
+    tk_free(&follower);
+    tk_free(&viewer);
+    tk_free(&surface);
+}
+
+int main(int count, char **words) {
+    size_t rounds = count > 1 ? strtoul(words[1], NULL, 10) : 500000;
+    tk_handle surface = TK_NONE, viewer = TK_NONE;
+    EXPECT(tk_surface_new(&surface, 12, 3, TK_WIDTHS_UNICODE, false) == TK_DONE);
+    EXPECT(tk_viewer_new(&viewer, &surface) == TK_DONE);
+    EXPECT(tk_set_link(&surface, "uri:b", 5) == TK_DONE);
+    EXPECT(tk_print(&surface, "hello かな😀", 16) == TK_DONE);
+    damaged_answers(&surface, &viewer, rounds < 256 ? rounds : 256);
+    great_claims(&surface, &viewer);
+    random_bytes(&surface, &viewer, rounds);
+    freed_handles();
+    random_calls(rounds);
+    tk_free(&viewer);
+    tk_free(&surface);
+    printf("%ld calls\n", calls);
+    return 0;
+}

@@ -1,0 +1,52 @@
+//! Colours.
+
+use crate::ffi::tk_color;
+
+/// An index of the palette: 0 to 7 are the classic colours, 8 to 15 their bright forms.
+pub type PaletteIndex = u8;
+
+/// A true colour: red, green and blue in sRGB.
+#[derive(Clone, Copy, PartialEq, Eq, Hash, Debug, Default)]
+pub struct RgbColor {
+    red: u8,
+    green: u8,
+    blue: u8,
+}
+
+impl RgbColor {
+    /// The colour of this red, green and blue.
+    pub const fn new_8bpc(red: u8, green: u8, blue: u8) -> RgbColor {
+        RgbColor { red, green, blue }
+    }
+
+    /// Red, green and blue.
+    pub const fn to_tuple_rgb8(self) -> (u8, u8, u8) {
+        (self.red, self.green, self.blue)
+    }
+}
+
+/// A cell's colour. A true one says what stands for it where true colours are not shown.
+#[derive(Clone, Copy, PartialEq, Eq, Hash, Debug, Default)]
+pub enum ColorAttribute {
+    /// This colour, or else the palette's at this index.
+    TrueColorWithPaletteFallback(RgbColor, PaletteIndex),
+    /// This colour, or else the default one.
+    TrueColorWithDefaultFallback(RgbColor),
+    /// The palette's colour at this index.
+    PaletteIndex(PaletteIndex),
+    /// The default colour.
+    #[default]
+    Default,
+}
+
+impl From<tk_color> for ColorAttribute {
+    fn from(color: tk_color) -> ColorAttribute {
+        let rgb = RgbColor::new_8bpc(color.red, color.green, color.blue);
+        match color.kind {
+            1 => ColorAttribute::PaletteIndex(color.index),
+            2 => ColorAttribute::TrueColorWithDefaultFallback(rgb),
+            3 => ColorAttribute::TrueColorWithPaletteFallback(rgb, color.index),
+            _ => ColorAttribute::Default,
+        }
+    }
+}

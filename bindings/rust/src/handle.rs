@@ -1,0 +1,81 @@
+//! A handle of the library's, and the ways in which its calls return values.
+
+use crate::error::Error;
+use crate::ffi::{self, tk_handle};
+use std::cell::UnsafeCell;
+use std::ptr;
+
+/// A handle on a surface or a viewer, which is freed at its end.
+///
+/// Calls that read write the handle too, so that it lies in a cell. One call at a time has it: no
+/// call runs code of a caller's, and the pointer keeps the handle on its thread.
+pub(crate) struct Handle(UnsafeCell<tk_handle>);
+
+impl Handle {
+    /// A handle on what this call makes in it.
+    pub(crate) fn made(make: impl FnOnce(*mut tk_handle) -> i32) -> Result<Handle, Error> {
+        let none = tk_handle {
+            at: ptr::null_mut(),
+            is_live: false,
+        };
+        let handle = Handle(UnsafeCell::new(none));
+        Error::check(make(handle.get()))?;
+        Ok(handle)
+    }
+
+    pub(crate) fn get(&self) -> *mut tk_handle {
+        self.0.get()
+    }
+
+    /// The number that this call writes.
+    pub(crate) fn number(
+        &self,
+        read: unsafe extern "C" fn(*mut tk_handle, *mut usize) -> i32,
+    ) -> Result<usize, Error> {
+        let mut number = 0;
+        // Safety: the handle is live, and the call writes the number alone.
+        Error::check(unsafe { read(self.get(), &mut number) })?;
+        Ok(number)
+    }
+
+    /// The two numbers that this call writes.
+    pub(crate) fn numbers(
+        &self,
+        read: unsafe extern "C" fn(*mut tk_handle, *mut usize, *mut usize) -> i32,
+    ) -> Result<(usize, usize), Error> {
+        let (mut first, mut second) = (0, 0);
+        // Safety: the handle is live, and the call writes the two numbers alone.
+        Error::check(unsafe { read(self.get(), &mut first, &mut second) })?;
+        Ok((first, second))
+    }
+}
+
+impl Drop for Handle {
+    fn drop(&mut self) {
+        // Safety: the handle is freed here alone, and no call comes behind it.
+        unsafe { ffi::tk_free(self.get()) }
+    }
+}
+
+/// The bytes that a call writes: to this front where they fit, and else to as much room as the call
+/// says that they need. The call is passed a buffer, its room, and where it writes their length.
+pub(crate) fn bytes(
+    front: &mut [u8],
+    mut write: impl FnMut(*mut u8, usize, *mut usize) -> i32,
+) -> Result<Vec<u8>, Error> {
+    let mut len = 0;
+    let status = write(front.as_mut_ptr(), front.len(), &mut len);
+    if status != ffi::SHORT {
+        Error::check(status)?;
+        return Ok(front[..len].to_vec());
+    }
+    let mut bytes = vec![0; len];
+    Error::check(write(bytes.as_mut_ptr(), bytes.len(), &mut len))?;
+    Ok(bytes)
+}
+
+/// The text that a call writes, as `bytes` has it.
+pub(crate) fn text(write: impl FnMut(*mut u8, usize, *mut usize) -> i32) -> Result<String, Error> {
+    let bytes = bytes(&mut [0; 128], write)?;
+    String::from_utf8(bytes).map_err(|_| Error::Unreadable)
+}

@@ -1,0 +1,88 @@
+//! Heads of CBOR's items: the major type, and a number in as few bytes as it takes.
+
+pub(crate) const UNSIGNED: u8 = 0;
+pub(crate) const NEGATIVE: u8 = 1;
+pub(crate) const TEXT: u8 = 3;
+pub(crate) const ARRAY: u8 = 4;
+
+/// Appends the head of an item of this major type.
+pub(crate) fn put(out: &mut Vec<u8>, major: u8, value: u64) {
+    let (short, count) = match value {
+        0..=23 => (value as u8, 0),
+        24..=0xff => (24, 1),
+        0x100..=0xffff => (25, 2),
+        0x1_0000..=0xffff_ffff => (26, 4),
+        _ => (27, 8),
+    };
+    out.push(major << 5 | short);
+    out.extend_from_slice(&value.to_be_bytes()[8 - count..]);
+}
+
+/// Takes the head of an item of this major type from the front of the bytes.
+pub(crate) fn take(bytes: &mut &[u8], major: u8) -> Option<u64> {
+    let (first, rest) = bytes.split_first()?;
+    if first >> 5 != major {
+        return None;
+    }
+    let count = match first & 0x1f {
+        short @ 0..=23 => {
+            *bytes = rest;
+            return Some(short.into());
+        }
+        24 => 1,
+        25 => 2,
+        26 => 4,
+        27 => 8,
+        _ => return None,
+    };
+    let value = rest.get(..count)?;
+    *bytes = &rest[count..];
+    Some(
+        value
+            .iter()
+            .fold(0, |sum, byte| sum << 8 | u64::from(*byte)),
+    )
+}
+
+#[cfg(test)]
+mod tests {
+    use super::*;
+
+    // RFC 8949, appendix A.
+    const EXAMPLES: [(u8, u64, &[u8]); 7] = [
+        (UNSIGNED, 23, &[0x17]),
+        (UNSIGNED, 24, &[0x18, 24]),
+        (UNSIGNED, 1000, &[0x19, 3, 0xe8]),
+        (UNSIGNED, 1_000_000, &[0x1a, 0, 0x0f, 0x42, 0x40]),
+        (
+            UNSIGNED,
+            u64::MAX,
+            &[0x1b, 255, 255, 255, 255, 255, 255, 255, 255],
+        ),
+        (NEGATIVE, 999, &[0x39, 3, 0xe7]),
+        (ARRAY, 25, &[0x98, 25]),
+    ];
+
+    #[test]
+    fn heads_are_the_shortest() {
+        for (major, value, bytes) in EXAMPLES {
+            let mut out = Vec::new();
+            put(&mut out, major, value);
+            assert_eq!(out, bytes);
+        }
+    }
+
+    #[test]
+    fn heads_are_taken_from_the_front() {
+        for (major, value, bytes) in EXAMPLES {
+            let mut left = &[bytes, &[7]].concat()[..];
+            assert_eq!(take(&mut left, major), Some(value));
+            assert_eq!(left, [7]);
+            for cut in 0..bytes.len() {
+                assert_eq!(take(&mut &bytes[..cut], major), None);
+            }
+            assert_eq!(take(&mut &bytes[..], TEXT), None);
+        }
+        assert_eq!(take(&mut &[0x1f][..], UNSIGNED), None);
+    }
+}

@@ -1,0 +1,316 @@
+//! What goes into a surface comes out of it again, and each error has its name.
+
+use tikeburo::{
+    AttributeChange, Attributes, Blink, Change, ColorAttribute, CursorShape, CursorVisibility,
+    Error, Hyperlink, Intensity, LineAttribute, Options, Position, RgbColor, SemanticType, Surface,
+    Underline, VerticalAlign, Widths,
+};
+
+const ORANGE: RgbColor = RgbColor::new_8bpc(255, 128, 0);
+
+/// The rows' texts without the blanks at their ends.
+fn rows(surface: &Surface) -> Vec<String> {
+    surface
+        .rows()
+        .map(|row| row.text().unwrap().trim_end().to_string())
+        .collect()
+}
+
+fn printed(width: usize, height: usize, text: &str) -> Surface {
+    let mut surface = Surface::new(width, height).unwrap();
+    surface.add_change(text).unwrap();
+    surface
+}
+
+#[test]
+fn a_new_surface_is_blank() {
+    let surface = Surface::new(4, 2).unwrap();
+    assert_eq!(surface.dimensions(), (4, 2));
+    assert_eq!(surface.cursor_position(), (0, 0));
+    assert_eq!(surface.cursor_visibility(), CursorVisibility::Visible);
+    assert_eq!(surface.current_seqno(), 0);
+    assert_eq!(surface.title().unwrap(), "");
+    assert_eq!(rows(&surface), ["", ""]);
+    let cell = surface.row(1).cell(3).unwrap();
+    assert_eq!((cell.str(), cell.width()), (" ", 1));
+    assert_eq!(*cell.attrs(), Attributes::default());
+}
+
+#[test]
+fn sizes_are_from_1_to_2_to_the_32_less_1() {
+    for (width, height) in [(0, 1), (1, 0), (1 << 32, 1), (1, usize::MAX)] {
+        assert_eq!(Surface::new(width, height).unwrap_err(), Error::Range);
+    }
+    let mut surface = printed(4, 2, "abcdef");
+    assert_eq!(surface.resize(0, 2), Err(Error::Range));
+    surface.resize(3, 3).unwrap();
+    assert_eq!(surface.dimensions(), (3, 3));
+    assert_eq!(rows(&surface), ["abc", "ef", ""]);
+}
+
+#[test]
+fn widths_are_those_that_are_chosen() {
+    let surface = printed(8, 1, "か");
+    assert_eq!(surface.cursor_position(), (2, 0));
+    let options = Options {
+        widths: Widths::OneColumn,
+        ..Options::default()
+    };
+    let mut narrow = Surface::with_options(8, 1, options).unwrap();
+    narrow.add_change("か").unwrap();
+    assert_eq!(narrow.cursor_position(), (1, 0));
+}
+
+#[test]
+fn rows_and_cells_are_iterated() {
+    let surface = printed(5, 3, "aかe\u{301}\r\nlow");
+    let cells: Vec<_> = surface.row(0).cells().map(Result::unwrap).collect();
+    let texts: Vec<_> = cells.iter().map(|cell| cell.str()).collect();
+    assert_eq!(texts, ["a", "か", "e\u{301}", " "]);
+    assert_eq!(cells.iter().map(|cell| cell.width()).sum::<usize>(), 5);
+    assert_eq!(surface.rows().len(), 3);
+    let numbers: Vec<_> = surface.rows().rev().map(|row| row.number()).collect();
+    assert_eq!(numbers, [2, 1, 0]);
+    assert_eq!(surface.row(3).text(), Err(Error::Range));
+    assert_eq!(surface.row(3).cells().last(), Some(Err(Error::Range)));
+    assert_eq!(surface.row(0).cell(5), Err(Error::Range));
+    assert_eq!(surface.row(0).cell(2).unwrap().str(), " "); // behind a wide one
+}
+
+#[test]
+fn all_attributes_are_read_as_they_were_set() {
+    let attributes = Attributes {
+        intensity: Intensity::Half,
+        underline: Underline::Dashed,
+        blink: Blink::Rapid,
+        semantic_type: SemanticType::Prompt,
+        vertical_align: VerticalAlign::SubScript,
+        italic: true,
+        reverse: true,
+        strikethrough: true,
+        invisible: true,
+        wrapped: true,
+        overline: true,
+        foreground: ColorAttribute::PaletteIndex(200),
+        background: ColorAttribute::TrueColorWithDefaultFallback(ORANGE),
+        underline_color: ColorAttribute::TrueColorWithPaletteFallback(ORANGE, 9),
+        hyperlink: Some(Hyperlink::new("http://a/".repeat(30))),
+    };
+    check_attributes(attributes);
+}
+
+/// Prints with these attributes, and reads them again.
+fn check_attributes(attributes: Attributes) {
+    let mut surface = Surface::new(1, 1).unwrap();
+    let pen = Change::AllAttributes(attributes.clone());
+    surface.add_changes(&[pen, "x".into()]).unwrap();
+    assert_eq!(first_attributes(&surface), attributes);
+}
+
+fn first_attributes(surface: &Surface) -> Attributes {
+    surface.row(0).cell(0).unwrap().attrs().clone()
+}
+
+#[test]
+fn each_value_of_an_attribute_is_read_as_it_was_set() {
+    for intensity in [Intensity::Normal, Intensity::Bold, Intensity::Half] {
+        check_attributes(Attributes {
+            intensity,
+            ..Attributes::default()
+        });
+    }
+    use Underline::{Curly, Dashed, Dotted, Double, Single};
+    for underline in [Underline::None, Single, Double, Curly, Dotted, Dashed] {
+        check_attributes(Attributes {
+            underline,
+            ..Attributes::default()
+        });
+    }
+    for blink in [Blink::None, Blink::Slow, Blink::Rapid] {
+        check_attributes(Attributes {
+            blink,
+            ..Attributes::default()
+        });
+    }
+    use SemanticType::{Input, Output, Prompt};
+    for semantic_type in [Output, Input, Prompt] {
+        check_attributes(Attributes {
+            semantic_type,
+            ..Attributes::default()
+        });
+    }
+    use VerticalAlign::{BaseLine, SubScript, SuperScript};
+    for vertical_align in [BaseLine, SuperScript, SubScript] {
+        check_attributes(Attributes {
+            vertical_align,
+            ..Attributes::default()
+        });
+    }
+}
+
+#[test]
+fn each_flag_is_read_as_it_was_set() {
+    let flags: [fn(&mut Attributes) -> &mut bool; 6] = [
+        |attributes| &mut attributes.italic,
+        |attributes| &mut attributes.reverse,
+        |attributes| &mut attributes.strikethrough,
+        |attributes| &mut attributes.invisible,
+        |attributes| &mut attributes.wrapped,
+        |attributes| &mut attributes.overline,
+    ];
+    for flag in flags {
+        let mut attributes = Attributes::default();
+        *flag(&mut attributes) = true;
+        check_attributes(attributes);
+    }
+}
+
+#[test]
+fn one_attribute_is_set_alone() {
+    let link = Hyperlink::new("uri:a");
+    let color = ColorAttribute::PaletteIndex(3);
+    let wanted = Attributes {
+        intensity: Intensity::Bold,
+        underline: Underline::Double,
+        italic: true,
+        blink: Blink::Slow,
+        reverse: true,
+        strikethrough: true,
+        invisible: true,
+        foreground: color,
+        background: ColorAttribute::TrueColorWithDefaultFallback(ORANGE),
+        hyperlink: Some(link.clone()),
+        ..Attributes::default()
+    };
+    let changes = [
+        AttributeChange::Intensity(wanted.intensity),
+        AttributeChange::Underline(wanted.underline),
+        AttributeChange::Italic(true),
+        AttributeChange::Blink(wanted.blink),
+        AttributeChange::Reverse(true),
+        AttributeChange::StrikeThrough(true),
+        AttributeChange::Invisible(true),
+        AttributeChange::Foreground(wanted.foreground),
+        AttributeChange::Background(wanted.background),
+        AttributeChange::Hyperlink(Some(link)),
+    ];
+    let mut surface = Surface::new(1, 1).unwrap();
+    surface.add_changes(&changes.map(Change::from)).unwrap();
+    surface.add_change("x").unwrap();
+    assert_eq!(first_attributes(&surface), wanted);
+}
+
+#[test]
+fn one_attribute_leaves_the_others() {
+    let mut surface = Surface::new(1, 1).unwrap();
+    surface.add_change(AttributeChange::Reverse(true)).unwrap();
+    surface
+        .add_change(AttributeChange::Hyperlink(Some(Hyperlink::new("uri:a"))))
+        .unwrap();
+    surface
+        .add_change(AttributeChange::Hyperlink(None))
+        .unwrap();
+    surface.add_change("x").unwrap();
+    assert_eq!(
+        first_attributes(&surface),
+        Attributes {
+            reverse: true,
+            ..Attributes::default()
+        }
+    );
+}
+
+#[test]
+fn the_cursor_moves_as_positions_say() {
+    let mut surface = Surface::new(10, 4).unwrap();
+    let mut moved = |x, y| {
+        surface.add_change(Change::CursorPosition { x, y }).unwrap();
+        surface.cursor_position()
+    };
+    use Position::{Absolute, EndRelative, Relative};
+    assert_eq!(moved(Absolute(3), EndRelative(1)), (3, 3));
+    assert_eq!(moved(Relative(-1), Relative(-300)), (2, 0));
+    assert_eq!(moved(Relative(isize::MAX), Absolute(usize::MAX)), (9, 3));
+    assert_eq!(moved(EndRelative(70000), Relative(isize::MIN)), (0, 0));
+}
+
+#[test]
+fn clears_and_scrolls_do_what_they_say() {
+    let blue = ColorAttribute::PaletteIndex(4);
+    let mut surface = printed(3, 3, "abcdefghi");
+    let home = Change::CursorPosition {
+        x: Position::Absolute(1),
+        y: Position::Absolute(0),
+    };
+    let changes = [home, Change::ClearToEndOfLine(blue)];
+    surface.add_changes(&changes).unwrap();
+    assert_eq!(rows(&surface), ["a", "def", "ghi"]);
+    assert_eq!(surface.row(0).cell(2).unwrap().attrs().background, blue);
+    let up = Change::ScrollRegionUp {
+        first_row: 1,
+        region_size: 2,
+        scroll_count: 1,
+    };
+    surface.add_change(up).unwrap();
+    assert_eq!(rows(&surface), ["a", "ghi", ""]);
+    let down = Change::ScrollRegionDown {
+        first_row: 0,
+        region_size: 3,
+        scroll_count: 1,
+    };
+    surface.add_change(down).unwrap();
+    assert_eq!(rows(&surface), ["", "a", "ghi"]);
+    let rest = Change::ClearToEndOfScreen(ColorAttribute::Default);
+    surface.add_change(rest).unwrap();
+    assert_eq!(rows(&surface), ["", "", ""]);
+    surface.add_change(Change::ClearScreen(blue)).unwrap();
+    assert_eq!(surface.cursor_position(), (0, 0));
+    assert_eq!(surface.row(2).cell(2).unwrap().attrs().background, blue);
+}
+
+#[test]
+fn states_beside_the_screen_are_kept() {
+    let mut surface = Surface::new_full(4, 1).unwrap();
+    let changes = [
+        Change::Title("notes か".into()),
+        Change::CursorVisibility(CursorVisibility::Hidden),
+        Change::CursorShape(CursorShape::SteadyBar),
+        Change::CursorColor(ColorAttribute::TrueColorWithDefaultFallback(ORANGE)),
+        Change::LineAttribute(LineAttribute::SingleWidthLine),
+    ];
+    assert_eq!(surface.add_changes(&changes), Ok(5));
+    assert_eq!(surface.title().unwrap(), "notes か");
+    assert_eq!(surface.cursor_visibility(), CursorVisibility::Hidden);
+}
+
+#[test]
+fn changes_are_numbered() {
+    let mut surface = Surface::new(4, 1).unwrap();
+    assert_eq!(surface.add_change("a"), Ok(0));
+    assert_eq!(surface.add_change("b"), Ok(1));
+    assert_eq!(surface.add_changes(&["c".into(), "d".into()]), Ok(3));
+    assert_eq!(surface.current_seqno(), 4);
+    assert_eq!(surface.add_changes(&[]), Ok(3));
+}
+
+#[test]
+fn a_surface_is_drawn_and_copied() {
+    let mut screen = Surface::new(6, 2).unwrap();
+    let widget = printed(2, 2, "abcd");
+    screen.draw_from_screen(&widget, 1, 0).unwrap();
+    assert_eq!(rows(&screen), [" ab", " cd"]);
+    screen.copy_region(1, 0, 2, 1, 3, 1).unwrap();
+    assert_eq!(rows(&screen), [" ab", " cdab"]);
+}
+
+#[test]
+fn surfaces_and_errors_are_displayed() {
+    let surface = printed(3, 1, "abc");
+    assert_eq!(surface.to_string(), "abc\n");
+    assert!(format!("{surface:?}").starts_with("Surface { dimensions: (3, 1)"));
+    let error: Box<dyn std::error::Error> = Box::new(Error::Stale);
+    assert_eq!(
+        error.to_string(),
+        "the answer leads from another number than the viewer's"
+    );
+}

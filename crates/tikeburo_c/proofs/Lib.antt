@@ -1,0 +1,3 @@
+pub mod Decoded
+pub mod Delivered
+pub mod SameFields

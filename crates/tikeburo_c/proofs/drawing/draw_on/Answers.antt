@@ -1,0 +1,31 @@
+use Rattle.std.proofs.Common.{refl, rules}
+use Rattle.std.specs.Prelude.{Ok, Err}
+use Rattle.tikeburo_c.proofs.drawing.draw_on.Goals as goal
+
+pub returns-in_err-draw_from_screen : goal.returns-in_err-draw_from_screen
+returns-in_err-draw_from_screen c =
+    let e = c.in_err-draw_from_screen.ensures in (
+      Err c.in_err-draw_from_screen.field-0.0,
+      search rules,
+      record {
+        drawn = e.drawn;
+        restores = e.restores;
+        region = e.region;
+        no_scroll = e.no_scroll;
+        goes_on = (e.followed, e.remembered);
+      },
+    )
+
+pub returns : goal.returns
+returns c =
+    let e = c.in_ok-draw_from_screen.ensures in (
+      Ok c.in_ok-draw_from_screen.field-0,
+      refl,
+      record {
+        drawn = e.drawn;
+        restores = e.restores;
+        region = e.region;
+        no_scroll = e.no_scroll;
+        goes_on = (e.followed, e.remembered);
+      },
+    )

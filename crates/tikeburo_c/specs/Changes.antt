@@ -1,0 +1,66 @@
+-- What adding changes makes of a surface.
+use Rattle.std.specs.Prelude.{◌≡◌, ◌⊎◌, ℕ, ℤ, Result, Ok, Err, Option, Some, None, List, [], ◌∷◌, false, map}
+use Rattle.std.specs.declared.alloc.Global.{Global}
+use Rattle.std.specs.declared.vec.Vec.{Vec}
+use Rattle.termwiz_cell.specs.AttributeChangeValue.{Hyperlink}
+use Rattle.termwiz_cell.specs.ChangeValue.{Attribute, ChangeValue, change_value}
+use Rattle.termwiz_cell.specs.declared.change.Change.{Change}
+use Rattle.termwiz_surface_core.specs.Adding.{Adds}
+use Rattle.termwiz_surface_core.specs.Following.{KeepsViewers}
+use Rattle.termwiz_surface_core.specs.History.{KeepsNames}
+use Rattle.termwiz_surface_core.specs.SurfaceValue.{SurfaceValue}
+use Rattle.termwiz_surface_core.specs.declared.surface.SurfaceError.{SurfaceError}
+use Rattle.termwiz_wire.specs.Encoding.{changes}
+use Rattle.termwiz_wire.specs.Forms.{AreChanges}
+use Rattle.tikeburo_c.specs.Handles.{kept_of}
+use Rattle.tikeburo_c.specs.Outcomes.{Outcome, Reports, status_of, outcome_of, changing_failure}
+use Rattle.tikeburo_c.specs.Results.{OnSurface, OrNoMemory, Refused}
+use Rattle.tikeburo_c.specs.Widths.{columns_by}
+use Rattle.tikeburo_c.specs.declared.failure.Failure.{Failure}
+use Rattle.tikeburo_c.specs.declared.failure.Failure.TheVariants.{Memory, Range, Unreadable}
+use Rattle.tikeburo_c.specs.declared.handle.Handle.{Handle}
+use Rattle.tikeburo_c.specs.declared.widths.ChosenWidths.{ChosenWidths}
+
+-- what stays with each change, whatever comes of it: viewers that follow the surface, and what its numbers named
+abbrev pub GoesOn : SurfaceValue ChosenWidths → SurfaceValue ChosenWidths → Type 0
+GoesOn old new = KeepsViewers columns_by old new × KeepsNames (columns_by old.widths) old new
+
+-- the list of changes is added as the library adds it, whatever number that returns
+abbrev pub AddsList : List ChangeValue → SurfaceValue ChosenWidths → Outcome → SurfaceValue ChosenWidths → Type 0
+AddsList changes old outcome new =
+    (number : ℕ) × (added : Result ℕ SurfaceError) × (outcome ≡ outcome_of changing_failure added) × Adds (columns_by old.widths) old changes number added new × GoesOn old new
+
+-- one change is added
+abbrev pub AddsOne : ChangeValue → SurfaceValue ChosenWidths → Outcome → SurfaceValue ChosenWidths → Type 0
+AddsOne change = AddsList (change ∷ [])
+
+-- the one list that the bytes encode, with nothing behind it
+abbrev pub IsOnlyList : List ℕ → Result (Vec Change Global) Failure → Type 0
+IsOnlyList bytes (Ok x) = (bytes ≡ changes (map change_value x.items)) × ((cs : List ChangeValue) → AreChanges cs → bytes ≡ changes cs → map change_value x.items ≡ cs)
+IsOnlyList bytes (Err failure) = (failure ≡ Memory) ⊎ ((failure ≡ Unreadable) × ((cs : List ChangeValue) → AreChanges cs → bytes ≡ changes cs → ⊥))
+
+-- the one list of changes that the bytes encode is added, unless memory for it was refused; other bytes change nothing
+pub record AddsBytes (bytes : List ℕ) (old : SurfaceValue ChosenWidths) (outcome : Outcome) (new : SurfaceValue ChosenWidths) : Type 0 where
+  pub adds : (cs : List ChangeValue) → AreChanges cs → bytes ≡ changes cs → OrNoMemory (AddsList cs) old outcome new
+  pub unreadable : ((cs : List ChangeValue) → bytes ≡ changes cs → ⊥) → Refused Unreadable old outcome new ⊎ Refused Memory old outcome new
+
+-- the call adds this change to the surface of the handle
+abbrev pub Makes : ChangeValue → Handle → ℤ → Handle → Type 0
+Makes change old number new = Reports number (λ outcome. OnSurface (AddsOne change) (kept_of old) outcome (kept_of new))
+
+-- or finds no memory for the change itself
+abbrev pub MakesCopy : ChangeValue → Handle → ℤ → Handle → Type 0
+MakesCopy change old number new = Reports number (λ outcome. OrNoMemory (OnSurface (AddsOne change)) (kept_of old) outcome (kept_of new))
+
+-- the call fails so, and the handle has what it had
+abbrev pub Leaves : Failure → Handle → ℤ → Handle → Type 0
+Leaves failure old number new = (number ≡ status_of (Err failure)) × (kept_of new ≡ kept_of old)
+
+-- the call adds this change, if its arguments are one
+abbrev pub MakesIfSome : Option ChangeValue → Handle → ℤ → Handle → Type 0
+MakesIfSome (Some change) old number new = Makes change old number new
+MakesIfSome None old number new = Leaves Range old number new
+
+-- the change that gives the pen a link to this uri
+abbrev pub link_to : List ℕ → ChangeValue
+link_to uri = Attribute (Hyperlink (Some (record { uri = uri; params = []; implicit = false })))

@@ -1,0 +1,15 @@
+pub mod Cells
+pub mod Changes
+pub mod Drawing
+pub mod Fields
+pub mod Handles
+pub mod Held
+pub mod Kept
+pub mod Making
+pub mod Numbers
+pub mod Outcomes
+pub mod Reading
+pub mod Results
+pub mod Streams
+pub mod WidthLaws
+pub mod Widths

@@ -1,0 +1,27 @@
+-- What is read of surfaces.
+use Rattle.std.specs.Prelude.{ℕ, ℤ, Bool, true, false, List}
+use Rattle.termwiz_cell.specs.declared.change.CursorVisibility.{CursorVisibility}
+use Rattle.termwiz_cell.specs.declared.change.CursorVisibility.TheVariants.{Hidden, Visible}
+use Rattle.termwiz_screen.specs.ShownChars.{shown_chars}
+use Rattle.termwiz_surface_core.specs.SurfaceValue.{SurfaceValue, lengths_of, screen_of}
+use Rattle.tikeburo_c.specs.Handles.{kept_of}
+use Rattle.tikeburo_c.specs.Outcomes.{Reports}
+use Rattle.tikeburo_c.specs.Results.{Reads, Returns}
+use Rattle.tikeburo_c.specs.declared.handle.Handle.{Handle}
+use Rattle.tikeburo_c.specs.declared.widths.ChosenWidths.{ChosenWidths}
+
+-- the call returned this value of the surface that the handle has or its viewer shows
+abbrev pub ReadsValue : {B : Type 0} → (SurfaceValue ChosenWidths → B) → Handle → B → ℤ → B → Type 0
+ReadsValue read handle old number new = Reports number (λ outcome. Reads (λ s. Returns (read s)) (kept_of handle) old outcome new)
+
+abbrev pub is_visible : CursorVisibility → Bool
+is_visible Hidden = false
+is_visible Visible = true
+
+-- the texts of all rows
+abbrev pub text_of : SurfaceValue ChosenWidths → List ℕ
+text_of s = shown_chars (screen_of s).rows (lengths_of s)
+
+abbrev pub visibility_of : Bool → CursorVisibility
+visibility_of true = Visible
+visibility_of false = Hidden

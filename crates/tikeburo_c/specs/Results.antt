@@ -1,0 +1,58 @@
+-- What calls make of what a handle has, and of what they write.
+use Rattle.std.specs.Prelude.{◌≡◌, ◌⊎◌, ℕ, ◌≤◌, ◌<◌, Ok, Err, Option, Some, None, List, ◌++◌, length, drop}
+use Rattle.termwiz_surface_core.specs.Following.{ViewerValue}
+use Rattle.termwiz_surface_core.specs.SurfaceValue.{SurfaceValue}
+use Rattle.tikeburo_c.specs.Kept.{shown_of}
+use Rattle.tikeburo_c.specs.Outcomes.{Outcome}
+use Rattle.tikeburo_c.specs.declared.failure.Failure.{Failure}
+use Rattle.tikeburo_c.specs.declared.failure.Failure.TheVariants.{Memory, NoHandle, WrongKind, Short}
+use Rattle.tikeburo_c.specs.declared.kept.Kept.{Kept}
+use Rattle.tikeburo_c.specs.declared.kept.Kept.TheVariants.{Surface, Viewer}
+use Rattle.tikeburo_c.specs.declared.widths.ChosenWidths.{ChosenWidths}
+
+-- the call failed so, and changed nothing
+abbrev pub Refused : {A : Type 0} → Failure → A → Outcome → A → Type 0
+Refused failure old outcome new = (outcome ≡ Err failure) × (new ≡ old)
+
+-- this, unless memory was refused first, and nothing has changed
+abbrev pub OrNoMemory : {A : Type 0} → (A → Outcome → A → Type 0) → A → Outcome → A → Type 0
+OrNoMemory P old outcome new = Refused Memory old outcome new ⊎ P old outcome new
+
+-- the call did this to the surface that the handle has
+abbrev pub OnSurface : (SurfaceValue ChosenWidths → Outcome → SurfaceValue ChosenWidths → Type 0) → Option Kept → Outcome → Option Kept → Type 0
+OnSurface P (Some (Surface old)) outcome (Some (Surface new)) = P old outcome new
+OnSurface P (Some (Surface old)) outcome _ = ⊥
+OnSurface P (Some (Viewer v)) outcome new = Refused WrongKind (Some (Viewer v)) outcome new
+OnSurface P None outcome new = Refused NoHandle None outcome new
+
+-- and this to the viewer
+abbrev pub OnViewer : (ViewerValue ChosenWidths → Outcome → ViewerValue ChosenWidths → Type 0) → Option Kept → Outcome → Option Kept → Type 0
+OnViewer P (Some (Viewer old)) outcome (Some (Viewer new)) = P old outcome new
+OnViewer P (Some (Viewer old)) outcome _ = ⊥
+OnViewer P (Some (Surface s)) outcome new = Refused WrongKind (Some (Surface s)) outcome new
+OnViewer P None outcome new = Refused NoHandle None outcome new
+
+-- the call read this of the surface that the handle has, or that its viewer shows
+abbrev pub Reads : {B : Type 0} → (SurfaceValue ChosenWidths → B → Outcome → B → Type 0) → Option Kept → B → Outcome → B → Type 0
+Reads P (Some kept) old outcome new = P (shown_of kept) old outcome new
+Reads P None old outcome new = Refused NoHandle old outcome new
+
+-- the call returned this value
+abbrev pub Returns : {B : Type 0} → B → B → Outcome → B → Type 0
+Returns value old outcome new = (outcome ≡ Ok tt) × (new ≡ value)
+
+-- a buffer of the caller's, and the length that stands beside it
+abbrev pub Buffer : Type 0
+Buffer = List ℕ × ℕ
+
+-- the bytes are at the buffer's front, with their length, or the buffer is too short and has only their length
+abbrev pub Gives : List ℕ → Buffer → Outcome → Buffer → Type 0
+Gives bytes old (Ok _) new = (length bytes ≤ length old.0) × (new.0 ≡ bytes ++ drop (length bytes) old.0) × (new.1 ≡ length bytes)
+Gives bytes old (Err Short) new = (length old.0 < length bytes) × (new.0 ≡ old.0) × (new.1 ≡ length bytes)
+Gives bytes old (Err _) new = ⊥
+
+-- the call did this to the value that the handle has
+abbrev pub OnKept : (Kept → Outcome → Kept → Type 0) → Option Kept → Outcome → Option Kept → Type 0
+OnKept P (Some old) outcome (Some new) = P old outcome new
+OnKept P (Some old) outcome None = ⊥
+OnKept P None outcome new = Refused NoHandle None outcome new

@@ -1,0 +1,209 @@
+//! Rows and their cells, one by one.
+ghost use Rattle.std.specs.Prelude.{◌≡◌, ◌⊎◌, IfErr, IfOk, None, Some, slice_get};
+ghost use Rattle.termwiz_cell.specs.CellValue as cell_value;
+ghost use Rattle.termwiz_surface.specs.{texts_of, visible};
+ghost use Rattle.tikeburo_c.specs.Cells.{CellPlace, GivesCell, GivesLink, GivesRow, cell_in};
+ghost use Rattle.tikeburo_c.specs.Cells.{uri_of};
+ghost use Rattle.tikeburo_c.specs.Handles.{kept_of};
+ghost use Rattle.tikeburo_c.specs.Outcomes.{Reports};
+ghost use Rattle.tikeburo_c.specs.Results.{Gives, OrNoMemory, Reads};
+ghost use Rattle.tikeburo_c.specs.declared.failure.Failure.TheVariants.{Memory, Range};
+
+use crate::buffers::give;
+use crate::failure::{Failure, status};
+use crate::fields::{CellFields, cell_fields};
+use crate::handle::Handle;
+use crate::widths::ChosenWidths;
+use std::alloc::Global;
+use termwiz_surface::{Cell, Line, Surface};
+
+fn give_line(line: &Line, room: &mut [u8], len: &mut usize) -> Result<(), Failure>
+    ensures { OrNoMemory (Gives (texts_of (visible line.now.cells)))
+        (room.old, len.old) result (room.new, len.new) }
+{
+    let text = line.as_str()?;
+    give(text.as_str().as_bytes(), room, len)
+}
+
+fn line_at(surface: &Surface<ChosenWidths>, row: usize) -> Result<&Line, Failure>
+    ensures found { IfOk result (λ line.
+        slice_get surface.now.lines row ≡ Some line.now.cells) }
+    ensures missing { IfErr result (λ failure. (failure ≡ Memory)
+        ⊎ ((failure ≡ Range) × (slice_get surface.now.lines row ≡ None))) }
+{
+    let lines = surface.screen_lines()?;
+    match lines.get(row) {
+        Some(line) => Ok(line),
+        None => Err(Failure::Range),
+    }
+}
+
+fn give_row(
+    surface: &Surface<ChosenWidths>,
+    row: usize,
+    room: &mut [u8],
+    len: &mut usize,
+) -> Result<(), Failure>
+    ensures { OrNoMemory (GivesRow row surface.now) (room.old, len.old) result (room.new, len.new) }
+{
+    let line = line_at(surface, row)?;
+    give_line(line, room, len)
+}
+
+/// The texts of a row's visible cells within its stored length.
+#[unsafe(no_mangle)]
+pub extern "C" fn tk_row_text(
+    alloc: Global,
+    handle: &mut Handle,
+    row: usize,
+    room: &mut [u8],
+    len: &mut usize,
+) -> i32
+    ensures read { Reports result (λ outcome. Reads (λ s. OrNoMemory (GivesRow row s))
+        (kept_of handle.old) (room.old, len.old) outcome (room.new, len.new)) }
+    ensures same { kept_of handle.new ≡ kept_of handle.old }
+{
+    let outcome = match handle.take(alloc) {
+        Some(kept) => {
+            let outcome = give_row(kept.shown(), row, room, len);
+            handle.put(alloc, kept);
+            outcome
+        }
+        None => Err(Failure::NoHandle),
+    };
+    status(outcome)
+}
+
+fn give_cell(
+    cell: &Cell,
+    fields: &mut CellFields,
+    room: &mut [u8],
+    len: &mut usize,
+) -> Result<(), Failure>
+    ensures { GivesCell (Some cell.now)
+        (fields.old, (room.old, len.old)) result (fields.new, (room.new, len.new)) }
+{
+    give(cell.str().as_bytes(), room, len)?;
+    *fields = cell_fields(cell);
+    Ok(())
+}
+
+// The cell at a column of a row, or the blank one behind the stored cells.
+fn cell_at<'a>(
+    surface: &'a Surface<ChosenWidths>,
+    column: usize,
+    row: usize,
+    blank: &'a Cell,
+) -> Result<&'a Cell, Failure>
+    requires { blank.now ≡ cell_value.blank }
+    ensures found { IfOk result (λ cell. cell_in column row surface.now ≡ Some cell.now) }
+    ensures missing { IfErr result (λ failure. (failure ≡ Memory)
+        ⊎ ((failure ≡ Range) × (cell_in column row surface.now ≡ None))) }
+{
+    let rows = surface.screen_cells()?;
+    let Some(cells) = rows.get(row) else {
+        return Err(Failure::Range);
+    };
+    let (width, _) = surface.dimensions();
+    if column >= width {
+        return Err(Failure::Range);
+    }
+    match cells.get(column) {
+        Some(cell) => Ok(cell),
+        None => Ok(blank),
+    }
+}
+
+fn read_cell(
+    surface: &Surface<ChosenWidths>,
+    column: usize,
+    row: usize,
+    fields: &mut CellFields,
+    room: &mut [u8],
+    len: &mut usize,
+) -> Result<(), Failure>
+    ensures { OrNoMemory (GivesCell (cell_in column row surface.now))
+        (fields.old, (room.old, len.old)) result (fields.new, (room.new, len.new)) }
+{
+    let blank = Cell::blank();
+    let cell = cell_at(surface, column, row, &blank)?;
+    give_cell(cell, fields, room, len)
+}
+
+/// The cell at a column of a row: its text into the buffer, and the rest into the struct.
+#[unsafe(no_mangle)]
+pub extern "C" fn tk_cell_at(
+    alloc: Global,
+    handle: &mut Handle,
+    column: usize,
+    row: usize,
+    fields: &mut CellFields,
+    room: &mut [u8],
+    len: &mut usize,
+) -> i32
+    ensures read { Reports result (λ outcome.
+        Reads {B = CellPlace} (λ s. OrNoMemory (GivesCell (cell_in column row s)))
+        (kept_of handle.old) (fields.old, (room.old, len.old))
+        outcome (fields.new, (room.new, len.new))) }
+    ensures same { kept_of handle.new ≡ kept_of handle.old }
+{
+    let outcome = match handle.take(alloc) {
+        Some(kept) => {
+            let outcome = read_cell(kept.shown(), column, row, fields, room, len);
+            handle.put(alloc, kept);
+            outcome
+        }
+        None => Err(Failure::NoHandle),
+    };
+    status(outcome)
+}
+
+fn uri_of(cell: &Cell) -> &str
+    ensures { result.now ≡ uri_of cell.now.attrs.hyperlink }
+{
+    match cell.attrs().hyperlink() {
+        Some(link) => link.uri(),
+        None => "",
+    }
+}
+
+fn read_link(
+    surface: &Surface<ChosenWidths>,
+    column: usize,
+    row: usize,
+    room: &mut [u8],
+    len: &mut usize,
+) -> Result<(), Failure>
+    ensures { OrNoMemory (GivesLink (cell_in column row surface.now))
+        (room.old, len.old) result (room.new, len.new) }
+{
+    let blank = Cell::blank();
+    let cell = cell_at(surface, column, row, &blank)?;
+    give(uri_of(cell).as_bytes(), room, len)
+}
+
+/// The uri of that cell's link, or nothing.
+#[unsafe(no_mangle)]
+pub extern "C" fn tk_link_at(
+    alloc: Global,
+    handle: &mut Handle,
+    column: usize,
+    row: usize,
+    room: &mut [u8],
+    len: &mut usize,
+) -> i32
+    ensures read { Reports result (λ outcome.
+        Reads (λ s. OrNoMemory (GivesLink (cell_in column row s)))
+        (kept_of handle.old) (room.old, len.old) outcome (room.new, len.new)) }
+    ensures same { kept_of handle.new ≡ kept_of handle.old }
+{
+    let outcome = match handle.take(alloc) {
+        Some(kept) => {
+            let outcome = read_link(kept.shown(), column, row, room, len);
+            handle.put(alloc, kept);
+            outcome
+        }
+        None => Err(Failure::NoHandle),
+    };
+    status(outcome)
+}

@@ -1,0 +1,88 @@
+//! Changes of surfaces.
+ghost use Rattle.std.specs.Prelude.{map};
+ghost use Rattle.termwiz_cell.specs.ChangeValue.{change_value};
+ghost use Rattle.tikeburo_c.specs.Changes.{AddsBytes, AddsList, AddsOne, IsOnlyList};
+ghost use Rattle.tikeburo_c.specs.Outcomes.{Reports};
+ghost use Rattle.tikeburo_c.specs.Handles.{kept_of};
+ghost use Rattle.tikeburo_c.specs.Results.{OnSurface};
+
+use crate::failure::{Failure, status};
+use crate::handle::Handle;
+use crate::kept::Kept;
+use crate::widths::ChosenWidths;
+use std::alloc::Global;
+use termwiz_surface::{Change, Surface};
+use termwiz_wire::{Reader, decode_changes};
+
+/// Adds a change to the surface that the handle has.
+pub(crate) fn add(alloc: Global, handle: &mut Handle, change: Change) -> Result<(), Failure>
+    ensures { OnSurface (AddsOne (change_value change))
+        (kept_of handle.old) result (kept_of handle.new) }
+{
+    let Some(mut kept) = handle.take(alloc) else {
+        return Err(Failure::NoHandle);
+    };
+    let outcome = match &mut *kept {
+        Kept::Surface(surface) => add_to(surface, change),
+        Kept::Viewer(_) => Err(Failure::WrongKind),
+    };
+    handle.put(alloc, kept);
+    outcome
+}
+
+fn add_to(surface: &mut Surface<ChosenWidths>, change: Change) -> Result<(), Failure>
+    ensures { AddsOne (change_value change) surface.old result surface.new }
+{
+    surface.add_change(change)?;
+    Ok(())
+}
+
+// The list of changes that the bytes encode, with nothing behind it.
+fn only_changes(alloc: Global, bytes: &[u8]) -> Result<Vec<Change>, Failure>
+    ensures { IsOnlyList bytes.now result }
+{
+    let mut reader = Reader::new(bytes);
+    let changes = decode_changes(alloc, &mut reader)?;
+    if !reader.bytes.is_empty() {
+        return Err(Failure::Unreadable);
+    }
+    Ok(changes)
+}
+
+fn add_list(surface: &mut Surface<ChosenWidths>, changes: Vec<Change>) -> Result<(), Failure>
+    ensures { AddsList (map change_value changes.items) surface.old result surface.new }
+{
+    surface.add_changes(changes)?;
+    Ok(())
+}
+
+fn add_bytes(
+    alloc: Global,
+    surface: &mut Surface<ChosenWidths>,
+    bytes: &[u8],
+) -> Result<(), Failure>
+    ensures { AddsBytes bytes.now surface.old result surface.new }
+{
+    let changes = only_changes(alloc, bytes)?;
+    add_list(surface, changes)
+}
+
+/// Makes the list of changes that these bytes encode.
+#[unsafe(no_mangle)]
+pub extern "C" fn tk_add_changes(alloc: Global, handle: &mut Handle, bytes: &[u8]) -> i32
+    ensures { Reports result (λ outcome. OnSurface (AddsBytes bytes.now)
+        (kept_of handle.old) outcome (kept_of handle.new)) }
+{
+    let outcome = match handle.take(alloc) {
+        Some(mut kept) => {
+            let outcome = match &mut *kept {
+                Kept::Surface(surface) => add_bytes(alloc, surface, bytes),
+                Kept::Viewer(_) => Err(Failure::WrongKind),
+            };
+            handle.put(alloc, kept);
+            outcome
+        }
+        None => Err(Failure::NoHandle),
+    };
+    status(outcome)
+}

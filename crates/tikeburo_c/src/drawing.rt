@@ -1,0 +1,117 @@
+//! Surfaces drawn on others, and regions copied within one.
+ghost use Rattle.std.specs.Prelude.{◌≡◌};
+ghost use Rattle.tikeburo_c.specs.Drawing.{Copies, Draws, DrawsSource};
+ghost use Rattle.tikeburo_c.specs.Handles.{kept_of};
+ghost use Rattle.tikeburo_c.specs.Outcomes.{Reports};
+ghost use Rattle.tikeburo_c.specs.Results.{OnSurface};
+
+use crate::failure::{Failure, status};
+use crate::handle::Handle;
+use crate::kept::Kept;
+use crate::widths::ChosenWidths;
+use std::alloc::Global;
+use termwiz_surface::Surface;
+
+fn draw_on(
+    surface: &mut Surface<ChosenWidths>,
+    source: &Surface<ChosenWidths>,
+    column: usize,
+    row: usize,
+) -> Result<(), Failure>
+    ensures { Draws source.now column row surface.old result surface.new }
+{
+    surface.draw_from_screen(source, column, row)?;
+    Ok(())
+}
+
+fn draw(
+    alloc: Global,
+    handle: &mut Handle,
+    source: &Surface<ChosenWidths>,
+    column: usize,
+    row: usize,
+) -> Result<(), Failure>
+    ensures { OnSurface (Draws source.now column row)
+        (kept_of handle.old) result (kept_of handle.new) }
+{
+    let Some(mut kept) = handle.take(alloc) else {
+        return Err(Failure::NoHandle);
+    };
+    let outcome = match &mut *kept {
+        Kept::Surface(surface) => draw_on(surface, source, column, row),
+        Kept::Viewer(_) => Err(Failure::WrongKind),
+    };
+    handle.put(alloc, kept);
+    outcome
+}
+
+/// Draws what the source shows from this column and row on.
+#[unsafe(no_mangle)]
+pub extern "C" fn tk_draw(
+    alloc: Global,
+    handle: &mut Handle,
+    source: &mut Handle,
+    column: usize,
+    row: usize,
+) -> i32
+    ensures draws { Reports result (λ outcome. DrawsSource (kept_of source.old) column row
+        (kept_of handle.old) outcome (kept_of handle.new)) }
+    ensures source { kept_of source.new ≡ kept_of source.old }
+{
+    let outcome = match source.take(alloc) {
+        Some(kept) => {
+            let outcome = draw(alloc, handle, kept.shown(), column, row);
+            source.put(alloc, kept);
+            outcome
+        }
+        None => Err(Failure::NoHandle),
+    };
+    status(outcome)
+}
+
+fn copy_within(
+    surface: &mut Surface<ChosenWidths>,
+    column: usize,
+    row: usize,
+    width: usize,
+    height: usize,
+    to_column: usize,
+    to_row: usize,
+) -> Result<(), Failure>
+    ensures { Copies column row width height to_column to_row surface.old result surface.new }
+{
+    surface.copy_region(column, row, width, height, to_column, to_row)?;
+    Ok(())
+}
+
+/// Copies what a region shows to another column and row.
+#[unsafe(no_mangle)]
+pub extern "C" fn tk_copy(
+    alloc: Global,
+    handle: &mut Handle,
+    column: usize,
+    row: usize,
+    width: usize,
+    height: usize,
+    to_column: usize,
+    to_row: usize,
+) -> i32
+    ensures { Reports result (λ outcome.
+        OnSurface (Copies column row width height to_column to_row)
+        (kept_of handle.old) outcome (kept_of handle.new)) }
+{
+    let outcome = match handle.take(alloc) {
+        Some(mut kept) => {
+            let outcome = match &mut *kept {
+                Kept::Surface(surface) => {
+                    copy_within(surface, column, row, width, height, to_column, to_row)
+                }
+                Kept::Viewer(_) => Err(Failure::WrongKind),
+            };
+            handle.put(alloc, kept);
+            outcome
+        }
+        None => Err(Failure::NoHandle),
+    };
+    status(outcome)
+}

@@ -1,0 +1,95 @@
+//! Why calls fail, and the numbers that they return.
+ghost use Rattle.std.specs.Prelude.{◌≡◌};
+ghost use Rattle.tikeburo_c.specs.Outcomes.{accepting_failure, changing_failure, status_of};
+ghost use Rattle.tikeburo_c.specs.Outcomes.{decoding_failure};
+ghost use Rattle.tikeburo_c.specs.declared.failure.Failure.TheVariants.{Memory};
+
+use std::alloc::{AllocError, AllocFailed};
+use termwiz_surface::{AcceptError, SurfaceError};
+use termwiz_wire::WireError;
+
+/// Why a call failed.
+#[derive(Clone, Copy, Drop)]
+pub(crate) enum Failure {
+    Memory,
+    Unreadable,
+    Region,
+    Numbers,
+    Size,
+    Stale,
+    NoHandle,
+    WrongKind,
+    Range,
+    Short,
+}
+
+/// The number of an outcome, as the header names them.
+pub(crate) fn status(outcome: Result<(), Failure>) -> i32
+    ensures { result ≡ status_of outcome }
+{
+    match outcome {
+        Ok(()) => 0,
+        Err(Failure::Memory) => 1,
+        Err(Failure::Unreadable) => 2,
+        Err(Failure::Region) => 3,
+        Err(Failure::Numbers) => 4,
+        Err(Failure::Size) => 5,
+        Err(Failure::Stale) => 6,
+        Err(Failure::NoHandle) => 7,
+        Err(Failure::WrongKind) => 8,
+        Err(Failure::Range) => 9,
+        Err(Failure::Short) => 10,
+    }
+}
+
+impl From<AllocError> for Failure {
+    ghost from_gives = { λ _ failure. failure ≡ Memory };
+
+    fn from(_refused: AllocError) -> Failure {
+        Failure::Memory
+    }
+}
+
+impl From<SurfaceError> for Failure {
+    ghost from_gives = { λ error failure. failure ≡ changing_failure error };
+
+    fn from(error: SurfaceError) -> Failure {
+        match error {
+            SurfaceError::ScrollRegion => Failure::Region,
+            SurfaceError::Numbers => Failure::Numbers,
+            SurfaceError::Memory => Failure::Memory,
+        }
+    }
+}
+
+impl From<AcceptError> for Failure {
+    ghost from_gives = { λ error failure. failure ≡ accepting_failure error };
+
+    fn from(error: AcceptError) -> Failure {
+        match error {
+            AcceptError::Size => Failure::Size,
+            AcceptError::Stale => Failure::Stale,
+            AcceptError::Numbers => Failure::Numbers,
+            AcceptError::Memory => Failure::Memory,
+        }
+    }
+}
+
+impl From<WireError> for Failure {
+    ghost from_gives = { λ error failure. failure ≡ decoding_failure error };
+
+    fn from(error: WireError) -> Failure {
+        match error {
+            WireError::Memory => Failure::Memory,
+            _ => Failure::Unreadable,
+        }
+    }
+}
+
+impl<T: Drop> From<AllocFailed<T>> for Failure {
+    ghost from_gives = { λ _ failure. failure ≡ Memory };
+
+    fn from(_refused: AllocFailed<T>) -> Failure {
+        Failure::Memory
+    }
+}

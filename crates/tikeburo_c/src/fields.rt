@@ -1,0 +1,189 @@
+//! Colours, attributes and cells, as the structs that C has of them.
+ghost use Rattle.std.specs.Prelude.{◌≡◌, ◌⊎◌, IfErr, IfOk, None, Some};
+ghost use Rattle.termwiz_cell.specs.Attributes.{Attributes};
+ghost use Rattle.tikeburo_c.specs.Fields.{HasFields, HasStyles};
+ghost use Rattle.tikeburo_c.specs.declared.failure.Failure.TheVariants.{Memory, Range};
+ghost use Rattle.tikeburo_c.specs.Fields as specs_of;
+
+use crate::failure::Failure;
+use crate::numbers::{
+    align_in, align_number, blink_in, blink_number, intensity_in, intensity_number, semantic_in,
+    semantic_number, underline_in, underline_number,
+};
+use std::alloc::Global;
+use termwiz_surface::{Cell, CellAttributes, ColorAttribute, RgbColor};
+
+/// A colour. What its kind doesn't name is 0 where a call writes it, and isn't read.
+#[repr(C)]
+#[derive(Clone, Copy)]
+pub struct ColorFields {
+    pub kind: u8,
+    pub red: u8,
+    pub green: u8,
+    pub blue: u8,
+    pub index: u8,
+}
+
+/// Attributes, but the link.
+#[repr(C)]
+#[derive(Clone, Copy)]
+pub struct AttributeFields {
+    pub intensity: u8,
+    pub underline: u8,
+    pub blink: u8,
+    pub semantic_type: u8,
+    pub vertical_align: u8,
+    pub italic: bool,
+    pub reverse: bool,
+    pub strikethrough: bool,
+    pub invisible: bool,
+    pub wrapped: bool,
+    pub overline: bool,
+    pub foreground: ColorFields,
+    pub background: ColorFields,
+    pub underline_color: ColorFields,
+}
+
+/// A cell, but its text and its link.
+#[repr(C)]
+#[derive(Clone, Copy)]
+pub struct CellFields {
+    pub columns: u8,
+    pub has_link: bool,
+    pub attributes: AttributeFields,
+}
+
+fn true_color_fields(kind: u8, color: RgbColor, index: u8) -> ColorFields
+    ensures { result ≡ record {
+      kind = kind;
+      red = color.red;
+      green = color.green;
+      blue = color.blue;
+      index = index;
+    } }
+{
+    let (red, green, blue) = color.to_tuple_rgb8();
+    ColorFields {
+        kind,
+        red,
+        green,
+        blue,
+        index,
+    }
+}
+
+fn color_fields(color: ColorAttribute) -> ColorFields
+    ensures { result ≡ specs_of.color_fields color }
+{
+    match color {
+        ColorAttribute::Default => true_color_fields(0, RgbColor::new_8bpc(0, 0, 0), 0),
+        ColorAttribute::PaletteIndex(index) => {
+            true_color_fields(1, RgbColor::new_8bpc(0, 0, 0), index)
+        }
+        ColorAttribute::TrueColorWithDefaultFallback(color) => true_color_fields(2, color, 0),
+        ColorAttribute::TrueColorWithPaletteFallback(color, index) => {
+            true_color_fields(3, color, index)
+        }
+    }
+}
+
+/// The colour of this struct, if its kind is one.
+pub(crate) fn color_in(fields: &ColorFields) -> Option<ColorAttribute>
+    ensures { result ≡ specs_of.color_in fields.now }
+{
+    let color = RgbColor::new_8bpc(fields.red, fields.green, fields.blue);
+    match fields.kind {
+        0 => Some(ColorAttribute::Default),
+        1 => Some(ColorAttribute::PaletteIndex(fields.index)),
+        2 => Some(ColorAttribute::TrueColorWithDefaultFallback(color)),
+        3 => Some(ColorAttribute::TrueColorWithPaletteFallback(color, fields.index)),
+        _ => None,
+    }
+}
+
+fn attribute_fields(attrs: &CellAttributes) -> AttributeFields
+    ensures { result ≡ specs_of.attribute_fields attrs.now }
+{
+    AttributeFields {
+        intensity: intensity_number(attrs.intensity()),
+        underline: underline_number(attrs.underline()),
+        blink: blink_number(attrs.blink()),
+        semantic_type: semantic_number(attrs.semantic_type()),
+        vertical_align: align_number(attrs.vertical_align()),
+        italic: attrs.italic(),
+        reverse: attrs.reverse(),
+        strikethrough: attrs.strikethrough(),
+        invisible: attrs.invisible(),
+        wrapped: attrs.wrapped(),
+        overline: attrs.overline(),
+        foreground: color_fields(attrs.foreground()),
+        background: color_fields(attrs.background()),
+        underline_color: color_fields(attrs.underline_color()),
+    }
+}
+
+/// The fields of a cell.
+pub(crate) fn cell_fields(cell: &Cell) -> CellFields
+    ensures { result ≡ specs_of.cell_fields cell.now }
+{
+    CellFields {
+        columns: cell.width() as u8,
+        has_link: cell.attrs().hyperlink().is_some(),
+        attributes: attribute_fields(cell.attrs()),
+    }
+}
+
+fn in_range<T: Drop>(value: Option<T>) -> Result<T, Failure>
+    ensures found { IfOk result (λ x. value ≡ Some x) }
+    ensures missing { IfErr result (λ failure. (failure ≡ Range) × (value ≡ None)) }
+{
+    match value {
+        Some(value) => Ok(value),
+        None => Err(Failure::Range),
+    }
+}
+
+// The attributes of this struct that are no colours.
+fn styled(fields: &AttributeFields) -> Result<CellAttributes, Failure>
+    ensures found { IfOk result (HasStyles fields.now) }
+    ensures missing { IfErr result (λ failure. (failure ≡ Range)
+        × ((a : Attributes) → HasFields fields.now a → ⊥)) }
+{
+    let intensity = in_range(intensity_in(fields.intensity))?;
+    let underline = in_range(underline_in(fields.underline))?;
+    let blink = in_range(blink_in(fields.blink))?;
+    let semantic_type = in_range(semantic_in(fields.semantic_type))?;
+    let vertical_align = in_range(align_in(fields.vertical_align))?;
+    let mut attrs = CellAttributes::blank();
+    attrs.set_intensity(intensity);
+    attrs.set_underline(underline);
+    attrs.set_blink(blink);
+    attrs.set_semantic_type(semantic_type);
+    attrs.set_vertical_align(vertical_align);
+    attrs.set_italic(fields.italic);
+    attrs.set_reverse(fields.reverse);
+    attrs.set_strikethrough(fields.strikethrough);
+    attrs.set_invisible(fields.invisible);
+    attrs.set_wrapped(fields.wrapped);
+    attrs.set_overline(fields.overline);
+    Ok(attrs)
+}
+
+/// The attributes of this struct, if each of them is in its range.
+pub(crate) fn attributes_in(
+    alloc: Global,
+    fields: &AttributeFields,
+) -> Result<CellAttributes, Failure>
+    ensures found { IfOk result (HasFields fields.now) }
+    ensures missing { IfErr result (λ failure. (failure ≡ Memory)
+        ⊎ ((failure ≡ Range) × ((a : Attributes) → HasFields fields.now a → ⊥))) }
+{
+    let mut attrs = styled(fields)?;
+    let foreground = in_range(color_in(&fields.foreground))?;
+    let background = in_range(color_in(&fields.background))?;
+    let underline_color = in_range(color_in(&fields.underline_color))?;
+    attrs.change_foreground(alloc, foreground)?;
+    attrs.change_background(alloc, background)?;
+    attrs.change_underline_color(alloc, underline_color)?;
+    Ok(attrs)
+}

@@ -1,0 +1,167 @@
+//! What a surface shows, or a viewer's.
+ghost use Rattle.std.specs.Prelude.{◌≡◌, ℕ};
+ghost use Rattle.termwiz_screen.specs.Log.{next_number};
+ghost use Rattle.tikeburo_c.specs.Handles.{kept_of};
+ghost use Rattle.tikeburo_c.specs.Outcomes.{Reports};
+ghost use Rattle.tikeburo_c.specs.Reading.{ReadsValue, is_visible, text_of};
+ghost use Rattle.tikeburo_c.specs.Results.{Gives, OrNoMemory, Reads};
+
+use crate::buffers::give;
+use crate::failure::{Failure, status};
+use crate::handle::Handle;
+use crate::widths::ChosenWidths;
+use std::alloc::Global;
+use termwiz_surface::{CursorVisibility, Surface};
+
+/// The width in columns and the height in rows.
+#[unsafe(no_mangle)]
+pub extern "C" fn tk_size(
+    alloc: Global,
+    handle: &mut Handle,
+    width: &mut usize,
+    height: &mut usize,
+) -> i32
+    ensures read { ReadsValue {B = ℕ × ℕ} (λ s. (s.width, s.height))
+        handle.old (width.old, height.old) result (width.new, height.new) }
+    ensures same { kept_of handle.new ≡ kept_of handle.old }
+{
+    let outcome = match handle.take(alloc) {
+        Some(kept) => {
+            (*width, *height) = kept.shown().dimensions();
+            handle.put(alloc, kept);
+            Ok(())
+        }
+        None => Err(Failure::NoHandle),
+    };
+    status(outcome)
+}
+
+/// The cursor's column and row. The column is the width where a wrap is pending.
+#[unsafe(no_mangle)]
+pub extern "C" fn tk_cursor(
+    alloc: Global,
+    handle: &mut Handle,
+    column: &mut usize,
+    row: &mut usize,
+) -> i32
+    ensures read { ReadsValue {B = ℕ × ℕ} (λ s. (s.x, s.y))
+        handle.old (column.old, row.old) result (column.new, row.new) }
+    ensures same { kept_of handle.new ≡ kept_of handle.old }
+{
+    let outcome = match handle.take(alloc) {
+        Some(kept) => {
+            (*column, *row) = kept.shown().cursor_position();
+            handle.put(alloc, kept);
+            Ok(())
+        }
+        None => Err(Failure::NoHandle),
+    };
+    status(outcome)
+}
+
+/// Whether the cursor is shown.
+#[unsafe(no_mangle)]
+pub extern "C" fn tk_cursor_is_visible(
+    alloc: Global,
+    handle: &mut Handle,
+    visible: &mut bool,
+) -> i32
+    ensures read { ReadsValue (λ s. is_visible s.visibility)
+        handle.old visible.old result visible.new }
+    ensures same { kept_of handle.new ≡ kept_of handle.old }
+{
+    let outcome = match handle.take(alloc) {
+        Some(kept) => {
+            *visible = is_visible(kept.shown().cursor_visibility());
+            handle.put(alloc, kept);
+            Ok(())
+        }
+        None => Err(Failure::NoHandle),
+    };
+    status(outcome)
+}
+
+fn is_visible(visibility: CursorVisibility) -> bool
+    ensures { result ≡ is_visible visibility }
+{
+    match visibility {
+        CursorVisibility::Hidden => false,
+        CursorVisibility::Visible => true,
+    }
+}
+
+/// The number of the coming change.
+#[unsafe(no_mangle)]
+pub extern "C" fn tk_number(alloc: Global, handle: &mut Handle, number: &mut usize) -> i32
+    ensures read { ReadsValue (λ s. next_number s.log) handle.old number.old result number.new }
+    ensures same { kept_of handle.new ≡ kept_of handle.old }
+{
+    let outcome = match handle.take(alloc) {
+        Some(kept) => {
+            *number = kept.shown().current_seqno();
+            handle.put(alloc, kept);
+            Ok(())
+        }
+        None => Err(Failure::NoHandle),
+    };
+    status(outcome)
+}
+
+/// The title, which is empty at first.
+#[unsafe(no_mangle)]
+pub extern "C" fn tk_title(
+    alloc: Global,
+    handle: &mut Handle,
+    room: &mut [u8],
+    len: &mut usize,
+) -> i32
+    ensures read { Reports result (λ outcome. Reads (λ s. Gives s.title)
+        (kept_of handle.old) (room.old, len.old) outcome (room.new, len.new)) }
+    ensures same { kept_of handle.new ≡ kept_of handle.old }
+{
+    let outcome = match handle.take(alloc) {
+        Some(kept) => {
+            let outcome = give(kept.shown().title().as_bytes(), room, len);
+            handle.put(alloc, kept);
+            outcome
+        }
+        None => Err(Failure::NoHandle),
+    };
+    status(outcome)
+}
+
+fn give_text(
+    surface: &Surface<ChosenWidths>,
+    room: &mut [u8],
+    len: &mut usize,
+) -> Result<(), Failure>
+    ensures { OrNoMemory (Gives (text_of surface.now))
+        (room.old, len.old) result (room.new, len.new) }
+{
+    let text = surface.screen_chars_to_string()?;
+    give(text.as_bytes(), room, len)
+}
+
+/// The texts of all rows' visible cells within their stored lengths, with a line feed behind each
+/// row.
+#[unsafe(no_mangle)]
+pub extern "C" fn tk_screen_text(
+    alloc: Global,
+    handle: &mut Handle,
+    room: &mut [u8],
+    len: &mut usize,
+) -> i32
+    ensures read { Reports result (λ outcome. Reads (λ s. OrNoMemory (Gives (text_of s)))
+        (kept_of handle.old) (room.old, len.old) outcome (room.new, len.new)) }
+    ensures same { kept_of handle.new ≡ kept_of handle.old }
+{
+    let outcome = match handle.take(alloc) {
+        Some(kept) => {
+            let outcome = give_text(kept.shown(), room, len);
+            handle.put(alloc, kept);
+            outcome
+        }
+        None => Err(Failure::NoHandle),
+    };
+    status(outcome)
+}

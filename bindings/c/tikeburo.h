@@ -7,14 +7,16 @@
  *
  * What a caller keeps, and nothing checks:
  *
- * - A handle is all zero before its first call, and is freed once by tk_free, which leaves it all
- *   zero in meaning: it may be used again. It is never copied, and never written by the caller.
+ * - A handle is all zero before its first call. It is never copied, and never written by the
+ *   caller afterwards. tk_free frees what it has, and may be called again; the handle may then be
+ *   used for another value.
  * - One call at a time has a handle. A handle stays on its thread.
  * - Where a call takes two handles, they are two.
  * - A pointer is never NULL, also where the length behind it is 0. A length is not above what lies
  *   at the pointer, buffers don't overlap, and nothing that a call reads is written meanwhile.
  * - A bool is 0 or 1.
- * - malloc, realloc and free are those of one allocator, and no call comes from a signal handler.
+ * - malloc, realloc and free are those of one allocator, which aligns blocks as C's own does. No
+ *   call comes from a signal handler, or from the forked child of a process with threads.
  *
  * The library keeps no pointer of the caller's behind a call. No call aborts.
  *
@@ -269,7 +271,8 @@ tk_status tk_copy(tk_handle *surface, size_t column, size_t row, size_t width, s
 tk_status tk_answer(tk_handle *handle, size_t number, uint8_t *bytes, size_t room, size_t *len);
 
 /* Makes the one answer that these bytes encode, with nothing behind it: the viewer shows what the
- * surface showed when it gave that answer, and has its number. TK_WRONG_KIND: the handle has a
+ * surface showed when it gave that answer, and has its number. So whoever sends answers behind one
+ * another sends their lengths too. TK_WRONG_KIND: the handle has a
  * surface. TK_UNREADABLE. TK_SIZE, TK_STALE: nothing has changed. TK_NUMBERS: the viewer shows what
  * it showed, and has no number. TK_MEMORY: either there was none for the answer itself, and nothing
  * has changed, or the viewer may show anything, and has no number. */

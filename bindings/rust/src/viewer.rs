@@ -97,7 +97,8 @@ impl Viewer {
         Ok(Viewer { shown })
     }
 
-    /// Makes an answer: the viewer shows what the surface showed then.
+    /// Makes an answer: the viewer shows what the surface showed then. The bytes are those of one
+    /// answer, so that whoever sends several sends their lengths too.
     ///
     /// [`Error::Unreadable`], [`Error::Size`] and [`Error::Stale`]: nothing has changed.
     /// [`Error::Numbers`] and [`Error::Memory`]: it may show anything, and gets a repaint when it

@@ -51,7 +51,7 @@ pub use Rattle.termwiz_cell.specs.LinkText.{AreInOrder, IsReadable, link_text, p
 pub use Rattle.termwiz_cell.specs.Measure.{measure}
 pub use Rattle.termwiz_cell.specs.Sequence.{AddsAll, AddsOne, DistancesFit, IsSequence, MovesTo, RowFits, SequenceValue, aim, cell_place, grapheme_place, move_by, place_after, position_place, printed_columns, text_place}
 pub use Rattle.termwiz_cell.specs.Shapes.{is_blinking_shape, line_attribute_eq, shape_eq}
-pub use Rattle.termwiz_cell.specs.Style.{blink_at, blink_eq, blink_number, flag_number, intensity_at, intensity_eq, intensity_number, semantic_at, semantic_number, underline_at, underline_eq, underline_number, vertical_at, vertical_number}
+pub use Rattle.termwiz_cell.specs.Style.{blink_at, blink_eq, blink_number, flag_number, intensity_at, intensity_eq, intensity_number, is_blinking, is_underlined, semantic_at, semantic_number, underline_at, underline_eq, underline_number, vertical_at, vertical_number}
 pub use Rattle.termwiz_cell.specs.StyleLending.{LendsStyle}
 pub use Rattle.termwiz_cell.specs.StyleWord.{IsPalette, bits_at, palette_at, palette_number, style_at, style_sgr_only}
 pub use Rattle.termwiz_cell.specs.Width.{asked_by, at_version, columns_of, unicode_columns, variation, version_index}
@@ -60,3 +60,4 @@ pub use Rattle.termwiz_text.specs.Plain.{is_one_plain, is_plain}
 pub use Rattle.unicode_segmentation.specs.Grapheme.{graphemes}
 pub use Rattle.termwiz_cell.specs.Lending.{LendsAttrs}
 pub use Rattle.termwiz_cell.specs.Rgb.{rgb}
+pub use Rattle.termwiz_cell.specs.AttributesLayout.{palette_part, rare_part, shown}

@@ -5,9 +5,10 @@ ghost use Rattle.termwiz_screen.specs.{IsPaddable, IsWrittenUpto, OnOk, attribut
 ghost use Rattle.termwiz_screen.specs.{blank, cells_of, change_value, clears, color_eq, cursor_at};
 ghost use Rattle.termwiz_screen.specs.{default_attributes, false, has_only_background, is_text};
 ghost use Rattle.termwiz_screen.specs.{last_is, length, not, option_copied, penned_value, row_of};
-ghost use Rattle.termwiz_screen.specs.{Screen, true, visible_upto};
+ghost use Rattle.termwiz_screen.specs.{true, visible_upto};
 ghost use Rattle.termwiz_cell.specs.ChangeValue as change;
 ghost use Rattle.termwiz_line.specs.Entries as line;
+ghost use Rattle.termwiz_screen.specs.Screen.{Screen};
 ghost use Rattle.termwiz_screen.specs.Repaint as spec;
 
 pub mod full;

@@ -28,11 +28,10 @@ fn give_line(line: &Line, room: &mut [u8], len: &mut usize) -> Result<(), Failur
 fn line_at(surface: &Surface<ChosenWidths>, row: usize) -> Result<&Line, Failure>
     ensures found { IfOk result (λ line.
         slice_get surface.now.lines row ≡ Some line.now.cells) }
-    ensures missing { IfErr result (λ failure. (failure ≡ Memory)
-        ⊎ ((failure ≡ Range) × (slice_get surface.now.lines row ≡ None))) }
+    ensures missing { IfErr result (λ failure.
+        (failure ≡ Range) × (slice_get surface.now.lines row ≡ None)) }
 {
-    let lines = surface.screen_lines()?;
-    match lines.get(row) {
+    match surface.screen_line(row) {
         Some(line) => Ok(line),
         None => Err(Failure::Range),
     }
@@ -97,11 +96,10 @@ fn cell_at<'a>(
 ) -> Result<&'a Cell, Failure>
     requires { blank.now ≡ cell_value.blank }
     ensures found { IfOk result (λ cell. cell_in column row surface.now ≡ Some cell.now) }
-    ensures missing { IfErr result (λ failure. (failure ≡ Memory)
-        ⊎ ((failure ≡ Range) × (cell_in column row surface.now ≡ None))) }
+    ensures missing { IfErr result (λ failure.
+        (failure ≡ Range) × (cell_in column row surface.now ≡ None)) }
 {
-    let rows = surface.screen_cells()?;
-    let Some(cells) = rows.get(row) else {
+    let Some(cells) = surface.row_cells(row) else {
         return Err(Failure::Range);
     };
     let (width, _) = surface.dimensions();
@@ -122,7 +120,7 @@ fn read_cell(
     room: &mut [u8],
     len: &mut usize,
 ) -> Result<(), Failure>
-    ensures { OrNoMemory (GivesCell (cell_in column row surface.now))
+    ensures { GivesCell (cell_in column row surface.now)
         (fields.old, (room.old, len.old)) result (fields.new, (room.new, len.new)) }
 {
     let blank = Cell::blank();
@@ -142,7 +140,7 @@ pub extern "C" fn tk_cell_at(
     len: &mut usize,
 ) -> i32
     ensures read { Reports result (λ outcome.
-        Reads {B = CellPlace} (λ s. OrNoMemory (GivesCell (cell_in column row s)))
+        Reads {B = CellPlace} (λ s. GivesCell (cell_in column row s))
         (kept_of handle.old) (fields.old, (room.old, len.old))
         outcome (fields.new, (room.new, len.new))) }
     ensures same { kept_of handle.new ≡ kept_of handle.old }
@@ -174,7 +172,7 @@ fn read_link(
     room: &mut [u8],
     len: &mut usize,
 ) -> Result<(), Failure>
-    ensures { OrNoMemory (GivesLink (cell_in column row surface.now))
+    ensures { GivesLink (cell_in column row surface.now)
         (room.old, len.old) result (room.new, len.new) }
 {
     let blank = Cell::blank();
@@ -193,7 +191,7 @@ pub extern "C" fn tk_link_at(
     len: &mut usize,
 ) -> i32
     ensures read { Reports result (λ outcome.
-        Reads (λ s. OrNoMemory (GivesLink (cell_in column row s)))
+        Reads (λ s. GivesLink (cell_in column row s))
         (kept_of handle.old) (room.old, len.old) outcome (room.new, len.new)) }
     ensures same { kept_of handle.new ≡ kept_of handle.old }
 {

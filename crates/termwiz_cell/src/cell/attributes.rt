@@ -4,8 +4,7 @@ ghost use Rattle.termwiz_cell.specs.{IfOk, IsOk, OnOk, attribute_change_value, a
 ghost use Rattle.termwiz_cell.specs.{attributes_eq-Decides, bits_of, decided, default_attributes};
 ghost use Rattle.termwiz_cell.specs.{false, has_only_background, linked, needs_box, sgr_only};
 ghost use Rattle.termwiz_cell.specs.{partial_equiv_from_equiv, takes_memory, with_attribute};
-ghost use Rattle.termwiz_cell.specs.{without_colors};
-ghost use Rattle.termwiz_cell.specs.AttributesLayout as spec;
+ghost use Rattle.termwiz_cell.specs.{palette_part, rare_part, shown, without_colors};
 
 use super::attribute_change::AttributeChange;
 use super::form::{Form, RareColor, clone_link, is_default_color};
@@ -511,7 +510,7 @@ impl CellAttributes {
 
 /// The rare colour, or else the palette's.
 fn shown(rare: ColorAttribute, index: Option<u8>) -> ColorAttribute
-    ensures { result ≡ spec.shown rare index }
+    ensures { result ≡ shown rare index }
 {
     match rare {
         ColorAttribute::Default => match index {
@@ -524,7 +523,7 @@ fn shown(rare: ColorAttribute, index: Option<u8>) -> ColorAttribute
 
 /// The part of a colour that the box has.
 fn rare_part(color: ColorAttribute) -> ColorAttribute
-    ensures { result ≡ spec.rare_part color }
+    ensures { result ≡ rare_part color }
 {
     match color {
         ColorAttribute::PaletteIndex(_) => ColorAttribute::Default,
@@ -534,7 +533,7 @@ fn rare_part(color: ColorAttribute) -> ColorAttribute
 
 /// The part of a colour that the word has.
 fn palette_part(color: &ColorAttribute) -> Option<u8>
-    ensures { result ≡ spec.palette_part color.now }
+    ensures { result ≡ palette_part color.now }
 {
     match color {
         ColorAttribute::PaletteIndex(index) => Some(*index),

@@ -2,8 +2,7 @@
 ghost use Rattle.std.specs.Prelude.{◌≡◌, ◌<◌};
 ghost use Rattle.termwiz_cell.specs.{blink_at, blink_number, intensity_at, intensity_number};
 ghost use Rattle.termwiz_cell.specs.{semantic_at, semantic_number, underline_at, underline_number};
-ghost use Rattle.termwiz_cell.specs.{vertical_at, vertical_number};
-ghost use Rattle.termwiz_cell.specs.Style.{is_blinking, is_underlined};
+ghost use Rattle.termwiz_cell.specs.{is_blinking, is_underlined, vertical_at, vertical_number};
 
 /// How strong a text is drawn: as others are, bold, or dim.
 #[derive(Clone, Copy, PartialEq, Eq, Debug, Default)]

@@ -1,9 +1,10 @@
 //! Full repaints: what they have before the rows, and behind them.
 ghost use Rattle.std.specs.Prelude.{◌≡◌, ◌++◌, IfOk, List, OnOk, length, map};
 ghost use Rattle.termwiz_screen.specs.{ChangeValue, behind, blank, change_value, line_attribute};
-ghost use Rattle.termwiz_screen.specs.{Screen, default_attributes, penned_value, row_flags, shape_of};
+ghost use Rattle.termwiz_screen.specs.{default_attributes, penned_value, row_flags, shape_of};
 ghost use Rattle.termwiz_line.specs.Entries as line;
 ghost use Rattle.termwiz_screen.specs.Repaint as spec;
+ghost use Rattle.termwiz_screen.specs.Screen.{Screen};
 
 use super::{cleared, placed, push_next_line};
 use crate::full::{attribute_of, shape_or_default};

@@ -2,8 +2,7 @@
 ghost use Rattle.std.specs.Prelude.{◌≡◌, IfOk, OnOk, map};
 ghost use Rattle.termwiz_surface.specs.{Acts, Allows, Follows, IfSome, IsInRange, IsNone};
 ghost use Rattle.termwiz_surface.specs.{KeepsNames, KeepsViewers, Reports, Views, change_value};
-ghost use Rattle.termwiz_surface.specs.{cow_slice_items, measure, with_empty_log};
-ghost use Rattle.termwiz_surface_core.specs.SurfaceValue.{SurfaceValue};
+ghost use Rattle.termwiz_surface.specs.{SurfaceValue, cow_slice_items, measure, with_empty_log};
 
 use super::{Event, Outcome, Viewer};
 use crate::surface::{Surface, SurfaceError};

@@ -5,8 +5,7 @@ ghost use Rattle.termwiz_surface.specs.{Adds, HasCaughtUp, HasFullSize, blank_vi
 ghost use Rattle.termwiz_surface.specs.{FollowsTo, HasDropped, KeepsNames, StaysNamed, next_number};
 ghost use Rattle.termwiz_surface.specs.{Accepts, Declines, Fetches, forgetful, stream_of, with_log};
 ghost use Rattle.termwiz_surface.specs.{Fits, Follows, MayTake, Resizes, flushed, full_of, measure};
-ghost use Rattle.termwiz_surface.specs.{Makes, Takes, length, nat_lt, screens, true};
-ghost use Rattle.termwiz_surface_core.specs.SurfaceValue.{SurfaceValue};
+ghost use Rattle.termwiz_surface.specs.{Makes, SurfaceValue, Takes, length, nat_lt, screens, true};
 
 use crate::surface::{Answer, Surface, SurfaceError};
 use std::alloc::{AllocError, Global};

@@ -38,7 +38,7 @@ fn marked(rt: &impl Abort, alloc: Global, text: &str) -> String {
     marked
 }
 
-// The same of the first graphemes, one by one.
+// The text with a bar behind each grapheme, split off as the first of what is left.
 fn marked_by_firsts(rt: &impl Abort, alloc: Global, text: &str) -> String {
     let mut marked = String::new(alloc);
     for piece in Graphemes::new(text) {

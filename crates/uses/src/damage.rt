@@ -1,5 +1,5 @@
-//! Whether two surfaces show the same, and the damage between them: what has to be painted anew on a
-//! canvas that is painted cell by cell.
+//! Whether two surfaces show the same, and the damage between them: what has to be painted anew on
+//! a canvas that is painted cell by cell.
 ghost use Rattle.std.specs.Prelude.{◌≡◌, ◌↔◌, [], IfOk, IsTrue, map};
 ghost use Rattle.uses.specs.{MeasureAlike, change_value, measure, print_all, printed, screen_of};
 

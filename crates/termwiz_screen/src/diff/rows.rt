@@ -1,10 +1,10 @@
 //! The cells that a diff prints, row by row.
-ghost use Rattle.std.specs.Prelude.{◌≡◌, ◌+◌, ◌-◌, ◌<◌, ◌≤◌, ◌^◌, ◌∷◌, if◌then◌else◌, [], length, map};
+ghost use Rattle.std.specs.Prelude.{◌≡◌, ◌+◌, ◌-◌, ◌<◌, ◌≤◌, ◌^◌, ◌∷◌, if◌then◌else◌, [], map};
 ghost use Rattle.termwiz_screen.specs.{AreHalved, AreVectors, CellValue, cells_left, region_value};
 ghost use Rattle.termwiz_screen.specs.{EndsBlank, HasHalves, IfOk, at_column, deque_len, is_hidden};
 ghost use Rattle.termwiz_screen.specs.{IsOfCell, cell_eq, cells_of, print_out, ref_cell, row_need};
 ghost use Rattle.termwiz_screen.specs.{List, blank, false, in_row, nat_lt, row_of, stored, visible};
-ghost use Rattle.termwiz_screen.specs.{OnOk, band, fold, hides, min, need, shows, true, ℕ};
+ghost use Rattle.termwiz_screen.specs.{OnOk, band, fold, hides, length, min, need, shows, true, ℕ};
 
 use super::region::Region;
 use super::runs::count_same;

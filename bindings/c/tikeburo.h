@@ -172,7 +172,8 @@ tk_status tk_row_text(tk_handle *handle, size_t row, char *text, size_t room, si
 tk_status tk_cell_at(tk_handle *handle, size_t column, size_t row, tk_cell *cell, char *text,
                      size_t room, size_t *len);
 
-/* The uri of that cell's link, which is empty where the cell has none. TK_RANGE. TK_SHORT. */
+/* The uri of the link that the cell at a column of a row has, which is empty where it has none.
+ * TK_RANGE: the row or the column. TK_SHORT. */
 tk_status tk_link_at(tk_handle *handle, size_t column, size_t row, char *uri, size_t room,
                      size_t *len);
 

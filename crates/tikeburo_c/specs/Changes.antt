@@ -39,16 +39,21 @@ abbrev pub IsOnlyList : List ℕ → Result (Vec Change Global) Failure → Type
 IsOnlyList bytes (Ok x) = (bytes ≡ changes (map change_value x.items)) × ((cs : List ChangeValue) → AreChanges cs → bytes ≡ changes cs → map change_value x.items ≡ cs)
 IsOnlyList bytes (Err failure) = (failure ≡ Memory) ⊎ ((failure ≡ Unreadable) × ((cs : List ChangeValue) → AreChanges cs → bytes ≡ changes cs → ⊥))
 
--- the one list of changes that the bytes encode is added, unless memory for it was refused; other bytes change nothing
+-- some list of changes that the bytes encode is added
+abbrev pub AddsEncoded : List ℕ → SurfaceValue ChosenWidths → Outcome → SurfaceValue ChosenWidths → Type 0
+AddsEncoded bytes old outcome new = (cs : List ChangeValue) × (bytes ≡ changes cs) × AddsList cs old outcome new
+
+-- the one list of changes that the bytes encode is added, unless memory for it was refused
 pub record AddsBytes (bytes : List ℕ) (old : SurfaceValue ChosenWidths) (outcome : Outcome) (new : SurfaceValue ChosenWidths) : Type 0 where
   pub adds : (cs : List ChangeValue) → AreChanges cs → bytes ≡ changes cs → OrNoMemory (AddsList cs) old outcome new
-  pub unreadable : ((cs : List ChangeValue) → bytes ≡ changes cs → ⊥) → Refused Unreadable old outcome new ⊎ Refused Memory old outcome new
+  -- whatever the bytes are, nothing has changed, or they encode a list that is added
+  pub others : Refused Unreadable old outcome new ⊎ OrNoMemory (AddsEncoded bytes) old outcome new
 
 -- the call adds this change to the surface of the handle
 abbrev pub Makes : ChangeValue → Handle → ℤ → Handle → Type 0
 Makes change old number new = Reports number (λ outcome. OnSurface (AddsOne change) (kept_of old) outcome (kept_of new))
 
--- or finds no memory for the change itself
+-- the call adds this change to the surface of the handle, unless memory for the change itself was refused
 abbrev pub MakesCopy : ChangeValue → Handle → ℤ → Handle → Type 0
 MakesCopy change old number new = Reports number (λ outcome. OrNoMemory (OnSurface (AddsOne change)) (kept_of old) outcome (kept_of new))
 

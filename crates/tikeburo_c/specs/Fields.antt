@@ -62,7 +62,7 @@ pub record HasStyles (f : AttributeFields) (a : Attributes) : Type 0 where
   pub overline : a.overline ≡ f.overline
   pub hyperlink : a.hyperlink ≡ None
 
--- and whose colours are
+-- attributes with no link that are those of the struct, colours and all
 pub record HasFields (f : AttributeFields) (a : Attributes) : Type 0 where
   pub styles : HasStyles f a
   pub foreground : color_in f.foreground ≡ Some a.foreground

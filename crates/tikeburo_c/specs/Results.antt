@@ -25,7 +25,7 @@ OnSurface P (Some (Surface old)) outcome _ = ⊥
 OnSurface P (Some (Viewer v)) outcome new = Refused WrongKind (Some (Viewer v)) outcome new
 OnSurface P None outcome new = Refused NoHandle None outcome new
 
--- and this to the viewer
+-- the call did this to the viewer that the handle has
 abbrev pub OnViewer : (ViewerValue ChosenWidths → Outcome → ViewerValue ChosenWidths → Type 0) → Option Kept → Outcome → Option Kept → Type 0
 OnViewer P (Some (Viewer old)) outcome (Some (Viewer new)) = P old outcome new
 OnViewer P (Some (Viewer old)) outcome _ = ⊥

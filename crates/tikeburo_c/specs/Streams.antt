@@ -56,10 +56,15 @@ abbrev pub IsOnlyAnswer : List ℕ → Result AnswerValue Failure → Type 0
 IsOnlyAnswer bytes (Ok x) = IsOnly bytes x
 IsOnlyAnswer bytes (Err failure) = (failure ≡ Memory) ⊎ ((failure ≡ Unreadable) × ((a : AnswerValue) → IsAnswer a → bytes ≡ answer a → ⊥))
 
--- the one answer that the bytes encode is accepted, unless memory for it was refused; other bytes change nothing
+-- some answer that the bytes encode is accepted
+abbrev pub AcceptsEncoded : List ℕ → ViewerValue ChosenWidths → Outcome → ViewerValue ChosenWidths → Type 0
+AcceptsEncoded bytes old outcome new = (a : AnswerValue) × (bytes ≡ answer a) × Accepts a old outcome new
+
+-- the one answer that the bytes encode is accepted, unless memory for it was refused
 pub record AcceptsBytes (bytes : List ℕ) (old : ViewerValue ChosenWidths) (outcome : Outcome) (new : ViewerValue ChosenWidths) : Type 0 where
   pub accepts : (a : AnswerValue) → IsAnswer a → bytes ≡ answer a → OrNoMemory (Accepts a) old outcome new
-  pub unreadable : ((a : AnswerValue) → bytes ≡ answer a → ⊥) → Refused Unreadable old outcome new ⊎ Refused Memory old outcome new
+  -- whatever the bytes are, nothing has changed, or they encode an answer that is accepted
+  pub others : Refused Unreadable old outcome new ⊎ OrNoMemory (AcceptsEncoded bytes) old outcome new
 
 -- the viewer's number is returned
 abbrev pub ReadsLast : Option Kept → ℕ → Outcome → ℕ → Type 0

@@ -180,7 +180,7 @@ fn read_link(
     give(uri_of(cell).as_bytes(), room, len)
 }
 
-/// The uri of that cell's link, or nothing.
+/// The uri of the link that the cell at a column of a row has, or nothing.
 #[unsafe(no_mangle)]
 pub extern "C" fn tk_link_at(
     alloc: Global,

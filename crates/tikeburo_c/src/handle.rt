@@ -1,4 +1,4 @@
-//! A handle on a value, as C holds it.
+//! A handle on a value, as C holds it: all zero is a handle on none.
 ghost use Rattle.std.specs.Prelude.{◌≡◌, Bool, true, false};
 ghost use Rattle.std.specs.declared.option.Option.{Option};
 ghost use Rattle.std.specs.declared.option.Option.TheVariants.{None, Some};
@@ -9,7 +9,8 @@ use crate::kept::Kept;
 use crate::loose::Loose;
 use std::alloc::Global;
 
-/// A handle on a value, or on none.
+/// A handle on a value, or on none. The flag stands beside the owner and not in it, so that it is
+/// read and tested as any field is.
 #[repr(C)]
 pub struct Handle {
     loose: Loose,
@@ -18,8 +19,8 @@ pub struct Handle {
 }
 
 impl Handle {
-    /// The value, which the handle has no more.
-    pub fn take(&mut self, alloc: Global) -> Option<Box<Kept>>
+    /// The value, which the handle has no longer.
+    pub(crate) fn take(&mut self, alloc: Global) -> Option<Box<Kept>>
         ensures taken { in_box result ≡ self.old.loose.value }
         ensures left { self.new.loose.value ≡ None }
     {
@@ -34,8 +35,8 @@ impl Handle {
         Some(loose.into_box())
     }
 
-    /// The handle has this value from now on.
-    pub fn put(&mut self, alloc: Global, kept: Box<Kept>)
+    /// The handle has this value from now on, and what it had is freed.
+    pub(crate) fn put(&mut self, alloc: Global, kept: Box<Kept>)
         ensures put { self.new.loose.value ≡ Some kept.value }
     {
         drop(self.take(alloc));

@@ -1,4 +1,5 @@
-//! A value behind a pointer, or none.
+//! A value behind a pointer, or none: the one place where a box becomes a pointer and a pointer a
+//! box again. No function has a branch, so that the proofs, which are written by hand, stay short.
 ghost use Rattle.std.specs.Prelude.{◌≡◌, true};
 ghost use Rattle.tikeburo_c.specs.Held.{is_some};
 ghost use Rattle.std.specs.declared.option.Option.{Option};
@@ -9,7 +10,7 @@ use crate::kept::Kept;
 use std::alloc::Global;
 use std::marker::Model;
 
-/// A value behind a pointer, or none.
+/// A value behind a pointer, which the struct owns, or none.
 #[repr(C)]
 pub(crate) struct Loose {
     at: *mut u8,
@@ -24,7 +25,7 @@ impl Model for Loose {
 }
 
 impl Loose {
-    /// The value as a pointer.
+    /// The value of the box, behind a pointer.
     pub(crate) fn of(kept: Box<Kept>) -> Loose
         ensures { result.value ≡ Some kept.value }
     {
@@ -41,12 +42,13 @@ impl Loose {
         Loose { at, alloc }
     }
 
-    /// The value.
+    /// The box of the value. There has to be one.
     pub(crate) fn into_box(self) -> Box<Kept>
         requires { is_some self.value ≡ true }
         ensures { Some result.value ≡ self.value }
     {
         let Loose { at, alloc } = self;
+        // The pointer came from a box, and the struct owns what is behind it.
         unsafe { Box::from_raw(alloc, at as *mut Kept) }
     }
 

@@ -1,4 +1,4 @@
--- `empty` has no table.
+-- `empty` has no value.
 use Rattle.std.proofs.Common.{◌≡◌, List, [], ◌∷◌, ◌++◌, refl, sym, subst}
 use lib.Dec.{T, lit<}
 use mir.Syntax.{w64, impl, tcons, tnil, dnil, Dict}

@@ -1,7 +1,7 @@
 #!/usr/bin/env python3
 """Measures what docs/speed.csv has of `crates/bench/out/bench`, and writes it there.
 
-    docs/measure.py [WORKLOAD..]     all workloads, or these; JOBS=2 runs two at a time
+    tools/measure.py [WORKLOAD..]     all workloads, or these; JOBS=2 runs two at a time
 
 It builds nothing: `cd crates/bench && rt run -- plain 10` does. Each workload runs under callgrind
 at the two counts of its row, and the difference over their distance is what one operation takes. A

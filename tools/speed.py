@@ -2,8 +2,8 @@
 """Writes what is made of docs/speed.csv: the tables of docs/SPEED.md, the picture docs/speed.svg,
 and the counts of README.md.
 
-    docs/speed.py           writes them
-    docs/speed.py --check   fails where one differs from the data
+    tools/speed.py           writes them
+    tools/speed.py --check   fails where one differs from the data
 """
 import csv
 import math
@@ -183,7 +183,7 @@ def main():
         if sys.argv[1:] != ["--check"]:
             path.write_text(text)
         elif not path.exists() or path.read_text() != text:
-            sys.exit(f"{path.relative_to(TOP)} differs from docs/speed.csv: run docs/speed.py")
+            sys.exit(f"{path.relative_to(TOP)} differs from docs/speed.csv: run tools/speed.py")
 
 
 main()

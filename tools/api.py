@@ -2,8 +2,8 @@
 """Writes docs/API.md from the sources: every public call that `termwiz_surface` and `termwiz_wire`
 name.
 
-    docs/api.py           writes the page
-    docs/api.py --check   fails where the page differs from the sources
+    tools/api.py           writes the page
+    tools/api.py --check   fails where the page differs from the sources
 
 A call is listed with its signature, the first sentence of its documentation, what it requires and
 the names of the clauses that it ensures. What is hidden from documentation is left out.
@@ -21,7 +21,7 @@ ITEM = re.compile(r"pub (fn|struct|enum|trait|type|const|static) (\w+)")
 IMPL = re.compile(r"impl(?:<.*?>)? (?:(.+?) for )?(\w+)")
 INTRODUCTION = """# Calls
 
-Every public call that `termwiz_surface` and `termwiz_wire` name, by module, with what it requires and the names of the clauses that it ensures. The page is made from the sources by `docs/api.py`; the clauses stand in the file that is named behind each module or type. Calls whose documentation is hidden are for the crates above and left out, as are the operations of traits.
+Every public call that `termwiz_surface` and `termwiz_wire` name, by module, with what it requires and the names of the clauses that it ensures. The page is made from the sources by `tools/api.py`; the clauses stand in the file that is named behind each module or type. Calls whose documentation is hidden are for the crates above and left out, as are the operations of traits.
 """
 
 
@@ -269,7 +269,7 @@ def main():
     page = re.sub(r"\n{3,}", "\n\n", page)
     if sys.argv[1:] == ["--check"]:
         if PAGE.read_text() != page:
-            sys.exit("docs/API.md differs from the sources: run docs/api.py")
+            sys.exit("docs/API.md differs from the sources: run tools/api.py")
     else:
         PAGE.write_text(page)
         print(f"{counts[0]} calls")

@@ -1,8 +1,8 @@
 #!/usr/bin/env python3
 """Writes docs/READING.md: the definitions that one has to read to believe the main theorems.
 
-    docs/reading.py           writes the page
-    docs/reading.py --check   fails where the page differs from the sources
+    tools/reading.py           writes the page
+    tools/reading.py --check   fails where the page differs from the sources
 
 It begins with the clauses of the calls that carry the theorems, and follows each name to its
 definition by the imports of the files, through all definitions of `specs/`.
@@ -22,7 +22,7 @@ ROOTS = [
 WORD = re.compile(r"[^\s(){}\[\],;→λ×⊎=|]+")
 INTRODUCTION = """# What to read to believe the headline
 
-The contracts of `Surface::get_changes`, `Viewer::follow`, `view::run` and `Surface::diff_screens` are only as good as the definitions that they cite. These are all of them, file by file, below the clauses themselves; the checker has to be believed for the rest. Names of the toolchain's own library are left out, and so are the code's types. The page is made from the imports of `specs/` by `docs/reading.py`.
+The contracts of `Surface::get_changes`, `Viewer::follow`, `view::run` and `Surface::diff_screens` are only as good as the definitions that they cite. These are all of them, file by file, below the clauses themselves; the checker has to be believed for the rest. Names of the toolchain's own library are left out, and so are the code's types. The page is made from the imports of `specs/` by `tools/reading.py`.
 """
 
 
@@ -186,7 +186,7 @@ def main():
     page = INTRODUCTION + f"\n{len(seen)} definitions, {total} lines.\n" + "\n".join(out) + "\n"
     if sys.argv[1:] == ["--check"]:
         if PAGE.read_text() != page:
-            sys.exit("docs/READING.md differs from the sources: run docs/reading.py")
+            sys.exit("docs/READING.md differs from the sources: run tools/reading.py")
     else:
         PAGE.write_text(page)
         print(f"{len(seen)} definitions, {total} lines")

@@ -1,278 +1,238 @@
 #!/usr/bin/env python3
-"""Writes docs/API.md from the sources: every public call that `termwiz_surface` and `termwiz_wire`
+"""Writes docs/API.md from the sources: every public item that `termwiz_surface` and `termwiz_wire`
 name.
 
     tools/api.py           writes the page
     tools/api.py --check   fails where the page differs from the sources
 
-A call is listed with its signature, the first sentence of its documentation, what it requires and
-the names of the clauses that it ensures. What is hidden from documentation is left out.
+A type stands with its variants or public fields, a call with its signature, what it requires, its
+whole documentation and, folded, all that it ensures. Each is a link to its line. The definitions
+that clauses cite are listed at the end. What is hidden from documentation is left out.
 """
+import argparse
 import re
-import sys
 from pathlib import Path
 
-TOP = Path(__file__).resolve().parent.parent
+from sources import TOP, cited, crate, dedent, find, indent_of, resolve, write
+
 PAGE = TOP / "docs" / "API.md"
 ROOT = "termwiz_surface"
 WIRE = "termwiz_wire"
 ORDER = "surface view line cellcluster cell change color hyperlink emoji laws".split()
-ITEM = re.compile(r"pub (fn|struct|enum|trait|type|const|static) (\w+)")
-IMPL = re.compile(r"impl(?:<.*?>)? (?:(.+?) for )?(\w+)")
+KINDS = ("struct", "enum", "trait")
 INTRODUCTION = """# Calls
 
-Every public call that `termwiz_surface` and `termwiz_wire` name, by module, with what it requires and the names of the clauses that it ensures. The page is made from the sources by `tools/api.py`; the clauses stand in the file that is named behind each module or type. Calls whose documentation is hidden are for the crates above and left out, as are the operations of traits.
+All that `termwiz_surface` and `termwiz_wire` name, by module: {calls} calls and {types} types. A type stands with its variants or its public fields. A call stands with its signature, what its caller must keep (`requires`), its documentation and, folded, what it promises (`ensures`). Each name is a link to its line. `tools/api.py` makes the page from the sources; what is hidden from documentation, for the crates above, is left out.
+
+How to read a clause:
+
+| Written | Means |
+|---|---|
+| `self.now`, `other.now` | the value that a reference points to |
+| `self.old`, `self.new` | that value before the call, and after it |
+| `result` | what the call returns |
+| `IfOk result (λ x. p)`, `IfErr` | where the result is `Ok(x)`, the fact `p` |
+| `OnOk result p`, `OnErr` | where the result is `Ok`, the fact `p` |
+| `p → q`, `p × q`, `p ⊎ q`, `¬ p` | if p then q; both; one of them; not p |
+| `p ↔ q` | p exactly where q |
+| `(n : ℕ) → p` | p for each number n |
+| `a ≡ b`, `≤`, `xs.items`, `length xs` | a equals b; numbers never wrap; the list in a `Vec`; its length |
+
+Words that a clause cites are listed under [Definitions](#definitions), with what each says. Memory is asked for where a call returns `AllocError`, or an error that has `Memory`: it never aborts. `clone` of a type that holds memory returns a `Result` too.
 """
 
 
-class Item:
-    """A public item of a module, or a method of a type."""
-
-    def __init__(self, kind, name, file, doc, signature, clauses):
-        self.kind, self.name, self.file, self.doc = kind, name, file, doc
-        self.signature, self.clauses = signature, clauses
+def slug(heading):
+    """The anchor that a heading gets."""
+    return re.sub(r"[^\w\- ]", "", heading.lower()).replace(" ", "-")
 
 
-class Module:
-    """A module: its items by name, its submodules, and what it re-exports."""
-
-    def __init__(self, file):
-        self.file, self.items, self.modules, self.uses = file, {}, {}, {}
-        self.hidden, self.doc = set(), ""
+def link(text, item):
+    return f"[{text}](../{item.place()})"
 
 
-def sentence(doc):
-    """The first sentence of a documentation comment."""
-    paragraph = " ".join(doc).split("  ")[0] if doc else ""
-    lines = []
-    for line in doc:
-        if not line:
-            break
-        lines.append(line)
-    paragraph = " ".join(lines)
-    match = re.match(r"(.+?[.:])(?= [A-Z`]|$)", paragraph)
-    return (match.group(1) if match else paragraph).rstrip(":")
+def code(lines):
+    return ["```rust", *lines, "```"]
 
 
-def clauses_of(lines, start):
-    """The clauses below a signature, as (word, name, text), up to the body's brace."""
-    clauses, k = [], start
-    while k < len(lines):
-        line = lines[k].strip()
-        match = re.match(r"(requires|ensures)(\*?) (\w+ )?\{(.*)", line)
-        if not match:
-            if line.startswith("//"):
-                k += 1
+def shown(lines):
+    """A definition's lines without what isn't public: hidden parts, private fields, attributes."""
+    out, part, private, struct = [], [], False, "struct" in lines[0]
+    for line in lines[1:-1]:
+        part.append(line)
+        if indent_of(line) != 4 or line.strip().startswith(("///", "//", "#[")):
+            continue
+        hidden = any("doc(hidden)" in one for one in part)
+        if struct and not line.strip().startswith("pub "):
+            private = True
+        elif not hidden:
+            out += [one for one in part if not one.strip().startswith(("// ", "#[default]"))]
+        part = []
+    out += part
+    if private:
+        out.append("    // private fields")
+    return [lines[0], *out, lines[-1]] if out else [lines[0], lines[-1]]
+
+
+class Page:
+    """The page's lines, with what it has counted and seen."""
+
+    def __init__(self):
+        self.lines, self.index, self.seen = [], [], set()
+        self.calls = self.types = 0
+        self.definitions = {}
+
+    def note(self, module, item):
+        """Notes the definitions that an item's clauses cite."""
+        for clause in item.clauses:
+            for word in cited(clause.text()):
+                found = resolve(module.names, module.files, word)
+                if found and not found.is_lemma:
+                    self.definitions[found.name, found.file.path] = found
+
+    def call(self, name, item):
+        """A call: its heading, signature, requirements and documentation, and its promises."""
+        self.calls += 1
+        by = indent_of(item.lines[0])
+        head = list(item.lines)
+        promises = []
+        for clause in item.clauses:
+            if clause.word == "requires":
+                head += clause.comment + clause.lines
+            else:
+                promises += clause.comment + clause.lines
+        out = ["", f"#### {link(f'`{name}`', item)}", "", *code(dedent(head, by))]
+        if item.doc:
+            out += ["", *item.doc]
+        if promises:
+            names = [c.name for c in item.clauses if c.word == "ensures" and c.name]
+            named = ": " + ", ".join(f"<code>{n}</code>" for n in names) if names else ""
+            out += ["", f"<details><summary>Ensures{named}</summary>", "",
+                    *code(dedent(promises, by + 4)), "", "</details>"]
+        return out
+
+    def type(self, name, item, methods, traits):
+        """A type: its definition, documentation and traits, and its calls."""
+        self.types += 1
+        out = ["", f"### {item.kind.title()} {link(f'`{name}`', item)}", ""]
+        if item.doc:
+            out += [*item.doc, ""]
+        out += code(shown(item.lines) if item.kind != "trait" and len(item.lines) > 1
+                    else item.lines)
+        traits = [trait.removeprefix("fmt::") for trait in traits]
+        if traits:
+            out += ["", "Traits: " + ", ".join(f"`{trait}`" for trait in traits) + "."]
+        for method in methods:
+            out += self.call(f"{name}::{method.name}", method)
+        return out
+
+    def module(self, name, at, path):
+        """Writes a module, and its public submodules."""
+        own = crate(name).modules[at]
+        items = [(name, at, item.name, item) for item in own.items.values() if item.public]
+        children = [(name, at + (child,), child)
+                    for child, public in own.modules.items() if public]
+        for alias, used in own.uses.items():
+            found = find(name, at, used)
+            if not found:
                 continue
-            break
-        text = match.group(4)
-        while "{" + text and ("{" + text).count("{") > ("{" + text).count("}"):
-            k += 1
-            text += " " + lines[k].strip()
-        clauses.append((match.group(1), (match.group(3) or "").strip(), text.rstrip("} ").strip()))
-        k += 1
-    return clauses
+            other, place, last = found
+            target = crate(other).modules[place]
+            if last in target.modules or place + (last,) in crate(other).modules:
+                children.append((other, place + (last,), alias))
+            elif last in target.items:
+                items.append((other, place, alias, target.items[last]))
+        if not path:
+            # The root names types of the modules below, where they are listed.
+            for other, place, alias in sorted(children, key=lambda child: place_of(child[2])):
+                self.module(other, place, (alias,))
+            children = []
+        title = "::".join(path) or ROOT
+        body, listed = [], []
+        for other, place, alias, item in sorted(items, key=lambda i: i[3].kind in KINDS):
+            if (other, place, item.name) in self.seen:
+                continue
+            self.seen.add((other, place, item.name))
+            lines = self.item(other, place, alias, item)
+            if alias != item.name:
+                lines = [re.sub(rf"\b{item.name}\b", alias, line) for line in lines]
+            body += lines
+            listed.append((alias, item))
+        if body:
+            heading = f"Module `{title}`"
+            doc = [""] + own.doc if own.doc and path else []
+            self.lines += ["", f"## {heading}", *doc, *body]
+            self.index.append((title, slug(heading), listed))
+        for other, place, alias in children:
+            self.module(other, place, path + (alias,))
 
-
-def read_items(path, module, methods):
-    """Reads the items of one file into its module, and the methods of types."""
-    lines = path.read_text().split("\n")
-    doc, hidden, owner = [], False, None
-    k = 0
-    while k < len(lines):
-        line = lines[k]
-        text = line.strip()
-        indent = len(line) - len(line.lstrip())
-        if text.startswith("//!"):
-            module.doc += text[3:] + " "
-        elif text.startswith("///"):
-            doc.append(text[3:].strip())
-            k += 1
-            continue
-        elif text.startswith("#["):
-            hidden = hidden or "doc(hidden)" in text
-            k += 1
-            continue
-        elif indent == 0 and text.startswith("impl"):
-            match = IMPL.match(text)
-            owner = match.group(2) if match and not match.group(1) else None
-        elif indent == 0 and text == "}":
-            owner = None
-        elif match := re.match(r"(pub )?mod (\w+);", text):
-            module.modules[match.group(2)] = bool(match.group(1)) and not hidden
-        elif text.startswith("pub use "):
-            use = text
-            while not use.endswith(";"):
-                k += 1
-                use += " " + lines[k].strip()
-            read_use(use[len("pub use "):-1], module, hidden)
-        elif match := ITEM.match(text):
-            signature, at = text, k
-            while not re.search(r"[{;]$|[^,(]$", signature) or signature.count("(") > signature.count(")"):
-                at += 1
-                signature += " " + lines[at].strip()
-            signature = re.sub(r"\( ", "(", re.sub(r",? \)", ")", signature.rstrip("{; ")))
-            item = Item(match.group(1), match.group(2), path, sentence(doc),
-                        signature[len("pub "):], clauses_of(lines, at + 1))
-            if not hidden:
-                if owner and indent:
-                    methods.setdefault(owner, []).append(item)
-                elif indent == 0:
-                    module.items[item.name] = item
-            if match.group(1) == "trait":
-                owner = item.name
-        elif owner and indent == 4 and re.match(r"fn \w+", text) and owner in module.items \
-                and module.items[owner].kind == "trait":
-            signature, at = text, k
-            while signature.count("(") > signature.count(")"):
-                at += 1
-                signature += " " + lines[at].strip()
-            methods.setdefault(owner, []).append(Item("fn", re.match(r"fn (\w+)", text).group(1), path,
-                                                      sentence(doc), signature.rstrip("{; "), clauses_of(lines, at + 1)))
-        if text:
-            doc, hidden = [], False
-        k += 1
-
-
-def read_use(use, module, hidden):
-    """Notes what a `pub use` passes on."""
-    match = re.match(r"(.*?)(?:::)?\{(.*)\}$", use)
-    names = [n.strip() for n in match.group(2).split(",") if n.strip()] if match else [use.rsplit("::", 1)[-1]]
-    base = match.group(1) if match else use.rsplit("::", 1)[0]
-    for name in names:
-        if hidden:
-            module.hidden.add(name)
-        else:
-            name, _, alias = name.partition(" as ")
-            module.uses[alias or name.rsplit("::", 1)[-1]] = f"{base}::{name}".split("::")
-
-
-def read_crate(name):
-    """Reads the modules of a crate, by their paths, and the methods of its types."""
-    source, modules, methods = TOP / "crates" / name / "src", {}, {}
-
-    def read(path, at):
-        module = modules[at] = Module(path)
-        read_items(path, module, methods)
-        for child in module.modules:
-            folder = path.parent if path.name == "lib.rt" else path.with_suffix("")
-            read(folder / f"{child}.rt", at + (child,))
-
-    read(source / "lib.rt", ())
-    return modules, methods
-
-
-CRATES = {}
-
-
-def crate(name):
-    if name not in CRATES:
-        CRATES[name] = read_crate(name)
-    return CRATES[name]
-
-
-def find(own, at, path):
-    """The crate, the module's path and the name of what a `use` names."""
-    if path[0] == "crate":
-        start, path = (own, ()), path[1:]
-    elif path[0] == "super":
-        start, path = (own, at[:-1]), path[1:]
-    elif path[0] in crate(own)[0][at].modules:
-        start = (own, at)
-    elif (TOP / "crates" / path[0]).is_dir():
-        start, path = (path[0], ()), path[1:]
-    else:
-        return None
-    name, place = start
-    for step in path[:-1]:
-        module = crate(name)[0][place]
-        if step in module.modules:
-            place += (step,)
-        elif step in module.uses:
-            found = find(name, place, module.uses[step])
-            name, place = found[0], found[1] + (found[2],)
-    module = crate(name)[0][place]
-    last = path[-1]
-    if last not in module.items and last not in module.modules and last in module.uses:
-        return find(name, place, module.uses[last])
-    return name, place, last
-
-
-def entry(item):
-    """A call's lines in the page."""
-    requires = [text for word, _, text in item.clauses if word == "requires"]
-    ensures = [name or "result" for word, name, _ in item.clauses if word == "ensures"]
-    lines = [f"- `{item.signature}`"]
-    if item.doc:
-        lines.append(f"  {item.doc}")
-    if requires:
-        lines.append("  Requires " + ", ".join(f"`{' '.join(text.split())}`" for text in requires) + ".")
-    if ensures:
-        lines.append("  Ensures " + ", ".join(f"`{name}`" for name in ensures) + ".")
-    return lines
-
-
-def page_of(name, at, shown, seen, out, counts):
-    """Writes a module's page, and those of its public submodules."""
-    modules, _ = crate(name)
-    module = modules[at]
-    items = [(name, at, item) for item in module.items.values()]
-    children = [(name, at + (child,), child) for child, public in module.modules.items() if public]
-    for alias, path in module.uses.items():
-        found = find(name, at, path)
-        if not found:
-            continue
-        other, place, last = found
-        target = crate(other)[0][place]
-        if last in target.modules or place + (last,) in crate(other)[0]:
-            children.append((other, place + (last,), alias))
-        elif last in target.items:
-            items.append((other, place, target.items[last]))
-    if not shown:
-        # The root names types of the modules below, where they are listed.
-        for own, place, alias in sorted(children, key=lambda child: ORDER.index(child[2])):
-            page_of(own, place, (alias,), seen, out, counts)
-        children = []
-    body = []
-    for own, place, item in sorted(items, key=lambda i: i[2].kind != "fn"):
-        key = (own, place, item.name)
-        if key in seen:
-            continue
-        seen.add(key)
+    def item(self, name, place, alias, item):
+        module = crate(name).modules[place]
         if item.kind == "fn":
-            counts[0] += 1
-            body += entry(item)
-        elif item.kind in ("struct", "enum", "trait"):
-            methods = crate(own)[1].get(item.name, [])
-            body += ["", f"### `{item.signature}`", "", item.doc] if item.doc else ["", f"### `{item.signature}`"]
-            if methods:
-                body.append("")
-            for method in methods:
-                counts[0] += 1
-                body += entry(method)
-    # What is passed on by another name has that name here.
-    for alias, path in module.uses.items():
-        body = [re.sub(rf"\b{path[-1]}\b", alias, line) for line in body]
-    if body:
-        source = module.file.relative_to(TOP)
-        out += ["", f"## `{'::'.join(shown) or ROOT}`", "", f"`{source}`", ""] + body
-    for own, place, alias in children:
-        page_of(own, place, shown + (alias,), seen, out, counts)
+            self.note(module, item)
+            return self.call(alias, item)
+        if item.kind not in KINDS:
+            return ["", f"#### {link(f'`{alias}`', item)}", "", *code(item.lines), "", *item.doc]
+        methods = [m for m in crate(name).methods.get(item.name, []) if m.public]
+        for method in methods:
+            self.note(module_of(name, method), method)
+        traits = item.traits + [t for t in crate(name).traits.get(item.name, [])
+                                if t not in ("Model", *item.traits)]
+        return self.type(alias, item, methods, traits)
+
+    def contents(self):
+        """The table of modules at the head."""
+        lines = ["", "| Module | Types | Calls of its own |", "|---|---|---|"]
+        for title, anchor, listed in self.index:
+            types = [f"[`{alias}`](#{slug(f'{item.kind} {alias}')})"
+                     for alias, item in listed if item.kind in KINDS]
+            calls = [f"[`{alias}`](#{slug(alias)})"
+                     for alias, item in listed if item.kind not in KINDS]
+            lines.append(f"| [`{title}`](#{anchor}) | {', '.join(types)} | {', '.join(calls)} |")
+        return lines
+
+    def words(self):
+        """The table of the definitions that clauses cite."""
+        lines = ["", "## Definitions", "",
+                 "What the clauses above cite, each a link to its lines in `specs/`. "
+                 "[READING.md](READING.md) says in which order to read those of the headline.", "",
+                 "| Word | What it says | Crate |", "|---|---|---|"]
+        for name, path in sorted(self.definitions, key=lambda key: (key[0].lower(), key)):
+            found = self.definitions[name, path]
+            says = (found.comment or equation(found)).replace("|", "\\|")
+            home = path.relative_to(TOP).parts[1]
+            lines.append(f"| [`{name}`](../{found.place()}) | {says} | `{home}` |")
+        return lines
+
+
+def equation(definition):
+    """A short definition itself, where it has no comment."""
+    last = definition.file.lines[definition.last - 1].strip()
+    return f"`{last}`" if definition.size() <= 2 and " = " in last and len(last) <= 120 else ""
+
+
+def place_of(module):
+    return ORDER.index(module) if module in ORDER else len(ORDER)
+
+
+def module_of(name, item):
+    """The module of a crate that has an item's file."""
+    return next(m for m in crate(name).modules.values() if m.path == item.path)
 
 
 def main():
-    out, counts = [], [0]
-    seen = set()
-    page_of(ROOT, (), (), seen, out, counts)
-    page_of(WIRE, (), (WIRE,), seen, out, counts)
-    page = INTRODUCTION + f"\n{counts[0]} calls.\n" + "\n".join(out) + "\n"
-    page = re.sub(r"\n{3,}", "\n\n", page)
-    if sys.argv[1:] == ["--check"]:
-        if PAGE.read_text() != page:
-            sys.exit("docs/API.md differs from the sources: run tools/api.py")
-    else:
-        PAGE.write_text(page)
-        print(f"{counts[0]} calls")
+    parser = argparse.ArgumentParser(description=__doc__,
+                                     formatter_class=argparse.RawDescriptionHelpFormatter)
+    parser.add_argument("--check", action="store_true", help="compare the page, and write nothing")
+    check = parser.parse_args().check
+    page = Page()
+    page.module(ROOT, (), ())
+    page.module(WIRE, (), (WIRE,))
+    head = INTRODUCTION.format(calls=page.calls, types=page.types)
+    text = "\n".join([head.rstrip("\n"), *page.contents(), *page.lines, *page.words(), ""])
+    write(PAGE, re.sub(r"\n{3,}", "\n\n", text), check, Path(__file__).name)
+    if not check:
+        print(f"{page.calls} calls, {page.types} types")
 
 
 main()

@@ -1,195 +1,200 @@
 #!/usr/bin/env python3
-"""Writes docs/READING.md: the definitions that one has to read to believe the main theorems.
+"""Writes the lists of docs/READING.md: the definitions that one reads to believe the headline.
 
-    tools/reading.py           writes the page
+    tools/reading.py           writes the lists, and leaves the words around them
     tools/reading.py --check   fails where the page differs from the sources
 
-It begins with the clauses of the calls that carry the theorems, and follows each name to its
-definition by the imports of the files, through all definitions of `specs/`.
+NOTIONS are the definitions that the page explains, and THEOREMS the clauses of the headline of
+docs/THEOREMS.md: a new theorem there gets a line here, and a block `<!-- NAME -->` to
+`<!-- end -->` in the page. From each the names are followed to their definitions, through all of
+`specs/`. Names of the toolchain's own library end the way, and so do the types of the code. A
+definition is listed once, where it is first read; a theorem names the lists that it reads whole.
 """
+import argparse
 import re
 import sys
 from pathlib import Path
 
-TOP = Path(__file__).resolve().parent.parent
+from sources import TOP, chain, cited, cites, crate, resolve, specs, write
+
 PAGE = TOP / "docs" / "READING.md"
-ROOTS = [
-    ("crates/termwiz_surface_core/src/surface/answers.rt", "get_changes"),
-    ("crates/termwiz_surface/src/view/viewer.rt", "follow"),
-    ("crates/termwiz_surface/src/view.rt", "run"),
-    ("crates/termwiz_surface_core/src/surface/diff.rt", "diff_screens"),
+NOTIONS = [
+    ("row", ["Row.row_of"]),
+    ("step", ["Step.step"]),
+    ("surface", ["SurfaceValue.screen_of"]),
+    ("equal cells", ["CellValue.cell_eq"]),
+    ("full step", ["FullScreen.full_step"]),
+    ("full surface", ["SurfaceValue.full_of"]),
+    ("due", ["Log.due", "Log.next_number"]),
+    ("known", ["Log.is_known", "Log.delta_limit"]),
+    ("pictures", ["Picture.screens", "Picture.full_screens", "Picture.played"]),
+    ("measure", ["Measure.measure"]),
+    ("leads", ["Following.LeadsTo", "Following.ViewerValue"]),
+    ("follows", ["Following.Follows"]),
+    ("need", ["Diff.need"]),
+    ("printed", ["Prints.printed", "Step.replay"]),
+    ("changes", ["ChangeValue.change_value"]),
+    ("repaint", ["Asking.knows", "Asking.own_repaint", "Asking.most_own_entries"]),
+    ("stream", ["Stream.IsStream", "Stream.IsFullStream"]),
+    ("answer", ["Answer.AnswerValue"]),
+    ("given", ["Carried.IsGivenBy"]),
+    ("carried", ["Answer.Carries", "Showing.ShowsNamed"]),
+    ("blank", ["SurfaceValue.blank_surface"]),
+    ("act", ["Schedule.Acts"]),
+    ("shown", ["ScreenValue.screen_value"]),
+    ("bytes", ["Answers.answer"]),
 ]
-WORD = re.compile(r"[^\s(){}\[\],;→λ×⊎=|]+")
-INTRODUCTION = """# What to read to believe the headline
-
-The contracts of `Surface::get_changes`, `Viewer::follow`, `view::run` and `Surface::diff_screens` are only as good as the definitions that they cite. These are all of them, file by file, below the clauses themselves; the checker has to be believed for the rest. Names of the toolchain's own library are left out, and so are the code's types. The page is made from the imports of `specs/` by `tools/reading.py`.
-"""
-
-
-def imports(text):
-    """The names that a file imports: each with the file and the name there, or with the file alone."""
-    names, files = {}, {}
-    for match in re.finditer(r"use Rattle\.([\w.]+?)(?:\.\{([^}]*)\}| as (\w+))?;?$", text, re.M):
-        path, items, alias = match.groups()
-        if items is None:
-            if alias:
-                files[alias] = path
-            continue
-        for item in items.split(","):
-            words = item.split()
-            if words:
-                names[words[-1]] = (path, words[0])
-    return names, files
+THEOREMS = [
+    ("a viewer has the screen", [("Viewer::follow", "caught_up fully_caught_up")]),
+    ("it goes on to follow", [("Viewer::new", "follows"), ("Viewer::follow", "follows"),
+                              ("Surface::add_changes", "followed")]),
+    ("a repaint gives the screen", [("Surface::get_changes", "repaint full")]),
+    ("a diff prints what is not shown", [("Surface::diff_screens", "rows prints")]),
+    ("a carried answer leads", [("Surface::answer", "given given_fully carries carries_fully"),
+                                ("Viewer::accept", "shows shows_fully names names_fully")]),
+    ("a run is allowed", [("view::run", ""), ("view::run_full", ""), ("many::run_many", "")]),
+    ("a client has the last screen", [("carried::receive_all", "")]),
+    ("a watcher shows what was sent", [("pipe::piped", "")]),
+]
 
 
-class Specs:
-    """A file of `specs/`: its definitions by name, each with its lines."""
-
-    def __init__(self, path):
-        self.path = path
-        text = path.read_text()
-        self.names, self.files = imports(text)
-        self.passed = {}
-        for match in re.finditer(r"^pub use Rattle\.([\w.]+)\.\{([^}]*)\}", text, re.M):
-            for item in match.group(2).split(","):
-                self.passed[item.strip()] = (match.group(1), item.strip())
-        self.definitions, self.lemmas = {}, set()
-        self.read(text.split("\n"))
-
-    def read(self, lines):
-        base, name, start, comment = 0, None, 0, None
-        for k, line in enumerate(lines):
-            if line.startswith(("use ", "pub use ", "pub mod ", "mod ")):
-                comment = None
-                continue
-            if not line.strip():
-                continue
-            indent = len(line) - len(line.lstrip())
-            if line.startswith("module "):
-                base, name = 2, None
-                continue
-            if indent == 0 and base and not line.startswith("--"):
-                base = 0
-            if indent == base and line.strip().startswith("--"):
-                comment = k if comment is None else comment
-                continue
-            header = re.match(r"\s*((?:abbrev |unfoldable |pub |mutual )*)((?:record |data )?)(\S+) ?(.*)", line)
-            if indent == base and (header.group(1) or header.group(2) or re.match(r"\s*\S+ :", line)):
-                if header.group(3) != name:
-                    name = header.group(3)
-                    self.definitions[name] = [comment if comment is not None else k, k]
-                    if not re.search("abbrev|unfoldable|record|data", header.group(1) + header.group(2)):
-                        self.lemmas.add(name)
-            if name:
-                self.definitions[name][1] = k
-            comment = None
-        self.lines = lines
-
-    def words(self, name):
-        first, last = self.definitions[name]
-        text = [line for line in self.lines[first:last + 1] if not line.strip().startswith("--")]
-        return WORD.findall("\n".join(text).replace(":", " "))
+def functions():
+    """Each function with a contract, by its type's or its file's name and its own."""
+    found = {}
+    for name in chain():
+        own = crate(name)
+        for owner, methods in own.methods.items():
+            for item in methods:
+                found.setdefault(f"{owner}::{item.name}", []).append((own, item))
+        for module in own.modules.values():
+            for item in module.items.values():
+                if item.kind == "fn":
+                    found.setdefault(f"{module.path.stem}::{item.name}", []).append((own, item))
+    return found
 
 
-SPECS = {}
+def definition(path):
+    """The definition of a name in a file, by `FILE.NAME`."""
+    stem, name = path.split(".")
+    files = [specs(f"{own}.specs.{stem}") for own in chain()]
+    found = [file.definitions[name] for file in files
+             if file and file.path.stem == stem and name in file.definitions]
+    if len({item.file.path for item in found}) != 1:
+        sys.exit(f"tools/reading.py: {path} names {len(found)} definitions")
+    return found[0]
 
 
-def specs(path):
-    """The file of `specs/` that an import names, which is a crate's list where it names no file, or none."""
-    words = path.split(".")
-    if len(words) < 2 or words[1] != "specs" or words[2:3] == ["declared"]:
-        return None
-    file = TOP / "crates" / words[0] / "specs" / ("/".join(words[2:] or ["Lib"]) + ".antt")
-    if not file.is_file():
-        return None
-    if file not in SPECS:
-        SPECS[file] = Specs(file)
-    return SPECS[file]
+def reached(starts):
+    """The definitions that these reach."""
+    todo, seen = list(starts), set()
+    while todo:
+        item = todo.pop()
+        if item not in seen and not item.is_lemma:
+            seen.add(item)
+            todo += cites(item)
+    return seen
 
 
-def resolve(names, files, word):
-    """The file and the name of a word, by a file's imports."""
-    if word in names:
-        path, name = names[word]
-        found = specs(path)
-        return found and (found, name)
-    if "." in word:
-        front, name = word.split(".", 1)
-        if front in files:
-            found = specs(files[front])
-            return found and (found, name)
-    return None
+def roots(calls, known):
+    """What the named clauses of calls cite, and the calls as they stand in the page."""
+    starts, shown = [], []
+    for call, names in calls:
+        if call not in known:
+            sys.exit(f"tools/reading.py: there is no call {call}")
+        own, item = known[call][0]
+        wanted = names.split()
+        clauses = [clause for clause in item.clauses if clause.word == "ensures"
+                   and (not wanted or clause.name in wanted)]
+        if not clauses or set(wanted) - {clause.name for clause in clauses}:
+            sys.exit(f"tools/reading.py: {call} lacks a clause of {names}")
+        module = next(m for m in own.modules.values() if m.path == item.path)
+        for clause in clauses:
+            for word in cited(clause.text()):
+                found = resolve(module.names, module.files, word)
+                starts += [found] if found else []
+        listed = f" ({', '.join(f'`{name}`' for name in wanted)})" if wanted else ""
+        shown.append(f"[`{call}`](../{item.place()}){listed}")
+    return starts, shown
 
 
-def roots():
-    """The definitions that the clauses of the calls cite, with the models of their types."""
-    for file, call in ROOTS:
-        text = (TOP / file).read_text()
-        names, files = imports(text)
-        body = re.search(rf"pub fn {call}\b.*?\n    \{{\n" if file.count("/") > 3 and "view.rt" not in file
-                         else rf"pub fn {call}\b.*?\n\{{\n", text, re.S).group(0)
-        models = re.findall(r"impl<[^\n]*Model for.*?\n}\n", text, re.S)
-        for model in models:
-            own, _ = imports(re.sub(r"^\s+ghost ", "", model, flags=re.M))
-            names.update(own)
-            body += model
-        for word in WORD.findall(re.sub(r"//.*", "", body).replace(":", " ")):
-            found = resolve(names, files, word)
-            if found:
-                yield found
+def order():
+    """The files of `specs/` by their crates, each behind those that it imports."""
+    files, todo = [], []
+    for name in chain():
+        todo += sorted((TOP / "crates" / name / "specs").rglob("*.antt"))
+
+    def visit(path):
+        own = path.relative_to(TOP / "crates")
+        folder = ".".join(own.parts[2:]).removesuffix(".antt")
+        file = specs(f"{own.parts[0]}.specs" + ("" if folder == "Lib" else f".{folder}"))
+        if file in files or file is None:
+            return
+        paths = [path for path, _ in file.names.values()] + list(file.files.values())
+        for other in map(specs, paths):
+            if other and other is not file and other.path.name != "Lib.antt":
+                visit(other.path)
+        files.append(file)
+
+    for path in todo:
+        visit(path)
+    return files
+
+
+def table(items, files):
+    """Definitions file by file, each a link to its lines, in the order in which to read them."""
+    lines = []
+    for file in files:
+        own = [item for item in file.definitions.values() if item in items]
+        if own:
+            links = ", ".join(f"[`{item.name}`](../{item.place()})" for item in own)
+            lines.append(f"- `{file.path.relative_to(TOP / 'crates').parts[0]}` "
+                         f"`{file.path.stem}`: {links}")
+    return lines
+
+
+def anchor(name):
+    return f"list-{name.replace(' ', '-')}"
+
+
+def amount(items):
+    return f"{len(items)} definitions, {sum(item.size() for item in items)} lines"
+
+
+def blocks():
+    """Each block of the page, by its name."""
+    files, known, listed, made = order(), functions(), {}, {}
+    for name, paths in NOTIONS:
+        whole = reached(map(definition, paths))
+        own = whole - set().union(*listed.values())
+        listed[name] = own
+        made[name] = [f'<a id="{anchor(name)}"></a>**{name}**: {amount(own)}.', "",
+                      *table(own, files)]
+    for name, calls in THEOREMS:
+        starts, shown = roots(calls, known)
+        whole = reached(starts)
+        read = [other for other, items in listed.items() if items and items <= whole]
+        own = whole - set().union(*(listed[other] for other in read))
+        listed[name] = own
+        links = ", ".join(f"[{other}](#{anchor(other)})" for other in read)
+        rest = "and these:" if own else "and no more."
+        made[name] = [f'<a id="{anchor(name)}"></a>{", ".join(shown)}: {amount(whole)}. '
+                      f"Read {links}, {rest}", *([""] if own else []), *table(own, files)]
+    return made
 
 
 def main():
-    todo, seen = list(roots()), set()
-    while todo:
-        file, name = todo.pop()
-        if name in file.passed and name not in file.definitions:
-            path, own = file.passed[name]
-            found = specs(path)
-            if found:
-                todo.append((found, own))
-            continue
-        if name not in file.definitions:
-            # A constructor: its type is what is read.
-            owners = [d for d in file.definitions if re.search(rf"(^|\s){re.escape(name)} :", "\n".join(
-                file.lines[file.definitions[d][0]:file.definitions[d][1] + 1]))]
-            if not owners:
-                continue
-            name = owners[0]
-        if (file, name) in seen or name in file.lemmas:
-            continue
-        seen.add((file, name))
-        for word in file.words(name):
-            for part in {word, word.split(".")[0]}:
-                if part in file.definitions and part != name:
-                    todo.append((file, part))
-                else:
-                    found = resolve(file.names, file.files, part)
-                    if found:
-                        todo.append(found)
-    chain = [line.split(":")[0].split()[0] for line in (TOP / "crates.txt").read_text().split("\n")
-             if line and not line.startswith("#")]
-    out, total = [], 0
-    for crate in chain:
-        files = sorted({file.path for file, _ in seen if file.path.relative_to(TOP).parts[1] == crate})
-        if not files:
-            continue
-        out += ["", f"## `{crate}`", "", "| File of `specs/` | Definitions, by their lines |", "|---|---|"]
-        for path in files:
-            own = SPECS[path]
-            rows = []
-            for name, (first, last) in own.definitions.items():
-                if (own, name) in seen:
-                    total += last - first + 1
-                    rows.append(f"`{name}` {first + 1}–{last + 1}")
-            out.append(f"| `{path.name}` | {', '.join(rows)} |")
-    page = INTRODUCTION + f"\n{len(seen)} definitions, {total} lines.\n" + "\n".join(out) + "\n"
-    if sys.argv[1:] == ["--check"]:
-        if PAGE.read_text() != page:
-            sys.exit("docs/READING.md differs from the sources: run tools/reading.py")
-    else:
-        PAGE.write_text(page)
-        print(f"{len(seen)} definitions, {total} lines")
+    parser = argparse.ArgumentParser(description=__doc__,
+                                     formatter_class=argparse.RawDescriptionHelpFormatter)
+    parser.add_argument("--check", action="store_true", help="compare the page, and write nothing")
+    check = parser.parse_args().check
+    text = PAGE.read_text()
+    for name, lines in blocks().items():
+        block = "\n".join([f"<!-- {name} -->", "", *lines, "", "<!-- end -->"])
+        text, count = re.subn(rf"<!-- {name} -->.*?<!-- end -->", lambda _: block, text,
+                              flags=re.S)
+        if count != 1:
+            sys.exit(f"docs/READING.md has {count} blocks for {name}")
+    write(PAGE, text, check, Path(__file__).name)
 
 
 main()

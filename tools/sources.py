@@ -272,6 +272,7 @@ class Definition:
 def cited(text, own=None):
     """The words of clauses or of a definition, without those that are bound there."""
     text = re.sub(r"(?m)--.*$|//.*$", "", text)
+    text = re.sub(r"(?m)^\s*(requires|ensures)\*?( \w+)? \{", "", text)
     bound = set()
     for match in re.finditer(r"λ ([^.]*)\. ", text):
         bound.update(match.group(1).split())

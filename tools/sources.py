@@ -19,7 +19,7 @@ WORD = re.compile(r"[^\s(){}\[\],;→λ×⊎=|]+")
 
 
 class Clause:
-    """A clause of a contract: `requires` or `ensures`, its name, its lines, and the comment above."""
+    """A clause: `requires` or `ensures`, its name, its lines, and the comment above it."""
 
     def __init__(self, word, name, comment):
         self.word, self.name, self.comment, self.lines = word, name, comment, []
@@ -50,7 +50,7 @@ class Module:
 
 
 def imports(text):
-    """What a file imports: each name with its file and its name there, and each file's short name."""
+    """What a file imports: each name with its file and its name there, and short names of files."""
     names, files = {}, {}
     for match in re.finditer(r"^\s*(?:pub |ghost )*use Rattle\.([\w.-]+?)"
                              r"(?:\.\{([^}]*)\}| as (\w+))?;?$", text, re.M):
@@ -363,7 +363,7 @@ def specs(path):
 
 
 def settle(file, name):
-    """The definition of a name in a file: that of its type, where it is a constructor or a field."""
+    """The definition of a name in a file: that of its type, where it is a part of one."""
     if name in file.definitions:
         return file.definitions[name]
     if name in file.passed:

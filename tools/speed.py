@@ -4,7 +4,12 @@ and the counts of README.md.
 
     tools/speed.py           writes them
     tools/speed.py --check   fails where one differs from the data
+
+A row is a workload: what it does, the unit of its figures, the counts between which it is measured,
+and the figures of this build, of the best peer and of termwiz, where they are known. A new workload
+is a new row. The picture shows those that stand beside a peer or termwiz, and those in bytes apart.
 """
+import argparse
 import csv
 import math
 import re
@@ -16,8 +21,10 @@ DATA = TOP / "docs" / "speed.csv"
 PAGE = TOP / "docs" / "SPEED.md"
 PICTURE = TOP / "docs" / "speed.svg"
 README = TOP / "README.md"
-COUNTS = re.compile(r"\d+ of \d+ figures are below the best peer's, and \d+ of \d+ below termwiz's")
-TICKS = (0.05, 0.1, 0.2, 0.5, 1, 2, 5, 10, 20)
+FIGURES = re.compile(r"\d+ of \d+ figures are below the best peer's, "
+                     r"and \d+ of \d+ below termwiz's")
+WORKLOADS = re.compile(r"below (the best peer|termwiz)'s in \d+ of \d+( workloads)?")
+OTHERS = (("peer", "the best peer"), ("termwiz", "termwiz"))
 
 
 def thousands(figure):
@@ -33,37 +40,38 @@ def written(number):
     return "" if number is None else f"{number:.2f}"
 
 
-def label(row):
-    return row["workload"] + {"heap": " (heap)", "bytes": " (bytes)"}.get(row["unit"], "")
-
-
 def peer(row):
-    """The best peer's figure, with what is known of its name."""
-    name = " ".join(filter(None, (row["peer name"], row["peer version"])))
-    return thousands(row["peer"]) + (f" ({name})" if name else "")
+    """The best peer's figure, with its name."""
+    return thousands(row["peer"]) + (f" ({row['peer name']})" if row["peer name"] else "")
+
+
+def table(head, rows):
+    """A table, whose columns but the first are numbers."""
+    return [f"|{'|'.join(cells)}|" for cells in (head, ["---", *["--:"] * (len(head) - 1)], *rows)]
 
 
 def compared(rows):
     """The table of the rows that stand beside a peer's or termwiz's."""
-    lines = ["| Workload | here | best peer | ratio | termwiz | ratio |",
-             "|---|--:|--:|--:|--:|--:|"]
-    for row in rows:
-        cells = (f"`{row['workload']}`: {row['what']}", thousands(row["here"]), peer(row),
-                 written(ratio(row, "peer")), thousands(row["termwiz"]),
-                 written(ratio(row, "termwiz")))
-        lines.append(f"| {' | '.join(cells)} |")
-    return lines
+    head = ["Workload", "here", "best peer", "ratio", "termwiz", "ratio"]
+    return table(head, [(f"`{row['workload']}`: {row['what']}", thousands(row["here"]), peer(row),
+                         written(ratio(row, "peer")), thousands(row["termwiz"]),
+                         written(ratio(row, "termwiz"))) for row in rows])
 
 
 def alone(rows):
     """The other workloads, and how those with a size grow."""
-    lines = ["| Workload | here | at four times the size |", "|---|--:|---|"]
+    cells = []
     for row in rows:
         known = row["peer"] or row["termwiz"]
-        cells = (f"`{row['workload']}`" + ("" if known else f": {row['what']}"),
-                 thousands(row["here"]), growth(row) if row["size"] else "")
-        lines.append(f"| {' | '.join(cells)} |")
-    return lines
+        cells.append((f"`{row['workload']}`" + ("" if known else f": {row['what']}"),
+                      thousands(row["here"]), growth(row) if row["size"] else ""))
+    return table(["Workload", "here", "at four times the size"], cells)
+
+
+def peers(rows):
+    """The peers that are best somewhere, with their versions."""
+    names = {row["peer name"]: row["peer version"] for row in rows if row["peer name"]}
+    return [", ".join(f"{name} {names[name]}" for name in sorted(names)) + "."]
 
 
 def growth(row):
@@ -92,95 +100,144 @@ def page(rows, text):
     """The page with each block between its marks made anew."""
     beside = [row for row in rows if row["peer"] or row["termwiz"]]
     others = [row for row in rows if row not in beside or row["size"]]
-    for name, lines in (("compared", compared(beside)), ("spent", spent(beside)),
-                        ("alone", alone(others))):
+    for name, lines in (("peers", peers(rows)), ("compared", compared(beside)),
+                        ("spent", spent(beside)), ("alone", alone(others))):
         block = "\n".join([f"<!-- {name}, by speed.py -->", "", *lines, "", "<!-- end -->"])
-        text = re.sub(rf"<!-- {name}, .*?<!-- end -->", lambda _: block, text, flags=re.S)
+        text, count = re.subn(rf"<!-- {name}, .*?<!-- end -->", lambda _: block, text, flags=re.S)
+        if count != 1:
+            sys.exit(f"docs/SPEED.md has {count} blocks for {name}")
     return text
 
 
+def below(rows, other):
+    """In how many rows this build's figure is below another's, and of how many."""
+    ratios = [ratio(row, other) for row in rows if row[other]]
+    return f"{sum(r < 1 for r in ratios)} of {len(ratios)}"
+
+
 def readme(rows, text):
-    """The README with its counts made anew."""
-    words = []
-    for other, whose in (("peer", "best peer's"), ("termwiz", "termwiz's")):
-        ratios = [ratio(row, other) for row in rows if row[other]]
-        words.append(f"{sum(r < 1 for r in ratios)} of {len(ratios)} below the {whose}")
-    first = words[0].replace(" below", " figures are below")
-    return COUNTS.sub(f"{first}, and {words[1].replace('the ', '')}", text)
+    """The README with its counts made anew: of all figures, or of workloads, which are counted in
+    instructions."""
+    figures = (f"{below(rows, 'peer')} figures are below the best peer's, "
+               f"and {below(rows, 'termwiz')} below termwiz's")
+    work = [row for row in rows if row["unit"] == "instructions"]
+    text = FIGURES.sub(figures, text)
+    return WORKLOADS.sub(lambda match: f"below {match.group(1)}'s in " + below(
+        work, "termwiz" if match.group(1) == "termwiz" else "peer") + (match.group(2) or ""), text)
 
 
 STYLE = """.ground { fill: #ffffff }
-text { font: 12px sans-serif; fill: #24292f }
-.faint, .small { fill: #57606a }
-.small { font-size: 10px }
+text { font: 13px sans-serif; fill: #24292f }
+.title { font-weight: bold }
+.faint { fill: #57606a }
+.value { font-size: 12px; paint-order: stroke; stroke: #ffffff; stroke-width: 3px }
 line { stroke: #d0d7de }
-.one { stroke: #24292f }
+.one { stroke: #24292f; stroke-width: 2 }
 .peer { fill: #0969da }
 .termwiz { fill: #bf8700 }
 @media (prefers-color-scheme: dark) {
   .ground { fill: #0d1117 }
   text { fill: #e6edf3 }
-  .faint, .small { fill: #9198a1 }
+  .faint { fill: #9198a1 }
+  .value { stroke: #0d1117 }
   line { stroke: #3d444d }
   .one { stroke: #e6edf3 }
   .peer { fill: #4493f8 }
   .termwiz { fill: #d29922 }
 }"""
-LEFT, WIDTH, TOP_EDGE, ROW = 150, 730, 56, 30
+WIDTH, LEFT, RIGHT, BAR = 420, 116, 44, 13
 
 
-def place(number):
-    """Where a ratio stands on the axis."""
-    low, high = math.log(TICKS[0]), math.log(TICKS[-1])
-    return LEFT + (math.log(number) - low) / (high - low) * (WIDTH - LEFT - 20)
+class Chart:
+    """Bars of ratios from 0 to the greatest, with a line where both are equal."""
 
+    def __init__(self, rows):
+        most = max(ratio(row, name) for row in rows for name, _ in OTHERS if row[name])
+        self.tick = 0.5 if most <= 3 else math.ceil(most / 6)
+        self.most = max(1, math.ceil(most / self.tick)) * self.tick
+        self.out, self.y = [], 0
 
-def bar(number, y, name):
-    """A bar from the line at 1, with its ratio at its end."""
-    at, one = place(min(max(number, TICKS[0]), TICKS[-1])), place(1)
-    side, anchor = (at - 4, "end") if at < one else (at + 4, "start")
-    return [f'<rect class="{name}" x="{min(at, one):.1f}" y="{y}" width="{abs(at - one):.1f}" '
-            f'height="10"/>',
-            f'<text class="small" x="{side:.1f}" y="{y + 9}" text-anchor="{anchor}">'
-            f'{number:.2f}</text>']
+    def place(self, number):
+        return LEFT + number / self.most * (WIDTH - LEFT - RIGHT)
+
+    def text(self, x, words, name="", anchor="start"):
+        self.out.append(f'<text class="{name}" x="{x:.1f}" y="{self.y}" text-anchor="{anchor}">'
+                        f"{words}</text>")
+
+    def head(self, words):
+        """A title, and what the bars are."""
+        self.y += 20
+        self.text(8, words, "title")
+        self.y += 20
+        x = 8
+        for name, whose in OTHERS:
+            self.out.append(f'<rect class="{name}" x="{x}" y="{self.y - 10}" width="10" '
+                            f'height="10"/>')
+            self.text(x + 15, f"{whose}'s", "faint")
+            x += 130
+
+    def group(self, rows):
+        """A bar for each known ratio of each row, over an axis."""
+        self.y += 22
+        first, ticks = self.y + 6, math.floor(self.most / self.tick + 0.5)
+        heights = [BAR * sum(bool(row[name]) for name, _ in OTHERS) + 9 for row in rows]
+        last = first + sum(heights)
+        for tick in (k * self.tick for k in range(ticks + 1)):
+            x = f"{self.place(tick):.1f}"
+            self.text(self.place(tick), f"{tick:g}", "faint", "middle")
+            self.out.append(f'<line class="{"one" if tick == 1 else "tick"}" x1="{x}" '
+                            f'y1="{first}" x2="{x}" y2="{last}"/>')
+        self.y = first
+        for row, height in zip(rows, heights):
+            self.bars(row, height)
+
+    def bars(self, row, height):
+        top = self.y + 5
+        self.y += height // 2 + 5
+        self.text(LEFT - 8, row["workload"], anchor="end")
+        self.y += height - height // 2 - 5
+        for name, _ in OTHERS:
+            if row[name]:
+                number = ratio(row, name)
+                end = self.place(number)
+                self.out.append(f'<rect class="{name}" x="{LEFT}" y="{top}" '
+                                f'width="{end - LEFT:.1f}" height="{BAR - 1}"/>')
+                self.out.append(f'<text class="faint value" x="{end + 4:.1f}" y="{top + 10}">'
+                                f"{number:.2f}</text>")
+                top += BAR
 
 
 def picture(rows):
-    """The ratios as bars on a logarithmic axis."""
+    """The ratios as bars: of instructions, and then of bytes."""
     rows = [row for row in rows if row["peer"] or row["termwiz"]]
-    bottom = TOP_EDGE + ROW * len(rows)
-    out = ['<svg xmlns="http://www.w3.org/2000/svg" role="img" '
-           f'viewBox="0 0 {WIDTH} {bottom + 10}">',
-           "<title>What this build takes, by what the best peer and termwiz take</title>",
-           f"<style>\n{STYLE}\n</style>",
-           f'<rect class="ground" width="{WIDTH}" height="{bottom + 10}" rx="6"/>',
-           f'<rect class="peer" x="{LEFT}" y="8" width="10" height="10"/>',
-           f'<text x="{LEFT + 15}" y="17">here / best peer</text>',
-           f'<rect class="termwiz" x="{LEFT + 135}" y="8" width="10" height="10"/>',
-           f'<text x="{LEFT + 150}" y="17">here / termwiz</text>',
-           f'<text class="faint" x="{WIDTH - 20}" y="17" text-anchor="end">left of 1: fewer here'
-           "</text>"]
-    for tick in TICKS:
-        x = f"{place(tick):.1f}"
-        name = "one" if tick == 1 else "other"
-        out += [f'<line class="{name}" x1="{x}" y1="44" x2="{x}" y2="{bottom}"/>',
-                f'<text class="faint" x="{x}" y="38" text-anchor="middle">{tick:g}</text>']
-    for k, row in enumerate(rows):
-        y = TOP_EDGE + ROW * k
-        out.append(f'<text x="{LEFT - 10}" y="{y + 15}" text-anchor="end">{label(row)}</text>')
-        others = [name for name in ("peer", "termwiz") if row[name]]
-        for step, name in enumerate(others):
-            out += bar(ratio(row, name), y + 12 - 6 * len(others) + 11 * step, name)
-    return "\n".join(out + ["</svg>", ""])
+    chart = Chart(rows)
+    for unit, words in ((True, "Instructions here, for each of the best peer's"),
+                        (False, "Bytes here, for each of the best peer's")):
+        own = [row for row in rows if (row["unit"] == "instructions") == unit]
+        if own:
+            chart.head(words)
+            chart.group(own)
+    height = chart.y + 10
+    return "\n".join([
+        f'<svg xmlns="http://www.w3.org/2000/svg" role="img" viewBox="0 0 {WIDTH} {height}" '
+        f'width="{WIDTH}" height="{height}">',
+        "<title>Instructions and bytes here, for each of the best peer's and of termwiz's</title>",
+        f"<style>\n{STYLE}\n</style>",
+        f'<rect class="ground" width="{WIDTH}" height="{height}" rx="6"/>', *chart.out, "</svg>",
+        ""])
 
 
 def main():
+    parser = argparse.ArgumentParser(description=__doc__,
+                                     formatter_class=argparse.RawDescriptionHelpFormatter)
+    parser.add_argument("--check", action="store_true", help="compare, and write nothing")
+    check = parser.parse_args().check
     with DATA.open(newline="") as file:
         rows = list(csv.DictReader(file))
     made = {PAGE: page(rows, PAGE.read_text()), README: readme(rows, README.read_text()),
             PICTURE: picture(rows)}
     for path, text in made.items():
-        if sys.argv[1:] != ["--check"]:
+        if not check:
             path.write_text(text)
         elif not path.exists() or path.read_text() != text:
             sys.exit(f"{path.relative_to(TOP)} differs from docs/speed.csv: run tools/speed.py")

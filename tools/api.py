@@ -122,6 +122,9 @@ class Page:
         traits = [trait.removeprefix("fmt::") for trait in traits]
         if traits:
             out += ["", "Traits: " + ", ".join(f"`{trait}`" for trait in traits) + "."]
+        if len(methods) > 5:
+            links = (f"[`{m.name}`](#{slug(f'{name}::{m.name}')})" for m in methods)
+            out += ["", "Calls: " + ", ".join(links) + "."]
         for method in methods:
             out += self.call(f"{name}::{method.name}", method)
         return out

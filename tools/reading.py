@@ -157,7 +157,8 @@ def anchor(name):
 
 
 def amount(items):
-    return f"{len(items)} definitions, {sum(item.size() for item in items)} lines"
+    count = f"{len(items)} definition{'' if len(items) == 1 else 's'}"
+    return f"{count}, {sum(item.size() for item in items)} lines"
 
 
 def blocks():

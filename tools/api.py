@@ -119,6 +119,9 @@ class Page:
             out += [*item.doc, ""]
         out += code(shown(item.lines) if item.kind != "trait" and len(item.lines) > 1
                     else item.lines)
+        if item.kind == "trait":
+            out += ["", "An `impl` defines these ghost members, the laws by their proofs, and the "
+                    "calls below. One that documents a default answer may be left out."]
         traits = [trait.removeprefix("fmt::") for trait in traits]
         if traits:
             out += ["", "Traits: " + ", ".join(f"`{trait}`" for trait in traits) + "."]

@@ -111,6 +111,20 @@ def read_definition(lines, start, item):
             return
 
 
+def read_ghosts(lines, start, item):
+    """Reads a trait's head, and the ghost members that an `impl` of it writes."""
+    item.lines = [lines[start]]
+    member = False
+    for line in lines[start + 1:]:
+        if line.startswith("}"):
+            item.lines.append(line)
+            return
+        member = member or bool(re.match(r"    ghost (?!use )", line))
+        if member:
+            item.lines.append(line)
+            member = not line.endswith(";")
+
+
 def read_use(use, module):
     """Notes what a `pub use` passes on."""
     match = re.match(r"(.*?)(?:::)?\{(.*)\}$", use)
@@ -124,7 +138,7 @@ def read_use(use, module):
 def read_module(path):
     """Reads a file of `src/`. What is hidden from documentation is left out."""
     module, lines = Module(path), path.read_text().split("\n")
-    doc, hidden, traits, owner, k = [], False, [], None, 0
+    doc, hidden, traits, owner, implemented, k = [], False, [], None, None, 0
     while k < len(lines):
         line, text = lines[k], lines[k].strip()
         indent = indent_of(line)
@@ -146,15 +160,18 @@ def read_module(path):
             module.doc.append(text[3:].removeprefix(" "))
         elif indent == 0 and text.startswith("impl"):
             match = IMPL.match(text)
-            owner = None
+            owner = implemented = None
             if match and match.group(1):
-                module.traits.setdefault(match.group(2), []).append(match.group(1))
+                implemented = module.traits.setdefault(match.group(2), [])
+                implemented.append(match.group(1))
                 if match.group(1) == "Model":
                     module.models[match.group(2)] = k + 1
             elif match:
                 owner = match.group(2)
         elif text.startswith("}") and indent == 0:
-            owner = None
+            owner = implemented = None
+        elif implemented and (match := re.match(r"type (\w+ = .*);", text)):
+            implemented[-1] += f"<{match.group(1)}>"
         elif indent == 0 and (match := re.match(r"(pub )?mod (\w+);", text)):
             module.modules[match.group(2)] = bool(match.group(1)) and not hidden
         elif indent == 0 and text.startswith("pub use "):
@@ -171,7 +188,8 @@ def read_module(path):
             if item.kind == "fn":
                 read_function(lines, k, item)
             elif item.kind == "trait":
-                item.lines, owner = [re.sub(r" ?\{$", "", line)], item.name
+                read_ghosts(lines, k, item)
+                owner = item.name
             else:
                 read_definition(lines, k, item)
             item.traits = traits

@@ -55,7 +55,8 @@ def pointer(rust, is_bytes):
 def parameters(item):
     """An export's parameters, as types and names of C, and its type. No allocator is passed."""
     text = " ".join(line.strip() for line in item.lines)
-    inside, result = re.fullmatch(r'pub extern "C" fn \w+\((.*?),? ?\)(?: -> (\w+))?', text).groups()
+    match = re.fullmatch(r'pub extern "C" fn \w+\((.*?),? ?\)(?: -> (\w+))?', text)
+    inside, result = match.groups()
     found = []
     for parameter in re.split(r", (?=\w+: )", inside):
         name, rust = parameter.strip().split(": ", 1)
@@ -73,7 +74,8 @@ def parameters(item):
 def split(parameter):
     """A parameter of the header, as its type and its name."""
     match = re.fullmatch(r"(.*?)(\w+)", parameter.strip())
-    return match.group(1) if match.group(1).endswith("*") else match.group(1).strip(), match.group(2)
+    kind, name = match.groups()
+    return kind if kind.endswith("*") else kind.strip(), name
 
 
 def fitted(found, was):

@@ -5,7 +5,7 @@ name.
     tools/api.py           writes the page
     tools/api.py --check   fails where the page differs from the sources
 
-A type stands with its variants or public fields, a call with its signature, what it requires, its
+A type is listed with its variants or public fields, a call with its signature, what it requires, its
 whole documentation and, folded, all that it ensures. Each is a link to its line. The definitions
 that clauses cite are listed at the end. What is hidden from documentation is left out.
 """
@@ -22,7 +22,7 @@ ORDER = "surface view line cellcluster cell change color hyperlink emoji laws".s
 KINDS = ("struct", "enum", "trait")
 INTRODUCTION = """# Calls
 
-All that `termwiz_surface` and `termwiz_wire` name, by module: {calls} calls and {types} types. A type stands with its variants or its public fields. A call stands with its signature, what its caller must keep (`requires`), its documentation and, folded, what it promises (`ensures`). Each name is a link to its line. `tools/api.py` makes the page from the sources; what is hidden from documentation, for the crates above, is left out.
+All that `termwiz_surface` and `termwiz_wire` name, by module: {calls} calls and {types} types. A type is listed with its variants or public fields; a call with its signature, what its caller must keep (`requires`), its documentation and, folded, what it promises (`ensures`). Each name is a link to its line. `tools/api.py` makes the page from the sources; what is hidden from documentation, for the crates above, is left out.
 
 How to read a clause:
 

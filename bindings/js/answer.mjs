@@ -1,0 +1,237 @@
+// Answers and asks by docs/stream.cddl. What is read here keeps every rule of docs/VIEWER.md.
+import { MAX_64, Reader } from './reader.mjs';
+
+const VERSION = 2;
+const MAX_SIZE = 4294967295;
+const MAX_STYLE = 131071;
+// The fields of a style that have more than two values: lowest bit, mask, greatest value.
+const FIELDS = [[0, 3, 2], [2, 7, 5], [5, 3, 2], [13, 3, 2], [15, 3, 2]];
+// The style's field that an attribute of the pen sets, by `which`; a bool has no greatest value.
+const FIELD_OF = [[0, 3, 2], [2, 7, 5], [7, 1], [5, 3, 2], [8, 1], [9, 1], [10, 1]];
+const NAME_OF = { 7: 'foreground', 8: 'background', 9: 'link' };
+// How many items a change has, by its kind.
+const COUNTS = [[2], [2], [2, 3], [2], [2], [2], [3], [2], [2], [2], [4], [4], [2], [2]];
+
+export const DEFAULT_ATTRIBUTES = Object.freeze({
+    style: 0, foreground: null, background: null, underlineColor: null, link: null,
+});
+
+/** Whether a character (its number) is a control of ASCII. */
+export const isControl = c => c < 32 || c === 127;
+
+function readColor(reader) {
+    if (reader.isNull()) return null;
+    const [major, value] = reader.head('colour', 0, 4);
+    if (major === 0) {
+        if (value > 255) reader.fail('range', `${value} for a colour of the palette`);
+        return value;
+    }
+    if (value !== 3 && value !== 4) reader.fail('type', `a colour of ${value} parts`);
+    return Array.from({ length: value }, () => reader.uint(255));
+}
+
+/** Whether a key's bytes come before another's. */
+function isBefore(left, right) {
+    const k = left.findIndex((byte, i) => byte !== right[i]);
+    return k < 0 ? left.length < right.length : k < right.length && left[k] < right[k];
+}
+
+function readLink(reader) {
+    if (reader.isNull()) return null;
+    reader.array(3);
+    const uri = reader.text(), implicit = reader.bool(), params = [];
+    for (let left = reader.list(), last = null; left > 0; left--) {
+        reader.following = 3 * (left - 1);
+        reader.array(2);
+        const [bytes, key] = reader.rawText();
+        if (last && !isBefore(last, bytes)) reader.fail('range', "keys that don't ascend");
+        params.push([key, reader.text()]);
+        last = bytes;
+    }
+    reader.following = 0;
+    return { uri, implicit, params };
+}
+
+function readAttributes(reader) {
+    reader.array(5);
+    const style = reader.uint(MAX_STYLE);
+    if (FIELDS.some(([shift, mask, most]) => (style >> shift & mask) > most)) {
+        reader.fail('range', `a style of ${style}`);
+    }
+    const [foreground, background, underlineColor] = [0, 1, 2].map(() => readColor(reader));
+    const link = readLink(reader);
+    return Object.freeze({ style, foreground, background, underlineColor, link });
+}
+
+/** One attribute of the pen, as what makes the pen that has it of another. */
+function readAttribute(reader) {
+    reader.array(2);
+    const which = reader.uint(9, 'type');
+    if (which in NAME_OF) {
+        const value = which === 9 ? readLink(reader) : readColor(reader);
+        return pen => Object.freeze({ ...pen, [NAME_OF[which]]: value });
+    }
+    const [shift, mask, most] = FIELD_OF[which];
+    const bits = (most ? reader.uint(most) : Number(reader.bool())) << shift;
+    return pen => Object.freeze({ ...pen, style: pen.style & ~(mask << shift) | bits });
+}
+
+function readPosition(reader) {
+    reader.array(2);
+    const which = reader.uint(2, 'type');
+    return [which, which ? BigInt(reader.uint()) : reader.distance()];
+}
+
+const isLineBreak = piece => piece === '\r' || piece === '\n' || piece === '\r\n';
+
+/** Where the first `count` characters end that stand at `from`. */
+function endOf(text, from, count) {
+    let end = from;
+    for (let k = 0; k < count; k++) end += text.codePointAt(end) > 0xffff ? 2 : 1;
+    return end;
+}
+
+/** Calls `print(piece, columns)` for each piece of a text, where `runs` cut it. */
+export function eachPiece(text, runs, print) {
+    let at = 0;
+    for (let k = 0; k < (runs?.length ?? 0); k += 3) {
+        for (let left = runs[k]; left > 0; left--) {
+            const end = endOf(text, at, runs[k + 1]);
+            print(text.slice(at, end), runs[k + 2]);
+            at = end;
+        }
+    }
+    while (at < text.length) {
+        const end = text.startsWith('\r\n', at) ? at + 2 : endOf(text, at, 1);
+        const piece = text.slice(at, end);
+        print(piece, isLineBreak(piece) ? 0 : 1);
+        at = end;
+    }
+}
+
+/** Judges the cuts of a run: where it ends, and whether it has line breaks and other pieces. */
+function scanRun(reader, text, from, count, characters) {
+    let at = from, breaks = false, others = false;
+    for (let left = count; left > 0; left--) {
+        const piece = text.slice(at, endOf(text, at, characters));
+        at += piece.length;
+        if (characters > 1 && piece !== '\r\n' && /[\x00-\x1f\x7f]/.test(piece)) {
+            reader.fail('range', 'a control character within a piece');
+        }
+        if (piece === '\r' && text[at] === '\n') reader.fail('range', 'CR LF that is cut');
+        if (isLineBreak(piece)) breaks = true;
+        else others = true;
+    }
+    return { end: at, breaks, others };
+}
+
+/** The runs of a text's pieces: count, characters, columns, and again. */
+function readRuns(reader, text) {
+    const items = reader.list(3), list = reader.at, runs = [];
+    let at = 0, characters = 0, needed = false;
+    for (const _ of text) characters++;
+    while (runs.length < items) {
+        reader.following = items - runs.length - 1;
+        const count = reader.uint();
+        if (count < 1 || count > characters) reader.fail('range', `${count} pieces`);
+        reader.following--;
+        const size = reader.uint();
+        if (size < 1 || size > characters / count) reader.fail('range', `${size} characters`);
+        const { end, breaks, others } = scanRun(reader, text, at, count, size);
+        reader.following--;
+        const columns = reader.uint(2);
+        if (columns === 0 ? others : breaks) reader.fail('range', 'columns of a line break');
+        if (runs.at(-2) === size && runs.at(-1) === columns) reader.fail('range', 'equal runs');
+        needed ||= columns === 2 || size > 1 && columns > 0;
+        characters -= count * size;
+        at = end;
+        runs.push(count, size, columns);
+    }
+    reader.following = 0;
+    if (characters) reader.fail('range', 'pieces that end before the text', list);
+    if (!needed) reader.fail('range', "pieces that aren't needed", list);
+    return runs;
+}
+
+/** A scroll's first row, size and count, which is at most the size. */
+function readScroll(reader, height) {
+    const first = reader.uint(), size = reader.uint();
+    if (BigInt(first) + BigInt(size) > height) reader.fail('region', 'rows past the last one');
+    const count = reader.uint();
+    return [first, size, count > size ? size : count];
+}
+
+/** A change: its kind, and then as in the schema, but for an attribute of the pen. */
+function readChange(reader, height) {
+    const count = reader.array(2, 3, 4), kind = reader.uint(COUNTS.length - 1, 'type');
+    if (!COUNTS[kind].includes(count)) reader.fail('type', `${count} items for kind ${kind}`);
+    switch (kind) {
+        case 0: return [kind, readAttribute(reader)];
+        case 1: return [kind, readAttributes(reader)];
+        case 2: {
+            const text = reader.text();
+            return [kind, text, count === 3 ? readRuns(reader, text) : null];
+        }
+        case 6: return [kind, readPosition(reader), readPosition(reader)];
+        case 8: return [kind, reader.uint(6)];
+        case 9: return [kind, reader.bool()];
+        case 10: case 11: return [kind, ...readScroll(reader, height)];
+        case 12: return [kind, reader.text()];
+        case 13: return [kind, reader.uint(3)];
+        default: return [kind, readColor(reader)];
+    }
+}
+
+function readVersion(reader, count) {
+    const items = reader.head('array', 4)[1];
+    if (items < 1) reader.fail('type', 'an empty array');
+    if (reader.uint() !== VERSION) reader.fail('version', 'another version');
+    if (items !== count) reader.fail('type', `${items} items`, 0);
+}
+
+/** What stands before an answer's changes, their count, and the places of its numbers. */
+export function readHead(reader, cells) {
+    const places = {};
+    const number = (name, least, most) => {
+        const value = reader.uint(most);
+        if (value < least) reader.fail('range', `${name} ${value}`);
+        places[name] = reader.at;
+        return value;
+    };
+    readVersion(reader, 7);
+    const surface = BigInt(number('surface', 1, MAX_64));
+    const width = number('width', 1, MAX_SIZE), height = number('height', 1, MAX_SIZE);
+    if (width > cells / height) reader.fail('limit', `more than ${cells} cells`);
+    const base = BigInt(number('base', 0, MAX_64)), own = BigInt(number('number', base, MAX_64));
+    return { surface, width, height, base, number: own, count: reader.list(), places };
+}
+
+/** Reads on from the last whole change, which `answer` has, so that none is read twice. */
+export function readChanges(reader, answer) {
+    while (answer.changes.length < answer.count) {
+        reader.change = answer.changes.length;
+        answer.changes.push(readChange(reader, answer.height));
+        answer.next = reader.next;
+    }
+}
+
+/** The bytes of `[2, surface, number]`. */
+export function encodeAsk(surface, number) {
+    return Uint8Array.of(0x83, VERSION, ...uintBytes(surface), ...uintBytes(number));
+}
+
+function uintBytes(value) {
+    if (value < 24n) return [Number(value)];
+    const log = value < 256n ? 0 : value < 65536n ? 1 : value < 4294967296n ? 2 : 3;
+    const bytes = Array.from({ length: 1 << log }, (_, k) => Number(value >> BigInt(8 * k) & 255n));
+    return [24 + log, ...bytes.reverse()];
+}
+
+/** What an ask says: the surface and the number that its viewer shows. */
+export function decodeAsk(bytes) {
+    return new Reader(bytes, 0, Infinity).whole(reader => {
+        readVersion(reader, 3);
+        const surface = BigInt(reader.uint());
+        return { surface, number: BigInt(reader.uint(surface ? MAX_64 : 0)) };
+    });
+}

@@ -189,7 +189,10 @@ function readVersion(reader, count) {
     if (items !== count) reader.fail('type', `${items} items`, 0);
 }
 
-/** What stands before an answer's changes, their count, and the places of its numbers. */
+/**
+ * An answer without its changes, with their count, the places of its numbers, and the place where
+ * the reading goes on.
+ */
 export function readHead(reader, cells) {
     const places = {};
     const number = (name, least, most) => {
@@ -203,10 +206,11 @@ export function readHead(reader, cells) {
     const width = number('width', 1, MAX_SIZE), height = number('height', 1, MAX_SIZE);
     if (width > cells / height) reader.fail('limit', `more than ${cells} cells`);
     const base = BigInt(number('base', 0, MAX_64)), own = BigInt(number('number', base, MAX_64));
-    return { surface, width, height, base, number: own, count: reader.list(), places };
+    const head = { surface, width, height, base, number: own, count: reader.list() };
+    return { ...head, places, changes: [], next: reader.next };
 }
 
-/** Reads on from the last whole change, which `answer` has, so that none is read twice. */
+/** Reads an answer's changes, from the last whole one on, so that none is read twice. */
 export function readChanges(reader, answer) {
     while (answer.changes.length < answer.count) {
         reader.change = answer.changes.length;
@@ -229,9 +233,8 @@ function uintBytes(value) {
 
 /** What an ask says: the surface and the number that its viewer shows. */
 export function decodeAsk(bytes) {
-    return new Reader(bytes, 0, Infinity).whole(reader => {
-        readVersion(reader, 3);
-        const surface = BigInt(reader.uint());
-        return { surface, number: BigInt(reader.uint(surface ? MAX_64 : 0)) };
-    });
+    const reader = new Reader(bytes, 0, Infinity);
+    readVersion(reader, 3);
+    const surface = BigInt(reader.uint()), number = BigInt(reader.uint(surface ? MAX_64 : 0));
+    return { surface, number };
 }

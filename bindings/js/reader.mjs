@@ -15,13 +15,6 @@ export class Fault extends Error {
     }
 }
 
-/** Thrown where the bytes at hand end within an item. At least `wanted` are needed. */
-export class Short {
-    constructor(at, wanted) {
-        Object.assign(this, { at, wanted });
-    }
-}
-
 /** The argument of `size` bytes: a Number up to 2^53 - 1, and a BigInt above. */
 function argument(bytes, at, size) {
     let value = 0;
@@ -37,6 +30,7 @@ export class Reader {
         this.at = next; // where the item begins that was read last: the place of its faults
         this.change = null; // the index of the change that is being read
         this.following = 0; // bytes that follow the item at least, by a list's length
+        this.wanted = 1; // after `truncated`, as many bytes as have to be there at least
     }
 
     fail(kind, why, at = this.at) {
@@ -47,17 +41,8 @@ export class Reader {
     need(end) {
         if (end > this.limit) this.fail('limit', `an answer of more than ${this.limit} bytes`);
         if (end <= this.bytes.length) return;
-        throw new Short(this.at, Math.min(end + this.following, this.limit));
-    }
-
-    /** What `read` returns. Bytes that end before are a fault. */
-    whole(read) {
-        try {
-            return read(this);
-        } catch (error) {
-            if (error instanceof Short) this.fail('truncated', 'the bytes end', error.at);
-            throw error;
-        }
+        this.wanted = Math.min(end + this.following, this.limit);
+        this.fail('truncated', 'the bytes end');
     }
 
     firstByte() {

@@ -6,7 +6,7 @@
 // a stream of answers, cut anywhere. An answer is an array of seven, so a stream that was kept
 // without times is known by its first byte.
 import { readChanges, readHead } from './answer.mjs';
-import { Fault, Reader, Short } from './reader.mjs';
+import { Fault, Reader } from './reader.mjs';
 import { Client } from './tikeburo.mjs';
 
 const ENTRY = 0x82; // an array of two
@@ -41,7 +41,7 @@ function readEntry(reader) {
 /** A whole answer's bytes, after those that came before. */
 function readAnswer(reader, entries) {
     const begin = reader.next, own = new Reader(reader.bytes.subarray(begin), 0, Infinity);
-    readChanges(own, { ...readHead(own, Infinity), changes: [] });
+    readChanges(own, readHead(own, Infinity));
     reader.next += own.next;
     return { time: APART * entries.length, bytes: reader.bytes.subarray(begin, reader.next) };
 }
@@ -60,7 +60,7 @@ export function readRecording(bytes) {
             entries.push(entry);
         }
     } catch (error) {
-        if (!(error instanceof Fault || error instanceof Short)) throw error;
+        if (!(error instanceof Fault)) throw error;
         const rest = bytes.subarray(reader.next);
         if (!timed) entries.push({ time: APART * entries.length, bytes: rest });
         return { entries, fault: error };

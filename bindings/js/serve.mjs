@@ -97,20 +97,28 @@ function sendFile(response, name) {
     response.end(readFileSync(fileURLToPath(new URL(name, import.meta.url))));
 }
 
+/** Waits until what was written is sent, or the viewer is gone. */
+const drained = response => new Promise(done => {
+    const go = () => {
+        response.off('drain', go).off('close', go);
+        done();
+    };
+    response.on('drain', go).on('close', go);
+});
+
 async function sendStream(response, source) {
     response.writeHead(200, { ...HEADERS, 'content-type': 'application/cbor-seq' });
     if (typeof source === 'string') return createReadStream(source).pipe(response);
     for await (const bytes of source.follow()) {
         if (response.destroyed) return undefined;
-        if (!response.write(bytes)) await Promise.race([once(response, 'drain'), once(response, 'close')]);
+        if (!response.write(bytes)) await drained(response);
     }
     return response.end();
 }
 
 /** Only pages of this server read it: another name for 127.0.0.1 isn't answered. */
 function answer(request, response, source, port) {
-    const { pathname } = new URL(request.url, 'http://localhost');
-    const name = pathname === '/' ? 'index.html' : pathname.slice(1);
+    const path = request.url.split('?')[0], name = path === '/' ? 'index.html' : path.slice(1);
     const isOwn = [`127.0.0.1:${port}`, `localhost:${port}`].includes(request.headers.host);
     if (request.method === 'GET' && isOwn) {
         if (FILES.includes(name)) return sendFile(response, name);

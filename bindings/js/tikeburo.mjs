@@ -1,7 +1,7 @@
 // A viewer of a surface's answers: docs/VIEWER.md, version 2 of the stream. It has no dependencies
 // and no Unicode tables, since texts come cut and measured. It runs in node and in browsers.
 import { encodeAsk, readChanges, readHead } from './answer.mjs';
-import { Fault, Reader, Short } from './reader.mjs';
+import { Fault, Reader } from './reader.mjs';
 import { Screen } from './screen.mjs';
 
 export { DEFAULT_ATTRIBUTES, decodeAsk, encodeAsk } from './answer.mjs';
@@ -81,22 +81,17 @@ export class Client {
         const bytes = this.#buffer.subarray(this.#start, this.#end);
         const reader = new Reader(bytes, this.#part?.next ?? 0, this.limits.bytes);
         try {
-            const answer = atEnd ? reader.whole(() => this.#parse(reader)) : this.#parse(reader);
+            const answer = this.#part ??= readHead(reader, this.limits.cells);
+            readChanges(reader, answer);
             this.#start += reader.next;
             this.#begin();
             return answer;
-        } catch (error) {
-            if (error instanceof Short) this.#wanted = error.wanted;
-            else if (error instanceof Fault) this.fault = this.#numbered(error);
-            else throw error;
+        } catch (fault) {
+            if (!(fault instanceof Fault)) throw fault;
+            this.#wanted = reader.wanted;
+            if (fault.kind !== 'truncated' || atEnd) this.fault = this.#numbered(fault);
             return null;
         }
-    }
-
-    #parse(reader) {
-        this.#part ??= { ...readHead(reader, this.limits.cells), changes: [], next: reader.next };
-        readChanges(reader, this.#part);
-        return this.#part;
     }
 
     #numbered(fault) {

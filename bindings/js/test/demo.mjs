@@ -60,7 +60,8 @@ const rows = [
     at(2, 15), pen(0, 14), text('double width'), [13, 2],
     at(2, 16), pen(0, 14), text('double height'), [13, 0],
     at(2, 17), pen(0, 14), text('double height'), [13, 1],
-    at(1, 18), [4, [40, 40, 90]], text('bg to the end'), pen(0, 13, [40, 40, 90]), at(68, 18), text('end!'),
+    at(1, 18), [4, [40, 40, 90]], pen(0, [230, 230, 240], [40, 40, 90]),
+    text('bg to the end'), pen(0, 13, [40, 40, 90]), at(68, 18), text('end!'),
 ];
 
 /** A stream's answers as entries: the first a repaint, the others deltas. */

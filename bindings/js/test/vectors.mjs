@@ -100,10 +100,12 @@ function judgeChange(hex) {
 function judgeAnswer(hex) {
     const bytes = bytesOf(hex), [, surface, width, height, base, number, changes] = decode(bytes);
     const found = readHead(new Reader(bytes, 0, Infinity), Infinity);
-    const { places, ...head } = found;
+    const { places, next, changes: read, ...head } = found;
+    assert.deepEqual(read, []);
     assert.deepEqual(head, {
         surface, base, number, width: Number(width), height: Number(height), count: changes.length,
     });
+    assert.equal(bytes[next - 1] >> 5, 4);
     const result = inAnyChunks(bytes);
     const stale = { kind: 'stale', at: places.surface, change: null, answer: 1 };
     assert.deepEqual(result.places, base ? [stale] : []);

@@ -117,7 +117,7 @@ async function sendStream(response, source) {
 }
 
 /** Only pages of this server read it: another name for 127.0.0.1 isn't answered. */
-function answer(request, response, source, port) {
+export function answer(request, response, source, port) {
     const path = request.url.split('?')[0], name = path === '/' ? 'index.html' : path.slice(1);
     const isOwn = [`127.0.0.1:${port}`, `localhost:${port}`].includes(request.headers.host);
     if (request.method === 'GET' && isOwn) {

@@ -1,13 +1,15 @@
 // The page in a browser: its cells, as they are in the document and in a screenshot, are those of
 // the client's screen. Run it by `node --test test/page.mjs`; `SHOTS=FOLDER` keeps screenshots.
 import assert from 'node:assert/strict';
+import { once } from 'node:events';
 import { readFileSync, writeFileSync } from 'node:fs';
+import { createServer } from 'node:http';
 import { join } from 'node:path';
 import test, { after, before } from 'node:test';
 import { fileURLToPath } from 'node:url';
 import { Player, readRecording } from '../recording.mjs';
-import { Kept, serve } from '../serve.mjs';
-import { Client, styleOf } from '../tikeburo.mjs';
+import { answer, Kept, serve } from '../serve.mjs';
+import { Client, decodeAsk, styleOf } from '../tikeburo.mjs';
 import { Chromium, findChromium } from './chromium.mjs';
 import { sequence } from './encode.mjs';
 import { readPng } from './png.mjs';
@@ -303,6 +305,67 @@ test('a damaged stream: the screen stays, and the place is shown', { skip }, asy
     assert.equal(await shownText(page), 'it stays|||');
 });
 
+/** A source that holds each ask until `put` has what to answer: bytes, or a status. */
+class Asked {
+    asks = [];
+    #answers = [];
+    #waiting = [];
+
+    async start() {
+        const server = createServer((request, response) => (request.method === 'POST'
+            ? this.#hold(request, response)
+            : answer(request, response, null, server.address().port)));
+        servers.push(server);
+        server.listen(0, '127.0.0.1');
+        await once(server, 'listening');
+        return `http://127.0.0.1:${server.address().port}/?pull`;
+    }
+
+    async #hold(request, response) {
+        const parts = [];
+        for await (const part of request) parts.push(part);
+        const { surface, number } = decodeAsk(Buffer.concat(parts));
+        this.asks.push(`${surface} ${number}`);
+        this.#waiting.push(response);
+        this.#match();
+    }
+
+    put(next) {
+        this.#answers.push(next);
+        this.#match();
+    }
+
+    #match() {
+        while (this.#answers.length && this.#waiting.length) {
+            const next = this.#answers.shift(), response = this.#waiting.shift();
+            response.writeHead(typeof next === 'number' ? next : 200);
+            response.end(typeof next === 'number' ? '' : next);
+        }
+    }
+}
+
+test('a source that takes asks', { skip }, async () => {
+    const source = new Asked(), page = await browser.open(await source.start(), 800, 600);
+    const next = (base, text) => sequence([2, 9, 20, 4, base, base + 1, [[2, text]]]);
+    source.put(repaint(5, [2, 'one']));
+    await page.until(`customElements.get('tikeburo-screen') && ${numberIs(5)}`);
+    source.put(next(5, ' two'));
+    source.put(500); // from then on it is another connection
+    source.put(next(6, ' three'));
+    await page.until(numberIs(7));
+    source.put(Uint8Array.from([0x87, 3]));
+    await page.until(`${ELEMENT}.state === 'lost'`);
+    await drawn(page);
+    assert.equal(await shownText(page), 'one two three|||');
+    assert.deepEqual(source.asks, ['0 0', '9 5', '9 6', '9 6', '9 7']);
+    await page.evaluate(`${ELEMENT}.setAttribute('src', 'again')`); // a version is no passing fault
+    source.put(repaint(1, [2, 'anew']));
+    await page.until(numberIs(1));
+    source.put(410);
+    await page.until(`${ELEMENT}.state === 'ended'`);
+    assert.deepEqual(source.asks.slice(5), ['0 0', '9 1']);
+});
+
 test('screenshots of the demo', { skip: skip || !process.env.SHOTS }, async () => {
     const page = await open(demo, '?controls', 900, 600);
     for (const look of ['dark', 'light']) {
@@ -314,6 +377,6 @@ test('screenshots of the demo', { skip: skip || !process.env.SHOTS }, async () =
             ${ELEMENT}.seek(7000);
         })()`);
         await drawn(page);
-        writeFileSync(join(process.env.SHOTS, `${look}.png`), await page.screenshot());
+        writeFileSync(join(process.env.SHOTS, `browser-${look}.png`), await page.screenshot());
     }
 });

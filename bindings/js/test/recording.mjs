@@ -115,6 +115,7 @@ test('the server sends its files and the stream since the last repaint', async (
     assert.equal((await get(port, '/', {}, 'POST'))[0], 404);
     assert.equal((await get(port, '/', { host: `example.com:${port}` }))[0], 403);
     server.close();
+    server.closeAllConnections();
 });
 
 test('serve.mjs records its input, and ends at a fault', async () => {

@@ -4,6 +4,7 @@ import { Player, readRecording } from './recording.mjs';
 import { Client } from './tikeburo.mjs';
 
 const FIRST_WAIT = 500, LONGEST_WAIT = 15000; // milliseconds before a new connection
+const LONGEST_FRAME = 1000; // milliseconds that are played in one; a page that sleeps plays none
 const ENTRY = 0x82; // a recording's first byte
 const FINAL = ['version', 'limit']; // faults that another connection would bring again
 
@@ -27,7 +28,7 @@ const sheet = new CSSStyleSheet();
 sheet.replaceSync(STYLES);
 
 export class TikeburoScreen extends HTMLElement {
-    static observedAttributes = ['src', 'pull', 'fit'];
+    static observedAttributes = ['src', 'pull', 'fit', 'controls'];
     #grid = new Grid();
     #view = make('div', 'view');
     #bar = make('div', 'controls', { hidden: true });
@@ -38,6 +39,8 @@ export class TikeburoScreen extends HTMLElement {
     #connection = null; // an AbortController, while there is a source
     #frame = 0;
     #playing = false;
+    #starts = false; // whether it starts once all attributes are set
+    #note = ''; // what is wrong with the recording
 
     constructor() {
         super();
@@ -49,7 +52,7 @@ export class TikeburoScreen extends HTMLElement {
         root.addEventListener('copy', event => this.#copy(event));
     }
 
-    /** The screen that is shown; it is drawn anew after each `screen` event's changes. */
+    /** The screen that is shown. */
     get screen() {
         return this.client.screen;
     }
@@ -71,7 +74,7 @@ export class TikeburoScreen extends HTMLElement {
     connectedCallback() {
         this.#sizes.observe(this.#view);
         document.fonts?.ready.then(() => this.#draw());
-        this.#start();
+        this.#startSoon();
     }
 
     disconnectedCallback() {
@@ -81,8 +84,17 @@ export class TikeburoScreen extends HTMLElement {
 
     attributeChangedCallback(name) {
         if (!this.isConnected) return;
-        if (name === 'fit') this.#draw();
-        else this.#start();
+        if (name === 'src' || name === 'pull') this.#startSoon();
+        else this.#later();
+    }
+
+    #startSoon() {
+        if (this.#starts) return;
+        this.#starts = true;
+        queueMicrotask(() => {
+            this.#starts = false;
+            if (this.isConnected) this.#start();
+        });
     }
 
     #stop() {
@@ -94,7 +106,6 @@ export class TikeburoScreen extends HTMLElement {
     #start() {
         this.#stop();
         this.#client = new Client({ ...this.#limits, onanswer: () => this.#later() });
-        this.#bar.hidden = true;
         if (!this.hasAttribute('src')) return;
         this.#connection = new AbortController();
         this.#connect(this.#client, this.#connection.signal);
@@ -181,9 +192,8 @@ export class TikeburoScreen extends HTMLElement {
     #open(bytes) {
         const { entries, fault } = readRecording(bytes);
         this.#player = new Player(entries, this.#limits);
-        this.#bar.hidden = !this.hasAttribute('controls');
-        this.#say('ready', fault ? `the recording is cut or damaged at byte ${fault.at}` : '');
-        this.#later();
+        this.#note = fault ? `the recording is cut or damaged at byte ${fault.at}` : '';
+        this.#judge();
         this.play();
     }
 
@@ -214,7 +224,8 @@ export class TikeburoScreen extends HTMLElement {
     async #run(before) {
         const now = await nextFrame();
         if (!this.#playing) return;
-        this.#player.advance(Math.max(0, now - before) * this.speed);
+        const passed = Math.max(0, Math.min(now - before, LONGEST_FRAME));
+        this.#player.advance(passed * this.speed);
         this.#judge();
         if (this.#player.isOver && this.hasAttribute('loop')) this.#player.seek(0);
         else if (this.#player.isOver) this.#playing = false;
@@ -223,8 +234,8 @@ export class TikeburoScreen extends HTMLElement {
     }
 
     #judge() {
-        const fault = this.#player?.client.fault;
-        if (fault) this.#say('ready', describe(fault));
+        const { fault } = this.client;
+        if (this.#player) this.#say('ready', fault ? describe(fault) : this.#note);
     }
 
     #makeBar() {
@@ -241,7 +252,8 @@ export class TikeburoScreen extends HTMLElement {
 
     #drawBar() {
         const [button, line, time, speed] = this.#bar.children, player = this.#player;
-        if (!player || this.#bar.hidden) return;
+        this.#bar.hidden = !player || !this.hasAttribute('controls');
+        if (this.#bar.hidden) return;
         button.textContent = this.#playing ? '❚❚' : '▶';
         button.ariaLabel = this.#playing ? 'pause' : 'play';
         line.max = player.duration;

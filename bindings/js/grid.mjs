@@ -68,6 +68,7 @@ a.cell:hover { filter: brightness(1.25); }
 const ROW_CLASSES = ['row top', 'row bottom', 'row double', 'row'];
 const LINE_HEIGHT = 1.25; // of the font's size
 const SMALLEST = 2, GREATEST_FONT = 64; // a cell's width and a font's size, in CSS pixels
+const LONGEST_CELL = 256; // no hostile cell of a million marks is laid out
 
 function makeRow() {
     const row = document.createElement('div');
@@ -160,7 +161,7 @@ export class Grid {
         } else if (link) {
             span.className += ' unopened';
         }
-        span.textContent = text;
+        span.textContent = isPlain ? text : text.slice(0, LONGEST_CELL);
         return span;
     }
 

@@ -1,6 +1,6 @@
 import type { Client, ClientOptions, Fault } from './tikeburo.js';
 
-/** What came at once: bytes of a stream of answers, and when, in milliseconds from the beginning. */
+/** Bytes of a stream that came at once, and when, in milliseconds from the beginning. */
 export interface Entry {
     readonly time: number;
     readonly bytes: Uint8Array;

@@ -92,7 +92,8 @@ class Page {
     async evaluate(expression) {
         const options = { expression, awaitPromise: true, returnByValue: true, userGesture: true };
         const { result, exceptionDetails } = await this.send('Runtime.evaluate', options);
-        if (exceptionDetails) throw new Error(exceptionDetails.exception?.description ?? 'no value');
+        const { exception } = exceptionDetails ?? {};
+        if (exceptionDetails) throw new Error(exception?.description ?? 'no value');
         return result.value;
     }
 

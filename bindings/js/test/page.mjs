@@ -121,8 +121,8 @@ async function judgeCells(page, screen) {
 async function judgePixels(page, screen) {
     const pixel = readPng(await page.screenshot());
     const box = await page.evaluate(`(() => {
-        const { left, top, width, height } = ${ROOT}.querySelector('[part=grid]').getBoundingClientRect();
-        return { left, top, width, height };
+        const grid = ${ROOT}.querySelector('[part=grid]');
+        return JSON.parse(JSON.stringify(grid.getBoundingClientRect()));
     })()`);
     let judged = 0;
     for (let y = 0; y < screen.height; y++) {
@@ -234,7 +234,8 @@ test('the screen fits the window, in dark and in light', { skip }, async () => {
         return page.evaluate(`(() => {
             const grid = ${ROOT}.querySelector('[part=grid]').getBoundingClientRect();
             const view = ${ROOT}.querySelector('[part=view]').getBoundingClientRect();
-            return [grid.width, grid.height, grid.width <= view.width && grid.height <= view.height];
+            const isWithin = grid.width <= view.width && grid.height <= view.height;
+            return [grid.width, grid.height, isWithin];
         })()`);
     };
     const great = await size(1000, 640), small = await size(300, 400, 2);
@@ -274,8 +275,8 @@ test('the cursor has its place, its shape and its colour', { skip }, async () =>
             const box = cursor.getBoundingClientRect();
             const grid = ${ROOT}.querySelector('[part=grid]').getBoundingClientRect();
             const cell = grid.width / 20, row = grid.height / 4;
-            return [Math.round((box.left - grid.left) / cell), Math.round((box.top - grid.top) / row),
-                Math.round(box.width / cell), style.display, style.backgroundColor,
+            return [Math.round((box.left - grid.left) / cell),
+                Math.round((box.top - grid.top) / row), Math.round(box.width / cell), style.display, style.backgroundColor,
                 style.borderBottomWidth, style.borderLeftWidth];
         })()`)];
     };

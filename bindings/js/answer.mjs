@@ -4,17 +4,25 @@ import { MAX_64, Reader } from './reader.mjs';
 const VERSION = 2;
 const MAX_SIZE = 4294967295;
 const MAX_STYLE = 131071;
-// The fields of a style that have more than two values: lowest bit, mask, greatest value.
-const FIELDS = [[0, 3, 2], [2, 7, 5], [5, 3, 2], [13, 3, 2], [15, 3, 2]];
-// The style's field that an attribute of the pen sets, by `which`; a bool has no greatest value.
-const FIELD_OF = [[0, 3, 2], [2, 7, 5], [7, 1], [5, 3, 2], [8, 1], [9, 1], [10, 1]];
-const NAME_OF = { 7: 'foreground', 8: 'background', 9: 'link' };
-// How many items a change has, by its kind.
-const COUNTS = [[2], [2], [2, 3], [2], [2], [2], [3], [2], [2], [2], [4], [4], [2], [2]];
+// The fields of a style: lowest bit, mask, and greatest value. A bool has none.
+const FIELDS = {
+    intensity: [0, 3, 2], underline: [2, 7, 5], blink: [5, 3, 2], italic: [7, 1], reverse: [8, 1],
+    strike: [9, 1], invisible: [10, 1], wrapped: [11, 1], overline: [12, 1], semantic: [13, 3, 2],
+    alignment: [15, 3, 2],
+};
+// What an attribute of the pen is, by `which`.
+const NAMES = ['intensity', 'underline', 'italic', 'blink', 'reverse', 'strike', 'invisible',
+    'foreground', 'background', 'link'];
 
 export const DEFAULT_ATTRIBUTES = Object.freeze({
     style: 0, foreground: null, background: null, underlineColor: null, link: null,
 });
+
+/** The small attributes that a style holds. */
+export function styleOf(style) {
+    const value = ([shift, mask, most]) => (most ? style >> shift & mask : (style >> shift & 1) > 0);
+    return Object.fromEntries(Object.entries(FIELDS).map(([name, field]) => [name, value(field)]));
+}
 
 /** Whether a character (its number) is a control of ASCII. */
 export const isControl = c => c < 32 || c === 127;
@@ -55,9 +63,8 @@ function readLink(reader) {
 function readAttributes(reader) {
     reader.array(5);
     const style = reader.uint(MAX_STYLE);
-    if (FIELDS.some(([shift, mask, most]) => (style >> shift & mask) > most)) {
-        reader.fail('range', `a style of ${style}`);
-    }
+    const isPast = ([shift, mask, most = 1]) => (style >> shift & mask) > most;
+    if (Object.values(FIELDS).some(isPast)) reader.fail('range', `a style of ${style}`);
     const [foreground, background, underlineColor] = [0, 1, 2].map(() => readColor(reader));
     const link = readLink(reader);
     return Object.freeze({ style, foreground, background, underlineColor, link });
@@ -66,12 +73,12 @@ function readAttributes(reader) {
 /** One attribute of the pen, as what makes the pen that has it of another. */
 function readAttribute(reader) {
     reader.array(2);
-    const which = reader.uint(9, 'type');
-    if (which in NAME_OF) {
-        const value = which === 9 ? readLink(reader) : readColor(reader);
-        return pen => Object.freeze({ ...pen, [NAME_OF[which]]: value });
+    const name = NAMES[reader.uint(NAMES.length - 1, 'type')];
+    if (!(name in FIELDS)) {
+        const value = name === 'link' ? readLink(reader) : readColor(reader);
+        return pen => Object.freeze({ ...pen, [name]: value });
     }
-    const [shift, mask, most] = FIELD_OF[which];
+    const [shift, mask, most] = FIELDS[name];
     const bits = (most ? reader.uint(most) : Number(reader.bool())) << shift;
     return pen => Object.freeze({ ...pen, style: pen.style & ~(mask << shift) | bits });
 }
@@ -154,32 +161,35 @@ function readRuns(reader, text) {
 }
 
 /** A scroll's first row, size and count, which is at most the size. */
-function readScroll(reader, height) {
+function readScroll(reader, _, height) {
     const first = reader.uint(), size = reader.uint();
     if (BigInt(first) + BigInt(size) > height) reader.fail('region', 'rows past the last one');
     const count = reader.uint();
     return [first, size, count > size ? size : count];
 }
 
+/** A text, and the runs of its pieces, where its change of `items` has them. */
+function readText(reader, items) {
+    const text = reader.text();
+    return [text, items === 3 ? readRuns(reader, text) : null];
+}
+
+const one = read => [[2], reader => [read(reader)]];
+const places = [[3], reader => [readPosition(reader), readPosition(reader)]];
+const color = one(readColor), scroll = [[4], readScroll];
+// By a change's kind, how many items it has, and what reads those behind the kind.
+const CHANGES = [
+    one(readAttribute), one(readAttributes), [[2, 3], readText], color, color, color, places, color,
+    one(reader => reader.uint(6)), one(reader => reader.bool()), scroll, scroll,
+    one(reader => reader.text()), one(reader => reader.uint(3)),
+];
+
 /** A change: its kind, and then as in the schema, but for an attribute of the pen. */
 function readChange(reader, height) {
-    const count = reader.array(2, 3, 4), kind = reader.uint(COUNTS.length - 1, 'type');
-    if (!COUNTS[kind].includes(count)) reader.fail('type', `${count} items for kind ${kind}`);
-    switch (kind) {
-        case 0: return [kind, readAttribute(reader)];
-        case 1: return [kind, readAttributes(reader)];
-        case 2: {
-            const text = reader.text();
-            return [kind, text, count === 3 ? readRuns(reader, text) : null];
-        }
-        case 6: return [kind, readPosition(reader), readPosition(reader)];
-        case 8: return [kind, reader.uint(6)];
-        case 9: return [kind, reader.bool()];
-        case 10: case 11: return [kind, ...readScroll(reader, height)];
-        case 12: return [kind, reader.text()];
-        case 13: return [kind, reader.uint(3)];
-        default: return [kind, readColor(reader)];
-    }
+    const items = reader.array(2, 3, 4), kind = reader.uint(CHANGES.length - 1, 'type');
+    const [counts, read] = CHANGES[kind];
+    if (!counts.includes(items)) reader.fail('type', `${items} items for kind ${kind}`);
+    return [kind, ...read(reader, items, height)];
 }
 
 function readVersion(reader, count) {

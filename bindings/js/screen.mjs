@@ -150,18 +150,3 @@ export class Screen {
         cursor.x = Math.min(cursor.x + columns, this.width);
     }
 }
-
-/** The small attributes that a style holds. */
-export const styleOf = style => ({
-    intensity: style & 3,
-    underline: style >> 2 & 7,
-    blink: style >> 5 & 3,
-    italic: (style & 1 << 7) !== 0,
-    reverse: (style & 1 << 8) !== 0,
-    strike: (style & 1 << 9) !== 0,
-    invisible: (style & 1 << 10) !== 0,
-    wrapped: (style & 1 << 11) !== 0,
-    overline: (style & 1 << 12) !== 0,
-    semantic: style >> 13 & 3,
-    alignment: style >> 15 & 3,
-});

@@ -4,9 +4,9 @@ import { encodeAsk, readChanges, readHead } from './answer.mjs';
 import { Fault, Reader } from './reader.mjs';
 import { Screen } from './screen.mjs';
 
-export { DEFAULT_ATTRIBUTES, decodeAsk, encodeAsk } from './answer.mjs';
+export { DEFAULT_ATTRIBUTES, decodeAsk, encodeAsk, styleOf } from './answer.mjs';
 export { Fault } from './reader.mjs';
-export { Screen, styleOf } from './screen.mjs';
+export { Screen } from './screen.mjs';
 
 const AT_ONCE = 65536; // what is buffered stays near the limit, however much comes in one piece
 

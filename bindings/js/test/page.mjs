@@ -276,8 +276,9 @@ test('the cursor has its place, its shape and its colour', { skip }, async () =>
             const grid = ${ROOT}.querySelector('[part=grid]').getBoundingClientRect();
             const cell = grid.width / 20, row = grid.height / 4;
             return [Math.round((box.left - grid.left) / cell),
-                Math.round((box.top - grid.top) / row), Math.round(box.width / cell), style.display, style.backgroundColor,
-                style.borderBottomWidth, style.borderLeftWidth];
+                Math.round((box.top - grid.top) / row), Math.round(box.width / cell),
+                style.display, style.backgroundColor, style.borderBottomWidth,
+                style.borderLeftWidth];
         })()`)];
     };
     const red = [7, [255, 0, 0]], wide = [2, 'abか', [2, 1, 1, 1, 1, 2]];

@@ -20,7 +20,7 @@ export const DEFAULT_ATTRIBUTES = Object.freeze({
 
 /** The small attributes that a style holds. */
 export function styleOf(style) {
-    const value = ([shift, mask, most]) => (most ? style >> shift & mask : (style >> shift & 1) > 0);
+    const value = ([shift, mask, most]) => (most ? style >> shift & mask : !!(style >> shift & 1));
     return Object.fromEntries(Object.entries(FIELDS).map(([name, field]) => [name, value(field)]));
 }
 

@@ -48,7 +48,8 @@ export function lookOf(attributes) {
     if (!looks.has(attributes)) {
         const style = styleOf(attributes.style);
         const classes = BLINKS[style.blink] + ALIGNMENTS[style.alignment];
-        looks.set(attributes, { css: cssText(attributes, style), classes });
+        const isSmall = style.alignment > 0;
+        looks.set(attributes, { css: cssText(attributes, style), classes, isSmall });
     }
     return looks.get(attributes);
 }
@@ -63,11 +64,9 @@ export function addressOf(link) {
     }
 }
 
-const isPlain = ({ text, columns }) => columns === 1 && /^[ -~]$/.test(text);
-
-const isAlike = (span, { attributes }) => span.isPlain && (span.attributes === attributes
+const isAlike = (span, attributes) => span.attributes === attributes
     || span.attributes.link === attributes.link && span.look.css === lookOf(attributes).css
-    && span.look.classes === lookOf(attributes).classes);
+    && span.look.classes === lookOf(attributes).classes;
 
 /**
  * A row as spans of columns. Neighbours of ASCII that look alike are one; any other cell has a span
@@ -75,15 +74,15 @@ const isAlike = (span, { attributes }) => span.isPlain && (span.attributes === a
  */
 export function spansOf(screen, y) {
     const spans = [];
-    for (const [x, cell] of screen.cells(y)) {
-        const last = spans.at(-1);
-        if (isPlain(cell) && last && isAlike(last, cell)) {
-            last.text += cell.text;
+    for (const [x, { text, columns, attributes }] of screen.cells(y)) {
+        const last = spans.at(-1), look = lookOf(attributes);
+        const isPlain = columns === 1 && /^[ -~]$/.test(text) && !look.isSmall;
+        if (isPlain && last?.isPlain && isAlike(last, attributes)) {
+            last.text += text;
             last.columns++;
         } else {
-            const { text, attributes } = cell, columns = Math.min(cell.columns, screen.width - x);
-            const look = lookOf(attributes);
-            spans.push({ x, text, columns, attributes, look, isPlain: isPlain(cell) });
+            const shown = Math.min(columns, screen.width - x);
+            spans.push({ x, text, columns: shown, attributes, look, isPlain });
         }
     }
     return spans;

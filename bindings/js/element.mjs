@@ -105,7 +105,8 @@ export class TikeburoScreen extends HTMLElement {
 
     #start() {
         this.#stop();
-        this.#client = new Client({ ...this.#limits, onanswer: () => this.#later() });
+        const onanswer = () => this.#showAnswer(false), onstale = () => this.#showAnswer(true);
+        this.#client = new Client({ ...this.#limits, onanswer, onstale });
         if (!this.hasAttribute('src')) return;
         this.#connection = new AbortController();
         this.#connect(this.#client, this.#connection.signal);
@@ -116,7 +117,6 @@ export class TikeburoScreen extends HTMLElement {
     /** Follows the source, over new connections where one is lost. */
     async #connect(client, signal) {
         for (let wait = FIRST_WAIT; !signal.aborted; wait = Math.min(2 * wait, LONGEST_WAIT)) {
-            const answers = client.answers;
             let problem = null;
             client.restart();
             this.#say('connecting', '');
@@ -129,7 +129,7 @@ export class TikeburoScreen extends HTMLElement {
             if (signal.aborted) return;
             this.#say('lost', problem);
             if (FINAL.includes(client.fault?.kind)) return;
-            if (client.answers > answers) wait = FIRST_WAIT;
+            if (client.answers) wait = FIRST_WAIT;
             await pause(wait);
         }
     }
@@ -160,7 +160,6 @@ export class TikeburoScreen extends HTMLElement {
             if (response.status === 410) return true;
             client.feed(new Uint8Array(await response.arrayBuffer()));
             client.end();
-            if (!client.fault) this.#say('live', '');
             await nextFrame();
         }
         return false;
@@ -175,15 +174,16 @@ export class TikeburoScreen extends HTMLElement {
             if (done) break;
             if (!kept.length && value[0] === ENTRY) plays = true;
             if (plays) kept.push(value);
-            else this.#feed(client, value);
+            else client.feed(value);
         }
         if (plays) this.#open(new Uint8Array(await new Blob(kept).arrayBuffer()));
         return plays || client.end() === null;
     }
 
-    #feed(client, bytes) {
-        client.feed(bytes);
-        if (!client.fault) this.#say('live', '');
+    /** What leads on from another screen isn't shown: whoever joins late waits for a repaint. */
+    #showAnswer(isStale) {
+        this.#say('live', isStale ? 'waiting for a repaint' : '');
+        this.#later();
     }
 
     // ------------------------------------------------------------------ the player

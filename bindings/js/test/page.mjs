@@ -297,6 +297,18 @@ test('the cursor has its place, its shape and its colour', { skip }, async () =>
     assert.equal(place[3], 'none');
 });
 
+test('who joins late waits for a repaint', { skip }, async () => {
+    const kept = new Kept(), server = await serve({ port: 0, source: kept });
+    servers.push(server);
+    kept.put(sequence([2, 9, 20, 4, 3, 4, [[2, 'lost']]]));
+    const page = await browser.open(`http://127.0.0.1:${server.address().port}/`, 800, 600);
+    await page.until(`${ELEMENT}?.message === 'waiting for a repaint'`);
+    kept.put(repaint(5, [2, 'shown']));
+    await page.until(`${numberIs(5)} && ${ELEMENT}.message === ''`);
+    await drawn(page);
+    assert.equal(await shownText(page), 'shown|||');
+});
+
 test('a damaged stream: the screen stays, and the place is shown', { skip }, async () => {
     const kept = new Kept();
     kept.put(repaint(1, [2, 'it stays']));

@@ -24,9 +24,18 @@ fn main() {
             println!("cargo:rerun-if-changed={}", path.display());
         }
         if !paths.any(|path| path.exists()) {
-            println!("cargo:warning={file} isn't found: set TIKEBURO_LIB to its folder");
+            println!("cargo:warning={file} isn't found: {}", advice(library));
         }
         println!("cargo:rustc-link-lib=static={library}");
+    }
+}
+
+/// How a library is made, or found.
+fn advice(library: &str) -> &'static str {
+    if library == "tikeburo_c" {
+        "make it by `rt lib` in crates/tikeburo_c, or set TIKEBURO_LIB to its folder"
+    } else {
+        "it comes with the toolchain: put its `rt` on the path, or set TIKEBURO_LIB to its folder"
     }
 }
 

@@ -1,5 +1,6 @@
 //! Why calls fail.
 
+use crate::ffi;
 use std::fmt;
 
 /// Why a call failed. Unless the call says more, it has changed nothing.
@@ -28,14 +29,14 @@ impl Error {
     /// What the status of a call says.
     pub(crate) fn check(status: i32) -> Result<(), Error> {
         match status {
-            0 => Ok(()),
-            1 => Err(Error::Memory),
-            2 => Err(Error::Unreadable),
-            3 => Err(Error::ScrollRegion),
-            4 => Err(Error::Numbers),
-            5 => Err(Error::Size),
-            6 => Err(Error::Stale),
-            9 => Err(Error::Range),
+            ffi::DONE => Ok(()),
+            ffi::MEMORY => Err(Error::Memory),
+            ffi::UNREADABLE => Err(Error::Unreadable),
+            ffi::REGION => Err(Error::ScrollRegion),
+            ffi::NUMBERS => Err(Error::Numbers),
+            ffi::SIZE => Err(Error::Size),
+            ffi::STALE => Err(Error::Stale),
+            ffi::RANGE => Err(Error::Range),
             other => Err(Error::Unknown(other)),
         }
     }

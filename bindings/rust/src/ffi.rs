@@ -3,6 +3,14 @@
 
 use std::os::raw::c_void;
 
+pub const DONE: i32 = 0;
+pub const MEMORY: i32 = 1;
+pub const UNREADABLE: i32 = 2;
+pub const REGION: i32 = 3;
+pub const NUMBERS: i32 = 4;
+pub const SIZE: i32 = 5;
+pub const STALE: i32 = 6;
+pub const RANGE: i32 = 9;
 pub const SHORT: i32 = 10;
 
 #[repr(C)]
@@ -60,7 +68,6 @@ extern "C" {
     pub fn tk_free(handle: *mut tk_handle);
     pub fn tk_resize(handle: *mut tk_handle, width: usize, height: usize) -> i32;
     pub fn tk_flush(handle: *mut tk_handle, number: usize) -> i32;
-
     pub fn tk_size(handle: *mut tk_handle, width: *mut usize, height: *mut usize) -> i32;
     pub fn tk_cursor(handle: *mut tk_handle, column: *mut usize, row: *mut usize) -> i32;
     pub fn tk_cursor_is_visible(handle: *mut tk_handle, is_visible: *mut bool) -> i32;
@@ -96,7 +103,6 @@ extern "C" {
         room: usize,
         len: *mut usize,
     ) -> i32;
-
     pub fn tk_print(surface: *mut tk_handle, text: *const u8, len: usize) -> i32;
     pub fn tk_add_changes(surface: *mut tk_handle, bytes: *const u8, len: usize) -> i32;
     pub fn tk_draw(
@@ -114,7 +120,6 @@ extern "C" {
         to_column: usize,
         to_row: usize,
     ) -> i32;
-
     pub fn tk_answer(
         handle: *mut tk_handle,
         number: usize,

@@ -1,7 +1,7 @@
 #!/usr/bin/env python3
 """Measures what docs/speed.csv has of `crates/bench/out/bench`, and writes it there.
 
-    docs/measure.py [WORKLOAD..]     all workloads, or these; JOBS=2 runs two at a time
+    tools/measure.py [WORKLOAD..]     all workloads, or these; JOBS=2 runs two at a time
 
 It builds nothing: `cd crates/bench && rt run -- plain 10` does. Each workload runs under callgrind
 at the two counts of its row, and the difference over their distance is what one operation takes. A
@@ -9,6 +9,7 @@ row above the best peer's gets the functions that take most of it, each with its
 whose unit is `heap` runs under massif at its lower count, and the peak counts. A row whose unit is
 `bytes` is a reckoning, and stays as it is.
 """
+import argparse
 import csv
 import os
 import re
@@ -87,12 +88,18 @@ def measure(row):
 
 
 def main():
+    parser = argparse.ArgumentParser(description=__doc__,
+                                     formatter_class=argparse.RawDescriptionHelpFormatter)
+    parser.add_argument("workload", nargs="*", help="of docs/speed.csv; all, if there is none")
+    named = parser.parse_args().workload
     if not BENCH.exists():
         sys.exit("crates/bench/out/bench isn't built: cd crates/bench && rt run -- plain 10")
     with DATA.open(newline="") as file:
         reader = csv.DictReader(file)
         rows, columns = list(reader), reader.fieldnames
-    wanted = [row for row in rows if not sys.argv[1:] or row["workload"] in sys.argv[1:]]
+    for name in set(named) - {row["workload"] for row in rows}:
+        sys.exit(f"docs/speed.csv has no workload {name}")
+    wanted = [row for row in rows if not named or row["workload"] in named]
     with ThreadPoolExecutor(int(os.environ.get("JOBS", 1))) as jobs:
         list(jobs.map(measure, wanted))
     with DATA.open("w", newline="") as file:

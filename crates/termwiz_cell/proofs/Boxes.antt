@@ -1,5 +1,5 @@
 -- The one form of attributes: what stands in the word, and what in the box.
-use Rattle.std.proofs.Common.{◌≡◌, ℕ, Bool, true, Option, Some, None, refl, ap, sym, ◌∙◌}
+use Rattle.std.proofs.Common.{◌≡◌, Bool, true, false, Option, Some, None, refl, ap, sym, ◌∙◌}
 use Rattle.std.specs.Prelude.{is_none}
 use Rattle.std.specs.Bool.{Decides}
 use Rattle.std.proofs.lemmas.Bool.Decides.{Decides-like, Decides-and, same_from_decides}
@@ -10,28 +10,33 @@ use Rattle.termwiz_cell.specs.declared.cell.form.RareColor.TheVariants as which
 use Rattle.termwiz_cell.specs.Style.{Style}
 use Rattle.termwiz_cell.specs.declared.cell.attributes.CellAttributes.TheInside.{Inside}
 use Rattle.termwiz_cell.specs.declared.cell.form.Form.TheVariants as form
-use Rattle.termwiz_cell.specs.StyleWord.{style_at}
+use Rattle.termwiz_cell.specs.StyleWord.{style_at, word_part}
 use Rattle.termwiz_cell.specs.Link.{Link}
 use Rattle.termwiz_cell.specs.Attributes.{Attributes, default_attributes, is_default, color_eq-Decides, attributes_eq, attributes_eq-Decides, option_link_eq-Decides}
-use Rattle.termwiz_cell.specs.AttributesLayout.{Rare, rare_default, is_rare_default, with_color, style_in, rare_in, rare_eq, shown, is_apart, rare_part, palette_part, attributes_from, attributes_of, IsCanonical}
+use Rattle.termwiz_cell.specs.AttributesLayout.{Rare, rare_default, is_rare_default, with_color, style_in, rare_in, rare_eq, shown, is_apart, rare_part, attributes_from, attributes_of, IsCanonical}
 
-rare_part-shown : (rare : ColorAttribute) (index : Option ℕ) → is_apart rare index ≡ true → rare_part (shown rare index) ≡ rare
-rare_part-shown color.Default None h = refl
-rare_part-shown color.Default (Some n) h = refl
-rare_part-shown (color.TrueColorWithPaletteFallback c n) index h = refl
-rare_part-shown (color.TrueColorWithDefaultFallback c) index h = refl
-rare_part-shown (color.PaletteIndex n) index h = cc
+rare_part-shown : (rare word : ColorAttribute) → is_apart rare word ≡ true → rare_part (shown rare word) ≡ rare
+rare_part-shown color.Default color.Default h = refl
+rare_part-shown color.Default (color.PaletteIndex n) h = refl
+rare_part-shown color.Default (color.TrueColorWithDefaultFallback c) h = refl
+rare_part-shown color.Default (color.TrueColorWithPaletteFallback c n) h = cc
+rare_part-shown (color.TrueColorWithPaletteFallback c n) word h = refl
+rare_part-shown (color.TrueColorWithDefaultFallback c) word h = cc
+rare_part-shown (color.PaletteIndex n) word h = cc
 
-palette_part-shown : (rare : ColorAttribute) (index : Option ℕ) → is_apart rare index ≡ true → palette_part (shown rare index) ≡ index
-palette_part-shown color.Default None h = refl
-palette_part-shown color.Default (Some n) h = refl
-palette_part-shown (color.TrueColorWithPaletteFallback c n) None h = refl
-palette_part-shown (color.TrueColorWithPaletteFallback c n) (Some m) h = cc
-palette_part-shown (color.TrueColorWithDefaultFallback c) None h = refl
-palette_part-shown (color.TrueColorWithDefaultFallback c) (Some m) h = cc
-palette_part-shown (color.PaletteIndex n) index h = cc
+word_part-shown : (rare word : ColorAttribute) → is_apart rare word ≡ true → word_part (shown rare word) ≡ word
+word_part-shown color.Default color.Default h = refl
+word_part-shown color.Default (color.PaletteIndex n) h = refl
+word_part-shown color.Default (color.TrueColorWithDefaultFallback c) h = refl
+word_part-shown color.Default (color.TrueColorWithPaletteFallback c n) h = cc
+word_part-shown (color.TrueColorWithPaletteFallback c n) color.Default h = refl
+word_part-shown (color.TrueColorWithPaletteFallback c n) (color.PaletteIndex m) h = cc
+word_part-shown (color.TrueColorWithPaletteFallback c n) (color.TrueColorWithDefaultFallback d) h = cc
+word_part-shown (color.TrueColorWithPaletteFallback c n) (color.TrueColorWithPaletteFallback d m) h = cc
+word_part-shown (color.TrueColorWithDefaultFallback c) word h = cc
+word_part-shown (color.PaletteIndex n) word h = cc
 
--- the small attributes
+-- the attributes that the word has
 abbrev style_of : Attributes → Style
 style_of a = record {
   intensity = a.intensity;
@@ -45,8 +50,8 @@ style_of a = record {
   overline = a.overline;
   semantic_type = a.semantic_type;
   vertical_align = a.vertical_align;
-  foreground = palette_part a.foreground;
-  background = palette_part a.background;
+  foreground = word_part a.foreground;
+  background = word_part a.background;
 }
 
 -- the rare attributes
@@ -55,7 +60,7 @@ rare_from a = record { foreground = rare_part a.foreground; background = rare_pa
 
 module _ (style : Style) (rare : Rare) (hf : is_apart rare.foreground style.foreground ≡ true) (hb : is_apart rare.background style.background ≡ true) where
   style_of-attributes_from : style_of (attributes_from style rare) ≡ style
-  style_of-attributes_from i = record style { foreground = palette_part-shown rare.foreground style.foreground hf i; background = palette_part-shown rare.background style.background hb i }
+  style_of-attributes_from i = record style { foreground = word_part-shown rare.foreground style.foreground hf i; background = word_part-shown rare.background style.background hb i }
 
   rare_from-attributes_from : rare_from (attributes_from style rare) ≡ rare
   rare_from-attributes_from i = record rare { foreground = rare_part-shown rare.foreground style.foreground hf i; background = rare_part-shown rare.background style.background hb i }
@@ -98,6 +103,12 @@ pub default_color_alone : (which : RareColor) (value : ColorAttribute) → is_ra
 default_color_alone which.Foreground value h = ap (λ (r : Rare). is_default r.foreground) (rare_default_only (with_color which.Foreground rare_default value) h)
 default_color_alone which.Background value h = ap (λ (r : Rare). is_default r.background) (rare_default_only (with_color which.Background rare_default value) h)
 default_color_alone which.Underline value h = ap (λ (r : Rare). is_default r.underline_color) (rare_default_only (with_color which.Underline rare_default value) h)
+
+-- one colour that isn't the default needs the box
+pub color_needs_box : (which : RareColor) (value : ColorAttribute) → is_default value ≡ false → is_rare_default (with_color which rare_default value) ≡ false
+color_needs_box which.Foreground value h = rw h refl
+color_needs_box which.Background value h = rw h refl
+color_needs_box which.Underline value h = rw h refl
 
 -- attributes are equal exactly where word and box are
 pub same-parts : (a b : Inside) → IsCanonical a → IsCanonical b → (same : Bool) → Decides same ((style_in a.form ≡ style_in b.form) × (rare_in a.form ≡ rare_in b.form)) → same ≡ attributes_eq (attributes_of a) (attributes_of b)

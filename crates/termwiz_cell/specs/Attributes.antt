@@ -103,15 +103,15 @@ abbrev pub is_default : ColorAttribute → Bool
 is_default color.Default = true
 is_default _ = false
 
-abbrev pub is_true_color : ColorAttribute → Bool
-is_true_color (color.TrueColorWithPaletteFallback _ _) = true
-is_true_color (color.TrueColorWithDefaultFallback _) = true
-is_true_color (color.PaletteIndex _) = false
-is_true_color color.Default = false
+-- a true colour that the palette stands in for
+abbrev pub has_palette_fallback : ColorAttribute → Bool
+has_palette_fallback (color.TrueColorWithPaletteFallback _ _) = true
+has_palette_fallback _ = false
 
--- the attributes take memory: they have a true colour, an underline colour that isn't the default, or a link
+-- the attributes take memory: they have a true colour with a palette's fallback, an underline colour that isn't the
+-- default, or a link
 abbrev pub needs_box : Attributes → Bool
-needs_box a = is_true_color a.foreground || (is_true_color a.background || (not (is_default a.underline_color) || is_some a.hyperlink))
+needs_box a = has_palette_fallback a.foreground || (has_palette_fallback a.background || (not (is_default a.underline_color) || is_some a.hyperlink))
 
 module _ (a b : Attributes) where
   bits_inj-at : {T : Type 0} (number : T → ℕ) (at : ℕ → T) (back : (v : T) → at (number v) ≡ v) (k : ℕ) (x y : T) → get_or (bits_of a) k 0 ≡ number x → get_or (bits_of b) k 0 ≡ number y → bits_of a ≡ bits_of b → x ≡ y

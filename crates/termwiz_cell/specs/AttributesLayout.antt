@@ -1,5 +1,5 @@
 -- How the fields of `CellAttributes` give the attributes.
-use Rattle.std.specs.Prelude.{◌≡◌, ℕ, Bool, true, false, ◌&&◌, Option, None, Some, is_none, ⊤}
+use Rattle.std.specs.Prelude.{◌≡◌, Bool, true, false, ◌&&◌, not, Option, None, is_none, ⊤}
 use Rattle.termwiz_cell.specs.declared.color.ColorAttribute.{ColorAttribute}
 use Rattle.termwiz_cell.specs.declared.color.ColorAttribute.TheVariants as color
 use Rattle.termwiz_cell.specs.declared.cell.form.Full.{Full}
@@ -10,9 +10,9 @@ use Rattle.termwiz_cell.specs.declared.cell.form.RareColor.TheVariants as which
 use Rattle.termwiz_cell.specs.declared.cell.attributes.CellAttributes.TheInside.{Inside}
 use Rattle.termwiz_cell.specs.Link.{Link, linked}
 use Rattle.termwiz_cell.specs.Style.{Style}
-use Rattle.termwiz_cell.specs.Attributes.{Attributes, is_default, color_eq, option_link_eq}
+use Rattle.termwiz_cell.specs.Attributes.{Attributes, is_default, has_palette_fallback, color_eq, option_link_eq}
 
--- the attributes that few cells have
+-- the attributes that few cells have: the underline colour, the link, and true colours with a palette's fallback
 pub record Rare : Type 0 where
   pub foreground : ColorAttribute
   pub background : ColorAttribute
@@ -65,32 +65,22 @@ abbrev pub IsNeeded : Form → Type 0
 IsNeeded (form.Plain _) = ⊤
 IsNeeded (form.Boxed b) = is_rare_default (full_rare b.value) ≡ false
 
--- the rare colour, and in its absence the palette's
-abbrev pub shown : ColorAttribute → Option ℕ → ColorAttribute
-shown color.Default None = color.Default
-shown color.Default (Some index) = color.PaletteIndex index
-shown (color.TrueColorWithPaletteFallback c index) _ = color.TrueColorWithPaletteFallback c index
-shown (color.TrueColorWithDefaultFallback c) _ = color.TrueColorWithDefaultFallback c
-shown (color.PaletteIndex index) _ = color.PaletteIndex index
+-- the rare colour, and in its absence the word's
+abbrev pub shown : ColorAttribute → ColorAttribute → ColorAttribute
+shown color.Default word = word
+shown rare _ = rare
 
 -- the part of a colour that is rare
 abbrev pub rare_part : ColorAttribute → ColorAttribute
 rare_part (color.TrueColorWithPaletteFallback c index) = color.TrueColorWithPaletteFallback c index
-rare_part (color.TrueColorWithDefaultFallback c) = color.TrueColorWithDefaultFallback c
-rare_part (color.PaletteIndex _) = color.Default
-rare_part color.Default = color.Default
+rare_part _ = color.Default
 
--- the part of a colour that the word has
-abbrev pub palette_part : ColorAttribute → Option ℕ
-palette_part (color.PaletteIndex index) = Some index
-palette_part _ = None
-
--- a rare colour is the default, or a true one beside which the palette has none
-abbrev pub is_apart : ColorAttribute → Option ℕ → Bool
-is_apart color.Default _ = true
-is_apart (color.TrueColorWithPaletteFallback _ _) index = is_none index
-is_apart (color.TrueColorWithDefaultFallback _) index = is_none index
-is_apart (color.PaletteIndex _) _ = false
+-- a rare colour is the default, or a true one with a palette's fallback, beside which the word has the default; and the
+-- word has none of those
+abbrev pub is_apart : ColorAttribute → ColorAttribute → Bool
+is_apart color.Default word = not (has_palette_fallback word)
+is_apart (color.TrueColorWithPaletteFallback _ _) word = is_default word
+is_apart _ _ = false
 
 abbrev pub attributes_from : Style → Rare → Attributes
 attributes_from style rare = record {

@@ -1,5 +1,5 @@
 -- The small attributes: their numbers, which compare them, and whether they are on.
-use Rattle.std.specs.Prelude.{◌≡◌, ℕ, Bool, true, false, ◌==◌, Option, if◌then◌else◌, refl}
+use Rattle.std.specs.Prelude.{◌≡◌, ℕ, Bool, true, false, ◌==◌, if◌then◌else◌, refl}
 use Rattle.std.specs.Bool.{Decides}
 use Rattle.std.proofs.Common.{ap, sym, ◌∙◌}
 use Rattle.std.proofs.lemmas.Bool.Decides.{Decides-like, Decides-eqb}
@@ -13,8 +13,9 @@ use Rattle.termwiz_cell.specs.declared.cell.style.SemanticType.{SemanticType}
 use Rattle.termwiz_cell.specs.declared.cell.style.SemanticType.TheVariants.{Output, Input, Prompt}
 use Rattle.termwiz_cell.specs.declared.cell.style.VerticalAlign.{VerticalAlign}
 use Rattle.termwiz_cell.specs.declared.cell.style.VerticalAlign.TheVariants.{BaseLine, SuperScript, SubScript}
+use Rattle.termwiz_cell.specs.declared.color.ColorAttribute.{ColorAttribute}
 
--- the small attributes: all but true colours, the underline colour and the link; the colours are palette indices
+-- the attributes that one word holds: all but the underline colour, the link and true colours with a palette's fallback
 pub record Style : Type 0 where
   pub intensity : Intensity
   pub underline : Underline
@@ -27,8 +28,8 @@ pub record Style : Type 0 where
   pub overline : Bool
   pub semantic_type : SemanticType
   pub vertical_align : VerticalAlign
-  pub foreground : Option ℕ
-  pub background : Option ℕ
+  pub foreground : ColorAttribute
+  pub background : ColorAttribute
 
 abbrev pub intensity_number : Intensity → ℕ
 intensity_number Normal = 0

@@ -1,65 +1,89 @@
--- A style as one word: its digits, the lowest first.
-use Rattle.std.specs.Prelude.{ℕ, List, [], ◌∷◌, ◌+◌, ◌-◌, ◌*◌, ◌/◌, ◌%◌, ◌^◌, ◌<◌, false, ◌==◌, Option, Some, None, if◌then◌else◌}
+-- A style as one word: its digits to mixed radices, the lowest first.
+use Rattle.std.specs.Prelude.{ℕ, List, [], ◌∷◌, ◌+◌, ◌-◌, ◌*◌, ◌/◌, ◌%◌, ◌^◌, ◌<◌, false, ◌==◌, nat_lt, if◌then◌else◌, ⊤}
 use Rattle.termwiz_cell.specs.Style.{intensity_number, intensity_at, underline_number, underline_at, blink_number, blink_at, semantic_number, semantic_at, vertical_number, vertical_at, flag_number, flag_at}
+use Rattle.termwiz_cell.specs.Rgb.{Rgb, rgb}
 use Rattle.termwiz_cell.specs.declared.cell.style.Underline.TheVariants as underline
 use Rattle.termwiz_cell.specs.declared.cell.style.SemanticType.TheVariants.{Output}
+use Rattle.termwiz_cell.specs.declared.color.ColorAttribute.{ColorAttribute}
+use Rattle.termwiz_cell.specs.declared.color.ColorAttribute.TheVariants as color
 use Rattle.termwiz_cell.specs.Style.{Style}
 
--- the digit of a palette index: 0 for none, and else the index plus 1
-abbrev pub palette_number : Option ℕ → ℕ
-palette_number None = 0
-palette_number (Some index) = index + 1
+-- a true colour as a number below 2 ^ 24
+abbrev pub rgb_number : Rgb → ℕ
+rgb_number c = c.red * 65536 + c.green * 256 + c.blue
 
-abbrev pub palette_at : ℕ → Option ℕ
-palette_at n = if n == 0 then None else Some (n - 1)
+abbrev pub rgb_at : ℕ → Rgb
+rgb_at n = rgb (n / 65536) (n / 256 % 256) (n % 256)
+
+-- the digit of a colour, below 16777473: 0 for the default, the index plus 1 for one of the palette, and from 257 on the
+-- true ones. True ones with a palette's fallback have none of their own
+abbrev pub color_number : ColorAttribute → ℕ
+color_number color.Default = 0
+color_number (color.PaletteIndex index) = index + 1
+color_number (color.TrueColorWithDefaultFallback c) = 257 + rgb_number c
+color_number (color.TrueColorWithPaletteFallback _ _) = 0
+
+abbrev pub color_at : ℕ → ColorAttribute
+color_at n =
+    if n == 0 then color.Default
+    else if nat_lt n 257 then color.PaletteIndex (n - 1)
+    else color.TrueColorWithDefaultFallback (rgb_at (n - 257))
 
 -- the style that a word spells
 abbrev pub style_at : ℕ → Style
 style_at w = record {
   intensity = intensity_at (w % 4);
   underline = underline_at (w / 2 ^ 2 % 8);
-  blink = blink_at (w / 2 ^ 5 % 4);
-  italic = flag_at (w / 2 ^ 7 % 2);
-  reverse = flag_at (w / 2 ^ 8 % 2);
-  strikethrough = flag_at (w / 2 ^ 9 % 2);
-  invisible = flag_at (w / 2 ^ 10 % 2);
-  wrapped = flag_at (w / 2 ^ 11 % 2);
-  overline = flag_at (w / 2 ^ 12 % 2);
-  semantic_type = semantic_at (w / 2 ^ 13 % 4);
-  vertical_align = vertical_at (w / 2 ^ 15 % 4);
-  foreground = palette_at (w / 2 ^ 17 % 512);
-  background = palette_at (w / 2 ^ 26 % 512);
+  italic = flag_at (w / 2 ^ 5 % 2);
+  reverse = flag_at (w / 2 ^ 6 % 2);
+  strikethrough = flag_at (w / 2 ^ 7 % 2);
+  invisible = flag_at (w / 2 ^ 8 % 2);
+  wrapped = flag_at (w / 2 ^ 9 % 2);
+  overline = flag_at (w / 2 ^ 10 % 2);
+  blink = blink_at (w / 2 ^ 11 % 3);
+  semantic_type = semantic_at (w / 6144 % 3);
+  vertical_align = vertical_at (w / 18432 % 3);
+  foreground = color_at (w / 55296 % 16777473);
+  background = color_at (w / 927727147008);
 }
 
--- each digit of the word spells a value, and the word has no others
+-- each digit of the word spells a value; those of other radices than these always do
 pub record IsStyleWord (w : ℕ) : Type 0 where
   pub intensity : w % 4 < 3
   pub underline : w / 2 ^ 2 % 8 < 6
-  pub blink : w / 2 ^ 5 % 4 < 3
-  pub semantic_type : w / 2 ^ 13 % 4 < 3
-  pub vertical_align : w / 2 ^ 15 % 4 < 3
-  pub foreground : w / 2 ^ 17 % 512 < 257
-  pub background : w / 2 ^ 26 % 512 < 257
-  pub whole : w < 2 ^ 35
+  pub background : w / 927727147008 < 16777473
 
 -- the word with these digits, the lowest first
-abbrev pub word_of_digits : (a b c d e f g h i j k l m : ℕ) → ℕ
-word_of_digits a b c d e f g h i j k l m = a + b * 2 ^ 2 + c * 2 ^ 5 + d * 2 ^ 7 + e * 2 ^ 8 + f * 2 ^ 9 + g * 2 ^ 10 + h * 2 ^ 11 + i * 2 ^ 12 + j * 2 ^ 13 + k * 2 ^ 15 + l * 2 ^ 17 + m * 2 ^ 26
+abbrev pub word_of_digits : (intensity underline italic reverse strikethrough invisible wrapped overline blink semantic vertical foreground background : ℕ) → ℕ
+word_of_digits intensity underline italic reverse strikethrough invisible wrapped overline blink semantic vertical foreground background = intensity + underline * 2 ^ 2 + italic * 2 ^ 5 + reverse * 2 ^ 6 + strikethrough * 2 ^ 7 + invisible * 2 ^ 8 + wrapped * 2 ^ 9 + overline * 2 ^ 10 + blink * 2 ^ 11 + semantic * 6144 + vertical * 18432 + foreground * 55296 + background * 927727147008
 
 -- the word that spells a style
 abbrev pub word_of : Style → ℕ
-word_of s = word_of_digits (intensity_number s.intensity) (underline_number s.underline) (blink_number s.blink)
+word_of s = word_of_digits (intensity_number s.intensity) (underline_number s.underline)
     (flag_number s.italic) (flag_number s.reverse) (flag_number s.strikethrough) (flag_number s.invisible)
-    (flag_number s.wrapped) (flag_number s.overline) (semantic_number s.semantic_type)
-    (vertical_number s.vertical_align) (palette_number s.foreground) (palette_number s.background)
+    (flag_number s.wrapped) (flag_number s.overline) (blink_number s.blink) (semantic_number s.semantic_type)
+    (vertical_number s.vertical_align) (color_number s.foreground) (color_number s.background)
 
--- a palette index is a byte
-abbrev pub IsPalette : Option ℕ → Type 0
-IsPalette None = Unit {0}
-IsPalette (Some index) = index < 256
+-- a true colour has bytes
+pub record IsRgb (c : Rgb) : Type 0 where
+  pub red : c.red < 256
+  pub green : c.green < 256
+  pub blue : c.blue < 256
 
-abbrev pub HasPalette : Style → Type 0
-HasPalette s = IsPalette s.foreground × IsPalette s.background
+-- the part of a colour that a word holds: a true one with a palette's fallback stands elsewhere
+abbrev pub word_part : ColorAttribute → ColorAttribute
+word_part (color.TrueColorWithPaletteFallback _ _) = color.Default
+word_part c = c
+
+-- a word holds this colour
+abbrev pub FitsWord : ColorAttribute → Type 0
+FitsWord color.Default = ⊤
+FitsWord (color.PaletteIndex index) = index < 256
+FitsWord (color.TrueColorWithDefaultFallback c) = IsRgb c
+FitsWord (color.TrueColorWithPaletteFallback _ _) = ⊥
+
+abbrev pub HasColors : Style → Type 0
+HasColors s = FitsWord s.foreground × FitsWord s.background
 
 -- the attributes that are no colour and no link, as numbers
 abbrev pub bits_at : Style → List ℕ

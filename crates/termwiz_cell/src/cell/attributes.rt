@@ -4,7 +4,7 @@ ghost use Rattle.termwiz_cell.specs.{IfOk, IsOk, OnOk, attribute_change_value, a
 ghost use Rattle.termwiz_cell.specs.{attributes_eq-Decides, bits_of, decided, default_attributes};
 ghost use Rattle.termwiz_cell.specs.{false, has_only_background, linked, needs_box, sgr_only};
 ghost use Rattle.termwiz_cell.specs.{partial_equiv_from_equiv, takes_memory, with_attribute};
-ghost use Rattle.termwiz_cell.specs.{palette_part, rare_part, shown, without_colors};
+ghost use Rattle.termwiz_cell.specs.{rare_part, shown, without_colors};
 
 use super::attribute_change::AttributeChange;
 use super::form::{Form, RareColor, clone_link, is_default_color};
@@ -19,9 +19,10 @@ use std::rc::Rc;
 /// The attributes of a cell: how its text is drawn, whether that is output, input or a prompt,
 /// whether its row was wrapped behind it, and its link.
 ///
-/// All but true colours, the underline colour and the link stand in one word. Those take
-/// memory, which is given back once all of them have their defaults again. A clone can only fail
-/// where it takes memory. Calls that begin with `set_` answer the attributes, and can be chained.
+/// All stand in one word but the underline colour, the link, and true colours with a palette's
+/// fallback. Those take memory, which is given back once all of them have their defaults again. A
+/// clone can only fail where it takes memory. Calls that begin with `set_` answer the attributes,
+/// and can be chained.
 #[derive(Drop)]
 pub struct CellAttributes {
     form: Form,
@@ -287,10 +288,9 @@ impl CellAttributes {
         ensures succeeds { needs_box (record self.old { foreground = value }) ≡ false →
             IsOk result }
     {
-        let palette = palette_part(&value);
-        let rare = rare_part(value);
+        let rare = rare_part(&value);
         self.form.set_color(alloc, RareColor::Foreground, rare)?;
-        self.form.style_mut().set_foreground(palette);
+        self.form.style_mut().set_foreground(value);
         Ok(())
     }
 
@@ -331,10 +331,9 @@ impl CellAttributes {
         ensures succeeds { needs_box (record self.old { background = value }) ≡ false →
             IsOk result }
     {
-        let palette = palette_part(&value);
-        let rare = rare_part(value);
+        let rare = rare_part(&value);
         self.form.set_color(alloc, RareColor::Background, rare)?;
-        self.form.style_mut().set_background(palette);
+        self.form.style_mut().set_background(value);
         Ok(())
     }
 
@@ -421,7 +420,8 @@ impl CellAttributes {
 
     /// A copy with the semantic type `Output`, and no underline, overline, strike through and
     /// link. The other attributes are kept, the underline colour and the wrapped mark too. It can
-    /// only fail where the copy takes memory, for a true colour or an underline colour.
+    /// only fail where the copy takes memory, for an underline colour or a true colour with a
+    /// palette's fallback.
     pub fn clone_sgr_only(&self, alloc: Global) -> Result<CellAttributes, AllocError>
         ensures ok { IfOk result (λ copy. copy ≡ sgr_only self.now) }
         ensures succeeds { needs_box (sgr_only self.now) ≡ false → IsOk result }
@@ -508,36 +508,23 @@ impl CellAttributes {
     }
 }
 
-/// The rare colour, or else the palette's.
-fn shown(rare: ColorAttribute, index: Option<u8>) -> ColorAttribute
-    ensures { result ≡ shown rare index }
+/// The rare colour, or else the word's.
+fn shown(rare: ColorAttribute, word: ColorAttribute) -> ColorAttribute
+    ensures { result ≡ shown rare word }
 {
     match rare {
-        ColorAttribute::Default => match index {
-            None => ColorAttribute::Default,
-            Some(index) => ColorAttribute::PaletteIndex(index),
-        },
+        ColorAttribute::Default => word,
         rare => rare,
     }
 }
 
 /// The part of a colour that the box has.
-fn rare_part(color: ColorAttribute) -> ColorAttribute
-    ensures { result ≡ rare_part color }
+fn rare_part(color: &ColorAttribute) -> ColorAttribute
+    ensures { result ≡ rare_part color.now }
 {
     match color {
-        ColorAttribute::PaletteIndex(_) => ColorAttribute::Default,
-        color => color,
-    }
-}
-
-/// The part of a colour that the word has.
-fn palette_part(color: &ColorAttribute) -> Option<u8>
-    ensures { result ≡ palette_part color.now }
-{
-    match color {
-        ColorAttribute::PaletteIndex(index) => Some(*index),
-        _ => None,
+        ColorAttribute::TrueColorWithPaletteFallback(_, _) => *color,
+        _ => ColorAttribute::Default,
     }
 }
 

@@ -234,6 +234,7 @@ impl Form {
     }
 
     /// Sets the link. It can only fail where a box is needed that was not there.
+    #[tactic(auto, using(crate::proofs::Boxes::rare_default_only))]
     pub(super) fn set_hyperlink(
         &mut self,
         alloc: Global,

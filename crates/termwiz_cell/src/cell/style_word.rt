@@ -1,12 +1,17 @@
-//! The small attributes, packed in one word.
+//! Attributes packed in one word.
 ghost use Rattle.std.specs.Prelude.{◌≡◌, ◌+◌, ◌-◌, ◌*◌, ◌/◌, ◌%◌, ◌^◌, ◌<◌, ◌↔◌, IsTrue};
-ghost use Rattle.termwiz_cell.specs.{IsPalette, bits_at, flag_number, palette_at, palette_number};
-ghost use Rattle.termwiz_cell.specs.{style_at, style_sgr_only};
+ghost use Rattle.termwiz_cell.specs.{FitsWord, IsRgb, bits_at, color_at, color_number, flag_number};
+ghost use Rattle.termwiz_cell.specs.{rgb_at, rgb_number, style_at, style_sgr_only, word_part};
 
 use super::style::{Blink, Intensity, SemanticType, Underline, VerticalAlign};
+use crate::color::{ColorAttribute, RgbColor};
 use std::marker::Model;
 
-/// The small attributes in a word: one digit each, the lowest first. A style has one word.
+/// Attributes in a word: one digit each, to a radix of its own. A style has one word.
+///
+/// The word holds all attributes but the underline colour, the link and true colours with a
+/// palette's fallback: 55296 styles and 16777473 colours for text and background each are fewer
+/// than 2^64 words.
 #[derive(Drop)]
 pub(super) struct StyleWord {
     word: u64,
@@ -24,40 +29,44 @@ impl Model for StyleWord {
     ghost invariant = { λ s. IsStyleWord s.word };
 }
 
-// The place of each digit. A digit ends where the next begins.
+// The place of each digit, the lowest first: a digit ends where the next begins. Those to a power
+// of two come first, since they are read without a division.
 const INTENSITY: u64 = 1;
 
 const UNDERLINE: u64 = 1 << 2;
 
-const BLINK: u64 = 1 << 5;
+const ITALIC: u64 = 1 << 5;
 
-const ITALIC: u64 = 1 << 7;
+const REVERSE: u64 = 1 << 6;
 
-const REVERSE: u64 = 1 << 8;
+const STRIKETHROUGH: u64 = 1 << 7;
 
-const STRIKETHROUGH: u64 = 1 << 9;
+const INVISIBLE: u64 = 1 << 8;
 
-const INVISIBLE: u64 = 1 << 10;
+const WRAPPED: u64 = 1 << 9;
 
-const WRAPPED: u64 = 1 << 11;
+const OVERLINE: u64 = 1 << 10;
 
-const OVERLINE: u64 = 1 << 12;
+const BLINK: u64 = 1 << 11;
 
-const SEMANTIC_TYPE: u64 = 1 << 13;
+const SEMANTIC_TYPE: u64 = BLINK * 3;
 
-const VERTICAL_ALIGN: u64 = 1 << 15;
+const VERTICAL_ALIGN: u64 = SEMANTIC_TYPE * 3;
 
-const FOREGROUND: u64 = 1 << 17;
+const FOREGROUND: u64 = VERTICAL_ALIGN * 3;
 
-const BACKGROUND: u64 = 1 << 26;
+const BACKGROUND: u64 = FOREGROUND * COLORS;
+
+// The default colour, 256 of the palette, and 2^24 true ones.
+const COLORS: u64 = 16777473;
 
 /// The word with this digit to the base `radix` at the place.
 #[inline]
 fn with_digit(word: u64, place: u64, radix: u64, digit: u64) -> u64
     requires place { 0 < place }
     requires radix { 0 < radix }
-    requires word { word < 2 ^ 35 }
-    requires digit { digit * place < 2 ^ 36 }
+    requires digit { digit * place < 2 ^ 64 }
+    requires fits { word - word / place % radix * place + digit * place < 2 ^ 64 }
     ensures { result ≡ word - word / place % radix * place + digit * place }
 {
     word - word / place % radix * place + digit * place
@@ -71,27 +80,51 @@ fn flag_digit(flag: bool) -> u64
     if flag { 1 } else { 0 }
 }
 
-/// A digit below 257: 0 for none, and else the index plus 1.
-fn palette_digit(index: Option<u8>) -> u64
-    ensures value { result ≡ palette_number index }
-    ensures palette { IsPalette index }
-    ensures bound { result < 257 }
+/// The digit of a colour: 0 for the default, the index plus 1 for one of the palette, and from 257
+/// on the true ones. One with a palette's fallback has the default's.
+fn color_digit(color: ColorAttribute) -> u64
+    ensures value { result ≡ color_number (word_part color) }
+    ensures fits { FitsWord (word_part color) }
+    ensures bound { result < 16777473 }
 {
-    match index {
-        None => 0,
-        Some(index) => index as u64 + 1,
+    match color {
+        ColorAttribute::TrueColorWithDefaultFallback(rgb) => 257 + rgb_number(rgb),
+        ColorAttribute::PaletteIndex(index) => index as u64 + 1,
+        ColorAttribute::TrueColorWithPaletteFallback(_, _) | ColorAttribute::Default => 0,
     }
 }
 
-fn palette_from(digit: u64) -> Option<u8>
-    requires { digit < 257 }
-    ensures { result ≡ palette_at digit }
+fn color_from(digit: u64) -> ColorAttribute
+    requires { digit < 16777473 }
+    ensures { result ≡ color_at digit }
 {
     if digit == 0 {
-        None
+        ColorAttribute::Default
+    } else if digit < 257 {
+        ColorAttribute::PaletteIndex((digit - 1) as u8)
     } else {
-        Some((digit - 1) as u8)
+        ColorAttribute::TrueColorWithDefaultFallback(rgb_from(digit - 257))
     }
+}
+
+/// A true colour as a number below 2^24.
+fn rgb_number(color: RgbColor) -> u64
+    ensures value { result ≡ rgb_number color }
+    ensures bytes { IsRgb color }
+{
+    let (red, green, blue) = color.to_tuple_rgb8();
+    red as u64 * 65536 + green as u64 * 256 + blue as u64
+}
+
+fn rgb_from(number: u64) -> RgbColor
+    requires { number < 2 ^ 24 }
+    ensures { result ≡ rgb_at number }
+{
+    RgbColor::new_8bpc(
+        (number / 65536) as u8,
+        (number / 256 % 256) as u8,
+        (number % 256) as u8,
+    )
 }
 
 impl StyleWord {
@@ -174,14 +207,14 @@ impl StyleWord {
     pub(super) fn blink(&self) -> Blink
         ensures { result ≡ self.now.blink }
     {
-        Blink::from_number(self.word / BLINK % 4)
+        Blink::from_number(self.word / BLINK % 3)
     }
 
     #[tactic(auto, using(crate::proofs::StyleSetters::blink))]
     pub(super) fn set_blink(&mut self, value: Blink)
         ensures { self.new ≡ record self.old { blink = value } }
     {
-        let word = with_digit(self.word, BLINK, 4, value.number());
+        let word = with_digit(self.word, BLINK, 3, value.number());
         *self = StyleWord { word };
     }
 
@@ -272,56 +305,58 @@ impl StyleWord {
     pub(super) fn semantic_type(&self) -> SemanticType
         ensures { result ≡ self.now.semantic_type }
     {
-        SemanticType::from_number(self.word / SEMANTIC_TYPE % 4)
+        SemanticType::from_number(self.word / SEMANTIC_TYPE % 3)
     }
 
     #[tactic(auto, using(crate::proofs::StyleSetters::semantic_type))]
     pub(super) fn set_semantic_type(&mut self, value: SemanticType)
         ensures { self.new ≡ record self.old { semantic_type = value } }
     {
-        let word = with_digit(self.word, SEMANTIC_TYPE, 4, value.number());
+        let word = with_digit(self.word, SEMANTIC_TYPE, 3, value.number());
         *self = StyleWord { word };
     }
 
     pub(super) fn vertical_align(&self) -> VerticalAlign
         ensures { result ≡ self.now.vertical_align }
     {
-        VerticalAlign::from_number(self.word / VERTICAL_ALIGN % 4)
+        VerticalAlign::from_number(self.word / VERTICAL_ALIGN % 3)
     }
 
     #[tactic(auto, using(crate::proofs::StyleSetters::vertical_align))]
     pub(super) fn set_vertical_align(&mut self, value: VerticalAlign)
         ensures { self.new ≡ record self.old { vertical_align = value } }
     {
-        let word = with_digit(self.word, VERTICAL_ALIGN, 4, value.number());
+        let word = with_digit(self.word, VERTICAL_ALIGN, 3, value.number());
         *self = StyleWord { word };
     }
 
-    pub(super) fn foreground(&self) -> Option<u8>
+    pub(super) fn foreground(&self) -> ColorAttribute
         ensures { result ≡ self.now.foreground }
     {
-        palette_from(self.word / FOREGROUND % 512)
+        color_from(self.word / FOREGROUND % COLORS)
     }
 
+    /// Sets the part of a colour that the word holds.
     #[tactic(auto, using(crate::proofs::StyleSetters::foreground))]
-    pub(super) fn set_foreground(&mut self, value: Option<u8>)
-        ensures { self.new ≡ record self.old { foreground = value } }
+    pub(super) fn set_foreground(&mut self, value: ColorAttribute)
+        ensures { self.new ≡ record self.old { foreground = word_part value } }
     {
-        let word = with_digit(self.word, FOREGROUND, 512, palette_digit(value));
+        let word = with_digit(self.word, FOREGROUND, COLORS, color_digit(value));
         *self = StyleWord { word };
     }
 
-    pub(super) fn background(&self) -> Option<u8>
+    pub(super) fn background(&self) -> ColorAttribute
         ensures { result ≡ self.now.background }
     {
-        palette_from(self.word / BACKGROUND % 512)
+        color_from(self.word / BACKGROUND)
     }
 
+    /// Sets the part of a colour that the word holds.
     #[tactic(auto, using(crate::proofs::StyleSetters::background))]
-    pub(super) fn set_background(&mut self, value: Option<u8>)
-        ensures { self.new ≡ record self.old { background = value } }
+    pub(super) fn set_background(&mut self, value: ColorAttribute)
+        ensures { self.new ≡ record self.old { background = word_part value } }
     {
-        let word = with_digit(self.word, BACKGROUND, 512, palette_digit(value));
+        let word = self.word % BACKGROUND + color_digit(value) * BACKGROUND;
         *self = StyleWord { word };
     }
 }

@@ -1,5 +1,5 @@
-use Rattle.std.proofs.Common.{◌≡◌, ℕ, ◌+◌, ◌-◌, ◌*◌, ◌/◌, ◌%◌, ◌^◌, ap, ◌∙◌}
-use Rattle.termwiz_cell.specs.Style.{Style, intensity_number}
+use Rattle.std.proofs.Common.{ℕ, ◌+◌, ◌-◌, ◌*◌, ◌/◌, ◌%◌, ap, ◌∙◌}
+use Rattle.termwiz_cell.specs.Style.{Style}
 use Rattle.termwiz_cell.specs.StyleWord.{style_at}
 use Rattle.termwiz_cell.proofs.StyleSetters.{intensity-spelt}
 use Rattle.termwiz_cell.proofs.cell.style_word.StyleWord.set_intensity.Goals as goal

@@ -1,7 +1,12 @@
-use Rattle.std.proofs.Common.{arith}
+use Rattle.std.proofs.Common.{length, ap, arith}
 use Rattle.std.proofs.lemmas.Bool.{or_parts}
+use Rattle.termwiz_storage.proofs.Halves.{length-torn}
 use Rattle.termwiz_storage.proofs.Owned.{marked_all, nothing_inserted_at_margin, nothing_remove}
 use Rattle.termwiz_storage.proofs.line.vecstorage.VecStorage.erase_cell_with_margin.Goals as goal
+
+pub shift_to_margin-requires-clause-place : goal.shift_to_margin-requires-clause-place
+shift_to_margin-requires-clause-place c =
+    omega (arith, c.if-x-len.true, c.len.ensures, ap length c.self.view_is, c.self.inside.cells.ok.0, ap length c.tear.ensures, length-torn c.args.x c.args.self.now, ap length c.self-then-x-len.view_is, c.self-then-x-len.inside.cells.ok.0)
 
 pub invariant_of-self : goal.invariant_of-self
 invariant_of-self c =

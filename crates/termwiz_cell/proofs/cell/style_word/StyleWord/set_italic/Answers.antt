@@ -1,0 +1,12 @@
+use Rattle.std.proofs.Common.{ℕ, ◌+◌, ◌-◌, ◌*◌, ◌/◌, ◌%◌, ◌^◌, ap, ◌∙◌}
+use Rattle.termwiz_cell.specs.Style.{Style}
+use Rattle.termwiz_cell.specs.StyleWord.{style_at}
+use Rattle.termwiz_cell.proofs.StyleSetters.{italic-spelt}
+use Rattle.termwiz_cell.proofs.cell.style_word.StyleWord.set_italic.Goals as goal
+
+pub returns : goal.returns
+returns c =
+    let w : ℕ = c.self.inside.word in
+    ap style_at (c.with_digit-word.ensures ∙ ap (λ (digit : ℕ). w - w / 2 ^ 5 % 2 * 2 ^ 5 + digit * 2 ^ 5) c.flag_digit.ensures.value)
+    ∙ italic-spelt w c.args.value c.self.invariant
+    ∙ ap (λ (s : Style). record s { italic = c.args.value }) c.self.view_is

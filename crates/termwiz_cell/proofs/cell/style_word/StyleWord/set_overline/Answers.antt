@@ -1,0 +1,12 @@
+use Rattle.std.proofs.Common.{ℕ, ◌+◌, ◌-◌, ◌*◌, ◌/◌, ◌%◌, ◌^◌, ap, ◌∙◌}
+use Rattle.termwiz_cell.specs.Style.{Style}
+use Rattle.termwiz_cell.specs.StyleWord.{style_at}
+use Rattle.termwiz_cell.proofs.StyleSetters.{overline-spelt}
+use Rattle.termwiz_cell.proofs.cell.style_word.StyleWord.set_overline.Goals as goal
+
+pub returns : goal.returns
+returns c =
+    let w : ℕ = c.self.inside.word in
+    ap style_at (c.with_digit-word.ensures ∙ ap (λ (digit : ℕ). w - w / 2 ^ 10 % 2 * 2 ^ 10 + digit * 2 ^ 10) c.flag_digit.ensures.value)
+    ∙ overline-spelt w c.args.value c.self.invariant
+    ∙ ap (λ (s : Style). record s { overline = c.args.value }) c.self.view_is

@@ -1,5 +1,8 @@
+pub mod Pieces
 pub mod Encoding
+pub mod Cuts
 pub mod Decoding
 pub mod Forms
+pub mod Sent
 pub mod Answers
 pub mod Lengths

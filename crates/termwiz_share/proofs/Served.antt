@@ -48,7 +48,7 @@ module _ {W : Type 0} (f : W → List ℕ → ℕ) where
 
     -- a client that shows as it did
     pub serves_same : shown_by new ≡ shown_by c → Serves f s new
-    serves_same same = 
+    serves_same same =
         let source = ap (λ (v : Shown). v.source) same in
         let number = ap (λ (v : Shown). v.number) same in
         record {

@@ -4,8 +4,9 @@ mod attributes;
 mod changes;
 mod links;
 mod small;
+mod texts;
 
-pub use answers::encode_answer;
+pub use answers::{encode_answer, encode_ask};
 pub(crate) use attributes::attribute_kind;
 pub(crate) use changes::{change_count, change_kind};
 pub use changes::{encode_change, encode_changes};

@@ -7,7 +7,7 @@ ghost use Rattle.termwiz_cell.specs.Measure.{measure};
 ghost use Rattle.termwiz_wire.specs.Forms.{AreAttributes, AreChanges, IsAttributeChange, IsChange};
 ghost use Rattle.termwiz_wire.specs.Forms.{IsColor, IsPosition, IsScroll};
 ghost use Rattle.termwiz_wire.specs.Encoding.{attribute_change, attributes, change, change_count};
-ghost use Rattle.termwiz_wire.specs.Encoding.{change_kind, changes, color, position, scroll};
+ghost use Rattle.termwiz_wire.specs.Encoding.{changes, color, position, scroll};
 
 use super::attributes::{put_attribute_change, put_attributes};
 use super::small::{is_visible, line_number, put_color, put_kind, put_position, shape_number};
@@ -158,28 +158,6 @@ fn put_title(out: &mut Vec<u8>, title: &str) -> Result<(), AllocError>
 {
     put_kind(out, 12)?;
     put_text(out, title)
-}
-
-pub(crate) fn change_kind(value: &Change) -> usize
-    ensures kind { result ≡ change_kind (change_value value.now) }
-    ensures small { result < 14 }
-{
-    match value {
-        Change::Attribute(_) => 0,
-        Change::AllAttributes(_) => 1,
-        Change::Text(_) => 2,
-        Change::ClearScreen(_) => 3,
-        Change::ClearToEndOfLine(_) => 4,
-        Change::ClearToEndOfScreen(_) => 5,
-        Change::CursorPosition { .. } => 6,
-        Change::CursorColor(_) => 7,
-        Change::CursorShape(_) => 8,
-        Change::CursorVisibility(_) => 9,
-        Change::ScrollRegionUp { .. } => 10,
-        Change::ScrollRegionDown { .. } => 11,
-        Change::Title(_) => 12,
-        Change::LineAttribute(_) => 13,
-    }
 }
 
 /// How many items a change of this kind has, with the kind and without pieces.

@@ -1,6 +1,7 @@
 #!/usr/bin/env node
 // watch.mjs [-a] [--cells N] [--bytes N] reads a stream of answers and prints what its viewer shows
-// after the last one, or with -a after each, as `surfwatch` does. A fault ends it with status 2.
+// after the last one, or with -a after each, as `surfwatch` does. A fault ends it with status 2,
+// and a failed write with 3.
 import { readSync, writeSync } from 'node:fs';
 import { parseArgs } from 'node:util';
 import { Client } from './tikeburo.mjs';
@@ -24,14 +25,28 @@ function optionsOf(args) {
 
 function write(descriptor, text) {
     const bytes = Buffer.from(text);
-    for (let at = 0; at < bytes.length;) at += writeSync(descriptor, bytes, at);
+    try {
+        for (let at = 0; at < bytes.length;) at += writeSync(descriptor, bytes, at);
+    } catch {
+        process.exit(3);
+    }
+}
+
+/** How many bytes of the input come next. */
+function read(chunk) {
+    try {
+        return readSync(0, chunk);
+    } catch {
+        write(2, 'input: unreadable\n');
+        return process.exit(2);
+    }
 }
 
 /** Feeds the input to a client until `isDone()`, or to its end. */
 function feedInput(client, isDone) {
     const chunk = Buffer.alloc(65536);
     while (!isDone()) {
-        const length = readSync(0, chunk);
+        const length = read(chunk);
         if (length === 0) return client.end();
         client.feed(chunk.subarray(0, length));
     }

@@ -157,6 +157,10 @@ test('watch.mjs', () => {
     assert.deepEqual(watch(join(first, second.subarray(0, 12))), [one, cut, 2]);
     assert.deepEqual(watch(first, '--cells', '3'), ['', 'answer 1: limit at 4\n', 2]);
     assert.deepEqual(watch(first, '--bytes=3'), ['', 'answer 1: limit at 3\n', 2]);
+    const closed = spawnSync('sh', ['-c', '"$@" <&-', 'sh', process.execPath, program]);
+    assert.deepEqual([String(closed.stderr), closed.status], ['', 0]);
+    const folder = spawnSync('sh', ['-c', '"$@" </', 'sh', process.execPath, program]);
+    assert.deepEqual([String(folder.stderr), folder.status], ['input: unreadable\n', 2]);
     const usage = 'usage: watch.mjs [-a] [--cells N] [--bytes N]\n';
     for (const words of [['-b'], ['x'], ['--cells'], ['--cells', 'x'], ['--bytes', '-1']]) {
         assert.deepEqual(watch('', ...words), ['', usage, 2]);

@@ -65,7 +65,10 @@ impl Answer {
             }) else None) }
     {
         let (width, height) = size;
-        if number < base || !regions_fit(&changes, height) {
+        if number < base {
+            return None;
+        }
+        if !regions_fit(&changes, height) {
             return None;
         }
         Some(Answer {

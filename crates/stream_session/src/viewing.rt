@@ -1,7 +1,8 @@
 //! A viewer of the answers of any source.
-ghost use Rattle.std.specs.Prelude.{◌≡◌, ◌++◌, ℕ, List, Ok, Some, IfOk, IfSome, MatchResult};
-ghost use Rattle.stream_session.specs.Taking.{IsTaken, ShowsNext};
-ghost use Rattle.stream_session.specs.Viewing.{Viewing, first_viewing, refusal, taken};
+ghost use Rattle.std.specs.Prelude.{◌≡◌, IfOk, OnOk};
+ghost use Rattle.termwiz_surface.specs.{screen_of};
+ghost use Rattle.stream_session.specs.Taking.{IsTaken, ShowsNext, is_cut};
+ghost use Rattle.stream_session.specs.Viewing.{first_viewing, made_on, refusal};
 
 use std::alloc::{AllocError, Global};
 use std::fmt;
@@ -30,6 +31,18 @@ pub enum AnswerFault {
     Stale(usize),
     /// It leads on from what the viewer shows, but has another size, which begins at this byte.
     Size(usize),
+}
+
+impl AnswerFault {
+    /// Whether the bytes end within the answer, so that more of them may complete it.
+    pub fn is_cut(self) -> bool
+        ensures { result ≡ is_cut self }
+    {
+        match self {
+            AnswerFault::Bytes(fault) => fault.kind == FaultKind::Truncated,
+            AnswerFault::Stale(_) | AnswerFault::Size(_) => false,
+        }
+    }
 }
 
 impl Display for AnswerFault {
@@ -63,13 +76,16 @@ impl From<AllocError> for WatchError {
     }
 }
 
-impl From<AnswerFault> for WatchError {
-    ghost use Rattle.stream_session.specs.declared.viewing.WatchError.TheVariants.{Fault};
+impl From<WireError> for WatchError {
+    ghost use Rattle.stream_session.specs.Faults.{of_wire};
 
-    ghost from_gives = { λ fault error. error ≡ Fault fault };
+    ghost from_gives = { λ error made. made ≡ of_wire error };
 
-    fn from(fault: AnswerFault) -> WatchError {
-        WatchError::Fault(fault)
+    fn from(error: WireError) -> WatchError {
+        match error {
+            WireError::Fault(fault) => WatchError::Fault(AnswerFault::Bytes(fault)),
+            WireError::Memory => WatchError::Memory,
+        }
     }
 }
 
@@ -111,27 +127,20 @@ impl StreamViewer {
         })
     }
 
-    /// Takes the first answer of these bytes, and returns what it shows then and how many bytes the
-    /// answer has, or `None` where more bytes are wanted. After an error it may show anything.
+    /// Takes the answer that these bytes begin with, and returns what it shows then and how many
+    /// bytes the answer has. An answer that isn't taken leaves it as it is. Where memory is refused
+    /// it may show anything.
     pub fn next(
         &mut self,
         alloc: Global,
         limits: Limits,
         bytes: &[u8],
-    ) -> Result<Option<(View, usize)>, WatchError>
+    ) -> Result<(View, usize), WatchError>
         ensures { ShowsNext limits self.old bytes.now result self.new }
     {
-        match decode_answer(alloc, &UnicodeWidths, limits, bytes) {
-            Ok((sent, count)) => {
-                let view = self.take(alloc, &sent)?;
-                Ok(Some((view, count)))
-            }
-            Err(WireError::Fault(fault)) => match fault.kind {
-                FaultKind::Truncated => Ok(None),
-                _ => Err(WatchError::Fault(AnswerFault::Bytes(fault))),
-            },
-            Err(WireError::Memory) => Err(WatchError::Memory),
-        }
+        let (sent, count) = decode_answer(alloc, &UnicodeWidths, limits, bytes)?;
+        let view = self.take(alloc, &sent)?;
+        Ok((view, count))
     }
 
     // Takes an answer that leads on from what the viewer shows.
@@ -179,7 +188,10 @@ impl StreamViewer {
 
     // Makes the changes of an answer: a repaint's on a blank screen. Nobody follows the viewer, so
     // it forgets them.
-    fn make(&mut self, alloc: Global, answer: &Answer) -> Result<(), AllocError> {
+    fn make(&mut self, alloc: Global, answer: &Answer) -> Result<(), AllocError>
+        ensures { OnOk result (self.new
+            ≡ record self.old { screen = made_on self.old.screen answer.now }) }
+    {
         if answer.is_repaint() {
             let (width, height) = answer.size();
             self.surface = Surface::new_full(alloc, width, height, UnicodeWidths)?;

@@ -1,5 +1,6 @@
 pub mod Events
 pub mod Number
+pub mod Printed
 pub mod Run
 pub mod Size
 pub mod Status

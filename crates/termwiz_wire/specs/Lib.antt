@@ -1,5 +1,6 @@
 pub mod Pieces
 pub mod Encoding
+pub mod Cuts
 pub mod Decoding
 pub mod Forms
 pub mod Sent

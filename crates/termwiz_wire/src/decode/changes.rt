@@ -1,7 +1,7 @@
 //! Changes.
 ghost use Rattle.std.specs.Prelude.{◌≡◌, ◌++◌, ◌+◌, ◌≤◌, [], List, ℕ, length, map};
 ghost use Rattle.std.specs.Prelude.{IfOk, OnErr};
-ghost use Rattle.cbor.specs.Decoding.{Gives, ok};
+ghost use Rattle.cbor.specs.Decoding.{Gives, allowed, ok};
 ghost use Rattle.termwiz_cell.specs.ChangeValue as changed;
 ghost use Rattle.termwiz_cell.specs.ChangeValue.{ChangeValue, change_value};
 ghost use Rattle.termwiz_wire.specs.Decoding.{change_at, change_by, changes_at, each_at, place_at};
@@ -12,35 +12,36 @@ ghost use Rattle.termwiz_wire.specs.Forms.{AreChanges, IsChange};
 use super::attributes::{attribute_change_of, attributes_of};
 use super::links::owned_of;
 use super::small::{color_of, line_from, position_of, shape_from, visibility_of};
-use crate::WireError;
 use crate::encode::change_count;
-use cbor::Reader;
+use cbor::{ReadError, Reader};
 use std::alloc::Global;
 use termwiz_cell::change::Change;
 
 /// Decodes the change at the front of the bytes. An error leaves the reader as it was.
-pub fn decode_change(alloc: Global, reader: &mut Reader<'_>) -> Result<Change, WireError>
+pub fn decode_change(alloc: Global, reader: &mut Reader<'_>) -> Result<Change, ReadError>
     // What is encoded so is decoded, whatever follows it.
     ensures again { (c : ChangeValue) (rest : List ℕ) → IsChange c →
         reader.old.bytes.now ≡ change c ++ rest →
-        Gives (λ x. (change_value x, reader.new.bytes.now)) result (ok c rest) }
+        Gives (allowed reader.new.room reader.new.bytes.now) (λ x. (change_value x, reader.new.bytes.now)) result (ok c rest) }
     // What is decoded was encoded so.
     ensures found { IfOk result (λ x.
         reader.old.bytes.now ≡ change (change_value x) ++ reader.new.bytes.now) }
     // It is this value, or this fault.
-    ensures exact { Gives (λ x. (change_value x, reader.new.bytes.now)) result
+    ensures exact { Gives (allowed reader.new.room reader.new.bytes.now) (λ x. (change_value x, reader.new.bytes.now)) result
         (change_at reader.old.bytes.now) }
     ensures left { OnErr result (reader.new.bytes.now ≡ reader.old.bytes.now) }
+    ensures room { reader.new.room ≡ reader.old.room }
 {
     // Each byte is below 256.
     let _bytes = reader.rest();
     whole_change(alloc, reader)
 }
 
-fn whole_change(alloc: Global, reader: &mut Reader<'_>) -> Result<Change, WireError>
-    ensures exact { Gives (λ x. (change_value x, reader.new.bytes.now)) result
+fn whole_change(alloc: Global, reader: &mut Reader<'_>) -> Result<Change, ReadError>
+    ensures exact { Gives (allowed reader.new.room reader.new.bytes.now) (λ x. (change_value x, reader.new.bytes.now)) result
         (change_at reader.old.bytes.now) }
     ensures left { OnErr result (reader.new.bytes.now ≡ reader.old.bytes.now) }
+    ensures room { reader.new.room ≡ reader.old.room }
 {
     let mut ahead = *reader;
     let change = change_of(alloc, &mut ahead)?;
@@ -49,11 +50,11 @@ fn whole_change(alloc: Global, reader: &mut Reader<'_>) -> Result<Change, WireEr
 }
 
 /// Decodes the list of changes at the front of the bytes. An error leaves the reader as it was.
-pub fn decode_changes(alloc: Global, reader: &mut Reader<'_>) -> Result<Vec<Change>, WireError>
+pub fn decode_changes(alloc: Global, reader: &mut Reader<'_>) -> Result<Vec<Change>, ReadError>
     // What is encoded so is decoded, whatever follows it.
     ensures again { (cs : List ChangeValue) (rest : List ℕ) → AreChanges cs →
         reader.old.bytes.now ≡ changes cs ++ rest →
-        Gives (λ x. (map change_value x.items, reader.new.bytes.now)) result (ok cs rest) }
+        Gives (allowed reader.new.room reader.new.bytes.now) (λ x. (map change_value x.items, reader.new.bytes.now)) result (ok cs rest) }
     // What is decoded was encoded so.
     ensures found { IfOk result (λ x.
         reader.old.bytes.now ≡ changes (map change_value x.items) ++ reader.new.bytes.now) }
@@ -61,19 +62,21 @@ pub fn decode_changes(alloc: Global, reader: &mut Reader<'_>) -> Result<Vec<Chan
     ensures bounded { IfOk result (λ x.
         length x.items + length reader.new.bytes.now ≤ length reader.old.bytes.now) }
     // They are these values, or it is this fault.
-    ensures exact { Gives (λ x. (map change_value x.items, reader.new.bytes.now)) result
+    ensures exact { Gives (allowed reader.new.room reader.new.bytes.now) (λ x. (map change_value x.items, reader.new.bytes.now)) result
         (changes_at reader.old.bytes.now) }
     ensures left { OnErr result (reader.new.bytes.now ≡ reader.old.bytes.now) }
+    ensures room { reader.new.room ≡ reader.old.room }
 {
     // Each byte is below 256.
     let _bytes = reader.rest();
     whole_changes(alloc, reader)
 }
 
-fn whole_changes(alloc: Global, reader: &mut Reader<'_>) -> Result<Vec<Change>, WireError>
-    ensures exact { Gives (λ x. (map change_value x.items, reader.new.bytes.now)) result
+fn whole_changes(alloc: Global, reader: &mut Reader<'_>) -> Result<Vec<Change>, ReadError>
+    ensures exact { Gives (allowed reader.new.room reader.new.bytes.now) (λ x. (map change_value x.items, reader.new.bytes.now)) result
         (changes_at reader.old.bytes.now) }
     ensures left { OnErr result (reader.new.bytes.now ≡ reader.old.bytes.now) }
+    ensures room { reader.new.room ≡ reader.old.room }
 {
     let mut ahead = *reader;
     let changes = changes_of(alloc, &mut ahead)?;
@@ -82,17 +85,19 @@ fn whole_changes(alloc: Global, reader: &mut Reader<'_>) -> Result<Vec<Change>, 
 }
 
 #[tactic(auto, unfolding(crate::specs::Decoding::changes_at))]
-pub(super) fn changes_of(alloc: Global, reader: &mut Reader<'_>) -> Result<Vec<Change>, WireError>
-    ensures { Gives (λ x. (map change_value x.items, reader.new.bytes.now)) result
+pub(super) fn changes_of(alloc: Global, reader: &mut Reader<'_>) -> Result<Vec<Change>, ReadError>
+    ensures value { Gives (allowed reader.new.room reader.new.bytes.now) (λ x. (map change_value x.items, reader.new.bytes.now)) result
         (changes_at reader.old.bytes.now) }
+    ensures room { reader.new.room ≡ reader.old.room }
 {
     let count = reader.array()?;
     each_of(alloc, count, reader)
 }
 
-fn each_of(alloc: Global, count: usize, reader: &mut Reader<'_>) -> Result<Vec<Change>, WireError>
-    ensures { Gives (λ x. (map change_value x.items, reader.new.bytes.now)) result
+fn each_of(alloc: Global, count: usize, reader: &mut Reader<'_>) -> Result<Vec<Change>, ReadError>
+    ensures value { Gives (allowed reader.new.room reader.new.bytes.now) (λ x. (map change_value x.items, reader.new.bytes.now)) result
         (each_at [] count reader.old.bytes.now) }
+    ensures room { reader.new.room ≡ reader.old.room }
 {
     let mut changes = Vec::new(alloc);
     for _ in 0..count {
@@ -103,23 +108,25 @@ fn each_of(alloc: Global, count: usize, reader: &mut Reader<'_>) -> Result<Vec<C
 }
 
 #[tactic(auto, unfolding(crate::specs::Decoding::change_at))]
-fn change_of(alloc: Global, reader: &mut Reader<'_>) -> Result<Change, WireError>
-    ensures { Gives (λ x. (change_value x, reader.new.bytes.now)) result
+fn change_of(alloc: Global, reader: &mut Reader<'_>) -> Result<Change, ReadError>
+    ensures value { Gives (allowed reader.new.room reader.new.bytes.now) (λ x. (change_value x, reader.new.bytes.now)) result
         (change_at reader.old.bytes.now) }
+    ensures room { reader.new.room ≡ reader.old.room }
 {
     let count = reader.array()?;
     let kind = reader.unsigned()?;
     if count == change_count(kind) {
         values_of(alloc, kind, reader)
     } else {
-        Err(WireError::Type)
+        Err(ReadError::Type)
     }
 }
 
 // The change of this kind.
-fn values_of(alloc: Global, kind: usize, reader: &mut Reader<'_>) -> Result<Change, WireError>
-    ensures { Gives (λ x. (change_value x, reader.new.bytes.now)) result
+fn values_of(alloc: Global, kind: usize, reader: &mut Reader<'_>) -> Result<Change, ReadError>
+    ensures value { Gives (allowed reader.new.room reader.new.bytes.now) (λ x. (change_value x, reader.new.bytes.now)) result
         (change_by kind reader.old.bytes.now) }
+    ensures room { reader.new.room ≡ reader.old.room }
 {
     let change = match kind {
         0 => Change::Attribute(attribute_change_of(alloc, reader)?),
@@ -136,15 +143,16 @@ fn values_of(alloc: Global, kind: usize, reader: &mut Reader<'_>) -> Result<Chan
         11 => scroll_down_of(reader)?,
         12 => Change::Title(owned_of(alloc, reader)?),
         13 => Change::LineAttribute(line_from(reader.below(4)?)),
-        _ => return Err(WireError::Type),
+        _ => return Err(ReadError::Type),
     };
     Ok(change)
 }
 
 #[tactic(auto, unfolding(crate::specs::Decoding::place_at))]
-fn place_of(reader: &mut Reader<'_>) -> Result<Change, WireError>
-    ensures { Gives (λ x. (change_value x, reader.new.bytes.now)) result
-        (place_at reader.old.bytes.now) }
+fn place_of(reader: &mut Reader<'_>) -> Result<Change, ReadError>
+    ensures value { Gives (allowed reader.new.room reader.new.bytes.now) (λ x. (change_value x, reader.new.bytes.now)) result
+        (place_at reader.old.room reader.old.bytes.now) }
+    ensures room { reader.new.room ≡ reader.old.room }
 {
     let x = position_of(reader)?;
     let y = position_of(reader)?;
@@ -152,9 +160,10 @@ fn place_of(reader: &mut Reader<'_>) -> Result<Change, WireError>
 }
 
 #[tactic(auto, unfolding(crate::specs::Decoding::scroll_at))]
-fn scroll_up_of(reader: &mut Reader<'_>) -> Result<Change, WireError>
-    ensures { Gives (λ x. (change_value x, reader.new.bytes.now)) result
-        (scroll_at changed.ScrollRegionUp reader.old.bytes.now) }
+fn scroll_up_of(reader: &mut Reader<'_>) -> Result<Change, ReadError>
+    ensures value { Gives (allowed reader.new.room reader.new.bytes.now) (λ x. (change_value x, reader.new.bytes.now)) result
+        (scroll_at reader.old.room rows changed.ScrollRegionUp reader.old.bytes.now) }
+    ensures room { reader.new.room ≡ reader.old.room }
 {
     let first_row = reader.unsigned()?;
     let region_size = reader.unsigned()?;
@@ -167,9 +176,10 @@ fn scroll_up_of(reader: &mut Reader<'_>) -> Result<Change, WireError>
 }
 
 #[tactic(auto, unfolding(crate::specs::Decoding::scroll_at))]
-fn scroll_down_of(reader: &mut Reader<'_>) -> Result<Change, WireError>
-    ensures { Gives (λ x. (change_value x, reader.new.bytes.now)) result
-        (scroll_at changed.ScrollRegionDown reader.old.bytes.now) }
+fn scroll_down_of(reader: &mut Reader<'_>) -> Result<Change, ReadError>
+    ensures value { Gives (allowed reader.new.room reader.new.bytes.now) (λ x. (change_value x, reader.new.bytes.now)) result
+        (scroll_at reader.old.room rows changed.ScrollRegionDown reader.old.bytes.now) }
+    ensures room { reader.new.room ≡ reader.old.room }
 {
     let first_row = reader.unsigned()?;
     let region_size = reader.unsigned()?;

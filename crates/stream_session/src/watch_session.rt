@@ -1,5 +1,8 @@
 //! One run of `surfwatch`: from its words and its input to what it prints and its exit status.
-ghost use Rattle.std.specs.Prelude.{◌≡◌, ◌⊎◌, IfErr, IsErr};
+ghost use Rattle.std.specs.Prelude.{◌≡◌, ◌⊎◌, IfErr, IfSome, IsErr, OnOk};
+ghost use Rattle.std.specs.Io.KnownBytes.{Appends};
+ghost use Rattle.stream_session.specs.Printing.{Prints, PrintsAll, PrintsAsAsked, last_lines};
+ghost use Rattle.stream_session.specs.Printing.{view_lines};
 ghost use Rattle.stream_session.specs.Words.{AreWatchWords};
 ghost use Rattle.surfview_session.specs.Status.{status_of};
 
@@ -77,6 +80,10 @@ pub fn watch_session<R: Read, O: Write, E: Write>(
     ensures statuses { (result ≡ 0) ⊎ (result ≡ 2) ⊎ (result ≡ 3) }
     ensures done { result ≡ 0 → AreWatchWords args.now × (err.new ≡ err.old) }
     ensures usage { AreWatchWords args.now ⊎ ((input.new ≡ input.old) × (out.new ≡ out.old)) }
+    // Where the input and the output are known: each answer of the stream is taken, and what is
+    // shown then is printed.
+    ensures printed { result ≡ 0 → IfSome (R.remaining input.old) (λ bytes.
+        PrintsAll args.now bytes (O.contents out.old) (O.contents out.new)) }
 {
     match run(alloc, args, input, out) {
         Ok(()) => 0,
@@ -91,53 +98,66 @@ fn run<R: Read, O: Write>(
     input: &mut R,
     out: &mut O,
 ) -> Result<(), WatchEnd>
-    ensures { AreWatchWords args.now
+    ensures usage { AreWatchWords args.now
         ⊎ (IsErr result × (input.new ≡ input.old) × (out.new ≡ out.old)) }
+    ensures prints { IfSome (R.remaining input.old) (λ bytes.
+        PrintsAsAsked args.now bytes result (O.contents out.old) (O.contents out.new)) }
 {
     let options = watch_options(args).ok_or(SessionError::Usage)?;
-    let mut watcher = Watcher::new(alloc, options.limits)?;
-    if options.each {
-        print_each(alloc, &mut watcher, input, out)
-    } else {
-        print_last(alloc, &mut watcher, input, out)
-    }
+    print_all(alloc, options, input, out)
 }
 
-/// Prints what is shown after each answer, when it has come.
-fn print_each<R: Read, O: Write>(
+/// Prints what is shown after each answer, when it has come, or after the last one alone.
+fn print_all<R: Read, O: Write>(
     alloc: Global,
-    watcher: &mut Watcher,
+    options: WatchOptions,
     input: &mut R,
     out: &mut O,
-) -> Result<(), WatchEnd> {
+) -> Result<(), WatchEnd>
+    ensures { IfSome (R.remaining input.old) (λ bytes.
+        Prints options bytes result (O.contents out.old) (O.contents out.new)) }
+{
+    let mut watcher = Watcher::new(alloc, options.limits)?;
+    let mut last = None;
     for count in 0..usize::MAX {
         match watcher.next(input) {
-            Ok(Some(view)) => print(alloc, &view, out)?,
-            Ok(None) => return Ok(()),
-            Err(error) => return Err(WatchEnd::of(count + 1, error)),
+            Ok(Some(view)) => {
+                if options.each {
+                    print(alloc, &view, out)?;
+                } else {
+                    last = Some(view);
+                }
+            }
+            Ok(None) => return print_last(alloc, &last, out),
+            Err(error) => {
+                print_last(alloc, &last, out)?;
+                return Err(WatchEnd::of(count + 1, error));
+            }
         }
     }
     Err(WatchEnd::Session(SessionError::Unreadable))
 }
 
-/// Prints what is shown after the last answer.
-fn print_last<R: Read, O: Write>(
+/// Prints a view, where there is one.
+fn print_last<O: Write>(
     alloc: Global,
-    watcher: &mut Watcher,
-    input: &mut R,
+    last: &Option<View>,
     out: &mut O,
-) -> Result<(), WatchEnd> {
-    let mut last = None;
-    let end = watch_all(watcher, input, &mut last);
-    if let Some(view) = &last {
+) -> Result<(), WatchEnd>
+    ensures { OnOk result (
+        Appends (O.contents out.old) (O.contents out.new) (last_lines last.now)) }
+{
+    if let Some(view) = last {
         print(alloc, view, out)?;
     }
-    end
+    Ok(())
 }
 
 /// Prints a view.
 fn print<O: Write>(alloc: Global, view: &View, out: &mut O) -> Result<(), SessionError>
-    ensures { IfErr result (λ error. status_of error ≡ 3) }
+    ensures printed { OnOk result (
+        Appends (O.contents out.old) (O.contents out.new) (view_lines view.now)) }
+    ensures failed { IfErr result (λ error. status_of error ≡ 3) }
 {
     write(alloc, PrintedView(view.number, &view.screen), out)?;
     out.flush().map_err(|_| SessionError::Write)

@@ -1,10 +1,11 @@
 -- Answers one behind another, each of which brings whoever took all before it to its own screen.
 use Rattle.std.specs.Bool.{⊤}
 use Rattle.std.specs.List.{flat_map}
-use Rattle.std.specs.Prelude.{◌≡◌, ℕ, List, [], ◌∷◌, None}
+use Rattle.std.specs.Prelude.{◌≡◌, ℕ, ◌*◌, ◌≤◌, List, [], ◌∷◌, length, None}
 use Rattle.termwiz_cell.specs.Width.{unicode_columns}
 use Rattle.termwiz_screen.specs.Screen.{Screen}
 use Rattle.termwiz_wire.specs.Sent.{IsSent, answer}
+use Rattle.termwiz_wire.specs.declared.fault.Limits.{Limits}
 use Rattle.termwiz_wire.specs.declared.sent.SentAnswer.{SentAnswer}
 use Rattle.stream_session.specs.Viewing.{Viewing, refusal, taken}
 
@@ -16,6 +17,11 @@ pub record Frame : Type 0 where
 -- the bytes of the answers
 abbrev pub encoded : List Frame → List ℕ
 encoded frames = flat_map (λ (f : Frame). answer unicode_columns f.sent) frames
+
+-- the answer has no more cells and bytes than the limits
+pub record IsWithin (limits : Limits) (f : Frame) : Type 0 where
+  pub cells : f.sent.answer.width * f.sent.answer.height ≤ limits.cells
+  pub bytes : length (answer unicode_columns f.sent) ≤ limits.bytes
 
 -- a viewer takes the answer, and shows the frame's screen then
 pub record LeadsOn (v : Viewing) (f : Frame) : Type 0 where

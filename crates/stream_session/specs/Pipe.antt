@@ -1,10 +1,8 @@
 -- What is shown of the stream that is sent.
 use Rattle.std.specs.List.{All}
 use Rattle.std.specs.Prelude.{ℕ, Bool, List}
-use Rattle.termwiz_cell.specs.Width.{unicode_columns}
-use Rattle.termwiz_wire.specs.Answers.{IsWithin}
 use Rattle.termwiz_wire.specs.declared.fault.Limits.{Limits}
-use Rattle.stream_session.specs.Frames.{Frame}
+use Rattle.stream_session.specs.Frames.{Frame, IsWithin}
 use Rattle.stream_session.specs.Sending.{AreSent}
 use Rattle.stream_session.specs.Watching.{ShowsAll}
 use Rattle.stream_session.specs.declared.sending.SendEvent.{SendEvent}
@@ -16,4 +14,4 @@ pub record IsPiped (limits : Limits) (source w h : ℕ) (events : List SendEvent
   pub outcomes : List SendOutcome
   pub frames : List Frame
   pub sent : AreSent source w h events outcomes frames
-  pub shows : All (λ (f : Frame). IsWithin unicode_columns limits f.sent) frames → ShowsAll each frames shown
+  pub shows : All (IsWithin limits) frames → ShowsAll each frames shown

@@ -6,7 +6,7 @@ ghost use Rattle.termwiz_surface.specs.declared.view.Event.TheVariants as event;
 ghost use Rattle.termwiz_surface.specs.{IsGivenBy, IsSurfaceSize, KeepsNames, screens};
 ghost use Rattle.termwiz_cell.specs.Width.{unicode_columns};
 ghost use Rattle.termwiz_wire.specs.Sent.{IsSent, answer};
-ghost use Rattle.termwiz_wire.specs.declared.sent.SentAnswer.{SentAnswer};
+ghost use Rattle.termwiz_surface_core.specs.Answer.{AnswerValue};
 ghost use Rattle.stream_session.specs.Frames.{Frame, IsChain};
 ghost use Rattle.stream_session.specs.SendSteps.{HasNamed, Steps};
 ghost use Rattle.stream_session.specs.Sending.{AreSent, IsInRange, columns};
@@ -126,10 +126,11 @@ fn send(
     last: &mut SequenceNo,
 ) -> Result<Vec<u8>, AllocError>
     requires { 0 < source }
-    ensures { IfOk result (λ bytes. (s : SentAnswer)
-        × IsGivenBy screens columns surface.now last.old s.answer × (s.source ≡ source)
-        × IsSent unicode_columns s × (bytes.items ≡ answer unicode_columns s)
-        × (last.new ≡ s.answer.number)) }
+    ensures { IfOk result (λ bytes. (a : AnswerValue)
+        × IsGivenBy screens columns surface.now last.old a
+        × IsSent unicode_columns (record { source = source; answer = a })
+        × (bytes.items ≡ answer unicode_columns (record { source = source; answer = a }))
+        × (last.new ≡ a.number)) }
 {
     let answer = surface.answer(*last)?;
     let mut bytes = Vec::new(alloc);

@@ -4,13 +4,14 @@ ghost use Rattle.termwiz_surface.specs.{screen_of};
 ghost use Rattle.stream_session.specs.Taking.{IsTaken, ShowsNext, is_cut};
 ghost use Rattle.stream_session.specs.Viewing.{first_viewing, made_on, refusal};
 
+use cbor::unsigned_len;
 use std::alloc::{AllocError, Global};
 use std::fmt;
 use std::fmt::{Display, Formatter};
 use std::marker::Model;
 use termwiz_surface::{Answer, Screen, SequenceNo, Surface, UnicodeWidths};
 use termwiz_wire::{
-    Fault, FaultKind, Limits, SentAnswer, SourceNo, WireError, decode_answer, unsigned_len,
+    Fault, FaultKind, Limits, SentAnswer, SourceNo, WireError, decode_answer,
 };
 
 /// What a viewer shows that has taken an answer.

@@ -2,6 +2,7 @@ pub mod Faults
 pub mod Frames
 pub mod Pipe
 pub mod Printing
+pub mod Saying
 pub mod SendRun
 pub mod SendSteps
 pub mod Sending

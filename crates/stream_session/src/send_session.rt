@@ -1,10 +1,12 @@
 //! One run of `surfsend`: from its words and its input to what it sends and its exit status.
-ghost use Rattle.std.specs.Prelude.{◌≡◌, ◌⊎◌, IfErr, IfOk, IsErr, OnOk};
+ghost use Rattle.std.specs.Prelude.{◌≡◌, ◌⊎◌, IfErr, IfOk, IfSome, IsErr, OnOk};
 ghost use Rattle.std.specs.Io.KnownBytes.{Appends};
 ghost use Rattle.std.specs.List.{All};
 ghost use Rattle.stream_session.specs.Sending.{IsInRange, stream_of};
+ghost use Rattle.stream_session.specs.Saying.{SaysSend};
 ghost use Rattle.stream_session.specs.SendRun.{IsSendRun, WritesRun};
 ghost use Rattle.stream_session.specs.Words.{AreSendWords};
+ghost use Rattle.surfview_session.specs.Lines.{Say};
 ghost use Rattle.surfview_session.specs.Status.{status_of};
 
 use crate::script::read;
@@ -36,8 +38,9 @@ pub fn send_session<R: Read, O: Write, E: Write>(
     ensures done { result ≡ 0 → AreSendWords args.now }
     ensures refused { result ≡ 2 → out.new ≡ out.old }
     ensures usage { AreSendWords args.now ⊎ ((input.new ≡ input.old) × (out.new ≡ out.old)) }
-    // What the run sends is written, where it is known what the output holds.
-    ensures sent { result ≡ 0 → WritesRun args.now (O.contents out.old) (O.contents out.new) }
+    // Where the input and the output are known: what the script's lines send is written.
+    ensures sent { result ≡ 0 → WritesRun args.now (R.remaining input.old)
+        (O.contents out.old) (O.contents out.new) }
 {
     match outcomes(alloc, args, input) {
         Ok(outcomes) => match send_each(alloc, outcomes.as_slice(), out, err) {
@@ -56,7 +59,8 @@ fn outcomes<R: Read>(
     input: &mut R,
 ) -> Result<Vec<SendOutcome>, SessionError>
     ensures usage { AreSendWords args.now ⊎ (IsErr result × (input.new ≡ input.old)) }
-    ensures run { IfOk result (λ outcomes. IsSendRun args.now outcomes.items) }
+    ensures run { IfOk result (λ outcomes.
+        IsSendRun args.now (R.remaining input.old) outcomes.items) }
 {
     let options = send_options(args).ok_or(SessionError::Usage)?;
     let events = events(alloc, input)?;
@@ -66,7 +70,9 @@ fn outcomes<R: Read>(
 
 /// The events of the script that `input` holds.
 fn events<R: Read>(alloc: Global, input: &mut R) -> Result<Vec<SendEvent>, SessionError>
-    ensures { IfOk result (λ events. All IsInRange events.items) }
+    ensures sizes { IfOk result (λ events. All IsInRange events.items) }
+    ensures said { IfOk result (λ events. IfSome (R.remaining input.old) (λ script.
+        Say SaysSend script events.items)) }
 {
     let bytes = bytes(alloc, input)?;
     let script = str::from_utf8(bytes.as_slice()).map_err(|_| SessionError::Unreadable)?;

@@ -1,4 +1,5 @@
 pub mod Events
+pub mod Lines
 pub mod Number
 pub mod Printed
 pub mod Run

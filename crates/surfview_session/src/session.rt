@@ -163,7 +163,9 @@ fn events<R: Read>(alloc: Global, input: &mut R) -> Result<Events, SessionError>
 
 /// All bytes of the input.
 pub fn bytes<R: Read>(alloc: Global, input: &mut R) -> Result<Vec<u8>, SessionError>
-    ensures { IfErr result (λ error. (error ≡ SessionError.Memory)
+    ensures all { IfOk result (λ bytes.
+        IfSome (R.remaining input.old) (λ all. bytes.items ≡ all)) }
+    ensures failed { IfErr result (λ error. (error ≡ SessionError.Memory)
         ⊎ (error ≡ SessionError.Unreadable)) }
 {
     let mut bytes = Vec::new(alloc);

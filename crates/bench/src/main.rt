@@ -11,6 +11,7 @@ mod frames;
 mod lines;
 mod printing;
 mod sent;
+mod shared;
 mod sizes;
 mod viewers;
 mod workload;

@@ -2,7 +2,7 @@
 ghost use Rattle.std.specs.Prelude.{◌<◌, ◌^◌};
 
 use crate::drawn::Pens;
-use crate::{answers, attributes, diffs, frames, lines, printing, sent, sizes, viewers};
+use crate::{answers, attributes, diffs, frames, lines, printing, sent, shared, sizes, viewers};
 use std::alloc::Global;
 use termwiz_surface::surface::SurfaceError;
 
@@ -68,6 +68,10 @@ pub enum Workload {
     DecodeRepaint,
     /// `AcceptDelta`, where each answer is encoded and decoded on its way.
     DeliverDelta,
+    /// A client that is fed the bytes of a repaint of a coloured 80x24, and shows it.
+    FeedRepaint,
+    /// A character on a coloured 80x24 that is a source, which responds, and a client is fed that.
+    TypeAndFeed,
     /// A 200x60 that is made an 80x24 and a 200x60 again.
     Resize,
     /// A 200x60 that loses its last row and gets one again.
@@ -104,7 +108,7 @@ pub enum Workload {
     Equality,
 }
 
-static NAMES: [(&str, Workload); 48] = [
+static NAMES: [(&str, Workload); 50] = [
     ("plain", Workload::Plain),
     ("colours", Workload::Colours),
     ("kana", Workload::Kana),
@@ -137,6 +141,8 @@ static NAMES: [(&str, Workload); 48] = [
     ("encode-repaint", Workload::EncodeRepaint),
     ("decode-repaint", Workload::DecodeRepaint),
     ("deliver-delta", Workload::DeliverDelta),
+    ("feed-repaint", Workload::FeedRepaint),
+    ("type-and-feed", Workload::TypeAndFeed),
     ("resize", Workload::Resize),
     ("resize-one-row", Workload::ResizeOneRow),
     ("storm", Workload::Storm),
@@ -212,6 +218,8 @@ pub fn run(
         Workload::EncodeRepaint => sent::encoded(alloc, count),
         Workload::DecodeRepaint => sent::decoded(alloc, count),
         Workload::DeliverDelta => sent::delivered(alloc, count),
+        Workload::FeedRepaint => shared::fed_repaints(alloc, count),
+        Workload::TypeAndFeed => shared::typed(alloc, count),
         Workload::Resize => sizes::resized(alloc, count),
         Workload::ResizeOneRow => sizes::resized_by_a_row(alloc, count),
         Workload::Storm => sizes::stormed(alloc, count),

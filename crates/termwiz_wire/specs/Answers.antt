@@ -1,23 +1,31 @@
 -- How answers and asks are decoded.
-use Rattle.std.specs.Prelude.{◌≡◌, ℕ, zero, suc, ◌+◌, ◌-◌, ◌*◌, ◌^◌, ◌==◌, ◌&&◌, nat_lt, not, List, [], ◌∷◌, ◌++◌, length, take, drop, Option, Some, None, Result, Ok, Err, if◌then◌else◌}
-use Rattle.cbor.specs.Decoding.{◌>>=◌, Stop, ok, allowed, unsigned_at, below_at, array_at, list_at}
+use Rattle.std.specs.Prelude.{◌≡◌, ℕ, zero, suc, ◌+◌, ◌-◌, ◌*◌, ◌^◌, ◌==◌, ◌&&◌, nat_lt, not, List, [], ◌∷◌, ◌++◌, length, take, drop, Option, Some, None, IfSome, Result, Ok, Err, if◌then◌else◌}
+use Rattle.std.specs.Option.{option_map_or}
+use Rattle.cbor.specs.Decoding.{◌>>=◌, Stop, ok, allowed, fault_of, unsigned_at, below_at, array_at, list_at}
 use Rattle.cbor.specs.declared.error.FaultKind.{FaultKind}
+use Rattle.cbor.specs.declared.error.ReadError.{ReadError}
 use Rattle.cbor.specs.declared.error.FaultKind.TheVariants as faults
 use Rattle.termwiz_cell.specs.ChangeValue.{ChangeValue}
 use Rattle.termwiz_wire.specs.Cuts.{refused}
 use Rattle.termwiz_wire.specs.Decoding.{change_at}
+use Rattle.termwiz_wire.specs.declared.decode.halted.Halted.{Halted}
 use Rattle.termwiz_wire.specs.declared.fault.Fault.{Fault}
 use Rattle.termwiz_wire.specs.declared.fault.Limits.{Limits}
 use Rattle.termwiz_wire.specs.declared.fault.WireError.{WireError}
 use Rattle.termwiz_wire.specs.declared.fault.WireError.TheVariants as errors
 use Rattle.termwiz_wire.specs.declared.sent.SentAnswer.{SentAnswer}
 use Rattle.termwiz_wire.specs.declared.sent.Ask.{Ask}
+use Rattle.termwiz_wire.specs.declared.decode.heads.Head.{Head}
 
 -- a call returns what decoding gives, seen by view, or fails with its fault, unless memory was refused
 abbrev pub Decodes : {X Y : Type 0} → (X → Y) → Result X WireError → Result Y Fault → Type 0
 Decodes view (Ok x) read = read ≡ Ok (view x)
 Decodes view (Err (errors.Fault f)) read = read ≡ Err f
 Decodes view (Err errors.Memory) read = Unit {0}
+
+-- the error of a call, whose item begins at this byte
+abbrev pub error_of : ReadError → ℕ → Option ℕ → WireError
+error_of error at change = option_map_or (λ f. errors.Fault (record { kind = f; at = at; change = change })) (fault_of error) errors.Memory
 
 -- ---- heads
 
@@ -79,16 +87,6 @@ ask_in room bytes = do
 
 -- ---- answers
 
--- what an answer has before its changes
-pub record Head : Type 0 where
-  pub source : ℕ
-  pub width : ℕ
-  pub height : ℕ
-  pub base : ℕ
-  pub number : ℕ
-  -- how many changes there are
-  pub count : ℕ
-
 unfoldable pub head_at : ℕ → ℕ → List ℕ → Result (Head × List ℕ) Stop
 head_at room cells bytes = do
   body ← opened_at room 7 bytes
@@ -109,6 +107,11 @@ pub record Halt : Type 0 where
 abbrev pub halted : {Y : Type 0} → Option ℕ → Result Y Stop → Result Y Halt
 halted change (Ok y) = Ok y
 halted change (Err s) = Err (record { stop = s; change = change })
+
+-- a call returns what decoding gives, seen by view, or halts so, unless memory was refused
+abbrev pub Halts : {X Y : Type 0} → ℕ → (X → Y) → Result X Halted → Result Y Halt → Type 0
+Halts left view (Ok x) read = read ≡ Ok (view x)
+Halts left view (Err h) read = IfSome (fault_of h.error) (λ f. read ≡ Err (record { stop = record { fault = f; left = left }; change = h.change }))
 
 -- so many changes behind these
 unfoldable pub each_at : (List ℕ → ℕ) → ℕ → Option ℕ → List ChangeValue → ℕ → List ℕ → Result (List ChangeValue × List ℕ) Halt

@@ -176,7 +176,8 @@ attribute_change_by room kind rest =
     else if kind == 6 then (boolean_at room rest >>= λ v. ok (attribute.Invisible v.0) v.1)
     else if kind == 7 then (color_at room rest >>= λ v. ok (attribute.Foreground v.0) v.1)
     else if kind == 8 then (color_at room rest >>= λ v. ok (attribute.Background v.0) v.1)
-    else (optional_link_at room rest >>= λ v. ok (attribute.Hyperlink v.0) v.1)
+    else if kind == 9 then (optional_link_at room rest >>= λ v. ok (attribute.Hyperlink v.0) v.1)
+    else refused faults.Type room rest
 
 unfoldable pub attribute_change_at : ℕ → List ℕ → Result (AttributeChangeValue × List ℕ) Stop
 attribute_change_at room bytes = do
@@ -190,7 +191,8 @@ abbrev pub position_by : ℕ → ℕ → List ℕ → Result (Position × List �
 position_by room kind rest =
     if kind == 0 then (signed_at room rest >>= λ n. ok (Relative n.0) n.1)
     else if kind == 1 then (unsigned_at room rest >>= λ n. ok (Absolute n.0) n.1)
-    else (unsigned_at room rest >>= λ n. ok (EndRelative n.0) n.1)
+    else if kind == 2 then (unsigned_at room rest >>= λ n. ok (EndRelative n.0) n.1)
+    else refused faults.Type room rest
 
 unfoldable pub position_at : ℕ → List ℕ → Result (Position × List ℕ) Stop
 position_at room bytes = do
@@ -248,7 +250,8 @@ change_by measure room rows count kind rest =
     else if kind == 10 then scroll_at room rows changed.ScrollRegionUp rest
     else if kind == 11 then scroll_at room rows changed.ScrollRegionDown rest
     else if kind == 12 then (text_at room rest >>= λ v. ok (changed.Title v.0) v.1)
-    else (below_at room 4 rest >>= λ v. ok (changed.LineAttribute (line_at v.0)) v.1)
+    else if kind == 13 then (below_at room 4 rest >>= λ v. ok (changed.LineAttribute (line_at v.0)) v.1)
+    else refused faults.Type room rest
 
 -- how many items a change has: two to four
 unfoldable pub count_at : ℕ → List ℕ → Result (ℕ × List ℕ) Stop

@@ -4,6 +4,7 @@ mod asks;
 mod attributes;
 mod changes;
 mod cuts;
+mod halted;
 mod heads;
 mod links;
 mod small;

@@ -83,7 +83,8 @@ pub(super) fn attribute_change_of(
         6 => AttributeChange::Invisible(reader.boolean()?),
         7 => AttributeChange::Foreground(color_of(reader)?),
         8 => AttributeChange::Background(color_of(reader)?),
-        _ => AttributeChange::Hyperlink(optional_link_of(alloc, reader)?),
+        9 => AttributeChange::Hyperlink(optional_link_of(alloc, reader)?),
+        _ => return Err(ReadError::Type),
     };
     Ok(change)
 }

@@ -1,33 +1,288 @@
 //! The pieces of texts.
-ghost use Rattle.std.specs.Prelude.{◌≡◌, ◌*◌, ◌<◌, ◌≤◌, [], Ok, chars, drop, false, length};
-ghost use Rattle.std.specs.Prelude.{IfOk};
+ghost use Rattle.std.specs.Prelude.{◌≡◌, ◌*◌, ◌<◌, ◌≤◌, [], Bool, IfOk, Ok, drop, false, length};
+ghost use Rattle.std.specs.Str.{chars};
 ghost use Rattle.cbor.specs.Decoding.{Gives, allowed};
-ghost use Rattle.termwiz_cell.specs.Measure.{measure};
 ghost use Rattle.termwiz_wire.specs.Cuts.{are_at, are_characters, are_columns, are_pieces, cut_at};
 ghost use Rattle.termwiz_wire.specs.Cuts.{have_columns, is_break, is_control, is_count, is_piece};
-ghost use Rattle.termwiz_wire.specs.Cuts.{is_rest_at, is_run_at, kept_at, no_run, pieces_at};
-ghost use Rattle.termwiz_wire.specs.Cuts.{run_at, runs_at, same_at, threes_at};
-ghost use Rattle.termwiz_wire.specs.Pieces.{needs_pieces, stands_out};
+ghost use Rattle.termwiz_wire.specs.Cuts.{is_rest_at, is_run_at, kept_at, no_run, run_at, runs_at};
+ghost use Rattle.termwiz_wire.specs.Cuts.{same_at, threes_at};
+ghost use Rattle.termwiz_wire.specs.Pieces.{alike, stands_out};
 
 use crate::pieces::Run;
 use cbor::{ReadError, Reader};
 use std::alloc::Global;
 
-/// Decodes the pieces of a text, which are in these runs here. If they are in others, the fault is
-/// the first rule that they break, and else that the text is measured otherwise.
-pub(super) fn pieces_of(
-    alloc: Global,
-    text: &str,
-    runs: &[Run],
-    reader: &mut Reader<'_>,
-) -> Result<(), ReadError>
-    requires { needs_pieces runs.now ≡ true }
+/// Whether the list ahead is of these runs, as far as they agree.
+#[tactic(auto, unfolding(crate::specs::Cuts::same_at))]
+pub(super) fn are_same(reader: &mut Reader<'_>, runs: &[Run]) -> Result<bool, ReadError>
+    ensures value { Gives (allowed reader.new.room reader.new.bytes.now)
+        (λ x. (x, reader.new.bytes.now)) result
+        (same_at reader.old.room runs.now reader.old.bytes.now) }
+    ensures room { reader.new.room ≡ reader.old.room }
 {
     let start = reader.bytes;
-    if are_same(reader, runs)? {
-        return Ok(());
+    let count = reader.array()?;
+    if count / 3 != runs.len() || count % 3 != 0 {
+        return Ok(false);
     }
     reader.bytes = start;
-    cut_of(alloc, text, reader)?;
-    Err(ReadError::Measure)
+    let _count = reader.list()?;
+    are_runs(reader, runs)
+}
+
+fn are_runs(reader: &mut Reader<'_>, runs: &[Run]) -> Result<bool, ReadError>
+    ensures value { Gives (allowed reader.new.room reader.new.bytes.now)
+        (λ x. (x, reader.new.bytes.now)) result
+        (are_at reader.old.room runs.now reader.old.bytes.now) }
+    ensures room { reader.new.room ≡ reader.old.room }
+{
+    for run in runs {
+        if !is_run(reader, *run)? {
+            return Ok(false);
+        }
+    }
+    Ok(true)
+}
+
+#[tactic(auto, unfolding(crate::specs::Cuts::is_run_at))]
+fn is_run(reader: &mut Reader<'_>, run: Run) -> Result<bool, ReadError>
+    ensures value { Gives (allowed reader.new.room reader.new.bytes.now)
+        (λ x. (x, reader.new.bytes.now)) result
+        (is_run_at reader.old.room run reader.old.bytes.now) }
+    ensures room { reader.new.room ≡ reader.old.room }
+{
+    let count = reader.unsigned()?;
+    if count != run.count {
+        return Ok(false);
+    }
+    is_rest(reader, run)
+}
+
+#[tactic(auto, unfolding(crate::specs::Cuts::is_rest_at))]
+fn is_rest(reader: &mut Reader<'_>, run: Run) -> Result<bool, ReadError>
+    ensures value { Gives (allowed reader.new.room reader.new.bytes.now)
+        (λ x. (x, reader.new.bytes.now)) result
+        (is_rest_at reader.old.room run reader.old.bytes.now) }
+    ensures room { reader.new.room ≡ reader.old.room }
+{
+    let size = reader.unsigned()?;
+    if size != run.characters {
+        return Ok(false);
+    }
+    let columns = reader.unsigned()?;
+    Ok(columns == run.columns)
+}
+
+/// Decodes the pieces of a text by their rules alone.
+#[tactic(auto, unfolding(crate::specs::Cuts::cut_at))]
+pub(super) fn cut_of(alloc: Global, text: &str, reader: &mut Reader<'_>) -> Result<(), ReadError>
+    ensures value { Gives (allowed reader.new.room reader.new.bytes.now)
+        (λ _. reader.new.bytes.now) result
+        (cut_at reader.old.room text.now reader.old.bytes.now) }
+    ensures room { reader.new.room ≡ reader.old.room }
+{
+    let start = reader.bytes;
+    let count = threes_of(reader)?;
+    let characters: Vec<char> = text.chars().collect(alloc)?;
+    if all_runs(reader, characters.as_slice(), count / 3)? {
+        Ok(())
+    } else {
+        reader.bytes = start;
+        Err(ReadError::Range)
+    }
+}
+
+#[tactic(auto, unfolding(crate::specs::Cuts::threes_at))]
+fn threes_of(reader: &mut Reader<'_>) -> Result<usize, ReadError>
+    ensures value { Gives (allowed reader.new.room reader.new.bytes.now)
+        (λ x. (x, reader.new.bytes.now)) result
+        (threes_at reader.old.room reader.old.bytes.now) }
+    ensures room { reader.new.room ≡ reader.old.room }
+{
+    let start = reader.bytes;
+    let count = reader.array()?;
+    reader.bytes = start;
+    if count % 3 != 0 {
+        return Err(ReadError::Type);
+    }
+    reader.list()
+}
+
+// So many runs, of these characters: whether they end with them, and one is a reason to send them.
+fn all_runs(
+    reader: &mut Reader<'_>,
+    characters: &[char],
+    count: usize,
+) -> Result<bool, ReadError>
+    ensures value { Gives (allowed reader.new.room reader.new.bytes.now)
+        (λ x. (x, reader.new.bytes.now)) result
+        (runs_at reader.old.room no_run false characters.now count reader.old.bytes.now) }
+    ensures room { reader.new.room ≡ reader.old.room }
+{
+    let mut last = Run {
+        count: 0,
+        characters: 0,
+        columns: 0,
+    };
+    let mut needed = false;
+    let mut left = characters;
+    for _ in 0..count {
+        let run = run_of(reader, last, left)?;
+        left = &left[run.count * run.characters..];
+        needed = needed || stands_out(run);
+        last = run;
+    }
+    Ok(needed && left.is_empty())
+}
+
+// Whether the run is a reason to send the pieces of a text.
+fn stands_out(run: Run) -> bool
+    ensures { result ≡ stands_out run }
+{
+    run.columns > 1 || run.characters > 1 && run.columns != 0
+}
+
+// A run of the characters that are left, behind the last one.
+#[tactic(auto, unfolding(crate::specs::Cuts::run_at))]
+fn run_of(reader: &mut Reader<'_>, last: Run, left: &[char]) -> Result<Run, ReadError>
+    ensures value { Gives (allowed reader.new.room reader.new.bytes.now)
+        (λ x. (x, reader.new.bytes.now)) result
+        (run_at reader.old.room last left.now reader.old.bytes.now) }
+    ensures within { IfOk result (λ x. x.count * x.characters ≤ length left.now) }
+    ensures room { reader.new.room ≡ reader.old.room }
+{
+    let count = count_of(reader, left)?;
+    let characters = characters_of(reader, left, count)?;
+    let columns = columns_of(reader, last, left, count, characters)?;
+    Ok(Run {
+        count,
+        characters,
+        columns,
+    })
+}
+
+fn count_of(reader: &mut Reader<'_>, left: &[char]) -> Result<usize, ReadError>
+    ensures value { Gives (allowed reader.new.room reader.new.bytes.now)
+        (λ x. (x, reader.new.bytes.now)) result
+        (kept_at reader.old.room (is_count left.now) reader.old.bytes.now) }
+    ensures room { reader.new.room ≡ reader.old.room }
+{
+    let start = reader.bytes;
+    let count = reader.unsigned()?;
+    if 0 < count && count <= left.len() {
+        Ok(count)
+    } else {
+        reader.bytes = start;
+        Err(ReadError::Range)
+    }
+}
+
+fn characters_of(
+    reader: &mut Reader<'_>,
+    left: &[char],
+    count: usize,
+) -> Result<usize, ReadError>
+    ensures value { Gives (allowed reader.new.room reader.new.bytes.now)
+        (λ x. (x, reader.new.bytes.now)) result
+        (kept_at reader.old.room (are_characters left.now count) reader.old.bytes.now) }
+    ensures within { IfOk result (λ x. count * x ≤ length left.now) }
+    ensures room { reader.new.room ≡ reader.old.room }
+{
+    let start = reader.bytes;
+    let size = reader.unsigned()?;
+    if are_characters(left, count, size) {
+        Ok(size)
+    } else {
+        reader.bytes = start;
+        Err(ReadError::Range)
+    }
+}
+
+fn are_characters(left: &[char], count: usize, size: usize) -> bool
+    ensures { result ≡ are_characters left.now count size }
+{
+    match count.checked_mul(size) {
+        Some(all) if all <= left.len() => 0 < size && are_pieces(count, size, left),
+        _ => false,
+    }
+}
+
+// Whether each of the next pieces, of so many characters, is one.
+fn are_pieces(count: usize, size: usize, characters: &[char]) -> bool
+    requires { count * size ≤ length characters.now }
+    ensures { result ≡ are_pieces count size characters.now }
+{
+    let mut left = characters;
+    for _ in 0..count {
+        let (piece, rest) = left.split_at(size);
+        if !is_piece(piece, rest) {
+            return false;
+        }
+        left = rest;
+    }
+    true
+}
+
+// Whether characters before others are a piece: CR LF is not cut, and any other control is alone.
+fn is_piece(piece: &[char], rest: &[char]) -> bool
+    ensures { result ≡ is_piece piece.now rest.now }
+{
+    if matches!(piece, ['\r']) && matches!(rest, ['\n', ..]) {
+        return false;
+    }
+    piece.len() == 1
+        || matches!(piece, ['\r', '\n'])
+        || !piece.iter().any(|c| is_control(*c))
+}
+
+fn is_control(c: char) -> bool
+    ensures { result ≡ is_control c }
+{
+    c < ' ' || c == '\u{7f}'
+}
+
+fn columns_of(
+    reader: &mut Reader<'_>,
+    last: Run,
+    left: &[char],
+    count: usize,
+    size: usize,
+) -> Result<usize, ReadError>
+    requires { count * size ≤ length left.now }
+    ensures value { Gives (allowed reader.new.room reader.new.bytes.now)
+        (λ x. (x, reader.new.bytes.now)) result
+        (kept_at reader.old.room (are_columns last left.now count size) reader.old.bytes.now) }
+    ensures room { reader.new.room ≡ reader.old.room }
+{
+    let start = reader.bytes;
+    let columns = reader.unsigned()?;
+    let is_alike = last.characters == size && last.columns == columns;
+    if columns < 3 && have_columns(columns != 0, count, size, left) && !is_alike {
+        Ok(columns)
+    } else {
+        reader.bytes = start;
+        Err(ReadError::Range)
+    }
+}
+
+// Whether each of the next pieces has columns, or each is a line break.
+fn have_columns(wide: bool, count: usize, size: usize, characters: &[char]) -> bool
+    requires { count * size ≤ length characters.now }
+    ensures { result ≡ have_columns wide count size characters.now }
+{
+    let mut left = characters;
+    for _ in 0..count {
+        let (piece, rest) = left.split_at(size);
+        if is_break(piece) == wide {
+            return false;
+        }
+        left = rest;
+    }
+    true
+}
+
+fn is_break(piece: &[char]) -> bool
+    ensures { result ≡ is_break piece.now }
+{
+    matches!(piece, ['\r'] | ['\n'] | ['\r', '\n'])
 }

@@ -257,6 +257,7 @@ pub(super) fn position_of(reader: &mut Reader<'_>) -> Result<Position, ReadError
     match which_of(reader, 3)? {
         0 => Ok(Position::Relative(reader.signed()?)),
         1 => Ok(Position::Absolute(reader.unsigned()?)),
-        _ => Ok(Position::EndRelative(reader.unsigned()?)),
+        2 => Ok(Position::EndRelative(reader.unsigned()?)),
+        _ => Err(ReadError::Type),
     }
 }

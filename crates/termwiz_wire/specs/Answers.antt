@@ -1,18 +1,11 @@
--- How answers are encoded and decoded.
-use Rattle.std.specs.Prelude.{ℕ, ◌<◌, ◌^◌, ◌==◌, List, ◌++◌, Result, Ok, Err, if◌then◌else◌}
-use Rattle.cbor.specs.Encoding.{unsigned, boolean, array}
+-- How answers are decoded.
+use Rattle.std.specs.Prelude.{ℕ, ◌^◌, ◌==◌, List, Result, Ok, Err, if◌then◌else◌}
 use Rattle.cbor.specs.Decoding.{◌>>=◌, ok, unsigned_at, below_at, boolean_at, array_of_at}
 use Rattle.cbor.specs.declared.error.Fault.{Fault}
 use Rattle.cbor.specs.declared.error.Fault.TheVariants.{Version, Range, Region}
 use Rattle.termwiz_screen.specs.Step.{regions_fit}
-use Rattle.termwiz_surface_core.specs.Answer.{AnswerValue, IsWellFormed}
-use Rattle.termwiz_wire.specs.Encoding.{changes}
+use Rattle.termwiz_surface_core.specs.Answer.{AnswerValue}
 use Rattle.termwiz_wire.specs.Decoding.{changes_at}
-use Rattle.termwiz_wire.specs.Forms.{AreChanges}
-
--- the version, the size, the base and the number, whether it is a repaint, and the changes
-unfoldable pub answer : AnswerValue → List ℕ
-answer a = array 7 ++ unsigned 1 ++ unsigned a.width ++ unsigned a.height ++ unsigned a.base ++ unsigned a.number ++ boolean a.is_repaint ++ changes a.changes
 
 -- the bytes after the version
 unfoldable pub version_at : List ℕ → Result (List ℕ) Fault
@@ -37,10 +30,3 @@ answer_at bytes = do
   r ← boolean_at n.1
   c ← changes_at r.1
   if regions_fit h.0 c.0 then ok (record { width = w.0; height = h.0; base = b.0; number = n.0; is_repaint = r.0; changes = c.0 }) c.1 else Err Region
-
--- what has an encoding: each answer of a program does
-pub record IsAnswer (a : AnswerValue) : Type 0 where
-  pub well_formed : IsWellFormed a
-  pub base : a.base < 2 ^ 64
-  pub number : a.number < 2 ^ 64
-  pub changes : AreChanges a.changes

@@ -10,8 +10,11 @@
 mod decode;
 mod encode;
 mod len;
+mod pieces;
+mod sent;
 
 pub use cbor::{Fault, ReadError as WireError, Reader};
 pub use decode::{decode_answer, decode_change, decode_changes};
 pub use encode::{encode_answer, encode_change, encode_changes};
 pub use len::encoded_len;
+pub use sent::{Ask, SentAnswer, SourceNo};

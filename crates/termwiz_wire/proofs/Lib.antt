@@ -1,3 +1,4 @@
+pub mod Runs
 pub mod Loops
 pub mod Style
 pub mod Params

@@ -15,6 +15,6 @@ mod sent;
 
 pub use cbor::{Fault, ReadError as WireError, Reader};
 pub use decode::{decode_answer, decode_change, decode_changes};
-pub use encode::{encode_answer, encode_change, encode_changes};
+pub use encode::{encode_answer, encode_ask, encode_change, encode_changes};
 pub use len::encoded_len;
 pub use sent::{Ask, SentAnswer, SourceNo};

@@ -36,7 +36,8 @@ static void expect(bool holds, const char *what) {
 
 /* What a call may return that has bytes of any kind to read. */
 static bool is_answered(tk_status status) {
-    return status == TK_DONE || status == TK_UNREADABLE || status == TK_REGION;
+    return status == TK_DONE || status == TK_UNREADABLE || status == TK_TRUNCATED ||
+           status == TK_REGION;
 }
 
 /* Gives the client a whole stream of its own. What is wrong with it has a name and a place. */
@@ -142,7 +143,7 @@ static void random_bytes(tk_handle *surface, tk_handle *client, size_t rounds) {
         EXPECT(is_answered(feed(client, bytes, len)));
         EXPECT(is_answered(tk_add_changes(surface, bytes, len)));
         tk_status status = tk_respond(surface, bytes, len, answer, sizeof answer, &answer_len);
-        EXPECT(is_answered(status) || status == TK_TRUNCATED || status == TK_SHORT);
+        EXPECT(is_answered(status) || status == TK_SHORT);
         len = random_answer(bytes);
         EXPECT(is_answered(feed(client, bytes, len)));
         EXPECT(is_answered(tk_add_changes(surface, bytes + 7, len - 7)));
@@ -180,16 +181,17 @@ static void great_claims(tk_handle *surface, tk_handle *client) {
                                      0x7f, 255, 255, 255, 255, 255, 255, 255};
     static const uint8_t screen[] = {0x87, 2, 1, 0x1a, 255, 255, 255, 255, 0x1a,
                                      255,  255, 255, 255, 0,   1,   0x80};
-    EXPECT(tk_add_changes(surface, list, sizeof list) == TK_UNREADABLE);
+    EXPECT(tk_add_changes(surface, list, sizeof list) == TK_TRUNCATED);
     EXPECT(tk_add_changes(surface, text, sizeof text) == TK_UNREADABLE);
     EXPECT(feed(client, answer, sizeof answer) == TK_UNREADABLE);
     EXPECT(feed(client, screen, sizeof screen) == TK_UNREADABLE);
-    EXPECT(tk_add_changes(surface, list, 0) == TK_UNREADABLE);
+    EXPECT(tk_add_changes(surface, list, 0) == TK_TRUNCATED);
     EXPECT(feed(client, answer, 0) == TK_DONE);
     for (size_t depth = 0; depth < 64; depth++) { /* arrays in arrays */
         uint8_t nested[64];
         memset(nested, 0x81, sizeof nested);
-        EXPECT(tk_add_changes(surface, nested, depth) == TK_UNREADABLE);
+        EXPECT(tk_add_changes(surface, nested, depth) ==
+               (depth < 2 ? TK_TRUNCATED : TK_UNREADABLE));
         EXPECT(feed(client, nested, depth) == (depth < 2 ? TK_DONE : TK_UNREADABLE));
     }
 }
@@ -319,8 +321,6 @@ static void random_calls(size_t rounds) {
         }
         if (below(32) == 0)
             EXPECT(is_changed(tk_resize(surface, below(13), below(9))));
-        if (below(32) == 0)
-            EXPECT(tk_flush(surface, below(round + 1)) == TK_DONE);
     }
     tk_free(&viewer);
     tk_free(&client);

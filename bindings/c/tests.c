@@ -63,9 +63,6 @@ static void test_sizes(void) {
     CHECK(tk_resize(&surface, (size_t)1 << 32, 3) == TK_RANGE);
     CHECK(tk_resize(&none, 3, 3) == TK_NO_HANDLE);
     CHECK(size_is(&surface, 3, 3));
-    CHECK(tk_flush(&surface, 1) == TK_DONE);
-    CHECK(tk_flush(&surface, SIZE_MAX) == TK_DONE);
-    CHECK(tk_flush(&none, 1) == TK_NO_HANDLE);
     tk_free(&surface);
 }
 
@@ -346,7 +343,7 @@ static void test_change_lists(void) {
     CHECK(tk_add_changes(&surface, hello, sizeof hello) == TK_DONE);
     CHECK(number_is(&surface, 2) && row_is(&surface, 0, "hi"));
     for (size_t len = 0; len < sizeof hello; len++)
-        CHECK(tk_add_changes(&surface, hello, len) == TK_UNREADABLE);
+        CHECK(tk_add_changes(&surface, hello, len) == TK_TRUNCATED);
     CHECK(tk_add_changes(&surface, region, sizeof region) == TK_REGION);
     CHECK(tk_add_changes(&surface, behind, sizeof behind) == TK_UNREADABLE);
     CHECK(tk_add_changes(&surface, no_text, sizeof no_text) == TK_UNREADABLE);
@@ -527,7 +524,7 @@ static void test_clients(void) {
     CHECK(tk_client_feed(&none, delta.at, delta.len, &fault) == TK_NO_HANDLE);
     CHECK(tk_client_reset(&surface) == TK_WRONG_KIND && tk_client_reset(&none) == TK_NO_HANDLE);
     CHECK(tk_print(&client, "x", 1) == TK_WRONG_KIND);
-    CHECK(tk_resize(&client, 2, 2) == TK_WRONG_KIND && tk_flush(&client, 1) == TK_WRONG_KIND);
+    CHECK(tk_resize(&client, 2, 2) == TK_WRONG_KIND);
     CHECK(tk_follow(&client, &surface) == TK_WRONG_KIND);
     CHECK(tk_draw(&client, &surface, 0, 0) == TK_WRONG_KIND);
     CHECK(tk_draw(&surface, &client, 0, 1) == TK_DONE && row_is(&surface, 1, "hello!"));
@@ -548,7 +545,7 @@ static void test_follows(void) {
     CHECK(size_is(&viewer, 4, 3) && screen_is(&viewer, "abc\n\n\n"));
     CHECK(print(&surface, "d") == TK_DONE);
     CHECK(tk_follow(&viewer, &surface) == TK_DONE && screen_is(&viewer, "abcd\n\n\n"));
-    CHECK(tk_flush(&surface, SIZE_MAX) == TK_DONE && print(&surface, "e") == TK_DONE);
+    CHECK(print(&surface, "e") == TK_DONE);
     CHECK(tk_follow(&viewer, &surface) == TK_DONE && screen_is(&viewer, "abcd\ne\n\n"));
     CHECK(tk_follow(&surface, &viewer) == TK_WRONG_KIND);
     CHECK(tk_follow(&none, &surface) == TK_NO_HANDLE);
@@ -557,7 +554,7 @@ static void test_follows(void) {
     CHECK(tk_add_changes(&viewer, (const uint8_t[]){0x80}, 1) == TK_WRONG_KIND);
     CHECK(tk_set_italic(&viewer, true) == TK_WRONG_KIND);
     CHECK(tk_set_title(&viewer, "x", 1) == TK_WRONG_KIND);
-    CHECK(tk_resize(&viewer, 2, 2) == TK_WRONG_KIND && tk_flush(&viewer, 1) == TK_WRONG_KIND);
+    CHECK(tk_resize(&viewer, 2, 2) == TK_WRONG_KIND);
     CHECK(screen_is(&viewer, "abcd\ne\n\n"));
     CHECK(tk_viewer_new(&other, &viewer) == TK_DONE && tk_follow(&other, &viewer) == TK_DONE);
     CHECK(screen_is(&other, "abcd\ne\n\n")); /* a viewer's viewer */
@@ -587,14 +584,15 @@ static void test_follows_others(void) {
 
 /* A repaint says also that there is no title. */
 static void test_repaints_are_full(void) {
-    tk_handle surface = made(4, 1), client = made_client();
+    tk_handle surface = made(4, 1), client = made_client(), client_again;
     CHECK(tk_set_title(&surface, "notes", 5) == TK_DONE);
     bytes repaint = answer_to(&surface, &client);
     CHECK(feed(&client, &repaint) == TK_DONE && title_is(&client, "notes"));
     CHECK(tk_set_title(&surface, "", 0) == TK_DONE);
-    CHECK(tk_flush(&surface, SIZE_MAX) == TK_DONE);
-    repaint = answer_to(&surface, &client);
+    client_again = made_client();
+    repaint = answer_to(&surface, &client_again);
     CHECK(feed(&client, &repaint) == TK_DONE && title_is(&client, ""));
+    tk_free(&client_again);
     tk_free(&client);
     tk_free(&surface);
 }

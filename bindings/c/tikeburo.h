@@ -137,9 +137,6 @@ void tk_free(tk_handle *handle);
  * stays inside. TK_RANGE, TK_NUMBERS, TK_WRONG_KIND. */
 tk_status tk_resize(tk_handle *surface, size_t width, size_t height);
 
-/* Forgets the changes before this number. TK_WRONG_KIND. */
-tk_status tk_flush(tk_handle *surface, size_t number);
-
 /* The number of the coming change, 0 at first. A viewer or a client has one of its own. */
 tk_status tk_number(tk_handle *handle, size_t *number);
 
@@ -177,8 +174,8 @@ tk_status tk_link_at(tk_handle *handle, size_t column, size_t row, char *uri, si
 
 /* ---- Changes of a surface ----
  *
- * Each takes a surface, and is logged with a number, one above the one before. TK_WRONG_KIND: the
- * handle has another kind. TK_NUMBERS: there is no number left. TK_MEMORY: either there was none
+ * Each takes a surface, and is logged with a number, one above the one before. What no answer can
+ * need is forgotten by itself. TK_WRONG_KIND: the handle has another kind. TK_NUMBERS: there is no number left. TK_MEMORY: either there was none
  * for the change itself, and nothing has changed, or it may have been made in part: the surface
  * keeps its size, and its log is empty under a new number. */
 
@@ -188,7 +185,7 @@ tk_status tk_print(tk_handle *surface, const char *text, size_t len);
 
 /* Makes a list of changes, which these bytes encode: the array `[* change]` of docs/stream.cddl
  * and nothing behind it. A text in it has the pieces that the surface cuts and measures: where they
- * aren't known, tk_print prints it. TK_UNREADABLE, TK_REGION: nothing has changed. */
+ * aren't known, tk_print prints it. TK_UNREADABLE, TK_TRUNCATED, TK_REGION: nothing has changed. */
 tk_status tk_add_changes(tk_handle *surface, const uint8_t *bytes, size_t len);
 
 /* Moves the cursor to this column and row; past the last ones is at the last ones. */

@@ -68,7 +68,6 @@ extern "C" {
     pub fn tk_viewer_new(viewer: *mut tk_handle, source: *mut tk_handle) -> i32;
     pub fn tk_free(handle: *mut tk_handle);
     pub fn tk_resize(handle: *mut tk_handle, width: usize, height: usize) -> i32;
-    pub fn tk_flush(handle: *mut tk_handle, number: usize) -> i32;
 
     pub fn tk_size(handle: *mut tk_handle, width: *mut usize, height: *mut usize) -> i32;
     pub fn tk_cursor(handle: *mut tk_handle, column: *mut usize, row: *mut usize) -> i32;

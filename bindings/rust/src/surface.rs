@@ -30,7 +30,8 @@ pub struct Options {
 }
 
 /// What a terminal's screen shows, with no terminal behind it: a [`Screen`], the pen, which is the
-/// attributes of coming texts, and the changes that were made last.
+/// attributes of coming texts, and the changes that were made last. It forgets those that no answer
+/// needs.
 ///
 /// ```
 /// use tikeburo::{Change, CursorVisibility, Surface};
@@ -156,12 +157,6 @@ impl Surface {
     pub fn resize(&mut self, width: usize, height: usize) -> Result<(), Error> {
         // Safety: the handle is live.
         Error::check(unsafe { ffi::tk_resize(self.handle.get(), width, height) })
-    }
-
-    /// Forgets the changes before this number.
-    pub fn flush_changes_older_than(&mut self, seq: SequenceNo) {
-        // Safety: the handle is live, and then the call doesn't fail.
-        unsafe { ffi::tk_flush(self.handle.get(), seq) };
     }
 
     /// The number of the coming change.

@@ -1,3 +1,4 @@
+pub mod Runs
 pub mod Steps
 pub mod Params
 pub mod Style

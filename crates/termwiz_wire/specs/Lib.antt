@@ -1,4 +1,6 @@
 pub mod Pieces
+pub mod Beginning
+pub mod RunsLeft
 pub mod Encoding
 pub mod Cuts
 pub mod Decoding

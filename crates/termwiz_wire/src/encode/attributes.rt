@@ -1,5 +1,6 @@
 //! Attributes, and changes of one attribute.
 ghost use Rattle.std.specs.Prelude.{◌≡◌, ◌<◌, ◌++◌, OnOk};
+ghost use Rattle.cbor.specs.Encoding.{Extends};
 ghost use Rattle.termwiz_cell.specs.AttributeChangeValue.{attribute_change_value};
 ghost use Rattle.termwiz_wire.specs.Forms.{AreAttributes, IsAttributeChange, IsOptionalLink};
 ghost use Rattle.termwiz_wire.specs.Encoding.{attribute_change, attribute_kind, attribute_value};
@@ -17,6 +18,7 @@ use termwiz_cell::cell::{AttributeChange, CellAttributes};
 #[tactic(auto, unfolding(crate::specs::Encoding::attributes))]
 pub(super) fn put_attributes(out: &mut Vec<u8>, attrs: &CellAttributes) -> Result<(), AllocError>
     ensures written { OnOk result (out.new.items ≡ out.old.items ++ attributes attrs.now) }
+    ensures kept { Extends out.old.items out.new.items }
     ensures form { OnOk result (AreAttributes attrs.now) }
 {
     put_array(out, 5)?;
@@ -31,6 +33,7 @@ pub(super) fn put_attributes(out: &mut Vec<u8>, attrs: &CellAttributes) -> Resul
 fn put_own_link(out: &mut Vec<u8>, attrs: &CellAttributes) -> Result<(), AllocError>
     ensures written { OnOk result
         (out.new.items ≡ out.old.items ++ optional_link attrs.now.hyperlink) }
+    ensures kept { Extends out.old.items out.new.items }
     ensures form { OnOk result (IsOptionalLink attrs.now.hyperlink) }
 {
     match attrs.hyperlink() {
@@ -64,6 +67,7 @@ pub(super) fn put_attribute_change(
 ) -> Result<(), AllocError>
     ensures written { OnOk result (out.new.items
         ≡ out.old.items ++ attribute_change (attribute_change_value value.now)) }
+    ensures kept { Extends out.old.items out.new.items }
     ensures form { OnOk result (IsAttributeChange (attribute_change_value value.now)) }
 {
     put_kind(out, attribute_kind(value))?;
@@ -74,6 +78,7 @@ pub(super) fn put_attribute_change(
 fn put_attribute_value(out: &mut Vec<u8>, value: &AttributeChange) -> Result<(), AllocError>
     ensures written { OnOk result (out.new.items
         ≡ out.old.items ++ attribute_value (attribute_change_value value.now)) }
+    ensures kept { Extends out.old.items out.new.items }
     ensures form { OnOk result (IsAttributeChange (attribute_change_value value.now)) }
 {
     match value {

@@ -1,6 +1,6 @@
 //! Small attributes, colours and positions.
 ghost use Rattle.std.specs.Prelude.{◌≡◌, ◌<◌, ◌++◌, OnOk};
-ghost use Rattle.cbor.specs.Encoding.{array, unsigned};
+ghost use Rattle.cbor.specs.Encoding.{Extends, array, unsigned};
 ghost use Rattle.termwiz_cell.specs.Shapes.{line_number, shape_number};
 ghost use Rattle.termwiz_cell.specs.Style.{blink_number, flag_number, intensity_number};
 ghost use Rattle.termwiz_cell.specs.Style.{semantic_number, underline_number, vertical_number};
@@ -145,7 +145,8 @@ fn joined_fields(attrs: &CellAttributes) -> usize
 /// Appends a kind and the head of the array that it shares with one value, which is to follow.
 #[inline]
 pub(super) fn put_kind(out: &mut Vec<u8>, kind: usize) -> Result<(), AllocError>
-    ensures { OnOk result (out.new.items ≡ out.old.items ++ array 2 ++ unsigned kind) }
+    ensures written { OnOk result (out.new.items ≡ out.old.items ++ array 2 ++ unsigned kind) }
+    ensures kept { Extends out.old.items out.new.items }
 {
     put_array(out, 2)?;
     put_unsigned(out, kind)
@@ -156,6 +157,7 @@ pub(super) fn put_kind(out: &mut Vec<u8>, kind: usize) -> Result<(), AllocError>
 #[tactic(auto, unfolding(crate::specs::Encoding::color))]
 pub(super) fn put_color(out: &mut Vec<u8>, value: ColorAttribute) -> Result<(), AllocError>
     ensures written { OnOk result (out.new.items ≡ out.old.items ++ color value) }
+    ensures kept { Extends out.old.items out.new.items }
     ensures form { OnOk result (IsColor value) }
 {
     match value {
@@ -177,6 +179,7 @@ pub(super) fn put_color(out: &mut Vec<u8>, value: ColorAttribute) -> Result<(), 
 fn put_rgb(out: &mut Vec<u8>, color: RgbColor) -> Result<(), AllocError>
     ensures written { OnOk result (out.new.items
         ≡ out.old.items ++ unsigned color.red ++ unsigned color.green ++ unsigned color.blue) }
+    ensures kept { Extends out.old.items out.new.items }
     ensures form { OnOk result (IsRgb color) }
 {
     let (red, green, blue) = color.to_tuple_rgb8();
@@ -189,6 +192,7 @@ fn put_rgb(out: &mut Vec<u8>, color: RgbColor) -> Result<(), AllocError>
 #[tactic(auto, unfolding(crate::specs::Encoding::position))]
 pub(super) fn put_position(out: &mut Vec<u8>, at: Position) -> Result<(), AllocError>
     ensures written { OnOk result (out.new.items ≡ out.old.items ++ position at) }
+    ensures kept { Extends out.old.items out.new.items }
     ensures form { IsPosition at }
 {
     match at {

@@ -4,7 +4,7 @@ use Rattle.std.specs.Prelude.{map, not, ◌&&◌, ◌||◌, ◌==◌, fold, None
 use Rattle.std.specs.List.{AllByRecursion, flat_map}
 use Rattle.std.proofs.lemmas.Bool.{cases_Bool, eqb-true, eq-eqb, true≢false}
 use Rattle.std.proofs.lemmas.List.{append-nil}
-use Rattle.cbor.specs.declared.error.FaultKind.TheVariants.{Truncated}
+use Rattle.cbor.specs.declared.error.FaultKind.TheVariants.{Limit, Truncated}
 use Rattle.termwiz_screen.specs.FullScreen.{FullScreen, HasFullSize}
 use Rattle.termwiz_screen.specs.Picture.{full_screens, played}
 use Rattle.termwiz_surface_core.specs.Answer.{AnswerValue, Carries, is_repaint, suits}
@@ -18,7 +18,7 @@ use Rattle.termwiz_share.specs.declared.error.ClientError.{ClientError}
 use Rattle.termwiz_share.specs.declared.error.ClientError.TheVariants as errors
 use Rattle.termwiz_share.specs.Client.{ClientValue, SameSettings, Shown, blank_screen, fits, has_other_size, shown_by, start, taken}
 use Rattle.termwiz_share.specs.Feeding.{AreCut, Ends, Feeds, HasForgotten, HasTaken, Reads, Steps, TakesAll, with_bytes}
-use Rattle.termwiz_share.specs.Histories.{Follows, FollowsTo, Given, HasFollowed, HasMore, IsGenuine, IsNamed, after, after_all, stream}
+use Rattle.termwiz_share.specs.Histories.{Follows, FollowsTo, Given, HasFollowed, HasMore, HasStopped, IsGenuine, IsNamed, after, after_all, stream}
 use Rattle.termwiz_share.proofs.Streams.{AreAgain, Decodes, Goes, HasOthers, no_fault, none_whole, others_of}
 
 -- one more answer at the end
@@ -107,6 +107,7 @@ IsCut f = f.kind ≡ Truncated
 -- how answers are decoded
 pub record Laws (m : List ℕ → ℕ) (limits : Limits) : Type 0 where
   pub goes : Goes (answer_at m limits) IsCut
+  pub limited : (a : SentAnswer) (rest : List ℕ) → IsSent m a → (limits.cells < a.answer.width * a.answer.height) ⊎ (limits.bytes < length (answer m a)) → (f : Fault) × (answer_at m limits (answer m a ++ rest) ≡ Err f) × (f.kind ≡ Limit)
   pub again : (a : SentAnswer) (rest : List ℕ) → IsSent m a → a.answer.width * a.answer.height ≤ limits.cells → length (answer m a) ≤ limits.bytes → answer_at m limits (answer m a ++ rest) ≡ Ok (a, rest)
 
 module _ (m : List ℕ → ℕ) (limits : Limits) (histories : ℕ → ℕ → FullScreen) (laws : Laws m limits) where
@@ -187,8 +188,11 @@ module _ {W : Type 0} (f : W → List ℕ → ℕ) (histories : ℕ → ℕ → 
   read_same : answer_at (f mid.surface.widths) mid.limits mid.kept ≡ answer_at m old.limits mid.kept
   read_same = rw (same, taken_all.settings.limits) refl
 
-  forgotten_named : (new : ClientValue W) → new.number ≡ 0 → IsNamed histories (shown_by new)
-  forgotten_named new none = record { named = λ some. absurd (some none) }
+  stopped_as : (new : ClientValue W) → shown_by new ≡ shown_by mid → HasStopped f histories sent old new
+  stopped_as new same = record { given = it.given; others = it.others; all = it.all; shows = inl (same ∙ it.shows); named = subst (IsNamed histories) (sym same) it.named }
+
+  forgotten : (new : ClientValue W) → new.number ≡ 0 → HasStopped f histories sent old new
+  forgotten new none = record { given = it.given; others = it.others; all = it.all; shows = inr none; named = record { named = λ some. absurd (some none) } }
 
   cut_same : AreCut (f mid.surface.widths) mid.limits mid.kept → AreCut m old.limits mid.kept
   cut_same cut = record { fault = cut.fault; is = sym read_same ∙ cut.is; cut = cut.cut }
@@ -208,16 +212,19 @@ module _ {W : Type 0} (f : W → List ℕ → ℕ) (histories : ℕ → ℕ → 
   ended (Ok u) new ends = subst (HasFollowed f histories sent future old) (sym ends.1) (waits_on ends.0)
   ended (Err (errors.Fault x)) new ends = no_bad m old.limits histories laws it.others mid.kept future x it.genuine it.whole (sym read_same ∙ ends.0) ends.1
   ended (Err (errors.Size at)) new ends = no_other_size m old.limits histories laws it.others mid.kept future (shown_by mid) ends.0 ends.1 it.genuine it.whole it.named (sym read_same ∙ ends.2) ends.3
-  ended (Err errors.Numbers) new ends = forgotten_named new (ap (λ (c : ClientValue W). c.number) ends.4)
-  ended (Err errors.Memory) new (inl ends) = subst (λ (c : ClientValue W). IsNamed histories (shown_by c)) (sym ends) it.named
-  ended (Err errors.Memory) new (inr ends) = forgotten_named new ends.number
+  ended (Err errors.Numbers) new ends = forgotten new (ap (λ (c : ClientValue W). c.number) ends.4)
+  ended (Err errors.Memory) new (inl ends) = stopped_as new (ap shown_by ends)
+  ended (Err errors.Memory) new (inr ends) = forgotten new ends.number
 
 -- what it makes of bytes that are fed
 module _ {W : Type 0} (f : W → List ℕ → ℕ) (histories : ℕ → ℕ → FullScreen) (sent : List Given) (future : List ℕ) (old : ClientValue W) (piece : List ℕ) (laws : Laws (f old.surface.widths) old.limits) where
   some_error : (e : ClientError) → old.stopped ≡ Some e → old.stopped ≡ None → ⊥
   some_error e a b = let bad : Some e ≡ None = sym a ∙ b in cc
 
+  refused : {new : ClientValue W} → shown_by new ≡ shown_by old → IsNamed histories (shown_by old) → HasStopped f histories sent old new
+  refused same named = record { given = []; others = sent; all = refl; shows = inl same; named = subst (IsNamed histories) (sym same) named }
+
   pub follows_to : (result : Result (Unit {0}) ClientError) (new : ClientValue W) → Feeds f old piece result new → Follows f histories sent old (piece ++ future) → FollowsTo f histories sent future old result new
   follows_to result new (inl stopped) follows = absurd (some_error stopped.0 stopped.1 follows.reading)
-  follows_to result new (inr (inl none)) follows = subst (λ (r : Result (Unit {0}) ClientError). FollowsTo f histories sent future old r new) (sym none.1) (subst (λ (c : ClientValue W). IsNamed histories (shown_by c)) (sym none.2) follows.named)
+  follows_to result new (inr (inl none)) follows = subst (λ (r : Result (Unit {0}) ClientError). FollowsTo f histories sent future old r new) (sym none.1) (refused (ap shown_by none.2) follows.named)
   follows_to result new (inr (inr reads)) follows = ended f histories sent future old piece laws follows reads.1.mid reads.1.has_taken result new reads.1.ends

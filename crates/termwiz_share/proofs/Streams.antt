@@ -11,13 +11,13 @@ value x = Ok x
 abbrev failed : {A E : Type 0} → E → Result A E
 failed e = Err e
 
-ok_is : {A E : Type 0} (x y : A) (r : Result A E) → r ≡ Ok x → r ≡ Ok y → x ≡ y
+pub ok_is : {A E : Type 0} (x y : A) (r : Result A E) → r ≡ Ok x → r ≡ Ok y → x ≡ y
 ok_is {A = A} {E = E} x y r a b = let same : value {A = A} {E = E} x ≡ value y = sym a ∙ b in cc
 
-err_is : {A E : Type 0} (x y : E) (r : Result A E) → r ≡ Err x → r ≡ Err y → x ≡ y
+pub err_is : {A E : Type 0} (x y : E) (r : Result A E) → r ≡ Err x → r ≡ Err y → x ≡ y
 err_is {A = A} {E = E} x y r a b = let same : failed {A = A} {E = E} x ≡ failed y = sym a ∙ b in cc
 
-ok_or_err : {A E : Type 0} (x : A) (e : E) (r : Result A E) → r ≡ Ok x → r ≡ Err e → ⊥
+pub ok_or_err : {A E : Type 0} (x : A) (e : E) (r : Result A E) → r ≡ Ok x → r ≡ Err e → ⊥
 ok_or_err x e r a b = cc
 
 nil_front : (a b : List ℕ) → a ++ b ≡ [] → a ≡ []

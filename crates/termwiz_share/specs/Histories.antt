@@ -1,5 +1,5 @@
 -- Streams of answers of many sources, and what a client shows of them. Each source has a history, which says what its numbers name.
-use Rattle.std.specs.Prelude.{◌≡◌, ℕ, ◌+◌, ◌*◌, ◌<◌, ◌≤◌, List, [], ◌∷◌, ◌++◌, length, None, Result, Ok, Err, fold, if◌then◌else◌}
+use Rattle.std.specs.Prelude.{◌≡◌, ◌⊎◌, ℕ, ◌*◌, ◌<◌, ◌≤◌, List, [], ◌∷◌, ◌++◌, length, None, Result, Ok, Err, fold, if◌then◌else◌}
 use Rattle.std.specs.List.{AllByRecursion, flat_map}
 use Rattle.termwiz_screen.specs.FullScreen.{FullScreen, HasFullSize}
 use Rattle.termwiz_screen.specs.Picture.{full_screens}
@@ -66,9 +66,17 @@ module _ {W : Type 0} (measure_of : W → List ℕ → ℕ) (histories : ℕ →
     pub shows : shown_by new ≡ after_all (shown_by old) given
     pub named : IsNamed histories (shown_by new)
 
-  -- nothing but want of memory or of numbers keeps it from that, and it shows what its number names then too
+  -- some are taken, and the client shows what the last one that fits was given for, or what it shows has no number
+  pub record HasStopped (old new : ClientValue W) : Type 0 where
+    pub given : List Given
+    pub others : List Given
+    pub all : sent ≡ given ++ others
+    pub shows : (shown_by new ≡ after_all (shown_by old) given) ⊎ (new.number ≡ 0)
+    pub named : IsNamed histories (shown_by new)
+
+  -- nothing but want of memory or of numbers keeps it from taking all that are whole
   abbrev pub FollowsTo : List ℕ → ClientValue W → Result (Unit {0}) ClientError → ClientValue W → Type 0
   FollowsTo future old (Ok u) new = HasFollowed future old new
-  FollowsTo future old (Err errors.Numbers) new = IsNamed histories (shown_by new)
-  FollowsTo future old (Err errors.Memory) new = IsNamed histories (shown_by new)
+  FollowsTo future old (Err errors.Numbers) new = HasStopped old new
+  FollowsTo future old (Err errors.Memory) new = HasStopped old new
   FollowsTo future old (Err _) new = ⊥

@@ -1,5 +1,5 @@
 -- Clients of a source.
-use Rattle.std.specs.Prelude.{◌≡◌, ℕ, ◌≤◌, List, Result, Ok, Err, OnOk}
+use Rattle.std.specs.Prelude.{◌≡◌, ℕ, ◌≤◌, List}
 use Rattle.termwiz_screen.specs.FullScreen.{FullScreen}
 use Rattle.termwiz_screen.specs.Log.{next_number}
 use Rattle.termwiz_screen.specs.Picture.{full_screens}
@@ -8,6 +8,12 @@ use Rattle.termwiz_surface_core.specs.History.{Names}
 use Rattle.termwiz_surface_core.specs.SurfaceValue.{full_of}
 use Rattle.termwiz_share.specs.Client.{ClientValue}
 use Rattle.termwiz_share.specs.Source.{SourceValue}
+
+-- the client shows what the source shows, with its number
+pub record Shows {W : Type 0} (s : SourceValue W) (c : ClientValue W) : Type 0 where
+  pub picture : full_of c.surface ≡ full_of s.surface
+  pub source : c.source ≡ s.number
+  pub number : c.number ≡ next_number s.surface.log
 
 module _ {W : Type 0} (measure_of : W → List ℕ → ℕ) where
   -- the source measures as the client does, and has a past in which a client of it shows what its number names

@@ -1,13 +1,13 @@
 -- What contracts see of a source, and what it answers.
 use Rattle.std.specs.Prelude.{◌≡◌, ◌⊎◌, ℕ, ◌+◌, ◌*◌, ◌≤◌, List, ◌++◌, length, max}
-use Rattle.termwiz_screen.specs.FullScreen.{FullScreen}
+use Rattle.termwiz_screen.specs.FullScreen.{FullScreen, HasFullSize}
 use Rattle.termwiz_screen.specs.Log.{delta_limit, next_number}
 use Rattle.termwiz_screen.specs.Picture.{full_screens}
 use Rattle.termwiz_surface_core.specs.Adding.{with_log}
 use Rattle.termwiz_surface_core.specs.Answer.{AnswerValue}
 use Rattle.termwiz_surface_core.specs.Asking.{forgotten, own_repaint}
 use Rattle.termwiz_surface_core.specs.Carried.{CarriesTo, IsPastOf}
-use Rattle.termwiz_surface_core.specs.SurfaceValue.{SurfaceValue}
+use Rattle.termwiz_surface_core.specs.SurfaceValue.{SurfaceValue, full_of}
 use Rattle.termwiz_wire.specs.Sent.{IsSent, answer}
 use Rattle.termwiz_wire.specs.declared.sent.Ask.{Ask}
 use Rattle.termwiz_wire.specs.declared.sent.SentAnswer.{SentAnswer}
@@ -43,6 +43,7 @@ module _ {W : Type 0} where
       pub is_sent : IsSent (measure_of s.surface.widths) (sent_by s.number given)
       pub width : given.width ≡ s.surface.width
       pub height : given.height ≡ s.surface.height
+      pub sized : HasFullSize given.width given.height (full_of s.surface)
       pub number : given.number ≡ next_number s.surface.log
       pub from : (given.base ≡ 0) ⊎ ((ask.source ≡ s.number) × (given.base ≡ ask.number))
       pub carries : (past : ℕ → FullScreen) → IsPastOf full_screens measure_of past s.surface → CarriesTo full_screens measure_of past given s.surface

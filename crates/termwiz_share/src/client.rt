@@ -1,7 +1,7 @@
 //! Clients: what takes the answers of sources, and shows what they had.
-ghost use Rattle.std.specs.Prelude.{◌≡◌, ◌++◌, ◌≤◌, [], IfOk, List, None, OnErr, OnOk, Some, ℕ, length};
-ghost use Rattle.termwiz_share.specs.{ClientValue, Ends, Feeds, Follows, FollowsTo, Given, HasTaken, IsNamed, IsReady, IsResponse, KeepsSources, Reads, Serves, Shows, SourceValue, Steps, Takes};
-ghost use Rattle.termwiz_share.specs.{ask, ask_of, blank_surface, full_of, measure, stopped_by, true};
+ghost use Rattle.std.specs.Prelude.{◌≡◌, ◌<◌, ◌++◌, [], IfErr, IfOk, List, None, OnOk, ℕ, length};
+ghost use Rattle.termwiz_share.specs.{ClientValue, Feeds, Follows, FollowsTo, FullScreen, Given, IsReady, IsResponse, KeepsSources, Reads, Serves, Shows, SourceValue, Steps};
+ghost use Rattle.termwiz_share.specs.{Memory, ask_of, blank_surface, measure, stopped_by, true, with_bytes};
 
 mod taking;
 
@@ -12,7 +12,7 @@ use std::marker::Model;
 use termwiz_cell::change::SequenceNo;
 use termwiz_cell::emoji::Widths;
 use termwiz_surface_core::surface::Surface;
-use termwiz_wire::{Ask, FaultKind, Limits, SourceNo, WireError, decode_answer, encode_ask};
+use termwiz_wire::{Ask, FaultKind, Limits, SourceNo, WireError, decode_answer};
 
 /// Shows what a source showed when it gave the last answer that was taken.
 ///
@@ -56,12 +56,12 @@ impl<W: Widths> Client<W> {
     /// width value, and takes answers within these limits.
     pub fn new(alloc: Global, widths: W, limits: Limits) -> Result<Client<W>, AllocError>
         ensures blank { IfOk result (λ client. client ≡ record {
-            surface = blank_surface widths 1 1 true;
-            source = 0;
-            number = 0;
-            kept = [];
-            limits = limits;
-            stopped = None;
+          surface = blank_surface widths 1 1 true;
+          source = 0;
+          number = 0;
+          kept = [];
+          limits = limits;
+          stopped = None;
         }) }
         // A source that serves a client serves this one too.
         ensures serves { IfOk result (λ client. (source : SourceValue W) (other : ClientValue W) →
@@ -145,6 +145,16 @@ impl<W: Widths> Client<W> {
         ensures follows { (histories : ℕ → ℕ → FullScreen) (sent : List Given) (future : List ℕ) →
             Follows (measure W.width_of) histories sent self.old (piece.now ++ future) →
             FollowsTo (measure W.width_of) histories sent future self.old result self.new }
+        // A client that is fed the response to its ask shows what the source shows,
+        ensures shows { (source : SourceValue W) → Serves (measure W.width_of) source self.old →
+            IsReady self.old →
+            IsResponse (measure W.width_of) source (ask_of self.old) piece.now →
+            OnOk result (Shows source self.new × IsReady self.new) }
+        // and is served by it still, also after an error.
+        ensures serves { (source : SourceValue W) → Serves (measure W.width_of) source self.old →
+            IsReady self.old →
+            IsResponse (measure W.width_of) source (ask_of self.old) piece.now →
+            Serves (measure W.width_of) source self.new }
     {
         if let Some(error) = self.stopped {
             return Err(error);
@@ -156,7 +166,8 @@ impl<W: Widths> Client<W> {
     // Keeps the bytes behind those that are kept.
     fn keep(&mut self, piece: &[u8]) -> Result<(), ClientError>
         ensures ok { OnOk result (self.new ≡ with_bytes self.old piece.now) }
-        ensures err { IfErr result (λ error. (error ≡ Memory) × (self.new ≡ stopped_by self.old Memory)) }
+        ensures err { IfErr result (λ error.
+            (error ≡ Memory) × (self.new ≡ stopped_by self.old Memory)) }
     {
         if append(&mut self.bytes, &mut self.start, piece).is_err() {
             self.stopped = Some(ClientError::Memory);
@@ -176,7 +187,8 @@ impl<W: Widths> Client<W> {
     // Takes the next answer, or returns whether there is none.
     fn take_next(&mut self) -> Result<bool, ClientError>
         ensures steps { Steps (measure W.width_of) self.old result self.new }
-        ensures shorter { OnOk result (result ≡ Ok true → length self.new.kept < length self.old.kept) }
+        ensures shorter { IfOk result (λ more. more ≡ true →
+            length self.new.kept < length self.old.kept) }
     {
         let widths = self.surface.widths();
         match decode_answer(self.alloc, &widths, self.limits, &self.bytes[self.start..]) {

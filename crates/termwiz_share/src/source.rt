@@ -1,7 +1,7 @@
 //! Sources: full surfaces whose answers name them.
-ghost use Rattle.std.specs.Prelude.{◌≡◌, ◌≢◌, ◌+◌, ◌-◌, ◌<◌, ◌≤◌, ◌^◌, ◌∷◌, ◌++◌, [], IfOk, List, OnErr, OnOk, ℕ, vec_len};
-ghost use Rattle.termwiz_share.specs.{Adds, ClientValue, IsCopied, IsDrawn, IsSurfaceSize, KeepsClients, MeasureAlike, Resizes, Responds, Serves, SourceValue};
-ghost use Rattle.termwiz_share.specs.{blank_surface, change_value, full_of, length, map, measure, next_number, trimmed, true};
+ghost use Rattle.std.specs.Prelude.{◌≡◌, ◌≢◌, ◌+◌, ◌-◌, ◌<◌, ◌^◌, ◌∷◌, ◌++◌, [], IfOk, List, OnErr, OnOk, ℕ, min, vec_len};
+ghost use Rattle.termwiz_share.specs.{Adds, Answers, ClientValue, IsCopied, IsDrawn, IsSurfaceSize, KeepsClients, MeasureAlike, Resizes, Responds, Serves, SourceValue};
+ghost use Rattle.termwiz_share.specs.{blank_surface, change_value, full_of, length, map, measure, most_bytes, next_number, trimmed, true};
 
 use std::alloc::{AllocError, Global};
 use std::marker::Model;
@@ -44,8 +44,8 @@ impl<W: Widths> Source<W> {
         requires some { 0 < number }
         requires size { IsSurfaceSize width height }
         ensures blank { IfOk result (λ source. source ≡ record {
-            surface = blank_surface widths width height true;
-            number = number;
+          surface = blank_surface widths width height true;
+          number = number;
         }) }
         // It serves each client that shows another source, or none.
         ensures serves { IfOk result (λ source. (client : ClientValue W) →

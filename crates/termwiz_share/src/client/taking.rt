@@ -1,4 +1,7 @@
 //! How a client takes an answer.
+ghost use Rattle.std.specs.Prelude.{◌≡◌, false};
+ghost use Rattle.termwiz_share.specs.{Takes, fits, is_repaint, measure, sent_by, shown_by, size_place, suits, true, unnamed};
+
 use super::Client;
 use crate::error::ClientError;
 use cbor::unsigned_len;
@@ -23,11 +26,14 @@ impl<W: Widths> Client<W> {
             let at = self.size_place(source, &answer);
             return Err(self.stop(ClientError::Size { at }));
         }
-        self.take_delta(answer)
+        self.take_delta(source, answer)
     }
 
     // A repaint begins with a blank surface of its size. After an error nothing has changed.
-    fn take_repaint(&mut self, source: SourceNo, answer: Answer) -> Result<(), ClientError> {
+    fn take_repaint(&mut self, source: SourceNo, answer: Answer) -> Result<(), ClientError>
+        requires { is_repaint answer ≡ true }
+        ensures { Takes (measure W.width_of) self.old (sent_by source answer) result self.new }
+    {
         let number = answer.number();
         let (width, height) = answer.size();
         let mut surface = Surface::new_full(self.alloc, width, height, self.surface.widths())?;
@@ -42,7 +48,12 @@ impl<W: Widths> Client<W> {
     }
 
     // A delta begins with what is shown.
-    fn take_delta(&mut self, answer: Answer) -> Result<(), ClientError> {
+    fn take_delta(&mut self, source: SourceNo, answer: Answer) -> Result<(), ClientError>
+        requires delta { is_repaint answer ≡ false }
+        requires fits { fits (shown_by self.old) (sent_by source answer) ≡ true }
+        requires size { suits self.old.surface.width self.old.surface.height answer ≡ true }
+        ensures { Takes (measure W.width_of) self.old (sent_by source answer) result self.new }
+    {
         let number = answer.number();
         if answer.changes().len() > usize::MAX - self.surface.current_seqno() {
             self.forget();
@@ -54,6 +65,7 @@ impl<W: Widths> Client<W> {
         }
         self.surface
             .flush_changes_older_than(self.surface.current_seqno());
+        self.source = source;
         self.number = number;
         Ok(())
     }
@@ -67,7 +79,9 @@ impl<W: Widths> Client<W> {
     }
 
     // Where in an answer's bytes its size differs from the one that is shown.
-    fn size_place(&self, source: SourceNo, answer: &Answer) -> usize {
+    fn size_place(&self, source: SourceNo, answer: &Answer) -> usize
+        ensures { result ≡ size_place (shown_by self.now) (sent_by source answer.now) }
+    {
         let (width, _height) = answer.size();
         let at = 2 + unsigned_len(source);
         if self.surface.dimensions().0 == width {

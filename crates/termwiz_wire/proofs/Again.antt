@@ -300,7 +300,7 @@ same_again room rs rest lt are =
 
 listed_again : (room place : ℕ) (t : List ℕ) (rs : List Run) (rest : List ℕ) → needs_pieces rs ≡ true → 3 * length rs < 2 ^ 64 → AllByRecursion IsRun rs → pieces_at room place t rs (pieces rs ++ rest) ≡ Ok rest
 unfolding pieces_at
-listed_again room place t rs rest needs lt are = rw (same_again room rs rest lt are, needs) refl
+listed_again room place t rs rest needs lt are = rw (needs, same_again room rs rest lt are) refl
 
 -- how many items a text's change has
 abbrev text_count : Bool → ℕ

@@ -31,7 +31,7 @@ use Rattle.termwiz_wire.specs.Encoding.{color, param, link, optional_link, attri
 use Rattle.termwiz_wire.specs.Decoding.{palette_at, rgb_at, rgb_palette_at, color_by, color_at, styled, style_at, ascends, which_at, key_at, param_at, params_at, link_at, optional_link_by, optional_link_at, attributes_at, attribute_change_by, attribute_change_at, position_by, position_at, place_at, is_on, region_size_at, scroll_at, printed_at, visibility_of, change_by, has_count, count_at, change_kind_at, change_at}
 use Rattle.termwiz_wire.specs.Forms.{IsColor, IsParam, IsLink, IsOptionalLink, AreAttributes, IsAttributeChange, IsPosition, IsScroll, IsChange}
 use Rattle.termwiz_wire.specs.Pieces.{runs, needs_pieces}
-use Rattle.termwiz_wire.specs.Cuts.{refused, is_rest_at, is_run_at, are_at, same_at, cut_at, pieces_at, pieces_by}
+use Rattle.termwiz_wire.specs.Cuts.{refused, is_rest_at, is_run_at, are_at, same_at, cut_at, others_at, pieces_at, pieces_by}
 use Rattle.termwiz_wire.specs.declared.pieces.Run.{Run}
 use Rattle.termwiz_wire.proofs.Rows.{FitsRows}
 use Rattle.termwiz_wire.proofs.Params.{order-push}
@@ -469,20 +469,27 @@ record PiecesFound (count : ℕ) (rs : List Run) (bytes rest : List ℕ) : Type 
   pub items : cond (needs_pieces rs) 3 2 ≡ cond (eqb count 3) 3 2
   pub counted : needs_pieces rs ≡ true → 3 * length rs < 2 ^ 64
 
+others_never : {P : Type 0} (room place : ℕ) (t bytes rest : List ℕ) → others_at room place t bytes ≡ Ok rest → P
+unfolding others_at
+others_never room place t bytes rest e =
+    let bad = bind_ok (cut_at room t bytes) (λ rest. Err (record { fault = faults.Measure; left = place })) rest e in
+    never (record { fault = faults.Measure; left = place }) rest bad.2
+
 listed_takes : (room place : ℕ) (t : List ℕ) (rs : List Run) (bytes rest : List ℕ) → IsBytes bytes → pieces_at room place t rs bytes ≡ Ok rest → Takes bytes (pieces rs) rest × (needs_pieces rs ≡ true) × (3 * length rs < 2 ^ 64)
 unfolding pieces_at
 listed_takes room place t rs bytes rest fits e =
-    let same = bind_ok (same_at room rs bytes) (λ same. cond (needs_pieces rs && same.0) (Ok same.1) (cut_at room t bytes >>= λ rest. Err (record { fault = faults.Measure; left = place }))) rest e in
-    elim (chosen (needs_pieces rs && same.0.0) (Ok same.0.1) (cut_at room t bytes >>= λ rest. Err (record { fault = faults.Measure; left = place })) (Ok rest) same.2) [
+    elim (chosen (needs_pieces rs) (same_at room rs bytes >>= λ same. cond same.0 (Ok same.1) (others_at room place t bytes)) (others_at room place t bytes) (Ok rest) e) [
       | inl p ↦
-          let parts = both (needs_pieces rs) same.0.0 p.0 in
-          let ends : same.0.1 ≡ rest = ok_is {A = List ℕ} {E = Stop} same.0.1 rest p.1 in
-          let named : same_at room rs bytes ≡ Ok (true, rest) = same.1 ∙ ap (λ (b : Bool). ok {E = Stop} b same.0.1) parts.1 ∙ ap (λ (y : List ℕ). ok {E = Stop} true y) ends in
-          let t = same_takes room rs bytes rest fits named in
-          (t.0, parts.0, t.1)
-      | inr p ↦
-          let bad = bind_ok (cut_at room t bytes) (λ rest. Err (record { fault = faults.Measure; left = place })) rest p.1 in
-          never (record { fault = faults.Measure; left = place }) rest bad.2
+          let same = bind_ok (same_at room rs bytes) (λ same. cond same.0 (Ok same.1) (others_at room place t bytes)) rest p.1 in
+          elim (chosen same.0.0 (Ok same.0.1) (others_at room place t bytes) (Ok rest) same.2) [
+            | inl q ↦
+                let ends : same.0.1 ≡ rest = ok_is {A = List ℕ} {E = Stop} same.0.1 rest q.1 in
+                let named : same_at room rs bytes ≡ Ok (true, rest) = same.1 ∙ ap (λ (b : Bool). ok {E = Stop} b same.0.1) q.0 ∙ ap (λ (y : List ℕ). ok {E = Stop} true y) ends in
+                let t = same_takes room rs bytes rest fits named in
+                (t.0, p.0, t.1)
+            | inr q ↦ others_never room place t bytes rest q.1
+          ]
+      | inr p ↦ others_never room place t bytes rest p.1
     ]
 
 pieces_take : (room place count : ℕ) (t : List ℕ) (rs : List Run) (bytes rest : List ℕ) → IsBytes bytes → pieces_by room place count t rs bytes ≡ Ok rest → PiecesFound count rs bytes rest

@@ -111,11 +111,15 @@ cut_at room text bytes = do
 
 -- ---- the pieces of a text
 
--- pieces that are read: those of the text here, or a fault
+-- pieces that are not those of the text here: a fault of theirs, and else the text's
+unfoldable pub others_at : ℕ → ℕ → List ℕ → List ℕ → Result (List ℕ) Stop
+others_at room place text bytes = cut_at room text bytes >>= λ rest. Err (record { fault = faults.Measure; left = place })
+
+-- pieces that are read: those of the text here, which needs them, or a fault
 unfoldable pub pieces_at : ℕ → ℕ → List ℕ → List Run → List ℕ → Result (List ℕ) Stop
-pieces_at room place text rs bytes = do
-  same ← same_at room rs bytes
-  if needs_pieces rs && same.0 then Ok same.1 else (cut_at room text bytes >>= λ rest. Err (record { fault = faults.Measure; left = place }))
+pieces_at room place text rs bytes =
+    if needs_pieces rs then (same_at room rs bytes >>= λ same. if same.0 then Ok same.1 else others_at room place text bytes)
+    else others_at room place text bytes
 
 -- the bytes behind a text's pieces, if its change has them as a third item: the text has its fault where it begins
 unfoldable pub pieces_by : ℕ → ℕ → ℕ → List ℕ → List Run → List ℕ → Result (List ℕ) Stop

@@ -7,13 +7,14 @@ ghost use Rattle.termwiz_cell.specs.ChangeValue.{ChangeValue, change_value};
 ghost use Rattle.termwiz_cell.specs.Measure.{measure};
 ghost use Rattle.termwiz_wire.specs.Answers.{Decodes, Halts, changes_at, changes_in, each_at};
 ghost use Rattle.termwiz_wire.specs.Answers.{halted, one_change_at};
-ghost use Rattle.termwiz_wire.specs.Cuts.{pieces_at, pieces_by};
+ghost use Rattle.termwiz_wire.specs.Cuts.{others_at, pieces_at, pieces_by};
 ghost use Rattle.termwiz_wire.specs.Decoding.{change_at, change_by, change_kind_at, count_at};
 ghost use Rattle.termwiz_wire.specs.Decoding.{has_count, is_on, place_at, printed_at};
 ghost use Rattle.termwiz_wire.specs.Decoding.{region_size_at, scroll_at};
 ghost use Rattle.termwiz_wire.specs.Encoding.{change, changes};
 ghost use Rattle.termwiz_wire.specs.Forms.{AreChanges, IsChange};
-ghost use Rattle.termwiz_wire.specs.Pieces.{needs_pieces, runs};
+ghost use Rattle.termwiz_wire.specs.Pieces.{runs};
+ghost use Rattle.termwiz_wire.specs.Beginning.{IsNeeded};
 
 use super::attributes::{attribute_change_of, attributes_of};
 use super::cuts::{are_same, cut_of};
@@ -22,7 +23,7 @@ use super::links::owned_of;
 use super::small::{color_of, line_from, position_of, shape_from, visibility_of};
 use crate::encode::change_count;
 use crate::fault::WireError;
-use crate::pieces::{needs_pieces, needs_runs, runs_of};
+use crate::pieces::needed_runs;
 use cbor::{ReadError, Reader};
 use std::alloc::Global;
 use termwiz_cell::change::Change;
@@ -289,26 +290,29 @@ fn pieces_of<'a, W: Widths>(
         (runs (measure W.width_of widths.now) text.now) reader.old.bytes.now) }
     ensures room { reader.new.room ≡ reader.old.room }
 {
-    if count == 3 {
-        return listed_of(alloc, widths, text, start, reader);
+    match needed_runs(widths, text) {
+        None if count == 3 => others_of(alloc, text, start, reader),
+        None => Ok(()),
+        Some(needed) if count == 3 => listed_of(alloc, widths, text, needed, start, reader),
+        Some(_) => {
+            reader.bytes = start;
+            Err(ReadError::Measure)
+        }
     }
-    if needs_pieces(widths, text) {
-        reader.bytes = start;
-        return Err(ReadError::Measure);
-    }
-    Ok(())
 }
 
-// The list of a text's pieces.
+// The list of a text's pieces, which it needs, of so many runs.
 #[inline(never)]
 #[tactic(auto, unfolding(crate::specs::Cuts::pieces_at))]
 fn listed_of<'a, W: Widths>(
     alloc: Global,
     widths: &W,
     text: &str,
+    needed: usize,
     start: &'a [u8],
     reader: &mut Reader<'a>,
 ) -> Result<(), ReadError>
+    requires { IsNeeded needed (runs (measure W.width_of widths.now) text.now) }
     ensures value { Gives (allowed reader.new.room reader.new.bytes.now)
         (λ _. reader.new.bytes.now) result
         (pieces_at reader.old.room (allowed reader.old.room start.now) text.now
@@ -316,12 +320,28 @@ fn listed_of<'a, W: Widths>(
     ensures room { reader.new.room ≡ reader.old.room }
 {
     let list = reader.bytes;
-    let runs = runs_of(alloc, widths, text)?;
-    let same = are_same(reader, runs.as_slice())?;
-    if needs_runs(runs.as_slice()) && same {
+    if are_same(reader, widths, text, needed)? {
         return Ok(());
     }
     reader.bytes = list;
+    others_of(alloc, text, start, reader)
+}
+
+// Pieces that are not those of the text here: a fault of theirs, and else the text's.
+#[inline(never)]
+#[tactic(auto, unfolding(crate::specs::Cuts::others_at))]
+fn others_of<'a>(
+    alloc: Global,
+    text: &str,
+    start: &'a [u8],
+    reader: &mut Reader<'a>,
+) -> Result<(), ReadError>
+    ensures value { Gives (allowed reader.new.room reader.new.bytes.now)
+        (λ _. reader.new.bytes.now) result
+        (others_at reader.old.room (allowed reader.old.room start.now) text.now
+        reader.old.bytes.now) }
+    ensures room { reader.new.room ≡ reader.old.room }
+{
     cut_of(alloc, text, reader)?;
     reader.bytes = start;
     Err(ReadError::Measure)

@@ -2,42 +2,56 @@
 ghost use Rattle.std.specs.Prelude.{◌≡◌, ◌*◌, ◌<◌, ◌≤◌, [], Bool, IfOk, Ok, drop, false, length};
 ghost use Rattle.std.specs.Str.{chars};
 ghost use Rattle.cbor.specs.Decoding.{Gives, allowed};
+ghost use Rattle.termwiz_cell.specs.Measure.{measure};
 ghost use Rattle.termwiz_wire.specs.Cuts.{are_at, are_characters, are_columns, are_pieces, cut_at};
 ghost use Rattle.termwiz_wire.specs.Cuts.{have_columns, is_break, is_control, is_count, is_piece};
 ghost use Rattle.termwiz_wire.specs.Cuts.{is_rest_at, is_run_at, kept_at, no_run, run_at, runs_at};
 ghost use Rattle.termwiz_wire.specs.Cuts.{same_at, threes_at};
-ghost use Rattle.termwiz_wire.specs.Pieces.{alike, stands_out};
+ghost use Rattle.termwiz_wire.specs.Pieces.{runs};
 
-use crate::pieces::Run;
+use crate::pieces::{Run, Runs};
 use cbor::{ReadError, Reader};
 use std::alloc::Global;
+use termwiz_cell::emoji::Widths;
 
-/// Whether the list ahead is of these runs, as far as they agree.
+/// Whether the list ahead is of the runs of a text, which are so many, as far as they agree.
 #[tactic(auto, unfolding(crate::specs::Cuts::same_at))]
-pub(super) fn are_same(reader: &mut Reader<'_>, runs: &[Run]) -> Result<bool, ReadError>
+pub(super) fn are_same<W: Widths>(
+    reader: &mut Reader<'_>,
+    widths: &W,
+    text: &str,
+    count: usize,
+) -> Result<bool, ReadError>
+    requires { count ≡ length (runs (measure W.width_of widths.now) text.now) }
     ensures value { Gives (allowed reader.new.room reader.new.bytes.now)
         (λ x. (x, reader.new.bytes.now)) result
-        (same_at reader.old.room runs.now reader.old.bytes.now) }
+        (same_at reader.old.room (runs (measure W.width_of widths.now) text.now)
+        reader.old.bytes.now) }
     ensures room { reader.new.room ≡ reader.old.room }
 {
     let start = reader.bytes;
-    let count = reader.array()?;
-    if count / 3 != runs.len() || count % 3 != 0 {
+    let numbers = reader.array()?;
+    if numbers % 3 != 0 || numbers / 3 != count {
         return Ok(false);
     }
     reader.bytes = start;
-    let _count = reader.list()?;
-    are_runs(reader, runs)
+    let _numbers = reader.list()?;
+    are_runs(reader, widths, text)
 }
 
-fn are_runs(reader: &mut Reader<'_>, runs: &[Run]) -> Result<bool, ReadError>
+fn are_runs<W: Widths>(
+    reader: &mut Reader<'_>,
+    widths: &W,
+    text: &str,
+) -> Result<bool, ReadError>
     ensures value { Gives (allowed reader.new.room reader.new.bytes.now)
         (λ x. (x, reader.new.bytes.now)) result
-        (are_at reader.old.room runs.now reader.old.bytes.now) }
+        (are_at reader.old.room (runs (measure W.width_of widths.now) text.now)
+        reader.old.bytes.now) }
     ensures room { reader.new.room ≡ reader.old.room }
 {
-    for run in runs {
-        if !is_run(reader, *run)? {
+    for run in Runs::new(widths, text) {
+        if !is_run(reader, run)? {
             return Ok(false);
         }
     }
@@ -129,17 +143,10 @@ fn all_runs(
     for _ in 0..count {
         let run = run_of(reader, last, left)?;
         left = &left[run.count * run.characters..];
-        needed = needed || stands_out(run);
+        needed = needed || run.stands_out();
         last = run;
     }
     Ok(needed && left.is_empty())
-}
-
-// Whether the run is a reason to send the pieces of a text.
-fn stands_out(run: Run) -> bool
-    ensures { result ≡ stands_out run }
-{
-    run.columns > 1 || run.characters > 1 && run.columns != 0
 }
 
 // A run of the characters that are left, behind the last one.
@@ -256,8 +263,12 @@ fn columns_of(
 {
     let start = reader.bytes;
     let columns = reader.unsigned()?;
-    let is_alike = last.characters == size && last.columns == columns;
-    if columns < 3 && have_columns(columns != 0, count, size, left) && !is_alike {
+    let run = Run {
+        count,
+        characters: size,
+        columns,
+    };
+    if columns < 3 && have_columns(columns != 0, count, size, left) && !last.is_alike(&run) {
         Ok(columns)
     } else {
         reader.bytes = start;

@@ -3,6 +3,13 @@
 
 use std::os::raw::c_void;
 
+pub const DONE: i32 = 0;
+pub const MEMORY: i32 = 1;
+pub const UNREADABLE: i32 = 2;
+pub const TRUNCATED: i32 = 3;
+pub const REGION: i32 = 4;
+pub const NUMBERS: i32 = 5;
+pub const RANGE: i32 = 8;
 pub const SHORT: i32 = 9;
 
 #[repr(C)]
@@ -65,14 +72,12 @@ extern "C" {
         widths: u8,
         source: usize,
     ) -> i32;
-    pub fn tk_viewer_new(viewer: *mut tk_handle, source: *mut tk_handle) -> i32;
     pub fn tk_free(handle: *mut tk_handle);
-    pub fn tk_resize(handle: *mut tk_handle, width: usize, height: usize) -> i32;
-
+    pub fn tk_resize(surface: *mut tk_handle, width: usize, height: usize) -> i32;
+    pub fn tk_number(handle: *mut tk_handle, number: *mut usize) -> i32;
     pub fn tk_size(handle: *mut tk_handle, width: *mut usize, height: *mut usize) -> i32;
     pub fn tk_cursor(handle: *mut tk_handle, column: *mut usize, row: *mut usize) -> i32;
     pub fn tk_cursor_is_visible(handle: *mut tk_handle, is_visible: *mut bool) -> i32;
-    pub fn tk_number(handle: *mut tk_handle, number: *mut usize) -> i32;
     pub fn tk_title(handle: *mut tk_handle, text: *mut u8, room: usize, len: *mut usize) -> i32;
     pub fn tk_screen_text(
         handle: *mut tk_handle,
@@ -121,7 +126,8 @@ extern "C" {
         to_column: usize,
         to_row: usize,
     ) -> i32;
-
+    pub fn tk_viewer_new(viewer: *mut tk_handle, source: *mut tk_handle) -> i32;
+    pub fn tk_follow(viewer: *mut tk_handle, source: *mut tk_handle) -> i32;
     pub fn tk_respond(
         surface: *mut tk_handle,
         ask: *const u8,
@@ -144,7 +150,6 @@ extern "C" {
         len: *mut usize,
     ) -> i32;
     pub fn tk_client_reset(client: *mut tk_handle) -> i32;
-    pub fn tk_follow(viewer: *mut tk_handle, source: *mut tk_handle) -> i32;
 }
 
 #[cfg(test)]

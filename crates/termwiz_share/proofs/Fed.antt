@@ -3,9 +3,17 @@ use Rattle.std.proofs.Common.{◌≡◌, ◌≢◌, ◌⊎◌, ℕ, ◌+◌, ◌
 use Rattle.std.specs.Prelude.{map, not, ◌&&◌, ◌||◌, ◌==◌, fold, None, Some, if◌then◌else◌}
 use Rattle.std.specs.List.{AllByRecursion, flat_map}
 use Rattle.std.proofs.lemmas.Bool.{cases_Bool, eqb-true, eq-eqb, true≢false}
-use Rattle.std.proofs.lemmas.List.{append-nil}
+use Rattle.std.proofs.lemmas.List.{append-nil, get_or-map, length-map, length-replicate}
 use Rattle.cbor.specs.declared.error.FaultKind.TheVariants.{Limit, Truncated}
-use Rattle.termwiz_screen.specs.FullScreen.{FullScreen, HasFullSize}
+use Rattle.std.proofs.Common.{replicate}
+use Rattle.termwiz_cell.specs.CellValue.{CellValue, blank}
+use Rattle.termwiz_cell.specs.ChangeValue.{ChangeValue}
+use Rattle.termwiz_line.specs.LineFlags.{no_flags}
+use Rattle.termwiz_line.specs.Row.{row_of}
+use Rattle.termwiz_line.proofs.RowOf.{length-row_of}
+use Rattle.termwiz_screen.specs.FullScreen.{FullScreen, HasFullSize, full_step, line_attribute}
+use Rattle.termwiz_screen.specs.Screen.{row_at}
+use Rattle.termwiz_surface_core.proofs.Remembering.{full_screens_keep}
 use Rattle.termwiz_screen.specs.Picture.{full_screens, played}
 use Rattle.termwiz_surface_core.specs.Answer.{AnswerValue, Carries, is_repaint, suits}
 use Rattle.termwiz_surface_core.specs.History.{Names}
@@ -18,8 +26,9 @@ use Rattle.termwiz_share.specs.declared.error.ClientError.{ClientError}
 use Rattle.termwiz_share.specs.declared.error.ClientError.TheVariants as errors
 use Rattle.termwiz_share.specs.Client.{ClientValue, SameSettings, Shown, blank_screen, fits, has_other_size, shown_by, start, taken}
 use Rattle.termwiz_share.specs.Feeding.{AreCut, Ends, Feeds, HasForgotten, HasTaken, Reads, Steps, TakesAll, with_bytes}
+use Rattle.termwiz_share.specs.Laws.{IsCut, Laws}
 use Rattle.termwiz_share.specs.Histories.{Follows, FollowsTo, Given, HasFollowed, HasMore, HasStopped, IsGenuine, IsNamed, after, after_all, stream}
-use Rattle.termwiz_share.proofs.Streams.{AreAgain, Decodes, Goes, HasOthers, no_fault, none_whole, others_of}
+use Rattle.termwiz_share.proofs.Streams.{AreAgain, Decodes, HasOthers, no_fault, none_whole, others_of}
 
 -- one more answer at the end
 pub TakesAll-push : (m : List ℕ → ℕ) (limits : Limits) (s : Shown) (bytes : List ℕ) (given : List SentAnswer) (t : Shown) (rest : List ℕ) (a : SentAnswer) (next : List ℕ) → TakesAll m limits s bytes given t rest → answer_at m limits rest ≡ Ok (a, next) → has_other_size t a ≡ false → TakesAll m limits s bytes (given ++ a ∷ []) (taken m t a) next
@@ -37,11 +46,27 @@ shown_last m limits s bytes (a ∷ more) t rest d = shown_last m limits (taken m
 
 -- a blank screen has its size
 blank_sized : (w h : ℕ) → HasFullSize w h (blank_screen w h)
-blank_sized w h = ?
+blank_sized w h =
+    let rows : List (List CellValue) = replicate h (replicate w blank) in
+    record {
+      screen = record {
+        width = refl;
+        height = refl;
+        full = length-map rows (row_of w) ∙ length-replicate h (replicate w blank);
+        row_length = λ j lt.
+            let inside : j < length rows = omega (arith, lt, length-replicate h (replicate w blank)) in
+            ap length (get_or-map (row_of w) rows j [] [] inside) ∙ length-row_of w (row_at rows j);
+      };
+      lines = length-map (replicate h no_flags) line_attribute ∙ length-replicate h no_flags;
+    }
 
 -- a full screen keeps its size
-played_size : (m : List ℕ → ℕ) (p : FullScreen) (cs : _) → ((played full_screens m p cs).screen.width ≡ p.screen.width) × ((played full_screens m p cs).screen.height ≡ p.screen.height)
-played_size m p cs = ?
+played_size : (m : List ℕ → ℕ) (p : FullScreen) (cs : List ChangeValue) → ((played full_screens m p cs).screen.width ≡ p.screen.width) × ((played full_screens m p cs).screen.height ≡ p.screen.height)
+played_size m p [] = (refl, refl)
+played_size m p (c ∷ cs) =
+    let one = (full_screens_keep m).same p c in
+    let rest = played_size m (full_step m p c) cs in
+    (rest.0 ∙ one.width, rest.1 ∙ one.height)
 
 module _ (m : List ℕ → ℕ) (limits : Limits) (histories : ℕ → ℕ → FullScreen) where
   module _ (s : Shown) (g : Given) (named : IsNamed histories s) (is : IsGenuine m limits histories g) where
@@ -99,16 +124,6 @@ module _ (m : List ℕ → ℕ) (limits : Limits) (histories : ℕ → ℕ → F
       let one = taken_as s g named each.0 in
       let rest = all_taken (after s g) gs (named_after s g named each.0) each.1 in
       (ap (λ (v : Shown). fold (taken m) v (map (λ (x : Given). x.sent) gs)) one.0 ∙ rest.0, rest.1)
-
--- more bytes may make an answer
-abbrev pub IsCut : Fault → Type 0
-IsCut f = f.kind ≡ Truncated
-
--- how answers are decoded
-pub record Laws (m : List ℕ → ℕ) (limits : Limits) : Type 0 where
-  pub goes : Goes (answer_at m limits) IsCut
-  pub limited : (a : SentAnswer) (rest : List ℕ) → IsSent m a → (limits.cells < a.answer.width * a.answer.height) ⊎ (limits.bytes < length (answer m a)) → (f : Fault) × (answer_at m limits (answer m a ++ rest) ≡ Err f) × (f.kind ≡ Limit)
-  pub again : (a : SentAnswer) (rest : List ℕ) → IsSent m a → a.answer.width * a.answer.height ≤ limits.cells → length (answer m a) ≤ limits.bytes → answer_at m limits (answer m a ++ rest) ≡ Ok (a, rest)
 
 module _ (m : List ℕ → ℕ) (limits : Limits) (histories : ℕ → ℕ → FullScreen) (laws : Laws m limits) where
   abbrev bytes_of : Given → List ℕ

@@ -12,7 +12,9 @@ use Rattle.termwiz_surface_core.specs.Carried.{IsPastOf}
 use Rattle.termwiz_surface_core.specs.Following.{KeepsViewers}
 use Rattle.termwiz_surface_core.specs.History.{KeepsNames, Names}
 use Rattle.termwiz_surface_core.specs.SurfaceValue.{SurfaceValue, full_of}
-use Rattle.termwiz_surface_core.proofs.Following.{same_measure}
+use Rattle.termwiz_surface_core.proofs.Remembering.{past-first}
+use Rattle.termwiz_surface_core.specs.Following as following
+use Rattle.termwiz_surface_core.specs.Following.{ViewerValue}
 use Rattle.termwiz_wire.specs.Answers.{answer_at}
 use Rattle.termwiz_wire.specs.Sent.{IsSent, answer}
 use Rattle.termwiz_wire.specs.declared.fault.Fault.{Fault}
@@ -25,10 +27,45 @@ use Rattle.termwiz_share.specs.Feeding.{AreCut, Ends, Feeds, HasTaken, TakesAll,
 use Rattle.termwiz_share.specs.Histories.{Follows, FollowsTo, Given, HasFollowed, HasMore, HasStopped, IsGenuine, IsNamed, after, after_all, stream}
 use Rattle.termwiz_share.specs.Serving.{KeepsClients, Serves, Shows}
 use Rattle.termwiz_share.specs.Source.{IsResponse, SourceValue, sent_by}
-use Rattle.termwiz_share.proofs.Fed.{Laws, follows_to}
+use Rattle.termwiz_share.specs.Laws.{Laws}
+use Rattle.termwiz_share.proofs.Fed.{follows_to}
 use Rattle.termwiz_share.proofs.Streams.{err_is, ok_or_err}
 
+-- whatever it shows, a viewer with no number follows
+unnumbered : {W : Type 0} (f : W → List ℕ → ℕ) (v : ViewerValue W) (s : SurfaceValue W) → f v.surface.widths ≡ f s.widths → v.last ≡ 0 → following.Follows f v s
+unnumbered f v s one none = record {
+  one_measure = one;
+  leads = record { not_ahead = omega (arith, none); leads = λ some le. absurd (some none) };
+  full = λ full. record { not_ahead = omega (arith, none); leads = λ some le. absurd (some none) };
+}
+
+-- what keeps viewers keeps how texts are measured
+same_measure : {W : Type 0} (f : W → List ℕ → ℕ) (s t : SurfaceValue W) → KeepsViewers f s t → f s.widths ≡ f t.widths
+same_measure {W = W} f s t keeps =
+    let v : ViewerValue W = record { surface = s; last = 0 } in
+    (keeps v (unnumbered f v s refl refl)).one_measure
+
 module _ {W : Type 0} (f : W → List ℕ → ℕ) where
+  -- a surface that never changed has any past
+  pub serves_first : (s : SourceValue W) (c : ClientValue W) → s.surface.log ≡ record { first = 0; changes = [] } → f c.surface.widths ≡ f s.surface.widths → (c.source ≡ s.number → ⊥) → Serves f s c
+  serves_first s c fresh one other = record {
+    past = λ n. full_of s.surface;
+    is_past = rw fresh (past-first full_screens (f s.surface.widths) (λ n. full_of s.surface) (full_of s.surface));
+    one_measure = one;
+    not_ahead = λ e. absurd (other e);
+    named = λ e. absurd (other e);
+  }
+
+  -- a client of no source is served by one that has a client
+  pub serves_next : (s : SourceValue W) (other c : ClientValue W) → Serves f s other → f c.surface.widths ≡ f s.surface.widths → c.number ≡ 0 → Serves f s c
+  serves_next s other c serves one none = record {
+    past = serves.past;
+    is_past = serves.is_past;
+    one_measure = one;
+    not_ahead = λ e. omega (arith, none);
+    named = λ e. record { named = λ some. absurd (some none) };
+  }
+
   -- whatever keeps a surface's viewers, and what its numbers name, keeps a source's clients
   pub keeps_clients : (s t : SourceValue W) → t.number ≡ s.number → KeepsViewers f s.surface t.surface → KeepsNames (f s.surface.widths) s.surface t.surface → KeepsClients f s t
   keeps_clients s t number viewers names c serves =
@@ -41,6 +78,12 @@ module _ {W : Type 0} (f : W → List ℕ → ℕ) where
         not_ahead = λ e. omega (arith, serves.not_ahead (e ∙ number), on.grows);
         named = λ e. record { named = λ some. on.alike c.number (serves.not_ahead (e ∙ number)) ∙ (serves.named (e ∙ number)).named some };
       }
+
+  -- so do two such steps
+  pub keeps_after : (n : ℕ) (s mid t : SurfaceValue W) → KeepsViewers f s mid → KeepsNames (f s.widths) s mid → KeepsViewers f mid t → KeepsNames (f mid.widths) mid t → KeepsClients f (record { surface = s; number = n }) (record { surface = t; number = n })
+  keeps_after n s mid t viewers names more_viewers more_names c serves =
+      let middle : SourceValue W = record { surface = mid; number = n } in
+      keeps_clients middle (record { surface = t; number = n }) refl more_viewers more_names c (keeps_clients (record { surface = s; number = n }) middle refl viewers names c serves)
 
   module _ (s : SourceValue W) (c new : ClientValue W) (serves : Serves f s c) (widths : new.surface.widths ≡ c.surface.widths) where
     measured : f new.surface.widths ≡ f s.surface.widths

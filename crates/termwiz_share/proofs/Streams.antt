@@ -3,6 +3,7 @@ use Rattle.std.proofs.Common.{◌≡◌, ◌≢◌, ◌⊎◌, ℕ, ◌+◌, ◌
 use Rattle.std.specs.List.{flat_map}
 use Rattle.std.specs.Prelude.{map}
 use Rattle.std.proofs.lemmas.Bool.{cases_lt}
+use Rattle.termwiz_share.specs.Laws.{Goes}
 use Rattle.std.proofs.lemmas.List.{append-nil, take-append-drop, take-append-le, take_at, length-append}
 
 abbrev value : {A E : Type 0} → A → Result A E
@@ -31,14 +32,6 @@ module _ {T E : Type 0} (read : List ℕ → Result (T × List ℕ) E) where
   Decodes bytes (x ∷ xs) rest = (next : List ℕ) × (read bytes ≡ Ok (x, next)) × Decodes next xs rest
 
 module _ {T E : Type 0} (read : List ℕ → Result (T × List ℕ) E) (IsCut : E → Type 0) where
-  -- nothing is decoded from no bytes, and what is decoded stays as it is with more bytes behind
-  pub record Goes : Type 0 where
-    pub first : E
-    pub starts : read [] ≡ Err first
-    pub starts_cut : IsCut first
-    pub value : (bytes more : List ℕ) (x : T) (rest : List ℕ) → read bytes ≡ Ok (x, rest) → read (bytes ++ more) ≡ Ok (x, rest ++ more)
-    pub fault : (bytes more : List ℕ) (e : E) → read bytes ≡ Err e → (IsCut e → ⊥) → read (bytes ++ more) ≡ Err e
-
   module _ {G : Type 0} (encoded : G → List ℕ) (value_of : G → T) where
     -- what is encoded of each is decoded again, whatever comes behind
     abbrev pub AreAgain : List G → Type 0
@@ -54,7 +47,7 @@ module _ {T E : Type 0} (read : List ℕ → Result (T × List ℕ) E) (IsCut : 
       pub again : AreAgain others
       pub whole : bytes ≡ flat_map encoded others
 
-    module _ (goes : Goes) where
+    module _ (goes : Goes read IsCut) where
       first_is : (bytes future : List ℕ) (g : G) (gs : List G) (x : T) (next : List ℕ) → ((rest : List ℕ) → read (encoded g ++ rest) ≡ Ok (value_of g, rest)) → bytes ++ future ≡ flat_map encoded (g ∷ gs) → read bytes ≡ Ok (x, next)
           → ◌≡◌ {A = T × List ℕ} (value_of g, flat_map encoded gs) (x, next ++ future)
       first_is bytes future g gs x next again e is = ok_is (value_of g, flat_map encoded gs) (x, next ++ future) (read (bytes ++ future)) (ap read e ∙ again (flat_map encoded gs)) (goes.value bytes future x next is)

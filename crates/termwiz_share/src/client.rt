@@ -1,6 +1,6 @@
 //! Clients: what takes the answers of sources, and shows what they had.
 ghost use Rattle.std.specs.Prelude.{◌≡◌, ◌<◌, ◌++◌, [], IfErr, IfOk, List, None, OnOk, ℕ, length};
-ghost use Rattle.termwiz_share.specs.{ClientValue, Feeds, Follows, FollowsTo, FullScreen, Given, IsReady, IsResponse, KeepsSources, Reads, Serves, Shows, SourceValue, Steps};
+ghost use Rattle.termwiz_share.specs.{ClientValue, Feeds, Follows, FollowsTo, FullScreen, Given, IsReady, IsResponse, KeepsSources, Laws, Reads, Serves, Shows, SourceValue, Steps};
 ghost use Rattle.termwiz_share.specs.{Memory, ask_of, blank_surface, measure, stopped_by, true, with_bytes};
 
 mod taking;
@@ -142,16 +142,19 @@ impl<W: Widths> Client<W> {
         ensures feeds { Feeds (measure W.width_of) self.old piece.now result self.new }
         // Of a stream of answers, of any sources and in any order, it shows what the last one that
         // fits was given for, and fails for want of memory or of numbers alone.
-        ensures follows { (histories : ℕ → ℕ → FullScreen) (sent : List Given) (future : List ℕ) →
+        ensures follows { Laws (measure W.width_of self.old.surface.widths) self.old.limits →
+            (histories : ℕ → ℕ → FullScreen) (sent : List Given) (future : List ℕ) →
             Follows (measure W.width_of) histories sent self.old (piece.now ++ future) →
             FollowsTo (measure W.width_of) histories sent future self.old result self.new }
         // A client that is fed the response to its ask shows what the source shows,
-        ensures shows { (source : SourceValue W) → Serves (measure W.width_of) source self.old →
+        ensures shows { Laws (measure W.width_of self.old.surface.widths) self.old.limits →
+            (source : SourceValue W) → Serves (measure W.width_of) source self.old →
             IsReady self.old →
             IsResponse (measure W.width_of) source (ask_of self.old) piece.now →
             OnOk result (Shows source self.new × IsReady self.new) }
         // and is served by it still, also after an error.
-        ensures serves { (source : SourceValue W) → Serves (measure W.width_of) source self.old →
+        ensures serves { Laws (measure W.width_of self.old.surface.widths) self.old.limits →
+            (source : SourceValue W) → Serves (measure W.width_of) source self.old →
             IsReady self.old →
             IsResponse (measure W.width_of) source (ask_of self.old) piece.now →
             Serves (measure W.width_of) source self.new }

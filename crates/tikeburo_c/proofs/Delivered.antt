@@ -1,25 +1,18 @@
 -- What the calls for streams do together.
-use Rattle.std.proofs.Common.{◌≡◌, inl, inr, ℕ, ◌*◌, ◌≤◌, ℤ, pos, List, [], ◌∷◌, ◌++◌, length, take, true, refl, sym, ap, ◌∙◌, subst, arith, length-append}
+use Rattle.std.proofs.Common.{◌≡◌, inl, inr, ℕ, ℤ, pos, List, ◌++◌, length, take, refl, sym, ap, ◌∙◌, subst}
 use Rattle.std.proofs.Math.Seq.{take-append_seam}
-use Rattle.std.proofs.lemmas.Bool.{cases_Bool, eq-eqb, eqb-true, true≢false}
-use Rattle.std.proofs.lemmas.List.{append-nil}
-use Rattle.std.specs.Prelude.{Option, Some, None, Result, Ok, Err, if◌then◌else◌, ◌==◌}
-use Rattle.termwiz_screen.specs.FullScreen.{FullScreen, HasFullSize}
-use Rattle.termwiz_screen.specs.Picture.{full_screens}
-use Rattle.termwiz_share.specs.Client.{ClientValue, IsReady, Shown, ask_of, fits, shown_by}
-use Rattle.termwiz_share.specs.Histories.{Follows, Given, HasMore, IsGenuine, IsNamed, after_all, stream}
+use Rattle.std.proofs.lemmas.Bool.{cases_Bool}
+use Rattle.std.specs.Prelude.{Option, Some, None, Result, Ok, Err, ◌==◌}
+use Rattle.termwiz_share.specs.Client.{ClientValue, IsReady, ask_of}
 use Rattle.termwiz_share.specs.Serving.{Serves}
-use Rattle.termwiz_share.specs.Source.{IsResponse, SourceValue, sent_by}
+use Rattle.termwiz_share.specs.Source.{IsResponse, SourceValue}
 use Rattle.termwiz_share.specs.declared.error.ClientError.{ClientError}
 use Rattle.termwiz_share.specs.declared.error.ClientError.TheVariants as errors
-use Rattle.termwiz_surface_core.specs.Answer.{Carries}
-use Rattle.termwiz_surface_core.specs.SurfaceValue.{full_of}
-use Rattle.termwiz_wire.specs.Sent.{IsAsk, IsSent, answer, ask}
+use Rattle.termwiz_wire.specs.Sent.{IsAsk, ask}
 use Rattle.termwiz_wire.specs.declared.sent.Ask.{Ask}
-use Rattle.tikeburo_c.specs.Changes.{GoesOn}
 use Rattle.tikeburo_c.specs.Outcomes.{Outcome, Reports, status_of}
-use Rattle.tikeburo_c.specs.Results.{Buffer, Gives, OnClient, OrNoMemory}
-use Rattle.tikeburo_c.specs.Streams.{AnswersAsk, AnswersIn, FeedsAs, FeedsIn, GivesAsk, Reaches, Resets, ShowsFully}
+use Rattle.tikeburo_c.specs.Results.{Buffer, OnClient}
+use Rattle.tikeburo_c.specs.Streams.{AnswersAsk, AnswersIn, FeedsIn, GivesAsk, Reaches, Resets, ServesIn, ShowsIn, named_ask}
 use Rattle.tikeburo_c.specs.Widths.{columns_by}
 use Rattle.tikeburo_c.specs.declared.clients.FaultFields.{FaultFields}
 use Rattle.tikeburo_c.specs.declared.failure.Failure.{Failure}
@@ -52,142 +45,135 @@ done_by status P reports done = subst P (is_ok status reports.0 reports.1 done) 
 pub front_is : (bytes room : List ℕ) (len : ℕ) (rest : List ℕ) → room ≡ bytes ++ rest → len ≡ length bytes → take len room ≡ bytes
 front_is bytes room len rest e l = ap (λ (n : ℕ). take n room) l ∙ ap (take (length bytes)) e ∙ take-append_seam bytes rest
 
--- ---- one step after another
+-- ---- a client is made ready
 
--- the client that was reset
-pub record WasReset (c : ClientValue ChosenWidths) (new : Option Kept) : Type 0 where
-  pub client : ClientValue ChosenWidths
-  pub has : new ≡ Some (Client client)
-  pub resets : Resets c (Ok tt) client
+abbrev pub IsReadyIn : Option Kept → Type 0
+IsReadyIn (Some (Client c)) = IsReady c
+IsReadyIn _ = ⊥
 
-pub was_reset : (c : ClientValue ChosenWidths) (new : Option Kept) → OnClient Resets (Some (Client c)) (Ok tt) new → WasReset c new
-was_reset c (Some (Client d)) resets = record { client = d; has = refl; resets = resets }
-was_reset c (Some (Surface s)) none = absurd none
-was_reset c (Some (Viewer f)) none = absurd none
-was_reset c None none = absurd none
+pub serves_reset : (surface client new : Option Kept) (outcome : Outcome) → ServesIn surface client → OnClient Resets client outcome new → ServesIn surface new
+serves_reset (Some (Surface s)) (Some (Client c)) (Some (Client d)) outcome serves resets = resets.serves s serves
+serves_reset (Some (Surface s)) (Some (Client c)) (Some (Surface t)) outcome serves none = none
+serves_reset (Some (Surface s)) (Some (Client c)) (Some (Viewer f)) outcome serves none = none
+serves_reset (Some (Surface s)) (Some (Client c)) None outcome serves none = none
+serves_reset (Some (Surface s)) (Some (Surface t)) new outcome none resets = absurd none
+serves_reset (Some (Surface s)) (Some (Viewer f)) new outcome none resets = absurd none
+serves_reset (Some (Surface s)) None new outcome none resets = absurd none
+serves_reset (Some (Viewer f)) client new outcome none resets = absurd none
+serves_reset (Some (Client c)) client new outcome none resets = absurd none
+serves_reset None client new outcome none resets = absurd none
 
--- the ask that was given
-pub record WasAsked (a : Ask) (new : Buffer) : Type 0 where
+pub ready_reset : (surface client new : Option Kept) (outcome : Outcome) → ServesIn surface client → OnClient Resets client outcome new → IsReadyIn new
+ready_reset (Some (Surface s)) (Some (Client c)) (Some (Client d)) outcome serves resets = resets.ready
+ready_reset (Some (Surface s)) (Some (Client c)) (Some (Surface t)) outcome serves none = none
+ready_reset (Some (Surface s)) (Some (Client c)) (Some (Viewer f)) outcome serves none = none
+ready_reset (Some (Surface s)) (Some (Client c)) None outcome serves none = none
+ready_reset (Some (Surface s)) (Some (Surface t)) new outcome none resets = absurd none
+ready_reset (Some (Surface s)) (Some (Viewer f)) new outcome none resets = absurd none
+ready_reset (Some (Surface s)) None new outcome none resets = absurd none
+ready_reset (Some (Viewer f)) client new outcome none resets = absurd none
+ready_reset (Some (Client c)) client new outcome none resets = absurd none
+ready_reset None client new outcome none resets = absurd none
+
+-- ---- it asks
+
+-- what it asks by
+abbrev pub asks_by : Option Kept → Ask
+asks_by (Some (Client c)) = named_ask (ask_of c)
+asks_by _ = record { source = 0; number = 0 }
+
+pub record Asked (a : Ask) (bytes : List ℕ) : Type 0 where
   pub is_ask : IsAsk a
-  pub front : take new.1 new.0 ≡ ask a
+  pub encoded : bytes ≡ ask a
 
-pub was_asked : (c : ClientValue ChosenWidths) (old new : Buffer) → GivesAsk (Some (Client c)) old (Ok tt) new → WasAsked (ask_of c) new
-was_asked c old new (inl refused) = absurd cc
-was_asked c old new (inr (is_ask, gives)) = record { is_ask = is_ask; front = front_is _ _ _ _ gives.1 gives.2 }
+pub asked : (client : Option Kept) (old new : Buffer) → GivesAsk client old (Ok tt) new → Asked (asks_by client) (take new.1 new.0)
+asked (Some (Client c)) old new (inl refused) = absurd cc
+asked (Some (Client c)) old new (inr (is_ask, gives)) = record { is_ask = is_ask; encoded = front_is _ _ _ _ gives.1 gives.2 }
+asked (Some (Surface s)) old new refused = absurd cc
+asked (Some (Viewer f)) old new refused = absurd cc
+asked None old new refused = absurd cc
 
--- the answer that was given
-pub record WasAnswered (s : SourceValue ChosenWidths) (a : Ask) (room : List ℕ) (new : Buffer) : Type 0 where
-  pub source : SourceValue ChosenWidths
-  pub bytes : List ℕ
-  pub response : IsResponse columns_by source a bytes
-  pub sized : HasFullSize source.surface.width source.surface.height (full_of source.surface)
-  pub goes_on : GoesOn s source
-  pub same : full_of source.surface ≡ full_of s.surface
-  pub width : source.surface.width ≡ s.surface.width
-  pub height : source.surface.height ≡ s.surface.height
-  pub short : length bytes ≤ length room
-  pub front : take new.1 new.0 ≡ bytes
+-- ---- the surface answers
 
-answered_by : (s t : SourceValue ChosenWidths) (a : Ask) (old new : Buffer) → AnswersAsk a (s, old) (Ok tt) (t, new) → WasAnswered s a old.0 new
-answered_by s t a old new answers = record {
-  source = t;
-  bytes = answers.bytes;
-  response = answers.response;
-  sized = answers.sized;
-  goes_on = answers.goes_on;
-  same = ap (λ (u : SourceValue ChosenWidths). full_of u.surface) answers.trims;
-  width = ap (λ (u : SourceValue ChosenWidths). u.surface.width) answers.trims;
-  height = ap (λ (u : SourceValue ChosenWidths). u.surface.height) answers.trims;
-  short = answers.gives.0;
-  front = front_is _ _ _ _ answers.gives.1 answers.gives.2;
-}
-
-pub was_answered : (s : SourceValue ChosenWidths) (a : Ask) (bytes : List ℕ) (old : Buffer) (kept : Option Kept) (new : Buffer) → IsAsk a → bytes ≡ ask a → AnswersIn bytes (Some (Surface s), old) (Ok tt) (kept, new) → WasAnswered s a old.0 new
-was_answered s a bytes old (Some (Surface t)) new is_ask is answers = elim (answers.answers a is_ask is) [
-  | inl refused ↦ absurd cc
-  | inr answered ↦ answered_by s t a old new answered
+pub serves_answered : (bytes : List ℕ) (surface client new : Option Kept) (old_room new_room : Buffer) (outcome : Outcome) → ServesIn surface client → AnswersIn bytes (surface, old_room) outcome (new, new_room) → ServesIn new client
+serves_answered bytes (Some (Surface s)) (Some (Client c)) (Some (Surface t)) old_room new_room outcome serves answers = elim answers.others [
+  | inl (inl unreadable) ↦ subst (λ (u : SourceValue ChosenWidths). Serves columns_by u c) (sym (ap (λ (p : SourceValue ChosenWidths × Buffer). p.0) unreadable.1)) serves
+  | inl (inr truncated) ↦ subst (λ (u : SourceValue ChosenWidths). Serves columns_by u c) (sym (ap (λ (p : SourceValue ChosenWidths × Buffer). p.0) truncated.1)) serves
+  | inr (inl refused) ↦ subst (λ (u : SourceValue ChosenWidths). Serves columns_by u c) (sym (ap (λ (p : SourceValue ChosenWidths × Buffer). p.0) refused.1)) serves
+  | inr (inr answered) ↦ answered.2.goes_on.serves c serves
 ]
-was_answered s a bytes old (Some (Viewer f)) new is_ask is none = absurd none
-was_answered s a bytes old (Some (Client c)) new is_ask is none = absurd none
-was_answered s a bytes old None new is_ask is none = absurd none
+serves_answered bytes (Some (Surface s)) (Some (Client c)) (Some (Viewer f)) old_room new_room outcome serves none = none
+serves_answered bytes (Some (Surface s)) (Some (Client c)) (Some (Client d)) old_room new_room outcome serves none = none
+serves_answered bytes (Some (Surface s)) (Some (Client c)) None old_room new_room outcome serves none = none
+serves_answered bytes (Some (Surface s)) (Some (Surface t)) new old_room new_room outcome none answers = absurd none
+serves_answered bytes (Some (Surface s)) (Some (Viewer f)) new old_room new_room outcome none answers = absurd none
+serves_answered bytes (Some (Surface s)) None new old_room new_room outcome none answers = absurd none
+serves_answered bytes (Some (Viewer f)) client new old_room new_room outcome none answers = absurd none
+serves_answered bytes (Some (Client c)) client new old_room new_room outcome none answers = absurd none
+serves_answered bytes None client new old_room new_room outcome none answers = absurd none
 
--- ---- a client that is fed an answer to what it asks shows all that the surface keeps
+-- these are the bytes of an answer of the surface to what the client asks by
+abbrev pub RespondsIn : Option Kept → Option Kept → List ℕ → Type 0
+RespondsIn (Some (Surface s)) (Some (Client c)) bytes = IsResponse columns_by s (ask_of c) bytes
+RespondsIn _ _ bytes = ⊥
 
-module _ (s : SourceValue ChosenWidths) (c : ClientValue ChosenWidths) (bytes : List ℕ) (ready : IsReady c) (serves : Serves columns_by s c) (sized : HasFullSize s.surface.width s.surface.height (full_of s.surface)) (cells : s.surface.width * s.surface.height ≤ c.limits.cells)
-    (few : length bytes ≤ c.limits.bytes) (response : IsResponse columns_by s (ask_of c) bytes) where
-  abbrev measure : List ℕ → ℕ
-  measure = columns_by c.surface.widths
+-- an answer to no source is a repaint
+named_response : (s : SourceValue ChosenWidths) (a : Ask) (bytes : List ℕ) → IsResponse columns_by s (named_ask a) bytes → IsResponse columns_by s a bytes
+named_response s a bytes r = elim (cases_Bool (a.source == 0)) as (λ _. IsResponse columns_by s a bytes) [
+  | inr some ↦ subst (λ (b : Ask). IsResponse columns_by s b bytes) (rw some refl) r
+  | inl none ↦ record r { from = inl (elim r.from [ inl e ↦ e | inr both ↦ both.1 ∙ rw none refl ]) }
+]
 
-  abbrev given : Given
-  given = record { sent = sent_by s.number response.given; shown = full_of s.surface }
+answered_by : (s : SourceValue ChosenWidths) (c : ClientValue ChosenWidths) (t : SourceValue ChosenWidths) (a : Ask) (old_room new_room : Buffer) → a ≡ named_ask (ask_of c) → AnswersAsk a (s, old_room) (Ok tt) (t, new_room) → IsResponse columns_by t (ask_of c) (take new_room.1 new_room.0)
+answered_by s c t a old_room new_room is answers =
+    let front = front_is _ _ _ _ answers.gives.1 answers.gives.2 in
+    named_response t (ask_of c) _ (subst (λ (b : Ask). IsResponse columns_by t b (take new_room.1 new_room.0)) is (subst (λ (bytes : List ℕ). IsResponse columns_by t a bytes) (sym front) answers.response))
 
-  -- the surface's history is its past; any other source's is what the client shows
-  abbrev histories : ℕ → ℕ → FullScreen
-  histories n = if n == s.number then serves.past else (λ _. full_of c.surface)
+pub responded : (bytes : List ℕ) (surface client new : Option Kept) (old_room new_room : Buffer) → ServesIn surface client → Asked (asks_by client) bytes → AnswersIn bytes (surface, old_room) (Ok tt) (new, new_room) → RespondsIn new client (take new_room.1 new_room.0)
+responded bytes (Some (Surface s)) (Some (Client c)) (Some (Surface t)) old_room new_room serves a answers = elim (answers.answers (named_ask (ask_of c)) a.is_ask a.encoded) [
+  | inl refused ↦ absurd cc
+  | inr answered ↦ answered_by s c t (named_ask (ask_of c)) old_room new_room refl answered
+]
+responded bytes (Some (Surface s)) (Some (Client c)) (Some (Viewer f)) old_room new_room serves a none = none
+responded bytes (Some (Surface s)) (Some (Client c)) (Some (Client d)) old_room new_room serves a none = none
+responded bytes (Some (Surface s)) (Some (Client c)) None old_room new_room serves a none = none
+responded bytes (Some (Surface s)) (Some (Surface t)) new old_room new_room none a answers = absurd none
+responded bytes (Some (Surface s)) (Some (Viewer f)) new old_room new_room none a answers = absurd none
+responded bytes (Some (Surface s)) None new old_room new_room none a answers = absurd none
+responded bytes (Some (Viewer f)) client new old_room new_room none a answers = absurd none
+responded bytes (Some (Client c)) client new old_room new_room none a answers = absurd none
+responded bytes None client new old_room new_room none a answers = absurd none
 
-  own : histories s.number ≡ serves.past
-  own = rw (eq-eqb s.number s.number refl) refl
+-- ---- the client is fed
 
-  encoded : answer measure given.sent ≡ bytes
-  encoded = ap (λ (m : List ℕ → ℕ). answer m given.sent) serves.one_measure ∙ sym response.encoded
+reached : (result : Result (Unit {0}) ClientError) (old new : FaultFields) → Reaches result old (Ok tt) new → result ≡ Ok tt
+reached (Ok u) old new reaches = refl
+reached (Err (errors.Fault e)) old new reaches = absurd cc
+reached (Err (errors.Size at)) old new reaches = absurd cc
+reached (Err errors.Numbers) old new reaches = absurd cc
+reached (Err errors.Memory) old new reaches = absurd cc
 
-  genuine : IsGenuine measure c.limits histories given
-  genuine = record {
-    is_sent = subst (λ (m : List ℕ → ℕ). IsSent m given.sent) (sym serves.one_measure) response.is_sent;
-    cells = rw (response.width, response.height) cells;
-    bytes = subst (λ (b : List ℕ). length b ≤ c.limits.bytes) (sym encoded) few;
-    sized = rw (response.width, response.height) sized;
-    carries = rw own (subst (λ (m : List ℕ → ℕ). Carries full_screens m serves.past response.given (full_of s.surface)) (sym serves.one_measure) (response.carries serves.past serves.is_past));
-  }
+pub serves_fed : (piece : List ℕ) (surface client new : Option Kept) (old_fault new_fault : FaultFields) (outcome : Outcome) → ServesIn surface client → IsReadyIn client → RespondsIn surface client piece → FeedsIn piece (client, old_fault) outcome (new, new_fault) → ServesIn surface new
+serves_fed piece (Some (Surface s)) (Some (Client c)) (Some (Client d)) old_fault new_fault outcome serves ready responds (result, reaches, feeds) = feeds.serves s serves ready responds
+serves_fed piece (Some (Surface s)) (Some (Client c)) (Some (Surface t)) old_fault new_fault outcome serves ready responds none = none
+serves_fed piece (Some (Surface s)) (Some (Client c)) (Some (Viewer f)) old_fault new_fault outcome serves ready responds none = none
+serves_fed piece (Some (Surface s)) (Some (Client c)) None old_fault new_fault outcome serves ready responds none = none
+serves_fed piece (Some (Surface s)) (Some (Surface t)) new old_fault new_fault outcome none ready responds fed = absurd none
+serves_fed piece (Some (Surface s)) (Some (Viewer f)) new old_fault new_fault outcome none ready responds fed = absurd none
+serves_fed piece (Some (Surface s)) None new old_fault new_fault outcome none ready responds fed = absurd none
+serves_fed piece (Some (Viewer f)) client new old_fault new_fault outcome none ready responds fed = absurd none
+serves_fed piece (Some (Client c)) client new old_fault new_fault outcome none ready responds fed = absurd none
+serves_fed piece None client new old_fault new_fault outcome none ready responds fed = absurd none
 
-  named : IsNamed histories (shown_by c)
-  named = elim (cases_Bool (c.source == s.number)) [
-    | inl is ↦ rw is (serves.named (eqb-true c.source s.number is))
-    | inr other ↦ rw other (record { named = λ _. refl })
-  ]
-
-  follows : Follows columns_by histories (given ∷ []) c (bytes ++ [])
-  follows = record {
-    reading = ready.reading;
-    genuine = (genuine, tt);
-    whole = ap (λ (kept : List ℕ). kept ++ (bytes ++ [])) ready.kept ∙ ap (λ (b : List ℕ). b ++ []) (sym encoded);
-    named = named;
-  }
-
-  given_fits : fits (shown_by c) given.sent ≡ true
-  given_fits = elim (cases_Bool (response.given.base == 0)) [
-    | inl none ↦ rw none refl
-    | inr some ↦ elim response.from [
-      | inl none ↦ absurd (true≢false (sym (eq-eqb response.given.base 0 none) ∙ some))
-      | inr (source, base) ↦ rw (some, eq-eqb s.number c.source (sym source), eq-eqb response.given.base c.number base) refl
-    ]
-  ]
-
-  shows_given : (taken others : List Given) → given ∷ [] ≡ taken ++ others → (d : ClientValue ChosenWidths) → d.kept ++ [] ≡ stream (columns_by d.surface.widths) others → HasMore (columns_by d.surface.widths) others d.kept → shown_by d ≡ after_all (shown_by c) taken
-      → full_of d.surface ≡ full_of s.surface
-  shows_given taken [] all d left more shown =
-      let is : taken ≡ given ∷ [] = sym (append-nil taken) ∙ sym all in
-      let one : (after_all (shown_by c) (given ∷ [])).picture ≡ full_of s.surface = rw given_fits refl in
-      ap (λ (x : Shown). x.picture) (shown ∙ ap (after_all (shown_by c)) is) ∙ one
-  shows_given taken (g ∷ gs) all d left more shown =
-      let whole : length (d.kept ++ []) ≡ length (answer (columns_by d.surface.widths) g.sent ++ stream (columns_by d.surface.widths) gs) = ap length left in
-      absurd (omega (arith, whole, more, length-append d.kept [], length-append (answer (columns_by d.surface.widths) g.sent) (stream (columns_by d.surface.widths) gs)))
-
-  fed : (result : Result (Unit {0}) ClientError) (d : ClientValue ChosenWidths) → FeedsAs bytes c result d → result ≡ Ok tt → full_of d.surface ≡ full_of s.surface
-  fed (Ok u) d feeds ok =
-      let followed = feeds.follows histories (given ∷ []) [] follows in
-      shows_given followed.given followed.others followed.all d followed.left followed.no_whole followed.shows
-  fed (Err e) d feeds ok = absurd cc
-
-  reached : (result : Result (Unit {0}) ClientError) (old new : FaultFields) → Reaches result old (Ok tt) new → result ≡ Ok tt
-  reached (Ok u) old new reaches = refl
-  reached (Err (errors.Fault e)) old new reaches = absurd cc
-  reached (Err (errors.Size at)) old new reaches = absurd cc
-  reached (Err errors.Numbers) old new reaches = absurd cc
-  reached (Err errors.Memory) old new reaches = absurd cc
-
-  pub was_fed : (kept : Option Kept) (old new : FaultFields) → FeedsIn bytes (Some (Client c), old) (Ok tt) (kept, new) → ShowsFully kept s
-  was_fed (Some (Client d)) old new (result, reaches, feeds) = fed result d feeds (reached result old new reaches)
-  was_fed (Some (Surface t)) old new none = absurd none
-  was_fed (Some (Viewer f)) old new none = absurd none
-  was_fed None old new none = absurd none
+pub shows_fed : (piece : List ℕ) (surface client new : Option Kept) (old_fault new_fault : FaultFields) → ServesIn surface client → IsReadyIn client → RespondsIn surface client piece → FeedsIn piece (client, old_fault) (Ok tt) (new, new_fault) → ShowsIn surface new
+shows_fed piece (Some (Surface s)) (Some (Client c)) (Some (Client d)) old_fault new_fault serves ready responds (Ok u, reaches, feeds) = (feeds.shows s serves ready responds).0
+shows_fed piece (Some (Surface s)) (Some (Client c)) (Some (Client d)) old_fault new_fault serves ready responds (Err e, reaches, feeds) = absurd (let is = reached (Err e) old_fault new_fault reaches in cc)
+shows_fed piece (Some (Surface s)) (Some (Client c)) (Some (Surface t)) old_fault new_fault serves ready responds none = none
+shows_fed piece (Some (Surface s)) (Some (Client c)) (Some (Viewer f)) old_fault new_fault serves ready responds none = none
+shows_fed piece (Some (Surface s)) (Some (Client c)) None old_fault new_fault serves ready responds none = none
+shows_fed piece (Some (Surface s)) (Some (Surface t)) new old_fault new_fault none ready responds fed = absurd none
+shows_fed piece (Some (Surface s)) (Some (Viewer f)) new old_fault new_fault none ready responds fed = absurd none
+shows_fed piece (Some (Surface s)) None new old_fault new_fault none ready responds fed = absurd none
+shows_fed piece (Some (Viewer f)) client new old_fault new_fault none ready responds fed = absurd none
+shows_fed piece (Some (Client c)) client new old_fault new_fault none ready responds fed = absurd none
+shows_fed piece None client new old_fault new_fault none ready responds fed = absurd none

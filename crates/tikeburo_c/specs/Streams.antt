@@ -1,21 +1,19 @@
 -- What goes between surfaces and clients as bytes.
-use Rattle.std.specs.Prelude.{◌≡◌, ◌≢◌, ◌⊎◌, ℕ, Bool, true, false, Result, Ok, Err, Option, Some, None, List, [], ◌++◌}
+use Rattle.std.specs.Prelude.{◌≡◌, ◌⊎◌, ℕ, true, false, Result, Ok, Err, OnOk, Option, Some, None, List, [], ◌++◌, ◌==◌, if◌then◌else◌}
 use Rattle.cbor.specs.declared.error.FaultKind.{FaultKind}
 use Rattle.cbor.specs.declared.error.FaultKind.TheVariants as faults
-use Rattle.termwiz_share.specs.Client.{ClientValue, ask_of}
+use Rattle.termwiz_share.specs.Client.{ClientValue, IsReady, ask_of}
 use Rattle.termwiz_share.specs.Feeding.{Feeds}
 use Rattle.termwiz_share.specs.Histories.{Follows, FollowsTo, Given}
-use Rattle.termwiz_share.specs.Serving.{KeepsSources}
+use Rattle.termwiz_share.specs.Serving.{KeepsSources, Serves, Shows}
 use Rattle.termwiz_share.specs.Source.{IsResponse, SourceValue, trimmed}
 use Rattle.termwiz_share.specs.declared.error.ClientError.{ClientError}
 use Rattle.termwiz_share.specs.declared.error.ClientError.TheVariants as errors
-use Rattle.termwiz_screen.specs.FullScreen.{FullScreen, HasFullSize}
-use Rattle.termwiz_surface_core.specs.SurfaceValue.{full_of}
+use Rattle.termwiz_screen.specs.FullScreen.{FullScreen}
 use Rattle.termwiz_wire.specs.Sent.{IsAsk, ask}
 use Rattle.termwiz_wire.specs.declared.fault.Fault.{Fault}
 use Rattle.termwiz_wire.specs.declared.sent.Ask.{Ask}
 use Rattle.tikeburo_c.specs.Changes.{GoesOn}
-use Rattle.tikeburo_c.specs.Kept.{shown_of}
 use Rattle.tikeburo_c.specs.Outcomes.{Outcome}
 use Rattle.tikeburo_c.specs.Results.{Buffer, Gives, NotRead, OrNoMemory, Refused}
 use Rattle.tikeburo_c.specs.Widths.{columns_by}
@@ -42,7 +40,6 @@ pub record AnswersAsk (a : Ask) (old : Answering) (outcome : Outcome) (new : Ans
   pub bytes : List ℕ
   pub response : IsResponse columns_by new.0 a bytes
   pub gives : Gives bytes old.1 outcome new.1
-  pub sized : HasFullSize new.0.surface.width new.0.surface.height (full_of new.0.surface)
   pub trims : new.0 ≡ record old.0 { surface = trimmed old.0.surface }
   pub goes_on : GoesOn old.0 new.0
 
@@ -97,6 +94,9 @@ Reaches (Err error) old outcome new = Fails error old outcome new
 pub record FeedsAs (piece : List ℕ) (old : ClientValue ChosenWidths) (result : Result (Unit {0}) ClientError) (new : ClientValue ChosenWidths) : Type 0 where
   pub feeds : Feeds columns_by old piece result new
   pub follows : (histories : ℕ → ℕ → FullScreen) (sent : List Given) (future : List ℕ) → Follows columns_by histories sent old (piece ++ future) → FollowsTo columns_by histories sent future old result new
+  -- one that is fed the response to its ask shows what the source shows, and is served by it still, also after an error
+  pub shows : (s : SourceValue ChosenWidths) → Serves columns_by s old → IsReady old → IsResponse columns_by s (ask_of old) piece → OnOk result (Shows s new × IsReady new)
+  pub serves : (s : SourceValue ChosenWidths) → Serves columns_by s old → IsReady old → IsResponse columns_by s (ask_of old) piece → Serves columns_by s new
 
 -- a client, and a caller's struct for a fault
 abbrev pub Feeding : Type 0
@@ -113,13 +113,17 @@ FeedsIn piece (Some (Surface s), old) outcome new = Refused WrongKind (Some (Sur
 FeedsIn piece (Some (Viewer f), old) outcome new = Refused WrongKind (Some (Viewer f), old) outcome new
 FeedsIn piece (None, old) outcome new = Refused NoHandle (None, old) outcome new
 
+-- an ask that names no source has no number
+abbrev pub named_ask : Ask → Ask
+named_ask a = if a.source == 0 then record { source = 0; number = 0 } else a
+
 -- this ask is given
 abbrev pub GivesOne : Ask → Buffer → Outcome → Buffer → Type 0
 GivesOne a old outcome new = IsAsk a × Gives (ask a) old outcome new
 
 -- what the client asks by is given
 abbrev pub GivesAsk : Option Kept → Buffer → Outcome → Buffer → Type 0
-GivesAsk (Some (Client c)) = OrNoMemory (GivesOne (ask_of c))
+GivesAsk (Some (Client c)) = OrNoMemory (GivesOne (named_ask (ask_of c)))
 GivesAsk (Some (Surface s)) = Refused WrongKind
 GivesAsk (Some (Viewer f)) = Refused WrongKind
 GivesAsk None = Refused NoHandle
@@ -128,9 +132,17 @@ GivesAsk None = Refused NoHandle
 pub record Resets (old : ClientValue ChosenWidths) (outcome : Outcome) (new : ClientValue ChosenWidths) : Type 0 where
   pub done : outcome ≡ Ok tt
   pub resets : new ≡ record old { kept = []; stopped = None }
+  pub ready : IsReady new
   pub serves : KeepsSources columns_by old new
 
--- what the handle has shows all that this surface keeps
-abbrev pub ShowsFully : Option Kept → SourceValue ChosenWidths → Type 0
-ShowsFully (Some kept) s = full_of (shown_of kept) ≡ full_of s.surface
-ShowsFully None s = ⊥
+-- ---- a surface and a client, by their handles
+
+-- the surface serves the client
+abbrev pub ServesIn : Option Kept → Option Kept → Type 0
+ServesIn (Some (Surface s)) (Some (Client c)) = Serves columns_by s c
+ServesIn _ _ = ⊥
+
+-- the client shows all that the surface keeps
+abbrev pub ShowsIn : Option Kept → Option Kept → Type 0
+ShowsIn (Some (Surface s)) (Some (Client c)) = Shows s c
+ShowsIn _ _ = ⊥

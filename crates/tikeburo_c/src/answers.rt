@@ -37,8 +37,6 @@ fn answer(
 {
     let mut bytes = Vec::new(alloc);
     surface.respond(ask, &mut bytes)?;
-    // Its full screen has its size.
-    let _size = surface.surface().dimensions();
     give(&bytes, room, len)
 }
 

@@ -1,13 +1,7 @@
 //! The calls for streams, one behind another: a proved caller.
-ghost use Rattle.std.specs.Prelude.{Some, length, pos, ◌*◌, ◌≡◌, ◌≤◌};
-ghost use Rattle.termwiz_share.specs.Client.{ClientValue};
-ghost use Rattle.termwiz_share.specs.Serving.{Serves};
-ghost use Rattle.termwiz_share.specs.Source.{SourceValue};
+ghost use Rattle.std.specs.Prelude.{pos, ◌≡◌};
 ghost use Rattle.tikeburo_c.specs.Handles.{kept_of};
-ghost use Rattle.tikeburo_c.specs.Streams.{ShowsFully};
-ghost use Rattle.tikeburo_c.specs.Widths.{columns_by};
-ghost use Rattle.tikeburo_c.specs.declared.kept.Kept.TheVariants as kinds;
-ghost use Rattle.tikeburo_c.specs.declared.widths.ChosenWidths.{ChosenWidths};
+ghost use Rattle.tikeburo_c.specs.Streams.{ServesIn, ShowsIn};
 
 use crate::answers::tk_respond;
 use crate::clients::{FaultFields, tk_client_ask, tk_client_feed, tk_client_reset};
@@ -15,7 +9,8 @@ use crate::handle::Handle;
 use std::alloc::Global;
 
 /// Brings a surface's answer to a client by this buffer, as a C program does it over a connection
-/// that is new. A client that the surface serves shows then all that the surface keeps.
+/// that is new. A client that the surface serves shows then all that the surface keeps, and is
+/// served still, also after an error.
 pub(crate) fn carry(
     alloc: Global,
     surface: &mut Handle,
@@ -23,13 +18,10 @@ pub(crate) fn carry(
     room: &mut [u8],
     fault: &mut FaultFields,
 ) -> i32
-    ensures shows { (s : SourceValue ChosenWidths) (c : ClientValue ChosenWidths) →
-        kept_of surface.old ≡ Some (kinds.Surface s) →
-        kept_of client.old ≡ Some (kinds.Client c) →
-        Serves columns_by s c →
-        s.surface.width * s.surface.height ≤ c.limits.cells →
-        length room.old ≤ c.limits.bytes →
-        result ≡ pos 0 → ShowsFully (kept_of client.new) s }
+    ensures shows { ServesIn (kept_of surface.old) (kept_of client.old) →
+        result ≡ pos 0 → ShowsIn (kept_of surface.new) (kept_of client.new) }
+    ensures serves { ServesIn (kept_of surface.old) (kept_of client.old) →
+        ServesIn (kept_of surface.new) (kept_of client.new) }
 {
     let reset = tk_client_reset(alloc, client);
     if reset != 0 {

@@ -6,7 +6,7 @@ ghost use Rattle.tikeburo_c.specs.Outcomes.{Reports};
 ghost use Rattle.tikeburo_c.specs.Results.{OnClient, OrNoMemory};
 ghost use Rattle.tikeburo_c.specs.Streams.{FeedsBytes, FeedsIn, GivesAsk, GivesOne, Reaches};
 ghost use Rattle.tikeburo_c.specs.Streams.{Resets};
-ghost use Rattle.tikeburo_c.specs.Streams.{fault_number, fields_at};
+ghost use Rattle.tikeburo_c.specs.Streams.{fault_number, fields_at, named_ask};
 ghost use Rattle.tikeburo_c.specs.Widths.{widths_at};
 ghost use Rattle.tikeburo_c.specs.declared.failure.Failure.TheVariants.{Memory};
 ghost use Rattle.tikeburo_c.specs.declared.kept.Kept.TheVariants as kinds;
@@ -20,7 +20,7 @@ use crate::widths::ChosenWidths;
 use cbor::FaultKind;
 use std::alloc::Global;
 use termwiz_share::{Client, ClientError};
-use termwiz_wire::{Limits, encode_ask};
+use termwiz_wire::{Ask, Limits, encode_ask};
 
 /// What is wrong with the bytes of an answer. Where it is in no change, that is 0.
 #[repr(C)]
@@ -108,10 +108,10 @@ fn fields_at(kind: u8, at: usize, change: Option<usize>) -> FaultFields
 }
 
 // What a call comes to that fed a client, with the fault in the struct where there is one.
-fn reached(result: Result<(), ClientError>, fault: &mut FaultFields) -> Result<(), Failure>
-    ensures { Reaches result fault.old result fault.new }
+fn reached(fed: Result<(), ClientError>, fault: &mut FaultFields) -> Result<(), Failure>
+    ensures { Reaches fed fault.old result fault.new }
 {
-    match result {
+    match fed {
         Ok(()) => Ok(()),
         Err(ClientError::Fault(found)) => {
             *fault = fields_at(fault_number(found.kind), found.at, found.change);
@@ -162,17 +162,31 @@ pub extern "C" fn tk_client_feed(
     status(outcome)
 }
 
+fn named_ask(ask: Ask) -> Ask
+    ensures value { result ≡ named_ask ask }
+    ensures named { result.source ≡ 0 → result.number ≡ 0 }
+{
+    if ask.source == 0 {
+        Ask {
+            source: 0,
+            number: 0,
+        }
+    } else {
+        ask
+    }
+}
+
 fn give_ask(
     alloc: Global,
     client: &Client<ChosenWidths>,
     room: &mut [u8],
     len: &mut usize,
 ) -> Result<(), Failure>
-    ensures { OrNoMemory (GivesOne (ask_of client.now))
+    ensures { OrNoMemory (GivesOne (named_ask (ask_of client.now)))
         (room.old, len.old) result (room.new, len.new) }
 {
     let mut bytes = Vec::new(alloc);
-    encode_ask(&mut bytes, client.ask())?;
+    encode_ask(&mut bytes, named_ask(client.ask()))?;
     give(&bytes, room, len)
 }
 

@@ -10,7 +10,7 @@ abbrev pub invariant-loop-line : goal.invariant-loop-line
 invariant-loop-line g l = record {
   text : shadow (Utf8 l.rest);
   sizes : All g.C.Command.is_in_range l.commands.items;
-  said : (more : List g.C) → Say g.C.Command.says l.rest more → Say g.C.Command.says l.script (l.commands.items ++ more);
+  said : (more : List g.row.C.Denot) → Say g.C.Command.says l.rest more → Say g.C.Command.says l.script (l.commands.items ++ more);
 }
 
 abbrev pub decreases-loop-line : goal.decreases-loop-line

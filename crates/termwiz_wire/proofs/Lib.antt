@@ -1,4 +1,5 @@
 pub mod Runs
+pub mod Ascii
 pub mod Loops
 pub mod Style
 pub mod Params

@@ -1,4 +1,5 @@
 pub mod Runs
+pub mod Lengths
 pub mod Ascii
 pub mod Loops
 pub mod Style

@@ -45,6 +45,7 @@ pub use Rattle.termwiz_screen.specs.Sides.{AreVectors, row_flags}
 pub use Rattle.termwiz_screen.specs.Step.{region_fits, regions_fit, replay, replay_kept, step, step_kept}
 pub use Rattle.termwiz_screen.specs.Stream.{Lends, stream_of}
 pub use Rattle.termwiz_surface_core.specs.Adding.{Adds, Makes, Refuses, with_log}
+pub use Rattle.termwiz_surface_core.specs.Answer.{is_repaint}
 pub use Rattle.termwiz_surface_core.specs.Asking.{Repaints, StreamsFrom, StreamsFullyFrom, knows, most_own_entries, own_repaint}
 pub use Rattle.termwiz_surface_core.specs.Carried.{CarriesTo, IsGivenBy, IsPastOf}
 pub use Rattle.termwiz_surface_core.specs.Copies.{IsCopied, IsDrawn, copied_region}

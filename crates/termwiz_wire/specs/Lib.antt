@@ -2,6 +2,7 @@ pub mod Pieces
 pub mod Beginning
 pub mod RunsLeft
 pub mod Encoding
+pub mod Cuts
 pub mod Decoding
 pub mod Forms
 pub mod Sent

@@ -27,14 +27,14 @@ pub(crate) struct Run {
 
 impl Run {
     /// Whether both are runs of equal pieces.
-    fn is_alike(&self, other: &Run) -> bool
+    pub(crate) fn is_alike(&self, other: &Run) -> bool
         ensures { result ≡ alike self.now other.now }
     {
         self.characters == other.characters && self.columns == other.columns
     }
 
     /// Whether its pieces have two columns, or several characters that are no CR LF.
-    fn stands_out(&self) -> bool
+    pub(crate) fn stands_out(&self) -> bool
         ensures { result ≡ stands_out self.now }
     {
         self.columns > 1 || (self.characters > 1 && self.columns != 0)

@@ -4,7 +4,10 @@ use std::alloc::{AllocError, Global};
 use termwiz_cell::emoji::UnicodeWidths;
 use termwiz_surface::surface::{Answer, Surface, SurfaceError};
 use termwiz_surface::view::Viewer;
-use termwiz_wire::{Reader, decode_answer, encode_answer, encoded_len};
+use termwiz_wire::{Limits, SourceNo, decode_answer, encode_answer, encoded_len};
+
+/// The number of the surface that answers.
+const SOURCE: SourceNo = 1;
 
 pub fn encoded(alloc: Global, count: u32) -> Result<usize, SurfaceError> {
     let surface = coloured(alloc, 80, 24)?;
@@ -31,13 +34,16 @@ pub fn decoded(alloc: Global, count: u32) -> Result<usize, SurfaceError> {
 
 // The bytes of an answer, for which room is taken once.
 fn bytes_of(alloc: Global, answer: &Answer) -> Result<Vec<u8>, AllocError> {
-    let mut bytes = Vec::with_capacity(alloc, encoded_len(answer))?;
-    encode_answer(&mut bytes, answer)?;
+    let mut bytes = Vec::with_capacity(alloc, encoded_len(&UnicodeWidths, SOURCE, answer))?;
+    encode_answer(&mut bytes, &UnicodeWidths, SOURCE, answer)?;
     Ok(bytes)
 }
 
 fn answer_of(alloc: Global, bytes: &[u8]) -> Result<Answer, SurfaceError> {
-    decode_answer(alloc, &mut Reader::new(bytes)).map_err(|_| SurfaceError::Memory)
+    match decode_answer(alloc, &UnicodeWidths, Limits::default(), bytes) {
+        Ok((sent, _)) => Ok(sent.answer),
+        Err(_) => Err(SurfaceError::Memory),
+    }
 }
 
 pub fn delivered(alloc: Global, count: u32) -> Result<usize, SurfaceError> {

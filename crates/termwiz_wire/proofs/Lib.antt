@@ -1,4 +1,6 @@
 pub mod Runs
+pub mod Lengths
+pub mod Ascii
 pub mod Steps
 pub mod Params
 pub mod Style

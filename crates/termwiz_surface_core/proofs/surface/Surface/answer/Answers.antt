@@ -51,8 +51,13 @@ module _ (g : given.Over) (c : goal.Joined-is_repaint g) where
 
   ordered : c.if-is_repaint.result ≤ c.in_ok-number.number
   ordered = elim (cases_Bool c.is_owned-is_repaint.result) [
-    | inl made ↦ omega (arith, base ∙ rw made refl)
-    | inr lent ↦ omega (arith, base ∙ rw lent refl, known_reaches _ c.args.self.now.log c.args.seq (known ∙ rw lent refl), c.in_ok-number.ensures.number)
+    | inl made ↦
+        let zero : c.if-is_repaint.result ≡ 0 = base ∙ rw made refl in
+        omega (arith, zero)
+    | inr lent ↦
+        let asked : c.if-is_repaint.result ≡ c.args.seq = base ∙ rw lent refl in
+        let is : is_known (delta_limit c.args.self.now.width c.args.self.now.height) c.args.self.now.log c.args.seq ≡ true = known ∙ rw lent refl in
+        omega (arith, asked, known_reaches (delta_limit c.args.self.now.width c.args.self.now.height) c.args.self.now.log c.args.seq is, c.in_ok-number.ensures.number)
   ]
 
 pub invariant_of-result : goal.invariant_of-result

@@ -60,7 +60,7 @@ fn decode(alloc: Global, kind: Kind, bytes: &[u8]) -> Result<(), Fault> {
         },
         Kind::Ask => match decode_ask(bytes) {
             Ok((ask, taken)) => {
-                encode_ask(&mut again, &ask)?;
+                encode_ask(&mut again, ask)?;
                 Ok(taken)
             }
             Err(error) => Err(error),

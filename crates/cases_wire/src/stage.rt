@@ -90,7 +90,7 @@ impl Stage {
                 let text = format!(in self.alloc; "[2, {}, {}]", ask.source, ask.number)?;
                 push(lines, text.as_str())?;
                 let mut again = Vec::new(self.alloc);
-                encode_ask(&mut again, &ask)?;
+                encode_ask(&mut again, ask)?;
                 compare(again.as_slice(), bytes, taken, lines)
             }
             Err(error) => self.fault(error, lines),

@@ -16,3 +16,4 @@ pub mod AnswersAgain
 pub mod AnswersFound
 pub mod Within
 pub mod CutLoops
+pub mod Prefixes

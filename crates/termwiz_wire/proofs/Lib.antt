@@ -17,3 +17,4 @@ pub mod AnswersFound
 pub mod Within
 pub mod CutLoops
 pub mod Prefixes
+pub mod MoreBytes

@@ -17,4 +17,6 @@ pub mod AnswersFound
 pub mod Within
 pub mod CutLoops
 pub mod Prefixes
+pub mod Widening
 pub mod MoreBytes
+pub mod PastLimits

@@ -1,11 +1,10 @@
 -- A decoding gives the same with more room, but for the fault of what is past the limit.
-use Rattle.std.proofs.Common.{◌≡◌, ◌⊎◌, ℕ, ◌+◌, ◌-◌, ◌*◌, ◌^◌, ◌<◌, ◌≤◌, Bool, true, false, cond, ltb, eqb, List, [], ◌∷◌, length, take, drop, Result, Ok, Err, refl, sym, ap, subst, ◌∙◌, arith, inl, inr}
+use Rattle.std.proofs.Common.{◌≡◌, ◌⊎◌, ℕ, ◌-◌, ◌*◌, ◌^◌, ◌≤◌, Bool, true, false, cond, ltb, eqb, List, [], ◌∷◌, length, take, drop, Result, Ok, Err, refl, sym, ap, subst, ◌∙◌, arith, inl, inr}
 use Rattle.std.specs.Int.{Width, w16, w32, w64, byte_len, from_be_bytes}
 use Rattle.std.proofs.lemmas.Bool.{cases_lt, le-ltb, lt-ltb}
 use Rattle.cbor.specs.declared.error.FaultKind.{FaultKind}
 use Rattle.cbor.specs.declared.error.FaultKind.TheVariants.{Truncated, Limit}
-use Rattle.cbor.specs.declared.error.FaultKind.TheVariants as faults
-use Rattle.cbor.specs.Decoding.{◌>>=◌, Stop, allowed, placed, lack, first_in, byte_in, short_in, wide_in, argument_in, head_in, limited_in, signed_in, boolean_in, null_in, utf8_in, text_in, list_in, array_of_in, kind_in, unsigned_at, array_at, list_at, below_at, signed_at, boolean_at, null_at, text_at, array_of_at, kind_at}
+use Rattle.cbor.specs.Decoding.{◌>>=◌, allowed, placed, lack, first_in, byte_in, short_in, wide_in, argument_in, head_in, limited_in, signed_in, boolean_in, null_in, utf8_in, text_in, list_in, array_of_in, kind_in, unsigned_at, array_at, list_at, below_at, signed_at, boolean_at, null_at, text_at, array_of_at, kind_at}
 use Rattle.cbor.specs.Prefixes.{itself, fault, FailsBy}
 
 -- what decoding gave, and what it gives with more room: but for `Limit` it is the same, but for the place

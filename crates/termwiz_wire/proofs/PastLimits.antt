@@ -1,21 +1,21 @@
 -- An answer that is past the limits has the fault of them.
-use Rattle.std.proofs.Common.{◌≡◌, ◌⊎◌, ℕ, ◌+◌, ◌-◌, ◌*◌, ◌^◌, ◌<◌, ◌≤◌, List, [], ◌++◌, length, take, drop, Result, Ok, Err, refl, sym, ap, subst, ◌∙◌, append_assoc, append-nil, arith, inl, inr}
+use Rattle.std.proofs.Common.{◌≡◌, ◌⊎◌, ℕ, ◌+◌, ◌-◌, ◌*◌, ◌^◌, ◌<◌, List, [], ◌++◌, length, take, drop, Result, Ok, Err, refl, sym, ap, subst, ◌∙◌, append_assoc, append-nil, arith, inl, inr}
 use Rattle.std.proofs.Math.Seq.{take-append-add}
 use Rattle.std.proofs.lemmas.Bool.{cases_lt, lt-ltb}
 use Rattle.std.proofs.lemmas.List.{length-append, length-drop, take-append-drop, take-append-le}
-use Rattle.std.specs.List.{flat_map}
 use Rattle.cbor.specs.declared.error.FaultKind.TheVariants.{Truncated, Limit}
 use Rattle.cbor.specs.Encoding.{unsigned, array}
-use Rattle.cbor.specs.Prefixes.{left, fault, Stays, Decides, Reads, FailsBy}
-use Rattle.cbor.proofs.Widening.{Wider, Widens}
+use Rattle.cbor.specs.Prefixes.{left, fault, Stays, Decides, FailsBy}
+use Rattle.cbor.proofs.Widening.{Wider}
 use Rattle.termwiz_wire.specs.Answers.{Halt, height_at, head_at, answer_in, located, within, answer_at}
-use Rattle.termwiz_wire.specs.Encoding.{change, changes}
-use Rattle.termwiz_wire.specs.MoreBytes.{halt, kind}
+use Rattle.termwiz_wire.specs.Encoding.{changes}
+use Rattle.termwiz_wire.specs.MoreBytes.{halt, kind, Laws}
 use Rattle.termwiz_wire.specs.Sent.{IsSent, answer}
 use Rattle.termwiz_wire.specs.declared.fault.Fault.{Fault}
 use Rattle.termwiz_wire.specs.declared.fault.Limits.{Limits}
 use Rattle.termwiz_wire.specs.declared.sent.SentAnswer.{SentAnswer}
 use Rattle.termwiz_wire.proofs.AnswersAgain.{opened_again, source_again, size_again, answer_again}
+use Rattle.termwiz_wire.proofs.MoreBytes.{answers_go, answers_again}
 use Rattle.termwiz_wire.proofs.Prefixes.{answer_reads}
 use Rattle.termwiz_wire.proofs.Widening.{answer_widens}
 
@@ -122,9 +122,16 @@ fault_is : {A : Type 0} (r : Result (A × List ℕ) Fault) → FailsBy kind Limi
 fault_is (Ok x) fails = absurd fails
 fault_is (Err f) fails = (f, refl, fails)
 
-pub answers_limited : (measure : List ℕ → ℕ) (limits : Limits) (a : SentAnswer) (rest : List ℕ) → IsSent measure a → (limits.cells < a.answer.width * a.answer.height) ⊎ (limits.bytes < length (answer measure a)) → (f : Fault) × (answer_at measure limits (answer measure a ++ rest) ≡ Err f) × (f.kind ≡ Limit)
+answers_limited : (measure : List ℕ → ℕ) (limits : Limits) (a : SentAnswer) (rest : List ℕ) → IsSent measure a → (limits.cells < a.answer.width * a.answer.height) ⊎ (limits.bytes < length (answer measure a)) → (f : Fault) × (answer_at measure limits (answer measure a ++ rest) ≡ Err f) × (f.kind ≡ Limit)
 unfolding answer_at
 answers_limited measure limits a rest is past =
     let bytes : List ℕ = answer measure a ++ rest in
     let room : ℕ = limits.bytes - length bytes in
     fault_is (within (λ n hand. answer_in measure n limits.cells hand) limits.bytes bytes) (located_past (length (take limits.bytes bytes) + room) (drop limits.bytes bytes) (answer_in measure room limits.cells (take limits.bytes bytes)) (hand_past measure limits a rest is past))
+
+pub laws : (measure : List ℕ → ℕ) (limits : Limits) → 0 < limits.bytes → Laws measure limits
+laws measure limits some = record {
+  goes = answers_go measure limits some;
+  limited = answers_limited measure limits;
+  again = answers_again measure limits;
+}

@@ -1,5 +1,5 @@
 -- What bytes of changes and answers decide, when more may come behind them.
-use Rattle.std.proofs.Common.{◌≡◌, ◌≢◌, ℕ, zero, suc, ◌+◌, ◌*◌, ◌/◌, ◌%◌, ◌^◌, Bool, true, false, not, ◌&&◌, ◌||◌, cond, ltb, eqb, List, [], ◌∷◌, ◌++◌, length, drop, Option, Some, None, Result, Ok, Err, refl, sym, ap, subst, arith, inl, inr}
+use Rattle.std.proofs.Common.{◌≡◌, ◌≢◌, ℕ, zero, suc, ◌+◌, ◌*◌, ◌/◌, ◌%◌, ◌^◌, Bool, true, false, not, ◌&&◌, ◌||◌, cond, ltb, eqb, List, [], ◌∷◌, ◌++◌, length, drop, Option, Some, None, Result, Ok, Err, refl, ap, subst, arith, inl, inr}
 use Rattle.std.proofs.lemmas.List.{length-append}
 use Rattle.std.specs.Str.{chars}
 use Rattle.cbor.specs.declared.error.FaultKind.{FaultKind}
@@ -12,11 +12,11 @@ use Rattle.cbor.specs.Prefixes.{left, behind, fault, Stays, Decides, Reads}
 use Rattle.cbor.proofs.Prefixes.{chain, bind, bind_rest, look, choose, done, done_rest, fails, unsigned_reads, array_reads, list_reads, below_reads, signed_reads, boolean_reads, null_reads, text_reads, array_of_reads, kind_reads}
 use Rattle.termwiz_cell.specs.ChangeValue.{ChangeValue}
 use Rattle.termwiz_cell.specs.ChangeValue as changed
-use Rattle.termwiz_wire.specs.Encoding.{change_count, fields}
-use Rattle.termwiz_wire.specs.Pieces.{runs, alike, stands_out, needs_pieces}
+use Rattle.termwiz_wire.specs.Encoding.{fields}
+use Rattle.termwiz_wire.specs.Pieces.{runs, stands_out, needs_pieces}
 use Rattle.termwiz_wire.specs.Cuts.{refused, is_rest_at, is_run_at, are_at, same_at, is_count, are_characters, are_columns, kept_at, run_at, no_run, runs_at, threes_at, cut_at, others_at, pieces_at, pieces_by}
 use Rattle.termwiz_wire.specs.Decoding.{which_at, palette_at, rgb_at, rgb_palette_at, color_by, color_at, split, are_small, style_limit, style_at, ascends, key_at, param_at, params_at, link_at, optional_link_by, optional_link_at, attributes_at, attribute_change_by, attribute_change_at, position_by, position_at, place_at, is_on, region_size_at, scroll_at, printed_at, change_by, count_at, has_count, change_kind_at, change_at}
-use Rattle.termwiz_wire.specs.Answers.{Halt, version_at, body_at, opened_at, source_at, size_at, height_at, number_at, asked_at, ask_in, head_at, halted, each_at, changes_in, answer_in}
+use Rattle.termwiz_wire.specs.Answers.{version_at, body_at, opened_at, source_at, size_at, height_at, number_at, asked_at, ask_in, head_at, halted, each_at, changes_in, answer_in}
 use Rattle.termwiz_wire.specs.MoreBytes.{halt}
 use Rattle.termwiz_wire.specs.declared.pieces.Run.{Run}
 

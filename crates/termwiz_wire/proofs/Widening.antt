@@ -1,19 +1,19 @@
 -- A decoding of changes and answers gives the same with more room, but for the fault of what is past the limit.
-use Rattle.std.proofs.Common.{◌≡◌, ℕ, zero, suc, ◌*◌, ◌/◌, ◌%◌, ◌^◌, Bool, false, not, ◌&&◌, ◌||◌, cond, ltb, eqb, List, [], ◌∷◌, ◌++◌, length, drop, Option, Some, None, Result, Ok, Err, refl, ap, inl, inr}
+use Rattle.std.proofs.Common.{ℕ, zero, suc, ◌*◌, ◌/◌, ◌%◌, ◌^◌, Bool, false, ◌&&◌, ◌||◌, ltb, eqb, List, [], ◌∷◌, ◌++◌, length, drop, Option, Some, None, Result, Ok, Err, refl, ap, inl, inr}
 use Rattle.std.specs.Str.{chars}
 use Rattle.cbor.specs.declared.error.FaultKind.{FaultKind}
 use Rattle.cbor.specs.declared.error.FaultKind.TheVariants as faults
 use Rattle.cbor.specs.declared.kind.Kind.{Kind}
 use Rattle.cbor.specs.declared.kind.Kind.TheVariants as kinds
-use Rattle.cbor.specs.Decoding.{◌>>=◌, Stop, allowed, unsigned_at}
+use Rattle.cbor.specs.Decoding.{Stop, allowed}
 use Rattle.cbor.specs.Prefixes.{fault, FailsBy}
 use Rattle.cbor.proofs.Widening.{Wider, Widens, steps, either, gives, stops, unsigned_widens, array_widens, list_widens, below_widens, signed_widens, boolean_widens, null_widens, text_widens, array_of_widens, kind_widens}
 use Rattle.termwiz_cell.specs.ChangeValue.{ChangeValue}
-use Rattle.termwiz_wire.specs.Encoding.{change_count, fields}
+use Rattle.termwiz_wire.specs.Encoding.{fields}
 use Rattle.termwiz_wire.specs.Pieces.{runs, stands_out, needs_pieces}
-use Rattle.termwiz_wire.specs.Cuts.{refused, is_rest_at, is_run_at, are_at, same_at, is_count, are_characters, are_columns, kept_at, run_at, no_run, runs_at, threes_at, cut_at, others_at, pieces_at, pieces_by}
+use Rattle.termwiz_wire.specs.Cuts.{is_rest_at, is_run_at, are_at, same_at, is_count, are_characters, are_columns, kept_at, run_at, no_run, runs_at, threes_at, cut_at, others_at, pieces_at, pieces_by}
 use Rattle.termwiz_wire.specs.Decoding.{which_at, palette_at, rgb_at, rgb_palette_at, color_by, color_at, split, are_small, style_limit, style_at, ascends, key_at, param_at, params_at, link_at, optional_link_by, optional_link_at, attributes_at, attribute_change_by, attribute_change_at, position_by, position_at, place_at, is_on, region_size_at, scroll_at, printed_at, change_by, count_at, has_count, change_kind_at, change_at}
-use Rattle.termwiz_wire.specs.Answers.{Halt, version_at, body_at, opened_at, source_at, size_at, height_at, number_at, head_at, halted, each_at, answer_in}
+use Rattle.termwiz_wire.specs.Answers.{version_at, body_at, opened_at, source_at, size_at, height_at, number_at, head_at, halted, each_at, answer_in}
 use Rattle.termwiz_wire.specs.MoreBytes.{halt}
 use Rattle.termwiz_wire.specs.declared.pieces.Run.{Run}
 

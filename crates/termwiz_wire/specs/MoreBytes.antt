@@ -1,5 +1,5 @@
 -- What bytes of answers decide, when more may come behind them.
-use Rattle.std.specs.Prelude.{◌≡◌, ◌⊎◌, ℕ, ◌*◌, ◌<◌, ◌≤◌, List, [], ◌++◌, length, take, Result, Ok, Err}
+use Rattle.std.specs.Prelude.{◌≡◌, ◌⊎◌, ℕ, ◌*◌, ◌<◌, ◌≤◌, List, [], ◌++◌, length, Result, Ok, Err}
 use Rattle.cbor.specs.declared.error.FaultKind.{FaultKind}
 use Rattle.cbor.specs.declared.error.FaultKind.TheVariants.{Limit, Truncated}
 use Rattle.termwiz_wire.specs.Answers.{Halt, answer_at}
@@ -27,3 +27,9 @@ pub record Goes {T E : Type 0} (read : List ℕ → Result (T × List ℕ) E) (I
   pub starts_cut : IsCut first
   pub value : (bytes more : List ℕ) (x : T) (rest : List ℕ) → read bytes ≡ Ok (x, rest) → read (bytes ++ more) ≡ Ok (x, rest ++ more)
   pub fault : (bytes more : List ℕ) (e : E) → read bytes ≡ Err e → (IsCut e → ⊥) → read (bytes ++ more) ≡ Err e
+
+-- what is encoded is decoded again, whatever comes behind, if the limits allow it, and else it is past them
+pub record Laws (measure : List ℕ → ℕ) (limits : Limits) : Type 0 where
+  pub goes : Goes (answer_at measure limits) IsCut
+  pub limited : (a : SentAnswer) (rest : List ℕ) → IsSent measure a → (limits.cells < a.answer.width * a.answer.height) ⊎ (limits.bytes < length (answer measure a)) → (f : Fault) × (answer_at measure limits (answer measure a ++ rest) ≡ Err f) × (f.kind ≡ Limit)
+  pub again : (a : SentAnswer) (rest : List ℕ) → IsSent measure a → a.answer.width * a.answer.height ≤ limits.cells → length (answer measure a) ≤ limits.bytes → answer_at measure limits (answer measure a ++ rest) ≡ Ok (a, rest)

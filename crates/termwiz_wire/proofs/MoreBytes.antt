@@ -7,14 +7,15 @@ use Rattle.cbor.specs.declared.error.FaultKind.TheVariants.{Truncated}
 use Rattle.cbor.specs.Decoding.{ok, allowed, array_at, head_in}
 use Rattle.cbor.specs.Prefixes.{left, Stays, Reads, FailsBy, BeginningsOf}
 use Rattle.cbor.proofs.Prefixes.{beginnings}
-use Rattle.termwiz_wire.specs.Answers.{Halt, opened_at, head_at, answer_in, fault_at, located, within, answer_at}
+use Rattle.termwiz_wire.specs.Answers.{Halt, opened_at, head_at, answer_in, ask_in, changes_in, fault_at, halted, located, within, answer_at, ask_at, changes_at, one_change_at, unlimited}
+use Rattle.termwiz_wire.specs.Decoding.{change_at}
 use Rattle.termwiz_wire.specs.MoreBytes.{halt, kind, IsCut, Goes}
 use Rattle.termwiz_wire.specs.Sent.{IsSent, answer}
 use Rattle.termwiz_wire.specs.declared.fault.Fault.{Fault}
 use Rattle.termwiz_wire.specs.declared.fault.Limits.{Limits}
 use Rattle.termwiz_wire.specs.declared.sent.SentAnswer.{SentAnswer}
 use Rattle.termwiz_wire.proofs.AnswersAgain.{answer_again}
-use Rattle.termwiz_wire.proofs.Prefixes.{answer_reads}
+use Rattle.termwiz_wire.proofs.Prefixes.{answer_reads, ask_reads, change_reads, changes_reads, halted_reads}
 
 -- ---- bytes that are cut at a limit
 
@@ -86,6 +87,18 @@ within_stays read limit bytes more reads =
 pub answer_stays : (measure : List ℕ → ℕ) (limits : Limits) (bytes more : List ℕ) → Stays kind left more (answer_at measure limits bytes) (answer_at measure limits (bytes ++ more))
 unfolding answer_at
 answer_stays measure limits bytes more = within_stays (λ room rest. answer_in measure room limits.cells rest) limits.bytes bytes more (answer_reads measure limits.cells)
+
+pub ask_stays : (bytes more : List ℕ) → Stays kind left more (ask_at bytes) (ask_at (bytes ++ more))
+unfolding ask_at
+ask_stays bytes more = within_stays (λ room rest. halted None (ask_in room rest)) unlimited bytes more (halted_reads None ask_reads)
+
+pub changes_stay : (measure : List ℕ → ℕ) (bytes more : List ℕ) → Stays kind left more (changes_at measure bytes) (changes_at measure (bytes ++ more))
+unfolding changes_at
+changes_stay measure bytes more = within_stays (λ room rest. changes_in measure room None rest) unlimited bytes more (changes_reads measure None)
+
+pub change_stays : (measure : List ℕ → ℕ) (bytes more : List ℕ) → Stays kind left more (one_change_at measure bytes) (one_change_at measure (bytes ++ more))
+unfolding one_change_at
+change_stays measure bytes more = within_stays (λ room rest. halted None (change_at measure room None rest)) unlimited bytes more (halted_reads None (change_reads measure None))
 
 none_in : (measure : List ℕ → ℕ) (room cells : ℕ) → 0 < room → answer_in measure room cells [] ≡ Err (record { stop = record { fault = Truncated; left = allowed room [] }; change = None })
 unfolding answer_in head_at opened_at array_at head_in

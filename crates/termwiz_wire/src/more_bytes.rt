@@ -1,8 +1,9 @@
 //! What bytes decide, when more may come behind them.
-ghost use Rattle.std.specs.Prelude.{ℕ, ◌*◌, ◌<◌, ◌≤◌, List, Option, length, take};
-ghost use Rattle.cbor.specs.Prefixes.{FailsBy, Reads, fault, left};
+ghost use Rattle.std.specs.Prelude.{ℕ, ◌*◌, ◌<◌, ◌≤◌, ◌++◌, List, Option, length, take};
+ghost use Rattle.cbor.specs.Prefixes.{FailsBy, Reads, Stays, fault, left};
 ghost use Rattle.cbor.specs.declared.error.FaultKind.TheVariants.{Truncated};
-ghost use Rattle.termwiz_wire.specs.Answers.{answer_at, answer_in, ask_in, changes_in};
+ghost use Rattle.termwiz_wire.specs.Answers.{answer_at, answer_in, ask_at, ask_in};
+ghost use Rattle.termwiz_wire.specs.Answers.{changes_at, changes_in, one_change_at};
 ghost use Rattle.termwiz_wire.specs.Decoding.{change_at};
 ghost use Rattle.termwiz_wire.specs.MoreBytes.{Laws, halt, kind};
 ghost use Rattle.termwiz_wire.specs.Sent.{IsSent, answer};
@@ -19,6 +20,21 @@ pub fn decided()
     ensures answer { (measure : List ℕ → ℕ) (cells : ℕ) →
         Reads halt left (λ room bytes. answer_in measure room cells bytes) }
     ensures ask { Reads fault left ask_in }
+{}
+
+/// What is decoded, and a fault but for `Truncated`, stays as it is at its place, whatever bytes
+/// come behind.
+pub fn stays()
+    ensures change { (measure : List ℕ → ℕ) (bytes more : List ℕ) →
+        Stays kind left more (one_change_at measure bytes)
+            (one_change_at measure (bytes ++ more)) }
+    ensures changes { (measure : List ℕ → ℕ) (bytes more : List ℕ) →
+        Stays kind left more (changes_at measure bytes) (changes_at measure (bytes ++ more)) }
+    ensures answer { (measure : List ℕ → ℕ) (limits : Limits) (bytes more : List ℕ) →
+        Stays kind left more (answer_at measure limits bytes)
+            (answer_at measure limits (bytes ++ more)) }
+    ensures ask { (bytes more : List ℕ) →
+        Stays kind left more (ask_at bytes) (ask_at (bytes ++ more)) }
 {}
 
 /// How answers of a stream are decoded within limits: what is decoded, and a fault but for

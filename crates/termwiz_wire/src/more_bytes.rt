@@ -27,12 +27,12 @@ pub fn decided()
 pub fn stays()
     ensures change { (measure : List ℕ → ℕ) (bytes more : List ℕ) →
         Stays kind left more (one_change_at measure bytes)
-            (one_change_at measure (bytes ++ more)) }
+        (one_change_at measure (bytes ++ more)) }
     ensures changes { (measure : List ℕ → ℕ) (bytes more : List ℕ) →
         Stays kind left more (changes_at measure bytes) (changes_at measure (bytes ++ more)) }
     ensures answer { (measure : List ℕ → ℕ) (limits : Limits) (bytes more : List ℕ) →
         Stays kind left more (answer_at measure limits bytes)
-            (answer_at measure limits (bytes ++ more)) }
+        (answer_at measure limits (bytes ++ more)) }
     ensures ask { (bytes more : List ℕ) →
         Stays kind left more (ask_at bytes) (ask_at (bytes ++ more)) }
 {}

@@ -293,7 +293,7 @@ value_after {A = A} {E = E} {fe = fe} {read = read} reads room bytes more x rest
 
 early : {A E : Type 0} (fe : E → FaultKind) (more : List ℕ) (r later : Result (A × List ℕ) E) (x : A) → 0 < length more → Stays fe left more r later → later ≡ Ok (x, []) → FailsBy fe Truncated r
 early {A = A} {E = E} fe more (Ok y) later x some stay is =
-    let same : given {E = E} (y.0, y.1 ++ more) ≡ given (x, []) = sym stay ∙ is in
+    let same : ◌≡◌ {A = Result (A × List ℕ) E} (Ok (y.0, y.1 ++ more)) (Ok (x, [])) = sym stay ∙ is in
     let pair : ◌≡◌ {A = A × List ℕ} (y.0, y.1 ++ more) (x, []) = cc in
     let none : y.1 ++ more ≡ [] = ap (λ (z : A × List ℕ). z.1) pair in
     absurd (omega (arith, ap length none, length-append y.1 more, some))

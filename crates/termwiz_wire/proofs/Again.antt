@@ -5,7 +5,7 @@ use Rattle.std.proofs.lemmas.Bool.{eq-eqb, lt-ltb, le-ltb}
 use Rattle.std.proofs.lemmas.List.{append-nil, length-append}
 use Rattle.std.proofs.lemmas.List.Concat.{flat_map-cons}
 use Rattle.cbor.specs.declared.kind.Kind.TheVariants as kinds
-use Rattle.cbor.specs.Encoding.{unsigned, signed, boolean, text, array}
+use Rattle.cbor.specs.Encoding.{unsigned, signed, boolean, text, array, IsText}
 use Rattle.cbor.specs.Decoding.{◌>>=◌, ok, allowed, kind_at, below_at, boolean_at}
 use Rattle.cbor.proofs.Items.{unsigned_again, array_again, list_again, below_again, signed_again, boolean_again, text_again, array_of_again, null_again, kind_unsigned, kind_array, kind_null}
 use Rattle.termwiz_cell.specs.Attributes.{Attributes}

@@ -25,17 +25,17 @@ body_again room items start rest some =
     let not_none : eqb items 0 ≡ false = ne_eqb items 0 (λ e. omega arith) in
     rw (not_none, version_again room rest) refl
 
-opened_again : (room items : ℕ) (rest : List ℕ) → 0 < items → items < 2 ^ 64 → opened_at room items (array items ++ (unsigned 2 ++ rest)) ≡ Ok rest
+pub opened_again : (room items : ℕ) (rest : List ℕ) → 0 < items → items < 2 ^ 64 → opened_at room items (array items ++ (unsigned 2 ++ rest)) ≡ Ok rest
 unfolding opened_at
 opened_again room items rest some lt = rw (array_again room items (unsigned 2 ++ rest) lt, body_again room items (array items ++ (unsigned 2 ++ rest)) rest some, eq-eqb items items refl) refl
 
-source_again : (room n : ℕ) (rest : List ℕ) → 0 < n → n < 2 ^ 64 → source_at room (unsigned n ++ rest) ≡ Ok (n, rest)
+pub source_again : (room n : ℕ) (rest : List ℕ) → 0 < n → n < 2 ^ 64 → source_at room (unsigned n ++ rest) ≡ Ok (n, rest)
 unfolding source_at
 source_again room n rest some lt =
     let not_zero : eqb n 0 ≡ false = ne_eqb n 0 (λ e. omega arith) in
     rw (unsigned_again room n rest lt, not_zero) refl
 
-size_again : (room n : ℕ) (rest : List ℕ) → 0 < n → n < 2 ^ 32 → size_at room (unsigned n ++ rest) ≡ Ok (n, rest)
+pub size_again : (room n : ℕ) (rest : List ℕ) → 0 < n → n < 2 ^ 32 → size_at room (unsigned n ++ rest) ≡ Ok (n, rest)
 unfolding size_at
 size_again room n rest some fits =
     let not_zero : eqb n 0 ≡ false = ne_eqb n 0 (λ e. omega arith) in

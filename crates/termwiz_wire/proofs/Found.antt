@@ -9,7 +9,7 @@ use Rattle.cbor.specs.declared.error.FaultKind.{FaultKind}
 use Rattle.cbor.specs.declared.error.FaultKind.TheVariants as faults
 use Rattle.cbor.specs.declared.kind.Kind.{Kind}
 use Rattle.cbor.specs.declared.kind.Kind.TheVariants as kinds
-use Rattle.cbor.specs.Encoding.{unsigned, signed, boolean, text, array}
+use Rattle.cbor.specs.Encoding.{unsigned, signed, boolean, text, array, IsText}
 use Rattle.cbor.specs.Decoding.{◌>>=◌, Stop, ok, allowed, IsBytes, kind_at, null_at, unsigned_at, below_at, signed_at, boolean_at, text_at, array_at, list_at, array_of_at}
 use Rattle.cbor.proofs.Items.{unsigned_takes, array_takes, list_takes, list_is_array, null_takes, signed_takes, boolean_takes, text_takes, array_of_takes}
 use Rattle.cbor.proofs.Steps.{Takes, Takes-then, bind_ok, guard_ok, guard_ended, chosen, ok_is}
@@ -340,7 +340,7 @@ not_same a b e =
 -- the values of a change of this kind, read where so many items were said
 record ValuesFound (measure : List ℕ → ℕ) (rows : Option ℕ) (count kind : ℕ) (bytes : List ℕ) (x : ChangeValue × List ℕ) : Type 0 where
   pub taken : Takes bytes (change_values measure x.0) x.1
-  pub kind : change_kind x.0 ≡ kind
+  pub kind_is : change_kind x.0 ≡ kind
   pub form : IsChange measure x.0
   pub on : FitsRows rows x.0
   pub items : item_count measure x.0 ≡ items_of kind count
@@ -353,7 +353,7 @@ place_takes measure room rows count bytes x fits e =
     let ta = position_takes room bytes a.0 fits a.1 in
     let tb = position_takes room a.0.1 b.0 ta.0.rest_fits b.1 in
     let all = Takes-then bytes (position a.0.0) a.0.1 (position b.0.0) b.0.1 ta.0 tb.0 in
-    subst (λ (y : ChangeValue × List ℕ). ValuesFound measure rows count 6 bytes y) (ok_is (changed.CursorPosition a.0.0 b.0.0, b.0.1) x b.2) (record { taken = all; kind = refl; form = (ta.1, tb.1); on = tt; items = refl })
+    subst (λ (y : ChangeValue × List ℕ). ValuesFound measure rows count 6 bytes y) (ok_is (changed.CursorPosition a.0.0 b.0.0, b.0.1) x b.2) (record { taken = all; kind_is = refl; form = (ta.1, tb.1); on = tt; items = refl })
 
 record ScrollFound (rows : Option ℕ) (make : ℕ → ℕ → ℕ → ChangeValue) (bytes : List ℕ) (x : ChangeValue × List ℕ) : Type 0 where
   pub first : ℕ
@@ -386,13 +386,13 @@ up_takes : (measure : List ℕ → ℕ) (room : ℕ) (rows : Option ℕ) (count 
 unfolding change_values
 up_takes measure room rows count bytes x fits e =
     let t = scroll_takes room rows changed.ScrollRegionUp bytes x fits e in
-    subst (λ (y : ChangeValue). ValuesFound measure rows count 10 bytes (y, x.1)) (sym t.made) (record { taken = t.taken; kind = refl; form = t.form; on = t.on; items = refl })
+    subst (λ (y : ChangeValue). ValuesFound measure rows count 10 bytes (y, x.1)) (sym t.made) (record { taken = t.taken; kind_is = refl; form = t.form; on = t.on; items = refl })
 
 down_takes : (measure : List ℕ → ℕ) (room : ℕ) (rows : Option ℕ) (count : ℕ) (bytes : List ℕ) (x : ChangeValue × List ℕ) → IsBytes bytes → scroll_at room rows changed.ScrollRegionDown bytes ≡ Ok x → ValuesFound measure rows count 11 bytes x
 unfolding change_values
 down_takes measure room rows count bytes x fits e =
     let t = scroll_takes room rows changed.ScrollRegionDown bytes x fits e in
-    subst (λ (y : ChangeValue). ValuesFound measure rows count 11 bytes (y, x.1)) (sym t.made) (record { taken = t.taken; kind = refl; form = t.form; on = t.on; items = refl })
+    subst (λ (y : ChangeValue). ValuesFound measure rows count 11 bytes (y, x.1)) (sym t.made) (record { taken = t.taken; kind_is = refl; form = t.form; on = t.on; items = refl })
 
 -- ---- texts and their pieces
 
@@ -463,10 +463,13 @@ same_takes room rs bytes rest fits e =
       | inr p ↦ absurd (not_same n.0.1 rest p.1)
     ]
 
+abbrev three_or_two : Bool → ℕ
+three_or_two b = cond b 3 2
+
 -- a text that is printed, in so many items
 record PiecesFound (count : ℕ) (rs : List Run) (bytes rest : List ℕ) : Type 0 where
   pub taken : Takes bytes (cond (needs_pieces rs) (pieces rs) []) rest
-  pub items : cond (needs_pieces rs) 3 2 ≡ cond (eqb count 3) 3 2
+  pub items : ◌≡◌ {A = ℕ} (cond (needs_pieces rs) 3 2) (cond (eqb count 3) 3 2)
   pub counted : needs_pieces rs ≡ true → 3 * length rs < 2 ^ 64
 
 others_never : {P : Type 0} (room place : ℕ) (t bytes rest : List ℕ) → others_at room place t bytes ≡ Ok rest → P
@@ -498,11 +501,11 @@ pieces_take room place count t rs bytes rest fits e =
     elim (chosen (eqb count 3) (pieces_at room place t rs bytes) (cond (needs_pieces rs) (Err (record { fault = faults.Measure; left = place })) (Ok bytes)) (Ok rest) e) [
       | inl p ↦
           let f = listed_takes room place t rs bytes rest fits p.1 in
-          record { taken = subst (λ (b : Bool). Takes bytes (cond b (pieces rs) []) rest) (sym f.1) f.0; items = ap (λ (b : Bool). cond b 3 2) (f.1 ∙ sym p.0); counted = λ is. f.2 }
+          record { taken = subst (λ (b : Bool). Takes bytes (cond b (pieces rs) []) rest) (sym f.1) f.0; items = ap (λ (b : Bool). three_or_two b) (f.1 ∙ sym p.0); counted = λ is. f.2 }
       | inr p ↦
           let g = guard_ok (needs_pieces rs) (record { fault = faults.Measure; left = place }) bytes rest p.1 in
           let none : Takes bytes [] rest = record { parts = g.1; rest_fits = subst (λ (y : List ℕ). IsBytes y) g.1 fits } in
-          record { taken = subst (λ (b : Bool). Takes bytes (cond b (pieces rs) []) rest) (sym g.0) none; items = ap (λ (b : Bool). cond b 3 2) (g.0 ∙ sym p.0); counted = λ is. absurd (let bad : true ≡ false = sym is ∙ g.0 in cc) }
+          record { taken = subst (λ (b : Bool). Takes bytes (cond b (pieces rs) []) rest) (sym g.0) none; items = ap (λ (b : Bool). three_or_two b) (g.0 ∙ sym p.0); counted = λ is. absurd (let bad : true ≡ false = sym is ∙ g.0 in cc) }
     ]
 
 printed_takes : (measure : List ℕ → ℕ) (room : ℕ) (rows : Option ℕ) (count : ℕ) (bytes : List ℕ) (x : ChangeValue × List ℕ) → IsBytes bytes → printed_at measure room count bytes ≡ Ok x → ValuesFound measure rows count 2 bytes x
@@ -515,7 +518,7 @@ printed_takes measure room rows count bytes x fits e =
     let tp = pieces_take room (allowed room bytes) count t.0.0 (runs measure t.0.0) t.0.1 rest.0 tt_.0.rest_fits rest.1 in
     let all = Takes-then bytes (text t.0.0) t.0.1 (cond (needs_pieces (runs measure t.0.0)) (pieces (runs measure t.0.0)) []) rest.0 tt_.0 tp.taken in
     subst (λ (y : ChangeValue × List ℕ). ValuesFound measure rows count 2 bytes y) (ok_is (changed.Text t.0.0, rest.0) x rest.2)
-    (record { taken = all; kind = refl; form = record { text = tt_.1; pieces = tp.counted }; on = tt; items = tp.items })
+    (record { taken = all; kind_is = refl; form = record { text = tt_.1; pieces = tp.counted }; on = tt; items = tp.items })
 
 -- ---- numbers of variants
 
@@ -592,33 +595,33 @@ change_values_takes : (measure : List ℕ → ℕ) (room : ℕ) (rows : Option �
 unfolding change_values
 change_values_takes measure room rows count kind bytes x fits e =
     picks kind 0 (attribute_change_at room bytes >>= λ v. ok (changed.Attribute v.0) v.1) (or_1 measure room rows count kind bytes) x e
-    (λ is read. values_found measure rows count kind 0 bytes (attribute_change_at room bytes) changed.Attribute x is read (λ v found. let t = attribute_change_takes room bytes v fits found in (record { taken = t.0; kind = refl; form = t.1; on = tt; items = refl })))
+    (λ is read. values_found measure rows count kind 0 bytes (attribute_change_at room bytes) changed.Attribute x is read (λ v found. let t = attribute_change_takes room bytes v fits found in (record { taken = t.0; kind_is = refl; form = t.1; on = tt; items = refl })))
     (λ more. picks kind 1 (attributes_at room bytes >>= λ v. ok (changed.AllAttributes v.0) v.1) (or_2 measure room rows count kind bytes) x more
-    (λ is read. values_found measure rows count kind 1 bytes (attributes_at room bytes) changed.AllAttributes x is read (λ v found. let t = attributes_takes room bytes v fits found in (record { taken = t.0; kind = refl; form = t.1; on = tt; items = refl })))
+    (λ is read. values_found measure rows count kind 1 bytes (attributes_at room bytes) changed.AllAttributes x is read (λ v found. let t = attributes_takes room bytes v fits found in (record { taken = t.0; kind_is = refl; form = t.1; on = tt; items = refl })))
     (λ more. picks kind 2 (printed_at measure room count bytes) (or_3 measure room rows count kind bytes) x more
     (λ is read. subst (λ (k : ℕ). ValuesFound measure rows count k bytes x) (sym is) (printed_takes measure room rows count bytes x fits read))
     (λ more. picks kind 3 (color_at room bytes >>= λ v. ok (changed.ClearScreen v.0) v.1) (or_4 measure room rows count kind bytes) x more
-    (λ is read. values_found measure rows count kind 3 bytes (color_at room bytes) changed.ClearScreen x is read (λ v found. let t = color_takes room bytes v fits found in (record { taken = t.0; kind = refl; form = t.1; on = tt; items = refl })))
+    (λ is read. values_found measure rows count kind 3 bytes (color_at room bytes) changed.ClearScreen x is read (λ v found. let t = color_takes room bytes v fits found in (record { taken = t.0; kind_is = refl; form = t.1; on = tt; items = refl })))
     (λ more. picks kind 4 (color_at room bytes >>= λ v. ok (changed.ClearToEndOfLine v.0) v.1) (or_5 measure room rows count kind bytes) x more
-    (λ is read. values_found measure rows count kind 4 bytes (color_at room bytes) changed.ClearToEndOfLine x is read (λ v found. let t = color_takes room bytes v fits found in (record { taken = t.0; kind = refl; form = t.1; on = tt; items = refl })))
+    (λ is read. values_found measure rows count kind 4 bytes (color_at room bytes) changed.ClearToEndOfLine x is read (λ v found. let t = color_takes room bytes v fits found in (record { taken = t.0; kind_is = refl; form = t.1; on = tt; items = refl })))
     (λ more. picks kind 5 (color_at room bytes >>= λ v. ok (changed.ClearToEndOfScreen v.0) v.1) (or_6 measure room rows count kind bytes) x more
-    (λ is read. values_found measure rows count kind 5 bytes (color_at room bytes) changed.ClearToEndOfScreen x is read (λ v found. let t = color_takes room bytes v fits found in (record { taken = t.0; kind = refl; form = t.1; on = tt; items = refl })))
+    (λ is read. values_found measure rows count kind 5 bytes (color_at room bytes) changed.ClearToEndOfScreen x is read (λ v found. let t = color_takes room bytes v fits found in (record { taken = t.0; kind_is = refl; form = t.1; on = tt; items = refl })))
     (λ more. picks kind 6 (place_at room bytes) (or_7 measure room rows count kind bytes) x more
     (λ is read. subst (λ (k : ℕ). ValuesFound measure rows count k bytes x) (sym is) (place_takes measure room rows count bytes x fits read))
     (λ more. picks kind 7 (color_at room bytes >>= λ v. ok (changed.CursorColor v.0) v.1) (or_8 measure room rows count kind bytes) x more
-    (λ is read. values_found measure rows count kind 7 bytes (color_at room bytes) changed.CursorColor x is read (λ v found. let t = color_takes room bytes v fits found in (record { taken = t.0; kind = refl; form = t.1; on = tt; items = refl })))
+    (λ is read. values_found measure rows count kind 7 bytes (color_at room bytes) changed.CursorColor x is read (λ v found. let t = color_takes room bytes v fits found in (record { taken = t.0; kind_is = refl; form = t.1; on = tt; items = refl })))
     (λ more. picks kind 8 (below_at room 7 bytes >>= λ v. ok (changed.CursorShape (shape_at v.0)) v.1) (or_9 measure room rows count kind bytes) x more
-    (λ is read. values_found measure rows count kind 8 bytes (below_at room 7 bytes) (λ v. changed.CursorShape (shape_at v)) x is read (λ v found. (record { taken = (number_found room 7 (λ n. shape_number (shape_at n)) bytes v fits shape-found found); kind = refl; form = tt; on = tt; items = refl })))
+    (λ is read. values_found measure rows count kind 8 bytes (below_at room 7 bytes) (λ v. changed.CursorShape (shape_at v)) x is read (λ v found. (record { taken = (number_found room 7 (λ n. shape_number (shape_at n)) bytes v fits shape-found found); kind_is = refl; form = tt; on = tt; items = refl })))
     (λ more. picks kind 9 (boolean_at room bytes >>= λ v. ok (changed.CursorVisibility (visibility_of v.0)) v.1) (or_10 measure room rows count kind bytes) x more
-    (λ is read. values_found measure rows count kind 9 bytes (boolean_at room bytes) (λ v. changed.CursorVisibility (visibility_of v)) x is read (λ v found. (record { taken = (subst (λ (b : Bool). Takes bytes (boolean b) v.1) (sym (visibility-found v.0)) (boolean_takes room bytes v fits found)); kind = refl; form = tt; on = tt; items = refl })))
+    (λ is read. values_found measure rows count kind 9 bytes (boolean_at room bytes) (λ v. changed.CursorVisibility (visibility_of v)) x is read (λ v found. (record { taken = (subst (λ (b : Bool). Takes bytes (boolean b) v.1) (sym (visibility-found v.0)) (boolean_takes room bytes v fits found)); kind_is = refl; form = tt; on = tt; items = refl })))
     (λ more. picks kind 10 (scroll_at room rows changed.ScrollRegionUp bytes) (or_11 measure room rows count kind bytes) x more
     (λ is read. subst (λ (k : ℕ). ValuesFound measure rows count k bytes x) (sym is) (up_takes measure room rows count bytes x fits read))
     (λ more. picks kind 11 (scroll_at room rows changed.ScrollRegionDown bytes) (or_12 measure room rows count kind bytes) x more
     (λ is read. subst (λ (k : ℕ). ValuesFound measure rows count k bytes x) (sym is) (down_takes measure room rows count bytes x fits read))
     (λ more. picks kind 12 (text_at room bytes >>= λ v. ok (changed.Title v.0) v.1) (or_13 measure room rows count kind bytes) x more
-    (λ is read. values_found measure rows count kind 12 bytes (text_at room bytes) changed.Title x is read (λ v found. let t = text_takes room bytes v fits found in (record { taken = t.0; kind = refl; form = t.1; on = tt; items = refl })))
+    (λ is read. values_found measure rows count kind 12 bytes (text_at room bytes) changed.Title x is read (λ v found. let t = text_takes room bytes v fits found in (record { taken = t.0; kind_is = refl; form = t.1; on = tt; items = refl })))
     (λ more. picks kind 13 (below_at room 4 bytes >>= λ v. ok (changed.LineAttribute (line_at v.0)) v.1) (refused faults.Type room bytes) x more
-    (λ is read. values_found measure rows count kind 13 bytes (below_at room 4 bytes) (λ v. changed.LineAttribute (line_at v)) x is read (λ v found. (record { taken = (number_found room 4 (λ n. line_number (line_at n)) bytes v fits line-found found); kind = refl; form = tt; on = tt; items = refl })))
+    (λ is read. values_found measure rows count kind 13 bytes (below_at room 4 bytes) (λ v. changed.LineAttribute (line_at v)) x is read (λ v found. (record { taken = (number_found room 4 (λ n. line_number (line_at n)) bytes v fits line-found found); kind_is = refl; form = tt; on = tt; items = refl })))
     (λ none. never (stopped faults.Type room bytes) x none))))))))))))))
 
 cond_or : (b : Bool) → (b ≡ true) ⊎ (b ≡ false)
@@ -663,4 +666,4 @@ change_takes measure room rows bytes x fits e =
     let all = Takes-then bytes (array count.0.0 ++ unsigned kind.0.0) kind.0.1 (change_values measure x.0) x.1 k1 tv.taken in
     let items : count.0.0 ≡ item_count measure x.0 = sym (tv.items ∙ items-counted kind.0.0 count.0.0 tk.2) in
     let named = subst (λ (n : ℕ). Takes bytes (array n ++ unsigned kind.0.0 ++ change_values measure x.0) x.1) items all in
-    (subst (λ (k : ℕ). Takes bytes (array (item_count measure x.0) ++ unsigned k ++ change_values measure x.0) x.1) (sym tv.kind) named, tv.form, tv.on)
+    (subst (λ (k : ℕ). Takes bytes (array (item_count measure x.0) ++ unsigned k ++ change_values measure x.0) x.1) (sym tv.kind_is) named, tv.form, tv.on)

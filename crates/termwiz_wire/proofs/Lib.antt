@@ -1,4 +1,6 @@
 pub mod Runs
+pub mod Lengths
+pub mod Ascii
 pub mod Steps
 pub mod Params
 pub mod Style
@@ -11,3 +13,9 @@ pub mod Found
 pub mod Each
 pub mod AnswersAgain
 pub mod AnswersFound
+pub mod Within
+pub mod CutLoops
+pub mod Prefixes
+pub mod Widening
+pub mod MoreBytes
+pub mod PastLimits

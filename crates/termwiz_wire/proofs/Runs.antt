@@ -1,12 +1,13 @@
 -- Runs of pieces, and the runs that texts begin with.
 use Rattle.std.proofs.Common.{◌≡◌, ℕ, suc, ◌+◌, ◌*◌, ◌<◌, ◌≤◌, Bool, true, false, ◌&&◌, ◌||◌, ◌==◌, inl, inr, List, [], ◌∷◌, ◌++◌, map, length, length-append, add_assoc, append-nil, eqb-true, eq-eqb, refl, sym, ap, ap₂, subst, ◌∙◌, arith}
 use Rattle.std.proofs.lemmas.Bool.{cases_Bool, and_parts, lt-ltb}
-use Rattle.std.proofs.lemmas.List.{map-append}
+use Rattle.std.proofs.lemmas.List.{map-append, length-map}
 use Rattle.std.proofs.lemmas.Str.{chars-nil, chars_past_char, IsUtf8-encode}
 use Rattle.std.specs.Prelude.{encode_utf8}
 use Rattle.std.specs.List.{All, AllByRecursion, list_all, list_any}
 use Rattle.std.specs.Str.{chars, IsUtf8}
-use Rattle.unicode_segmentation.specs.Grapheme.{graphemes}
+use Rattle.unicode_segmentation.specs.Grapheme.{graphemes, is_grapheme_break}
+use Rattle.unicode_segmentation.proofs.SegmentsLemmas.{length-segments}
 use Rattle.termwiz_text.specs.First.{IsFirst}
 use Rattle.termwiz_text.specs.Letter.{is_letter, AreLetters}
 use Rattle.termwiz_text.specs.Plain.{is_plain}
@@ -46,6 +47,12 @@ before-alike r s (t ∷ ts) h = elim (cases_Bool (alike s t)) [
   | inr n ↦ rw (n, h) refl
 ]
 
+-- so it grows
+before-grown : (r s : Run) (rs : List Run) → alike r s ≡ true → before r (before s rs) ≡ before (record r { count = r.count + s.count }) rs
+before-grown r s rs h =
+    let p = alike_is r s h in
+    before-alike r s rs h ∙ ap₂ (λ a b. before (record { count = r.count + s.count; characters = a; columns = b }) rs) (sym p.0) (sym p.1)
+
 -- a run before another one stands by itself
 pub before-apart : (r s : Run) (rs : List Run) → alike r s ≡ false → before r (before s rs) ≡ r ∷ before s rs
 before-apart r s [] h = rw h refl
@@ -66,11 +73,10 @@ grouped-alike : (a b : ℕ) (h : ℕ → Run) (cs : List ℕ) (rs : List Run) �
 grouped-alike a b h [] rs e l = absurd (omega arith)
 grouped-alike a b h (c ∷ []) rs e l = ap (λ r. before r (grouped rs)) e.0
 grouped-alike a b h (c ∷ (d ∷ cs)) rs e l =
-    let more : List ℕ = d ∷ cs in
-    let same : alike (many a b 1) (many a b (length more)) ≡ true = ap₂ (λ x y. x && y) (eq-eqb a a refl) (eq-eqb b b refl) in
-    let sum : 1 + length more ≡ length (c ∷ more) = omega arith in
-    ap₂ (λ r rs. before r rs) e.0 (grouped-alike a b h more rs e.1 (omega arith))
-    ∙ before-alike (many a b 1) (many a b (length more)) (grouped rs) same
+    let same : alike (many a b 1) (many a b (length (d ∷ cs))) ≡ true = ap₂ (λ x y. x && y) (eq-eqb a a refl) (eq-eqb b b refl) in
+    let sum : 1 + length (d ∷ cs) ≡ length (c ∷ (d ∷ cs)) = omega arith in
+    ap₂ (λ r rs. before r rs) e.0 (grouped-alike a b h (d ∷ cs) rs e.1 (omega arith))
+    ∙ before-alike (many a b 1) (many a b (length (d ∷ cs))) (grouped rs) same
     ∙ ap (λ n. before (many a b n) (grouped rs)) sum
 
 -- ---- the run that a text begins with
@@ -136,6 +142,31 @@ beginning_of_piece f text g rest is = record {
 
 pub runs-nothing : (f : List ℕ → ℕ) (text : List ℕ) → graphemes true text ≡ [] → runs f text ≡ []
 runs-nothing f text e = runs_are f text ∙ ap (λ gs. grouped (map (piece f) gs)) e
+
+-- ---- a run that goes on in what is left
+
+pub run_grows : (f : List ℕ → ℕ) (all : List Run) (run next : Run) (left after : List ℕ) → all ≡ before run (runs f left) → IsBeginning f left next after → alike run next ≡ true → all ≡ before (record run { count = run.count + next.count }) (runs f after)
+run_grows f all run next left after e is same = e ∙ ap (before run) is.runs_are ∙ before-grown run next (runs f after) same
+
+pub run_ends : (f : List ℕ → ℕ) (all : List Run) (run next : Run) (left after : List ℕ) → all ≡ before run (runs f left) → IsBeginning f left next after → alike run next ≡ false → all ≡ run ∷ before next (runs f after)
+run_ends f all run next left after e is other = e ∙ ap (before run) is.runs_are ∙ before-apart run next (runs f after) other
+
+pub run_is_last : (f : List ℕ → ℕ) (all : List Run) (run : Run) (left : List ℕ) → all ≡ before run (runs f left) → runs f left ≡ [] → all ≡ run ∷ []
+run_is_last f all run left e none = e ∙ ap (before run) none
+
+-- ---- how many there are
+
+length-before : (r : Run) (rs : List Run) → length (before r rs) ≤ suc (length rs)
+length-before r [] = omega arith
+length-before r (s ∷ rs) = elim (cases_Bool (alike r s)) [ inl y ↦ rw y (omega arith) | inr n ↦ rw n (omega arith) ]
+
+length-grouped : (rs : List Run) → length (grouped rs) ≤ length rs
+length-grouped [] = omega arith
+length-grouped (r ∷ rs) = omega (arith, length-before r (grouped rs), length-grouped rs)
+
+-- a text has no more runs than bytes
+pub length-runs : (f : List ℕ → ℕ) (text : List ℕ) → IsUtf8 text → length (runs f text) ≤ length text
+length-runs f text u = rw (runs_are f text) (omega (arith, length-grouped (pieces_of f text), length-map (graphemes true text) (piece f), length-segments (is_grapheme_break true) text u))
 
 -- ---- what needs pieces
 

@@ -7,4 +7,5 @@ pub mod Decoding
 pub mod Forms
 pub mod Sent
 pub mod Answers
+pub mod MoreBytes
 pub mod Lengths

@@ -10,6 +10,7 @@ mod decode;
 mod encode;
 mod fault;
 mod len;
+mod more_bytes;
 mod pieces;
 mod sent;
 
@@ -18,4 +19,5 @@ pub use decode::{decode_answer, decode_ask, decode_change, decode_changes};
 pub use encode::{encode_answer, encode_ask, encode_change, encode_changes};
 pub use fault::{Fault, Limits, WireError};
 pub use len::encoded_len;
+pub use more_bytes::{answers, decided, stays};
 pub use sent::{Ask, SentAnswer, SourceNo};

@@ -1,7 +1,8 @@
 //! The pieces that a text is printed in, and their runs.
-ghost use Rattle.std.specs.Prelude.{◌≡◌, ◌<◌, ◌≤◌, ◌+◌, ◌^◌, ◌∷◌, [], length, true, false};
-ghost use Rattle.std.specs.Prelude.{IfSome, MatchOption, IsTrue};
+ghost use Rattle.std.specs.Prelude.{◌≡◌, ◌<◌, ◌≤◌, ◌+◌, ◌^◌, ◌∷◌, [], length, true, false, List};
+ghost use Rattle.std.specs.Prelude.{IfOk, IfSome, MatchOption};
 ghost use Rattle.std.specs.Option.{ForSome};
+ghost use Rattle.std.specs.Str.{chars};
 ghost use Rattle.unicode_segmentation.specs.Grapheme.{graphemes};
 ghost use Rattle.termwiz_cell.specs.Attributes.{default_attributes};
 ghost use Rattle.termwiz_cell.specs.CellValue.{clean, columns};
@@ -11,6 +12,7 @@ ghost use Rattle.termwiz_wire.specs.Beginning.{IsBeginning, IsNeeded};
 ghost use Rattle.termwiz_wire.specs.Pieces.{alike, before, columns_of, needs_pieces, runs};
 ghost use Rattle.termwiz_wire.specs.Pieces.{stands_out};
 
+use std::alloc::{AllocError, Global};
 use termwiz_cell::emoji::Widths;
 use termwiz_screen::print::{begins_letters, begins_plain, split_narrow_run, split_wide_run};
 use termwiz_text::{letter_count, split_first_grapheme};
@@ -116,6 +118,14 @@ fn split_letters<'a, W: Widths>(widths: &W, text: &'a str) -> Option<(Run, &'a s
     Some((run, rest))
 }
 
+// How many characters a text has.
+#[tactic(auto, using(std::proofs::lemmas::Str::chars_from_encodes))]
+fn char_count(text: &str) -> usize
+    ensures { result ≡ length (chars text.now) }
+{
+    text.chars().count()
+}
+
 // The piece that the text begins with.
 fn split_piece<'a, W: Widths>(widths: &W, text: &'a str) -> Option<(Run, &'a str)>
     ensures { MatchOption result (runs (measure W.width_of widths.now) text.now ≡ [])
@@ -124,7 +134,7 @@ fn split_piece<'a, W: Widths>(widths: &W, text: &'a str) -> Option<(Run, &'a str
     let (grapheme, rest) = split_first_grapheme(text)?;
     let run = Run {
         count: 1,
-        characters: grapheme.chars().count(),
+        characters: char_count(grapheme),
         columns: columns_of(widths, grapheme),
     };
     Some((run, rest))
@@ -209,6 +219,31 @@ impl<'a, W: Widths> Iterator for Runs<'a, W> {
         self.next = next;
         Some(run)
     }
+}
+
+/// The runs of a text.
+pub(crate) fn runs_of<W: Widths>(
+    alloc: Global,
+    widths: &W,
+    text: &str,
+) -> Result<Vec<Run>, AllocError>
+    ensures { IfOk result (λ rs. rs.items ≡ runs (measure W.width_of widths.now) text.now) }
+{
+    Runs::new(widths, text).collect(alloc)
+}
+
+/// Whether a text of these runs is sent with them.
+pub(crate) fn needs_runs(runs: &[Run]) -> bool
+    ensures { result ≡ needs_pieces runs.now }
+{
+    runs.iter().any(Run::stands_out)
+}
+
+/// Whether a text is sent with its pieces.
+pub(crate) fn needs_pieces<W: Widths>(widths: &W, text: &str) -> bool
+    ensures { result ≡ needs_pieces (runs (measure W.width_of widths.now) text.now) }
+{
+    needed_runs(widths, text).is_some()
 }
 
 /// How many runs a text is sent with, where it needs its pieces.

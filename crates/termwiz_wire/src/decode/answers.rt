@@ -81,6 +81,8 @@ fn answer_of<W: Widths>(
             });
         }
     };
+    // Each byte is below 256.
+    let _bytes = reader.rest();
     let changes = each_of(alloc, widths, Some(head.height), head.count, reader)?;
     Ok(sent_from(head, changes))
 }

@@ -23,7 +23,7 @@ pub fn decode_ask(bytes: &[u8]) -> Result<(Ask, usize), WireError>
     // It is this value, or this fault.
     ensures exact { Decodes (λ x. (x.0, drop x.1 bytes.now)) result (ask_at bytes.now) }
 {
-    let mut reader = Reader::new(bytes);
+    let mut reader = Reader::with_limit(bytes, usize::MAX);
     let len = reader.rest().len();
     match ask_of(&mut reader) {
         Ok(ask) => Ok((ask, len.saturating_sub(reader.bytes.len()))),

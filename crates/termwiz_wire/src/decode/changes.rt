@@ -49,7 +49,7 @@ pub fn decode_change<W: Widths>(
     ensures exact { Decodes (λ x. (change_value x.0, drop x.1 bytes.now)) result
         (one_change_at (measure W.width_of widths.now) bytes.now) }
 {
-    let mut reader = Reader::new(bytes);
+    let mut reader = Reader::with_limit(bytes, usize::MAX);
     let len = reader.rest().len();
     match one_change_of(alloc, widths, &mut reader) {
         Ok(value) => Ok((value, len.saturating_sub(reader.bytes.len()))),
@@ -79,7 +79,7 @@ pub fn decode_changes<W: Widths>(
     ensures exact { Decodes (λ x. (map change_value x.0.items, drop x.1 bytes.now)) result
         (changes_at (measure W.width_of widths.now) bytes.now) }
 {
-    let mut reader = Reader::new(bytes);
+    let mut reader = Reader::with_limit(bytes, usize::MAX);
     let len = reader.rest().len();
     match changes_of(alloc, widths, &mut reader) {
         Ok(value) => Ok((value, len.saturating_sub(reader.bytes.len()))),

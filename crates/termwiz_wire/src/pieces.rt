@@ -246,7 +246,9 @@ pub(crate) fn needs_pieces<W: Widths>(widths: &W, text: &str) -> bool
     needed_runs(widths, text).is_some()
 }
 
-/// How many runs a text is sent with, where it needs its pieces.
+/// How many runs a text is sent with, where it needs its pieces. Most texts are ASCII, and need
+/// none.
+#[inline]
 pub(crate) fn needed_runs<W: Widths>(widths: &W, text: &str) -> Option<usize>
     ensures { MatchOption result
         (needs_pieces (runs (measure W.width_of widths.now) text.now) ≡ false)
@@ -255,6 +257,15 @@ pub(crate) fn needed_runs<W: Widths>(widths: &W, text: &str) -> Option<usize>
     if widths.has_narrow_ascii() && text.is_ascii() {
         return None;
     }
+    counted_runs(widths, text)
+}
+
+#[inline(never)]
+fn counted_runs<W: Widths>(widths: &W, text: &str) -> Option<usize>
+    ensures { MatchOption result
+        (needs_pieces (runs (measure W.width_of widths.now) text.now) ≡ false)
+        (λ count. IsNeeded count (runs (measure W.width_of widths.now) text.now)) }
+{
     let mut count = 0;
     let mut needed = false;
     for run in Runs::new(widths, text) {

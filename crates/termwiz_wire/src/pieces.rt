@@ -155,11 +155,7 @@ fn split_run<'a, W: Widths>(widths: &W, text: &'a str) -> Option<(Run, &'a str)>
 }
 
 // The whole run that begins so and goes on in the rest, and the beginning of the next one.
-fn whole_run<'a, W: Widths>(
-    widths: &W,
-    first: Run,
-    rest: &'a str,
-) -> (Run, Option<(Run, &'a str)>)
+fn whole_run<'a, W: Widths>(widths: &W, first: Run, rest: &'a str) -> (Run, Option<(Run, &'a str)>)
     requires { first.count + length rest.now < 2 ^ 64 }
     ensures runs { MatchOption result.1
         (before first (runs (measure W.width_of widths.now) rest.now) ≡ result.0 ∷ [])

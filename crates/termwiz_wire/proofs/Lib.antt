@@ -14,3 +14,5 @@ pub mod Found
 pub mod Each
 pub mod AnswersAgain
 pub mod AnswersFound
+pub mod Within
+pub mod CutLoops

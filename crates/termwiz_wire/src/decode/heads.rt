@@ -50,7 +50,7 @@ pub(super) fn head_of(reader: &mut Reader<'_>, cells: usize) -> Result<Head, Rea
 
 /// Decodes the head of an array of so many items, and the version. Another version may have another
 /// count of items, so that its fault comes first.
-#[tactic(auto, unfolding(crate::specs::Answers::opened_at))]
+#[tactic(auto, unfolding(crate::specs::Answers::opened_at, crate::specs::Answers::body_at))]
 pub(super) fn opened_of(reader: &mut Reader<'_>, items: usize) -> Result<(), ReadError>
     ensures value { Gives (allowed reader.new.room reader.new.bytes.now)
         (λ _. reader.new.bytes.now) result

@@ -1,0 +1,61 @@
+-- Decoding within a limit of bytes, from decoding of the bytes that it allows.
+use Rattle.std.proofs.Common.{◌≡◌, ℕ, ◌+◌, ◌-◌, ◌≤◌, List, ◌++◌, length, take, drop, Option, Some, None, Result, Ok, Err, refl, sym, ap, subst, ◌∙◌, append_assoc, arith}
+use Rattle.std.specs.Prelude.{IfSome}
+use Rattle.std.proofs.lemmas.List.{length-append, take-append-drop, drop_at}
+use Rattle.cbor.specs.declared.error.FaultKind.{FaultKind}
+use Rattle.cbor.specs.declared.error.ReadError.{ReadError}
+use Rattle.cbor.specs.Decoding.{Stop, ok, allowed, fault_of}
+use Rattle.termwiz_wire.specs.Answers.{Halt, Decodes, error_of, fault_at, located, within}
+use Rattle.termwiz_wire.specs.declared.fault.Fault.{Fault}
+use Rattle.termwiz_wire.specs.declared.fault.WireError.{WireError}
+use Rattle.termwiz_wire.specs.declared.fault.WireError.TheVariants as errors
+
+-- what was taken of bytes that were cut at the limit
+pub record IsTaken (limit : ℕ) (bytes encoded rest : List ℕ) (taken : ℕ) : Type 0 where
+  pub after : drop taken bytes ≡ rest ++ drop limit bytes
+  pub parts : bytes ≡ encoded ++ drop taken bytes
+  pub len : taken ≡ length encoded
+  pub fits : taken ≤ length bytes
+  pub limited : taken ≤ length (take limit bytes)
+
+pub taken_of : (limit : ℕ) (bytes encoded rest : List ℕ) → take limit bytes ≡ encoded ++ rest → IsTaken limit bytes encoded rest (length (take limit bytes) - length rest)
+taken_of limit bytes encoded rest e =
+    let hand : List ℕ = take limit bytes in
+    let past : List ℕ = drop limit bytes in
+    let whole : bytes ≡ encoded ++ (rest ++ past) = sym (take-append-drop limit bytes) ∙ ap (λ (t : List ℕ). t ++ past) e ∙ append_assoc encoded rest past in
+    let lens : length hand ≡ length encoded + length rest = ap length e ∙ length-append encoded rest in
+    let all : length bytes ≡ length encoded + length (rest ++ past) = ap length whole ∙ length-append encoded (rest ++ past) in
+    let n : length hand - length rest ≡ length encoded = omega (arith, lens) in
+    let after : drop (length hand - length rest) bytes ≡ rest ++ past = ap (drop (length hand - length rest)) whole ∙ drop_at encoded (rest ++ past) (length hand - length rest) (sym n) in
+    record {
+      after = after;
+      parts = whole ∙ ap (λ (t : List ℕ). encoded ++ t) (sym after);
+      len = n;
+      fits = omega (arith, n, all);
+      limited = omega (arith, n, lens);
+    }
+
+-- a value
+pub within_ok : {A : Type 0} (read : ℕ → List ℕ → Result (A × List ℕ) Halt) (limit : ℕ) (bytes encoded rest : List ℕ) (x : A) → take limit bytes ≡ encoded ++ rest → read (limit - length bytes) (take limit bytes) ≡ Ok (x, rest) → within read limit bytes ≡ Ok (x, drop (length (take limit bytes) - length rest) bytes)
+within_ok {A = A} read limit bytes encoded rest x e is =
+    ap (located (allowed (limit - length bytes) (take limit bytes)) (drop limit bytes)) is ∙ ap (λ (t : List ℕ). ok {E = Fault} x t) (sym (taken_of limit bytes encoded rest e).after)
+
+decodes_none : {X Y : Type 0} (view : X → Y) (o : Option FaultKind) (error : ReadError) (at : ℕ) (change : Option ℕ) (read : Result Y Fault) → fault_of error ≡ o → IfSome o (λ f. read ≡ Err (record { kind = f; at = at; change = change })) → Decodes view (Err (error_of error at change)) read
+decodes_none view None error at change read is h = rw is tt
+decodes_none view (Some f) error at change read is h = rw is h
+
+if_some : {A : Type 0} (o : Option A) (P Q : A → Type 0) → ((x : A) → P x → Q x) → IfSome o P → IfSome o Q
+if_some None P Q law is = tt
+if_some (Some x) P Q law is = law x is
+
+abbrev fails : {Y : Type 0} → Fault → Result Y Fault
+fails f = Err f
+
+-- a fault, at its byte
+pub within_err : {X A : Type 0} (view : X → A × List ℕ) (read : ℕ → List ℕ → Result (A × List ℕ) Halt) (limit : ℕ) (bytes rest : List ℕ) (room : ℕ) (error : ReadError) (change : Option ℕ) → room ≡ limit - length bytes → IfSome (fault_of error) (λ f. read (limit - length bytes) (take limit bytes) ≡ Err (record { stop = record { fault = f; left = allowed room rest }; change = change })) → Decodes view (Err (error_of error (length (take limit bytes) - length rest) change)) (within read limit bytes)
+within_err {A = A} view read limit bytes rest room error change same h =
+    let all : ℕ = allowed (limit - length bytes) (take limit bytes) in
+    let at : all - allowed room rest ≡ length (take limit bytes) - length rest = omega (arith, same) in
+    decodes_none view (fault_of error) error (length (take limit bytes) - length rest) change (within read limit bytes) refl
+    (if_some (fault_of error) (λ f. read (limit - length bytes) (take limit bytes) ≡ Err (record { stop = record { fault = f; left = allowed room rest }; change = change })) (λ f. within read limit bytes ≡ Err (record { kind = f; at = length (take limit bytes) - length rest; change = change }))
+    (λ f is. ap (located all (drop limit bytes)) is ∙ ap (λ (n : ℕ). fails (record { kind = f; at = n; change = change })) at) h)

@@ -33,6 +33,31 @@ pieces_done count i size cs total le so_far =
     let k : count - i ≡ 0 = omega arith in
     sym (ap (λ (n : ℕ). are_pieces n size cs) k ∙ pieces_none size cs) ∙ so_far
 
+-- the next piece is there, and the others behind it
+pub room_for : (count i size len : ℕ) → i < count → (count - i) * size ≤ len → (size ≤ len) × ((count - (i + 1)) * size ≤ len - size)
+room_for count i size len lt within =
+    let k : count - i ≡ suc (count - (i + 1)) = omega arith in
+    let e : (count - i) * size ≡ suc (count - (i + 1)) * size = ap (λ (n : ℕ). n * size) k in
+    (omega (arith, e), omega (arith, e))
+
+columns_some : (wide : Bool) (n size : ℕ) (cs : List ℕ) → have_columns wide (suc n) size cs ≡ ((cond wide (not (is_break (take size cs))) (is_break (take size cs))) && have_columns wide n size (drop size cs))
+unfolding have_columns
+columns_some wide n size cs = refl
+
+columns_none : (wide : Bool) (size : ℕ) (cs : List ℕ) → have_columns wide zero size cs ≡ true
+unfolding have_columns
+columns_none wide size cs = refl
+
+pub columns_step : (wide : Bool) (count i size : ℕ) (cs : List ℕ) (total : Bool) → i < count → have_columns wide (count - i) size cs ≡ total → ((cond wide (not (is_break (take size cs))) (is_break (take size cs))) && have_columns wide (count - (i + 1)) size (drop size cs)) ≡ total
+columns_step wide count i size cs total lt so_far =
+    let k : count - i ≡ suc (count - (i + 1)) = omega arith in
+    sym (ap (λ (n : ℕ). have_columns wide n size cs) k ∙ columns_some wide (count - (i + 1)) size cs) ∙ so_far
+
+pub columns_done : (wide : Bool) (count i size : ℕ) (cs : List ℕ) (total : Bool) → count ≤ i → have_columns wide (count - i) size cs ≡ total → true ≡ total
+columns_done wide count i size cs total le so_far =
+    let k : count - i ≡ 0 = omega arith in
+    sym (ap (λ (n : ℕ). have_columns wide n size cs) k ∙ columns_none wide size cs) ∙ so_far
+
 -- ---- runs
 
 runs_none : (room : ℕ) (last : Run) (needed : Bool) (cs bytes : List ℕ) → runs_at room last needed cs zero bytes ≡ Ok (needed && eqb (length cs) 0, bytes)

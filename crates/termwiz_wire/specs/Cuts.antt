@@ -47,9 +47,13 @@ is_break p = bytes_eq p (13 ∷ []) || (bytes_eq p (10 ∷ []) || bytes_eq p (13
 abbrev pub is_control : ℕ → Bool
 is_control c = nat_lt c 32 || c == 127
 
+abbrev pub begins_line_feed : List ℕ → Bool
+begins_line_feed [] = false
+begins_line_feed (c ∷ cs) = c == 10
+
 -- whether characters before others are a piece: CR LF is not cut, and any other control is alone
 abbrev pub is_piece : List ℕ → List ℕ → Bool
-is_piece p rest = not (bytes_eq p (13 ∷ []) && bytes_eq (take 1 rest) (10 ∷ [])) && (length p == 1 || (bytes_eq p (13 ∷ 10 ∷ []) || not (list_any is_control p)))
+is_piece p rest = not (bytes_eq p (13 ∷ []) && begins_line_feed rest) && (length p == 1 || (bytes_eq p (13 ∷ 10 ∷ []) || not (list_any is_control p)))
 
 -- whether each of the next pieces, of so many characters, is one
 unfoldable pub are_pieces : ℕ → ℕ → List ℕ → Bool

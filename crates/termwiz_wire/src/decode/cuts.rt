@@ -3,6 +3,7 @@ ghost use Rattle.std.specs.Prelude.{◌≡◌, ◌*◌, ◌<◌, ◌≤◌, [], 
 ghost use Rattle.std.specs.Str.{chars};
 ghost use Rattle.cbor.specs.Decoding.{Gives, allowed};
 ghost use Rattle.termwiz_cell.specs.Measure.{measure};
+ghost use Rattle.termwiz_wire.specs.Cuts.{begins_line_feed};
 ghost use Rattle.termwiz_wire.specs.Cuts.{are_at, are_characters, are_columns, are_pieces, cut_at};
 ghost use Rattle.termwiz_wire.specs.Cuts.{have_columns, is_break, is_control, is_count, is_piece};
 ghost use Rattle.termwiz_wire.specs.Cuts.{is_rest_at, is_run_at, kept_at, no_run, run_at, runs_at};
@@ -234,12 +235,18 @@ fn are_pieces(count: usize, size: usize, characters: &[char]) -> bool
 fn is_piece(piece: &[char], rest: &[char]) -> bool
     ensures { result ≡ is_piece piece.now rest.now }
 {
-    if matches!(piece, ['\r']) && matches!(rest, ['\n', ..]) {
-        return false;
+    let is_cut = matches!(piece, ['\r']) && begins_line_feed(rest);
+    let is_whole = piece.len() == 1 || matches!(piece, ['\r', '\n']);
+    !is_cut && (is_whole || !piece.iter().any(|c| is_control(*c)))
+}
+
+fn begins_line_feed(characters: &[char]) -> bool
+    ensures { result ≡ begins_line_feed characters.now }
+{
+    match characters {
+        [first, ..] => *first == '\n',
+        [] => false,
     }
-    piece.len() == 1
-        || matches!(piece, ['\r', '\n'])
-        || !piece.iter().any(|c| is_control(*c))
 }
 
 fn is_control(c: char) -> bool

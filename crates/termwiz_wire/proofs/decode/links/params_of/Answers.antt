@@ -21,8 +21,8 @@ loop-init c =
     let start = none_made c.new-params.result.entries c.args.reader.now.room c.args.count c.args.reader.now.bytes.now c.new-params.ensures.len in
     record { read = start.0; ordered = start.1; room = refl }
 
-pub returns-in_err-key : goal.returns-in_err-key
-returns-in_err-key c =
+pub returns-in_err-key-clause-value : goal.returns-in_err-key-clause-value
+returns-in_err-key-clause-value c =
     let p = err_from_is_err_and c.from_residual.result c.from_residual.ensures.1 in
     let read = subst (λ (r : ℕ). Stops (allowed c.param_of.new.reader.room c.param_of.new.reader.bytes.now) c.in_err-key.field-0.0 (param_at r (map param_bytes c.loop.params.entries) c.loop.reader.bytes.now)) c.loop.invariant.room c.in_err-key.ensures.value in
     rw (p.1, p.2) (params_end c.args.reader.now.room (allowed c.param_of.new.reader.room c.param_of.new.reader.bytes.now) c.in_err-key.field-0.0 (map param_bytes c.loop.params.entries) c.args.count c.loop.counter c.loop.reader.bytes.now (params_at c.args.reader.now.room [] c.args.count c.args.reader.now.bytes.now) c.loop-test.true read c.loop.invariant.read)

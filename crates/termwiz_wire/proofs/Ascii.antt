@@ -1,9 +1,9 @@
 -- A text of ASCII needs no pieces, where each printable character has one column at most.
-use Rattle.std.proofs.Common.{◌≡◌, ℕ, suc, ◌<◌, ◌≤◌, Bool, true, false, ◌&&◌, ◌==◌, inl, inr, List, [], ◌∷◌, map, length, take, drop, eqb-true, refl, sym, ap, subst, ◌∙◌, arith}
+use Rattle.std.proofs.Common.{◌≡◌, ℕ, suc, ◌<◌, ◌≤◌, true, false, ◌&&◌, ◌==◌, inl, inr, List, [], ◌∷◌, map, length, refl, sym, ap, subst, ◌∙◌, arith}
 use Rattle.std.proofs.lemmas.Bool.{cases_Bool, and_right, le-ltb, lt-ltb}
 use Rattle.std.proofs.lemmas.Grind.{common_steps}
 use Rattle.std.proofs.lemmas.Str.{chars-nil, encode_ascii, IsUtf8-encode}
-use Rattle.std.specs.Prelude.{nat_lt, encode_utf8}
+use Rattle.std.specs.Prelude.{nat_lt}
 use Rattle.std.specs.Str.{chars, IsUtf8, IsAscii}
 use Rattle.unicode_segmentation.specs.Grapheme.{graphemes}
 use Rattle.termwiz_text.specs.First.{IsFirst}

@@ -1,23 +1,22 @@
 -- Runs of pieces, and the runs that texts begin with.
-use Rattle.std.proofs.Common.{◌≡◌, ℕ, suc, ◌+◌, ◌*◌, ◌<◌, ◌≤◌, Bool, true, false, ◌&&◌, ◌||◌, ◌==◌, inl, inr, List, [], ◌∷◌, ◌++◌, map, length, length-append, add_assoc, append-nil, eqb-true, eq-eqb, refl, sym, ap, ap₂, subst, ◌∙◌, arith}
+use Rattle.std.proofs.Common.{◌≡◌, ℕ, suc, ◌+◌, ◌<◌, ◌≤◌, Bool, true, false, ◌&&◌, ◌||◌, ◌==◌, inl, inr, List, [], ◌∷◌, ◌++◌, map, length, length-append, add_assoc, append-nil, eqb-true, eq-eqb, refl, sym, ap, ap₂, ◌∙◌, arith}
 use Rattle.std.proofs.lemmas.Bool.{cases_Bool, and_parts, lt-ltb}
 use Rattle.std.proofs.lemmas.List.{map-append, length-map}
 use Rattle.std.proofs.lemmas.Str.{chars-nil, chars_past_char, IsUtf8-encode}
 use Rattle.std.specs.Prelude.{encode_utf8}
-use Rattle.std.specs.List.{All, AllByRecursion, list_all, list_any}
+use Rattle.std.specs.List.{All, AllByRecursion, list_all}
 use Rattle.std.specs.Str.{chars, IsUtf8}
 use Rattle.unicode_segmentation.specs.Grapheme.{graphemes, is_grapheme_break}
 use Rattle.unicode_segmentation.proofs.SegmentsLemmas.{length-segments}
 use Rattle.termwiz_text.specs.First.{IsFirst}
-use Rattle.termwiz_text.specs.Letter.{is_letter, AreLetters}
+use Rattle.termwiz_text.specs.Letter.{is_letter}
 use Rattle.termwiz_text.specs.Plain.{is_plain}
 use Rattle.termwiz_text.proofs.Plain.{chars_plain, utf8_one}
 use Rattle.termwiz_text.proofs.LetterRuns.{letter_to}
 use Rattle.termwiz_cell.specs.Attributes.{default_attributes}
 use Rattle.termwiz_cell.specs.CellValue.{columns}
-use Rattle.termwiz_screen.specs.Print.{piece_of}
 use Rattle.termwiz_screen.specs.Runs.{IsNarrowRun, IsWideRun}
-use Rattle.termwiz_screen.proofs.Runs.{PrintsCell, PrintsCell-plain}
+use Rattle.termwiz_screen.proofs.Runs.{PrintsCell-plain}
 use Rattle.termwiz_screen.proofs.LetterRuns.{PrintsCell-letter}
 use Rattle.termwiz_wire.specs.Pieces.{alike, before, columns_of, grouped, needs_pieces, piece, pieces_of, runs, stands_out}
 use Rattle.termwiz_wire.specs.Beginning.{IsBeginning}

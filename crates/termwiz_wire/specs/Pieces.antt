@@ -1,5 +1,5 @@
 -- The pieces that a text is printed in, as it is cut and measured. Each prints a cell or breaks the line.
-use Rattle.std.specs.Prelude.{ℕ, ◌+◌, ◌*◌, ◌<◌, ◌^◌, Bool, not, ◌&&◌, ◌||◌, ◌==◌, nat_lt, true, List, [], ◌∷◌, map, length, if◌then◌else◌}
+use Rattle.std.specs.Prelude.{ℕ, ◌+◌, Bool, not, ◌&&◌, ◌||◌, ◌==◌, nat_lt, true, List, [], ◌∷◌, map, length, if◌then◌else◌}
 use Rattle.std.specs.List.{list_any}
 use Rattle.std.specs.Str.{chars}
 use Rattle.unicode_segmentation.specs.Grapheme.{graphemes}

@@ -14,10 +14,7 @@ ghost use Rattle.termwiz_wire.specs.Lengths.{capped};
 ghost use Rattle.termwiz_wire.specs.Pieces.{runs};
 ghost use Rattle.termwiz_wire.specs.Sent.{answer};
 
-use crate::encode::{
-    attribute_kind, blink_number, intensity_number, line_number, shape_number, style_number,
-    underline_number,
-};
+use crate::encode::{attribute_kind, style_number};
 use crate::pieces::{Run, Runs, needed_runs};
 use crate::sent::SourceNo;
 use cbor::{array_len, signed_len, text_len, unsigned_len};
@@ -132,10 +129,10 @@ fn attribute_value_len(value: &AttributeChange) -> usize
     ensures { result ≡ capped (length (attribute_value (attribute_change_value value.now))) }
 {
     match value {
-        AttributeChange::Intensity(value) => unsigned_len(intensity_number(*value)),
-        AttributeChange::Underline(value) => unsigned_len(underline_number(*value)),
+        AttributeChange::Intensity(value) => unsigned_len(*value as usize),
+        AttributeChange::Underline(value) => unsigned_len(*value as usize),
         AttributeChange::Italic(_) => 1,
-        AttributeChange::Blink(value) => unsigned_len(blink_number(*value)),
+        AttributeChange::Blink(value) => unsigned_len(*value as usize),
         AttributeChange::Reverse(_) => 1,
         AttributeChange::StrikeThrough(_) => 1,
         AttributeChange::Invisible(_) => 1,
@@ -212,7 +209,7 @@ fn values_len<W: Widths>(widths: &W, value: &Change) -> usize
         Change::ClearToEndOfScreen(color) => color_len(*color),
         Change::CursorPosition { x, y } => position_len(*x) + position_len(*y),
         Change::CursorColor(color) => color_len(*color),
-        Change::CursorShape(shape) => unsigned_len(shape_number(*shape)),
+        Change::CursorShape(shape) => unsigned_len(*shape as usize),
         Change::CursorVisibility(_) => 1,
         Change::ScrollRegionUp {
             first_row,
@@ -225,7 +222,7 @@ fn values_len<W: Widths>(widths: &W, value: &Change) -> usize
             scroll_count,
         } => scroll_len(*first_row, *region_size, *scroll_count),
         Change::Title(title) => text_len(title.as_str()),
-        Change::LineAttribute(line) => unsigned_len(line_number(*line)),
+        Change::LineAttribute(line) => unsigned_len(*line as usize),
     }
 }
 

@@ -155,11 +155,7 @@ fn split_run<'a, W: Widths>(widths: &W, text: &'a str) -> Option<(Run, &'a str)>
 }
 
 // The whole run that begins so and goes on in the rest, and the beginning of the next one.
-fn whole_run<'a, W: Widths>(
-    widths: &W,
-    first: Run,
-    rest: &'a str,
-) -> (Run, Option<(Run, &'a str)>)
+fn whole_run<'a, W: Widths>(widths: &W, first: Run, rest: &'a str) -> (Run, Option<(Run, &'a str)>)
     requires { first.count + length rest.now < 2 ^ 64 }
     ensures runs { MatchOption result.1
         (before first (runs (measure W.width_of widths.now) rest.now) ≡ result.0 ∷ [])
@@ -246,7 +242,9 @@ pub(crate) fn needs_pieces<W: Widths>(widths: &W, text: &str) -> bool
     needed_runs(widths, text).is_some()
 }
 
-/// How many runs a text is sent with, where it needs its pieces.
+/// How many runs a text is sent with, where it needs its pieces. Most texts are ASCII, and need
+/// none.
+#[inline]
 pub(crate) fn needed_runs<W: Widths>(widths: &W, text: &str) -> Option<usize>
     ensures { MatchOption result
         (needs_pieces (runs (measure W.width_of widths.now) text.now) ≡ false)
@@ -255,6 +253,15 @@ pub(crate) fn needed_runs<W: Widths>(widths: &W, text: &str) -> Option<usize>
     if widths.has_narrow_ascii() && text.is_ascii() {
         return None;
     }
+    counted_runs(widths, text)
+}
+
+#[inline(never)]
+fn counted_runs<W: Widths>(widths: &W, text: &str) -> Option<usize>
+    ensures { MatchOption result
+        (needs_pieces (runs (measure W.width_of widths.now) text.now) ≡ false)
+        (λ count. IsNeeded count (runs (measure W.width_of widths.now) text.now)) }
+{
     let mut count = 0;
     let mut needed = false;
     for run in Runs::new(widths, text) {

@@ -2,8 +2,8 @@
 use termwiz_cell::change::SequenceNo;
 use termwiz_surface_core::surface::Answer;
 
-/// The number of a source, a surface that answers are taken from. Numbers are from 1 on, and 0 names
-/// no source.
+/// The number of a source, which is a surface that gives answers. Numbers are from 1 on, and 0
+/// names no source.
 pub type SourceNo = usize;
 
 /// An answer, and the source that gave it.

@@ -25,8 +25,8 @@ pub fn encode_answer<W: Widths>(
     value: &Answer,
 ) -> Result<(), AllocError>
     requires { 0 < source }
-    ensures written { OnOk result (out.new.items ≡ out.old.items
-        ++ answer (measure W.width_of widths.now) (record { source = source; answer = value.now })) }
+    ensures written { OnOk result (out.new.items ≡ out.old.items ++ answer
+        (measure W.width_of widths.now) (record { source = source; answer = value.now })) }
     // After an error too, the bytes begin with what they began with.
     ensures kept { Extends out.old.items out.new.items }
     // It is one that is decoded again.

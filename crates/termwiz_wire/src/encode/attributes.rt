@@ -7,9 +7,7 @@ ghost use Rattle.termwiz_wire.specs.Encoding.{attribute_change, attribute_kind, 
 ghost use Rattle.termwiz_wire.specs.Encoding.{attributes, optional_link};
 
 use super::links::{put_link, put_optional_link};
-use super::small::{
-    blink_number, intensity_number, put_color, put_kind, style_number, underline_number,
-};
+use super::small::{put_color, put_kind, style_number};
 use cbor::{put_array, put_bool, put_null, put_unsigned};
 use std::alloc::AllocError;
 use termwiz_cell::cell::{AttributeChange, CellAttributes};
@@ -82,10 +80,10 @@ fn put_attribute_value(out: &mut Vec<u8>, value: &AttributeChange) -> Result<(),
     ensures form { OnOk result (IsAttributeChange (attribute_change_value value.now)) }
 {
     match value {
-        AttributeChange::Intensity(value) => put_unsigned(out, intensity_number(*value)),
-        AttributeChange::Underline(value) => put_unsigned(out, underline_number(*value)),
+        AttributeChange::Intensity(value) => put_unsigned(out, *value as usize),
+        AttributeChange::Underline(value) => put_unsigned(out, *value as usize),
         AttributeChange::Italic(on) => put_bool(out, *on),
-        AttributeChange::Blink(value) => put_unsigned(out, blink_number(*value)),
+        AttributeChange::Blink(value) => put_unsigned(out, *value as usize),
         AttributeChange::Reverse(on) => put_bool(out, *on),
         AttributeChange::StrikeThrough(on) => put_bool(out, *on),
         AttributeChange::Invisible(on) => put_bool(out, *on),

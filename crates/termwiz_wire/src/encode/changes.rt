@@ -10,7 +10,7 @@ ghost use Rattle.termwiz_wire.specs.Encoding.{attribute_change, attributes, chan
 ghost use Rattle.termwiz_wire.specs.Encoding.{changes, color, position, scroll};
 
 use super::attributes::{put_attribute_change, put_attributes};
-use super::small::{is_visible, line_number, put_color, put_kind, put_position, shape_number};
+use super::small::{is_visible, put_color, put_kind, put_position};
 use super::texts::put_printed;
 use cbor::{put_array, put_bool, put_text, put_unsigned};
 use std::alloc::AllocError;
@@ -43,7 +43,7 @@ pub fn encode_change<W: Widths>(
         Change::ClearToEndOfScreen(color) => put_colored(out, 5, *color),
         Change::CursorPosition { x, y } => put_place(out, *x, *y),
         Change::CursorColor(color) => put_colored(out, 7, *color),
-        Change::CursorShape(shape) => put_number(out, 8, shape_number(*shape)),
+        Change::CursorShape(shape) => put_number(out, 8, *shape as usize),
         Change::CursorVisibility(visibility) => put_visible(out, is_visible(*visibility)),
         Change::ScrollRegionUp {
             first_row,
@@ -56,7 +56,7 @@ pub fn encode_change<W: Widths>(
             scroll_count,
         } => put_scroll(out, 11, *first_row, *region_size, *scroll_count),
         Change::Title(title) => put_title(out, title.as_str()),
-        Change::LineAttribute(line) => put_number(out, 13, line_number(*line)),
+        Change::LineAttribute(line) => put_number(out, 13, *line as usize),
     }
 }
 

@@ -1,4 +1,4 @@
-use Rattle.std.proofs.Common.{ℕ, List, ◌<◌, length, arith, rules}
+use Rattle.std.proofs.Common.{ℕ, List, ◌<◌, length, rules}
 use Rattle.termwiz_cell.specs.Measure.{measure}
 use Rattle.termwiz_wire.proofs.Runs.{beginning_of_plain}
 use Rattle.termwiz_wire.proofs.pieces.split_ascii.Goals as goal

@@ -5,7 +5,7 @@ use Rattle.termwiz_cell.specs.Measure.{measure}
 use Rattle.termwiz_screen.specs.Print.{piece_of}
 use Rattle.termwiz_text.specs.First.{IsFirst}
 use Rattle.termwiz_wire.specs.Beginning.{IsBeginning}
-use Rattle.termwiz_wire.specs.Pieces.{columns_of, piece}
+use Rattle.termwiz_wire.specs.Pieces.{columns_of}
 use Rattle.termwiz_wire.specs.declared.pieces.Run.{Run}
 use Rattle.termwiz_wire.proofs.Runs.{beginning_of_piece, runs-nothing}
 use Rattle.termwiz_wire.proofs.pieces.split_piece.Goals as goal

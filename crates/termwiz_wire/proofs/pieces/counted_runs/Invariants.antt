@@ -2,7 +2,7 @@ use Rattle.std.proofs.Common.{◌≡◌, ◌++◌, length}
 use Rattle.termwiz_cell.specs.Measure.{measure}
 use Rattle.termwiz_wire.specs.Pieces.{needs_pieces, runs}
 use Rattle.termwiz_wire.specs.RunsLeft.{runs_left}
-use Rattle.termwiz_wire.proofs.pieces.needed_runs.Given as goal
+use Rattle.termwiz_wire.proofs.pieces.counted_runs.Given as goal
 
 abbrev pub invariant-loop-run : goal.invariant-loop-run
 invariant-loop-run g l =

@@ -72,9 +72,9 @@ module _ (limits : Limits) where
   shows_each [] v u bytes rest shown n fault leads within is (Taken _ w _ _ left _ more takes watches) ends = absurd (answer-some takes.sent left (sym (found limits bytes takes.sent left takes.decoded) ∙ is))
   shows_each (f ∷ frames) v u bytes rest shown n fault leads within is (Ended _ _) ends = absurd (ended_not f v bytes (encoded frames) n fault leads.0 (All-head (IsWithin limits) f frames within) is ends)
   shows_each (f ∷ frames) v u bytes rest shown n fault leads within is (Taken _ w _ _ left _ more takes watches) ends =
-      let as = taken_as f v w bytes (encoded frames) left leads.0 (All-head (IsWithin limits) f frames within) is takes in
-      let later = shows_each frames w u left rest more n fault (subst (λ (x : Viewing). LeadOn x frames) (sym as.0) leads.1) (All-tail (IsWithin limits) f frames within) as.1 watches ends in
-      ((λ i. shown_of (as.0 i) ∷ later.0 i), later.1)
+      let found_as = taken_as f v w bytes (encoded frames) left leads.0 (All-head (IsWithin limits) f frames within) is takes in
+      let later = shows_each frames w u left rest more n fault (subst (λ (x : Viewing). LeadOn x frames) (sym found_as.0) leads.1) (All-tail (IsWithin limits) f frames within) found_as.1 watches ends in
+      ((λ i. shown_of (found_as.0 i) ∷ later.0 i), later.1)
 
   pub shows_chain : (each : Bool) (frames : List Frame) (bytes : List ℕ) (w : Watched) → IsChain frames → All (IsWithin limits) frames → bytes ≡ encoded frames → IsWatched limits bytes each w → ShowsAll each frames w
   shows_chain each frames bytes w chain within is watched =

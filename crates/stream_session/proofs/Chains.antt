@@ -1,7 +1,7 @@
 -- What is shown of a chain: the screen of each frame.
 use Rattle.std.proofs.Common.{◌≡◌, ℕ, ◌+◌, ◌<◌, ◌∙◌, Bool, List, [], ◌∷◌, ◌++◌, length, map, refl, sym, ap, subst, append-nil, append_assoc, arith}
 use Rattle.std.specs.List.{All}
-use Rattle.std.specs.Prelude.{Option, None, Some, Ok, Err}
+use Rattle.std.specs.Prelude.{Option, None, Some, Result, Ok, Err}
 use Rattle.std.proofs.lemmas.List.{length-append}
 use Rattle.std.proofs.lemmas.List.Elements.{All-head, All-tail}
 use Rattle.std.proofs.lemmas.Option.{none-some}
@@ -11,6 +11,7 @@ use Rattle.termwiz_cell.specs.Width.{unicode_columns}
 use Rattle.termwiz_wire.specs.Answers.{answer_at}
 use Rattle.termwiz_wire.specs.Encoding.{changes}
 use Rattle.termwiz_wire.specs.Sent.{answer}
+use Rattle.termwiz_wire.specs.declared.fault.Fault.{Fault}
 use Rattle.termwiz_wire.specs.declared.fault.Limits.{Limits}
 use Rattle.termwiz_wire.specs.declared.sent.SentAnswer.{SentAnswer}
 use Rattle.stream_session.specs.Frames.{Frame, IsWithin, LeadsOn, LeadOn, IsChain, encoded, viewing_of}
@@ -37,7 +38,7 @@ module _ (limits : Limits) where
   decoded f v bytes rest leads within is = ap (answer_at unicode_columns limits) is ∙ again limits f.sent rest leads.form within.cells within.bytes
 
   -- and the viewer takes it
-  refused_not : (v : Viewing) (s t : SentAnswer) (rest left : List ℕ) (why : AnswerFault) → Ok (s, rest) ≡ Ok (t, left) → refusal v s ≡ None → refusal v t ≡ Some why → ⊥
+  refused_not : (v : Viewing) (s t : SentAnswer) (rest left : List ℕ) (why : AnswerFault) → ◌≡◌ {A = Result (SentAnswer × List ℕ) Fault} (Ok (s, rest)) (Ok (t, left)) → refusal v s ≡ None → refusal v t ≡ Some why → ⊥
   refused_not v s t rest left why same fresh refused =
       let is : s ≡ t = ap (λ (x : SentAnswer × List ℕ). x.0) (ok_is (s, rest) (t, left) same) in
       none-some why (sym fresh ∙ ap (refusal v) is ∙ refused)
@@ -59,7 +60,7 @@ module _ (limits : Limits) where
 
   taken_as : (f : Frame) (v w : Viewing) (bytes rest left : List ℕ) → LeadsOn v f → IsWithin limits f → bytes ≡ answer unicode_columns f.sent ++ rest → Takes limits v bytes w left → (w ≡ viewing_of f) × (left ≡ rest)
   taken_as f v w bytes rest left leads within is takes =
-      let same : (takes.sent, left) ≡ (f.sent, rest) = ok_is (takes.sent, left) (f.sent, rest) (sym takes.decoded ∙ decoded f v bytes rest leads within is) in
+      let same : ◌≡◌ {A = SentAnswer × List ℕ} (takes.sent, left) (f.sent, rest) = ok_is (takes.sent, left) (f.sent, rest) (sym takes.decoded ∙ decoded f v bytes rest leads within is) in
       let one : takes.sent ≡ f.sent = ap (λ (x : SentAnswer × List ℕ). x.0) same in (
         takes.is_taken ∙ ap (taken v) one ∙ (λ i. record { source = f.sent.source; number = f.sent.answer.number; screen = leads.leads i }),
         ap (λ (x : SentAnswer × List ℕ). x.1) same,
@@ -72,9 +73,9 @@ module _ (limits : Limits) where
   shows_each [] v u bytes rest shown n fault leads within is (Taken _ w _ _ left _ more takes watches) ends = absurd (answer-some takes.sent left (sym (found limits bytes takes.sent left takes.decoded) ∙ is))
   shows_each (f ∷ frames) v u bytes rest shown n fault leads within is (Ended _ _) ends = absurd (ended_not f v bytes (encoded frames) n fault leads.0 (All-head (IsWithin limits) f frames within) is ends)
   shows_each (f ∷ frames) v u bytes rest shown n fault leads within is (Taken _ w _ _ left _ more takes watches) ends =
-      let as = taken_as f v w bytes (encoded frames) left leads.0 (All-head (IsWithin limits) f frames within) is takes in
-      let later = shows_each frames w u left rest more n fault (subst (λ (x : Viewing). LeadOn x frames) (sym as.0) leads.1) (All-tail (IsWithin limits) f frames within) as.1 watches ends in
-      ((λ i. shown_of (as.0 i) ∷ later.0 i), later.1)
+      let found_as = taken_as f v w bytes (encoded frames) left leads.0 (All-head (IsWithin limits) f frames within) is takes in
+      let later = shows_each frames w u left rest more n fault (subst (λ (x : Viewing). LeadOn x frames) (sym found_as.0) leads.1) (All-tail (IsWithin limits) f frames within) found_as.1 watches ends in
+      ((λ i. shown_of (found_as.0 i) ∷ later.0 i), later.1)
 
   pub shows_chain : (each : Bool) (frames : List Frame) (bytes : List ℕ) (w : Watched) → IsChain frames → All (IsWithin limits) frames → bytes ≡ encoded frames → IsWatched limits bytes each w → ShowsAll each frames w
   shows_chain each frames bytes w chain within is watched =

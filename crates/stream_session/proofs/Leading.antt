@@ -37,7 +37,7 @@ blank_sized w h =
     record {
       width = refl;
       height = refl;
-      full = length-map (row_of w) (replicate h row) ∙ length-replicate h row;
+      full = length-map (replicate h row) (row_of w) ∙ length-replicate h row;
       row_length = λ j l. ap (λ (rs : List (List CellValue)). length (row_at rs j)) rows ∙ ap (λ (r : List CellValue). length r) (get_or-replicate h j (row_of w row) [] l) ∙ length-row_of w row;
     }
 

@@ -1,5 +1,5 @@
 -- What a viewer of a stream has, which answers it takes, and what it makes of them.
-use Rattle.std.specs.Prelude.{◌≡◌, ℕ, ◌+◌, ◌==◌, not, List, length, Option, Some, None, Result, Ok, if◌then◌else◌}
+use Rattle.std.specs.Prelude.{◌≡◌, ℕ, ◌+◌, ◌==◌, not, true, List, length, Option, Some, None, Result, Ok, if◌then◌else◌}
 use Rattle.cbor.specs.Encoding.{unsigned}
 use Rattle.surfview_session.specs.Run.{unicode}
 use Rattle.termwiz_cell.specs.Width.{unicode_columns}

@@ -31,7 +31,8 @@ pub fn piped(
     let outcomes = sent(alloc, source, width, height, events)?;
     let bytes = stream(alloc, outcomes.as_slice())?;
     let mut input = bytes.as_slice();
-    watch(alloc, limits, &mut input, each)
+    let shown = watch(alloc, limits, &mut input, each)?;
+    Ok(shown)
 }
 
 /// The bytes that were sent, one answer behind another.

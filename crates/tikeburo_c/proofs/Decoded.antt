@@ -1,7 +1,7 @@
 -- Bytes that encode one value, with nothing behind it.
 use Rattle.std.proofs.Common.{◌≡◌, ◌⊎◌, inl, inr, ℕ, ◌≤◌, List, [], length, drop, refl, sym, ap, arith}
 use Rattle.std.proofs.lemmas.List.{length-drop, nil_from_length}
-use Rattle.std.specs.Prelude.{Result, Ok, Err}
+use Rattle.std.specs.Prelude.{Err}
 use Rattle.cbor.specs.Decoding.{ok}
 use Rattle.cbor.specs.declared.error.FaultKind.{FaultKind}
 use Rattle.cbor.specs.declared.error.FaultKind.TheVariants as faults
@@ -12,15 +12,12 @@ use Rattle.termwiz_wire.specs.declared.fault.WireError.TheVariants as errors
 use Rattle.tikeburo_c.specs.Outcomes.{decoding_failure, unread_by}
 use Rattle.tikeburo_c.specs.declared.failure.Failure.TheVariants.{Memory, Truncated, Unreadable}
 
-ok_is : {A E : Type 0} (x y : A) → Ok {E = E} x ≡ Ok y → x ≡ y
-ok_is x y e = cc
+ok_is : {A : Type 0} (a x : A) (l m : List ℕ) → ok {A = A} {E = Fault} a l ≡ ok x m → (a, l) ≡ (x, m)
+ok_is a x l m e = cc
 
--- the value that was decoded, and nothing behind it
-pub same_value : {A E : Type 0} (a x : A) (left : List ℕ) → ok {E = E} a [] ≡ Ok (x, left) → a ≡ x
-same_value {A} {E} a x left e = ap (λ (p : A × List ℕ). p.0) (ok_is {A = A × List ℕ} {E = E} (a, []) (x, left) e)
-
-pub nothing_left : {A E : Type 0} (a x : A) (left : List ℕ) → ok {E = E} a [] ≡ Ok (x, left) → left ≡ []
-nothing_left {A} {E} a x left e = sym (ap (λ (p : A × List ℕ). p.1) (ok_is {A = A × List ℕ} {E = E} (a, []) (x, left) e))
+-- what is left behind the value that was decoded
+pub nothing_left : {A : Type 0} (a x : A) (left : List ℕ) → ok {A = A} {E = Fault} a [] ≡ ok x left → left ≡ []
+nothing_left {A} a x left e = sym (ap (λ (p : A × List ℕ). p.1) (ok_is a x [] left e))
 
 -- all bytes are taken just where nothing is left
 pub all_taken : (n : ℕ) (bytes : List ℕ) → length bytes ≤ n → drop n bytes ≡ []
@@ -39,10 +36,10 @@ unread faults.Region = inl refl
 unread faults.Limit = inl refl
 unread faults.Measure = inl refl
 
-no_fault : {A : Type 0} (a : A) (f : Fault) → Ok {E = Fault} a ≡ Err f → ⊥
-no_fault a f e = cc
+no_fault : {A : Type 0} (a : A) (l : List ℕ) (f : Fault) → ok {A = A} {E = Fault} a l ≡ Err f → ⊥
+no_fault a l f e = cc
 
 -- bytes that were not decoded encode no value, unless memory was refused
 pub not_decoded : {A X : Type 0} (e : WireError) (view : X → A × List ℕ) (Is : A → Type 0) → ((a : A) → Is a → Decodes view (Err e) (ok a [])) → (decoding_failure e ≡ Memory) ⊎ (((decoding_failure e ≡ Unreadable) ⊎ (decoding_failure e ≡ Truncated)) × ((a : A) → Is a → ⊥))
 not_decoded errors.Memory view Is fails = inl refl
-not_decoded (errors.Fault f) view Is fails = inr (unread f.kind, λ a is. no_fault (a, []) f (fails a is))
+not_decoded (errors.Fault f) view Is fails = inr (unread f.kind, λ a is. no_fault a [] f (fails a is))

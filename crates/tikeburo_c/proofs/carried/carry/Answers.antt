@@ -1,4 +1,4 @@
-use Rattle.std.proofs.Common.{◌≡◌, pos, sym, subst, arith}
+use Rattle.std.proofs.Common.{◌≡◌, pos, take, sym, subst, arith}
 use Rattle.std.proofs.lemmas.Int.{ints}
 use Rattle.std.specs.Prelude.{Option}
 use Rattle.tikeburo_c.proofs.Delivered.{Asked, IsReadyIn, asked, asks_by, done_by, ready_reset, responded, serves_answered, serves_fed, serves_reset, shows_fed}
@@ -31,7 +31,7 @@ returns-clause-serves c serves =
     let given : ask.result ≡ pos 0 = omega (arith, ints) in
     let answered : answer.result ≡ pos 0 = omega (arith, ints) in
     let asks = asked (kept_of reset.new.handle) _ (ask.new.room, ask.new.len) (done_by ask.result _ ask.ensures.read given) in
-    let asks_still = subst (λ (k : Option Kept). Asked (asks_by k) _) (sym ask.ensures.same) asks in
+    let asks_still = subst (λ (k : Option Kept). Asked (asks_by k) (take ask.new.len ask.new.room)) (sym ask.ensures.same) asks in
     let responds = responded _ surface (kept_of ask.new.handle) (kept_of answer.new.handle) (c.args.room.now, 0) (answer.new.room, answer.new.len) still asks_still (done_by answer.result _ answer.ensures answered) in
     serves_fed _ (kept_of answer.new.handle) (kept_of ask.new.handle) (kept_of fed.new.handle) c.args.fault.now fed.new.fault fed.ensures.0 after ready responds fed.ensures.2
 
@@ -50,6 +50,6 @@ returns-clause-shows c serves done =
     let answered : answer.result ≡ pos 0 = omega (arith, ints) in
     let taken : fed.result ≡ pos 0 = omega (arith, ints) in
     let asks = asked (kept_of reset.new.handle) _ (ask.new.room, ask.new.len) (done_by ask.result _ ask.ensures.read given) in
-    let asks_still = subst (λ (k : Option Kept). Asked (asks_by k) _) (sym ask.ensures.same) asks in
+    let asks_still = subst (λ (k : Option Kept). Asked (asks_by k) (take ask.new.len ask.new.room)) (sym ask.ensures.same) asks in
     let responds = responded _ surface (kept_of ask.new.handle) (kept_of answer.new.handle) (c.args.room.now, 0) (answer.new.room, answer.new.len) still asks_still (done_by answer.result _ answer.ensures answered) in
     shows_fed _ (kept_of answer.new.handle) (kept_of ask.new.handle) (kept_of fed.new.handle) c.args.fault.now fed.new.fault after ready responds (done_by fed.result _ fed.ensures taken)

@@ -12,12 +12,12 @@ use Rattle.termwiz_wire.specs.declared.fault.WireError.TheVariants as errors
 use Rattle.tikeburo_c.specs.Outcomes.{decoding_failure, unread_by}
 use Rattle.tikeburo_c.specs.declared.failure.Failure.TheVariants.{Memory, Truncated, Unreadable}
 
-ok_is : {A : Type 0} (a x : A) (l m : List ℕ) → ok {A = A} {E = Fault} a l ≡ ok x m → (a, l) ≡ (x, m)
-ok_is a x l m e = cc
+ok_is : {A : Type 0} (p q : A × List ℕ) → ok {A = A} {E = Fault} p.0 p.1 ≡ ok q.0 q.1 → p ≡ q
+ok_is p q e = cc
 
 -- what is left behind the value that was decoded
 pub nothing_left : {A : Type 0} (a x : A) (left : List ℕ) → ok {A = A} {E = Fault} a [] ≡ ok x left → left ≡ []
-nothing_left {A} a x left e = sym (ap (λ (p : A × List ℕ). p.1) (ok_is a x [] left e))
+nothing_left {A} a x left e = sym (ap (λ (p : A × List ℕ). p.1) (ok_is {A = A} (a, []) (x, left) e))
 
 -- all bytes are taken just where nothing is left
 pub all_taken : (n : ℕ) (bytes : List ℕ) → length bytes ≤ n → drop n bytes ≡ []

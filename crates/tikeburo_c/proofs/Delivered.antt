@@ -119,9 +119,22 @@ RespondsIn _ _ bytes = ⊥
 
 -- an answer to no source is a repaint
 named_response : (s : SourceValue ChosenWidths) (a : Ask) (bytes : List ℕ) → IsResponse columns_by s (named_ask a) bytes → IsResponse columns_by s a bytes
-named_response s a bytes r = elim (cases_Bool (a.source == 0)) as (λ _. IsResponse columns_by s a bytes) [
-  | inr some ↦ subst (λ (b : Ask). IsResponse columns_by s b bytes) (rw some refl) r
-  | inl none ↦ record r { from = inl (elim r.from [ inl e ↦ e | inr both ↦ both.1 ∙ rw none refl ]) }
+named_response s a bytes r = elim (cases_Bool (a.source == 0)) [
+  | inr some ↦ (let same : named_ask a ≡ a = rw some refl in subst (λ (b : Ask). IsResponse columns_by s b bytes) same r)
+  | inl none ↦
+      let zero : (named_ask a).number ≡ 0 = rw none refl in
+      record {
+        given = r.given;
+        encoded = r.encoded;
+        is_sent = r.is_sent;
+        width = r.width;
+        height = r.height;
+        sized = r.sized;
+        number = r.number;
+        from = inl (elim r.from [ inl e ↦ e | inr both ↦ both.1 ∙ zero ]);
+        carries = r.carries;
+        few = r.few;
+      }
 ]
 
 answered_by : (s : SourceValue ChosenWidths) (c : ClientValue ChosenWidths) (t : SourceValue ChosenWidths) (a : Ask) (old_room new_room : Buffer) → a ≡ named_ask (ask_of c) → AnswersAsk a (s, old_room) (Ok tt) (t, new_room) → IsResponse columns_by t (ask_of c) (take new_room.1 new_room.0)

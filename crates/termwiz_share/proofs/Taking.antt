@@ -1,6 +1,13 @@
 -- How a client takes one answer, and one after another.
 use Rattle.std.proofs.Common.{◌≡◌, ℕ, ◌<◌, true, false, List, [], ◌∷◌, ◌++◌, length, drop, Result, Ok, Err, refl, sym, ap, subst, ◌∙◌, arith}
+use Rattle.std.proofs.lemmas.Bool.{true≢false}
 use Rattle.std.proofs.lemmas.List.{length-append}
+use Rattle.std.specs.Result.{is_err}
+use Rattle.termwiz_cell.specs.ChangeValue.{ChangeValue}
+use Rattle.termwiz_surface_core.specs.Adding.{Adds}
+use Rattle.termwiz_surface_core.specs.SurfaceValue.{SurfaceValue, full_of}
+use Rattle.termwiz_surface_core.specs.declared.surface.SurfaceError.{SurfaceError}
+use Rattle.termwiz_surface_core.proofs.Following.{full-made}
 use Rattle.cbor.specs.Encoding.{head}
 use Rattle.termwiz_wire.specs.Sent.{answer}
 use Rattle.termwiz_screen.specs.FullScreen.{FullScreen}
@@ -61,3 +68,8 @@ some_bytes m a = omega arith
 -- so what is left behind it is shorter
 pub left_shorter : (m : List ℕ → ℕ) (a : SentAnswer) (bytes : List ℕ) (n : ℕ) → bytes ≡ answer m a ++ drop n bytes → length (drop n bytes) < length bytes
 left_shorter m a bytes n parts = omega (arith, ap length parts, length-append (answer m a) (drop n bytes), some_bytes m a)
+
+-- a call that succeeded made its changes, and what the surface shows is replayed
+pub made_of : {W : Type 0} (m : List ℕ → ℕ) (s t : SurfaceValue W) (made changes : List ChangeValue) (n : ℕ) (result : Result ℕ SurfaceError) → is_err result ≡ false → made ≡ changes → Adds m s made n result t → (full_of t ≡ played full_screens m (full_of s) changes) × (t.widths ≡ s.widths)
+made_of m s t made changes n (Ok k) e same a = (full-made m s t made a.3 ∙ ap (λ (cs : List ChangeValue). played full_screens m (full_of s) cs) same, a.3.widths)
+made_of m s t made changes n (Err x) e same a = absurd (true≢false e)

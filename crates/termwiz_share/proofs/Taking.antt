@@ -1,7 +1,7 @@
 -- How a client takes one answer, and one after another.
-use Rattle.std.proofs.Common.{◌≡◌, ℕ, ◌<◌, true, false, List, [], ◌∷◌, ◌++◌, length, drop, Result, Ok, Err, refl, sym, ap, subst, ◌∙◌, arith}
+use Rattle.std.proofs.Common.{◌≡◌, ℕ, ◌<◌, true, false, List, [], ◌∷◌, ◌++◌, ◌-◌, length, take, drop, Result, Ok, Err, refl, sym, ap, subst, ◌∙◌, arith}
 use Rattle.std.proofs.lemmas.Bool.{true≢false}
-use Rattle.std.proofs.lemmas.List.{length-append}
+use Rattle.std.proofs.lemmas.List.{length-append, length-drop, take_all}
 use Rattle.std.specs.Result.{is_err}
 use Rattle.termwiz_cell.specs.ChangeValue.{ChangeValue}
 use Rattle.termwiz_surface_core.specs.Adding.{Adds}
@@ -16,9 +16,10 @@ use Rattle.termwiz_surface_core.specs.Answer.{AnswerValue, is_repaint, suits}
 use Rattle.termwiz_wire.specs.Answers.{answer_at}
 use Rattle.termwiz_wire.specs.declared.sent.SentAnswer.{SentAnswer}
 use Rattle.termwiz_share.specs.Client.{ClientValue, SameSettings, Shown, blank_screen, fits, has_other_size, shown_by, taken}
-use Rattle.termwiz_share.specs.Feeding.{Ends, HasTaken, Reads, Steps, TakesAll}
+use Rattle.termwiz_share.specs.Feeding.{HasTaken, Reads, Steps, Takes, TakesAll, read_of}
 use Rattle.termwiz_share.specs.Source.{sent_by}
 use Rattle.termwiz_share.specs.declared.error.ClientError.{ClientError}
+use Rattle.termwiz_share.specs.declared.error.ClientError.TheVariants as errors
 use Rattle.termwiz_share.proofs.Fed.{TakesAll-push}
 
 module _ (m : List ℕ → ℕ) (s : Shown) (source : ℕ) (a : AnswerValue) (p : FullScreen) where
@@ -73,3 +74,14 @@ left_shorter m a bytes n parts = omega (arith, ap length parts, length-append (a
 pub made_of : {W : Type 0} (m : List ℕ → ℕ) (s t : SurfaceValue W) (made changes : List ChangeValue) (n : ℕ) (result : Result ℕ SurfaceError) → is_err result ≡ false → made ≡ changes → Adds m s made n result t → (full_of t ≡ played full_screens m (full_of s) changes) × (t.widths ≡ s.widths)
 made_of m s t made changes n (Ok k) e same a = (full-made m s t made a.3 ∙ ap (λ (cs : List ChangeValue). played full_screens m (full_of s) cs) same, a.3.widths)
 made_of m s t made changes n (Err x) e same a = absurd (true≢false e)
+
+-- all bytes from one on
+pub slice_is : (bytes : List ℕ) (start : ℕ) → take (length bytes - start) (drop start bytes) ≡ drop start bytes
+slice_is bytes start = take_all (length bytes - start) (drop start bytes) (omega (arith, length-drop start bytes))
+
+-- an answer that is not taken stops the client before it
+pub takes_stop : {W : Type 0} (f : W → List ℕ → ℕ) (old : ClientValue W) (a : SentAnswer) (rest : List ℕ) (e : ClientError) (new : ClientValue W) → read_of f old ≡ Ok (a, rest) → Takes f old a (Err e) new → Steps f old (Err e) new
+takes_stop f old a rest (errors.Fault x) new is t = absurd t
+takes_stop f old a rest (errors.Size at) new is t = (a, rest, is, t.0, t.1, t.2)
+takes_stop f old a rest errors.Numbers new is t = (a, rest, is, t.0, t.1)
+takes_stop f old a rest errors.Memory new is t = t

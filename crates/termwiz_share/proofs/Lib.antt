@@ -1,3 +1,4 @@
 pub mod Streams
 pub mod Fed
+pub mod Taking
 pub mod Served

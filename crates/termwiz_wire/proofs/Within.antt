@@ -1,6 +1,7 @@
 -- Decoding within a limit of bytes, from decoding of the bytes that it allows.
 use Rattle.std.proofs.Common.{◌≡◌, ℕ, ◌+◌, ◌-◌, ◌≤◌, List, ◌++◌, length, take, drop, Option, Some, None, Result, Ok, Err, refl, sym, ap, subst, ◌∙◌, append_assoc, arith}
 use Rattle.std.specs.Prelude.{IfSome}
+use Rattle.std.proofs.Math.Seq.{take-append-add, drop-append-add}
 use Rattle.std.proofs.lemmas.List.{length-append, take-append-drop, drop_at}
 use Rattle.cbor.specs.declared.error.FaultKind.{FaultKind}
 use Rattle.cbor.specs.declared.error.ReadError.{ReadError}
@@ -59,3 +60,16 @@ within_err {A = A} view read limit bytes rest room error change same h =
     decodes_none view (fault_of error) error (length (take limit bytes) - length rest) change (within read limit bytes) refl
     (if_some (fault_of error) (λ f. read (limit - length bytes) (take limit bytes) ≡ Err (record { stop = record { fault = f; left = allowed room rest }; change = change })) (λ f. within read limit bytes ≡ Err (record { kind = f; at = length (take limit bytes) - length rest; change = change }))
     (λ f is. ap (located all (drop limit bytes)) is ∙ ap (λ (n : ℕ). fails (record { kind = f; at = n; change = change })) at) h)
+
+-- ---- what is encoded
+
+-- the bytes of an encoding within the limit
+pub within_again : {A : Type 0} (read : ℕ → List ℕ → Result (A × List ℕ) Halt) (limit : ℕ) (bytes encoded rest : List ℕ) (x : A) → length encoded ≤ limit → bytes ≡ encoded ++ rest → ((room : ℕ) (more : List ℕ) → read room (encoded ++ more) ≡ Ok (x, more)) → within read limit bytes ≡ Ok (x, rest)
+within_again {A = A} read limit bytes encoded rest x fits e law =
+    let n : ℕ = limit - length encoded in
+    let sum : length encoded + n ≡ limit = omega (arith, fits) in
+    let hand : take limit bytes ≡ encoded ++ take n rest = ap (take limit) e ∙ ap (λ (k : ℕ). take k (encoded ++ rest)) (sym sum) ∙ take-append-add encoded rest n in
+    let past : drop limit bytes ≡ drop n rest = ap (drop limit) e ∙ ap (λ (k : ℕ). drop k (encoded ++ rest)) (sym sum) ∙ drop-append-add encoded rest n in
+    let is : read (limit - length bytes) (take limit bytes) ≡ Ok (x, take n rest) = ap (read (limit - length bytes)) hand ∙ law (limit - length bytes) (take n rest) in
+    let all : ℕ = allowed (limit - length bytes) (take limit bytes) in
+    ap (located all (drop limit bytes)) is ∙ ap (λ (t : List ℕ). ok {E = Fault} x t) (ap (λ (t : List ℕ). take n rest ++ t) past ∙ take-append-drop n rest)

@@ -1,5 +1,6 @@
 -- Loops over pieces and their runs.
 use Rattle.std.proofs.Common.{◌≡◌, ℕ, zero, suc, ◌-◌, ◌+◌, ◌*◌, ◌≤◌, ◌<◌, Bool, true, false, not, cond, eqb, ◌&&◌, ◌||◌, List, [], ◌∷◌, length, take, drop, Option, Some, None, Result, Ok, Err, refl, sym, ap, ◌∙◌, arith}
+use mathlib.Core.Bool.{beq}
 use Rattle.std.specs.Prelude.{IfSome}
 use Rattle.cbor.specs.declared.error.FaultKind.{FaultKind}
 use Rattle.cbor.specs.declared.error.ReadError.{ReadError}
@@ -18,15 +19,22 @@ pieces_none : (size : ℕ) (cs : List ℕ) → are_pieces zero size cs ≡ true
 unfolding are_pieces
 pieces_none size cs = refl
 
-pub pieces_go_on : (count i size : ℕ) (cs : List ℕ) (total : Bool) → i < count → is_piece (take size cs) (drop size cs) ≡ true → are_pieces (count - i) size cs ≡ total → are_pieces (count - (i + 1)) size (drop size cs) ≡ total
-pieces_go_on count i size cs total lt is so_far =
-    let k : count - i ≡ suc (count - (i + 1)) = omega arith in
-    sym (ap (λ (n : ℕ). are_pieces n size cs) k ∙ pieces_some (count - (i + 1)) size cs ∙ ap (λ (b : Bool). b && are_pieces (count - (i + 1)) size (drop size cs)) is) ∙ so_far
+-- whether the piece at hand is one
+abbrev is_one : (size : ℕ) (cs p rest : List ℕ) (b : Bool) → p ≡ take size cs → rest ≡ drop size cs → b ≡ is_piece p rest → is_piece (take size cs) (drop size cs) ≡ b
+is_one size cs p rest b front back is = sym (is ∙ ap (λ (x : List ℕ). is_piece x rest) front ∙ ap (λ (x : List ℕ). is_piece (take size cs) x) back)
 
-pub pieces_end : (count i size : ℕ) (cs : List ℕ) (total : Bool) → i < count → is_piece (take size cs) (drop size cs) ≡ false → are_pieces (count - i) size cs ≡ total → false ≡ total
-pieces_end count i size cs total lt is so_far =
+pieces_next : (count i size : ℕ) (cs : List ℕ) (b : Bool) → i < count → is_piece (take size cs) (drop size cs) ≡ b → are_pieces (count - i) size cs ≡ (b && are_pieces (count - (i + 1)) size (drop size cs))
+pieces_next count i size cs b lt is =
     let k : count - i ≡ suc (count - (i + 1)) = omega arith in
-    sym (ap (λ (n : ℕ). are_pieces n size cs) k ∙ pieces_some (count - (i + 1)) size cs ∙ ap (λ (b : Bool). b && are_pieces (count - (i + 1)) size (drop size cs)) is) ∙ so_far
+    ap (λ (n : ℕ). are_pieces n size cs) k ∙ pieces_some (count - (i + 1)) size cs ∙ ap (λ (b : Bool). b && are_pieces (count - (i + 1)) size (drop size cs)) is
+
+pub pieces_go_on : (count i size : ℕ) (cs p rest : List ℕ) (b total : Bool) → i < count → p ≡ take size cs → rest ≡ drop size cs → b ≡ is_piece p rest → b ≡ true → are_pieces (count - i) size cs ≡ total → are_pieces (count - (i + 1)) size rest ≡ total
+pieces_go_on count i size cs p rest b total lt front back is one so_far =
+    ap (λ (x : List ℕ). are_pieces (count - (i + 1)) size x) back ∙ (sym (pieces_next count i size cs true lt (is_one size cs p rest b front back is ∙ one)) ∙ so_far)
+
+pub pieces_end : (count i size : ℕ) (cs p rest : List ℕ) (b total : Bool) → i < count → p ≡ take size cs → rest ≡ drop size cs → b ≡ is_piece p rest → b ≡ false → are_pieces (count - i) size cs ≡ total → false ≡ total
+pieces_end count i size cs p rest b total lt front back is none so_far =
+    sym (pieces_next count i size cs false lt (is_one size cs p rest b front back is ∙ none)) ∙ so_far
 
 pub pieces_done : (count i size : ℕ) (cs : List ℕ) (total : Bool) → count ≤ i → are_pieces (count - i) size cs ≡ total → true ≡ total
 pieces_done count i size cs total le so_far =
@@ -34,11 +42,11 @@ pieces_done count i size cs total le so_far =
     sym (ap (λ (n : ℕ). are_pieces n size cs) k ∙ pieces_none size cs) ∙ so_far
 
 -- the next piece is there, and the others behind it
-pub room_for : (count i size len : ℕ) → i < count → (count - i) * size ≤ len → (size ≤ len) × ((count - (i + 1)) * size ≤ len - size)
+pub room_for : (count i size len : ℕ) → i < count → (count - i) * size ≤ len → (size ≤ len) × ((rest : ℕ) → rest + size ≡ len → (count - (i + 1)) * size ≤ rest)
 room_for count i size len lt within =
     let k : count - i ≡ suc (count - (i + 1)) = omega arith in
     let e : (count - i) * size ≡ suc (count - (i + 1)) * size = ap (λ (n : ℕ). n * size) k in
-    (omega (arith, e), omega (arith, e))
+    (omega (arith, e), λ rest split. omega (arith, e))
 
 columns_some : (wide : Bool) (n size : ℕ) (cs : List ℕ) → have_columns wide (suc n) size cs ≡ ((cond wide (not (is_break (take size cs))) (is_break (take size cs))) && have_columns wide n size (drop size cs))
 unfolding have_columns
@@ -48,10 +56,29 @@ columns_none : (wide : Bool) (size : ℕ) (cs : List ℕ) → have_columns wide 
 unfolding have_columns
 columns_none wide size cs = refl
 
-pub columns_step : (wide : Bool) (count i size : ℕ) (cs : List ℕ) (total : Bool) → i < count → have_columns wide (count - i) size cs ≡ total → ((cond wide (not (is_break (take size cs))) (is_break (take size cs))) && have_columns wide (count - (i + 1)) size (drop size cs)) ≡ total
-columns_step wide count i size cs total lt so_far =
+-- whether the piece at hand has columns, or is a line break
+abbrev fits : Bool → Bool → Bool
+fits wide b = cond wide (not b) b
+
+fits-is : (wide b f : Bool) → beq b wide ≡ f → fits wide b ≡ not f
+fits-is true true f e = ap not e
+fits-is true false f e = ap not e
+fits-is false true f e = ap not e
+fits-is false false f e = ap not e
+
+columns_next : (wide : Bool) (count i size : ℕ) (cs p : List ℕ) (b f : Bool) → i < count → p ≡ take size cs → b ≡ is_break p → fits wide b ≡ f → have_columns wide (count - i) size cs ≡ (f && have_columns wide (count - (i + 1)) size (drop size cs))
+columns_next wide count i size cs p b f lt front is e =
     let k : count - i ≡ suc (count - (i + 1)) = omega arith in
-    sym (ap (λ (n : ℕ). have_columns wide n size cs) k ∙ columns_some wide (count - (i + 1)) size cs) ∙ so_far
+    let whole : fits wide (is_break (take size cs)) ≡ f = ap (λ (x : List ℕ). fits wide (is_break x)) (sym front) ∙ ap (λ (b : Bool). fits wide b) (sym is) ∙ e in
+    ap (λ (n : ℕ). have_columns wide n size cs) k ∙ columns_some wide (count - (i + 1)) size cs ∙ ap (λ (b : Bool). b && have_columns wide (count - (i + 1)) size (drop size cs)) whole
+
+pub columns_go_on : (wide : Bool) (count i size : ℕ) (cs p rest : List ℕ) (b total : Bool) → i < count → p ≡ take size cs → rest ≡ drop size cs → b ≡ is_break p → beq b wide ≡ false → have_columns wide (count - i) size cs ≡ total → have_columns wide (count - (i + 1)) size rest ≡ total
+columns_go_on wide count i size cs p rest b total lt front back is ne so_far =
+    ap (λ (x : List ℕ). have_columns wide (count - (i + 1)) size x) back ∙ (sym (columns_next wide count i size cs p b true lt front is (fits-is wide b false ne)) ∙ so_far)
+
+pub columns_end : (wide : Bool) (count i size : ℕ) (cs p : List ℕ) (b total : Bool) → i < count → p ≡ take size cs → b ≡ is_break p → beq b wide ≡ true → have_columns wide (count - i) size cs ≡ total → false ≡ total
+columns_end wide count i size cs p b total lt front is e so_far =
+    sym (columns_next wide count i size cs p b false lt front is (fits-is wide b true e)) ∙ so_far
 
 pub columns_done : (wide : Bool) (count i size : ℕ) (cs : List ℕ) (total : Bool) → count ≤ i → have_columns wide (count - i) size cs ≡ total → true ≡ total
 columns_done wide count i size cs total le so_far =

@@ -144,11 +144,19 @@ fn all_runs(
     let mut left = characters;
     for _ in 0..count {
         let run = run_of(reader, last, left)?;
-        left = &left[run.count * run.characters..];
-        needed = needed || run.stands_out();
+        left = behind(run, left);
+        needed |= run.stands_out();
         last = run;
     }
     Ok(needed && left.is_empty())
+}
+
+// The characters behind a run.
+fn behind(run: Run, left: &[char]) -> &[char]
+    requires { run.count * run.characters ≤ length left.now }
+    ensures { result.now ≡ drop (run.count * run.characters) left.now }
+{
+    &left[run.count * run.characters..]
 }
 
 // A run of the characters that are left, behind the last one.

@@ -5,7 +5,7 @@ use Rattle.std.specs.Prelude.{IfSome}
 use Rattle.cbor.specs.declared.error.FaultKind.{FaultKind}
 use Rattle.cbor.specs.declared.error.ReadError.{ReadError}
 use Rattle.cbor.specs.Decoding.{◌>>=◌, Stop, Stops, ok, fault_of}
-use Rattle.termwiz_wire.specs.Cuts.{is_piece, are_pieces, is_break, have_columns, run_at, runs_at}
+use Rattle.termwiz_wire.specs.Cuts.{is_piece, are_pieces, is_break, have_columns, are_at, is_run_at, run_at, runs_at}
 use Rattle.termwiz_wire.specs.Pieces.{stands_out}
 use Rattle.termwiz_wire.specs.declared.pieces.Run.{Run}
 
@@ -84,6 +84,42 @@ pub columns_done : (wide : Bool) (count i size : ℕ) (cs : List ℕ) (total : B
 columns_done wide count i size cs total le so_far =
     let k : count - i ≡ 0 = omega arith in
     sym (ap (λ (n : ℕ). have_columns wide n size cs) k ∙ columns_none wide size cs) ∙ so_far
+
+-- ---- the same runs
+
+are_none : (room : ℕ) (bytes : List ℕ) → are_at room [] bytes ≡ Ok (true, bytes)
+unfolding are_at
+are_none room bytes = refl
+
+abbrev after_same : ℕ → List Run → Bool × List ℕ → Result (Bool × List ℕ) Stop
+after_same room rs is = cond is.0 (are_at room rs is.1) (ok false is.1)
+
+are_some : (room : ℕ) (r : Run) (rs : List Run) (bytes : List ℕ) → are_at room (r ∷ rs) bytes ≡ (is_run_at room r bytes >>= after_same room rs)
+unfolding are_at
+are_some room r rs bytes = refl
+
+are_next : (room : ℕ) (left rs : List Run) (r : Run) (bytes : List ℕ) (read : Result (Bool × List ℕ) Stop) → left ≡ r ∷ rs → is_run_at room r bytes ≡ read → are_at room left bytes ≡ (read >>= after_same room rs)
+are_next room left rs r bytes read e is =
+    ap (λ (x : List Run). are_at room x bytes) e ∙ are_some room r rs bytes ∙ ap (λ (x : Result (Bool × List ℕ) Stop). x >>= after_same room rs) is
+
+pub are_go_on : (room : ℕ) (left rs : List Run) (r : Run) (bytes after : List ℕ) (b : Bool) (total : Result (Bool × List ℕ) Stop) → left ≡ r ∷ rs → b ≡ true → is_run_at room r bytes ≡ Ok (b, after) → are_at room left bytes ≡ total → are_at room rs after ≡ total
+are_go_on room left rs r bytes after b total e same is so_far =
+    sym (are_next room left rs r bytes (Ok (true, after)) e (is ∙ ap (λ (b : Bool). Ok (b, after)) same)) ∙ so_far
+
+pub are_differ : (room : ℕ) (left rs : List Run) (r : Run) (bytes after : List ℕ) (b : Bool) (total : Result (Bool × List ℕ) Stop) → left ≡ r ∷ rs → b ≡ false → is_run_at room r bytes ≡ Ok (b, after) → are_at room left bytes ≡ total → total ≡ Ok (false, after)
+are_differ room left rs r bytes after b total e other is so_far =
+    sym so_far ∙ are_next room left rs r bytes (Ok (false, after)) e (is ∙ ap (λ (b : Bool). Ok (b, after)) other)
+
+are_stop_with : (f : Option FaultKind) (place room : ℕ) (left rs : List Run) (r : Run) (bytes : List ℕ) (total : Result (Bool × List ℕ) Stop) → left ≡ r ∷ rs → IfSome f (λ f. is_run_at room r bytes ≡ Err (record { fault = f; left = place })) → are_at room left bytes ≡ total → IfSome f (λ f. total ≡ Err (record { fault = f; left = place }))
+are_stop_with None place room left rs r bytes total e is so_far = tt
+are_stop_with (Some f) place room left rs r bytes total e is so_far =
+    sym so_far ∙ are_next room left rs r bytes (Err (record { fault = f; left = place })) e is
+
+pub are_stop : (place room : ℕ) (e : ReadError) (left rs : List Run) (r : Run) (bytes : List ℕ) (total : Result (Bool × List ℕ) Stop) → left ≡ r ∷ rs → Stops place e (is_run_at room r bytes) → are_at room left bytes ≡ total → Stops place e total
+are_stop place room e = are_stop_with (fault_of e) place room
+
+pub are_done : (room : ℕ) (left : List Run) (bytes : List ℕ) (total : Result (Bool × List ℕ) Stop) → left ≡ [] → are_at room left bytes ≡ total → total ≡ Ok (true, bytes)
+are_done room left bytes total e so_far = sym so_far ∙ ap (λ (x : List Run). are_at room x bytes) e ∙ are_none room bytes
 
 -- ---- runs
 

@@ -1,12 +1,14 @@
 -- Loops over pieces and their runs.
-use Rattle.std.proofs.Common.{◌≡◌, ℕ, zero, suc, ◌-◌, ◌+◌, ◌*◌, ◌≤◌, ◌<◌, Bool, true, false, not, cond, eqb, ◌&&◌, ◌||◌, List, [], ◌∷◌, length, take, drop, Option, Some, None, Result, Ok, Err, refl, sym, ap, ◌∙◌, arith}
+use Rattle.std.proofs.Common.{◌≡◌, ℕ, zero, suc, ◌-◌, ◌+◌, ◌*◌, ◌/◌, ◌≤◌, ◌<◌, Bool, true, false, not, cond, eqb, ◌&&◌, ◌||◌, List, [], ◌∷◌, length, take, drop, Option, Some, None, Result, Ok, Err, refl, sym, ap, ◌∙◌, arith}
 use mathlib.Core.Bool.{beq}
 use Rattle.std.specs.Prelude.{IfSome}
+use Rattle.std.specs.Str.{chars}
 use Rattle.cbor.specs.declared.error.FaultKind.{FaultKind}
+use Rattle.cbor.specs.declared.error.FaultKind.TheVariants.{Range}
 use Rattle.cbor.specs.declared.error.ReadError.{ReadError}
-use Rattle.cbor.specs.Decoding.{◌>>=◌, Stop, Stops, ok, fault_of}
-use Rattle.termwiz_wire.specs.Cuts.{is_piece, are_pieces, is_break, have_columns, are_at, is_run_at, run_at, runs_at}
-use Rattle.termwiz_wire.specs.Pieces.{stands_out}
+use Rattle.cbor.specs.Decoding.{◌>>=◌, Stop, Stops, ok, allowed, fault_of}
+use Rattle.termwiz_wire.specs.Cuts.{is_piece, are_pieces, is_break, have_columns, are_at, is_run_at, no_run, run_at, runs_at, threes_at, cut_at, others_at, pieces_at, pieces_by, refused}
+use Rattle.termwiz_wire.specs.Pieces.{stands_out, needs_pieces}
 use Rattle.termwiz_wire.specs.declared.pieces.Run.{Run}
 
 -- ---- pieces
@@ -154,3 +156,40 @@ pub runs_done : (room : ℕ) (last : Run) (needed : Bool) (cs : List ℕ) (count
 runs_done room last needed cs count i bytes total le so_far =
     let k : count - i ≡ 0 = omega arith in
     sym so_far ∙ ap (λ (n : ℕ). runs_at room last needed cs n bytes) k ∙ runs_none room last needed cs bytes
+
+-- ---- the rules of a text's pieces
+
+abbrev whole : ℕ → List ℕ → Bool × List ℕ → Result (List ℕ) Stop
+whole room bytes all = cond all.0 (Ok all.1) (refused Range room bytes)
+
+cut_threes : (room : ℕ) (text bytes : List ℕ) → cut_at room text bytes ≡ (threes_at room bytes >>= λ n. runs_at room no_run false (chars text) (n.0 / 3) n.1 >>= whole room bytes)
+unfolding cut_at
+cut_threes room text bytes = refl
+
+cut_is : (room later : ℕ) (text bytes cs : List ℕ) (count : ℕ) (after : List ℕ) (read : Result (Bool × List ℕ) Stop) → later ≡ room → cs ≡ chars text → threes_at room bytes ≡ Ok (count, after) → runs_at later no_run false cs (count / 3) after ≡ read → cut_at room text bytes ≡ (read >>= whole room bytes)
+cut_is room later text bytes cs count after read same are threes is =
+    cut_threes room text bytes
+    ∙ ap (λ (r : Result (ℕ × List ℕ) Stop). r >>= λ n. runs_at room no_run false (chars text) (n.0 / 3) n.1 >>= whole room bytes) threes
+    ∙ ap (λ (k : ℕ). runs_at k no_run false (chars text) (count / 3) after >>= whole room bytes) (sym same)
+    ∙ ap (λ (x : List ℕ). runs_at later no_run false x (count / 3) after >>= whole room bytes) (sym are)
+    ∙ ap (λ (r : Result (Bool × List ℕ) Stop). r >>= whole room bytes) is
+
+pub cut_all : (room later : ℕ) (text bytes cs : List ℕ) (count : ℕ) (after : List ℕ) (b : Bool) (rest : List ℕ) → later ≡ room → cs ≡ chars text → threes_at room bytes ≡ Ok (count, after) → runs_at later no_run false cs (count / 3) after ≡ Ok (b, rest) → b ≡ true → cut_at room text bytes ≡ Ok rest
+cut_all room later text bytes cs count after b rest same are threes is all =
+    cut_is room later text bytes cs count after (Ok (true, rest)) same are threes (is ∙ ap (λ (b : Bool). Ok (b, rest)) all)
+
+pub cut_not : (room later : ℕ) (text bytes cs : List ℕ) (count : ℕ) (after : List ℕ) (b : Bool) (rest : List ℕ) → later ≡ room → cs ≡ chars text → threes_at room bytes ≡ Ok (count, after) → runs_at later no_run false cs (count / 3) after ≡ Ok (b, rest) → b ≡ false → cut_at room text bytes ≡ Err (record { fault = Range; left = allowed room bytes })
+cut_not room later text bytes cs count after b rest same are threes is all =
+    cut_is room later text bytes cs count after (Ok (false, rest)) same are threes (is ∙ ap (λ (b : Bool). Ok (b, rest)) all)
+
+cut_stop_with : (f : Option FaultKind) (left room later : ℕ) (text bytes cs : List ℕ) (count : ℕ) (after : List ℕ) → later ≡ room → cs ≡ chars text → threes_at room bytes ≡ Ok (count, after) → IfSome f (λ f. runs_at later no_run false cs (count / 3) after ≡ Err (record { fault = f; left = left })) → IfSome f (λ f. cut_at room text bytes ≡ Err (record { fault = f; left = left }))
+cut_stop_with None left room later text bytes cs count after same are threes is = tt
+cut_stop_with (Some f) left room later text bytes cs count after same are threes is =
+    cut_is room later text bytes cs count after (Err (record { fault = f; left = left })) same are threes is
+
+pub cut_stop : (left : ℕ) (e : ReadError) (room later : ℕ) (text bytes cs : List ℕ) (count : ℕ) (after : List ℕ) → later ≡ room → cs ≡ chars text → threes_at room bytes ≡ Ok (count, after) → Stops left e (runs_at later no_run false cs (count / 3) after) → Stops left e (cut_at room text bytes)
+cut_stop left e = cut_stop_with (fault_of e) left
+
+pub pieces_unneeded : (room place count : ℕ) (text : List ℕ) (rs : List Run) (bytes : List ℕ) → count ≡ 3 → needs_pieces rs ≡ false → pieces_by room place count text rs bytes ≡ others_at room place text bytes
+unfolding pieces_by pieces_at
+pieces_unneeded room place count text rs bytes three none = rw (three, none) refl

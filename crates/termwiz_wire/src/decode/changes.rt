@@ -275,7 +275,7 @@ fn printed_of<W: Widths>(
 }
 
 // The pieces of a text, if they come as a third item. The text has its own fault where it begins.
-#[tactic(auto, unfolding(crate::specs::Cuts::pieces_by, crate::specs::Cuts::pieces_at))]
+#[tactic(auto, unfolding(crate::specs::Cuts::pieces_by))]
 fn pieces_of<'a, W: Widths>(
     alloc: Global,
     widths: &W,

@@ -41,11 +41,7 @@ pub(super) fn are_same<W: Widths>(
     are_runs(reader, widths, text)
 }
 
-fn are_runs<W: Widths>(
-    reader: &mut Reader<'_>,
-    widths: &W,
-    text: &str,
-) -> Result<bool, ReadError>
+fn are_runs<W: Widths>(reader: &mut Reader<'_>, widths: &W, text: &str) -> Result<bool, ReadError>
     ensures value { Gives (allowed reader.new.room reader.new.bytes.now)
         (λ x. (x, reader.new.bytes.now)) result
         (are_at reader.old.room (runs (measure W.width_of widths.now) text.now)
@@ -133,11 +129,7 @@ fn threes_of(reader: &mut Reader<'_>) -> Result<usize, ReadError>
 }
 
 // So many runs, of these characters: whether they end with them, and one is a reason to send them.
-fn all_runs(
-    reader: &mut Reader<'_>,
-    characters: &[char],
-    count: usize,
-) -> Result<bool, ReadError>
+fn all_runs(reader: &mut Reader<'_>, characters: &[char], count: usize) -> Result<bool, ReadError>
     ensures value { Gives (allowed reader.new.room reader.new.bytes.now)
         (λ x. (x, reader.new.bytes.now)) result
         (runs_at reader.old.room no_run false characters.now count reader.old.bytes.now) }
@@ -202,11 +194,7 @@ fn count_of(reader: &mut Reader<'_>, left: &[char]) -> Result<usize, ReadError>
     }
 }
 
-fn characters_of(
-    reader: &mut Reader<'_>,
-    left: &[char],
-    count: usize,
-) -> Result<usize, ReadError>
+fn characters_of(reader: &mut Reader<'_>, left: &[char], count: usize) -> Result<usize, ReadError>
     ensures value { Gives (allowed reader.new.room reader.new.bytes.now)
         (λ x. (x, reader.new.bytes.now)) result
         (kept_at reader.old.room (are_characters left.now count) reader.old.bytes.now) }

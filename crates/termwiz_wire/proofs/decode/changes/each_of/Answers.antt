@@ -1,4 +1,4 @@
-use Rattle.std.proofs.Common.{◌≡◌, ◌++◌, ◌+◌, ◌∷◌, [], length, map, ℕ, List, subst, ap, ◌∙◌, arith, Ok}
+use Rattle.std.proofs.Common.{◌≡◌, ◌++◌, ◌+◌, ◌∷◌, [], length, map, ℕ, List, subst, ap, ◌∙◌, Ok}
 use Rattle.std.proofs.lemmas.List.{map-append, length-append}
 use Rattle.cbor.specs.Decoding.{Stops, allowed}
 use Rattle.termwiz_cell.specs.ChangeValue.{ChangeValue, change_value}

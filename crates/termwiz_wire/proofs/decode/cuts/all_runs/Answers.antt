@@ -1,4 +1,4 @@
-use Rattle.std.proofs.Common.{◌≡◌, ◌&&◌, Bool, eqb, false, List, ℕ, length, subst, sym, ap, ◌∙◌, Ok}
+use Rattle.std.proofs.Common.{◌≡◌, ◌&&◌, Bool, eqb, false, ℕ, length, subst, sym, ap, ◌∙◌, Ok}
 use Rattle.std.proofs.lemmas.Result.{err_from_is_err_and}
 use Rattle.cbor.specs.Decoding.{Stops, allowed}
 use Rattle.termwiz_wire.specs.Cuts.{no_run, run_at, runs_at}

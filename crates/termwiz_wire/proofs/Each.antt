@@ -1,5 +1,5 @@
 -- Changes behind one another, as they are encoded and decoded.
-use Rattle.std.proofs.Common.{◌≡◌, ℕ, zero, suc, ◌+◌, ◌^◌, ◌<◌, ◌≤◌, List, [], ◌∷◌, ◌++◌, length, Option, Some, None, Result, Ok, Err, refl, sym, ap, subst, ◌∙◌, append_assoc, arith}
+use Rattle.std.proofs.Common.{◌≡◌, ℕ, zero, suc, ◌^◌, ◌<◌, ◌≤◌, List, [], ◌∷◌, ◌++◌, length, Option, Some, None, Result, Ok, Err, refl, sym, ap, subst, ◌∙◌, append_assoc, arith}
 use Rattle.std.specs.List.{flat_map, AllByRecursion}
 use Rattle.std.proofs.lemmas.List.{append-nil, length-append}
 use Rattle.std.proofs.lemmas.List.Concat.{flat_map-cons}
@@ -7,7 +7,7 @@ use Rattle.cbor.specs.Encoding.{array}
 use Rattle.std.specs.Prelude.{IfSome}
 use Rattle.cbor.specs.declared.error.FaultKind.{FaultKind}
 use Rattle.cbor.specs.declared.error.ReadError.{ReadError}
-use Rattle.cbor.specs.Decoding.{◌>>=◌, Stop, Stops, ok, allowed, fault_of, IsBytes, list_at}
+use Rattle.cbor.specs.Decoding.{Stop, Stops, allowed, fault_of, IsBytes, list_at}
 use Rattle.cbor.proofs.Items.{list_again, list_takes}
 use Rattle.cbor.proofs.Steps.{Takes, Takes-then, bind_ok, ok_is}
 use Rattle.termwiz_cell.specs.ChangeValue.{ChangeValue}

@@ -5,11 +5,10 @@ use Rattle.std.proofs.Math.Seq.{take-append-add, drop-append-add}
 use Rattle.std.proofs.lemmas.List.{length-append, length-take, take-append-drop, drop_at}
 use Rattle.cbor.specs.declared.error.FaultKind.{FaultKind}
 use Rattle.cbor.specs.declared.error.ReadError.{ReadError}
-use Rattle.cbor.specs.Decoding.{Stop, ok, allowed, fault_of}
-use Rattle.termwiz_wire.specs.Answers.{Halt, Decodes, error_of, fault_at, located, within}
+use Rattle.cbor.specs.Decoding.{ok, allowed, fault_of}
+use Rattle.termwiz_wire.specs.Answers.{Halt, Decodes, error_of, located, within}
 use Rattle.termwiz_wire.specs.declared.fault.Fault.{Fault}
 use Rattle.termwiz_wire.specs.declared.fault.WireError.{WireError}
-use Rattle.termwiz_wire.specs.declared.fault.WireError.TheVariants as errors
 
 -- what was taken of bytes that were cut at the limit
 pub record IsTaken (limit : ℕ) (bytes encoded rest : List ℕ) (taken : ℕ) : Type 0 where

@@ -1,9 +1,6 @@
-use Rattle.std.proofs.Common.{◌≡◌, ℕ, ◌+◌, ◌-◌, ◌*◌, ◌<◌, ◌≤◌, ◌^◌, List, ◌++◌, length, map, take, drop, None, Result, Ok, Err, refl, sym, ap, subst, ◌∙◌, arith, rules}
-use Rattle.std.proofs.lemmas.List.{length-append, length-drop}
-use Rattle.std.specs.Prelude.{Vec}
-use Rattle.std.specs.declared.alloc.Global.{Global}
+use Rattle.std.proofs.Common.{◌≡◌, ℕ, ◌-◌, ◌*◌, ◌≤◌, List, ◌++◌, length, take, drop, Result, Ok, Err, sym, subst, ◌∙◌, arith}
+use Rattle.std.proofs.lemmas.List.{length-drop}
 use Rattle.cbor.specs.Decoding.{IsBytes}
-use Rattle.termwiz_cell.specs.ChangeValue.{ChangeValue, change_value}
 use Rattle.termwiz_cell.specs.Measure.{measure}
 use Rattle.termwiz_wire.specs.declared.fault.Fault.{Fault}
 use Rattle.termwiz_wire.proofs.Within.{Took, took, stopped_at, within_again, lens_of}
@@ -12,7 +9,7 @@ use Rattle.termwiz_wire.specs.Sent.{IsSent, answer}
 use Rattle.termwiz_wire.specs.declared.fault.Limits.{Limits}
 use Rattle.termwiz_wire.specs.declared.sent.SentAnswer.{SentAnswer}
 use Rattle.termwiz_wire.proofs.AnswersAgain.{answer_again}
-use Rattle.termwiz_wire.proofs.AnswersFound.{AnswerFound, answer_takes, answer-some}
+use Rattle.termwiz_wire.proofs.AnswersFound.{answer_takes, answer-some}
 use Rattle.termwiz_wire.proofs.decode.answers.decode_answer.Goals as goal
 
 abbrev reading : (List ℕ → ℕ) → ℕ → ℕ → List ℕ → Result (SentAnswer × List ℕ) Halt

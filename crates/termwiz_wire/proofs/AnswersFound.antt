@@ -1,11 +1,10 @@
 -- An answer or an ask that is decoded was encoded so.
-use Rattle.std.proofs.Common.{◌≡◌, ℕ, ◌+◌, ◌*◌, ◌≤◌, ◌<◌, ◌^◌, Bool, true, false, cond, eqb, ltb, ◌&&◌, not, List, [], ◌++◌, length, Option, Some, None, Result, Ok, Err, refl, sym, ap, subst, ◌∙◌, append_assoc, arith}
-use Rattle.std.specs.List.{AllByRecursion}
+use Rattle.std.proofs.Common.{◌≡◌, ℕ, ◌+◌, ◌*◌, ◌≤◌, ◌<◌, ◌^◌, true, cond, eqb, ltb, ◌&&◌, not, List, [], ◌++◌, length, Some, None, Result, Ok, refl, ap, subst, ◌∙◌, arith}
 use Rattle.std.proofs.lemmas.Bool.{eqb-true, ltb-false}
 use Rattle.std.proofs.lemmas.List.{length-append}
 use Rattle.cbor.specs.declared.error.FaultKind.TheVariants as faults
 use Rattle.cbor.specs.Encoding.{unsigned, array}
-use Rattle.cbor.specs.Decoding.{◌>>=◌, Stop, ok, allowed, IsBytes, unsigned_at, below_at, array_at, list_at}
+use Rattle.cbor.specs.Decoding.{◌>>=◌, Stop, ok, IsBytes, unsigned_at, below_at, array_at, list_at}
 use Rattle.cbor.proofs.Items.{unsigned_takes, array_takes, list_takes}
 use Rattle.cbor.proofs.Steps.{Takes, Takes-then, bind_ok, guard_ok, guard_past, guard_ended, ok_is}
 use Rattle.termwiz_cell.specs.ChangeValue.{ChangeValue}
@@ -19,8 +18,8 @@ use Rattle.termwiz_wire.specs.declared.sent.Ask.{Ask}
 use Rattle.termwiz_wire.specs.declared.decode.heads.Head.{Head}
 use Rattle.termwiz_wire.proofs.Bounded.{changes-some}
 use Rattle.termwiz_wire.proofs.Each.{halted_ok, listed_takes}
-use Rattle.termwiz_wire.proofs.Rows.{FitsRows, regions_of}
-use Rattle.termwiz_wire.proofs.Steps.{stopped, number_takes, kept_takes, let_takes}
+use Rattle.termwiz_wire.proofs.Rows.{regions_of}
+use Rattle.termwiz_wire.proofs.Steps.{stopped, number_takes, let_takes}
 
 version_takes : (room : ℕ) (bytes rest : List ℕ) → IsBytes bytes → version_at room bytes ≡ Ok rest → Takes bytes (unsigned 2) rest
 unfolding version_at

@@ -1,10 +1,13 @@
 -- Changes behind one another, as they are encoded and decoded.
-use Rattle.std.proofs.Common.{◌≡◌, ℕ, zero, suc, ◌+◌, ◌^◌, ◌<◌, ◌≤◌, List, [], ◌∷◌, ◌++◌, length, Option, Some, None, Result, Ok, Err, refl, sym, ap, subst, ◌∙◌, append_assoc, arith}
+use Rattle.std.proofs.Common.{◌≡◌, ℕ, zero, suc, ◌^◌, ◌<◌, ◌≤◌, List, [], ◌∷◌, ◌++◌, length, Option, Some, None, Result, Ok, Err, refl, sym, ap, subst, ◌∙◌, append_assoc, arith}
 use Rattle.std.specs.List.{flat_map, AllByRecursion}
 use Rattle.std.proofs.lemmas.List.{append-nil, length-append}
 use Rattle.std.proofs.lemmas.List.Concat.{flat_map-cons}
 use Rattle.cbor.specs.Encoding.{array}
-use Rattle.cbor.specs.Decoding.{◌>>=◌, Stop, ok, allowed, IsBytes, list_at}
+use Rattle.std.specs.Prelude.{IfSome}
+use Rattle.cbor.specs.declared.error.FaultKind.{FaultKind}
+use Rattle.cbor.specs.declared.error.ReadError.{ReadError}
+use Rattle.cbor.specs.Decoding.{Stop, Stops, allowed, fault_of, IsBytes, list_at}
 use Rattle.cbor.proofs.Items.{list_again, list_takes}
 use Rattle.cbor.proofs.Steps.{Takes, Takes-then, bind_ok, ok_is}
 use Rattle.termwiz_cell.specs.ChangeValue.{ChangeValue}
@@ -24,6 +27,21 @@ done y = Ok y
 pub halted_ok : {Y : Type 0} (k : Option ℕ) (r : Result Y Stop) (y : Y) → halted k r ≡ Ok y → r ≡ Ok y
 halted_ok {Y = Y} k (Ok x) y e = ap (λ (z : Y). done z) (ok_is {A = Y} {E = Halt} x y e)
 halted_ok k (Err s) y e = absurd cc
+
+-- what was decoded, and does not halt
+pub halted_is : {Y : Type 0} (k : Option ℕ) (r : Result Y Stop) (y : Y) → r ≡ Ok y → halted k r ≡ Ok y
+halted_is k r y e = ap (halted k) e
+
+abbrev Stopped : {Y : Type 0} → ℕ → Option ℕ → Option FaultKind → Result Y Halt → Type 0
+Stopped left k o r = IfSome o (λ f. r ≡ Err (record { stop = record { fault = f; left = left }; change = k }))
+
+stopped_if : {Y : Type 0} (k : Option ℕ) (left : ℕ) (o : Option FaultKind) (r : Result Y Stop) → IfSome o (λ f. r ≡ Err (record { fault = f; left = left })) → Stopped left k o (halted k r)
+stopped_if k left None r e = tt
+stopped_if k left (Some f) r e = ap (halted k) e
+
+-- a stop is a halt
+pub halted_stops : {Y : Type 0} (k : Option ℕ) (left : ℕ) (error : ReadError) (r : Result Y Stop) → Stops left error r → Stopped left k (fault_of error) (halted k r)
+halted_stops k left error r e = stopped_if k left (fault_of error) r e
 
 pub each_again : (measure : List ℕ → ℕ) (room : ℕ) (rows : Option ℕ) (made cs : List ChangeValue) (rest : List ℕ) → AllByRecursion (IsChange measure) cs → AllByRecursion (FitsRows rows) cs → each_at measure room rows made (length cs) (flat_map (change measure) cs ++ rest) ≡ Ok (made ++ cs, rest)
 unfolding each_at

@@ -1,10 +1,10 @@
 -- A number whose bit fields have the numbers of attributes is the number of those.
-use Rattle.std.proofs.Common.{◌≡◌, ℕ, zero, suc, ◌+◌, ◌*◌, ◌/◌, ◌%◌, ◌<◌, true, cond, ltb, ◌&&◌, List, [], ◌∷◌, Ok, Err, refl, ap, subst, ◌∙◌, arith}
+use Rattle.std.proofs.Common.{◌≡◌, ℕ, zero, suc, ◌+◌, ◌*◌, ◌/◌, ◌%◌, ◌<◌, true, cond, ltb, ◌&&◌, List, [], ◌∷◌, Ok, refl, ap, subst, ◌∙◌, arith}
 use Rattle.std.specs.Prelude.{slice_index}
 use Rattle.std.proofs.lemmas.Bool.{ltb-true}
 use Rattle.std.proofs.Math.Nat.{mod-add-div, lt_of_mul-lt-mul_left}
 use Rattle.cbor.specs.declared.error.FaultKind.TheVariants.{Range}
-use Rattle.cbor.specs.Decoding.{Stop, IsBytes, allowed, below_at}
+use Rattle.cbor.specs.Decoding.{IsBytes, below_at}
 use Rattle.cbor.specs.Encoding.{unsigned}
 use Rattle.cbor.proofs.Steps.{Takes, bind_ok, guard_ended}
 use Rattle.termwiz_cell.specs.Attributes.{bits_of}

@@ -1,8 +1,7 @@
 -- How answers and asks are decoded.
-use Rattle.std.specs.Prelude.{◌≡◌, ℕ, zero, suc, ◌+◌, ◌-◌, ◌*◌, ◌^◌, ◌==◌, ◌&&◌, nat_lt, not, List, [], ◌∷◌, ◌++◌, length, take, drop, Option, Some, None, IfSome, Result, Ok, Err, if◌then◌else◌}
+use Rattle.std.specs.Prelude.{◌≡◌, ℕ, zero, suc, ◌-◌, ◌*◌, ◌^◌, ◌==◌, ◌&&◌, nat_lt, not, List, [], ◌∷◌, ◌++◌, length, take, drop, Option, Some, None, IfSome, Result, Ok, Err, if◌then◌else◌}
 use Rattle.std.specs.Option.{option_map_or}
 use Rattle.cbor.specs.Decoding.{◌>>=◌, Stop, ok, allowed, fault_of, unsigned_at, below_at, array_at, list_at}
-use Rattle.cbor.specs.declared.error.FaultKind.{FaultKind}
 use Rattle.cbor.specs.declared.error.ReadError.{ReadError}
 use Rattle.cbor.specs.declared.error.FaultKind.TheVariants as faults
 use Rattle.termwiz_cell.specs.ChangeValue.{ChangeValue}

@@ -1,10 +1,10 @@
 -- How the pieces of a text are decoded: they are those that the text has here. Where they differ, the first rule that they break is the fault, and else that they are measured otherwise.
-use Rattle.std.specs.Prelude.{ℕ, zero, suc, ◌+◌, ◌*◌, Bool, true, false, not, ◌&&◌, ◌||◌, ◌==◌, nat_lt, ◌%◌, ◌/◌, List, [], ◌∷◌, ◌++◌, length, take, drop, Result, Ok, Err, if◌then◌else◌}
+use Rattle.std.specs.Prelude.{ℕ, zero, suc, ◌*◌, Bool, true, false, not, ◌&&◌, ◌||◌, ◌==◌, nat_lt, ◌%◌, ◌/◌, List, [], ◌∷◌, length, take, drop, Result, Ok, Err, if◌then◌else◌}
 use Rattle.std.specs.List.{list_any}
 use Rattle.std.specs.Str.{chars, bytes_eq}
 use Rattle.cbor.specs.declared.error.FaultKind.{FaultKind}
 use Rattle.cbor.specs.declared.error.FaultKind.TheVariants as faults
-use Rattle.cbor.specs.Decoding.{◌>>=◌, Stop, ok, allowed, unsigned_at, below_at, array_at, list_at}
+use Rattle.cbor.specs.Decoding.{◌>>=◌, Stop, ok, allowed, unsigned_at, array_at, list_at}
 use Rattle.termwiz_wire.specs.Pieces.{alike, stands_out, needs_pieces}
 use Rattle.termwiz_wire.specs.declared.pieces.Run.{Run}
 

@@ -1,9 +1,8 @@
 -- How changes are decoded, from left to right, with the first fault that is met.
-use Rattle.std.specs.Prelude.{ℕ, zero, suc, ◌+◌, ◌/◌, ◌%◌, Bool, true, ◌&&◌, ◌||◌, List, [], ◌∷◌, ◌++◌, slice_index, Option, Some, None, Result, Ok, Err, nat_lt, nat_le, ◌==◌, if◌then◌else◌}
+use Rattle.std.specs.Prelude.{ℕ, zero, suc, ◌+◌, ◌/◌, ◌%◌, Bool, true, ◌&&◌, ◌||◌, List, [], ◌∷◌, ◌++◌, slice_index, Option, Some, None, Result, Ok, nat_lt, nat_le, ◌==◌, if◌then◌else◌}
 use Rattle.std.specs.Cmp.Lexicographic.{slice_cmp}
 use Rattle.std.specs.Ordering.{nat_cmp, is_lt}
 use Rattle.cbor.specs.Decoding.{◌>>=◌, Stop, ok, allowed, kind_at, null_at, unsigned_at, below_at, signed_at, boolean_at, text_at, array_at, list_at, array_of_at}
-use Rattle.cbor.specs.declared.error.FaultKind.{FaultKind}
 use Rattle.cbor.specs.declared.error.FaultKind.TheVariants as faults
 use Rattle.cbor.specs.declared.kind.Kind.{Kind}
 use Rattle.cbor.specs.declared.kind.Kind.TheVariants as kinds

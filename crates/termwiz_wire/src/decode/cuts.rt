@@ -13,7 +13,7 @@ ghost use Rattle.termwiz_wire.specs.Pieces.{runs};
 
 use crate::pieces::{Run, Runs};
 use cbor::{ReadError, Reader};
-use std::alloc::Global;
+use std::alloc::{AllocError, Global};
 use termwiz_cell::emoji::Widths;
 
 /// Whether the list ahead is of the runs of a text, which are so many, as far as they agree.
@@ -41,11 +41,7 @@ pub(super) fn are_same<W: Widths>(
     are_runs(reader, widths, text)
 }
 
-fn are_runs<W: Widths>(
-    reader: &mut Reader<'_>,
-    widths: &W,
-    text: &str,
-) -> Result<bool, ReadError>
+fn are_runs<W: Widths>(reader: &mut Reader<'_>, widths: &W, text: &str) -> Result<bool, ReadError>
     ensures value { Gives (allowed reader.new.room reader.new.bytes.now)
         (λ x. (x, reader.new.bytes.now)) result
         (are_at reader.old.room (runs (measure W.width_of widths.now) text.now)
@@ -99,13 +95,21 @@ pub(super) fn cut_of(alloc: Global, text: &str, reader: &mut Reader<'_>) -> Resu
 {
     let start = reader.bytes;
     let count = threes_of(reader)?;
-    let characters: Vec<char> = text.chars().collect(alloc)?;
+    let characters = characters_in(alloc, text)?;
     if all_runs(reader, characters.as_slice(), count / 3)? {
         Ok(())
     } else {
         reader.bytes = start;
         Err(ReadError::Range)
     }
+}
+
+// The characters of a text.
+#[tactic(auto, using(std::proofs::lemmas::Str::chars_from_encodes))]
+fn characters_in(alloc: Global, text: &str) -> Result<Vec<char>, AllocError>
+    ensures { IfOk result (λ cs. cs.items ≡ chars text.now) }
+{
+    text.chars().collect(alloc)
 }
 
 #[tactic(auto, unfolding(crate::specs::Cuts::threes_at))]
@@ -125,11 +129,7 @@ fn threes_of(reader: &mut Reader<'_>) -> Result<usize, ReadError>
 }
 
 // So many runs, of these characters: whether they end with them, and one is a reason to send them.
-fn all_runs(
-    reader: &mut Reader<'_>,
-    characters: &[char],
-    count: usize,
-) -> Result<bool, ReadError>
+fn all_runs(reader: &mut Reader<'_>, characters: &[char], count: usize) -> Result<bool, ReadError>
     ensures value { Gives (allowed reader.new.room reader.new.bytes.now)
         (λ x. (x, reader.new.bytes.now)) result
         (runs_at reader.old.room no_run false characters.now count reader.old.bytes.now) }
@@ -144,11 +144,19 @@ fn all_runs(
     let mut left = characters;
     for _ in 0..count {
         let run = run_of(reader, last, left)?;
-        left = &left[run.count * run.characters..];
-        needed = needed || run.stands_out();
+        left = behind(run, left);
+        needed |= run.stands_out();
         last = run;
     }
     Ok(needed && left.is_empty())
+}
+
+// The characters behind a run.
+fn behind(run: Run, left: &[char]) -> &[char]
+    requires { run.count * run.characters ≤ length left.now }
+    ensures { result.now ≡ drop (run.count * run.characters) left.now }
+{
+    &left[run.count * run.characters..]
 }
 
 // A run of the characters that are left, behind the last one.
@@ -186,11 +194,7 @@ fn count_of(reader: &mut Reader<'_>, left: &[char]) -> Result<usize, ReadError>
     }
 }
 
-fn characters_of(
-    reader: &mut Reader<'_>,
-    left: &[char],
-    count: usize,
-) -> Result<usize, ReadError>
+fn characters_of(reader: &mut Reader<'_>, left: &[char], count: usize) -> Result<usize, ReadError>
     ensures value { Gives (allowed reader.new.room reader.new.bytes.now)
         (λ x. (x, reader.new.bytes.now)) result
         (kept_at reader.old.room (are_characters left.now count) reader.old.bytes.now) }

@@ -1,7 +1,7 @@
-use Rattle.std.proofs.Common.{◌≡◌, ◌-◌, ◌++◌, [], ◌∷◌, length, map, subst, refl, sym, ap, ◌∙◌, arith, String, string_bytes, List, ℕ, Result, Ok}
+use Rattle.std.proofs.Common.{◌≡◌, ◌-◌, ◌++◌, [], ◌∷◌, length, map, subst, refl, sym, ap, ◌∙◌, arith, String, string_bytes, List, ℕ, Ok}
 use Rattle.std.proofs.lemmas.Result.{err_from_is_err_and}
 use Rattle.std.specs.List.Sorted.{IsStrictlySortedBy}
-use Rattle.cbor.specs.Decoding.{Stop, Stops, allowed}
+use Rattle.cbor.specs.Decoding.{Stops, allowed}
 use Rattle.termwiz_cell.specs.Link.{param_bytes}
 use Rattle.termwiz_cell.specs.LinkText.{AreInOrder}
 use Rattle.termwiz_wire.specs.Decoding.{param_at, params_at}

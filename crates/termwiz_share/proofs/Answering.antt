@@ -1,6 +1,8 @@
 -- What a source answers, from what its surface gives.
-use Rattle.std.proofs.Common.{◌≡◌, ◌⊎◌, ℕ, ◌+◌, ◌*◌, ◌-◌, ◌^◌, ◌<◌, ◌≤◌, Bool, true, false, List, ◌++◌, length, Result, Ok, Err, refl, sym, ap, subst, ◌∙◌, arith, inl, inr}
-use Rattle.std.specs.Prelude.{◌==◌, ◌&&◌, not, IfOk, min, max}
+use Rattle.std.proofs.Common.{◌≡◌, ◌⊎◌, ℕ, ◌+◌, ◌*◌, ◌-◌, ◌^◌, ◌<◌, ◌≤◌, Bool, true, false, List, [], ◌++◌, length, length-append, Result, Ok, Err, refl, sym, ap, subst, ◌∙◌, arith, inl, inr}
+use Rattle.std.specs.Prelude.{◌==◌, ◌&&◌, not, IfOk, OnErr, min, max}
+use Rattle.std.proofs.lemmas.List.{append-nil}
+use Rattle.cbor.specs.Encoding.{Extends}
 use Rattle.std.proofs.Math.Nat.{le-max_left, le-max_right}
 use Rattle.std.proofs.lemmas.Bool.{cases_Bool, eqb-true, eq-eqb, true≢false}
 use Rattle.termwiz_cell.specs.ChangeValue.{ChangeValue}
@@ -115,3 +117,16 @@ module _ {W : Type 0} (f : W → List ℕ → ℕ) (s : SourceValue W) (alike : 
     carries = λ past is. given-carries full_screens (f s.surface.widths) past (full_of s.surface) now.surface.log a.asked given is given_now;
     few = rw (encoded, number_same) (a.few (rw (← encoded) fits));
   }
+
+-- the same of the surface that forgetting leaves
+pub response_of : {W : Type 0} (f : W → List ℕ → ℕ) (s : SourceValue W) (t : SurfaceValue W) (ask : Ask) (n : ℕ) (given : AnswerValue) → t ≡ trimmed s.surface → AnswersAlike s.surface t → (n ≡ 0) ⊎ ((ask.source ≡ s.number) × (n ≡ ask.number)) → Answers f s n given → (before after : List ℕ) → after ≡ before ++ answer (f s.surface.widths) (sent_by s.number given) → length after < 2 ^ 64 → IsSent (f s.surface.widths) (sent_by s.number given) → Responds f (record { surface = t; number = s.number }) ask before after
+response_of f s t ask n given same alike from a before after whole fits sent =
+    let bytes : List ℕ = answer (f s.surface.widths) (sent_by s.number given) in
+    let few : length bytes < 2 ^ 64 = omega (arith, ap length whole, fits, length-append before bytes) in
+    let response : IsResponse f (record { surface = trimmed s.surface; number = s.number }) ask bytes = is_response f s (subst (AnswersAlike s.surface) same alike) ask n from given a bytes refl few sent in
+    record { bytes = bytes; appended = whole; response = subst (λ (v : SurfaceValue _). IsResponse f (record { surface = v; number = s.number }) ask bytes) (sym same) response }
+
+-- bytes that begin with all that they began with are those and more
+pub begins : {A E : Type 0} (r : Result A E) (old new : List ℕ) → Extends old new → OnErr r ((more : List ℕ) × (new ≡ old ++ more))
+begins (Ok x) old new kept = tt
+begins (Err e) old new kept = let b = kept old (record { rest = []; whole = sym (append-nil old) }) in (b.rest, b.whole)

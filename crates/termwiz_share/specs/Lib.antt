@@ -1,7 +1,6 @@
 pub mod Source
 pub mod Client
 pub mod Feeding
-pub mod Decoding
 pub mod Histories
 pub mod Serving
 -- what the contracts of this crate use, by its name alone
@@ -24,5 +23,4 @@ pub use Rattle.termwiz_share.specs.Source.{Answers, IsResponse, Responds, Source
 pub use Rattle.termwiz_share.specs.Client.{ClientValue, IsReady, ask_of, fits, shown_by, size_place}
 pub use Rattle.termwiz_share.specs.Feeding.{Feeds, Reads, Steps, Takes, stopped_by, unnamed, with_bytes}
 pub use Rattle.termwiz_share.specs.Histories.{Follows, FollowsTo, Given}
-pub use Rattle.termwiz_share.specs.Decoding.{Laws}
 pub use Rattle.termwiz_share.specs.Serving.{KeepsClients, KeepsSources, Serves, Shows}

@@ -1,6 +1,6 @@
 //! Clients: what takes the answers of sources, and shows what they had.
 ghost use Rattle.std.specs.Prelude.{◌≡◌, ◌<◌, ◌++◌, [], IfErr, IfOk, List, None, OnOk, ℕ, length};
-ghost use Rattle.termwiz_share.specs.{ClientValue, Feeds, Follows, FollowsTo, FullScreen, Given, IsReady, IsResponse, KeepsSources, Laws, Reads, Serves, Shows, SourceValue, Steps};
+ghost use Rattle.termwiz_share.specs.{ClientValue, Feeds, Follows, FollowsTo, FullScreen, Given, IsReady, IsResponse, KeepsSources, Reads, Serves, Shows, SourceValue, Steps};
 ghost use Rattle.termwiz_share.specs.{Memory, ask_of, blank_surface, measure, stopped_by, true, with_bytes};
 
 mod taking;
@@ -12,7 +12,7 @@ use std::marker::Model;
 use termwiz_cell::change::SequenceNo;
 use termwiz_cell::emoji::Widths;
 use termwiz_surface_core::surface::Surface;
-use termwiz_wire::{Ask, FaultKind, Limits, SourceNo, WireError, decode_answer};
+use termwiz_wire::{Ask, FaultKind, Limits, SourceNo, WireError, answers, decode_answer};
 
 /// Shows what a source showed when it gave the last answer that was taken.
 ///
@@ -33,7 +33,7 @@ pub struct Client<W: Widths> {
 }
 
 impl<W: Widths> Model for Client<W> {
-    ghost use Rattle.std.specs.Prelude.{◌≡◌, ◌≤◌, [], drop, length, true};
+    ghost use Rattle.std.specs.Prelude.{◌≡◌, ◌<◌, ◌≤◌, [], drop, length, true};
     ghost use Rattle.termwiz_share.specs.Client.{ClientValue};
 
     ghost Value = { ClientValue W };
@@ -48,13 +48,15 @@ impl<W: Widths> Model for Client<W> {
     } };
 
     ghost invariant = { λ c. (c.start ≤ length c.bytes.items)
-        × (c.surface.full ≡ true) × (c.surface.log.changes ≡ []) };
+        × (c.surface.full ≡ true) × (c.surface.log.changes ≡ [])
+        × (0 < c.limits.bytes) × (c.source ≡ 0 → c.number ≡ 0) };
 }
 
 impl<W: Widths> Client<W> {
     /// A client that shows a blank surface of one cell, and no source. It measures texts by this
     /// width value, and takes answers within these limits.
     pub fn new(alloc: Global, widths: W, limits: Limits) -> Result<Client<W>, AllocError>
+        requires some { 0 < limits.bytes }
         ensures blank { IfOk result (λ client. client ≡ record {
           surface = blank_surface widths 1 1 true;
           source = 0;
@@ -142,23 +144,21 @@ impl<W: Widths> Client<W> {
         ensures feeds { Feeds (measure W.width_of) self.old piece.now result self.new }
         // Of a stream of answers, of any sources and in any order, it shows what the last one that
         // fits was given for, and fails for want of memory or of numbers alone.
-        ensures follows { Laws (measure W.width_of self.old.surface.widths) self.old.limits →
-            (histories : ℕ → ℕ → FullScreen) (sent : List Given) (future : List ℕ) →
+        ensures follows { (histories : ℕ → ℕ → FullScreen) (sent : List Given) (future : List ℕ) →
             Follows (measure W.width_of) histories sent self.old (piece.now ++ future) →
             FollowsTo (measure W.width_of) histories sent future self.old result self.new }
         // A client that is fed the response to its ask shows what the source shows,
-        ensures shows { Laws (measure W.width_of self.old.surface.widths) self.old.limits →
-            (source : SourceValue W) → Serves (measure W.width_of) source self.old →
+        ensures shows { (source : SourceValue W) → Serves (measure W.width_of) source self.old →
             IsReady self.old →
             IsResponse (measure W.width_of) source (ask_of self.old) piece.now →
             OnOk result (Shows source self.new × IsReady self.new) }
         // and is served by it still, also after an error.
-        ensures serves { Laws (measure W.width_of self.old.surface.widths) self.old.limits →
-            (source : SourceValue W) → Serves (measure W.width_of) source self.old →
+        ensures serves { (source : SourceValue W) → Serves (measure W.width_of) source self.old →
             IsReady self.old →
             IsResponse (measure W.width_of) source (ask_of self.old) piece.now →
             Serves (measure W.width_of) source self.new }
     {
+        answers();
         if let Some(error) = self.stopped {
             return Err(error);
         }

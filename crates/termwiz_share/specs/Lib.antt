@@ -16,7 +16,7 @@ pub use Rattle.termwiz_surface_core.specs.Diffs.{MeasureAlike}
 pub use Rattle.termwiz_surface_core.specs.Resizing.{Resizes}
 pub use Rattle.termwiz_surface_core.specs.SurfaceValue.{IsSurfaceSize, SurfaceValue, blank_surface, full_of}
 pub use Rattle.termwiz_wire.specs.Answers.{answer_at}
-pub use Rattle.termwiz_wire.specs.Sent.{ask}
+pub use Rattle.termwiz_wire.specs.Sent.{IsAsk, ask}
 pub use Rattle.termwiz_wire.specs.declared.fault.Fault.{Fault}
 pub use Rattle.termwiz_share.specs.declared.error.ClientError.TheVariants.{Memory}
 pub use Rattle.termwiz_share.specs.Source.{Answers, IsResponse, Responds, SourceValue, most_bytes, sent_by, trimmed}

@@ -1,7 +1,7 @@
 //! Clients: what takes the answers of sources, and shows what they had.
-ghost use Rattle.std.specs.Prelude.{◌≡◌, ◌<◌, ◌++◌, [], IfErr, IfOk, List, None, OnOk, ℕ, length};
-ghost use Rattle.termwiz_share.specs.{ClientValue, Feeds, Follows, FollowsTo, FullScreen, Given, IsReady, IsResponse, KeepsSources, Reads, Serves, Shows, SourceValue, Steps};
-ghost use Rattle.termwiz_share.specs.{Memory, ask_of, blank_surface, measure, stopped_by, true, with_bytes};
+ghost use Rattle.std.specs.Prelude.{◌≡◌, ◌<◌, ◌++◌, [], IfErr, IfOk, List, None, OnErr, OnOk, ℕ, length};
+ghost use Rattle.termwiz_share.specs.{ClientValue, Feeds, Follows, FollowsTo, FullScreen, Given, IsAsk, IsReady, IsResponse, KeepsSources, Reads, Serves, Shows, SourceValue, Steps};
+ghost use Rattle.termwiz_share.specs.{Memory, ask, ask_of, blank_surface, measure, stopped_by, true, with_bytes};
 
 mod taking;
 
@@ -12,7 +12,7 @@ use std::marker::Model;
 use termwiz_cell::change::SequenceNo;
 use termwiz_cell::emoji::Widths;
 use termwiz_surface_core::surface::Surface;
-use termwiz_wire::{Ask, FaultKind, Limits, SourceNo, WireError, answers, decode_answer};
+use termwiz_wire::{Ask, FaultKind, Limits, SourceNo, WireError, answers, decode_answer, encode_ask};
 
 /// Shows what a source showed when it gave the last answer that was taken.
 ///
@@ -116,12 +116,24 @@ impl<W: Widths> Client<W> {
 
     /// What to send to a source, by which it answers.
     pub fn ask(&self) -> Ask
-        ensures { result ≡ ask_of self.now }
+        ensures value { result ≡ ask_of self.now }
+        ensures named { result.source ≡ 0 → result.number ≡ 0 }
     {
         Ask {
             source: self.source,
             number: self.number,
         }
+    }
+
+    /// Appends the bytes of what to send to a source to a buffer. After an error the buffer begins
+    /// with what it had.
+    pub fn encode_ask(&self, out: &mut Vec<u8>) -> Result<(), AllocError>
+        ensures ok { OnOk result (out.new.items ≡ out.old.items ++ ask (ask_of self.now)) }
+        // It is one that is decoded again.
+        ensures form { OnOk result (IsAsk (ask_of self.now)) }
+        ensures begins { OnErr result ((more : List ℕ) × (out.new.items ≡ out.old.items ++ more)) }
+    {
+        encode_ask(out, self.ask())
     }
 
     /// Makes it ready for the bytes of a new connection. What it shows stays.

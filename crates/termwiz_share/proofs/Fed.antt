@@ -26,7 +26,7 @@ use Rattle.termwiz_share.specs.declared.error.ClientError.{ClientError}
 use Rattle.termwiz_share.specs.declared.error.ClientError.TheVariants as errors
 use Rattle.termwiz_share.specs.Client.{ClientValue, SameSettings, Shown, blank_screen, fits, has_other_size, shown_by, start, taken}
 use Rattle.termwiz_share.specs.Feeding.{AreCut, Ends, Feeds, HasForgotten, HasTaken, Reads, Steps, TakesAll, with_bytes}
-use Rattle.termwiz_share.specs.Decoding.{IsCut, Laws}
+use Rattle.termwiz_wire.specs.MoreBytes.{IsCut, Laws}
 use Rattle.termwiz_share.specs.Histories.{Follows, FollowsTo, Given, HasFollowed, HasMore, HasStopped, IsGenuine, IsNamed, after, after_all, stream}
 use Rattle.termwiz_share.proofs.Streams.{AreAgain, Decodes, HasOthers, no_fault, none_whole, others_of}
 

@@ -2,3 +2,4 @@ pub mod Streams
 pub mod Fed
 pub mod Taking
 pub mod Served
+pub mod Answering

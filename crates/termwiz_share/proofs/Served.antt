@@ -27,7 +27,7 @@ use Rattle.termwiz_share.specs.Feeding.{AreCut, Ends, Feeds, HasTaken, TakesAll,
 use Rattle.termwiz_share.specs.Histories.{Follows, FollowsTo, Given, HasFollowed, HasMore, HasStopped, IsGenuine, IsNamed, after, after_all, stream}
 use Rattle.termwiz_share.specs.Serving.{KeepsClients, Serves, Shows}
 use Rattle.termwiz_share.specs.Source.{IsResponse, SourceValue, sent_by}
-use Rattle.termwiz_share.specs.Decoding.{Laws}
+use Rattle.termwiz_wire.specs.MoreBytes.{Laws}
 use Rattle.termwiz_share.proofs.Fed.{follows_to}
 use Rattle.termwiz_share.proofs.Streams.{err_is, ok_or_err}
 

@@ -3,7 +3,7 @@ use Rattle.std.proofs.Common.{◌≡◌, ◌≢◌, ◌⊎◌, ℕ, ◌+◌, ◌
 use Rattle.std.specs.List.{flat_map}
 use Rattle.std.specs.Prelude.{map}
 use Rattle.std.proofs.lemmas.Bool.{cases_lt}
-use Rattle.termwiz_share.specs.Decoding.{Goes}
+use Rattle.termwiz_wire.specs.MoreBytes.{Goes}
 use Rattle.std.proofs.lemmas.List.{append-nil, take-append-drop, take-append-le, take_at, length-append}
 
 abbrev value : {A E : Type 0} → A → Result A E

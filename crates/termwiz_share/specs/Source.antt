@@ -1,12 +1,12 @@
 -- What contracts see of a source, and what it answers.
-use Rattle.std.specs.Prelude.{◌≡◌, ◌⊎◌, ℕ, ◌+◌, ◌*◌, ◌≤◌, List, ◌++◌, length, max}
+use Rattle.std.specs.Prelude.{◌≡◌, ◌⊎◌, ℕ, ◌+◌, ◌*◌, ◌<◌, ◌≤◌, ◌^◌, List, ◌++◌, length, max}
 use Rattle.termwiz_screen.specs.FullScreen.{FullScreen, HasFullSize}
 use Rattle.termwiz_screen.specs.Log.{delta_limit, next_number}
 use Rattle.termwiz_screen.specs.Picture.{full_screens}
 use Rattle.termwiz_surface_core.specs.Adding.{with_log}
 use Rattle.termwiz_surface_core.specs.Answer.{AnswerValue}
 use Rattle.termwiz_surface_core.specs.Asking.{forgotten, own_repaint}
-use Rattle.termwiz_surface_core.specs.Carried.{CarriesTo, IsPastOf}
+use Rattle.termwiz_surface_core.specs.Carried.{CarriesTo, IsGivenBy, IsPastOf}
 use Rattle.termwiz_surface_core.specs.SurfaceValue.{SurfaceValue, full_of}
 use Rattle.termwiz_wire.specs.Sent.{IsSent, answer}
 use Rattle.termwiz_wire.specs.declared.sent.Ask.{Ask}
@@ -52,12 +52,12 @@ module _ {W : Type 0} where
 
     -- the source gives this answer for a number, or for none
     pub record Answers (s : SourceValue W) (n : ℕ) (given : AnswerValue) : Type 0 where
-      pub width : given.width ≡ s.surface.width
-      pub height : given.height ≡ s.surface.height
-      pub number : given.number ≡ next_number s.surface.log
-      pub from : (given.base ≡ 0) ⊎ ((n ≡ 0 → ⊥) × (given.base ≡ n))
-      pub carries : (past : ℕ → FullScreen) → IsPastOf full_screens measure_of past s.surface → CarriesTo full_screens measure_of past given s.surface
-      pub few : length (answer (measure_of s.surface.widths) (sent_by s.number given)) ≤ max (most_bytes s.surface.width s.surface.height) (length (answer (measure_of s.surface.widths) (sent_by s.number (repaint_of s.surface))))
+      pub asked : ℕ
+      pub from : (asked ≡ 0) ⊎ (asked ≡ n)
+      pub is_given : IsGivenBy full_screens measure_of s.surface asked given
+      pub sized : HasFullSize s.surface.width s.surface.height (full_of s.surface)
+      -- a screen bounds it, if a buffer can have it
+      pub few : length (answer (measure_of s.surface.widths) (sent_by s.number given)) < 2 ^ 64 → length (answer (measure_of s.surface.widths) (sent_by s.number given)) ≤ max (most_bytes s.surface.width s.surface.height) (length (answer (measure_of s.surface.widths) (sent_by s.number (repaint_of s.surface))))
 
     -- the response comes behind what the buffer had
     pub record Responds (s : SourceValue W) (ask : Ask) (before after : List ℕ) : Type 0 where

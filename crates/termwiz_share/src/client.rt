@@ -1,7 +1,7 @@
 //! Clients: what takes the answers of sources, and shows what they had.
-ghost use Rattle.std.specs.Prelude.{◌≡◌, ◌<◌, ◌++◌, [], IfErr, IfOk, List, None, OnOk, ℕ, length};
-ghost use Rattle.termwiz_share.specs.{ClientValue, Feeds, Follows, FollowsTo, FullScreen, Given, IsReady, IsResponse, KeepsSources, Laws, Reads, Serves, Shows, SourceValue, Steps};
-ghost use Rattle.termwiz_share.specs.{Memory, ask_of, blank_surface, measure, stopped_by, true, with_bytes};
+ghost use Rattle.std.specs.Prelude.{◌≡◌, ◌<◌, ◌++◌, [], IfErr, IfOk, List, None, OnErr, OnOk, ℕ, length};
+ghost use Rattle.termwiz_share.specs.{ClientValue, Feeds, Follows, FollowsTo, FullScreen, Given, IsAsk, IsReady, IsResponse, KeepsSources, Reads, Serves, Shows, SourceValue, Steps};
+ghost use Rattle.termwiz_share.specs.{Memory, ask, ask_of, blank_surface, measure, stopped_by, true, with_bytes};
 
 mod taking;
 
@@ -12,7 +12,7 @@ use std::marker::Model;
 use termwiz_cell::change::SequenceNo;
 use termwiz_cell::emoji::Widths;
 use termwiz_surface_core::surface::Surface;
-use termwiz_wire::{Ask, FaultKind, Limits, SourceNo, WireError, decode_answer};
+use termwiz_wire::{Ask, FaultKind, Limits, SourceNo, WireError, answers, decode_answer, encode_ask};
 
 /// Shows what a source showed when it gave the last answer that was taken.
 ///
@@ -33,7 +33,7 @@ pub struct Client<W: Widths> {
 }
 
 impl<W: Widths> Model for Client<W> {
-    ghost use Rattle.std.specs.Prelude.{◌≡◌, ◌≤◌, [], drop, length, true};
+    ghost use Rattle.std.specs.Prelude.{◌≡◌, ◌<◌, ◌≤◌, [], drop, length, true};
     ghost use Rattle.termwiz_share.specs.Client.{ClientValue};
 
     ghost Value = { ClientValue W };
@@ -48,13 +48,15 @@ impl<W: Widths> Model for Client<W> {
     } };
 
     ghost invariant = { λ c. (c.start ≤ length c.bytes.items)
-        × (c.surface.full ≡ true) × (c.surface.log.changes ≡ []) };
+        × (c.surface.full ≡ true) × (c.surface.log.changes ≡ [])
+        × (0 < c.limits.bytes) × (c.source ≡ 0 → c.number ≡ 0) };
 }
 
 impl<W: Widths> Client<W> {
     /// A client that shows a blank surface of one cell, and no source. It measures texts by this
     /// width value, and takes answers within these limits.
     pub fn new(alloc: Global, widths: W, limits: Limits) -> Result<Client<W>, AllocError>
+        requires some { 0 < limits.bytes }
         ensures blank { IfOk result (λ client. client ≡ record {
           surface = blank_surface widths 1 1 true;
           source = 0;
@@ -114,12 +116,24 @@ impl<W: Widths> Client<W> {
 
     /// What to send to a source, by which it answers.
     pub fn ask(&self) -> Ask
-        ensures { result ≡ ask_of self.now }
+        ensures value { result ≡ ask_of self.now }
+        ensures named { result.source ≡ 0 → result.number ≡ 0 }
     {
         Ask {
             source: self.source,
             number: self.number,
         }
+    }
+
+    /// Appends the bytes of what to send to a source to a buffer. After an error the buffer begins
+    /// with what it had.
+    pub fn encode_ask(&self, out: &mut Vec<u8>) -> Result<(), AllocError>
+        ensures ok { OnOk result (out.new.items ≡ out.old.items ++ ask (ask_of self.now)) }
+        // It is one that is decoded again.
+        ensures form { OnOk result (IsAsk (ask_of self.now)) }
+        ensures begins { OnErr result ((more : List ℕ) × (out.new.items ≡ out.old.items ++ more)) }
+    {
+        encode_ask(out, self.ask())
     }
 
     /// Makes it ready for the bytes of a new connection. What it shows stays.
@@ -142,23 +156,21 @@ impl<W: Widths> Client<W> {
         ensures feeds { Feeds (measure W.width_of) self.old piece.now result self.new }
         // Of a stream of answers, of any sources and in any order, it shows what the last one that
         // fits was given for, and fails for want of memory or of numbers alone.
-        ensures follows { Laws (measure W.width_of self.old.surface.widths) self.old.limits →
-            (histories : ℕ → ℕ → FullScreen) (sent : List Given) (future : List ℕ) →
+        ensures follows { (histories : ℕ → ℕ → FullScreen) (sent : List Given) (future : List ℕ) →
             Follows (measure W.width_of) histories sent self.old (piece.now ++ future) →
             FollowsTo (measure W.width_of) histories sent future self.old result self.new }
         // A client that is fed the response to its ask shows what the source shows,
-        ensures shows { Laws (measure W.width_of self.old.surface.widths) self.old.limits →
-            (source : SourceValue W) → Serves (measure W.width_of) source self.old →
+        ensures shows { (source : SourceValue W) → Serves (measure W.width_of) source self.old →
             IsReady self.old →
             IsResponse (measure W.width_of) source (ask_of self.old) piece.now →
             OnOk result (Shows source self.new × IsReady self.new) }
         // and is served by it still, also after an error.
-        ensures serves { Laws (measure W.width_of self.old.surface.widths) self.old.limits →
-            (source : SourceValue W) → Serves (measure W.width_of) source self.old →
+        ensures serves { (source : SourceValue W) → Serves (measure W.width_of) source self.old →
             IsReady self.old →
             IsResponse (measure W.width_of) source (ask_of self.old) piece.now →
             Serves (measure W.width_of) source self.new }
     {
+        answers();
         if let Some(error) = self.stopped {
             return Err(error);
         }

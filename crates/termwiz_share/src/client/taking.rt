@@ -1,5 +1,5 @@
 //! How a client takes an answer.
-ghost use Rattle.std.specs.Prelude.{◌≡◌, false};
+ghost use Rattle.std.specs.Prelude.{◌≡◌, ◌<◌, false};
 ghost use Rattle.termwiz_share.specs.{Takes, fits, is_repaint, measure, sent_by, shown_by, size_place, suits, true, unnamed};
 
 use super::Client;
@@ -13,6 +13,7 @@ use termwiz_wire::{SentAnswer, SourceNo};
 impl<W: Widths> Client<W> {
     // Takes an answer, if it fits.
     pub(super) fn take(&mut self, sent: SentAnswer) -> Result<(), ClientError>
+        requires { 0 < sent.source }
         ensures { Takes (measure W.width_of) self.old sent result self.new }
     {
         let SentAnswer { source, answer } = sent;
@@ -31,7 +32,8 @@ impl<W: Widths> Client<W> {
 
     // A repaint begins with a blank surface of its size. After an error nothing has changed.
     fn take_repaint(&mut self, source: SourceNo, answer: Answer) -> Result<(), ClientError>
-        requires { is_repaint answer ≡ true }
+        requires some { 0 < source }
+        requires repaint { is_repaint answer ≡ true }
         ensures { Takes (measure W.width_of) self.old (sent_by source answer) result self.new }
     {
         let number = answer.number();
@@ -49,6 +51,7 @@ impl<W: Widths> Client<W> {
 
     // A delta begins with what is shown.
     fn take_delta(&mut self, source: SourceNo, answer: Answer) -> Result<(), ClientError>
+        requires some { 0 < source }
         requires delta { is_repaint answer ≡ false }
         requires fits { fits (shown_by self.old) (sent_by source answer) ≡ true }
         requires size { suits self.old.surface.width self.old.surface.height answer ≡ true }

@@ -147,8 +147,8 @@ def table(items, files):
         own = [item for item in file.definitions.values() if item in items]
         if own:
             links = ", ".join(f"[`{item.name}`](../{item.place()})" for item in own)
-            lines.append(f"- `{file.path.relative_to(TOP / 'crates').parts[0]}` "
-                         f"`{file.path.stem}`: {links}")
+            lines.append(f"- `{file.path.relative_to(TOP / 'crates').parts[0]}/"
+                         f"{file.path.stem}`: {links}")
     return lines
 
 

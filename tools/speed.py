@@ -1,6 +1,6 @@
 #!/usr/bin/env python3
 """Writes what is made of docs/speed.csv: the tables of docs/SPEED.md, the picture docs/speed.svg,
-and the counts of README.md.
+and the counts of README.md, of functions and of wrong bodies too, which are rounded.
 
     tools/speed.py           writes them
     tools/speed.py --check   fails where one differs from the data
@@ -24,6 +24,10 @@ README = TOP / "README.md"
 FIGURES = re.compile(r"\d+ of \d+ figures are below the best peer's, "
                      r"and \d+ of \d+ below termwiz's")
 WORKLOADS = re.compile(r"below (the best peer|termwiz)'s in \d+ of \d+( workloads)?")
+FUNCTIONS = re.compile(r"some [\d,]+ functions of the library, [\d,]+ of the library for C, "
+                       r"and [\d,]+ of programs and tests")
+BODIES = re.compile(r"Some \d+ wrong bodies")
+FUNCTION = re.compile(r"^\s*(?:pub(?:\(\w+\))? )?(?:const )?(?:extern \"C\" )?fn ", re.M)
 OTHERS = (("peer", "the best peer"), ("termwiz", "termwiz"))
 
 
@@ -115,9 +119,32 @@ def below(rows, other):
     return f"{sum(r < 1 for r in ratios)} of {len(ratios)}"
 
 
+def functions(own):
+    """How many functions the crates have whose names fit."""
+    return sum(len(FUNCTION.findall(path.read_text())) for path in TOP.glob("crates/*/src/**/*.rt")
+               if own(path.relative_to(TOP).parts[1]))
+
+
+def proved(text):
+    """The README with its counts of functions and of wrong bodies made anew."""
+    def in_library(name):
+        return name.startswith("termwiz_") or name == "cbor"
+
+    def is_for_c(name):
+        return name == "tikeburo_c"
+
+    library, for_c = round(functions(in_library), -2), round(functions(is_for_c), -1)
+    rest = round(functions(lambda name: not in_library(name) and not is_for_c(name)), -2)
+    counts = (f"some {library:,} functions of the library, {for_c} of the library for C, "
+              f"and {rest:,} of programs and tests")
+    bodies = len(list(TOP.glob("crates/*/must-fail/*.edit"))) // 10 * 10
+    return BODIES.sub(f"Some {bodies} wrong bodies", FUNCTIONS.sub(counts, text))
+
+
 def readme(rows, text):
     """The README with its counts made anew: of all figures, or of workloads, which are counted in
     instructions."""
+    text = proved(text)
     figures = (f"{below(rows, 'peer')} figures are below the best peer's, "
                f"and {below(rows, 'termwiz')} below termwiz's")
     work = [row for row in rows if row["unit"] == "instructions"]

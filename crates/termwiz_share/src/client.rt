@@ -1,7 +1,11 @@
 //! Clients: what takes the answers of sources, and shows what they had.
-ghost use Rattle.std.specs.Prelude.{◌≡◌, ◌<◌, ◌++◌, [], IfErr, IfOk, List, None, OnErr, OnOk, ℕ, length};
-ghost use Rattle.termwiz_share.specs.{ClientValue, Feeds, Follows, FollowsTo, FullScreen, Given, IsAsk, IsReady, IsResponse, KeepsSources, Reads, Serves, Shows, SourceValue, Steps};
-ghost use Rattle.termwiz_share.specs.{Memory, ask, ask_of, blank_surface, measure, stopped_by, true, with_bytes};
+ghost use Rattle.std.specs.Prelude.{◌≡◌, ◌<◌, ◌++◌, [], IfErr, IfOk, List, None, OnErr, OnOk, ℕ};
+ghost use Rattle.std.specs.Prelude.{length};
+ghost use Rattle.termwiz_share.specs.{ClientValue, Feeds, Follows, FollowsTo, FullScreen, Given};
+ghost use Rattle.termwiz_share.specs.{IsAsk, IsReady, IsResponse, KeepsSources, Reads, Serves};
+ghost use Rattle.termwiz_share.specs.{Shows, SourceValue, Steps};
+ghost use Rattle.termwiz_share.specs.{Memory, ask, ask_of, blank_surface, measure, stopped_by};
+ghost use Rattle.termwiz_share.specs.{true, with_bytes};
 
 mod taking;
 

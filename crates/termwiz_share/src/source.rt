@@ -1,7 +1,11 @@
 //! Sources: full surfaces whose answers name them.
-ghost use Rattle.std.specs.Prelude.{◌≡◌, ◌≢◌, ◌+◌, ◌-◌, ◌<◌, ◌^◌, ◌∷◌, ◌++◌, [], IfOk, List, OnErr, OnOk, ℕ, min, vec_len};
-ghost use Rattle.termwiz_share.specs.{Adds, Answers, ClientValue, IsCopied, IsDrawn, IsSurfaceSize, KeepsClients, MeasureAlike, Resizes, Responds, Serves, SourceValue};
-ghost use Rattle.termwiz_share.specs.{blank_surface, change_value, full_of, length, map, measure, most_bytes, next_number, trimmed, true};
+ghost use Rattle.std.specs.Prelude.{◌≡◌, ◌≢◌, ◌+◌, ◌-◌, ◌<◌, ◌^◌, ◌∷◌, ◌++◌, [], IfOk, List, OnErr};
+ghost use Rattle.std.specs.Prelude.{OnOk, ℕ, min, vec_len};
+ghost use Rattle.termwiz_share.specs.{Adds, Answers, ClientValue, IsCopied, IsDrawn, IsSurfaceSize};
+ghost use Rattle.termwiz_share.specs.{KeepsClients, MeasureAlike, Resizes, Responds, Serves};
+ghost use Rattle.termwiz_share.specs.{SourceValue};
+ghost use Rattle.termwiz_share.specs.{blank_surface, change_value, full_of, length, map, measure};
+ghost use Rattle.termwiz_share.specs.{most_bytes, next_number, trimmed, true};
 
 use std::alloc::{AllocError, Global};
 use std::marker::Model;

@@ -61,15 +61,21 @@ impl<W: Widths> Room<W> {
     }
 
     /// The clients.
-    pub fn first(&self) -> &Client<W> {
+    pub fn first(&self) -> &Client<W>
+        ensures { result.now ≡ self.now.first }
+    {
         &self.first
     }
 
-    pub fn second(&self) -> &Client<W> {
+    pub fn second(&self) -> &Client<W>
+        ensures { result.now ≡ self.now.second }
+    {
         &self.second
     }
 
-    pub fn third(&self) -> &Client<W> {
+    pub fn third(&self) -> &Client<W>
+        ensures { result.now ≡ self.now.third }
+    {
         &self.third
     }
 

@@ -1,6 +1,7 @@
 //! How a client takes an answer.
 ghost use Rattle.std.specs.Prelude.{◌≡◌, ◌<◌, false};
-ghost use Rattle.termwiz_share.specs.{Takes, fits, is_repaint, measure, sent_by, shown_by, size_place, suits, true, unnamed};
+ghost use Rattle.termwiz_share.specs.{Takes, fits, is_repaint, measure, sent_by, shown_by};
+ghost use Rattle.termwiz_share.specs.{size_place, suits, true, unnamed};
 
 use super::Client;
 use crate::error::ClientError;

@@ -30,18 +30,17 @@ fn add_linked(
     add_text(alloc, surface, EIGHT)
 }
 
-fn ten_links(alloc: Global) -> Result<Vec<Rc<Hyperlink>>, SurfaceError> {
-    let mut links = Vec::with_capacity(alloc, 10)?;
+fn ten_links(alloc: Global) -> Result<Vec<Rc<Hyperlink>>, AllocError> {
+    let mut links = Vec::new(alloc);
     for index in 0..10 {
-        links.push_reserved(new_link(alloc, index)?);
+        let link = new_link(alloc, index)?;
+        links.push(link)?;
     }
     Ok(links)
 }
 
-fn new_link(alloc: Global, index: usize) -> Result<Rc<Hyperlink>, SurfaceError> {
+fn new_link(alloc: Global, index: usize) -> Result<Rc<Hyperlink>, AllocError> {
     let uri = format!(in alloc; "https://example.org/a/page/{index}")?;
-    match Rc::new(alloc, Hyperlink::new(alloc, uri)) {
-        Ok(link) => Ok(link),
-        Err(error) => Err(AllocError::from(error).into()),
-    }
+    let link = Rc::new(alloc, Hyperlink::new(alloc, uri))?;
+    Ok(link)
 }

@@ -7,7 +7,7 @@ ghost use Rattle.std.specs.Prelude.{◌<◌, ◌^◌};
 use std::alloc::{AllocError, Global};
 use termwiz_cell::cell::CellAttributes;
 use termwiz_cell::change::{Change, Position};
-use termwiz_cell::color::ColorAttribute;
+use termwiz_cell::color::{ColorAttribute, RgbColor};
 use termwiz_cell::emoji::UnicodeWidths;
 use termwiz_surface::surface::{Surface, SurfaceError};
 
@@ -20,13 +20,33 @@ pub const EIGHT: &str = "colours ";
 /// Another, which differs in each.
 pub const OTHER_EIGHT: &str = "COLOURED";
 
-/// The pens of an 80x24 full of text.
+/// The pens of a surface full of text.
 #[derive(Clone, Copy)]
 pub enum Pens {
     /// One for all its cells.
     One,
-    /// A colour for every 8 columns.
+    /// A colour of the palette for every 8 columns, ten by turns.
     Ten,
+    /// The same with true colours.
+    TenTrue,
+}
+
+impl Pens {
+    // The colour of the text of a pen, by its number below 10.
+    #[inline(always)]
+    fn color(self, index: u8) -> ColorAttribute {
+        match self {
+            Pens::One | Pens::Ten => ColorAttribute::PaletteIndex(index),
+            Pens::TenTrue => true_color(index),
+        }
+    }
+}
+
+/// A true colour, by its number below 10.
+#[inline(always)]
+pub fn true_color(index: u8) -> ColorAttribute {
+    let red = index.wrapping_mul(25);
+    ColorAttribute::TrueColorWithDefaultFallback(RgbColor::new_8bpc(red, 255 - red, 7))
 }
 
 /// A blank surface of 80 columns and so many rows.
@@ -37,7 +57,7 @@ pub fn blank(alloc: Global, rows: usize) -> Result<Surface<UnicodeWidths>, Surfa
     Ok(Surface::new(alloc, 80, rows, UnicodeWidths)?)
 }
 
-/// A surface with a colour for every 8 columns.
+/// A surface with a colour of the palette for every 8 columns.
 pub fn coloured(
     alloc: Global,
     width: usize,
@@ -48,15 +68,30 @@ pub fn coloured(
     requires fits { width < 2 ^ 32 }
     requires fits_height { height < 2 ^ 32 }
 {
+    coloured_by(alloc, Pens::Ten, width, height)
+}
+
+/// A surface with a colour for every 8 columns.
+pub fn coloured_by(
+    alloc: Global,
+    pens: Pens,
+    width: usize,
+    height: usize,
+) -> Result<Surface<UnicodeWidths>, SurfaceError>
+    requires some_column { 0 < width }
+    requires some_row { 0 < height }
+    requires fits { width < 2 ^ 32 }
+    requires fits_height { height < 2 ^ 32 }
+{
     let mut surface = Surface::new(alloc, width, height, UnicodeWidths)?;
-    add_colours(alloc, &mut surface, EIGHT, width * height / 8)?;
+    add_colours(alloc, &mut surface, pens, EIGHT, width * height / 8)?;
     Ok(surface)
 }
 
 /// A full surface of 80x24, with a colour for every 8 columns.
 pub fn coloured_full(alloc: Global) -> Result<Surface<UnicodeWidths>, SurfaceError> {
     let mut surface = Surface::new_full(alloc, 80, 24, UnicodeWidths)?;
-    add_colours(alloc, &mut surface, EIGHT, 80 * 24 / 8)?;
+    add_colours(alloc, &mut surface, Pens::Ten, EIGHT, 80 * 24 / 8)?;
     Ok(surface)
 }
 
@@ -69,7 +104,7 @@ pub fn full(
     let mut surface = Surface::new(alloc, 80, 24, UnicodeWidths)?;
     match pens {
         Pens::One => add_texts(alloc, &mut surface, eight, 80 * 24 / 8)?,
-        Pens::Ten => add_colours(alloc, &mut surface, eight, 80 * 24 / 8)?,
+        _ => add_colours(alloc, &mut surface, pens, eight, 80 * 24 / 8)?,
     }
     Ok(surface)
 }
@@ -104,11 +139,12 @@ pub fn add_texts(
 pub fn add_colours(
     alloc: Global,
     surface: &mut Surface<UnicodeWidths>,
+    pens: Pens,
     eight: &str,
     count: usize,
 ) -> Result<(), SurfaceError> {
     for index in 0..count {
-        add_pen(alloc, surface, (index % 10) as u8)?;
+        add_pen(alloc, surface, pens, (index % 10) as u8)?;
         add_text(alloc, surface, eight)?;
     }
     Ok(())
@@ -119,17 +155,18 @@ pub fn add_colours(
 pub fn add_pen(
     alloc: Global,
     surface: &mut Surface<UnicodeWidths>,
+    pens: Pens,
     index: u8,
 ) -> Result<(), SurfaceError> {
-    let change = pen(alloc, index)?;
+    let change = pen(alloc, pens, index)?;
     surface.add_change(change)?;
     Ok(())
 }
 
 #[inline(never)]
-fn pen(alloc: Global, index: u8) -> Result<Change, AllocError> {
+fn pen(alloc: Global, pens: Pens, index: u8) -> Result<Change, AllocError> {
     let mut attrs = CellAttributes::blank();
-    attrs.set_foreground(alloc, ColorAttribute::PaletteIndex(index))?;
+    attrs.set_foreground(alloc, pens.color(index))?;
     Ok(Change::AllAttributes(attrs))
 }
 
@@ -155,8 +192,8 @@ pub fn speckle(
 ) -> Result<(), SurfaceError> {
     for y in 0..24 {
         for x in 0..4 {
-            if matches!(pens, Pens::Ten) {
-                add_pen(alloc, surface, 20 * x / 8)?;
+            if !matches!(pens, Pens::One) {
+                add_pen(alloc, surface, pens, 20 * x / 8)?;
             }
             add_speck(alloc, surface, 20 * usize::from(x), y)?;
         }

@@ -1,5 +1,5 @@
 //! A workload that draws frames from parts, and compares each with the last one.
-use crate::drawn::{add_pen, add_text, blank, move_to};
+use crate::drawn::{Pens, add_pen, add_text, blank, move_to};
 use std::alloc::Global;
 use std::mem;
 use termwiz_cell::change::Change;
@@ -18,22 +18,23 @@ const STATE: &str = "ready, and each panel shows what it has ";
 
 const OTHER_STATE: &str = "DRAWN ANEW: A PANEL HAS TWO OTHER LINES.";
 
-pub fn framed(alloc: Global, count: u32) -> Result<usize, SurfaceError> {
+pub fn framed(alloc: Global, pens: Pens, count: u32) -> Result<usize, SurfaceError> {
     let mut shown = blank(alloc, 24)?;
     let mut next = blank(alloc, 24)?;
-    frames(alloc, &mut shown, &mut next, count)
+    frames(alloc, pens, &mut shown, &mut next, count)
 }
 
 // How many entries the diffs of so many frames have.
 fn frames(
     alloc: Global,
+    pens: Pens,
     shown: &mut Surface<UnicodeWidths>,
     next: &mut Surface<UnicodeWidths>,
     count: u32,
 ) -> Result<usize, SurfaceError> {
     let mut entries = 0usize;
     for frame in 0..count {
-        draw(alloc, next, frame)?;
+        draw(alloc, pens, next, frame)?;
         entries = entries.wrapping_add(shown.diff_screens(next)?.len());
         next.flush_changes_older_than(next.current_seqno());
         mem::swap(shown, next);
@@ -44,14 +45,15 @@ fn frames(
 // A title, three panels and a line of state, which is another one each time.
 fn draw(
     alloc: Global,
+    pens: Pens,
     surface: &mut Surface<UnicodeWidths>,
     frame: u32,
 ) -> Result<(), SurfaceError> {
     surface.add_change(Change::ClearScreen(ColorAttribute::Default))?;
-    add_pen(alloc, surface, 3)?;
+    add_pen(alloc, surface, pens, 3)?;
     draw_line(alloc, surface, 0, 0, TITLE)?;
     for panel in 0..3 {
-        draw_panel(alloc, surface, panel, frame)?;
+        draw_panel(alloc, pens, surface, panel, frame)?;
     }
     let state = if frame % 2 == 0 { STATE } else { OTHER_STATE };
     draw_line(alloc, surface, 0, 23, state)
@@ -60,11 +62,12 @@ fn draw(
 // A panel of a colour of its own. In each frame one of them has two other lines.
 fn draw_panel(
     alloc: Global,
+    pens: Pens,
     surface: &mut Surface<UnicodeWidths>,
     panel: u8,
     frame: u32,
 ) -> Result<(), SurfaceError> {
-    add_pen(alloc, surface, panel)?;
+    add_pen(alloc, surface, pens, panel)?;
     for line in 0..18 {
         let is_other = frame % 3 == u32::from(panel) && frame % 9 == line % 9;
         let text = if is_other { OTHER_LINE } else { LINE };

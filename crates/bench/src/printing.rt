@@ -1,7 +1,7 @@
 //! Workloads that print on an 80x24, or on a surface of so many rows or columns.
 ghost use Rattle.std.specs.Prelude.{◌<◌, ◌^◌};
 
-use crate::drawn::{EIGHT, SHORT, add_colours, add_text, add_texts, blank, move_to};
+use crate::drawn::{EIGHT, Pens, SHORT, add_colours, add_text, add_texts, blank, move_to};
 use std::alloc::Global;
 use termwiz_cell::change::Change;
 use termwiz_cell::color::ColorAttribute;
@@ -79,18 +79,19 @@ fn print(
     Ok(surface.current_seqno())
 }
 
-pub fn coloured(alloc: Global, count: u32) -> Result<usize, SurfaceError> {
+pub fn coloured(alloc: Global, pens: Pens, count: u32) -> Result<usize, SurfaceError> {
     let mut surface = blank(alloc, 24)?;
-    print_colours(alloc, &mut surface, count)
+    print_colours(alloc, &mut surface, pens, count)
 }
 
 fn print_colours(
     alloc: Global,
     surface: &mut Surface<UnicodeWidths>,
+    pens: Pens,
     count: u32,
 ) -> Result<usize, SurfaceError> {
     for _ in 0..count {
-        add_colours(alloc, surface, EIGHT, 10)?;
+        add_colours(alloc, surface, pens, EIGHT, 10)?;
         add_text(alloc, surface, "\r\n")?;
     }
     Ok(surface.current_seqno())

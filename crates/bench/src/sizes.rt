@@ -1,5 +1,5 @@
 //! Workloads that make a surface or a copy of one, or give it another size.
-use crate::drawn::{blank, coloured};
+use crate::drawn::{Pens, blank, coloured, coloured_by};
 use std::alloc::Global;
 use termwiz_cell::emoji::UnicodeWidths;
 use termwiz_surface::surface::{Surface, SurfaceError};
@@ -47,8 +47,8 @@ fn storm(surface: &mut Surface<UnicodeWidths>, count: u32) -> Result<usize, Surf
     Ok(surface.current_seqno())
 }
 
-pub fn cloned(alloc: Global, count: u32) -> Result<usize, SurfaceError> {
-    let mut surface = coloured(alloc, 80, 24)?;
+pub fn cloned(alloc: Global, pens: Pens, count: u32) -> Result<usize, SurfaceError> {
+    let mut surface = coloured_by(alloc, pens, 80, 24)?;
     surface.flush_changes_older_than(surface.current_seqno());
     clones(&surface, count)
 }

@@ -1,7 +1,9 @@
 //! Workloads that ask a surface what changed.
 ghost use Rattle.std.specs.Prelude.{◌<◌, ◌^◌};
 
-use crate::drawn::{EIGHT, SHORT, add_text, add_texts, blank, coloured, coloured_full, move_to};
+use crate::drawn::{EIGHT, Pens, SHORT, add_text, add_texts, blank, coloured, coloured_by, coloured_full};
+use crate::drawn::move_to;
+use crate::links::linked;
 use std::alloc::Global;
 use termwiz_cell::change::{Change, CursorVisibility, SequenceNo};
 use termwiz_cell::emoji::UnicodeWidths;
@@ -16,6 +18,7 @@ pub fn due(alloc: Global, logged: usize, count: u32) -> Result<usize, SurfaceErr
 
 pub fn repainted(
     alloc: Global,
+    pens: Pens,
     width: usize,
     height: usize,
     count: u32,
@@ -25,7 +28,12 @@ pub fn repainted(
     requires fits { width < 2 ^ 32 }
     requires fits_height { height < 2 ^ 32 }
 {
-    let surface = coloured(alloc, width, height)?;
+    let surface = coloured_by(alloc, pens, width, height)?;
+    asked(&surface, 0, count)
+}
+
+pub fn repainted_links(alloc: Global, count: u32) -> Result<usize, SurfaceError> {
+    let surface = linked(alloc)?;
     asked(&surface, 0, count)
 }
 

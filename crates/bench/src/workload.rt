@@ -2,7 +2,7 @@
 ghost use Rattle.std.specs.Prelude.{◌<◌, ◌^◌};
 
 use crate::drawn::Pens;
-use crate::{answers, attributes, diffs, frames, lines, printing, sent, sizes, viewers};
+use crate::{answers, attributes, diffs, filled, frames, lines, printing, sent, sizes, viewers};
 use std::alloc::Global;
 use termwiz_surface::surface::SurfaceError;
 
@@ -12,7 +12,9 @@ pub enum Workload {
     /// A line of 80 characters on 80x24.
     Plain,
     /// The same with a colour for every 8 columns.
-    Colours,
+    Colours(Pens),
+    /// All rows of an 80x24, with a colour for every 8 columns, where the log is flushed each time.
+    Fill(Pens),
     /// A line of 40 kana.
     Kana,
     /// A short line at the bottom row, of 24 or SIZE.
@@ -25,13 +27,19 @@ pub enum Workload {
     FlushBehind,
     /// Lines of text on 200x50, in pieces of 4 KB, where the log is flushed each time.
     Cat,
+    /// Lines of text on 200x50, with a colour for every 8 columns, as in `Cat`.
+    ColouredCat(Pens),
+    /// A clear of 80x24 to a true colour, where the log is flushed each time.
+    ClearColour,
     /// A row of 80 columns, or SIZE, that ends in a wide character, whose last column is cleared,
     /// and which is printed again.
     EraseWide,
     /// Ten changes that are due on 80x24, of 11 in the log, or SIZE.
     Delta,
     /// A repaint of a coloured 80x24.
-    Repaint,
+    Repaint(Pens),
+    /// A repaint of an 80x24 with a link for every 8 columns.
+    LinkedRepaint,
     /// A repaint of a coloured 200x60.
     LargeRepaint,
     /// A repaint of a 200x60 full of text in one pen.
@@ -43,7 +51,7 @@ pub enum Workload {
     /// A diff of two that differ in all cells.
     DiffAll(Pens),
     /// A frame of 80x24 that is drawn from parts, and a diff from the last one.
-    Frame,
+    Frame(Pens),
     /// A viewer of an 80x24 that follows by a delta of one line, whose printing counts too.
     FollowDelta,
     /// The same, where both logs are flushed each time.
@@ -75,7 +83,7 @@ pub enum Workload {
     /// A step of a storm of sizes of a coloured 80x24, each by a column, and some by a row.
     Storm,
     /// A clone of a coloured 80x24.
-    SurfaceClone,
+    SurfaceClone(Pens),
     /// Making an 80x24.
     New,
     /// A clone of a line of 120 columns, or SIZE, with a colour for every 8, each cell in a place
@@ -104,18 +112,26 @@ pub enum Workload {
     Equality,
 }
 
-static NAMES: [(&str, Workload); 48] = [
+static NAMES: [(&str, Workload); 61] = [
     ("plain", Workload::Plain),
-    ("colours", Workload::Colours),
+    ("colours", Workload::Colours(Pens::Ten)),
+    ("true-line", Workload::Colours(Pens::TenTrue)),
+    ("fill", Workload::Fill(Pens::Ten)),
+    ("true-fill", Workload::Fill(Pens::TenTrue)),
     ("kana", Workload::Kana),
     ("scroll", Workload::Scroll),
     ("scroll-two", Workload::ScrollTwo),
     ("log", Workload::Log),
     ("flush-behind", Workload::FlushBehind),
     ("cat", Workload::Cat),
+    ("coloured-cat", Workload::ColouredCat(Pens::Ten)),
+    ("true-cat", Workload::ColouredCat(Pens::TenTrue)),
+    ("clear-colour", Workload::ClearColour),
     ("erase-wide", Workload::EraseWide),
     ("delta", Workload::Delta),
-    ("repaint", Workload::Repaint),
+    ("repaint", Workload::Repaint(Pens::Ten)),
+    ("true-repaint", Workload::Repaint(Pens::TenTrue)),
+    ("linked-repaint", Workload::LinkedRepaint),
     ("large-repaint", Workload::LargeRepaint),
     ("one-pen", Workload::OnePen),
     ("diff-0", Workload::DiffNone(Pens::Ten)),
@@ -124,7 +140,11 @@ static NAMES: [(&str, Workload); 48] = [
     ("plain-diff-0", Workload::DiffNone(Pens::One)),
     ("plain-diff-5", Workload::DiffSome(Pens::One)),
     ("plain-diff-100", Workload::DiffAll(Pens::One)),
-    ("frame", Workload::Frame),
+    ("true-diff-0", Workload::DiffNone(Pens::TenTrue)),
+    ("true-diff-5", Workload::DiffSome(Pens::TenTrue)),
+    ("true-diff-100", Workload::DiffAll(Pens::TenTrue)),
+    ("frame", Workload::Frame(Pens::Ten)),
+    ("true-frame", Workload::Frame(Pens::TenTrue)),
     ("follow-delta", Workload::FollowDelta),
     ("viewer-memory", Workload::ViewerMemory),
     ("type-and-follow", Workload::TypeAndFollow),
@@ -140,7 +160,8 @@ static NAMES: [(&str, Workload); 48] = [
     ("resize", Workload::Resize),
     ("resize-one-row", Workload::ResizeOneRow),
     ("storm", Workload::Storm),
-    ("surface-clone", Workload::SurfaceClone),
+    ("surface-clone", Workload::SurfaceClone(Pens::Ten)),
+    ("true-clone", Workload::SurfaceClone(Pens::TenTrue)),
     ("new", Workload::New),
     ("line-clone", Workload::LineClone),
     ("compress", Workload::Compress),
@@ -184,22 +205,26 @@ pub fn run(
 ) -> Result<usize, SurfaceError> {
     match workload {
         Workload::Plain => printing::plain(alloc, count),
-        Workload::Colours => printing::coloured(alloc, count),
+        Workload::Colours(pens) => printing::coloured(alloc, pens, count),
+        Workload::Fill(pens) => filled::filled(alloc, pens, count),
         Workload::Kana => printing::kana(alloc, count),
         Workload::Scroll => printing::scrolled(alloc, given(size, 24), count),
         Workload::ScrollTwo => printing::scrolled_in_two(alloc, given(size, 24), count),
         Workload::Log => printing::flushed(alloc, count),
         Workload::FlushBehind => printing::flushed_behind(alloc, given(size, 8_000), count),
         Workload::Cat => printing::piped(alloc, count),
+        Workload::ColouredCat(pens) => filled::piped(alloc, pens, count),
+        Workload::ClearColour => filled::cleared(alloc, count),
         Workload::EraseWide => printing::erased_wide(alloc, given(size, 80), count),
         Workload::Delta => viewers::due(alloc, given(size, 11), count),
-        Workload::Repaint => viewers::repainted(alloc, 80, 24, count),
-        Workload::LargeRepaint => viewers::repainted(alloc, 200, 60, count),
+        Workload::Repaint(pens) => viewers::repainted(alloc, pens, 80, 24, count),
+        Workload::LinkedRepaint => viewers::repainted_links(alloc, count),
+        Workload::LargeRepaint => viewers::repainted(alloc, Pens::Ten, 200, 60, count),
         Workload::OnePen => viewers::one_pen(alloc, count),
         Workload::DiffNone(pens) => diffs::none(alloc, pens, count),
         Workload::DiffSome(pens) => diffs::some(alloc, pens, count),
         Workload::DiffAll(pens) => diffs::all(alloc, pens, count),
-        Workload::Frame => frames::framed(alloc, count),
+        Workload::Frame(pens) => frames::framed(alloc, pens, count),
         Workload::FollowDelta => viewers::followed_by_deltas(alloc, count),
         Workload::ViewerMemory => viewers::refreshed(alloc, count),
         Workload::TypeAndFollow => viewers::typed(alloc, count),
@@ -215,7 +240,7 @@ pub fn run(
         Workload::Resize => sizes::resized(alloc, count),
         Workload::ResizeOneRow => sizes::resized_by_a_row(alloc, count),
         Workload::Storm => sizes::stormed(alloc, count),
-        Workload::SurfaceClone => sizes::cloned(alloc, count),
+        Workload::SurfaceClone(pens) => sizes::cloned(alloc, pens, count),
         Workload::New => sizes::made(alloc, count),
         Workload::LineClone => lines::cloned(alloc, given(size, 120), count),
         Workload::Compress => lines::compressed(alloc, given(size, 120), count),

@@ -10,8 +10,13 @@ use termwiz_cell::hyperlink::Hyperlink;
 /// The text of a cell that doesn't hold it in place: one grapheme of more than seven bytes.
 pub const LONG: &str = "e\u{301}\u{302}\u{303}\u{304}\u{305}";
 
-/// A colour that no attributes hold in place.
+/// A true colour, which attributes hold in place.
 pub fn true_color() -> ColorAttribute {
+    ColorAttribute::TrueColorWithDefaultFallback(RgbColor::new_8bpc(255, 21, 0))
+}
+
+/// A colour that no attributes hold in place.
+pub fn boxed_color() -> ColorAttribute {
     ColorAttribute::TrueColorWithPaletteFallback(RgbColor::new_8bpc(0, 21, 255), 7)
 }
 
@@ -25,7 +30,7 @@ pub fn bold() -> CellAttributes {
 /// Attributes that take memory.
 pub fn boxed(alloc: Global) -> Result<CellAttributes, AllocError> {
     let mut attrs = bold();
-    attrs.change_foreground(alloc, true_color())?;
+    attrs.change_foreground(alloc, boxed_color())?;
     Ok(attrs)
 }
 
@@ -46,9 +51,9 @@ pub fn rich_cell(alloc: Global) -> Result<Cell, AllocError> {
     Cell::new_grapheme_with_width(alloc, LONG, 1, attrs)
 }
 
-/// The change of the pen to a true colour.
+/// The change of the pen to such a colour.
 pub fn colored_pen() -> Change {
-    Change::Attribute(AttributeChange::Foreground(true_color()))
+    Change::Attribute(AttributeChange::Foreground(boxed_color()))
 }
 
 pub fn text(alloc: Global, text: &str) -> Result<Change, Stop> {

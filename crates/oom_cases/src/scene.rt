@@ -1,5 +1,5 @@
 //! Surfaces of three kinds, each with a viewer, and what stands on them.
-use crate::given::{LONG, boxed, text, true_color};
+use crate::given::{LONG, boxed, boxed_color, text};
 use crate::stop::Stop;
 use std::alloc::{AllocError, Global};
 use std::borrow::CowSlice;
@@ -93,7 +93,7 @@ pub fn texts(alloc: Global, kind: Kind) -> Result<Vec<Change>, Stop> {
 fn push_kept(alloc: Global, changes: &mut Vec<Change>) -> Result<(), Stop> {
     changes.push(Change::Title("a title".to_owned(alloc)?))?;
     changes.push(Change::CursorShape(CursorShape::SteadyBar))?;
-    changes.push(Change::CursorColor(true_color()))?;
+    changes.push(Change::CursorColor(boxed_color()))?;
     changes.push(Change::LineAttribute(LineAttribute::DoubleWidthLine))?;
     Ok(())
 }

@@ -1,5 +1,5 @@
 //! Setters of attributes that take no memory yet.
-use crate::given::{bold, shared_link, true_color};
+use crate::given::{bold, boxed_color, shared_link, true_color};
 use crate::stop::{Stop, holds, refused};
 use std::alloc::Global;
 use std::rc::Rc;
@@ -41,10 +41,22 @@ fn name(setter: Setter) -> &'static str {
 }
 
 pub fn play(alloc: Global) -> Result<(), Stop> {
+    holds("set_foreground and set_background of a true colour", has_true_colors(alloc))?;
     for setter in SETTERS {
         tried(alloc, setter)?;
     }
     Ok(())
+}
+
+// Whether attributes get true colours, and are copied with them, whatever memory there is.
+fn has_true_colors(alloc: Global) -> bool {
+    let mut attrs = bold();
+    let set = attrs.set_foreground(alloc, true_color()).is_ok()
+        && attrs.set_background(alloc, true_color()).is_ok();
+    match attrs.clone() {
+        Ok(copy) => set && copy.foreground() == true_color() && copy.background() == true_color(),
+        Err(_) => false,
+    }
 }
 
 fn tried(alloc: Global, setter: Setter) -> Result<(), Stop> {
@@ -60,9 +72,9 @@ fn tried(alloc: Global, setter: Setter) -> Result<(), Stop> {
 
 fn is_set(alloc: Global, setter: Setter, attrs: &mut CellAttributes, link: Rc<Hyperlink>) -> bool {
     match setter {
-        Setter::Foreground => attrs.set_foreground(alloc, true_color()).is_ok(),
-        Setter::Background => attrs.set_background(alloc, true_color()).is_ok(),
-        Setter::UnderlineColor => attrs.set_underline_color(alloc, true_color()).is_ok(),
+        Setter::Foreground => attrs.set_foreground(alloc, boxed_color()).is_ok(),
+        Setter::Background => attrs.set_background(alloc, boxed_color()).is_ok(),
+        Setter::UnderlineColor => attrs.set_underline_color(alloc, boxed_color()).is_ok(),
         Setter::Hyperlink => attrs.set_hyperlink(alloc, Some(link)).is_ok(),
         _ => attrs.apply_change(alloc, &change(setter, link)).is_ok(),
     }
@@ -70,8 +82,8 @@ fn is_set(alloc: Global, setter: Setter, attrs: &mut CellAttributes, link: Rc<Hy
 
 fn change(setter: Setter, link: Rc<Hyperlink>) -> AttributeChange {
     match setter {
-        Setter::ForegroundChange => AttributeChange::Foreground(true_color()),
-        Setter::BackgroundChange => AttributeChange::Background(true_color()),
+        Setter::ForegroundChange => AttributeChange::Foreground(boxed_color()),
+        Setter::BackgroundChange => AttributeChange::Background(boxed_color()),
         _ => AttributeChange::Hyperlink(Some(link)),
     }
 }
@@ -79,9 +91,9 @@ fn change(setter: Setter, link: Rc<Hyperlink>) -> AttributeChange {
 // Whether the attributes have what the setter gives.
 fn has(setter: Setter, attrs: &CellAttributes) -> bool {
     match setter {
-        Setter::Foreground | Setter::ForegroundChange => attrs.foreground() == true_color(),
-        Setter::Background | Setter::BackgroundChange => attrs.background() == true_color(),
-        Setter::UnderlineColor => attrs.underline_color() == true_color(),
+        Setter::Foreground | Setter::ForegroundChange => attrs.foreground() == boxed_color(),
+        Setter::Background | Setter::BackgroundChange => attrs.background() == boxed_color(),
+        Setter::UnderlineColor => attrs.underline_color() == boxed_color(),
         Setter::Hyperlink | Setter::HyperlinkChange => attrs.hyperlink().is_some(),
     }
 }

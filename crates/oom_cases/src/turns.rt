@@ -85,7 +85,7 @@ fn take(alloc: Global, scene: &mut Scene, turn: Turn) -> Result<(), Stop> {
     }
 }
 
-// A scroll, and a pen in a true colour.
+// A scroll, and a pen that takes memory.
 fn scroll(alloc: Global) -> Result<Vec<Change>, Stop> {
     let mut changes = Vec::new(alloc);
     changes.push(Change::ScrollRegionUp {

@@ -33,7 +33,7 @@ pub enum Piece {
     /// A wide cell of eight bytes.
     WideEight,
     Linked,
-    /// A letter in a true colour.
+    /// A letter in a true colour with a palette's fallback.
     Colored,
     /// A letter of a prompt.
     Prompt,
@@ -147,7 +147,7 @@ fn linked(alloc: Global) -> Result<CellAttributes, AllocError> {
 
 fn colored(alloc: Global) -> Result<CellAttributes, AllocError> {
     let mut attrs = CellAttributes::blank();
-    let color = ColorAttribute::TrueColorWithDefaultFallback(RgbColor::new_8bpc(1, 2, 3));
+    let color = ColorAttribute::TrueColorWithPaletteFallback(RgbColor::new_8bpc(1, 2, 3), 4);
     attrs.set_foreground(alloc, color)?;
     Ok(attrs)
 }

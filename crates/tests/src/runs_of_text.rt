@@ -137,7 +137,7 @@ fn pens(rt: &impl Abort, alloc: Global) -> [CellAttributes; 3] {
     let mut orange = CellAttributes::blank();
     let color = RgbColor::new_8bpc(255, 128, 0);
     orange
-        .change_background(alloc, ColorAttribute::TrueColorWithDefaultFallback(color))
+        .change_background(alloc, ColorAttribute::TrueColorWithPaletteFallback(color, 3))
         .expect(rt, "memory");
     [CellAttributes::blank(), red, orange]
 }

@@ -21,7 +21,7 @@ HEADER = TOP / "bindings" / "c" / "tikeburo.h"
 RUST = TOP / "bindings" / "rust" / "src"
 FFI = RUST / "ffi.rs"
 STRUCTS = {"Handle": "tk_handle", "ColorFields": "tk_color", "AttributeFields": "tk_attributes",
-           "CellFields": "tk_cell"}
+           "CellFields": "tk_cell", "FaultFields": "tk_fault"}
 PLAIN = {"usize": "size_t", "isize": "ptrdiff_t", "u8": "uint8_t", "i32": "tk_status",
          "bool": "bool"}
 IN_RUST = {"size_t": "usize", "ptrdiff_t": "isize", "uint8_t": "u8", "char": "u8", "void": "c_void",
@@ -183,6 +183,12 @@ def numbers():
                 if enum == "LineAttribute":
                     variant = variant.removesuffix("_Line")
                 found[ENUMS[enum] + variant.upper()] = int(number)
+        # A client stops at each of these but the first, and at a size.
+        for variant, number in re.findall(r"FaultKind::(\w+) => (\d+),", text) + [
+                ("Size", number) for number in re.findall(
+                    r"ClientError::Size \{ at \}\) => \{\s*\*fault = fields_at\((\d+),", text)]:
+            if variant != "Truncated":
+                found["FAULT_" + variant.upper()] = int(number)
     return found
 
 

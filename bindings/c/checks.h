@@ -19,11 +19,46 @@ static void check(bool holds, const char *what, int line) {
 
 #define CHECK(what) check(what, #what, __LINE__)
 
+/* A surface with a number of its own. */
 static tk_handle made(size_t width, size_t height) {
+    static size_t source = 0;
     tk_handle surface = TK_NONE;
-    check(tk_surface_new(&surface, width, height, TK_WIDTHS_UNICODE, false) == TK_DONE,
+    source++;
+    check(tk_surface_new(&surface, width, height, TK_WIDTHS_UNICODE, source) == TK_DONE,
           "tk_surface_new", __LINE__);
     return surface;
+}
+
+static tk_handle made_client(void) {
+    tk_handle client = TK_NONE;
+    check(tk_client_new(&client, TK_WIDTHS_UNICODE, TK_USUAL_CELLS, TK_USUAL_BYTES) == TK_DONE,
+          "tk_client_new", __LINE__);
+    return client;
+}
+
+/* Bytes that a call wrote. */
+typedef struct bytes {
+    uint8_t at[512];
+    size_t len;
+} bytes;
+
+static bytes ask_of(tk_handle *client) {
+    bytes ask = {.len = 0};
+    check(tk_client_ask(client, ask.at, 20, &ask.len) == TK_DONE, "tk_client_ask", __LINE__);
+    return ask;
+}
+
+/* What the surface answers to the client. */
+static bytes answer_to(tk_handle *surface, tk_handle *client) {
+    bytes ask = ask_of(client), answer = {.len = 0};
+    check(tk_respond(surface, ask.at, ask.len, answer.at, sizeof answer.at, &answer.len) == TK_DONE,
+          "tk_respond", __LINE__);
+    return answer;
+}
+
+static tk_status feed(tk_handle *client, const bytes *answer) {
+    tk_fault fault;
+    return tk_client_feed(client, answer->at, answer->len, &fault);
 }
 
 static tk_status print(tk_handle *surface, const char *text) {

@@ -1,4 +1,4 @@
-/* Carries a screen to a viewer as bytes, and prints the rows that the viewer shows.
+/* Carries a screen to a client as bytes, and prints the rows that the client shows.
  *
  *     cc example.c libtikeburo_c.a liblibc_c.a libos_c.a -o example && ./example
  *
@@ -7,6 +7,7 @@
 #include <stdio.h>
 #include <stdlib.h>
 #include <string.h>
+#include <sys/random.h>
 
 /* Returns an error of the call from the function that it stands in. */
 #define TRY(call)                                                                                  \
@@ -51,30 +52,40 @@ static tk_status draw(tk_handle *surface) {
     return print(surface, "same screen");
 }
 
-/* What the viewer lacks of the surface goes into the buffer, and from there to the viewer: the
- * bytes could go over any connection in between. */
-static tk_status deliver(tk_handle *surface, tk_handle *viewer, buffer *bytes) {
-    size_t last;
-    TRY(tk_last(viewer, &last));
-    tk_status status = tk_answer(surface, last, bytes->at, bytes->room, &bytes->len);
+/* A number that no other surface has: 64 random bits, but not 0. */
+static size_t source_number(void) {
+    size_t number = 0;
+    while (number == 0 && getrandom(&number, sizeof number, 0) >= 0) {
+    }
+    return number;
+}
+
+/* What the client lacks of the surface goes into the buffer, and from there to the client: ask and
+ * answer could go over any connection in between. */
+static tk_status deliver(tk_handle *surface, tk_handle *client, buffer *bytes) {
+    uint8_t ask[20];
+    size_t ask_len;
+    tk_fault fault;
+    TRY(tk_client_ask(client, ask, sizeof ask, &ask_len));
+    tk_status status = tk_respond(surface, ask, ask_len, bytes->at, bytes->room, &bytes->len);
     if (status == TK_SHORT) {
         TRY(grow(bytes, bytes->len));
-        status = tk_answer(surface, last, bytes->at, bytes->room, &bytes->len);
+        status = tk_respond(surface, ask, ask_len, bytes->at, bytes->room, &bytes->len);
     }
     TRY(status);
-    TRY(tk_accept(viewer, bytes->at, bytes->len));
-    printf("%zu bytes after number %zu\n", bytes->len, last);
+    TRY(tk_client_feed(client, bytes->at, bytes->len, &fault));
+    printf("%zu bytes ask, %zu answer\n", ask_len, bytes->len);
     return TK_DONE;
 }
 
-static tk_status print_rows(tk_handle *viewer, buffer *text) {
+static tk_status print_rows(tk_handle *client, buffer *text) {
     size_t width, height;
-    TRY(tk_size(viewer, &width, &height));
+    TRY(tk_size(client, &width, &height));
     for (size_t row = 0; row < height; row++) {
-        tk_status status = tk_row_text(viewer, row, text->at, text->room, &text->len);
+        tk_status status = tk_row_text(client, row, text->at, text->room, &text->len);
         if (status == TK_SHORT) {
             TRY(grow(text, text->len));
-            status = tk_row_text(viewer, row, text->at, text->room, &text->len);
+            status = tk_row_text(client, row, text->at, text->room, &text->len);
         }
         TRY(status);
         printf("|%.*s|\n", (int)text->len, (const char *)text->at);
@@ -82,23 +93,23 @@ static tk_status print_rows(tk_handle *viewer, buffer *text) {
     return TK_DONE;
 }
 
-static tk_status run(tk_handle *surface, tk_handle *viewer, buffer *buffer) {
+static tk_status run(tk_handle *surface, tk_handle *client, buffer *buffer) {
     TRY(grow(buffer, 16));
-    TRY(tk_surface_new(surface, 12, 3, TK_WIDTHS_UNICODE, false));
-    TRY(tk_viewer_new(viewer, surface));
+    TRY(tk_surface_new(surface, 12, 3, TK_WIDTHS_UNICODE, source_number()));
+    TRY(tk_client_new(client, TK_WIDTHS_UNICODE, TK_USUAL_CELLS, TK_USUAL_BYTES));
     TRY(draw(surface));
-    TRY(deliver(surface, viewer, buffer)); /* a repaint, since the viewer is new */
+    TRY(deliver(surface, client, buffer)); /* a repaint, since the client is new */
     TRY(tk_move_to(surface, 6, 1));
     TRY(print(surface, "world"));
-    TRY(deliver(surface, viewer, buffer)); /* these two changes alone */
-    return print_rows(viewer, buffer);
+    TRY(deliver(surface, client, buffer)); /* these two changes alone */
+    return print_rows(client, buffer);
 }
 
 int main(void) {
-    tk_handle surface = TK_NONE, viewer = TK_NONE;
+    tk_handle surface = TK_NONE, client = TK_NONE;
     buffer buffer = {0};
-    tk_status status = run(&surface, &viewer, &buffer);
-    tk_free(&viewer);
+    tk_status status = run(&surface, &client, &buffer);
+    tk_free(&client);
     tk_free(&surface);
     free(buffer.at);
     if (status == TK_MEMORY) {

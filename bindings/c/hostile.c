@@ -1,7 +1,7 @@
 /* Gives the library what a caller may give it by mistake or by ill will: random bytes, answers that
- * are damaged or cut short, claims of great lengths, handles that are freed, and random calls with
- * random arguments. Each call has to return what the header names, and a viewer that accepts a
- * surface's answer has to show what the surface shows, whatever came before.
+ * are damaged, cut short or another surface's, claims of great lengths, handles that are freed, and
+ * random calls with random arguments. Each call has to return what the header names, and a client
+ * that is fed a surface's answer has to show what the surface shows, whatever came before.
  *
  *     hostile [ROUNDS]
  *
@@ -36,8 +36,17 @@ static void expect(bool holds, const char *what) {
 
 /* What a call may return that has bytes of any kind to read. */
 static bool is_answered(tk_status status) {
-    return status == TK_DONE || status == TK_UNREADABLE || status == TK_REGION ||
-           status == TK_SIZE || status == TK_STALE;
+    return status == TK_DONE || status == TK_UNREADABLE || status == TK_TRUNCATED ||
+           status == TK_REGION;
+}
+
+/* Gives the client a whole stream of its own. What is wrong with it has a name and a place. */
+static tk_status feed(tk_handle *client, const uint8_t *bytes, size_t len) {
+    tk_fault fault = {.kind = 99};
+    EXPECT(tk_client_reset(client) == TK_DONE);
+    tk_status status = tk_client_feed(client, bytes, len, &fault);
+    EXPECT(status == TK_DONE ? fault.kind == 99 : fault.kind <= TK_FAULT_LIMIT && fault.at < len);
+    return status;
 }
 
 /* Random bytes: small numbers for the most part, since they are heads of CBOR. */
@@ -72,14 +81,9 @@ static const uint8_t LENGTHS[] = {5, 9, 10, 4, 3, 3, 6, 8, 7, 3, 3, 5, 5, 4, 3};
  * begins at byte 7. */
 static size_t random_answer(uint8_t *bytes) {
     size_t count = below(4), len = 8;
-    uint8_t head[] = {0x87,
-                      1,
-                      12,
-                      3,
-                      0,
-                      (uint8_t)below(24),
-                      (uint8_t)(below(8) ? 0xf5 : 0xf4),
-                      (uint8_t)(0x80 + count)};
+    uint8_t base = (uint8_t)(below(8) ? 0 : below(12)), number = (uint8_t)(12 + below(12));
+    uint8_t source = (uint8_t)(1 + below(3)), list = (uint8_t)(0x80 + count);
+    uint8_t head[] = {0x87, 2, source, 12, 3, base, number, list};
     memcpy(bytes, head, sizeof head);
     for (size_t change = 0; change < count; change++) {
         size_t kind = below(sizeof LENGTHS);
@@ -115,74 +119,80 @@ static bool same_screens(tk_handle *a, tk_handle *b) {
     return same;
 }
 
-/* The viewer is given what it lacks, and shows what the surface shows. */
-static void deliver(tk_handle *surface, tk_handle *viewer) {
+/* The client is given what it lacks, in pieces, and shows what the surface shows. */
+static void deliver(tk_handle *surface, tk_handle *client) {
     static uint8_t bytes[1 << 16];
-    size_t last, len;
-    EXPECT(tk_last(viewer, &last) == TK_DONE);
-    EXPECT(tk_answer(surface, last, bytes, sizeof bytes, &len) == TK_DONE);
-    tk_status status = tk_accept(viewer, bytes, len);
-    if (status == TK_SIZE) {
-        size_t width, height;
-        EXPECT(tk_size(surface, &width, &height) == TK_DONE);
-        EXPECT(tk_resize(viewer, width, height) == TK_DONE);
-        EXPECT(tk_answer(surface, 0, bytes, sizeof bytes, &len) == TK_DONE);
-        status = tk_accept(viewer, bytes, len);
+    uint8_t ask[20];
+    size_t ask_len, len;
+    tk_fault fault;
+    EXPECT(tk_client_reset(client) == TK_DONE);
+    EXPECT(tk_client_ask(client, ask, sizeof ask, &ask_len) == TK_DONE);
+    EXPECT(tk_respond(surface, ask, ask_len, bytes, sizeof bytes, &len) == TK_DONE);
+    for (size_t fed = 0, piece; fed < len; fed += piece) {
+        piece = 1 + below(len - fed);
+        EXPECT(tk_client_feed(client, bytes + fed, piece, &fault) == TK_DONE);
     }
-    EXPECT(status == TK_DONE);
-    EXPECT(same_screens(surface, viewer));
+    EXPECT(same_screens(surface, client));
 }
 
-static void random_bytes(tk_handle *surface, tk_handle *viewer, size_t rounds) {
-    uint8_t bytes[64];
+static void random_bytes(tk_handle *surface, tk_handle *client, size_t rounds) {
+    uint8_t bytes[64], answer[1024];
+    size_t answer_len;
     for (size_t round = 0; round < rounds; round++) {
         size_t len = fill(bytes, sizeof bytes);
-        EXPECT(is_answered(tk_accept(viewer, bytes, len)));
+        EXPECT(is_answered(feed(client, bytes, len)));
         EXPECT(is_answered(tk_add_changes(surface, bytes, len)));
+        tk_status status = tk_respond(surface, bytes, len, answer, sizeof answer, &answer_len);
+        EXPECT(is_answered(status) || status == TK_SHORT);
         len = random_answer(bytes);
-        EXPECT(is_answered(tk_accept(viewer, bytes, len)));
+        EXPECT(is_answered(feed(client, bytes, len)));
         EXPECT(is_answered(tk_add_changes(surface, bytes + 7, len - 7)));
         if (round % 64 == 0)
-            deliver(surface, viewer);
+            deliver(surface, client);
     }
 }
 
 /* Each front of an answer, and the answer with each of its bytes at each value. */
-static void damaged_answers(tk_handle *surface, tk_handle *viewer, size_t values) {
+static void damaged_answers(tk_handle *surface, tk_handle *client, size_t values) {
+    static const uint8_t ask[] = {0x83, 2, 0, 0};
     uint8_t bytes[1024];
     size_t len;
-    EXPECT(tk_answer(surface, 0, bytes, sizeof bytes, &len) == TK_DONE);
+    EXPECT(tk_respond(surface, ask, sizeof ask, bytes, sizeof bytes, &len) == TK_DONE);
     for (size_t front = 0; front < len; front++)
-        EXPECT(tk_accept(viewer, bytes, front) == TK_UNREADABLE);
+        EXPECT(feed(client, bytes, front) == TK_DONE); /* more would have to come */
     for (size_t at = 0; at < len; at++) {
         uint8_t right = bytes[at];
         for (size_t value = 0; value < values; value++) {
             bytes[at] = (uint8_t)(right + value);
-            EXPECT(is_answered(tk_accept(viewer, bytes, len)));
+            EXPECT(is_answered(feed(client, bytes, len)));
         }
         bytes[at] = right;
-        EXPECT(tk_accept(viewer, bytes, len) == TK_DONE); /* it is a repaint */
+        EXPECT(feed(client, bytes, len) == TK_DONE); /* it is a repaint */
     }
-    EXPECT(same_screens(surface, viewer));
+    EXPECT(same_screens(surface, client));
 }
 
-/* Lists and texts that claim to be longer than any memory. */
-static void great_claims(tk_handle *surface, tk_handle *viewer) {
+/* Lists, texts and screens that claim to be greater than any memory. */
+static void great_claims(tk_handle *surface, tk_handle *client) {
     static const uint8_t list[] = {0x9b, 0x7f, 255, 255, 255, 255, 255, 255, 255, 0x82, 8, 0};
     static const uint8_t text[] = {0x81, 0x82, 2,   0x7b, 255, 255, 255,
                                    255,  255,  255, 255,  255, 'x'};
-    static const uint8_t answer[] = {0x87, 1,   1,   1,   0,   1,   0xf5, 0x9b,
-                                     0x7f, 255, 255, 255, 255, 255, 255,  255};
-    EXPECT(tk_add_changes(surface, list, sizeof list) == TK_UNREADABLE);
+    static const uint8_t answer[] = {0x87, 2,   1,   1,   1,   0,   1,   0x9b,
+                                     0x7f, 255, 255, 255, 255, 255, 255, 255};
+    static const uint8_t screen[] = {0x87, 2, 1, 0x1a, 255, 255, 255, 255, 0x1a,
+                                     255,  255, 255, 255, 0,   1,   0x80};
+    EXPECT(tk_add_changes(surface, list, sizeof list) == TK_TRUNCATED);
     EXPECT(tk_add_changes(surface, text, sizeof text) == TK_UNREADABLE);
-    EXPECT(tk_accept(viewer, answer, sizeof answer) == TK_UNREADABLE);
-    EXPECT(tk_add_changes(surface, list, 0) == TK_UNREADABLE);
-    EXPECT(tk_accept(viewer, answer, 0) == TK_UNREADABLE);
+    EXPECT(feed(client, answer, sizeof answer) == TK_UNREADABLE);
+    EXPECT(feed(client, screen, sizeof screen) == TK_UNREADABLE);
+    EXPECT(tk_add_changes(surface, list, 0) == TK_TRUNCATED);
+    EXPECT(feed(client, answer, 0) == TK_DONE);
     for (size_t depth = 0; depth < 64; depth++) { /* arrays in arrays */
         uint8_t nested[64];
         memset(nested, 0x81, sizeof nested);
-        EXPECT(tk_add_changes(surface, nested, depth) == TK_UNREADABLE);
-        EXPECT(tk_accept(viewer, nested, depth) == TK_UNREADABLE);
+        EXPECT(tk_add_changes(surface, nested, depth) ==
+               (depth < 2 ? TK_TRUNCATED : TK_UNREADABLE));
+        EXPECT(feed(client, nested, depth) == (depth < 2 ? TK_DONE : TK_UNREADABLE));
     }
 }
 
@@ -190,10 +200,12 @@ static void great_claims(tk_handle *surface, tk_handle *viewer) {
 static void freed_handles(void) {
     tk_handle handle = TK_NONE, other = TK_NONE;
     tk_color color = {0};
+    tk_fault fault;
     char text[4];
+    uint8_t bytes[20];
     size_t number = 0, len = 0;
     for (int round = 0; round < 3; round++) {
-        EXPECT(tk_surface_new(&handle, 3, 3, TK_WIDTHS_UNICODE, false) == TK_DONE);
+        EXPECT(tk_surface_new(&handle, 3, 3, TK_WIDTHS_UNICODE, 1) == TK_DONE);
         EXPECT(tk_print(&handle, "x", 1) == TK_DONE);
         tk_free(&handle);
         tk_free(&handle);
@@ -202,9 +214,11 @@ static void freed_handles(void) {
         EXPECT(tk_clear_screen(&handle, &color) == TK_NO_HANDLE);
         EXPECT(tk_resize(&handle, 2, 2) == TK_NO_HANDLE);
         EXPECT(tk_screen_text(&handle, text, sizeof text, &len) == TK_NO_HANDLE);
-        EXPECT(tk_answer(&handle, 0, (uint8_t *)text, sizeof text, &len) == TK_NO_HANDLE);
-        EXPECT(tk_accept(&handle, (uint8_t *)text, 0) == TK_NO_HANDLE);
-        EXPECT(tk_last(&handle, &number) == TK_NO_HANDLE);
+        EXPECT(tk_respond(&handle, bytes, 0, bytes, sizeof bytes, &len) == TK_NO_HANDLE);
+        EXPECT(tk_client_feed(&handle, bytes, 0, &fault) == TK_NO_HANDLE);
+        EXPECT(tk_client_ask(&handle, bytes, sizeof bytes, &len) == TK_NO_HANDLE);
+        EXPECT(tk_client_reset(&handle) == TK_NO_HANDLE);
+        EXPECT(tk_number(&handle, &number) == TK_NO_HANDLE);
         EXPECT(tk_viewer_new(&other, &handle) == TK_NO_HANDLE);
         EXPECT(tk_follow(&other, &handle) == TK_NO_HANDLE);
         EXPECT(tk_draw(&other, &handle, 0, 0) == TK_NO_HANDLE);
@@ -289,42 +303,44 @@ static void random_change(tk_handle *surface, tk_handle *source) {
     }
 }
 
+/* Two surfaces, of which a client and a viewer show now the one and now the other. */
 static void random_calls(size_t rounds) {
-    tk_handle surface = TK_NONE, viewer = TK_NONE, follower = TK_NONE;
-    EXPECT(tk_surface_new(&surface, 11, 5, TK_WIDTHS_UNICODE, true) == TK_DONE);
-    EXPECT(tk_viewer_new(&viewer, &surface) == TK_DONE);
-    EXPECT(tk_viewer_new(&follower, &surface) == TK_DONE);
+    tk_handle surfaces[2] = {TK_NONE, TK_NONE}, client = TK_NONE, viewer = TK_NONE;
+    EXPECT(tk_surface_new(&surfaces[0], 11, 5, TK_WIDTHS_UNICODE, 1) == TK_DONE);
+    EXPECT(tk_surface_new(&surfaces[1], 11, 5, TK_WIDTHS_UNICODE, SIZE_MAX) == TK_DONE);
+    EXPECT(tk_client_new(&client, TK_WIDTHS_UNICODE, 100, 1 << 16) == TK_DONE);
+    EXPECT(tk_viewer_new(&viewer, &surfaces[0]) == TK_DONE);
     for (size_t round = 0; round < rounds; round++) {
-        random_change(&surface, &follower);
+        tk_handle *surface = &surfaces[below(2)];
+        random_change(surface, &viewer);
         if (below(8) == 0)
-            deliver(&surface, &viewer);
+            deliver(&surfaces[below(8) == 0], &client);
         if (below(16) == 0) {
-            EXPECT(tk_follow(&follower, &surface) == TK_DONE);
-            EXPECT(same_screens(&surface, &follower));
+            EXPECT(tk_follow(&viewer, surface) == TK_DONE);
+            EXPECT(same_screens(surface, &viewer));
         }
         if (below(32) == 0)
-            EXPECT(is_changed(tk_resize(&surface, below(13), below(9))));
-        if (below(32) == 0)
-            EXPECT(tk_flush(&surface, below(round + 1)) == TK_DONE);
+            EXPECT(is_changed(tk_resize(surface, below(13), below(9))));
     }
-    tk_free(&follower);
     tk_free(&viewer);
-    tk_free(&surface);
+    tk_free(&client);
+    tk_free(&surfaces[0]);
+    tk_free(&surfaces[1]);
 }
 
 int main(int count, char **words) {
     size_t rounds = count > 1 ? strtoul(words[1], NULL, 10) : 500000;
-    tk_handle surface = TK_NONE, viewer = TK_NONE;
-    EXPECT(tk_surface_new(&surface, 12, 3, TK_WIDTHS_UNICODE, false) == TK_DONE);
-    EXPECT(tk_viewer_new(&viewer, &surface) == TK_DONE);
+    tk_handle surface = TK_NONE, client = TK_NONE;
+    EXPECT(tk_surface_new(&surface, 12, 3, TK_WIDTHS_UNICODE, 1000) == TK_DONE);
+    EXPECT(tk_client_new(&client, TK_WIDTHS_UNICODE, 10000, 1 << 16) == TK_DONE);
     EXPECT(tk_set_link(&surface, "uri:b", 5) == TK_DONE);
     EXPECT(tk_print(&surface, "hello かな😀", 16) == TK_DONE);
-    damaged_answers(&surface, &viewer, rounds < 256 ? rounds : 256);
-    great_claims(&surface, &viewer);
-    random_bytes(&surface, &viewer, rounds);
+    damaged_answers(&surface, &client, rounds < 256 ? rounds : 256);
+    great_claims(&surface, &client);
+    random_bytes(&surface, &client, rounds);
     freed_handles();
     random_calls(rounds);
-    tk_free(&viewer);
+    tk_free(&client);
     tk_free(&surface);
     printf("%ld calls\n", calls);
     return 0;

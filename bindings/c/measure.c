@@ -5,7 +5,7 @@
  *
  * The program keeps no time: run it under callgrind at two counts, and take the difference. Beside
  * `plain` of the bench stands the first, and beside `answer-repaint` and `encode-repaint` together
- * the second. */
+ * the second, but that its surface is a full one. */
 #include "tikeburo.h"
 #include <stdio.h>
 #include <stdlib.h>
@@ -36,10 +36,11 @@ static tk_status add_colours(tk_handle *surface) {
 }
 
 static tk_status answer(tk_handle *surface, long count, size_t *result) {
+    static const uint8_t ask[] = {0x83, 2, 0, 0}; /* of a client that shows nothing */
     static uint8_t bytes[1 << 14];
     tk_status status = add_colours(surface);
     for (long i = 0; i < count && status == TK_DONE; i++)
-        status = tk_answer(surface, 0, bytes, sizeof bytes, result);
+        status = tk_respond(surface, ask, sizeof ask, bytes, sizeof bytes, result);
     return status;
 }
 
@@ -53,7 +54,7 @@ int main(int words, char **word) {
     long count = strtol(word[2], NULL, 10);
     tk_handle surface = TK_NONE;
     size_t result = 0;
-    tk_status status = tk_surface_new(&surface, 80, 24, TK_WIDTHS_UNICODE, false);
+    tk_status status = tk_surface_new(&surface, 80, 24, TK_WIDTHS_UNICODE, 1);
     if (status == TK_DONE)
         status = is_plain ? plain(&surface, count, &result) : answer(&surface, count, &result);
     tk_free(&surface);

@@ -22,11 +22,12 @@ static void test_structs(void) {
     CHECK(sizeof(tk_color) == 5);
     CHECK(sizeof(tk_attributes) == 26);
     CHECK(sizeof(tk_cell) == 28);
+    CHECK(sizeof(tk_fault) == 24);
 }
 
 static void test_surfaces(void) {
     tk_handle surface = TK_NONE;
-    CHECK(tk_surface_new(&surface, 4, 2, TK_WIDTHS_UNICODE, false) == TK_DONE);
+    CHECK(tk_surface_new(&surface, 4, 2, TK_WIDTHS_UNICODE, 7) == TK_DONE);
     CHECK(surface.is_live);
     CHECK(size_is(&surface, 4, 2));
     CHECK(cursor_is(&surface, 0, 0));
@@ -34,13 +35,14 @@ static void test_surfaces(void) {
     CHECK(number_is(&surface, 0));
     CHECK(title_is(&surface, ""));
     CHECK(screen_is(&surface, "\n\n"));
-    CHECK(tk_surface_new(&surface, 0, 2, TK_WIDTHS_UNICODE, false) == TK_RANGE);
-    CHECK(tk_surface_new(&surface, 4, 0, TK_WIDTHS_UNICODE, false) == TK_RANGE);
-    CHECK(tk_surface_new(&surface, (size_t)1 << 32, 2, TK_WIDTHS_UNICODE, false) == TK_RANGE);
-    CHECK(tk_surface_new(&surface, 4, (size_t)1 << 32, TK_WIDTHS_UNICODE, false) == TK_RANGE);
-    CHECK(tk_surface_new(&surface, 4, 2, 2, false) == TK_RANGE);
+    CHECK(tk_surface_new(&surface, 0, 2, TK_WIDTHS_UNICODE, 7) == TK_RANGE);
+    CHECK(tk_surface_new(&surface, 4, 0, TK_WIDTHS_UNICODE, 7) == TK_RANGE);
+    CHECK(tk_surface_new(&surface, (size_t)1 << 32, 2, TK_WIDTHS_UNICODE, 7) == TK_RANGE);
+    CHECK(tk_surface_new(&surface, 4, (size_t)1 << 32, TK_WIDTHS_UNICODE, 7) == TK_RANGE);
+    CHECK(tk_surface_new(&surface, 4, 2, 2, 7) == TK_RANGE);
+    CHECK(tk_surface_new(&surface, 4, 2, TK_WIDTHS_UNICODE, 0) == TK_RANGE);
     CHECK(size_is(&surface, 4, 2)); /* an error changes nothing */
-    CHECK(tk_surface_new(&surface, 6, 1, TK_WIDTHS_ONE_COLUMN, true) == TK_DONE);
+    CHECK(tk_surface_new(&surface, 6, 1, TK_WIDTHS_ONE_COLUMN, SIZE_MAX) == TK_DONE);
     CHECK(size_is(&surface, 6, 1)); /* what it had is freed */
     CHECK(print(&surface, "かx") == TK_DONE);
     CHECK(cursor_is(&surface, 2, 0)); /* one column each */
@@ -61,9 +63,6 @@ static void test_sizes(void) {
     CHECK(tk_resize(&surface, (size_t)1 << 32, 3) == TK_RANGE);
     CHECK(tk_resize(&none, 3, 3) == TK_NO_HANDLE);
     CHECK(size_is(&surface, 3, 3));
-    CHECK(tk_flush(&surface, 1) == TK_DONE);
-    CHECK(tk_flush(&surface, SIZE_MAX) == TK_DONE);
-    CHECK(tk_flush(&none, 1) == TK_NO_HANDLE);
     tk_free(&surface);
 }
 
@@ -334,6 +333,8 @@ static void test_change_lists(void) {
     tk_handle surface = made(6, 2), none = TK_NONE;
     const uint8_t nothing[] = {0x80};
     const uint8_t hello[] = {0x82, 0x82, 2, 0x62, 'h', 'i', 0x82, 8, 6}; /* a text, a shape */
+    const uint8_t kana[] = {0x81, 0x83, 2, 0x63, 0xe3, 0x81, 0x8b, 0x83, 1, 1, 2};
+    const uint8_t no_pieces[] = {0x81, 0x82, 2, 0x63, 0xe3, 0x81, 0x8b};
     const uint8_t region[] = {0x81, 0x84, 10, 1, 2, 1};
     const uint8_t behind[] = {0x80, 0};
     const uint8_t no_text[] = {0x81, 0x82, 2, 0x61, 0xff};
@@ -342,12 +343,15 @@ static void test_change_lists(void) {
     CHECK(tk_add_changes(&surface, hello, sizeof hello) == TK_DONE);
     CHECK(number_is(&surface, 2) && row_is(&surface, 0, "hi"));
     for (size_t len = 0; len < sizeof hello; len++)
-        CHECK(tk_add_changes(&surface, hello, len) == TK_UNREADABLE);
+        CHECK(tk_add_changes(&surface, hello, len) == TK_TRUNCATED);
     CHECK(tk_add_changes(&surface, region, sizeof region) == TK_REGION);
     CHECK(tk_add_changes(&surface, behind, sizeof behind) == TK_UNREADABLE);
     CHECK(tk_add_changes(&surface, no_text, sizeof no_text) == TK_UNREADABLE);
+    CHECK(tk_add_changes(&surface, no_pieces, sizeof no_pieces) == TK_UNREADABLE);
     CHECK(tk_add_changes(&none, hello, sizeof hello) == TK_NO_HANDLE);
     CHECK(number_is(&surface, 2) && row_is(&surface, 0, "hi"));
+    CHECK(tk_add_changes(&surface, kana, sizeof kana) == TK_DONE);
+    CHECK(number_is(&surface, 3) && row_is(&surface, 0, "hiか"));
     tk_free(&surface);
 }
 
@@ -384,118 +388,213 @@ static void test_reads(void) {
 }
 
 static void test_streams(void) {
-    tk_handle surface = made(6, 2), viewer = TK_NONE, other = TK_NONE;
-    uint8_t repaint[512], delta[512];
-    size_t repaint_len = 0, delta_len = 0, number = 99;
+    tk_handle surface = made(6, 2), client = made_client();
     CHECK(print(&surface, "hello") == TK_DONE);
-    CHECK(tk_viewer_new(&viewer, &surface) == TK_DONE);
-    CHECK(screen_is(&viewer, "\n\n") && size_is(&viewer, 6, 2));
-    CHECK(tk_last(&viewer, &number) == TK_DONE && number == 0);
-    CHECK(tk_answer(&surface, 0, repaint, sizeof repaint, &repaint_len) == TK_DONE);
-    CHECK(tk_accept(&viewer, repaint, repaint_len) == TK_DONE);
-    CHECK(tk_last(&viewer, &number) == TK_DONE && number == 1);
-    CHECK(screen_is(&viewer, "hello\n\n") && cursor_is(&viewer, 5, 0));
+    bytes ask = ask_of(&client);
+    CHECK(ask.len == 4 && memcmp(ask.at, "\x83\2\0\0", 4) == 0);
+    bytes repaint = answer_to(&surface, &client);
+    CHECK(feed(&client, &repaint) == TK_DONE);
+    CHECK(size_is(&client, 6, 2) && screen_is(&client, "hello\n\n") && cursor_is(&client, 5, 0));
     CHECK(print(&surface, "\r\nx") == TK_DONE);
-    CHECK(tk_answer(&surface, number, delta, sizeof delta, &delta_len) == TK_DONE);
-    CHECK(delta_len < repaint_len);
-    CHECK(tk_accept(&viewer, delta, delta_len) == TK_DONE);
-    CHECK(tk_last(&viewer, &number) == TK_DONE && number == 2);
-    CHECK(screen_is(&viewer, "hello\nx\n"));
-    CHECK(tk_accept(&viewer, delta, delta_len) == TK_STALE);
-    CHECK(screen_is(&viewer, "hello\nx\n"));
-    CHECK(tk_accept(&viewer, repaint, repaint_len) == TK_DONE); /* an earlier one brings it back */
-    CHECK(screen_is(&viewer, "hello\n\n"));
-    CHECK(tk_answer(&viewer, 0, delta, sizeof delta, &delta_len) == TK_DONE);
-    CHECK(tk_viewer_new(&other, &viewer) == TK_DONE); /* a viewer's viewer */
-    CHECK(tk_accept(&other, delta, delta_len) == TK_DONE);
-    CHECK(screen_is(&other, "hello\n\n"));
-    tk_free(&other);
-    tk_free(&viewer);
+    bytes delta = answer_to(&surface, &client);
+    CHECK(delta.len < repaint.len);
+    CHECK(feed(&client, &delta) == TK_DONE);
+    CHECK(screen_is(&client, "hello\nx\n"));
+    CHECK(feed(&client, &delta) == TK_DONE); /* late, and nothing comes of it */
+    CHECK(screen_is(&client, "hello\nx\n"));
+    CHECK(tk_resize(&surface, 3, 3) == TK_DONE);
+    for (bytes next = answer_to(&surface, &client), one = {.len = 1}; next.len > 0; next.len--) {
+        one.at[0] = next.at[0]; /* byte by byte */
+        CHECK(feed(&client, &one) == TK_DONE);
+        memmove(next.at, next.at + 1, next.len - 1);
+    }
+    CHECK(size_is(&client, 3, 3) && screen_is(&client, "hel\nx\n\n"));
+    tk_free(&client);
     tk_free(&surface);
 }
 
-static void test_stream_errors(void) {
-    tk_handle surface = made(6, 2), viewer = TK_NONE, none = TK_NONE;
-    uint8_t bytes[512];
-    size_t len = 0, short_len = 0, number = 99;
-    CHECK(tk_viewer_new(&viewer, &none) == TK_NO_HANDLE && !viewer.is_live);
+/* Two surfaces of the same history but for their texts. */
+static void test_other_surface(void) {
+    tk_handle first = made(6, 1), second = made(6, 1);
+    tk_handle client = made_client(), other = made_client();
+    CHECK(print(&first, "aaa") == TK_DONE && print(&second, "bbb") == TK_DONE);
+    bytes answer = answer_to(&first, &client), delta;
+    CHECK(feed(&client, &answer) == TK_DONE);
+    answer = answer_to(&second, &other);
+    CHECK(feed(&other, &answer) == TK_DONE);
+    CHECK(print(&second, "c") == TK_DONE);
+    delta = answer_to(&second, &other);
+    CHECK(feed(&client, &delta) == TK_DONE && screen_is(&client, "aaa\n"));
+    answer = answer_to(&second, &client); /* a repaint, since it asks with the first */
+    CHECK(feed(&client, &answer) == TK_DONE && screen_is(&client, "bbbc\n"));
+    tk_free(&other);
+    tk_free(&client);
+    tk_free(&second);
+    tk_free(&first);
+}
+
+static void test_asks(void) {
+    tk_handle surface = made(6, 2), client = made_client(), viewer = TK_NONE, none = TK_NONE;
+    bytes ask = ask_of(&client), answer = {.len = 99};
+    size_t room = sizeof answer.at, len = 99;
+    CHECK(tk_client_ask(&client, answer.at, 3, &len) == TK_SHORT && len == 4);
+    CHECK(tk_viewer_new(&viewer, &surface) == TK_DONE);
+    for (size_t front = 0; front < ask.len; front++)
+        CHECK(tk_respond(&surface, ask.at, front, answer.at, room, &len) == TK_TRUNCATED);
+    CHECK(tk_respond(&surface, ask.at, ask.len + 1, answer.at, room, &len) == TK_UNREADABLE);
+    ask.at[3] = 1; /* a number of no surface */
+    CHECK(tk_respond(&surface, ask.at, ask.len, answer.at, room, &len) == TK_UNREADABLE);
+    ask.at[2] = 1;
+    CHECK(tk_respond(&surface, ask.at, ask.len, answer.at, room, &len) == TK_DONE);
+    ask.at[1] = 1; /* the version */
+    CHECK(tk_respond(&surface, ask.at, ask.len, answer.at, room, &len) == TK_UNREADABLE);
+    ask = ask_of(&client);
+    CHECK(tk_respond(&surface, ask.at, ask.len, answer.at, room, &answer.len) == TK_DONE);
+    answer.at[0] = 0xee;
+    CHECK(tk_respond(&surface, ask.at, ask.len, answer.at, answer.len - 1, &len) == TK_SHORT);
+    CHECK(len == answer.len && answer.at[0] == 0xee); /* nothing is written */
+    CHECK(tk_respond(&surface, ask.at, ask.len, answer.at, len, &len) == TK_DONE);
+    CHECK(len == answer.len && answer.at[0] == 0x87);
+    CHECK(tk_respond(&client, ask.at, ask.len, answer.at, room, &len) == TK_WRONG_KIND);
+    CHECK(tk_respond(&viewer, ask.at, ask.len, answer.at, room, &len) == TK_WRONG_KIND);
+    CHECK(tk_respond(&none, ask.at, ask.len, answer.at, room, &len) == TK_NO_HANDLE);
+    CHECK(tk_client_ask(&surface, ask.at, 20, &len) == TK_WRONG_KIND);
+    CHECK(tk_client_ask(&viewer, ask.at, 20, &len) == TK_WRONG_KIND);
+    CHECK(tk_client_ask(&none, ask.at, 20, &len) == TK_NO_HANDLE && len == answer.len);
+    tk_free(&viewer);
+    tk_free(&client);
+    tk_free(&surface);
+}
+
+/* The client is fed these bytes, and finds this fault at this place. */
+static void check_fault(const char *wrong, size_t len, uint8_t kind, size_t at, bool has_change,
+                        size_t change) {
+    tk_handle client = made_client();
+    tk_fault fault = {.kind = 99};
+    tk_status status = tk_client_feed(&client, (const uint8_t *)wrong, len, &fault);
+    CHECK(status == TK_UNREADABLE);
+    CHECK(fault.kind == kind && fault.at == at);
+    CHECK(fault.has_change == has_change && fault.change == change);
+    tk_free(&client);
+}
+
+static void test_faults(void) {
+    check_fault("\x87\1", 2, TK_FAULT_VERSION, 1, false, 0);
+    check_fault("\x80", 1, TK_FAULT_TYPE, 0, false, 0);
+    check_fault("\x87\2\0", 3, TK_FAULT_RANGE, 2, false, 0);
+    check_fault("\x87\2\1\1\0", 5, TK_FAULT_RANGE, 4, false, 0);
+    check_fault("\x87\2\1\x1a\0\x10\0\0\2", 9, TK_FAULT_LIMIT, 8, false, 0);
+    check_fault("\x87\2\1\1\1\0\0\x9a\1\0\0\0", 12, TK_FAULT_LIMIT, 7, false, 0);
+    check_fault("\x87\2\1\1\1\0\0\x81\x82\2\x61\xff", 12, TK_FAULT_UTF8, 10, true, 0);
+    check_fault("\x87\2\1\1\1\0\0\x82\x82\2\x61x\x84\x0a\0\2\0", 17, TK_FAULT_REGION, 15, true, 1);
+    check_fault("\x87\2\1\1\1\0\0\x81\x82\2\x63か", 14, TK_FAULT_MEASURE, 10, true, 0);
+    check_fault("\x87\2\1\1\1\0\0\x81\x83\2\x61x\x83\1\1\1", 16, TK_FAULT_RANGE, 12, true, 0);
+}
+
+static void test_clients(void) {
+    tk_handle surface = made(6, 2), client = TK_NONE, viewer = TK_NONE, none = TK_NONE;
+    tk_fault fault = {.kind = 99};
+    CHECK(tk_client_new(&client, 2, 100, 100) == TK_RANGE && !client.is_live);
+    CHECK(tk_client_new(&client, TK_WIDTHS_UNICODE, 11, TK_USUAL_BYTES) == TK_DONE);
+    CHECK(title_is(&client, "") && cursor_is(&client, 0, 0));
     CHECK(tk_viewer_new(&viewer, &surface) == TK_DONE);
     CHECK(print(&surface, "hello") == TK_DONE);
-    CHECK(tk_answer(&surface, 0, bytes, sizeof bytes, &len) == TK_DONE && len > 0);
-    bytes[0] = 0xee;
-    CHECK(tk_answer(&surface, 0, bytes, len - 1, &short_len) == TK_SHORT && short_len == len);
-    CHECK(bytes[0] == 0xee); /* nothing is written */
-    CHECK(tk_answer(&surface, 0, bytes, len, &short_len) == TK_DONE && short_len == len);
-    CHECK(tk_answer(&none, 0, bytes, sizeof bytes, &len) == TK_NO_HANDLE && short_len == len);
-    for (size_t front = 0; front < len; front++)
-        CHECK(tk_accept(&viewer, bytes, front) == TK_UNREADABLE);
-    bytes[len] = 0;
-    CHECK(tk_accept(&viewer, bytes, len + 1) == TK_UNREADABLE);
-    bytes[1] = 2; /* the version */
-    CHECK(tk_accept(&viewer, bytes, len) == TK_UNREADABLE);
-    bytes[1] = 1;
-    CHECK(tk_accept(&surface, bytes, len) == TK_WRONG_KIND);
-    CHECK(tk_accept(&none, bytes, len) == TK_NO_HANDLE);
-    CHECK(tk_resize(&viewer, 7, 2) == TK_DONE);
-    CHECK(tk_accept(&viewer, bytes, len) == TK_SIZE);
-    CHECK(tk_resize(&viewer, 6, 2) == TK_DONE);
-    CHECK(tk_accept(&viewer, bytes, len) == TK_DONE);
-    CHECK(tk_last(&surface, &number) == TK_WRONG_KIND && number == 99);
-    CHECK(tk_last(&none, &number) == TK_NO_HANDLE && number == 99);
-    CHECK(tk_print(&viewer, "x", 1) == TK_WRONG_KIND);
-    CHECK(tk_add_changes(&viewer, (const uint8_t[]){0x80}, 1) == TK_WRONG_KIND);
-    CHECK(tk_set_italic(&viewer, true) == TK_WRONG_KIND);
-    CHECK(tk_set_title(&viewer, "x", 1) == TK_WRONG_KIND);
-    CHECK(screen_is(&viewer, "hello\n\n"));
+    bytes repaint = answer_to(&surface, &client);
+    CHECK(tk_client_feed(&client, repaint.at, repaint.len, &fault) == TK_UNREADABLE);
+    CHECK(fault.kind == TK_FAULT_LIMIT && fault.at == 4 && !fault.has_change);
+    CHECK(tk_client_new(&client, TK_WIDTHS_UNICODE, 12, repaint.len - 1) == TK_DONE);
+    CHECK(tk_client_feed(&client, repaint.at, repaint.len, &fault) == TK_UNREADABLE);
+    CHECK(fault.kind == TK_FAULT_LIMIT && fault.at > 4);
+    CHECK(tk_client_new(&client, TK_WIDTHS_UNICODE, 12, repaint.len) == TK_DONE);
+    fault.kind = 99;
+    CHECK(tk_client_feed(&client, repaint.at, repaint.len - 1, &fault) == TK_DONE);
+    CHECK(title_is(&client, "") && cursor_is(&client, 0, 0)); /* it isn't whole yet */
+    CHECK(tk_client_reset(&client) == TK_DONE);
+    CHECK(tk_client_feed(&client, repaint.at, repaint.len, &fault) == TK_DONE);
+    CHECK(screen_is(&client, "hello\n\n") && fault.kind == 99);
+    repaint.at[1] = 1;
+    CHECK(tk_client_feed(&client, repaint.at, repaint.len, &fault) == TK_UNREADABLE);
+    CHECK(fault.kind == TK_FAULT_VERSION && screen_is(&client, "hello\n\n"));
+    CHECK(tk_client_reset(&client) == TK_DONE);
+    CHECK(print(&surface, "!") == TK_DONE);
+    bytes delta = answer_to(&surface, &client);
+    CHECK(feed(&client, &delta) == TK_DONE && screen_is(&client, "hello!\n\n"));
+    CHECK(tk_client_feed(&surface, delta.at, delta.len, &fault) == TK_WRONG_KIND);
+    CHECK(tk_client_feed(&viewer, delta.at, delta.len, &fault) == TK_WRONG_KIND);
+    CHECK(tk_client_feed(&none, delta.at, delta.len, &fault) == TK_NO_HANDLE);
+    CHECK(tk_client_reset(&surface) == TK_WRONG_KIND && tk_client_reset(&none) == TK_NO_HANDLE);
+    CHECK(tk_print(&client, "x", 1) == TK_WRONG_KIND);
+    CHECK(tk_resize(&client, 2, 2) == TK_WRONG_KIND);
+    CHECK(tk_follow(&client, &surface) == TK_WRONG_KIND);
+    CHECK(tk_draw(&client, &surface, 0, 0) == TK_WRONG_KIND);
+    CHECK(tk_draw(&surface, &client, 0, 1) == TK_DONE && row_is(&surface, 1, "hello!"));
+    CHECK(screen_is(&client, "hello!\n\n"));
     tk_free(&viewer);
+    tk_free(&client);
     tk_free(&surface);
 }
 
 static void test_follows(void) {
-    tk_handle surface = made(6, 2), viewer = TK_NONE, none = TK_NONE;
-    size_t number = 99;
+    tk_handle surface = made(6, 2), viewer = TK_NONE, other = TK_NONE, none = TK_NONE;
+    CHECK(tk_viewer_new(&viewer, &none) == TK_NO_HANDLE && !viewer.is_live);
     CHECK(tk_viewer_new(&viewer, &surface) == TK_DONE);
+    CHECK(size_is(&viewer, 6, 2) && screen_is(&viewer, "\n\n"));
     CHECK(print(&surface, "abc") == TK_DONE);
     CHECK(tk_resize(&surface, 4, 3) == TK_DONE);
     CHECK(tk_follow(&viewer, &surface) == TK_DONE);
     CHECK(size_is(&viewer, 4, 3) && screen_is(&viewer, "abc\n\n\n"));
-    CHECK(tk_last(&viewer, &number) == TK_DONE && number_is(&surface, number));
-    CHECK(tk_flush(&surface, number) == TK_DONE);
     CHECK(print(&surface, "d") == TK_DONE);
     CHECK(tk_follow(&viewer, &surface) == TK_DONE && screen_is(&viewer, "abcd\n\n\n"));
+    CHECK(print(&surface, "e") == TK_DONE);
+    CHECK(tk_follow(&viewer, &surface) == TK_DONE && screen_is(&viewer, "abcd\ne\n\n"));
     CHECK(tk_follow(&surface, &viewer) == TK_WRONG_KIND);
     CHECK(tk_follow(&none, &surface) == TK_NO_HANDLE);
     CHECK(tk_follow(&viewer, &none) == TK_NO_HANDLE);
-    CHECK(screen_is(&viewer, "abcd\n\n\n"));
+    CHECK(tk_print(&viewer, "x", 1) == TK_WRONG_KIND);
+    CHECK(tk_add_changes(&viewer, (const uint8_t[]){0x80}, 1) == TK_WRONG_KIND);
+    CHECK(tk_set_italic(&viewer, true) == TK_WRONG_KIND);
+    CHECK(tk_set_title(&viewer, "x", 1) == TK_WRONG_KIND);
+    CHECK(tk_resize(&viewer, 2, 2) == TK_WRONG_KIND);
+    CHECK(screen_is(&viewer, "abcd\ne\n\n"));
+    CHECK(tk_viewer_new(&other, &viewer) == TK_DONE && tk_follow(&other, &viewer) == TK_DONE);
+    CHECK(screen_is(&other, "abcd\ne\n\n")); /* a viewer's viewer */
     tk_free(&surface);
-    CHECK(screen_is(&viewer, "abcd\n\n\n")); /* it keeps what it shows */
+    CHECK(screen_is(&viewer, "abcd\ne\n\n")); /* it keeps what it shows */
     tk_free(&viewer);
+    tk_free(&other);
 }
 
-/* Accepts a repaint of the surface. */
-static void repaint(tk_handle *viewer, tk_handle *surface) {
-    uint8_t bytes[512];
-    size_t len = 0;
-    CHECK(tk_flush(surface, 1) == TK_DONE && tk_flush(surface, 2) == TK_DONE);
-    CHECK(tk_answer(surface, 0, bytes, sizeof bytes, &len) == TK_DONE);
-    CHECK(tk_accept(viewer, bytes, len) == TK_DONE);
+/* A viewer that comes to another surface of as many changes shows that one alone. */
+static void test_follows_others(void) {
+    tk_handle first = made(6, 1), second = made(6, 1), narrow = TK_NONE, viewer = TK_NONE;
+    CHECK(tk_surface_new(&narrow, 6, 1, TK_WIDTHS_ONE_COLUMN, SIZE_MAX) == TK_DONE);
+    CHECK(print(&first, "aaa") == TK_DONE && print(&second, "b") == TK_DONE);
+    CHECK(tk_viewer_new(&viewer, &first) == TK_DONE);
+    CHECK(tk_follow(&viewer, &first) == TK_DONE && screen_is(&viewer, "aaa\n"));
+    CHECK(tk_follow(&viewer, &second) == TK_DONE && screen_is(&viewer, "b\n"));
+    CHECK(print(&narrow, "かか") == TK_DONE);
+    CHECK(tk_follow(&viewer, &narrow) == TK_DONE && screen_is(&viewer, "かか\n"));
+    CHECK(cursor_is(&viewer, 2, 0));
+    CHECK(tk_follow(&viewer, &first) == TK_DONE && screen_is(&viewer, "aaa\n"));
+    tk_free(&viewer);
+    tk_free(&narrow);
+    tk_free(&second);
+    tk_free(&first);
 }
 
-/* A repaint of a full surface says that there is no title; another one leaves the viewer's. */
-static void test_full(void) {
-    for (int is_full = 0; is_full < 2; is_full++) {
-        tk_handle surface = TK_NONE, viewer = TK_NONE;
-        CHECK(tk_surface_new(&surface, 4, 1, TK_WIDTHS_UNICODE, is_full) == TK_DONE);
-        CHECK(tk_viewer_new(&viewer, &surface) == TK_DONE);
-        CHECK(tk_set_title(&surface, "notes", 5) == TK_DONE);
-        repaint(&viewer, &surface);
-        CHECK(title_is(&viewer, "notes"));
-        CHECK(tk_set_title(&surface, "", 0) == TK_DONE);
-        repaint(&viewer, &surface);
-        CHECK(title_is(&viewer, is_full ? "" : "notes"));
-        tk_free(&viewer);
-        tk_free(&surface);
-    }
+/* A repaint says also that there is no title. */
+static void test_repaints_are_full(void) {
+    tk_handle surface = made(4, 1), client = made_client(), client_again;
+    CHECK(tk_set_title(&surface, "notes", 5) == TK_DONE);
+    bytes repaint = answer_to(&surface, &client);
+    CHECK(feed(&client, &repaint) == TK_DONE && title_is(&client, "notes"));
+    CHECK(tk_set_title(&surface, "", 0) == TK_DONE);
+    client_again = made_client();
+    repaint = answer_to(&surface, &client_again);
+    CHECK(feed(&client, &repaint) == TK_DONE && title_is(&client, ""));
+    tk_free(&client_again);
+    tk_free(&client);
+    tk_free(&surface);
 }
 
 int main(void) {
@@ -515,9 +614,13 @@ int main(void) {
     test_change_lists();
     test_reads();
     test_streams();
-    test_stream_errors();
+    test_other_surface();
+    test_asks();
+    test_faults();
+    test_clients();
     test_follows();
-    test_full();
+    test_follows_others();
+    test_repaints_are_full();
     printf("%d checks\n", checks);
     return failures != 0;
 }

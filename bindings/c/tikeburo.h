@@ -1,12 +1,15 @@
-/* tikeburo.h: surfaces of a terminal, viewers that follow them, and the bytes between them.
+/* tikeburo.h: surfaces of a terminal, viewers and clients that show them, and the bytes between.
  *
  * A surface holds what a terminal's screen shows, with no terminal behind it. Changes go in, a
- * function each below, and any list of them as bytes. A viewer shows what a surface showed: what
- * tk_answer writes for the viewer's number goes to it as bytes, over any connection, and tk_accept
- * makes it.
+ * function each below, and any list of them as bytes. A viewer shows what a surface of its process
+ * shows. A client shows what a surface of any process shows: it asks by bytes (tk_client_ask), the
+ * surface answers by bytes (tk_respond), and tk_client_feed takes them, in whatever pieces they
+ * come.
  *
  * What a caller keeps, and nothing checks:
  *
+ * - No viewer and no client comes to know two surfaces of one number, of this process or another:
+ *   64 random bits for each will do (tk_surface_new).
  * - A handle is all zero before its first call. It is never copied, and never written by the
  *   caller afterwards. tk_free frees what it has, and may be called again; the handle may then be
  *   used for another value.
@@ -44,17 +47,16 @@ enum {
     TK_DONE = 0,       /* done */
     TK_MEMORY = 1,     /* memory was refused */
     TK_UNREADABLE = 2, /* a text is no UTF-8, or bytes are no encoding of what is wanted */
-    TK_REGION = 3,     /* the region of a scroll goes past the last row */
-    TK_NUMBERS = 4,    /* the numbers of changes are used up */
-    TK_SIZE = 5,       /* the answer is for another size */
-    TK_STALE = 6,      /* the answer leads from another number than the viewer's */
-    TK_NO_HANDLE = 7,  /* a handle has no value */
-    TK_WRONG_KIND = 8, /* a handle has a viewer for a surface, or a surface for a viewer */
-    TK_RANGE = 9,      /* a row, a column, a size or another number is outside of its range */
-    TK_SHORT = 10      /* the buffer is too short: *len is the length that is needed */
+    TK_TRUNCATED = 3,  /* bytes are the beginning of what is wanted: more have to come */
+    TK_REGION = 4,     /* the region of a scroll goes past the last row */
+    TK_NUMBERS = 5,    /* the numbers of changes are used up */
+    TK_NO_HANDLE = 6,  /* a handle has no value */
+    TK_WRONG_KIND = 7, /* a handle has another kind of value: a surface, a viewer or a client */
+    TK_RANGE = 8,      /* a row, a column, a size or another number is outside of its range */
+    TK_SHORT = 9       /* the buffer is too short: *len is the length that is needed */
 };
 
-/* A handle on a surface or a viewer, or on none. */
+/* A handle on a surface, a viewer or a client, or on none. */
 typedef struct tk_handle {
     void *at;
     bool is_live;
@@ -113,7 +115,7 @@ typedef struct tk_cell {
     tk_attributes attributes;
 } tk_cell;
 
-/* ---- Surfaces and viewers ---- */
+/* ---- Surfaces ---- */
 
 /* How texts are measured. */
 enum {
@@ -122,27 +124,23 @@ enum {
 };
 
 /* Makes a blank surface of this width in columns and height in rows, each from 1 to 2^32 - 1, with
- * the cursor home and shown and the number 0. Repaints of a full surface carry the title, the
- * cursor's shape and colour and the sizes of lines too. What the handle had is freed.
- * TK_RANGE: width, height or widths. */
+ * the cursor home and shown, and no change so far. `source` is its number as a source of answers,
+ * from 1 on: by it viewers and clients know it from other surfaces. What the handle had is freed.
+ * TK_RANGE: width, height, widths or source. */
 tk_status tk_surface_new(tk_handle *surface, size_t width, size_t height, uint8_t widths,
-                         bool is_full);
+                         size_t source);
 
-/* Makes a viewer for what the source shows, a surface or a viewer: blank, with the number 0, and of
- * the source's size, widths and kind. What the first handle had is freed. The source stays. */
-tk_status tk_viewer_new(tk_handle *viewer, tk_handle *source);
-
-/* Frees what the handle has, if it has anything. It has nothing then. */
+/* Frees what the handle has, of any kind, if it has anything. It has nothing then. */
 void tk_free(tk_handle *handle);
 
 /* Takes another size, each from 1 to 2^32 - 1: rows are cut or filled with blanks, and the cursor
- * stays inside. A viewer has no number then. TK_RANGE, TK_NUMBERS. */
-tk_status tk_resize(tk_handle *handle, size_t width, size_t height);
+ * stays inside. TK_RANGE, TK_NUMBERS, TK_WRONG_KIND. */
+tk_status tk_resize(tk_handle *surface, size_t width, size_t height);
 
-/* Forgets the changes before this number, of a viewer's own surface where it is one. */
-tk_status tk_flush(tk_handle *handle, size_t number);
+/* The number of the coming change, 0 at first. A viewer or a client has one of its own. */
+tk_status tk_number(tk_handle *handle, size_t *number);
 
-/* ---- Reading: of a surface, or of what a viewer shows ---- */
+/* ---- Reading: of a surface, or of what a viewer or a client shows ---- */
 
 /* The width in columns and the height in rows. */
 tk_status tk_size(tk_handle *handle, size_t *width, size_t *height);
@@ -152,9 +150,6 @@ tk_status tk_cursor(tk_handle *handle, size_t *column, size_t *row);
 
 /* Whether the cursor is shown. */
 tk_status tk_cursor_is_visible(tk_handle *handle, bool *is_visible);
-
-/* The number of the coming change, which a viewer has that has them all. */
-tk_status tk_number(tk_handle *handle, size_t *number);
 
 /* The title, empty at first. TK_SHORT. */
 tk_status tk_title(tk_handle *handle, char *text, size_t room, size_t *len);
@@ -179,17 +174,18 @@ tk_status tk_link_at(tk_handle *handle, size_t column, size_t row, char *uri, si
 
 /* ---- Changes of a surface ----
  *
- * Each takes a surface, and is logged with a number, one above the one before. TK_WRONG_KIND: the
- * handle has a viewer. TK_NUMBERS: there is no number left. TK_MEMORY: either there was none for
- * the change itself, and nothing has changed, or it may have been made in part: the surface keeps
- * its size, and its log is empty under a new number. */
+ * Each takes a surface, and is logged with a number, one above the one before. What no answer can
+ * need is forgotten by itself. TK_WRONG_KIND: the handle has another kind. TK_NUMBERS: there is no number left. TK_MEMORY: either there was none
+ * for the change itself, and nothing has changed, or it may have been made in part: the surface
+ * keeps its size, and its log is empty under a new number. */
 
 /* Prints a text at the cursor with the pen. CR goes to the first column, LF to the next row, and
  * other control characters of ASCII are spaces. TK_UNREADABLE. */
 tk_status tk_print(tk_handle *surface, const char *text, size_t len);
 
 /* Makes a list of changes, which these bytes encode: the array `[* change]` of docs/stream.cddl
- * and nothing behind it. TK_UNREADABLE, TK_REGION: nothing has changed. */
+ * and nothing behind it. A text in it has the pieces that the surface cuts and measures: where they
+ * aren't known, tk_print prints it. TK_UNREADABLE, TK_TRUNCATED, TK_REGION: nothing has changed. */
 tk_status tk_add_changes(tk_handle *surface, const uint8_t *bytes, size_t len);
 
 /* Moves the cursor to this column and row; past the last ones is at the last ones. */
@@ -254,7 +250,7 @@ enum {
     TK_LINE_SINGLE_WIDTH = 3
 };
 
-/* Draws what the source shows, a surface or a viewer, from this column and row on. What doesn't fit
+/* Draws what the source shows, of any kind, from this column and row on. What doesn't fit
  * is left out. Cursor and pen are as before. It is logged as a list of changes. */
 tk_status tk_draw(tk_handle *surface, tk_handle *source, size_t column, size_t row);
 
@@ -263,30 +259,67 @@ tk_status tk_draw(tk_handle *surface, tk_handle *source, size_t column, size_t r
 tk_status tk_copy(tk_handle *surface, size_t column, size_t row, size_t width, size_t height,
                   size_t to_column, size_t to_row);
 
-/* ---- Streams ---- */
+/* ---- Viewers: in one process ---- */
 
-/* Writes what a viewer with this number has to accept, as bytes: one answer of docs/stream.cddl. It
- * is the changes since that number, or a repaint where the log doesn't have them or they are more
- * than the screen is worth. Of a viewer it answers for its own surface, with that one's numbers.
- * TK_SHORT. */
-tk_status tk_answer(tk_handle *handle, size_t number, uint8_t *bytes, size_t room, size_t *len);
+/* Makes a viewer for what the source shows, of any kind: blank, and of the source's size. What the
+ * first handle had is freed. */
+tk_status tk_viewer_new(tk_handle *viewer, tk_handle *source);
 
-/* Makes the one answer that these bytes encode, with nothing behind it: the viewer shows what the
- * surface showed when it gave that answer, and has its number. So whoever sends answers behind one
- * another sends their lengths too. TK_WRONG_KIND: the handle has a
- * surface. TK_UNREADABLE. TK_SIZE, TK_STALE: nothing has changed. TK_NUMBERS: the viewer shows what
- * it showed, and has no number. TK_MEMORY: either there was none for the answer itself, and nothing
- * has changed, or the viewer may show anything, and has no number. */
-tk_status tk_accept(tk_handle *viewer, const uint8_t *bytes, size_t len);
-
-/* The number that a viewer asks with: that of the answer that it accepted last, or its source's
- * when it followed last. It is 0 where there is none. TK_WRONG_KIND: the handle has a surface. */
-tk_status tk_last(tk_handle *viewer, size_t *number);
-
-/* The viewer shows what the source shows, a surface or a viewer, and has its number: its size too.
- * TK_WRONG_KIND: the first handle has a surface. TK_NUMBERS, TK_MEMORY: the viewer may show
- * anything, and has no number. */
+/* The viewer shows what the source shows: its size too. It makes the changes since it followed
+ * last, where that was the same surface and those are known, and else all anew; of a viewer or a
+ * client always all. TK_WRONG_KIND: the first handle has no viewer. TK_NUMBERS, TK_MEMORY: the
+ * viewer may show anything, and gets all anew the next time. */
 tk_status tk_follow(tk_handle *viewer, tk_handle *source);
+
+/* ---- Clients: by bytes, as docs/VIEWER.md and docs/stream.cddl describe them ---- */
+
+/* Writes the answer to what a client asks: the changes since the number that it shows, where it
+ * shows this surface and those are known, and else all that the surface keeps. The ask is that of
+ * tk_client_ask and nothing behind it. TK_TRUNCATED: it is a beginning of one. TK_UNREADABLE: it is
+ * none. TK_WRONG_KIND. TK_SHORT: the next call for the same ask has the same answer. */
+tk_status tk_respond(tk_handle *surface, const uint8_t *ask, size_t ask_len, uint8_t *bytes,
+                     size_t room, size_t *len);
+
+/* Makes a client that shows nothing yet: a blank of one column and one row. It measures by these
+ * widths, and takes no answer of more cells (width times height) or bytes. What the handle had is
+ * freed. TK_RANGE: widths. */
+tk_status tk_client_new(tk_handle *client, uint8_t widths, size_t cells, size_t bytes);
+#define TK_USUAL_CELLS 1048576
+#define TK_USUAL_BYTES 16777216
+
+/* What is wrong with the bytes of an answer. */
+typedef struct tk_fault {
+    uint8_t kind;    /* TK_FAULT_VERSION .. */
+    bool has_change; /* whether it is in a change */
+    size_t at;       /* the byte where the item begins that shows it, from the answer's first on */
+    size_t change;   /* that change's index; 0 where there is none */
+} tk_fault;
+enum {
+    TK_FAULT_VERSION = 0, /* they are of another version */
+    TK_FAULT_TYPE = 1,    /* an item has a type that doesn't stand here */
+    TK_FAULT_UTF8 = 2,    /* a text is no UTF-8 */
+    TK_FAULT_RANGE = 3,   /* a number is out of its range, or not in its shortest form */
+    TK_FAULT_REGION = 4,  /* the region of a scroll goes past the last row */
+    TK_FAULT_SIZE = 5,    /* a delta has another size than what it leads on from */
+    TK_FAULT_MEASURE = 6, /* a text is cut or measured in another way than the client does it */
+    TK_FAULT_LIMIT = 7    /* there are more cells or bytes than the client's limits */
+};
+
+/* Takes the next bytes of a stream of answers. Of each answer that is whole the client shows what
+ * the surface showed when it gave it. An answer that is late, comes twice, or leads on from what
+ * another surface showed changes nothing, and is no error.
+ *
+ * After an error the stream can't go on: tk_client_reset begins another one. TK_UNREADABLE: *fault
+ * says what is wrong, and that answer has changed nothing. TK_NUMBERS, TK_MEMORY: the client may
+ * show anything, and asks for all. After any other outcome *fault is as it was. TK_WRONG_KIND. */
+tk_status tk_client_feed(tk_handle *client, const uint8_t *bytes, size_t len, tk_fault *fault);
+
+/* Writes what to ask for the next answer, 20 bytes at most. TK_WRONG_KIND, TK_SHORT. */
+tk_status tk_client_ask(tk_handle *client, uint8_t *bytes, size_t room, size_t *len);
+
+/* Begins a new stream: drops the bytes that make no whole answer yet. What the client shows stays,
+ * and so does what it asks for. TK_WRONG_KIND. */
+tk_status tk_client_reset(tk_handle *client);
 
 #ifdef __cplusplus
 }

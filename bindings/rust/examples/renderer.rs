@@ -90,7 +90,6 @@ fn main() -> Result<(), Box<dyn Error>> {
         surface.add_changes(&[at(0, 2), format!("{:>3} % ", done * 5).into()])?;
         surface.add_change("#".repeat(done))?;
         renderer.show(&surface)?;
-        surface.flush_changes_older_than(surface.current_seqno());
         thread::sleep(Duration::from_millis(50));
     }
     Ok(renderer.out.write_all(b"\r\n")?)

@@ -3,8 +3,7 @@
 use crate::attributes::{AttributeChange, Attributes};
 use crate::color::ColorAttribute;
 
-/// The number of a change. A viewer has the number that the coming change of its surface had when
-/// it was last given changes, and 0 at first.
+/// The number of a change.
 pub type SequenceNo = usize;
 
 /// A place on one axis of a surface, from 0 on.
@@ -114,6 +113,25 @@ pub enum Change {
     Title(String),
     /// Sets how large the cursor's line is shown.
     LineAttribute(LineAttribute),
+}
+
+impl Change {
+    /// Whether it is no scroll whose region goes past the last row of a surface of this height.
+    pub(crate) fn fits(&self, height: usize) -> bool {
+        match self {
+            Change::ScrollRegionUp {
+                first_row,
+                region_size,
+                ..
+            }
+            | Change::ScrollRegionDown {
+                first_row,
+                region_size,
+                ..
+            } => *first_row <= height && *region_size <= height - first_row,
+            _ => true,
+        }
+    }
 }
 
 impl<T: Into<String>> From<T> for Change {

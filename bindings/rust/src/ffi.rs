@@ -6,12 +6,11 @@ use std::os::raw::c_void;
 pub const DONE: i32 = 0;
 pub const MEMORY: i32 = 1;
 pub const UNREADABLE: i32 = 2;
-pub const REGION: i32 = 3;
-pub const NUMBERS: i32 = 4;
-pub const SIZE: i32 = 5;
-pub const STALE: i32 = 6;
-pub const RANGE: i32 = 9;
-pub const SHORT: i32 = 10;
+pub const TRUNCATED: i32 = 3;
+pub const REGION: i32 = 4;
+pub const NUMBERS: i32 = 5;
+pub const RANGE: i32 = 8;
+pub const SHORT: i32 = 9;
 
 #[repr(C)]
 pub struct tk_handle {
@@ -56,22 +55,29 @@ pub struct tk_cell {
     pub attributes: tk_attributes,
 }
 
+#[repr(C)]
+#[derive(Default)]
+pub struct tk_fault {
+    pub kind: u8,
+    pub has_change: bool,
+    pub at: usize,
+    pub change: usize,
+}
+
 extern "C" {
     pub fn tk_surface_new(
         surface: *mut tk_handle,
         width: usize,
         height: usize,
         widths: u8,
-        is_full: bool,
+        source: usize,
     ) -> i32;
-    pub fn tk_viewer_new(viewer: *mut tk_handle, source: *mut tk_handle) -> i32;
     pub fn tk_free(handle: *mut tk_handle);
-    pub fn tk_resize(handle: *mut tk_handle, width: usize, height: usize) -> i32;
-    pub fn tk_flush(handle: *mut tk_handle, number: usize) -> i32;
+    pub fn tk_resize(surface: *mut tk_handle, width: usize, height: usize) -> i32;
+    pub fn tk_number(handle: *mut tk_handle, number: *mut usize) -> i32;
     pub fn tk_size(handle: *mut tk_handle, width: *mut usize, height: *mut usize) -> i32;
     pub fn tk_cursor(handle: *mut tk_handle, column: *mut usize, row: *mut usize) -> i32;
     pub fn tk_cursor_is_visible(handle: *mut tk_handle, is_visible: *mut bool) -> i32;
-    pub fn tk_number(handle: *mut tk_handle, number: *mut usize) -> i32;
     pub fn tk_title(handle: *mut tk_handle, text: *mut u8, room: usize, len: *mut usize) -> i32;
     pub fn tk_screen_text(
         handle: *mut tk_handle,
@@ -120,16 +126,30 @@ extern "C" {
         to_column: usize,
         to_row: usize,
     ) -> i32;
-    pub fn tk_answer(
-        handle: *mut tk_handle,
-        number: usize,
+    pub fn tk_viewer_new(viewer: *mut tk_handle, source: *mut tk_handle) -> i32;
+    pub fn tk_follow(viewer: *mut tk_handle, source: *mut tk_handle) -> i32;
+    pub fn tk_respond(
+        surface: *mut tk_handle,
+        ask: *const u8,
+        ask_len: usize,
         bytes: *mut u8,
         room: usize,
         len: *mut usize,
     ) -> i32;
-    pub fn tk_accept(viewer: *mut tk_handle, bytes: *const u8, len: usize) -> i32;
-    pub fn tk_last(viewer: *mut tk_handle, number: *mut usize) -> i32;
-    pub fn tk_follow(viewer: *mut tk_handle, source: *mut tk_handle) -> i32;
+    pub fn tk_client_new(client: *mut tk_handle, widths: u8, cells: usize, bytes: usize) -> i32;
+    pub fn tk_client_feed(
+        client: *mut tk_handle,
+        bytes: *const u8,
+        len: usize,
+        fault: *mut tk_fault,
+    ) -> i32;
+    pub fn tk_client_ask(
+        client: *mut tk_handle,
+        bytes: *mut u8,
+        room: usize,
+        len: *mut usize,
+    ) -> i32;
+    pub fn tk_client_reset(client: *mut tk_handle) -> i32;
 }
 
 #[cfg(test)]
@@ -144,5 +164,6 @@ mod tests {
         assert_eq!(size_of::<tk_color>(), 5);
         assert_eq!(size_of::<tk_attributes>(), 26);
         assert_eq!(size_of::<tk_cell>(), 28);
+        assert_eq!(size_of::<tk_fault>(), 24);
     }
 }

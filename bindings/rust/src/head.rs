@@ -18,32 +18,6 @@ pub(crate) fn put(out: &mut Vec<u8>, major: u8, value: u64) {
     out.extend_from_slice(&value.to_be_bytes()[8 - count..]);
 }
 
-/// Takes the head of an item of this major type from the front of the bytes.
-pub(crate) fn take(bytes: &mut &[u8], major: u8) -> Option<u64> {
-    let (first, rest) = bytes.split_first()?;
-    if first >> 5 != major {
-        return None;
-    }
-    let count = match first & 0x1f {
-        short @ 0..=23 => {
-            *bytes = rest;
-            return Some(short.into());
-        }
-        24 => 1,
-        25 => 2,
-        26 => 4,
-        27 => 8,
-        _ => return None,
-    };
-    let value = rest.get(..count)?;
-    *bytes = &rest[count..];
-    Some(
-        value
-            .iter()
-            .fold(0, |sum, byte| sum << 8 | u64::from(*byte)),
-    )
-}
-
 #[cfg(test)]
 mod tests {
     use super::*;
@@ -70,19 +44,5 @@ mod tests {
             put(&mut out, major, value);
             assert_eq!(out, bytes);
         }
-    }
-
-    #[test]
-    fn heads_are_taken_from_the_front() {
-        for (major, value, bytes) in EXAMPLES {
-            let mut left = &[bytes, &[7]].concat()[..];
-            assert_eq!(take(&mut left, major), Some(value));
-            assert_eq!(left, [7]);
-            for cut in 0..bytes.len() {
-                assert_eq!(take(&mut &bytes[..cut], major), None);
-            }
-            assert_eq!(take(&mut &bytes[..], TEXT), None);
-        }
-        assert_eq!(take(&mut &[0x1f][..], UNSIGNED), None);
     }
 }

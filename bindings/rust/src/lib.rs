@@ -1,24 +1,31 @@
-//! Surfaces of a terminal, viewers that follow them, and the bytes between them.
+//! Surfaces of a terminal, viewers and clients that show them, and the bytes between.
 //!
 //! A [`Surface`] holds what a terminal's screen shows, with no terminal behind it. [`Change`]s go
-//! in, and out comes an [`Answer`]: the bytes that bring a viewer from what it was last given to
-//! what the surface shows. A [`Viewer`] accepts them, in this process or in another one.
+//! in. A [`Client`] shows what the surface shows, in this process or in another one: it asks, and
+//! the surface answers by the bytes that bring it from what it shows to what the surface shows.
 //!
 //! ```
-//! use tikeburo::{Answer, Surface, Viewer};
+//! use tikeburo::{Client, Surface};
 //!
 //! let mut surface = Surface::new(12, 2)?;
-//! let mut viewer = Viewer::new(&surface)?;
+//! let mut client = Client::new()?;
 //! surface.add_change("hello か\r\nsame screen")?;
 //!
-//! let bytes = surface.answer(viewer.last())?.into_bytes(); // over any connection
-//! viewer.accept(&Answer::from(bytes))?;
-//! assert_eq!(viewer.surface().row(1).text()?.trim_end(), "same screen");
+//! let ask = client.ask()?; // over any connection
+//! let bytes = surface.respond(&ask)?; // and back
+//! client.feed(&bytes)?;
+//! assert_eq!(client.screen().row(1).text()?.trim_end(), "same screen");
 //! # Ok::<(), tikeburo::Error>(())
 //! ```
 //!
 //! The names are those of `termwiz`. What does the work is `libtikeburo_c.a`, which is proved; this
 //! crate calls it, and is tested.
+//!
+//! # Any number of surfaces
+//!
+//! Each surface has a random number of 64 bits, which its answers carry. A client that is fed the
+//! answers of several surfaces, late, twice or in any order, shows what the one that it took last
+//! showed, and never a mixture.
 //!
 //! # Errors and memory
 //!
@@ -28,8 +35,8 @@
 //!
 //! # Threads
 //!
-//! An [`Answer`] may go to any thread. A [`Surface`] and a [`Viewer`] stay on theirs, since
-//! surfaces share links with what they were drawn from or follow.
+//! Asks and answers may go to any thread. A [`Surface`], a [`Viewer`] and a [`Client`] stay on
+//! theirs, since surfaces share links with what they were drawn from or follow.
 //!
 //! ```compile_fail,E0277
 //! fn send<T: Send>(_: T) {}
@@ -40,13 +47,16 @@
 
 mod attributes;
 mod change;
+mod client;
 mod color;
 mod encode;
 mod error;
+mod fault;
 mod ffi;
 mod handle;
 mod head;
 mod rows;
+mod screen;
 mod surface;
 mod viewer;
 
@@ -55,8 +65,11 @@ pub use attributes::{
     VerticalAlign,
 };
 pub use change::{Change, CursorShape, CursorVisibility, LineAttribute, Position, SequenceNo};
+pub use client::{Ask, Client, Limits};
 pub use color::{ColorAttribute, PaletteIndex, RgbColor};
 pub use error::Error;
+pub use fault::{Fault, FaultKind};
 pub use rows::{Cell, Cells, Row, Rows};
+pub use screen::Screen;
 pub use surface::{Options, Surface, Widths};
-pub use viewer::{Answer, Viewer};
+pub use viewer::Viewer;

@@ -4,21 +4,21 @@ use crate::attributes::{Attributes, Hyperlink};
 use crate::error::Error;
 use crate::ffi::{self, tk_cell};
 use crate::handle;
-use crate::surface::Surface;
+use crate::screen::Screen;
 use std::iter::FusedIterator;
 use std::ops::Range;
 
-/// The rows of a surface, from the top.
+/// The rows of a screen, from the top.
 #[derive(Clone, Debug)]
 pub struct Rows<'a> {
-    surface: &'a Surface,
+    screen: &'a Screen,
     rows: Range<usize>,
 }
 
 impl<'a> Rows<'a> {
-    pub(crate) fn new(surface: &'a Surface, height: usize) -> Rows<'a> {
+    pub(crate) fn new(screen: &'a Screen, height: usize) -> Rows<'a> {
         let rows = 0..height;
-        Rows { surface, rows }
+        Rows { screen, rows }
     }
 }
 
@@ -27,7 +27,7 @@ impl<'a> Iterator for Rows<'a> {
 
     fn next(&mut self) -> Option<Row<'a>> {
         let number = self.rows.next()?;
-        Some(Row::new(self.surface, number))
+        Some(Row::new(self.screen, number))
     }
 
     fn size_hint(&self) -> (usize, Option<usize>) {
@@ -38,7 +38,7 @@ impl<'a> Iterator for Rows<'a> {
 impl DoubleEndedIterator for Rows<'_> {
     fn next_back(&mut self) -> Option<Self::Item> {
         let number = self.rows.next_back()?;
-        Some(Row::new(self.surface, number))
+        Some(Row::new(self.screen, number))
     }
 }
 
@@ -46,16 +46,16 @@ impl ExactSizeIterator for Rows<'_> {}
 
 impl FusedIterator for Rows<'_> {}
 
-/// A row of a surface.
+/// A row of a screen.
 #[derive(Clone, Copy, Debug)]
 pub struct Row<'a> {
-    surface: &'a Surface,
+    screen: &'a Screen,
     number: usize,
 }
 
 impl<'a> Row<'a> {
-    pub(crate) fn new(surface: &'a Surface, number: usize) -> Row<'a> {
-        Row { surface, number }
+    pub(crate) fn new(screen: &'a Screen, number: usize) -> Row<'a> {
+        Row { screen, number }
     }
 
     /// Its number, from 0 at the top.
@@ -65,17 +65,17 @@ impl<'a> Row<'a> {
 
     /// The texts of its cells. Blanks at its end may be left out.
     pub fn text(&self) -> Result<String, Error> {
-        let handle = self.surface.handle.get();
+        let handle = self.screen.handle.get();
         // Safety: the handle is live, and the buffer has the room that is named.
         handle::text(|text, room, len| unsafe {
             ffi::tk_row_text(handle, self.number, text, room, len)
         })
     }
 
-    /// Its visible cells from the left, up to the surface's width: behind a wide cell comes the one
+    /// Its visible cells from the left, up to the screen's width: behind a wide cell comes the one
     /// that is two columns further. The last item is the first error, if there is one.
     pub fn cells(&self) -> Cells<'a> {
-        let (width, _) = self.surface.dimensions();
+        let (width, _) = self.screen.dimensions();
         Cells {
             row: *self,
             columns: 0..width,
@@ -84,7 +84,7 @@ impl<'a> Row<'a> {
 
     /// The cell at this column. At the second column of a wide cell stands a blank one.
     pub fn cell(&self, column: usize) -> Result<Cell, Error> {
-        let handle = self.surface.handle.get();
+        let handle = self.screen.handle.get();
         let mut read = tk_cell::default();
         // Safety: the handle is live, `read` is written alone, and the buffer has the room that is
         // named.
@@ -104,7 +104,7 @@ impl<'a> Row<'a> {
     }
 
     fn link(&self, column: usize) -> Result<Hyperlink, Error> {
-        let handle = self.surface.handle.get();
+        let handle = self.screen.handle.get();
         // Safety: the handle is live, and the buffer has the room that is named.
         let uri = handle::text(|uri, room, len| unsafe {
             ffi::tk_link_at(handle, column, self.number, uri, room, len)

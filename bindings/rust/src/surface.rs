@@ -1,15 +1,18 @@
 //! Surfaces.
 
-use crate::change::{Change, CursorVisibility, SequenceNo};
+use crate::change::{Change, SequenceNo};
+use crate::client::Ask;
 use crate::encode;
 use crate::error::Error;
 use crate::ffi;
 use crate::handle::{self, Handle};
-use crate::rows::{Row, Rows};
-use crate::viewer::Answer;
+use crate::screen::Screen;
+use std::collections::hash_map::RandomState;
 use std::fmt;
+use std::hash::{BuildHasher, Hasher};
+use std::ops::Deref;
 
-/// How a surface measures texts.
+/// How texts are measured.
 #[derive(Clone, Copy, PartialEq, Eq, Hash, Debug, Default)]
 pub enum Widths {
     /// By the Unicode tables: a grapheme has one column or two.
@@ -24,13 +27,11 @@ pub enum Widths {
 pub struct Options {
     /// How it measures texts.
     pub widths: Widths,
-    /// Whether its repaints carry all that is kept beside the screen: the title, the cursor's shape
-    /// and colour, and how large lines are shown.
-    pub is_full: bool,
 }
 
-/// What a terminal's screen shows, with no terminal behind it: rows of cells, a cursor, and the
-/// pen, which is the attributes of coming texts.
+/// What a terminal's screen shows, with no terminal behind it: a [`Screen`], the pen, which is the
+/// attributes of coming texts, and the changes that were made last. It forgets those that no answer
+/// needs.
 ///
 /// ```
 /// use tikeburo::{Change, CursorVisibility, Surface};
@@ -43,7 +44,7 @@ pub struct Options {
 /// # Ok::<(), tikeburo::Error>(())
 /// ```
 pub struct Surface {
-    pub(crate) handle: Handle,
+    screen: Screen,
 }
 
 impl Surface {
@@ -53,23 +54,16 @@ impl Surface {
         Surface::with_options(width, height, Options::default())
     }
 
-    /// A blank surface of this size that is full: see [`Options::is_full`].
-    pub fn new_full(width: usize, height: usize) -> Result<Surface, Error> {
-        let options = Options {
-            is_full: true,
-            ..Options::default()
-        };
-        Surface::with_options(width, height, options)
-    }
-
     /// A blank surface of this size.
     pub fn with_options(width: usize, height: usize, options: Options) -> Result<Surface, Error> {
         let widths = options.widths as u8;
+        let source = source_number();
         // Safety: the handle is all zero before.
         let handle = Handle::made(|handle| unsafe {
-            ffi::tk_surface_new(handle, width, height, widths, options.is_full)
+            ffi::tk_surface_new(handle, width, height, widths, source)
         })?;
-        Ok(Surface { handle })
+        let screen = Screen { handle };
+        Ok(Surface { screen })
     }
 
     /// Makes a change, and returns its number.
@@ -78,10 +72,7 @@ impl Surface {
     /// change may have been made in part; the size stays.
     pub fn add_change(&mut self, change: impl Into<Change>) -> Result<SequenceNo, Error> {
         let number = self.current_seqno();
-        match change.into() {
-            Change::Text(text) => self.print(&text)?,
-            change => self.add(&[change])?,
-        }
+        self.add(&[change.into()])?;
         Ok(number)
     }
 
@@ -100,12 +91,34 @@ impl Surface {
     /// # Ok::<(), Error>(())
     /// ```
     pub fn add_changes(&mut self, changes: &[Change]) -> Result<SequenceNo, Error> {
+        let (_, height) = self.dimensions();
+        if !changes.iter().all(|change| change.fits(height)) {
+            return Err(Error::ScrollRegion);
+        }
         let number = self.current_seqno();
         self.add(changes)?;
         Ok(number.saturating_sub(1) + changes.len())
     }
 
+    /// Prints the texts, and adds the changes between them as bytes: bytes of a text say how it is
+    /// cut and measured, which this crate has no tables for.
     fn add(&mut self, changes: &[Change]) -> Result<(), Error> {
+        for part in changes.split_inclusive(|change| matches!(change, Change::Text(_))) {
+            match part {
+                [others @ .., Change::Text(text)] => {
+                    self.add_encoded(others)?;
+                    self.print(text)?;
+                }
+                others => self.add_encoded(others)?,
+            }
+        }
+        Ok(())
+    }
+
+    fn add_encoded(&mut self, changes: &[Change]) -> Result<(), Error> {
+        if changes.is_empty() {
+            return Ok(());
+        }
         let bytes = encode::changes(changes);
         // Safety: the handle is live, and the bytes are only read.
         Error::check(unsafe { ffi::tk_add_changes(self.handle.get(), bytes.as_ptr(), bytes.len()) })
@@ -116,9 +129,9 @@ impl Surface {
         Error::check(unsafe { ffi::tk_print(self.handle.get(), text.as_ptr(), text.len()) })
     }
 
-    /// Draws what another surface shows, from column `x` and row `y` on. What doesn't fit is left
-    /// out. Cursor and pen are as before.
-    pub fn draw_from_screen(&mut self, other: &Surface, x: usize, y: usize) -> Result<(), Error> {
+    /// Draws what another surface shows, a viewer or a client, from column `x` and row `y` on. What
+    /// doesn't fit is left out. Cursor and pen are as before.
+    pub fn draw_from_screen(&mut self, other: &Screen, x: usize, y: usize) -> Result<(), Error> {
         // Safety: both handles are live, and they are two, since one is borrowed alone.
         Error::check(unsafe { ffi::tk_draw(self.handle.get(), other.handle.get(), x, y) })
     }
@@ -146,85 +159,43 @@ impl Surface {
         Error::check(unsafe { ffi::tk_resize(self.handle.get(), width, height) })
     }
 
-    /// Forgets the changes before this number.
-    pub fn flush_changes_older_than(&mut self, seq: SequenceNo) {
-        // Safety: the handle is live, and then the call doesn't fail.
-        unsafe { ffi::tk_flush(self.handle.get(), seq) };
-    }
-
-    /// What a viewer with this number needs: the changes since then, or a repaint where the surface
-    /// doesn't have them or they are more than the screen is worth.
-    pub fn answer(&self, seq: SequenceNo) -> Result<Answer, Error> {
-        let handle = self.handle.get();
-        // Room for most answers, since a second call would make the answer anew.
-        let mut front = [0; 1 << 14];
-        // Safety: the handle is live, and the buffer has the room that is named.
-        let bytes = handle::bytes(&mut front, |bytes, room, len| unsafe {
-            ffi::tk_answer(handle, seq, bytes, room, len)
-        })?;
-        Ok(Answer::from(bytes))
-    }
-
-    /// The width in columns and the height in rows.
-    pub fn dimensions(&self) -> (usize, usize) {
-        self.handle.numbers(ffi::tk_size).unwrap_or_default()
-    }
-
-    /// The cursor's column and row. The column is the width where a wrap is pending.
-    pub fn cursor_position(&self) -> (usize, usize) {
-        self.handle.numbers(ffi::tk_cursor).unwrap_or_default()
-    }
-
-    /// Whether the cursor is shown.
-    pub fn cursor_visibility(&self) -> CursorVisibility {
-        let mut is_visible = true;
-        // Safety: the handle is live, and then the call doesn't fail.
-        unsafe { ffi::tk_cursor_is_visible(self.handle.get(), &mut is_visible) };
-        if is_visible {
-            CursorVisibility::Visible
-        } else {
-            CursorVisibility::Hidden
-        }
-    }
-
-    /// The number of the coming change, which a viewer has that has all changes.
+    /// The number of the coming change.
     pub fn current_seqno(&self) -> SequenceNo {
         self.handle.number(ffi::tk_number).unwrap_or_default()
     }
 
-    /// The title, which is empty at first.
-    pub fn title(&self) -> Result<String, Error> {
-        let handle = self.handle.get();
-        // Safety: the handle is live, and the buffer has the room that is named.
-        handle::text(|text, room, len| unsafe { ffi::tk_title(handle, text, room, len) })
-    }
-
-    /// The texts of all rows, with a line feed behind each. Blanks at a row's end may be left out.
-    pub fn screen_chars_to_string(&self) -> Result<String, Error> {
-        let handle = self.handle.get();
-        // Safety: the handle is live, and the buffer has the room that is named.
-        handle::text(|text, room, len| unsafe { ffi::tk_screen_text(handle, text, room, len) })
-    }
-
-    /// The rows, from the top.
+    /// The answer to what a client asks, as bytes for [`Client::feed`](crate::Client::feed): the
+    /// changes since it was answered last, or the whole screen where that is less, or is all that
+    /// is known.
     ///
-    /// ```
-    /// use tikeburo::Surface;
-    ///
-    /// let mut surface = Surface::new(8, 3)?;
-    /// surface.add_change("one\r\ntwo")?;
-    /// let mut texts = surface.rows().map(|row| row.text());
-    /// assert_eq!(texts.next().unwrap()?.trim_end(), "one");
-    /// # Ok::<(), tikeburo::Error>(())
-    /// ```
-    pub fn rows(&self) -> Rows<'_> {
-        let (_, height) = self.dimensions();
-        Rows::new(self, height)
+    /// [`Error::Truncated`]: the ask is a beginning of one. [`Error::Unreadable`]: it is none.
+    pub fn respond(&mut self, ask: &Ask) -> Result<Vec<u8>, Error> {
+        let handle = self.handle.get();
+        let ask = ask.as_bytes();
+        // Room for most answers, since a second call would make the answer anew.
+        let mut front = [0; 1 << 14];
+        // Safety: the handle is live, the ask is only read, and the buffer has the room that is
+        // named.
+        handle::bytes(&mut front, |bytes, room, len| unsafe {
+            ffi::tk_respond(handle, ask.as_ptr(), ask.len(), bytes, room, len)
+        })
     }
+}
 
-    /// A row by its number from 0. Its calls fail with [`Error::Range`] where there is none.
-    pub fn row(&self, number: usize) -> Row<'_> {
-        Row::new(self, number)
+/// The number by which viewers and clients know a surface from others, of this process and of any
+/// other: 64 random bits, and not 0. Each new `RandomState` has keys of its own.
+fn source_number() -> usize {
+    let mut hasher = RandomState::new().build_hasher();
+    hasher.write_u32(std::process::id());
+    hasher.finish().max(1) as usize
+}
+
+/// What it shows.
+impl Deref for Surface {
+    type Target = Screen;
+
+    fn deref(&self) -> &Screen {
+        &self.screen
     }
 }
 
@@ -241,7 +212,6 @@ impl fmt::Debug for Surface {
 /// The rows, with a line feed behind each, and nothing where memory is refused.
 impl fmt::Display for Surface {
     fn fmt(&self, f: &mut fmt::Formatter<'_>) -> fmt::Result {
-        let text = self.screen_chars_to_string().unwrap_or_default();
-        f.write_str(&text)
+        fmt::Display::fmt(&self.screen, f)
     }
 }

@@ -1,84 +1,207 @@
-//! Viewers show what surfaces showed, by way of bytes.
+//! Clients show what surfaces showed, by way of bytes, and viewers without.
 
 use std::thread;
-use tikeburo::{Answer, Cell, Change, Error, Surface, Viewer};
+use tikeburo::{Ask, Cell, Change, Client, Error, Fault, FaultKind, Limits, Options};
+use tikeburo::{Screen, Surface, Viewer, Widths};
 
-/// All that is seen of a surface.
-fn seen(surface: &Surface) -> (Vec<Vec<Cell>>, (usize, usize), String) {
+/// All that is seen of a screen.
+fn seen(screen: &Screen) -> (Vec<Vec<Cell>>, (usize, usize), String) {
     let cells = |row: tikeburo::Row<'_>| row.cells().map(Result::unwrap).collect();
     (
-        surface.rows().map(cells).collect(),
-        surface.cursor_position(),
-        surface.title().unwrap(),
+        screen.rows().map(cells).collect(),
+        screen.cursor_position(),
+        screen.title().unwrap(),
     )
 }
 
-fn pair() -> (Surface, Viewer) {
-    let mut surface = Surface::new_full(12, 3).unwrap();
-    let viewer = Viewer::new(&surface).unwrap();
-    surface.add_change("hello か\r\nsame screen").unwrap();
-    surface.add_change(Change::Title("notes".into())).unwrap();
-    (surface, viewer)
+fn titled(text: &str, title: &str) -> Surface {
+    let mut surface = Surface::new(12, 3).unwrap();
+    surface.add_change(text).unwrap();
+    surface.add_change(Change::Title(title.into())).unwrap();
+    surface
+}
+
+fn pair() -> (Surface, Client) {
+    (
+        titled("hello か\r\nsame screen", "notes"),
+        Client::new().unwrap(),
+    )
+}
+
+/// What the client lacks of the surface.
+fn answer(surface: &mut Surface, client: &Client) -> Vec<u8> {
+    surface.respond(&client.ask().unwrap()).unwrap()
+}
+
+fn fault(kind: FaultKind, at: usize, change: Option<usize>) -> Result<(), Error> {
+    Err(Error::Fault(Fault { kind, at, change }))
 }
 
 #[test]
-fn a_viewer_shows_what_the_surface_shows() {
-    let (mut surface, mut viewer) = pair();
+fn a_client_shows_what_the_surface_shows() {
+    let (mut surface, mut client) = pair();
     for text in ["", "one", "\r\ntwo", "\r\nthree"] {
         surface.add_change(text).unwrap();
-        let answer = surface.answer(viewer.last()).unwrap();
-        viewer.accept(&answer).unwrap();
-        assert_eq!(seen(viewer.surface()), seen(&surface));
-        assert_eq!(viewer.last(), surface.current_seqno());
-        surface.flush_changes_older_than(viewer.last());
+        client.feed(&answer(&mut surface, &client)).unwrap();
+        assert_eq!(seen(client.screen()), seen(&surface));
     }
+    surface.resize(5, 5).unwrap();
+    client.feed(&answer(&mut surface, &client)).unwrap();
+    assert_eq!(seen(client.screen()), seen(&surface));
 }
 
 #[test]
-fn answers_are_refused_by_name() {
-    let (mut surface, mut viewer) = pair();
-    let repaint = surface.answer(0).unwrap();
-    for len in 0..repaint.as_bytes().len() {
-        let cut = Answer::from(&repaint.as_bytes()[..len]);
-        assert_eq!(viewer.accept(&cut), Err(Error::Unreadable));
+fn answers_come_in_any_pieces() {
+    let (mut surface, mut client) = pair();
+    let repaint = answer(&mut surface, &client);
+    let (last, front) = repaint.split_last().unwrap();
+    for byte in front {
+        client.feed(&[*byte]).unwrap();
     }
-    viewer.accept(&repaint).unwrap();
+    assert_eq!(client.screen().title().unwrap(), "");
+    let both = [&[*last][..], &repaint, &[]].concat(); // and again, which changes nothing
+    client.feed(&both).unwrap();
+    assert_eq!(seen(client.screen()), seen(&surface));
+}
+
+#[test]
+fn late_and_repeated_answers_change_nothing() {
+    let (mut surface, mut client) = pair();
+    client.feed(&answer(&mut surface, &client)).unwrap();
     surface.add_change("x").unwrap();
-    let delta = surface.answer(viewer.last()).unwrap();
-    assert_eq!(viewer.accept(&delta), Ok(()));
-    assert_eq!(viewer.accept(&delta), Err(Error::Stale));
-    viewer.resize(5, 5).unwrap();
-    assert_eq!(viewer.accept(&repaint), Err(Error::Size));
-    assert_eq!(viewer.last(), 0);
-    assert_eq!(repaint.size(), Some((12, 3)));
-    viewer.resize(12, 3).unwrap();
-    assert_eq!(viewer.accept(&repaint), Ok(()));
+    let late = answer(&mut surface, &client);
+    surface.add_change("y").unwrap();
+    client.feed(&answer(&mut surface, &client)).unwrap();
+    client.feed(&late).unwrap();
+    client.feed(&late).unwrap();
+    assert_eq!(seen(client.screen()), seen(&surface));
 }
 
 #[test]
-fn a_viewer_follows_and_is_followed() {
-    let (mut surface, mut viewer) = pair();
+fn a_client_never_shows_a_mixture() {
+    let (mut first, mut client) = pair();
+    let mut second = titled("another\r\nscreen", "other");
+    let mut other = Client::new().unwrap();
+    client.feed(&answer(&mut first, &client)).unwrap();
+    other.feed(&answer(&mut second, &other)).unwrap();
+    first.add_change("1").unwrap();
+    second.add_change("2").unwrap();
+    let delta = answer(&mut second, &other);
+    let before = seen(client.screen());
+    client.feed(&delta).unwrap(); // its base is the client's number, and its surface isn't
+    assert_eq!(seen(client.screen()), before);
+    client.feed(&answer(&mut second, &client)).unwrap(); // a repaint, since it asks with the first
+    assert_eq!(seen(client.screen()), seen(&second));
+    client.feed(&answer(&mut first, &client)).unwrap();
+    assert_eq!(seen(client.screen()), seen(&first));
+}
+
+#[test]
+fn faults_have_their_places() {
+    let (mut surface, mut client) = pair();
+    let repaint = answer(&mut surface, &client);
+    let mut wrong = repaint.clone();
+    wrong[1] = 1;
+    assert_eq!(client.feed(&wrong), fault(FaultKind::Version, 1, None));
+    client.reset();
+    assert_eq!(client.feed(&repaint), Ok(()));
+    assert_eq!(client.feed(&[0x80]), fault(FaultKind::Type, 0, None));
+    client.reset();
+    let change = [0x87, 2, 1, 1, 1, 0, 0, 0x82, 0x82, 9, 0xf5, 0x82, 9, 0];
+    assert_eq!(client.feed(&change), fault(FaultKind::Type, 13, Some(1)));
+    assert_eq!(seen(client.screen()), seen(&surface));
+    let shown = client.feed(&change).unwrap_err().to_string();
+    assert!(shown.ends_with("type at 13 in change 1"), "{shown}");
+}
+
+#[test]
+fn a_reset_begins_a_new_stream() {
+    let (mut surface, mut client) = pair();
+    let repaint = answer(&mut surface, &client);
+    client.feed(&repaint[..9]).unwrap(); // and the connection is lost
+    client.reset();
+    client.feed(&answer(&mut surface, &client)).unwrap();
+    assert_eq!(seen(client.screen()), seen(&surface));
+}
+
+#[test]
+fn limits_are_kept() {
+    let (mut surface, mut client) = pair();
+    let repaint = answer(&mut surface, &client);
+    for (cells, bytes, is_taken) in [
+        (36, repaint.len(), true),
+        (35, repaint.len(), false),
+        (36, repaint.len() - 1, false),
+    ] {
+        let limits = Limits { cells, bytes };
+        client = Client::with_limits(Widths::Unicode, limits).unwrap();
+        match client.feed(&repaint) {
+            Ok(()) => assert!(is_taken),
+            Err(Error::Fault(fault)) => assert!(!is_taken && fault.kind == FaultKind::Limit),
+            Err(error) => panic!("{error}"),
+        }
+    }
+}
+
+#[test]
+fn clients_that_measure_otherwise_find_it() {
+    let (mut surface, _) = pair();
+    let mut client = Client::with_limits(Widths::OneColumn, Limits::default()).unwrap();
+    match client.feed(&answer(&mut surface, &client)) {
+        Err(Error::Fault(fault)) => assert_eq!(fault.kind, FaultKind::Measure),
+        other => panic!("{other:?}"),
+    }
+    let options = Options {
+        widths: Widths::OneColumn,
+    };
+    surface = Surface::with_options(12, 3, options).unwrap();
+    surface.add_change("hello か").unwrap();
+    client.reset();
+    client.feed(&answer(&mut surface, &client)).unwrap();
+    assert_eq!(seen(client.screen()), seen(&surface));
+}
+
+#[test]
+fn asks_are_refused_by_name() {
+    let (mut surface, client) = pair();
+    let ask = client.ask().unwrap().into_bytes();
+    assert_eq!(ask, [0x83, 2, 0, 0]);
+    for len in 0..ask.len() {
+        let cut = Ask::from(&ask[..len]);
+        assert_eq!(surface.respond(&cut), Err(Error::Truncated));
+    }
+    for wrong in [&[0x83, 1, 0, 0][..], &[0x83, 2, 0, 1], &[0x83, 2, 0, 0, 0]] {
+        assert_eq!(surface.respond(&Ask::from(wrong)), Err(Error::Unreadable));
+    }
+}
+
+#[test]
+fn a_viewer_follows_any_surface() {
+    let (mut surface, _) = pair();
+    let mut viewer = Viewer::new(&surface).unwrap();
     viewer.follow(&surface).unwrap();
     surface.resize(20, 2).unwrap();
     viewer.follow(&surface).unwrap();
-    assert_eq!(seen(viewer.surface()), seen(&surface));
-    let mut second = Viewer::new(viewer.surface()).unwrap();
-    let answer = viewer.surface().answer(second.last()).unwrap();
-    second.accept(&answer).unwrap();
-    assert_eq!(seen(second.surface()), seen(&surface));
-    viewer.flush_changes_older_than(viewer.surface().current_seqno());
+    assert_eq!(seen(viewer.screen()), seen(&surface));
+    let other = titled("other", "another title");
+    viewer.follow(&other).unwrap();
+    assert_eq!(seen(viewer.screen()), seen(&other));
+    let mut second = Viewer::new(viewer.screen()).unwrap();
+    second.follow(viewer.screen()).unwrap();
+    assert_eq!(seen(second.screen()), seen(&other));
+    second.follow(&surface).unwrap();
     drop(surface);
-    assert_eq!(viewer.surface().dimensions(), (20, 2));
+    assert_eq!(second.screen().dimensions(), (20, 2));
 }
 
 #[test]
 fn an_answer_goes_to_another_thread() {
-    let (surface, viewer) = pair();
-    let answer = surface.answer(viewer.last()).unwrap();
+    let (mut surface, client) = pair();
+    let bytes = answer(&mut surface, &client);
     let there = thread::spawn(move || {
-        let mut viewer = Viewer::new(&Surface::new_full(12, 3).unwrap()).unwrap();
-        viewer.accept(&answer).unwrap();
-        seen(viewer.surface())
+        let mut client = Client::new().unwrap();
+        client.feed(&bytes).unwrap();
+        seen(client.screen())
     });
     assert_eq!(there.join().unwrap(), seen(&surface));
 }

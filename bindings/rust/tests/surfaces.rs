@@ -54,7 +54,6 @@ fn widths_are_those_that_are_chosen() {
     assert_eq!(surface.cursor_position(), (2, 0));
     let options = Options {
         widths: Widths::OneColumn,
-        ..Options::default()
     };
     let mut narrow = Surface::with_options(8, 1, options).unwrap();
     narrow.add_change("か").unwrap();
@@ -270,7 +269,7 @@ fn clears_and_scrolls_do_what_they_say() {
 
 #[test]
 fn states_beside_the_screen_are_kept() {
-    let mut surface = Surface::new_full(4, 1).unwrap();
+    let mut surface = Surface::new(4, 1).unwrap();
     let changes = [
         Change::Title("notes か".into()),
         Change::CursorVisibility(CursorVisibility::Hidden),
@@ -291,6 +290,10 @@ fn changes_are_numbered() {
     assert_eq!(surface.add_changes(&["c".into(), "d".into()]), Ok(3));
     assert_eq!(surface.current_seqno(), 4);
     assert_eq!(surface.add_changes(&[]), Ok(3));
+    let shape = Change::CursorShape(CursorShape::SteadyBar);
+    let mixed = ["か".into(), shape.clone(), shape, "\u{1f600}".into()];
+    assert_eq!(surface.add_changes(&mixed), Ok(7));
+    assert_eq!(surface.current_seqno(), 8);
 }
 
 #[test]
@@ -308,9 +311,10 @@ fn surfaces_and_errors_are_displayed() {
     let surface = printed(3, 1, "abc");
     assert_eq!(surface.to_string(), "abc\n");
     assert!(format!("{surface:?}").starts_with("Surface { dimensions: (3, 1)"));
-    let error: Box<dyn std::error::Error> = Box::new(Error::Stale);
+    assert_eq!(format!("{surface}"), "abc\n");
+    let error: Box<dyn std::error::Error> = Box::new(Error::Range);
     assert_eq!(
         error.to_string(),
-        "the answer leads from another number than the viewer's"
+        "a row, a column, or a size is outside of its range"
     );
 }

@@ -13,6 +13,7 @@ mod lines;
 mod links;
 mod printing;
 mod sent;
+mod shared;
 mod sizes;
 mod viewers;
 mod workload;

@@ -4,7 +4,10 @@ use std::alloc::{AllocError, Global};
 use termwiz_cell::emoji::UnicodeWidths;
 use termwiz_surface::surface::{Answer, Surface, SurfaceError};
 use termwiz_surface::view::Viewer;
-use termwiz_wire::{Reader, decode_answer, encode_answer, encoded_len};
+use termwiz_wire::{Limits, SentAnswer, decode_answer, encode_answer, encoded_len};
+
+// The source that the answers name.
+const SOURCE: usize = 1;
 
 pub fn encoded(alloc: Global, count: u32) -> Result<usize, SurfaceError> {
     let surface = coloured(alloc, 80, 24)?;
@@ -24,20 +27,24 @@ pub fn decoded(alloc: Global, count: u32) -> Result<usize, SurfaceError> {
     let mut sum = 0usize;
     for _ in 0..count {
         let received = answer_of(alloc, bytes.as_slice())?;
-        sum = sum.wrapping_add(received.changes().len());
+        sum = sum.wrapping_add(received.answer.changes().len());
     }
     Ok(sum)
 }
 
 // The bytes of an answer, for which room is taken once.
 fn bytes_of(alloc: Global, answer: &Answer) -> Result<Vec<u8>, AllocError> {
-    let mut bytes = Vec::with_capacity(alloc, encoded_len(answer))?;
-    encode_answer(&mut bytes, answer)?;
+    let len = encoded_len(&UnicodeWidths, SOURCE, answer);
+    let mut bytes = Vec::with_capacity(alloc, len)?;
+    encode_answer(&mut bytes, &UnicodeWidths, SOURCE, answer)?;
     Ok(bytes)
 }
 
-fn answer_of(alloc: Global, bytes: &[u8]) -> Result<Answer, SurfaceError> {
-    decode_answer(alloc, &mut Reader::new(bytes)).map_err(|_| SurfaceError::Memory)
+fn answer_of(alloc: Global, bytes: &[u8]) -> Result<SentAnswer, SurfaceError> {
+    match decode_answer(alloc, &UnicodeWidths, Limits::default(), bytes) {
+        Ok((sent, _)) => Ok(sent),
+        Err(_) => Err(SurfaceError::Memory),
+    }
 }
 
 pub fn delivered(alloc: Global, count: u32) -> Result<usize, SurfaceError> {
@@ -70,6 +77,8 @@ fn deliver(
     let answer = surface.answer(viewer.last())?;
     let bytes = bytes_of(alloc, &answer)?;
     let received = answer_of(alloc, bytes.as_slice())?;
-    viewer.accept(&received).map_err(|_| SurfaceError::Memory)?;
+    viewer
+        .accept(&received.answer)
+        .map_err(|_| SurfaceError::Memory)?;
     Ok(())
 }

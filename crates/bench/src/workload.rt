@@ -2,7 +2,9 @@
 ghost use Rattle.std.specs.Prelude.{◌<◌, ◌^◌};
 
 use crate::drawn::Pens;
-use crate::{answers, attributes, diffs, filled, frames, lines, printing, sent, sizes, viewers};
+use crate::{
+    answers, attributes, diffs, filled, frames, lines, printing, sent, shared, sizes, viewers,
+};
 use std::alloc::Global;
 use termwiz_surface::surface::SurfaceError;
 
@@ -76,6 +78,10 @@ pub enum Workload {
     DecodeRepaint,
     /// `AcceptDelta`, where each answer is encoded and decoded on its way.
     DeliverDelta,
+    /// A client that is fed the bytes of a repaint of a coloured 80x24, and shows it.
+    FeedRepaint,
+    /// A character on a coloured 80x24 that is a source, which responds, and a client is fed that.
+    TypeAndFeed,
     /// A 200x60 that is made an 80x24 and a 200x60 again.
     Resize,
     /// A 200x60 that loses its last row and gets one again.
@@ -112,7 +118,7 @@ pub enum Workload {
     Equality,
 }
 
-static NAMES: [(&str, Workload); 61] = [
+static NAMES: [(&str, Workload); 63] = [
     ("plain", Workload::Plain),
     ("colours", Workload::Colours(Pens::Ten)),
     ("true-line", Workload::Colours(Pens::TenTrue)),
@@ -157,6 +163,8 @@ static NAMES: [(&str, Workload); 61] = [
     ("encode-repaint", Workload::EncodeRepaint),
     ("decode-repaint", Workload::DecodeRepaint),
     ("deliver-delta", Workload::DeliverDelta),
+    ("feed-repaint", Workload::FeedRepaint),
+    ("type-and-feed", Workload::TypeAndFeed),
     ("resize", Workload::Resize),
     ("resize-one-row", Workload::ResizeOneRow),
     ("storm", Workload::Storm),
@@ -237,6 +245,8 @@ pub fn run(
         Workload::EncodeRepaint => sent::encoded(alloc, count),
         Workload::DecodeRepaint => sent::decoded(alloc, count),
         Workload::DeliverDelta => sent::delivered(alloc, count),
+        Workload::FeedRepaint => shared::fed_repaints(alloc, count),
+        Workload::TypeAndFeed => shared::typed(alloc, count),
         Workload::Resize => sizes::resized(alloc, count),
         Workload::ResizeOneRow => sizes::resized_by_a_row(alloc, count),
         Workload::Storm => sizes::stormed(alloc, count),

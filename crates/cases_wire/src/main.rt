@@ -2,14 +2,13 @@
 //! Standard input has the cases, and standard output repeats them with each answer below its line.
 //! A line `case ..` begins a case, and a line that begins with `#` is left out.
 //!
-//! - `change HEX` and `answer HEX`: the value that the bytes encode, in the diagnostic notation of
-//!   CBOR, or the fault. `-` stands for no bytes.
-//! - `stream HEX`: the answers one behind another, to the end of the bytes or the first fault.
+//! - `change HEX`, `answer HEX` and `ask HEX`: the value that the bytes encode, in the diagnostic
+//!   notation of CBOR, or the fault with its place. `-` stands for no bytes. `narrow HEX` is a
+//!   change where each text has one column. A text is shown without its pieces.
 //! - `damaged`: how many inputs differ in one byte from those of the lines before, or are their
 //!   beginnings. Each of them was decoded, and its value encoded again.
 //!
-//! Where a value's encoding, or the length that it is said to have, differs from the bytes that it
-//! was decoded from, or where a fault has taken bytes, another line says so.
+//! Where a value's encoding differs from the bytes that it was decoded from, another line says so.
 #![tactic(auto)]
 
 mod damaged;

@@ -7,29 +7,16 @@ use termwiz_cell::cell::{
 use termwiz_cell::change::{Change, CursorShape, CursorVisibility, LineAttribute, Position};
 use termwiz_cell::color::ColorAttribute;
 use termwiz_cell::hyperlink::Hyperlink;
-use termwiz_surface_core::surface::Answer;
-use termwiz_wire::WireError;
+use termwiz_wire::SentAnswer;
 
-/// The word of an error.
-pub fn error_word(error: WireError) -> &'static str {
-    match error {
-        WireError::Truncated => "Truncated",
-        WireError::Version => "Version",
-        WireError::Type => "Type",
-        WireError::Utf8 => "Utf8",
-        WireError::Range => "Range",
-        WireError::Region => "Region",
-        WireError::Memory => "Memory",
-    }
-}
-
-/// An answer.
-pub fn answer_text(alloc: Global, answer: &Answer) -> Result<String, Fault> {
+/// An answer, and its source.
+pub fn answer_text(alloc: Global, sent: &SentAnswer) -> Result<String, Fault> {
+    let answer = &sent.answer;
+    let source = sent.source;
     let (width, height) = answer.size();
     let base = answer.base();
     let number = answer.number();
-    let repaint = answer.is_repaint();
-    let mut text = format!(in alloc; "[1, {width}, {height}, {base}, {number}, {repaint}, [")?;
+    let mut text = format!(in alloc; "[2, {source}, {width}, {height}, {base}, {number}, [")?;
     for change in answer.changes() {
         let change = change_text(alloc, change)?;
         push_item(&mut text, change.as_str())?;

@@ -1,12 +1,14 @@
 //! Lines of bytes, and their answers.
 use crate::damaged::{Kind, count_damaged};
 use crate::hex::bytes_of;
-use crate::shown::{answer_text, change_text, error_word};
+use crate::shown::{answer_text, change_text};
 use cases_words::fault::Fault;
 use cases_words::play::Play;
 use std::alloc::Global;
+use termwiz_cell::emoji::{OneColumn, UnicodeWidths, Widths};
 use termwiz_wire::{
-    Reader, WireError, decode_answer, decode_change, encode_answer, encode_change, encoded_len,
+    Limits, WireError, decode_answer, decode_ask, decode_change, encode_answer, encode_ask,
+    encode_change,
 };
 
 /// What decodes the bytes of lines.
@@ -30,18 +32,22 @@ impl Stage {
     // What the bytes of a line encode.
     fn decoded(&mut self, kind: &str, word: &str) -> Result<String, Fault> {
         let bytes = bytes_of(self.alloc, word)?;
+        let bytes = bytes.as_slice();
         let mut lines = String::new(self.alloc);
-        let mut reader = Reader::new(bytes.as_slice());
         match kind {
             "change" => {
-                self.change(&mut reader, &mut lines)?;
-                self.damage(Kind::Change, bytes.as_slice())?;
+                self.change(&UnicodeWidths, bytes, &mut lines)?;
+                self.damage(Kind::Change, bytes)?;
             }
+            "narrow" => self.change(&OneColumn, bytes, &mut lines)?,
             "answer" => {
-                self.answer(&mut reader, &mut lines)?;
-                self.damage(Kind::Answer, bytes.as_slice())?;
+                self.answer(bytes, &mut lines)?;
+                self.damage(Kind::Answer, bytes)?;
             }
-            "stream" => self.stream(&mut reader, &mut lines)?,
+            "ask" => {
+                self.ask(bytes, &mut lines)?;
+                self.damage(Kind::Ask, bytes)?;
+            }
             _ => return Err(Fault::Bad),
         }
         Ok(lines)
@@ -53,48 +59,46 @@ impl Stage {
         Ok(())
     }
 
-    // Adds the answers of a stream, each of which takes a byte or more.
-    fn stream(&self, reader: &mut Reader<'_>, lines: &mut String) -> Result<(), Fault> {
-        for _ in 0..reader.rest().len() {
-            if reader.rest().is_empty() {
-                return Ok(());
-            }
-            let before = reader.rest().len();
-            self.answer(reader, lines)?;
-            if reader.rest().len() == before {
-                return Ok(());
-            }
-        }
-        Ok(())
-    }
-
-    fn change(&self, reader: &mut Reader<'_>, lines: &mut String) -> Result<(), Fault> {
-        let before = reader.rest();
-        match decode_change(self.alloc, reader) {
-            Ok(change) => {
+    fn change<W: Widths>(&self, widths: &W, bytes: &[u8], lines: &mut String) -> Result<(), Fault> {
+        match decode_change(self.alloc, widths, bytes) {
+            Ok((change, taken)) => {
                 push(lines, change_text(self.alloc, &change)?.as_str())?;
-                let mut bytes = Vec::new(self.alloc);
-                encode_change(&mut bytes, &change)?;
-                compare(bytes.as_slice(), before, reader, lines)
+                let mut again = Vec::new(self.alloc);
+                encode_change(&mut again, widths, &change)?;
+                compare(again.as_slice(), bytes, taken, lines)
             }
-            Err(error) => push_fault(error, before, reader, lines),
+            Err(error) => self.fault(error, lines),
         }
     }
 
-    fn answer(&self, reader: &mut Reader<'_>, lines: &mut String) -> Result<(), Fault> {
-        let before = reader.rest();
-        match decode_answer(self.alloc, reader) {
-            Ok(answer) => {
-                push(lines, answer_text(self.alloc, &answer)?.as_str())?;
-                let mut bytes = Vec::new(self.alloc);
-                encode_answer(&mut bytes, &answer)?;
-                if encoded_len(&answer) != bytes.len() {
-                    push(lines, "its length is another one")?;
-                }
-                compare(bytes.as_slice(), before, reader, lines)
+    fn answer(&self, bytes: &[u8], lines: &mut String) -> Result<(), Fault> {
+        let limits = Limits::default();
+        match decode_answer(self.alloc, &UnicodeWidths, limits, bytes) {
+            Ok((sent, taken)) => {
+                push(lines, answer_text(self.alloc, &sent)?.as_str())?;
+                let mut again = Vec::new(self.alloc);
+                encode_answer(&mut again, &UnicodeWidths, sent.source, &sent.answer)?;
+                compare(again.as_slice(), bytes, taken, lines)
             }
-            Err(error) => push_fault(error, before, reader, lines),
+            Err(error) => self.fault(error, lines),
         }
+    }
+
+    fn ask(&self, bytes: &[u8], lines: &mut String) -> Result<(), Fault> {
+        match decode_ask(bytes) {
+            Ok((ask, taken)) => {
+                let text = format!(in self.alloc; "[2, {}, {}]", ask.source, ask.number)?;
+                push(lines, text.as_str())?;
+                let mut again = Vec::new(self.alloc);
+                encode_ask(&mut again, ask)?;
+                compare(again.as_slice(), bytes, taken, lines)
+            }
+            Err(error) => self.fault(error, lines),
+        }
+    }
+
+    fn fault(&self, error: WireError, lines: &mut String) -> Result<(), Fault> {
+        push(lines, format!(in self.alloc; "{error}")?.as_str())
     }
 }
 
@@ -116,27 +120,9 @@ fn push(lines: &mut String, line: &str) -> Result<(), Fault> {
 }
 
 // Says where a value's bytes aren't those that it was decoded from.
-fn compare(
-    bytes: &[u8],
-    before: &[u8],
-    reader: &Reader<'_>,
-    lines: &mut String,
-) -> Result<(), Fault> {
-    if before.strip_prefix(bytes) == Some(reader.rest()) {
+fn compare(again: &[u8], bytes: &[u8], taken: usize, lines: &mut String) -> Result<(), Fault> {
+    if again.len() == taken && bytes.starts_with(again) {
         return Ok(());
     }
     push(lines, "its encoding differs")
-}
-
-fn push_fault(
-    error: WireError,
-    before: &[u8],
-    reader: &Reader<'_>,
-    lines: &mut String,
-) -> Result<(), Fault> {
-    push(lines, error_word(error))?;
-    if before.len() == reader.rest().len() {
-        return Ok(());
-    }
-    push(lines, "the fault took bytes")
 }

@@ -8,13 +8,15 @@ use thiserror::Error;
 
 /// What is wrong with the bytes: the first fault from left to right. Each is an error of its name.
 #[derive(Clone, Copy, Debug, PartialEq, Eq)]
-pub enum Fault {
+pub enum FaultKind {
     Truncated,
     Version,
     Type,
     Utf8,
     Range,
     Region,
+    Limit,
+    Measure,
 }
 
 /// Why nothing was decoded: the fault of the bytes, or want of memory.
@@ -39,6 +41,12 @@ pub enum ReadError {
     /// A scroll's region goes past the last row. It is for formats that have scrolls.
     #[error("a scroll's region goes past the last row")]
     Region,
+    /// The bytes go past the limit, or what they announce does.
+    #[error("the bytes go past the limit")]
+    Limit,
+    /// A text was cut or measured otherwise than it is here. It is for formats that have measures.
+    #[error("a text is measured otherwise here")]
+    Measure,
     /// Memory was refused. The bytes may have no fault.
     #[error("out of memory")]
     Memory,
@@ -46,16 +54,18 @@ pub enum ReadError {
 
 impl ReadError {
     /// What is wrong with the bytes, or none where memory was refused.
-    pub fn fault(self) -> Option<Fault>
+    pub fn fault(self) -> Option<FaultKind>
         ensures { result ≡ fault_of self }
     {
         match self {
-            ReadError::Truncated => Some(Fault::Truncated),
-            ReadError::Version => Some(Fault::Version),
-            ReadError::Type => Some(Fault::Type),
-            ReadError::Utf8 => Some(Fault::Utf8),
-            ReadError::Range => Some(Fault::Range),
-            ReadError::Region => Some(Fault::Region),
+            ReadError::Truncated => Some(FaultKind::Truncated),
+            ReadError::Version => Some(FaultKind::Version),
+            ReadError::Type => Some(FaultKind::Type),
+            ReadError::Utf8 => Some(FaultKind::Utf8),
+            ReadError::Range => Some(FaultKind::Range),
+            ReadError::Region => Some(FaultKind::Region),
+            ReadError::Limit => Some(FaultKind::Limit),
+            ReadError::Measure => Some(FaultKind::Measure),
             ReadError::Memory => None,
         }
     }

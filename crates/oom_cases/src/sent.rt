@@ -3,7 +3,8 @@ use crate::answers::accepted;
 use crate::scene::{Kind, Scene, new_scene, texts};
 use crate::stop::{Stop, made, refused};
 use std::alloc::Global;
-use termwiz_wire::{Reader, WireError, decode_answer, encode_answer};
+use termwiz_cell::emoji::UnicodeWidths;
+use termwiz_wire::{Limits, WireError, decode_answer, encode_answer};
 
 /// A full surface that is printed on, whose answer is encoded, decoded and accepted.
 pub fn play(alloc: Global) -> Result<(), Stop> {
@@ -17,16 +18,14 @@ pub fn play(alloc: Global) -> Result<(), Stop> {
 fn delivered(alloc: Global, scene: &mut Scene) -> Result<(), Stop> {
     let answer = made("answer", scene.surface.answer(scene.viewer.last()))?;
     let mut bytes = Vec::new(alloc);
-    made("encode_answer", encode_answer(&mut bytes, &answer))?;
+    made("encode_answer", encode_answer(&mut bytes, &UnicodeWidths, 1, &answer))?;
     received(alloc, bytes.as_slice(), scene)
 }
 
-// After a refusal all bytes are left to be read.
 fn received(alloc: Global, bytes: &[u8], scene: &mut Scene) -> Result<(), Stop> {
-    let mut reader = Reader::new(bytes);
-    match decode_answer(alloc, &mut reader) {
-        Ok(answer) => accepted(&answer, scene),
-        Err(WireError::Memory) => { refused("decode_answer", reader.rest().len() == bytes.len()) }
+    match decode_answer(alloc, &UnicodeWidths, Limits::default(), bytes) {
+        Ok((sent, _)) => accepted(&sent.answer, scene),
+        Err(WireError::Memory) => refused("decode_answer", true),
         Err(_) => Err(Stop::Wrong("decode_answer")),
     }
 }

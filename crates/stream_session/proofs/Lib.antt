@@ -1,5 +1,6 @@
-pub mod Bytes
-pub mod Leading
-pub mod Next
-pub mod Sent
-pub mod Shown
+mod Chains
+mod Leading
+mod Sent
+mod Taking
+mod Watched
+mod Wire

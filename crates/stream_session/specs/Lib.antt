@@ -1,8 +1,12 @@
-pub mod Chain
 pub mod Faults
+pub mod Frames
 pub mod Pipe
+pub mod Printing
+pub mod Saying
 pub mod SendRun
 pub mod SendSteps
 pub mod Sending
+pub mod Taking
+pub mod Viewing
 pub mod Watching
 pub mod Words

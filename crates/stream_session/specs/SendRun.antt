@@ -1,15 +1,27 @@
--- What comes of a script: the outcomes of some events on a blank surface of the size that the words give.
-use Rattle.std.specs.Prelude.{ℕ, List, String}
-use Rattle.surfview_session.specs.Size.{GiveSizes}
-use Rattle.termwiz_surface.specs.ManySchedule.{Held}
-use Rattle.stream_session.specs.Sending.{AreSent}
+-- What comes of a script: the outcomes of its events on a blank surface of the size that the words give, which is the source that they name.
+use Rattle.std.specs.Io.KnownBytes.{Appends}
+use Rattle.std.specs.Prelude.{ℕ, List, Option, IfSome, String}
+use Rattle.surfview_session.specs.Lines.{Say}
+use Rattle.stream_session.specs.Frames.{Frame}
+use Rattle.stream_session.specs.Saying.{SaysSend}
+use Rattle.stream_session.specs.Sending.{AreSent, stream_of}
+use Rattle.stream_session.specs.Words.{GiveSending}
 use Rattle.stream_session.specs.declared.sending.SendEvent.{SendEvent}
 use Rattle.stream_session.specs.declared.sending.SendOutcome.{SendOutcome}
 
-pub record IsSendRun {A : Type 0} (words : List (String A)) (outcomes : List SendOutcome) : Type 0 where
+-- where the script is known, each of its lines says its event
+pub record IsSendRun {A : Type 0} (words : List (String A)) (script : Option (List ℕ)) (outcomes : List SendOutcome) : Type 0 where
+  pub source : ℕ
   pub width : ℕ
   pub height : ℕ
-  pub sizes : GiveSizes words width height
+  pub sizes : GiveSending words source width height
   pub events : List SendEvent
-  pub held : List Held
-  pub sent : AreSent width height events outcomes held
+  pub said : IfSome script (λ bytes. Say SaysSend bytes events)
+  pub frames : List Frame
+  pub sent : AreSent source width height events outcomes frames
+
+-- what such a run sends is written
+pub record WritesRun {A : Type 0} (words : List (String A)) (script old new : Option (List ℕ)) : Type 0 where
+  pub outcomes : List SendOutcome
+  pub run : IsSendRun words script outcomes
+  pub written : Appends old new (stream_of outcomes)

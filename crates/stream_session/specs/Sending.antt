@@ -1,12 +1,11 @@
 -- What is sent of a surface: what each event makes of it and of the number of the last answer that was sent, and whole runs.
 use Rattle.std.specs.List.{flat_map}
-use Rattle.std.specs.Prelude.{◌≡◌, ℕ, false, List, [], ◌∷◌, Vec}
+use Rattle.std.specs.Prelude.{◌≡◌, ℕ, true, List, [], ◌∷◌, Vec}
 use Rattle.std.specs.declared.alloc.Global.{Global}
 use Rattle.surfview_session.specs.Run.{unicode}
 use Rattle.termwiz_cell.specs.Width.{unicode_columns}
 use Rattle.termwiz_cell.specs.declared.emoji.UnicodeWidths.{UnicodeWidths}
 use Rattle.termwiz_screen.specs.Picture.{screens}
-use Rattle.termwiz_surface.specs.ManySchedule.{Held}
 use Rattle.termwiz_surface.specs.Schedule.{Acts}
 use Rattle.termwiz_surface.specs.Schedule as schedule
 use Rattle.termwiz_surface.specs.declared.view.Event.{Event}
@@ -15,7 +14,8 @@ use Rattle.termwiz_surface.specs.declared.view.Outcome.{Outcome}
 use Rattle.termwiz_surface_core.specs.Answer.{AnswerValue}
 use Rattle.termwiz_surface_core.specs.Carried.{IsGivenBy}
 use Rattle.termwiz_surface_core.specs.SurfaceValue.{SurfaceValue, blank_surface, screen_of}
-use Rattle.termwiz_wire.specs.Answers.{answer}
+use Rattle.termwiz_wire.specs.Sent.{answer}
+use Rattle.stream_session.specs.Frames.{Frame}
 use Rattle.stream_session.specs.declared.sending.SendEvent.{SendEvent}
 use Rattle.stream_session.specs.declared.sending.SendEvent.TheVariants.{Changes, Flush, Resize, Send}
 use Rattle.stream_session.specs.declared.sending.SendOutcome.{SendOutcome}
@@ -44,19 +44,20 @@ bytes_of (Sent bytes) = bytes.items
 abbrev pub stream_of : List SendOutcome → List ℕ
 stream_of outcomes = flat_map bytes_of outcomes
 
--- from this surface, with n as the number of the last answer that was sent, the events may have these outcomes, where these answers are sent
-pub data Sends : SurfaceValue UnicodeWidths → ℕ → List SendEvent → List SendOutcome → List Held → Type 0 where
-  Ended : (s : SurfaceValue UnicodeWidths) (n : ℕ) → Sends s n [] [] []
-  Made : (s t : SurfaceValue UnicodeWidths) (n : ℕ) (e : SendEvent) (outcome : Outcome) (events : List SendEvent) (outcomes : List SendOutcome) (held : List Held)
-      → Acts columns s (own e) outcome t → Sends t n events outcomes held → Sends s n (e ∷ events) (Of outcome ∷ outcomes) held
-  Given : (s : SurfaceValue UnicodeWidths) (n : ℕ) (a : AnswerValue) (bytes : Vec ℕ Global) (events : List SendEvent) (outcomes : List SendOutcome) (held : List Held)
-      → IsGivenBy screens columns s n a → bytes.items ≡ answer a → Sends s a.number events outcomes held
-      → Sends s n (Send ∷ events) (Sent bytes ∷ outcomes) (record { answer = a; screen = screen_of s } ∷ held)
+module _ (source : ℕ) where
+  -- from this surface, with n as the number of the last answer that was sent, the events may have these outcomes, where these frames are sent
+  pub data Sends : SurfaceValue UnicodeWidths → ℕ → List SendEvent → List SendOutcome → List Frame → Type 0 where
+    Ended : (s : SurfaceValue UnicodeWidths) (n : ℕ) → Sends s n [] [] []
+    Made : (s t : SurfaceValue UnicodeWidths) (n : ℕ) (e : SendEvent) (outcome : Outcome) (events : List SendEvent) (outcomes : List SendOutcome) (frames : List Frame)
+        → Acts columns s (own e) outcome t → Sends t n events outcomes frames → Sends s n (e ∷ events) (Of outcome ∷ outcomes) frames
+    Given : (s : SurfaceValue UnicodeWidths) (n : ℕ) (a : AnswerValue) (bytes : Vec ℕ Global) (events : List SendEvent) (outcomes : List SendOutcome) (frames : List Frame)
+        → IsGivenBy screens columns s n a → bytes.items ≡ answer unicode_columns (record { source = source; answer = a }) → Sends s a.number events outcomes frames
+        → Sends s n (Send ∷ events) (Sent bytes ∷ outcomes) (record { sent = record { source = source; answer = a }; screen = screen_of s } ∷ frames)
 
 -- the surface of a run before its first event
 abbrev pub first_surface : ℕ → ℕ → SurfaceValue UnicodeWidths
-first_surface w h = blank_surface unicode w h false
+first_surface w h = blank_surface unicode w h true
 
--- the events may have these outcomes on a blank surface of this size
-abbrev pub AreSent : ℕ → ℕ → List SendEvent → List SendOutcome → List Held → Type 0
-AreSent w h events outcomes held = Sends (first_surface w h) 0 events outcomes held
+-- the events may have these outcomes on a blank surface of this size, which is the source of this number
+abbrev pub AreSent : ℕ → ℕ → ℕ → List SendEvent → List SendOutcome → List Frame → Type 0
+AreSent source w h events outcomes frames = Sends source (first_surface w h) 0 events outcomes frames

@@ -1,13 +1,43 @@
--- The words of `surfwatch`: none, or `-a`.
-use Rattle.std.specs.Bool.{⊤}
-use Rattle.std.specs.Prelude.{◌≡◌, Bool, true, false, List, [], ◌∷◌, String, string_bytes, codes}
+-- The words of the two programs.
+use Rattle.std.specs.Prelude.{◌≡◌, ◌<◌, ◌^◌, ℕ, true, false, List, [], ◌∷◌, String, string_bytes, codes}
+use Rattle.std.specs.Str.Parse.{IsNumeral}
+use Rattle.surfview_session.specs.Number.{value_of}
+use Rattle.surfview_session.specs.Size.{AreSizes, GiveSizes}
+use Rattle.stream_session.specs.declared.words.WatchOptions.{WatchOptions}
 
-abbrev pub AreWords : {A : Type 0} → List (String A) → Type 0
-AreWords [] = ⊤
-AreWords (word ∷ []) = string_bytes word ≡ codes "-a"
-AreWords _ = ⊥
+-- decimal digits, whose value fits 64 bits
+pub record IsWhole (word : List ℕ) : Type 0 where
+  pub numeral : IsNumeral 10 word
+  pub fits : value_of word < 2 ^ 64
 
--- they ask for what is shown after each answer, and not after the last one alone
-abbrev pub ask_for_each : {A : Type 0} → List (String A) → Bool
-ask_for_each [] = false
-ask_for_each _ = true
+pub record IsSourceNo (word : List ℕ) : Type 0 where
+  pub whole : IsWhole word
+  pub named : 0 < value_of word
+
+module _ {A : Type 0} where
+  -- a size, behind the number of the source where there is one
+  abbrev pub AreSendWords : List (String A) → Type 0
+  AreSendWords (option ∷ number ∷ width ∷ height ∷ []) = (string_bytes option ≡ codes "-s") × IsSourceNo (string_bytes number) × AreSizes (width ∷ height ∷ [])
+  AreSendWords words = AreSizes words
+
+  -- the words give this source, which is 1 where they name none, this width and this height
+  abbrev pub GiveSending : List (String A) → ℕ → ℕ → ℕ → Type 0
+  GiveSending (option ∷ number ∷ width ∷ height ∷ []) source w h = (string_bytes option ≡ codes "-s") × IsSourceNo (string_bytes number) × (source ≡ value_of (string_bytes number)) × GiveSizes (width ∷ height ∷ []) w h
+  GiveSending words source w h = (source ≡ 1) × GiveSizes words w h
+
+  -- the words ask for p, where o is asked for without them
+  pub data AskFor : WatchOptions → List (String A) → WatchOptions → Type 0 where
+    Asked : (o : WatchOptions) → AskFor o [] o
+    Each : (o p : WatchOptions) (word : String A) (words : List (String A)) → string_bytes word ≡ codes "-a"
+        → AskFor (record o { each = true }) words p → AskFor o (word ∷ words) p
+    Cells : (o p : WatchOptions) (word number : String A) (words : List (String A)) → string_bytes word ≡ codes "--cells" → IsWhole (string_bytes number)
+        → AskFor (record o { limits = record { cells = value_of (string_bytes number); bytes = o.limits.bytes } }) words p → AskFor o (word ∷ number ∷ words) p
+    Bytes : (o p : WatchOptions) (word number : String A) (words : List (String A)) → string_bytes word ≡ codes "--bytes" → IsWhole (string_bytes number)
+        → AskFor (record o { limits = record { cells = o.limits.cells; bytes = value_of (string_bytes number) } }) words p → AskFor o (word ∷ number ∷ words) p
+
+-- the last view alone is asked for, within the limits that the vectors have
+abbrev pub first_options : WatchOptions
+first_options = record { each = false; limits = record { cells = 1048576; bytes = 16777216 } }
+
+abbrev pub AreWatchWords : {A : Type 0} → List (String A) → Type 0
+AreWatchWords words = (p : WatchOptions) × AskFor first_options words p

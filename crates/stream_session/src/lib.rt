@@ -5,5 +5,8 @@ pub mod pipe;
 pub mod script;
 pub mod send_session;
 pub mod sending;
+pub mod viewing;
 pub mod watch_session;
+pub mod watcher;
 pub mod watching;
+pub mod words;

@@ -1,30 +1,37 @@
 //! Both ends of a stream.
-ghost use Rattle.std.specs.Prelude.{◌≡◌, IfOk};
+ghost use Rattle.std.specs.Prelude.{◌≡◌, ◌<◌, IfOk};
 ghost use Rattle.std.specs.List.{All};
 ghost use Rattle.stream_session.specs.Pipe.{IsPiped};
 ghost use Rattle.stream_session.specs.Sending.{IsInRange, bytes_of, stream_of};
 ghost use Rattle.termwiz_surface.specs.{IsSurfaceSize};
 
 use crate::sending::{SendEvent, SendOutcome, sent};
+use crate::viewing::WatchError;
 use crate::watching::{Watched, watch};
 use std::alloc::{AllocError, Global};
+use termwiz_wire::{Limits, SourceNo};
 
-/// What is shown of the stream that is sent: after each of its answers, or after the last one
-/// alone. It fails where memory is refused.
+/// What is shown of the stream that a source of this number sends: after each of its answers, or
+/// after the last one alone. It fails where memory is refused.
 pub fn piped(
     alloc: Global,
-    width: usize,
-    height: usize,
+    limits: Limits,
+    source: SourceNo,
+    size: (usize, usize),
     events: Vec<SendEvent>,
     each: bool,
-) -> Result<Watched, AllocError>
-    requires size { IsSurfaceSize width height }
+) -> Result<Watched, WatchError>
+    requires source { 0 < source }
+    requires size { IsSurfaceSize size.0 size.1 }
     requires sizes { All IsInRange events.items }
-    ensures { IfOk result (λ shown. IsPiped width height events.items each shown) }
+    ensures { IfOk result (λ shown.
+        IsPiped limits source size.0 size.1 events.items each shown) }
 {
-    let outcomes = sent(alloc, width, height, events)?;
+    let (width, height) = size;
+    let outcomes = sent(alloc, source, width, height, events)?;
     let bytes = stream(alloc, outcomes.as_slice())?;
-    let shown = watch(alloc, bytes.as_slice(), each)?;
+    let mut input = bytes.as_slice();
+    let shown = watch(alloc, limits, &mut input, each)?;
     Ok(shown)
 }
 

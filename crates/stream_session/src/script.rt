@@ -1,7 +1,9 @@
 //! Scripts of what is sent: one command a line, each of which is an event.
 ghost use Rattle.std.specs.Prelude.{IfOk};
 ghost use Rattle.std.specs.List.{All};
+ghost use Rattle.stream_session.specs.Saying.{SaysSend};
 ghost use Rattle.stream_session.specs.Sending.{IsInRange};
+ghost use Rattle.surfview_session.specs.Lines.{Say};
 
 use crate::sending::SendEvent;
 use std::alloc::Global;
@@ -10,6 +12,8 @@ use termwiz_surface::Event;
 
 impl Command for SendEvent {
     ghost is_in_range = { IsInRange };
+
+    ghost says = { SaysSend };
 
     fn of_line(alloc: Global, line: &str) -> Result<SendEvent, LineError> {
         if line == "send" {
@@ -26,7 +30,8 @@ impl Command for SendEvent {
 
 /// Reads the events of a script: `send`, and the commands of `surfview` that change the surface.
 pub fn read(alloc: Global, script: &str) -> Result<Vec<SendEvent>, ScriptError>
-    ensures { IfOk result (λ events. All IsInRange events.items) }
+    ensures sizes { IfOk result (λ events. All IsInRange events.items) }
+    ensures said { IfOk result (λ events. Say SaysSend script.now events.items) }
 {
     commands(alloc, script)
 }

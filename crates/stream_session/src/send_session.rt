@@ -1,23 +1,28 @@
 //! One run of `surfsend`: from its words and its input to what it sends and its exit status.
-ghost use Rattle.std.specs.Prelude.{◌≡◌, ◌⊎◌, IfErr, IfOk, IsErr};
+ghost use Rattle.std.specs.Prelude.{◌≡◌, ◌⊎◌, IfErr, IfOk, IfSome, IsErr, OnOk};
+ghost use Rattle.std.specs.Io.KnownBytes.{Appends};
 ghost use Rattle.std.specs.List.{All};
-ghost use Rattle.stream_session.specs.Sending.{IsInRange};
-ghost use Rattle.stream_session.specs.SendRun.{IsSendRun};
-ghost use Rattle.surfview_session.specs.Size.{AreSizes};
+ghost use Rattle.stream_session.specs.Sending.{IsInRange, stream_of};
+ghost use Rattle.stream_session.specs.Saying.{SaysSend};
+ghost use Rattle.stream_session.specs.SendRun.{IsSendRun, WritesRun};
+ghost use Rattle.stream_session.specs.Words.{AreSendWords};
+ghost use Rattle.surfview_session.specs.Lines.{Say};
 ghost use Rattle.surfview_session.specs.Status.{status_of};
 
 use crate::script::read;
 use crate::sending::{SendEvent, SendOutcome, sent};
+use crate::words::send_options;
 use std::alloc::Global;
 use std::io::{Read, Write};
 use surfview_session::printed::Printed;
-use surfview_session::session::{SessionError, bytes, dimensions, write};
+use surfview_session::session::{SessionError, bytes, write};
 
 /// The program's name and the words that it takes.
-pub const USAGE: &str = "surfsend WIDTH HEIGHT";
+pub const USAGE: &str = "surfsend [-s NUMBER] WIDTH HEIGHT";
 
 /// Runs the script that `input` holds on a surface of the size that `args` give, in columns and
-/// rows, and sends its answers to `out`. What is refused goes to `err`.
+/// rows, and sends its answers to `out`, as those of the source that the number behind `-s` names,
+/// or of source 1. What is refused goes to `err`.
 ///
 /// The result is the exit status: 0 where all is done, 2 for words that are no size, an input that
 /// can't be read or a bad command, and 3 for refused memory or a failed write. The line that says
@@ -30,9 +35,12 @@ pub fn send_session<R: Read, O: Write, E: Write>(
     err: &mut E,
 ) -> u8
     ensures statuses { (result ≡ 0) ⊎ (result ≡ 2) ⊎ (result ≡ 3) }
-    ensures done { result ≡ 0 → AreSizes args.now }
+    ensures done { result ≡ 0 → AreSendWords args.now }
     ensures refused { result ≡ 2 → out.new ≡ out.old }
-    ensures usage { AreSizes args.now ⊎ ((input.new ≡ input.old) × (out.new ≡ out.old)) }
+    ensures usage { AreSendWords args.now ⊎ ((input.new ≡ input.old) × (out.new ≡ out.old)) }
+    // Where the input and the output are known: what the script's lines send is written.
+    ensures sent { result ≡ 0 → WritesRun args.now (R.remaining input.old)
+        (O.contents out.old) (O.contents out.new) }
 {
     match outcomes(alloc, args, input) {
         Ok(outcomes) => match send_each(alloc, outcomes.as_slice(), out, err) {
@@ -50,18 +58,21 @@ fn outcomes<R: Read>(
     args: &[String],
     input: &mut R,
 ) -> Result<Vec<SendOutcome>, SessionError>
-    ensures usage { AreSizes args.now ⊎ (IsErr result × (input.new ≡ input.old)) }
-    ensures run { IfOk result (λ outcomes. IsSendRun args.now outcomes.items) }
+    ensures usage { AreSendWords args.now ⊎ (IsErr result × (input.new ≡ input.old)) }
+    ensures run { IfOk result (λ outcomes.
+        IsSendRun args.now (R.remaining input.old) outcomes.items) }
 {
-    let (width, height) = dimensions(args).ok_or(SessionError::Usage)?;
+    let options = send_options(args).ok_or(SessionError::Usage)?;
     let events = events(alloc, input)?;
-    let outcomes = sent(alloc, width, height, events)?;
+    let outcomes = sent(alloc, options.source, options.width, options.height, events)?;
     Ok(outcomes)
 }
 
 /// The events of the script that `input` holds.
 fn events<R: Read>(alloc: Global, input: &mut R) -> Result<Vec<SendEvent>, SessionError>
-    ensures { IfOk result (λ events. All IsInRange events.items) }
+    ensures sizes { IfOk result (λ events. All IsInRange events.items) }
+    ensures said { IfOk result (λ events. IfSome (R.remaining input.old) (λ script.
+        Say SaysSend script events.items)) }
 {
     let bytes = bytes(alloc, input)?;
     let script = str::from_utf8(bytes.as_slice()).map_err(|_| SessionError::Unreadable)?;
@@ -76,7 +87,9 @@ fn send_each<O: Write, E: Write>(
     out: &mut O,
     err: &mut E,
 ) -> Result<(), SessionError>
-    ensures { IfErr result (λ error. status_of error ≡ 3) }
+    ensures failed { IfErr result (λ error. status_of error ≡ 3) }
+    ensures sent { OnOk result (
+        Appends (O.contents out.old) (O.contents out.new) (stream_of outcomes.now)) }
 {
     for outcome in outcomes {
         match outcome {
@@ -89,7 +102,8 @@ fn send_each<O: Write, E: Write>(
 
 /// Writes an answer's bytes, and lets them go.
 fn send<O: Write>(bytes: &[u8], out: &mut O) -> Result<(), SessionError>
-    ensures { IfErr result (λ error. status_of error ≡ 3) }
+    ensures failed { IfErr result (λ error. status_of error ≡ 3) }
+    ensures sent { OnOk result (Appends (O.contents out.old) (O.contents out.new) bytes.now) }
 {
     out.write_all(bytes).map_err(|_| SessionError::Write)?;
     out.flush().map_err(|_| SessionError::Write)

@@ -1,22 +1,21 @@
 //! What is sent of a surface: its answers as bytes, each for a viewer that accepted all before it.
-ghost use Rattle.std.specs.Prelude.{◌≡◌, IfOk, List};
+ghost use Rattle.std.specs.Prelude.{◌≡◌, ◌<◌, IfOk, List};
 ghost use Rattle.std.specs.List.{All};
-ghost use Rattle.termwiz_screen.specs.Screen.{Screen};
-ghost use Rattle.termwiz_surface.specs.ManySchedule.{Held};
 ghost use Rattle.termwiz_surface.specs.Schedule.{Acts};
 ghost use Rattle.termwiz_surface.specs.declared.view.Event.TheVariants as event;
 ghost use Rattle.termwiz_surface.specs.{IsGivenBy, IsSurfaceSize, KeepsNames, screens};
 ghost use Rattle.termwiz_cell.specs.Width.{unicode_columns};
-ghost use Rattle.termwiz_wire.specs.Answers.{IsAnswer, answer};
+ghost use Rattle.termwiz_wire.specs.Sent.{IsSent, answer};
 ghost use Rattle.termwiz_surface_core.specs.Answer.{AnswerValue};
-ghost use Rattle.stream_session.specs.Chain.{IsChain};
+ghost use Rattle.stream_session.specs.Frames.{Frame, IsChain};
 ghost use Rattle.stream_session.specs.SendSteps.{HasNamed, Steps};
 ghost use Rattle.stream_session.specs.Sending.{AreSent, IsInRange, columns};
+ghost use Rattle.stream_session.specs.Viewing.{Viewing};
 
 use std::alloc::{AllocError, Global};
 use termwiz_surface::view::Outcome;
 use termwiz_surface::{Change, SEQ_ZERO, SequenceNo, Surface, SurfaceError, UnicodeWidths};
-use termwiz_wire::encode_answer;
+use termwiz_wire::{SourceNo, encode_answer};
 
 /// What happens to a surface whose answers are sent.
 #[derive(Drop, Debug)]
@@ -40,28 +39,30 @@ pub enum SendOutcome {
     Sent(Vec<u8>),
 }
 
-/// Does the events on one blank surface, of this width in columns and this height in rows, and
-/// returns one outcome for each.
+/// Does the events on one blank surface, a full one of this width in columns and this height in
+/// rows, which is the source of this number, and returns one outcome for each.
 ///
 /// - A refused event is an outcome, and the run goes on.
 /// - It fails where there is no memory for the surface, an answer, its bytes, or the list of
 ///   outcomes.
 pub fn sent(
     alloc: Global,
+    source: SourceNo,
     width: usize,
     height: usize,
     events: Vec<SendEvent>,
 ) -> Result<Vec<SendOutcome>, AllocError>
+    requires source { 0 < source }
     requires size { IsSurfaceSize width height }
     requires sizes { All IsInRange events.items }
-    ensures { IfOk result (λ outcomes. (held : List Held) ×
-        AreSent width height events.items outcomes.items held × IsChain held) }
+    ensures { IfOk result (λ outcomes. (frames : List Frame) ×
+        AreSent source width height events.items outcomes.items frames × IsChain frames) }
 {
-    let mut surface = Surface::new(alloc, width, height, UnicodeWidths)?;
+    let mut surface = Surface::new_full(alloc, width, height, UnicodeWidths)?;
     let mut last = SEQ_ZERO;
     let mut outcomes = Vec::new(alloc);
     for event in events {
-        let outcome = serve(alloc, &mut surface, &mut last, event)?;
+        let outcome = serve(alloc, source, &mut surface, &mut last, event)?;
         outcomes.push(outcome)?;
     }
     Ok(outcomes)
@@ -70,13 +71,15 @@ pub fn sent(
 // Does one event. The number of the last answer that was sent is `last`.
 fn serve(
     alloc: Global,
+    source: SourceNo,
     surface: &mut Surface<UnicodeWidths>,
     last: &mut SequenceNo,
     event: SendEvent,
 ) -> Result<SendOutcome, AllocError>
-    requires { IsInRange event }
-    ensures { IfOk result (λ outcome. (p : Screen) → HasNamed surface.old last.old p →
-        Steps surface.old last.old p event outcome surface.new last.new) }
+    requires source { 0 < source }
+    requires in_range { IsInRange event }
+    ensures { IfOk result (λ outcome. (v : Viewing) → HasNamed source surface.old last.old v →
+        Steps source surface.old last.old v event outcome surface.new last.new) }
 {
     match event {
         SendEvent::Changes(changes) => Ok(SendOutcome::Of(added(surface, changes))),
@@ -86,7 +89,7 @@ fn serve(
         }
         SendEvent::Resize(width, height) => Ok(SendOutcome::Of(resized(surface, width, height))),
         SendEvent::Send => {
-            let bytes = send(alloc, surface, last)?;
+            let bytes = send(alloc, source, surface, last)?;
             Ok(SendOutcome::Sent(bytes))
         }
     }
@@ -118,16 +121,20 @@ fn resized(surface: &mut Surface<UnicodeWidths>, width: usize, height: usize) ->
 // The bytes of the answer for the last number, which is the answer's number then.
 fn send(
     alloc: Global,
+    source: SourceNo,
     surface: &Surface<UnicodeWidths>,
     last: &mut SequenceNo,
 ) -> Result<Vec<u8>, AllocError>
+    requires { 0 < source }
     ensures { IfOk result (λ bytes. (a : AnswerValue)
-        × IsGivenBy screens columns surface.now last.old a × IsAnswer a
-        × (bytes.items ≡ answer a) × (last.new ≡ a.number)) }
+        × IsGivenBy screens columns surface.now last.old a
+        × IsSent unicode_columns (record { source = source; answer = a })
+        × (bytes.items ≡ answer unicode_columns (record { source = source; answer = a }))
+        × (last.new ≡ a.number)) }
 {
     let answer = surface.answer(*last)?;
     let mut bytes = Vec::new(alloc);
-    encode_answer(&mut bytes, &answer)?;
+    encode_answer(&mut bytes, &UnicodeWidths, source, &answer)?;
     *last = answer.number();
     Ok(bytes)
 }

@@ -1,24 +1,75 @@
 //! One run of `surfwatch`: from its words and its input to what it prints and its exit status.
-ghost use Rattle.std.specs.Prelude.{◌≡◌, ◌⊎◌, IfErr, IsErr};
-ghost use Rattle.std.specs.Option.{SomeIff};
-ghost use Rattle.stream_session.specs.Words.{AreWords, ask_for_each};
+ghost use Rattle.std.specs.Prelude.{◌≡◌, ◌⊎◌, IfErr, IfSome, IsErr, OnOk};
+ghost use Rattle.std.specs.Io.KnownBytes.{Appends};
+ghost use Rattle.stream_session.specs.Printing.{Prints, PrintsAll, PrintsAsAsked, last_lines};
+ghost use Rattle.stream_session.specs.Printing.{view_lines};
+ghost use Rattle.stream_session.specs.Words.{AreWatchWords};
 ghost use Rattle.surfview_session.specs.Status.{status_of};
 
-use crate::watching::{AnswerFault, View, Watched, watch};
-use std::alloc::Global;
+use crate::viewing::{AnswerFault, View, WatchError};
+use crate::watcher::Watcher;
+use crate::words::{WatchOptions, watch_options};
+use std::alloc::{AllocError, Global};
 use std::io::{Read, Write};
 use surfview_session::printed::PrintedView;
-use surfview_session::session::{SessionError, bytes, write};
+use surfview_session::session::{SessionError, write};
 
 /// The program's name and the words that it takes.
-pub const USAGE: &str = "surfwatch [-a]";
+pub const USAGE: &str = "surfwatch [-a] [--cells N] [--bytes N]";
 
-/// Prints to `out` what a viewer shows of the stream that `input` holds: after its last answer, or
-/// after each one where the word is `-a`.
+/// Why a session ends before its stream does.
+#[derive(Clone, Copy, PartialEq, Eq, Debug)]
+enum WatchEnd {
+    /// The answer of this number, from 1, isn't taken.
+    Fault(usize, AnswerFault),
+    /// Nothing is wrong with the stream.
+    Session(SessionError),
+}
+
+impl From<SessionError> for WatchEnd {
+    fn from(error: SessionError) -> WatchEnd {
+        WatchEnd::Session(error)
+    }
+}
+
+impl From<AllocError> for WatchEnd {
+    fn from(_: AllocError) -> WatchEnd {
+        WatchEnd::Session(SessionError::Memory)
+    }
+}
+
+impl WatchEnd {
+    // Why the answer of this number isn't shown.
+    fn of(number: usize, error: WatchError) -> WatchEnd {
+        match error {
+            WatchError::Fault(fault) => WatchEnd::Fault(number, fault),
+            WatchError::Unreadable => WatchEnd::Session(SessionError::Unreadable),
+            WatchError::Memory => WatchEnd::Session(SessionError::Memory),
+        }
+    }
+
+    // Writes the line that says why, where there is one, and returns the exit status, which is that
+    // of a failed write where the line can't be written.
+    fn report<E: Write>(self, err: &mut E) -> u8
+        ensures { (result ≡ 2) ⊎ (result ≡ 3) }
+    {
+        match self {
+            WatchEnd::Session(error) => error.report(USAGE, err),
+            WatchEnd::Fault(number, fault) => match writeln!(err, "answer {number}: {fault}") {
+                Ok(()) => 2,
+                Err(_) => 3,
+            },
+        }
+    }
+}
+
+/// Prints to `out` what a viewer shows of the stream that `input` holds: after each answer, when it
+/// has come, where a word is `-a`, and else after the last one. No answer may have more cells than
+/// the number behind `--cells`, nor more bytes than the one behind `--bytes`.
 ///
 /// The result is the exit status: 0 where all is done, 2 for other words, an input that can't be
 /// read or a fault in the stream, and 3 for refused memory or a failed write. The line that says
-/// which goes to `err`, and a failed write has none. At a fault what came before is printed.
+/// which goes to `err`, and a failed write has none. What came before is printed.
 pub fn watch_session<R: Read, O: Write, E: Write>(
     alloc: Global,
     args: &[String],
@@ -27,71 +78,87 @@ pub fn watch_session<R: Read, O: Write, E: Write>(
     err: &mut E,
 ) -> u8
     ensures statuses { (result ≡ 0) ⊎ (result ≡ 2) ⊎ (result ≡ 3) }
-    ensures done { result ≡ 0 → AreWords args.now × (err.new ≡ err.old) }
-    ensures usage { AreWords args.now ⊎ ((input.new ≡ input.old) × (out.new ≡ out.old)) }
+    ensures done { result ≡ 0 → AreWatchWords args.now × (err.new ≡ err.old) }
+    ensures usage { AreWatchWords args.now ⊎ ((input.new ≡ input.old) × (out.new ≡ out.old)) }
+    // Where the input and the output are known: each answer of the stream is taken, and what is
+    // shown then is printed.
+    ensures printed { result ≡ 0 → IfSome (R.remaining input.old) (λ bytes.
+        PrintsAll args.now bytes (O.contents out.old) (O.contents out.new)) }
 {
-    match watched_input(alloc, args, input) {
-        Ok(watched) => match print(alloc, watched.views.as_slice(), out) {
-            Ok(()) => end(&watched, err),
-            Err(error) => error.report(USAGE, err),
-        },
-        Err(error) => error.report(USAGE, err),
+    match run(alloc, args, input, out) {
+        Ok(()) => 0,
+        Err(end) => end.report(err),
     }
 }
 
-/// What is shown of the stream that `input` holds.
-fn watched_input<R: Read>(
+/// Prints what is shown of the stream.
+fn run<R: Read, O: Write>(
     alloc: Global,
     args: &[String],
     input: &mut R,
-) -> Result<Watched, SessionError>
-    ensures { AreWords args.now ⊎ (IsErr result × (input.new ≡ input.old)) }
+    out: &mut O,
+) -> Result<(), WatchEnd>
+    ensures usage { AreWatchWords args.now
+        ⊎ (IsErr result × (input.new ≡ input.old) × (out.new ≡ out.old)) }
+    ensures prints { IfSome (R.remaining input.old) (λ bytes.
+        PrintsAsAsked args.now bytes result (O.contents out.old) (O.contents out.new)) }
 {
-    let each = shows_each(args).ok_or(SessionError::Usage)?;
-    let bytes = bytes(alloc, input)?;
-    let watched = watch(alloc, bytes.as_slice(), each)?;
-    Ok(watched)
+    let options = watch_options(args).ok_or(SessionError::Usage)?;
+    print_all(alloc, options, input, out)
 }
 
-/// Whether the words ask for what is shown after each answer.
-fn shows_each(args: &[String]) -> Option<bool>
-    ensures { SomeIff result (AreWords args.now) (ask_for_each args.now) }
+/// Prints what is shown after each answer, when it has come, or after the last one alone.
+fn print_all<R: Read, O: Write>(
+    alloc: Global,
+    options: WatchOptions,
+    input: &mut R,
+    out: &mut O,
+) -> Result<(), WatchEnd>
+    ensures { IfSome (R.remaining input.old) (λ bytes.
+        Prints options bytes result (O.contents out.old) (O.contents out.new)) }
 {
-    match args {
-        [] => Some(false),
-        [word] if word.as_str() == "-a" => Some(true),
-        _ => None,
+    let mut watcher = Watcher::new(alloc, options.limits)?;
+    let mut last = None;
+    for count in 0..usize::MAX {
+        match watcher.next(input) {
+            Ok(Some(view)) => {
+                if options.each {
+                    print(alloc, &view, out)?;
+                } else {
+                    last = Some(view);
+                }
+            }
+            Ok(None) => return print_last(alloc, &last, out),
+            Err(error) => {
+                print_last(alloc, &last, out)?;
+                return Err(WatchEnd::of(count + 1, error));
+            }
+        }
     }
+    Err(WatchEnd::Session(SessionError::Unreadable))
 }
 
-/// Prints each view in turn.
-fn print<O: Write>(alloc: Global, views: &[View], out: &mut O) -> Result<(), SessionError>
-    ensures { IfErr result (λ error. status_of error ≡ 3) }
+/// Prints a view, where there is one.
+fn print_last<O: Write>(
+    alloc: Global,
+    last: &Option<View>,
+    out: &mut O,
+) -> Result<(), WatchEnd>
+    ensures { OnOk result (
+        Appends (O.contents out.old) (O.contents out.new) (last_lines last.now)) }
 {
-    for view in views {
-        write(alloc, PrintedView(view.number, &view.screen), out)?;
+    if let Some(view) = last {
+        print(alloc, view, out)?;
     }
+    Ok(())
+}
+
+/// Prints a view.
+fn print<O: Write>(alloc: Global, view: &View, out: &mut O) -> Result<(), SessionError>
+    ensures printed { OnOk result (
+        Appends (O.contents out.old) (O.contents out.new) (view_lines view.now)) }
+    ensures failed { IfErr result (λ error. status_of error ≡ 3) }
+{
+    write(alloc, PrintedView(view.number, &view.screen), out)?;
     out.flush().map_err(|_| SessionError::Write)
-}
-
-/// Writes the line of a fault, where there is one, and returns the exit status.
-fn end<E: Write>(watched: &Watched, err: &mut E) -> u8
-    ensures statuses { (result ≡ 0) ⊎ (result ≡ 2) ⊎ (result ≡ 3) }
-    ensures done { result ≡ 0 → err.new ≡ err.old }
-{
-    match watched.fault {
-        None => 0,
-        Some((number, fault)) => end_at(number, fault, err),
-    }
-}
-
-/// Writes the line of a fault, and returns the exit status, which is that of a failed write where
-/// the line can't be written.
-fn end_at<E: Write>(number: usize, fault: AnswerFault, err: &mut E) -> u8
-    ensures { (result ≡ 2) ⊎ (result ≡ 3) }
-{
-    match writeln!(err, "answer {number}: {fault}") {
-        Ok(()) => 2,
-        Err(_) => 3,
-    }
 }

@@ -1,4 +1,8 @@
 //! The printed form of outcomes: whole lines, each of which ends with LF.
+ghost use Rattle.std.specs.Prelude.{Some, codes};
+ghost use Rattle.std.specs.Fmt.{WritesOnOk};
+ghost use Rattle.termwiz_screen.specs.ScreenValue.{cells_of, screen_value};
+ghost use Rattle.surfview_session.specs.Printed.{cursor_line, row_lines, row_text, viewed_lines};
 
 use std::fmt;
 use std::fmt::{Display, Formatter};
@@ -33,6 +37,8 @@ impl Display for Printed<'_> {
 pub struct PrintedView<'a>(pub SequenceNo, pub &'a Screen);
 
 impl Display for PrintedView<'_> {
+    ghost output = { λ view. Some (viewed_lines (codes "viewer") view.0 (screen_value view.1.now)) };
+
     fn fmt<W: fmt::Write>(&self, f: &mut Formatter<W>) -> fmt::Result {
         write_viewed(f, "viewer", self.0, self.1)
     }
@@ -73,7 +79,9 @@ fn write_accept_error<W: fmt::Write>(f: &mut Formatter<W>, error: AcceptError) -
     }
 }
 
-fn write_cursor<W: fmt::Write>(f: &mut Formatter<W>, cursor: (usize, usize)) -> fmt::Result {
+fn write_cursor<W: fmt::Write>(f: &mut Formatter<W>, cursor: (usize, usize)) -> fmt::Result
+    ensures { WritesOnOk W.write_str_gives f.old result (cursor_line cursor.0 cursor.1) f.new }
+{
     let (x, y) = cursor;
     writeln!(f, "cursor {x} {y}")
 }
@@ -95,12 +103,23 @@ fn write_viewed<W: fmt::Write>(
     word: &str,
     seq: SequenceNo,
     screen: &Screen,
-) -> fmt::Result {
+) -> fmt::Result
+    ensures { WritesOnOk W.write_str_gives f.old result
+        (viewed_lines word.now seq (screen_value screen.now)) f.new }
+{
     writeln!(f, "{word} {seq}")?;
-    for row in &screen.rows {
+    write_rows(f, screen.rows.as_slice())?;
+    write_cursor(f, screen.cursor)
+}
+
+/// Writes a line for each row.
+fn write_rows<W: fmt::Write>(f: &mut Formatter<W>, rows: &[Line]) -> fmt::Result
+    ensures { WritesOnOk W.write_str_gives f.old result (row_lines (cells_of rows.now)) f.new }
+{
+    for row in rows {
         writeln!(f, "|{}|", PrintedRow(row))?;
     }
-    write_cursor(f, screen.cursor)
+    Ok(())
 }
 
 fn write_asked<W: fmt::Write>(
@@ -120,6 +139,8 @@ fn write_asked<W: fmt::Write>(
 struct PrintedRow<'a>(&'a Line);
 
 impl Display for PrintedRow<'_> {
+    ghost output = { λ row. Some (row_text row.0.now.cells) };
+
     fn fmt<W: fmt::Write>(&self, f: &mut Formatter<W>) -> fmt::Result {
         for cell in self.0.visible_cells() {
             write!(f, "{}", cell.str())?;

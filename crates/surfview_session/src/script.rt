@@ -1,9 +1,10 @@
 //! Scripts: one command a line, each of which is an event.
-ghost use Rattle.std.specs.Prelude.{◌≤◌, length, IfOk, IfSome};
+ghost use Rattle.std.specs.Prelude.{◌≡◌, ◌≤◌, ◌++◌, ℕ, List, length, IfOk, IfSome, OnOk};
 ghost use Rattle.std.specs.List.{All};
 ghost use Rattle.termwiz_surface.specs.ManySchedule.{IsManyInRange};
 ghost use Rattle.termwiz_surface.specs.Schedule.{IsInRange};
 ghost use Rattle.surfview_session.specs.Events.{AreInRange};
+ghost use Rattle.surfview_session.specs.Lines.{LineSays, Say};
 ghost use Rattle.surfview_session.specs.Size.{IsSize};
 ghost use Rattle.std.specs.Option.{SomeIff};
 ghost use Rattle.surfview_session.specs.Number.{IsNumber, value_of};
@@ -70,9 +71,13 @@ pub trait Command: Drop {
     /// Whether the sizes in it are such as a surface may have.
     ghost is_in_range: { Self → Type 0 };
 
+    /// What is known of a line that says it.
+    ghost says: { List ℕ → Self → Type 0 } = { λ _ _. Unit {0} };
+
     /// The command of a line. Its words are parted by exactly one space.
     fn of_line(alloc: Global, line: &str) -> Result<Self, LineError>
-        ensures { IfOk result is_in_range };
+        ensures sizes { IfOk result is_in_range }
+        ensures said { IfOk result (says line.now) };
 }
 
 impl Command for Event<UnicodeWidths> {
@@ -115,16 +120,39 @@ pub fn read(alloc: Global, script: &str) -> Result<Events, ScriptError>
 /// Lines end with LF. Empty lines and lines that begin with `#` are skipped. The error names the
 /// first line that is no command.
 pub fn commands<C: Command>(alloc: Global, script: &str) -> Result<Vec<C>, ScriptError>
-    ensures { IfOk result (λ commands. All C.is_in_range commands.items) }
+    ensures sizes { IfOk result (λ commands. All C.is_in_range commands.items) }
+    ensures said { IfOk result (λ commands. Say C.says script.now commands.items) }
 {
     let mut commands = Vec::new(alloc);
-    for (index, line) in script.split('\n').enumerate() {
-        if !line.is_empty() && !line.starts_with('#') {
-            let command = C::of_line(alloc, line).map_err(|error| error.at(index + 1))?;
-            commands.push(command).map_err(|_| ScriptError::Memory)?;
-        }
+    let mut rest = script;
+    let mut number: usize = 1;
+    while let Some((line, after)) = rest.split_once('\n') {
+        add_command(alloc, &mut commands, line, number)?;
+        rest = after;
+        number = number.saturating_add(1);
     }
+    add_command(alloc, &mut commands, rest, number)?;
     Ok(commands)
+}
+
+/// Adds the command of the line of this number, if it says one.
+fn add_command<C: Command>(
+    alloc: Global,
+    commands: &mut Vec<C>,
+    line: &str,
+    number: usize,
+) -> Result<(), ScriptError>
+    ensures sizes { All C.is_in_range commands.old.items →
+        OnOk result (All C.is_in_range commands.new.items) }
+    ensures said { OnOk result ((added : List C) × LineSays C.says line.now added
+        × (commands.new.items ≡ commands.old.items ++ added)) }
+{
+    if let [] | [b'#', ..] = line.as_bytes() {
+        return Ok(());
+    }
+    let command = C::of_line(alloc, line).map_err(|error| error.at(number))?;
+    commands.push(command).map_err(|_| ScriptError::Memory)?;
+    Ok(())
 }
 
 /// Whether the first word of a line is that of a command that names a viewer.

@@ -1,5 +1,6 @@
 //! One run of the program: from its words and its input to what it prints and its exit status.
-ghost use Rattle.std.specs.Prelude.{◌≡◌, ◌⊎◌, ◌↔◌, IfOk, IfSome, IfErr, IsSome, IsErr};
+ghost use Rattle.std.specs.Prelude.{◌≡◌, ◌⊎◌, ◌↔◌, IfOk, IfSome, IfErr, IsSome, IsErr, OnOk};
+ghost use Rattle.std.specs.Io.KnownBytes.{Appends};
 ghost use Rattle.surfview_session.specs.Events.{AreInRange};
 ghost use Rattle.surfview_session.specs.Run.{IsRun};
 ghost use Rattle.surfview_session.specs.Size.{AreSizes, GiveSizes};
@@ -162,7 +163,9 @@ fn events<R: Read>(alloc: Global, input: &mut R) -> Result<Events, SessionError>
 
 /// All bytes of the input.
 pub fn bytes<R: Read>(alloc: Global, input: &mut R) -> Result<Vec<u8>, SessionError>
-    ensures { IfErr result (λ error. (error ≡ SessionError.Memory)
+    ensures all { IfOk result (λ bytes.
+        IfSome (R.remaining input.old) (λ all. bytes.items ≡ all)) }
+    ensures failed { IfErr result (λ error. (error ≡ SessionError.Memory)
         ⊎ (error ≡ SessionError.Unreadable)) }
 {
     let mut bytes = Vec::new(alloc);
@@ -218,7 +221,9 @@ pub fn write<L: Display + Drop, O: Write>(
     lines: L,
     out: &mut O,
 ) -> Result<(), SessionError>
-    ensures { IfErr result (λ error. status_of error ≡ 3) }
+    ensures failed { IfErr result (λ error. status_of error ≡ 3) }
+    ensures written { OnOk result (IfSome (L.output lines)
+        (Appends (O.contents out.old) (O.contents out.new))) }
 {
     let text = format!(in alloc; "{lines}")?;
     out.write_all(text.as_bytes())

@@ -8,3 +8,4 @@ pub mod Following
 pub mod Copying
 mod DiffSurfaces
 pub mod Remembering
+pub mod Forgetting

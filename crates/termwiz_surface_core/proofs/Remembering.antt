@@ -1,5 +1,5 @@
 -- Whatever a surface does, its numbers go on to name what they named; and answers lead to what their numbers name.
-use Rattle.std.proofs.Common.{◌≡◌, ℕ, ◌+◌, ◌-◌, ◌≤◌, ◌<◌, inl, inr, true, false, List, [], ◌∷◌, ◌++◌, length, take, drop, refl, sym, ap, subst, ◌∙◌, arith, length-append}
+use Rattle.std.proofs.Common.{◌≡◌, ℕ, ◌+◌, ◌-◌, ◌≤◌, ◌<◌, inl, inr, true, false, Bool, List, [], ◌∷◌, ◌++◌, length, take, drop, refl, sym, ap, subst, ◌∙◌, arith, length-append}
 use Rattle.std.specs.Prelude.{Result, Ok, Err, OnOk, OnErr, ◌==◌, not, nat_le, if◌then◌else◌, fold}
 use Rattle.std.specs.Result.{is_err}
 use Rattle.std.proofs.lemmas.Bool.{cases_Bool, cases_lt, eqb-true, true≢false, le-leb, lt-leb}
@@ -78,7 +78,7 @@ pub names-stay : {P : Type 0} (past later : ℕ → P) (n : ℕ) (p : P) → lat
 names-stay past later n p e names = record { named = λ ne. e ∙ names.named ne }
 
 -- a number that is known is one that the log reaches
-known_reaches : (most : ℕ) (log : LogValue) (n : ℕ) → is_known most log n ≡ true → n ≤ next_number log
+pub known_reaches : (most : ℕ) (log : LogValue) (n : ℕ) → is_known most log n ≡ true → n ≤ next_number log
 known_reaches most log n h = grind (arith, nat_tests)
 
 module _ {P : Type 0} (pictures : Pictures P) (f : List ℕ → ℕ) where
@@ -166,7 +166,7 @@ module _ {P : Type 0} (pictures : Pictures P) (f : List ℕ → ℕ) where
   answers-stay past later n p a alike le c = record {
     named = names-stay past later a.number p (alike a.number le) c.named;
     repaint = c.repaint;
-    delta = λ no. let d = c.delta no in (d.0, d.1, ap (λ (t : P). played pictures f t a.changes) (alike a.base (omega (arith, d.1, le))) ∙ d.2);
+    delta = λ some. let d = c.delta some in (d.0, ap (λ (t : P). played pictures f t a.changes) (alike a.base (omega (arith, d.0, le))) ∙ d.1);
   }
 
   pub given-carries : (past : ℕ → P) (p : P) (log : LogValue) (n : ℕ) (a : AnswerValue) → IsPast pictures f past p log → IsGiven pictures f p log n a → Carries pictures f past a p
@@ -179,50 +179,47 @@ module _ {P : Type 0} (pictures : Pictures P) (f : List ℕ → ℕ) where
             let reach = known_reaches most log n e in
             record {
               named = rw g.number (past-names past p log is);
-              repaint = λ yes. absurd (true≢false (sym yes ∙ d.0));
-              delta = λ no. (
-                λ z. told.0 (sym d.1 ∙ z),
-                omega (arith, d.1, g.number, reach),
-                rw (d.1, d.2) ((is.leads n reach).leads told.0 told.1).2,
+              repaint = λ none. absurd (told.0 (sym d.0 ∙ none));
+              delta = λ some. (
+                omega (arith, d.0, g.number, reach),
+                rw (d.0, d.1) ((is.leads n reach).leads told.0 told.1).2,
               );
             }
         | false ↦ λ e.
             let r = g.repaint e in
             record {
               named = rw g.number (past-names past p log is);
-              repaint = λ yes t size. r.2 t (rw (← g.width, ← g.height) size);
-              delta = λ no. absurd (true≢false (sym r.0 ∙ no));
+              repaint = λ none t size. r.1 t (rw (← g.width, ← g.height) size);
+              delta = λ some. absurd (some r.0);
             }
       ] refl
 
   pub carried-leads : (past : ℕ → P) (a : AnswerValue) (p v : P) (n : ℕ) → pictures.IsSized a.width a.height v → is_stale n a ≡ false → Names past n v → Carries pictures f past a p → played pictures f v a.changes ≡ p
-  carried-leads past a p v n size fresh names c =
-      elim a.is_repaint as (λ b. a.is_repaint ≡ b → played pictures f v a.changes ≡ p) [
-        | true ↦ λ e. c.repaint e v size
-        | false ↦ λ e.
-            let d = c.delta e in
-            elim (cases_Bool (n == a.base)) [
-              | inr other ↦ absurd (true≢false (sym (rw (e, other) refl) ∙ fresh))
-              | inl same ↦
-                  let is : n ≡ a.base = eqb-true n a.base same in
-                  ap (λ (t : P). played pictures f t a.changes) (sym (names.named (λ z. d.0 (sym is ∙ z))) ∙ ap past is) ∙ d.2
-            ]
-      ] refl
+  carried-leads past a p v n size fresh names c = elim (cases_Bool (a.base == 0)) [
+    | inl none ↦ c.repaint (eqb-true a.base 0 none) v size
+    | inr some ↦ elim (cases_Bool (n == a.base)) [
+      | inr other ↦ absurd (true≢false (sym (rw (some, other) refl) ∙ fresh))
+      | inl same ↦
+          let is : n ≡ a.base = eqb-true n a.base same in
+          let named : a.base ≡ 0 → ⊥ = λ z. true≢false (sym (ap (λ k. k == 0) z) ∙ some) in
+          ap (λ (t : P). played pictures f t a.changes) (sym (names.named (λ z. named (sym is ∙ z))) ∙ ap past is) ∙ (c.delta named).1
+    ]
+  ]
 
   -- a stream that is lent where the number is known, and made where it isn't, is an answer
-  pub is-given : (p : P) (log : LogValue) (n : ℕ) (a : AnswerValue) → a.width ≡ (pictures.screen p).width → a.height ≡ (pictures.screen p).height → a.number ≡ next_number log → a.base ≡ (if a.is_repaint then 0 else n)
-      → is_known (delta_limit (pictures.screen p).width (pictures.screen p).height) log n ≡ not a.is_repaint → Brings pictures f p log n a.changes → IsGiven pictures f p log n a
-  is-given p log n a w h number base known stream = record {
+  pub is-given : (p : P) (log : LogValue) (n : ℕ) (made : Bool) (a : AnswerValue) → a.width ≡ (pictures.screen p).width → a.height ≡ (pictures.screen p).height → a.number ≡ next_number log → a.base ≡ (if made then 0 else n)
+      → is_known (delta_limit (pictures.screen p).width (pictures.screen p).height) log n ≡ not made → Brings pictures f p log n a.changes → IsGiven pictures f p log n a
+  is-given p log n made a w h number base known stream = record {
     width = w;
     height = h;
     number = number;
-    delta = λ e. elim (cases_Bool a.is_repaint) [
-      | inl made ↦ absurd (true≢false (sym e ∙ known ∙ rw made refl))
-      | inr lent ↦ (lent, base ∙ rw lent refl, stream.known e)
+    delta = λ e. elim (cases_Bool made) [
+      | inl is ↦ absurd (true≢false (sym e ∙ known ∙ rw is refl))
+      | inr lent ↦ (base ∙ rw lent refl, stream.known e)
     ];
-    repaint = λ e. elim (cases_Bool a.is_repaint) [
+    repaint = λ e. elim (cases_Bool made) [
       | inr lent ↦ absurd (true≢false (sym (known ∙ rw lent refl) ∙ e))
-      | inl made ↦ (made, base ∙ rw made refl, stream.repaint e)
+      | inl is ↦ (base ∙ rw is refl, stream.repaint e)
     ];
   }
 

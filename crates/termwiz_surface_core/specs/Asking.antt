@@ -1,13 +1,17 @@
 -- What a surface answers whoever asks it by a number.
-use Rattle.std.specs.Prelude.{◌≡◌, ℕ, Bool, List}
+use Rattle.std.specs.Prelude.{◌≡◌, ℕ, ◌-◌, Bool, List}
 use Rattle.termwiz_cell.specs.ChangeValue.{ChangeValue}
-use Rattle.termwiz_screen.specs.Log.{is_known, delta_limit}
+use Rattle.termwiz_screen.specs.Log.{LogValue, next_number, flushed, is_known, delta_limit}
 use Rattle.termwiz_screen.specs.Printable.{HasSize}
 use Rattle.termwiz_screen.specs.Repaint.{repaint_in}
 use Rattle.termwiz_screen.specs.Screen.{Screen}
 use Rattle.termwiz_screen.specs.Step.{replay}
 use Rattle.termwiz_screen.specs.Stream.{IsStream, IsFullStream, most_entries}
 use Rattle.termwiz_surface_core.specs.SurfaceValue.{SurfaceValue, screen_of, kept_of, full_of}
+
+-- the log with at most so many changes, the last ones
+abbrev pub forgotten : ℕ → LogValue → LogValue
+forgotten most l = flushed l (next_number l - most)
 
 module _ {W : Type 0} where
   -- it answers this number by the changes that are due, and any other by a repaint

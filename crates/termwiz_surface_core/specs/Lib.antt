@@ -27,7 +27,7 @@ pub use Rattle.termwiz_screen.specs.DiffRegions.{AreRows}
 pub use Rattle.termwiz_screen.specs.FullScreen.{FullScreen, HasFullSize}
 pub use Rattle.termwiz_screen.specs.FullScreenValue.{full_value}
 pub use Rattle.termwiz_screen.specs.Kept.{with_line_attribute}
-pub use Rattle.termwiz_screen.specs.Log.{due, flushed, is_known, next_number}
+pub use Rattle.termwiz_screen.specs.Log.{delta_limit, due, flushed, is_known, next_number}
 pub use Rattle.termwiz_screen.specs.Measured.{IsMeasured}
 pub use Rattle.termwiz_screen.specs.Picture.{full_screens, screens}
 pub use Rattle.termwiz_screen.specs.Place.{placed}
@@ -45,7 +45,8 @@ pub use Rattle.termwiz_screen.specs.Sides.{AreVectors, row_flags}
 pub use Rattle.termwiz_screen.specs.Step.{region_fits, regions_fit, replay, replay_kept, step, step_kept}
 pub use Rattle.termwiz_screen.specs.Stream.{Lends, stream_of}
 pub use Rattle.termwiz_surface_core.specs.Adding.{Adds, Makes, Refuses, with_log}
-pub use Rattle.termwiz_surface_core.specs.Asking.{Repaints, StreamsFrom, StreamsFullyFrom, knows, most_own_entries, own_repaint}
+pub use Rattle.termwiz_surface_core.specs.Answer.{is_repaint}
+pub use Rattle.termwiz_surface_core.specs.Asking.{Repaints, StreamsFrom, StreamsFullyFrom, forgotten, knows, most_own_entries, own_repaint}
 pub use Rattle.termwiz_surface_core.specs.Carried.{CarriesTo, IsGivenBy, IsPastOf}
 pub use Rattle.termwiz_surface_core.specs.Copies.{IsCopied, IsDrawn, copied_region}
 pub use Rattle.termwiz_surface_core.specs.Diffs.{GivesRegion, HasCopied, HasDrawn, HaveRow, HaveTopRows, MeasureAlike, PrintsRegion, PrintsRows, cut_to, one_row, region_at, region_diff, rows_of, screen_after, top_rows}

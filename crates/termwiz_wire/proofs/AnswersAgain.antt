@@ -1,44 +1,96 @@
--- An answer that is encoded is decoded again, whatever follows it.
-use Rattle.std.proofs.Common.{◌≡◌, ℕ, ◌<◌, ◌^◌, eqb, false, List, [], ◌++◌, Ok, refl, sym, ap, ◌∙◌, append_assoc, arith}
-use Rattle.std.proofs.lemmas.Bool.{ne_eqb}
-use Rattle.std.proofs.lemmas.List.{append-nil}
-use Rattle.cbor.specs.Decoding.{ok}
-use Rattle.cbor.proofs.Steps.{ok_is}
-use Rattle.cbor.specs.Encoding.{unsigned, boolean, array}
-use Rattle.cbor.proofs.Heads.{head_again, limited_again}
-use Rattle.cbor.proofs.Items.{boolean_again, array_of_again}
-use Rattle.termwiz_surface_core.specs.Answer.{AnswerValue}
-use Rattle.termwiz_wire.specs.Encoding.{changes}
-use Rattle.termwiz_wire.specs.Answers.{IsAnswer, answer, answer_at, size_at, version_at}
-use Rattle.termwiz_wire.proofs.Again.{changes_again}
+-- An answer or an ask that is encoded is decoded again, whatever follows it.
+use Rattle.std.proofs.Common.{◌≡◌, ℕ, ◌+◌, ◌*◌, ◌^◌, ◌<◌, ◌≤◌, Bool, true, false, eqb, ltb, ◌&&◌, List, [], ◌++◌, length, Option, Some, None, Ok, refl, sym, ap, ◌∙◌, append_assoc, arith, inl, inr}
+use Rattle.std.specs.List.{flat_map}
+use Rattle.std.proofs.lemmas.Bool.{ne_eqb, eq-eqb, le-ltb, cases_lt}
+use Rattle.cbor.specs.Encoding.{unsigned, array}
+use Rattle.cbor.specs.Decoding.{Stop, allowed}
+use Rattle.cbor.proofs.Items.{unsigned_again, below_again, array_again, list_again}
+use Rattle.termwiz_cell.specs.ChangeValue.{ChangeValue}
+use Rattle.termwiz_wire.specs.Encoding.{change, changes}
+use Rattle.termwiz_wire.specs.Answers.{Halt, version_at, body_at, opened_at, source_at, size_at, height_at, number_at, head_at, halted, each_at, sent_of, answer_in, asked_at, ask_in}
+use Rattle.termwiz_wire.specs.Sent.{IsSent, IsAsk, answer, ask}
+use Rattle.termwiz_wire.specs.declared.sent.SentAnswer.{SentAnswer}
+use Rattle.termwiz_wire.specs.declared.sent.Ask.{Ask}
+use Rattle.termwiz_wire.specs.declared.decode.heads.Head.{Head}
+use Rattle.termwiz_wire.proofs.Each.{each_again, changes_fit}
+use Rattle.termwiz_wire.proofs.Rows.{each_fits}
 
-version_again : (rest : List ℕ) → version_at (unsigned 1 ++ rest) ≡ Ok rest
+version_again : (room : ℕ) (rest : List ℕ) → version_at room (unsigned 2 ++ rest) ≡ Ok rest
 unfolding version_at
-version_again rest = rw (head_again 0 1 rest (omega arith)) refl
+version_again room rest = rw (unsigned_again room 2 rest (omega arith)) refl
 
-size_again : (n : ℕ) (rest : List ℕ) → 0 < n → n < 2 ^ 32 → size_at (unsigned n ++ rest) ≡ Ok (n, rest)
-unfolding size_at
-size_again n rest some fits =
+body_again : (room items : ℕ) (start rest : List ℕ) → 0 < items → body_at room items start (unsigned 2 ++ rest) ≡ Ok rest
+unfolding body_at
+body_again room items start rest some =
+    let not_none : eqb items 0 ≡ false = ne_eqb items 0 (λ e. omega arith) in
+    rw (not_none, version_again room rest) refl
+
+pub opened_again : (room items : ℕ) (rest : List ℕ) → 0 < items → items < 2 ^ 64 → opened_at room items (array items ++ (unsigned 2 ++ rest)) ≡ Ok rest
+unfolding opened_at
+opened_again room items rest some lt = rw (array_again room items (unsigned 2 ++ rest) lt, body_again room items (array items ++ (unsigned 2 ++ rest)) rest some, eq-eqb items items refl) refl
+
+pub source_again : (room n : ℕ) (rest : List ℕ) → 0 < n → n < 2 ^ 64 → source_at room (unsigned n ++ rest) ≡ Ok (n, rest)
+unfolding source_at
+source_again room n rest some lt =
     let not_zero : eqb n 0 ≡ false = ne_eqb n 0 (λ e. omega arith) in
-    rw (limited_again 0 (2 ^ 32) n rest (omega (arith, fits)) fits, not_zero) refl
+    rw (unsigned_again room n rest lt, not_zero) refl
 
-pub answer_again : (a : AnswerValue) (rest : List ℕ) → IsAnswer a → answer_at (answer a ++ rest) ≡ Ok (a, rest)
-unfolding answer_at answer
-answer_again a rest is =
-    let c : List ℕ = changes a.changes ++ rest in
-    let r : List ℕ = boolean a.is_repaint ++ c in
-    let n : List ℕ = unsigned a.number ++ r in
-    let b : List ℕ = unsigned a.base ++ n in
-    let h : List ℕ = unsigned a.height ++ b in
-    let w : List ℕ = unsigned a.width ++ h in
-    let regrouped : answer a ++ rest ≡ array 7 ++ (unsigned 1 ++ w) = simp append_assoc in
-    ap answer_at regrouped
-    ∙ rw (array_of_again 7 (unsigned 1 ++ w) (omega arith), version_again w, size_again a.width h is.well_formed.some_column is.well_formed.fits, size_again a.height b is.well_formed.some_row is.well_formed.fits_height, head_again 0 a.base n is.base, head_again 0 a.number r is.number, boolean_again a.is_repaint c, changes_again a.changes rest is.changes, is.well_formed.regions) refl
+pub size_again : (room n : ℕ) (rest : List ℕ) → 0 < n → n < 2 ^ 32 → size_at room (unsigned n ++ rest) ≡ Ok (n, rest)
+unfolding size_at
+size_again room n rest some fits =
+    let not_zero : eqb n 0 ≡ false = ne_eqb n 0 (λ e. omega arith) in
+    rw (below_again room (2 ^ 32) n rest (omega (arith, fits)) fits, not_zero) refl
 
--- what is decoded of one answer is that answer
-pub same_value : (a x : AnswerValue) (rest left : List ℕ) → ok a rest ≡ ok x left → x ≡ a
-same_value a x rest left e = sym (ap (λ (p : AnswerValue × List ℕ). p.0) (ok_is {A = AnswerValue × List ℕ} (a, rest) (x, left) e))
+height_again : (room cells width n : ℕ) (rest : List ℕ) → 0 < n → n < 2 ^ 32 → width * n ≤ cells → height_at room cells width (unsigned n ++ rest) ≡ Ok (n, rest)
+unfolding height_at
+height_again room cells width n rest some fits few = rw (size_again room n rest some fits, le-ltb cells (width * n) few) refl
 
--- bytes that have the answer alone
-pub alone : (a : AnswerValue) (before bytes : List ℕ) → before ≡ [] → bytes ≡ before ++ answer a → bytes ≡ answer a ++ []
-alone a before bytes none e = e ∙ ap (λ (x : List ℕ). x ++ answer a) none ∙ sym (append-nil (answer a))
+number_again : (room base n : ℕ) (rest : List ℕ) → base ≤ n → n < 2 ^ 64 → number_at room base (unsigned n ++ rest) ≡ Ok (n, rest)
+unfolding number_at
+number_again room base n rest le lt = rw (unsigned_again room n rest lt, le-ltb n base le) refl
+
+-- an answer's head, and as many changes as it says behind it
+abbrev pub head_of : SentAnswer → Head
+head_of s = record { source = s.source; width = s.answer.width; height = s.answer.height; base = s.answer.base; number = s.answer.number; count = length s.answer.changes }
+
+head_again : (measure : List ℕ → ℕ) (room cells : ℕ) (s : SentAnswer) (rest : List ℕ) → IsSent measure s → s.answer.width * s.answer.height ≤ cells → head_at room cells (answer measure s ++ rest) ≡ Ok (head_of s, flat_map (change measure) s.answer.changes ++ rest)
+unfolding head_at answer changes
+head_again measure room cells s rest is few =
+    let e : List ℕ = flat_map (change measure) s.answer.changes ++ rest in
+    let c : List ℕ = array (length s.answer.changes) ++ e in
+    let n : List ℕ = unsigned s.answer.number ++ c in
+    let b : List ℕ = unsigned s.answer.base ++ n in
+    let h : List ℕ = unsigned s.answer.height ++ b in
+    let w : List ℕ = unsigned s.answer.width ++ h in
+    let body : List ℕ = unsigned s.source ++ w in
+    let regrouped : answer measure s ++ rest ≡ array 7 ++ (unsigned 2 ++ body) = simp append_assoc in
+    ap (head_at room cells) regrouped
+    ∙ rw (opened_again room 7 body (omega arith) (omega arith), source_again room s.source w is.some_source is.source, size_again room s.answer.width h is.well_formed.some_column is.well_formed.fits, height_again room cells s.answer.width s.answer.height b is.well_formed.some_row is.well_formed.fits_height few, unsigned_again room s.answer.base n is.base, number_again room s.answer.base s.answer.number c is.well_formed.ordered is.number, list_again room (length s.answer.changes) e is.changes.count (changes_fit measure room s.answer.changes rest)) refl
+
+pub answer_again : (measure : List ℕ → ℕ) (room cells : ℕ) (s : SentAnswer) (rest : List ℕ) → IsSent measure s → s.answer.width * s.answer.height ≤ cells → answer_in measure room cells (answer measure s ++ rest) ≡ Ok (s, rest)
+unfolding answer_in
+answer_again measure room cells s rest is few =
+    rw (head_again measure room cells s rest is few, each_again measure room (Some s.answer.height) [] s.answer.changes rest is.changes.each (each_fits s.answer.height s.answer.changes is.well_formed.regions)) refl
+
+asked_again : (room source n : ℕ) (rest : List ℕ) → (source ≡ 0 → n ≡ 0) → n < 2 ^ 64 → asked_at room source (unsigned n ++ rest) ≡ Ok (n, rest)
+unfolding asked_at
+asked_again room source n rest named lt =
+    elim (cases_lt 0 source) [
+      | inl some ↦
+          let is : eqb source 0 ≡ false = ne_eqb source 0 (λ e. omega arith) in
+          rw (unsigned_again room n rest lt, is) refl
+      | inr none ↦
+          let zero_source : source ≡ 0 = omega arith in
+          let is : eqb n 0 ≡ true = eq-eqb n 0 (named zero_source) in
+          let no : eqb source 0 ≡ true = eq-eqb source 0 zero_source in
+          rw (unsigned_again room n rest lt, no, is) refl
+    ]
+
+pub ask_again : (room : ℕ) (a : Ask) (rest : List ℕ) → IsAsk a → ask_in room (ask a ++ rest) ≡ Ok (a, rest)
+unfolding ask_in ask
+ask_again room a rest is =
+    let n : List ℕ = unsigned a.number ++ rest in
+    let body : List ℕ = unsigned a.source ++ n in
+    let regrouped : ask a ++ rest ≡ array 3 ++ (unsigned 2 ++ body) = simp append_assoc in
+    ap (ask_in room) regrouped
+    ∙ rw (opened_again room 3 body (omega arith) (omega arith), unsigned_again room a.source n is.source, asked_again room a.source a.number rest is.named is.number) refl

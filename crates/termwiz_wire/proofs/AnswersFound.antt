@@ -1,103 +1,179 @@
--- An answer that is decoded was encoded so.
-use Rattle.std.proofs.Common.{◌≡◌, ℕ, ◌+◌, ◌≤◌, ◌^◌, Bool, cond, eqb, List, ◌++◌, length, Result, Ok, Err, refl, ap, subst, ◌∙◌, arith}
-use Rattle.std.proofs.lemmas.Bool.{eqb-true}
+-- An answer or an ask that is decoded was encoded so.
+use Rattle.std.proofs.Common.{◌≡◌, ℕ, ◌+◌, ◌*◌, ◌≤◌, ◌<◌, ◌^◌, true, cond, eqb, ltb, ◌&&◌, not, List, [], ◌++◌, length, Some, None, Result, Ok, refl, ap, subst, ◌∙◌, arith}
+use Rattle.std.proofs.lemmas.Bool.{eqb-true, ltb-false}
 use Rattle.std.proofs.lemmas.List.{length-append}
-use Rattle.cbor.specs.declared.error.Fault.{Fault}
-use Rattle.cbor.specs.declared.error.Fault.TheVariants.{Version, Range, Region}
-use Rattle.cbor.specs.Encoding.{unsigned, boolean, array}
-use Rattle.cbor.specs.Decoding.{◌>>=◌, ok, IsBytes, unsigned_at, below_at, boolean_at, array_of_at}
-use Rattle.cbor.proofs.Heads.{head_takes}
-use Rattle.cbor.proofs.Items.{boolean_takes, array_of_takes}
-use Rattle.cbor.proofs.Steps.{Takes, Takes-then, bind_ok, guard_ok, guard_ended}
+use Rattle.cbor.specs.declared.error.FaultKind.TheVariants as faults
+use Rattle.cbor.specs.Encoding.{unsigned, array}
+use Rattle.cbor.specs.Decoding.{◌>>=◌, Stop, ok, IsBytes, unsigned_at, below_at, array_at, list_at}
+use Rattle.cbor.proofs.Items.{unsigned_takes, array_takes, list_takes}
+use Rattle.cbor.proofs.Steps.{Takes, Takes-then, bind_ok, guard_ok, guard_past, guard_ended, ok_is}
 use Rattle.termwiz_cell.specs.ChangeValue.{ChangeValue}
 use Rattle.termwiz_screen.specs.Step.{regions_fit}
-use Rattle.termwiz_surface_core.specs.Answer.{AnswerValue}
+use Rattle.termwiz_wire.specs.Cuts.{refused}
 use Rattle.termwiz_wire.specs.Encoding.{changes}
-use Rattle.termwiz_wire.specs.Decoding.{changes_at}
-use Rattle.termwiz_wire.specs.Answers.{answer, answer_at, size_at, version_at}
+use Rattle.termwiz_wire.specs.Answers.{Halt, version_at, body_at, opened_at, source_at, size_at, height_at, number_at, head_at, halted, each_at, sent_of, answer_in, asked_at, ask_in}
+use Rattle.termwiz_wire.specs.Sent.{answer, ask}
+use Rattle.termwiz_wire.specs.declared.sent.SentAnswer.{SentAnswer}
+use Rattle.termwiz_wire.specs.declared.sent.Ask.{Ask}
+use Rattle.termwiz_wire.specs.declared.decode.heads.Head.{Head}
 use Rattle.termwiz_wire.proofs.Bounded.{changes-some}
-use Rattle.termwiz_wire.proofs.Found.{changes_takes}
-use Rattle.termwiz_wire.proofs.Steps.{number_takes}
+use Rattle.termwiz_wire.proofs.Each.{halted_ok, listed_takes}
+use Rattle.termwiz_wire.proofs.Rows.{regions_of}
+use Rattle.termwiz_wire.proofs.Steps.{stopped, number_takes, let_takes}
 
-version_takes : (bytes rest : List ℕ) → IsBytes bytes → version_at bytes ≡ Ok rest → Takes bytes (unsigned 1) rest
+version_takes : (room : ℕ) (bytes rest : List ℕ) → IsBytes bytes → version_at room bytes ≡ Ok rest → Takes bytes (unsigned 2) rest
 unfolding version_at
-version_takes bytes rest fits e =
-    let a = bind_ok (unsigned_at bytes) (λ version. cond (eqb version.0 1) (Ok version.1) (Err Version)) rest e in
-    let g = guard_ended (eqb a.0.0 1) Version a.0.1 rest a.2 in
-    let t = head_takes 0 bytes a.0 fits a.1 in
-    let named = subst (λ (k : ℕ). Takes bytes (unsigned k) a.0.1) (eqb-true a.0.0 1 g.0) t.0 in
-    subst (λ (y : List ℕ). Takes bytes (unsigned 1) y) g.1 named
+version_takes room bytes rest fits e =
+    let a = bind_ok (unsigned_at room bytes) (λ version. cond (eqb version.0 2) (Ok version.1) (refused faults.Version room bytes)) rest e in
+    let g = guard_ended (eqb a.0.0 2) (stopped faults.Version room bytes) a.0.1 rest a.2 in
+    let t = unsigned_takes room bytes a.0 fits a.1 in
+    let named = subst (λ (k : ℕ). Takes bytes (unsigned k) a.0.1) (eqb-true a.0.0 2 g.0) t.0 in
+    subst (λ (y : List ℕ). Takes bytes (unsigned 2) y) g.1 named
 
-size_takes : (bytes : List ℕ) (x : ℕ × List ℕ) → IsBytes bytes → size_at bytes ≡ Ok x → Takes bytes (unsigned x.0) x.1
+opened_takes : (room items : ℕ) (bytes rest : List ℕ) → IsBytes bytes → opened_at room items bytes ≡ Ok rest → Takes bytes (array items ++ unsigned 2) rest
+unfolding opened_at body_at
+opened_takes room items bytes rest fits e =
+    let count = bind_ok (array_at room bytes) (λ count. body_at room count.0 bytes count.1 >>= λ body. cond (eqb count.0 items) (Ok body) (refused faults.Type room bytes)) rest e in
+    let body = bind_ok (body_at room count.0.0 bytes count.0.1) (λ body. cond (eqb count.0.0 items) (Ok body) (refused faults.Type room bytes)) rest count.2 in
+    let g = guard_past (eqb count.0.0 0) (stopped faults.Type room bytes) (version_at room count.0.1) body.0 body.1 in
+    let h = guard_ended (eqb count.0.0 items) (stopped faults.Type room bytes) body.0 rest body.2 in
+    let tc = array_takes room bytes count.0 fits count.1 in
+    let tv = version_takes room count.0.1 body.0 tc.0.rest_fits g.1 in
+    let all = Takes-then bytes (array count.0.0) count.0.1 (unsigned 2) body.0 tc.0 tv in
+    let named = subst (λ (k : ℕ). Takes bytes (array k ++ unsigned 2) body.0) (eqb-true count.0.0 items h.0) all in
+    subst (λ (y : List ℕ). Takes bytes (array items ++ unsigned 2) y) h.1 named
+
+source_takes : (room : ℕ) (bytes : List ℕ) (x : ℕ × List ℕ) → IsBytes bytes → source_at room bytes ≡ Ok x → Takes bytes (unsigned x.0) x.1
+unfolding source_at
+source_takes room bytes x fits e = (let_takes room (λ n. eqb n 0) faults.Range bytes x fits e).0
+
+size_takes : (room : ℕ) (bytes : List ℕ) (x : ℕ × List ℕ) → IsBytes bytes → size_at room bytes ≡ Ok x → Takes bytes (unsigned x.0) x.1
 unfolding size_at
-size_takes bytes x fits e =
-    let a = bind_ok (below_at (2 ^ 32) bytes) (λ n. cond (eqb n.0 0) (Err Range) (Ok n)) x e in
-    let g = guard_ok (eqb a.0.0 0) Range a.0 x a.2 in
-    subst (λ (y : ℕ × List ℕ). Takes bytes (unsigned y.0) y.1) g.1 (number_takes (2 ^ 32) bytes a.0 fits a.1).0
+size_takes room bytes x fits e =
+    let a = bind_ok (below_at room (2 ^ 32) bytes) (λ n. cond (eqb n.0 0) (refused faults.Range room bytes) (Ok n)) x e in
+    let g = guard_ok (eqb a.0.0 0) (stopped faults.Range room bytes) a.0 x a.2 in
+    subst (λ (y : ℕ × List ℕ). Takes bytes (unsigned y.0) y.1) g.1 (number_takes room (2 ^ 32) bytes a.0 fits a.1).0
 
-abbrev made : ℕ → ℕ → ℕ → ℕ → Bool → List ChangeValue → AnswerValue
-made w h b n r c = record { width = w; height = h; base = b; number = n; is_repaint = r; changes = c }
+height_takes : (room cells width : ℕ) (bytes : List ℕ) (x : ℕ × List ℕ) → IsBytes bytes → height_at room cells width bytes ≡ Ok x → Takes bytes (unsigned x.0) x.1 × (width * x.0 ≤ cells)
+unfolding height_at
+height_takes room cells width bytes x fits e =
+    let a = bind_ok (size_at room bytes) (λ n. cond (ltb cells (width * n.0)) (refused faults.Limit room bytes) (Ok n)) x e in
+    let g = guard_ok (ltb cells (width * a.0.0)) (stopped faults.Limit room bytes) a.0 x a.2 in
+    subst (λ (y : ℕ × List ℕ). Takes bytes (unsigned y.0) y.1 × (width * y.0 ≤ cells)) g.1 (size_takes room bytes a.0 fits a.1, ltb-false _ _ g.0)
+
+number_found : (room base : ℕ) (bytes : List ℕ) (x : ℕ × List ℕ) → IsBytes bytes → number_at room base bytes ≡ Ok x → Takes bytes (unsigned x.0) x.1
+unfolding number_at
+number_found room base bytes x fits e = (let_takes room (λ n. ltb n base) faults.Range bytes x fits e).0
+
+-- ---- heads
 
 abbrev Read : Type 0
-Read = Result (AnswerValue × List ℕ) Fault
+Read = Result (Head × List ℕ) Stop
 
-abbrev ended : ℕ → ℕ → ℕ → ℕ → Bool → List ChangeValue × List ℕ → Read
-ended w h b n r c = cond (regions_fit h c.0) (ok (made w h b n r c.0) c.1) (Err Region)
+abbrev from_number : ℕ → ℕ → ℕ → ℕ → ℕ → ℕ × List ℕ → Read
+from_number room s w h b n = list_at room n.1 >>= λ c. ok (record { source = s; width = w; height = h; base = b; number = n.0; count = c.0 }) c.1
 
-abbrev from_repaint : ℕ → ℕ → ℕ → ℕ → Bool × List ℕ → Read
-from_repaint w h b n r = changes_at r.1 >>= λ c. ended w h b n r.0 c
+abbrev from_base : ℕ → ℕ → ℕ → ℕ → ℕ × List ℕ → Read
+from_base room s w h b = number_at room b.0 b.1 >>= λ n. from_number room s w h b.0 n
 
-abbrev from_number : ℕ → ℕ → ℕ → ℕ × List ℕ → Read
-from_number w h b n = boolean_at n.1 >>= λ r. from_repaint w h b n.0 r
+abbrev from_height : ℕ → ℕ → ℕ → ℕ × List ℕ → Read
+from_height room s w h = unsigned_at room h.1 >>= λ b. from_base room s w h.0 b
 
-abbrev from_base : ℕ → ℕ → ℕ × List ℕ → Read
-from_base w h b = unsigned_at b.1 >>= λ n. from_number w h b.0 n
+abbrev from_width : ℕ → ℕ → ℕ → ℕ × List ℕ → Read
+from_width room cells s w = height_at room cells w.0 w.1 >>= λ h. from_height room s w.0 h
 
-abbrev from_height : ℕ → ℕ × List ℕ → Read
-from_height w h = unsigned_at h.1 >>= λ b. from_base w h.0 b
+abbrev from_source : ℕ → ℕ → ℕ × List ℕ → Read
+from_source room cells s = size_at room s.1 >>= λ w. from_width room cells s.0 w
 
-abbrev from_width : ℕ × List ℕ → Read
-from_width w = size_at w.1 >>= λ h. from_height w.0 h
+-- the bytes of a head, but for the number of changes
+abbrev head_bytes : Head → List ℕ
+head_bytes x = array 7 ++ unsigned 2 ++ unsigned x.source ++ unsigned x.width ++ unsigned x.height ++ unsigned x.base ++ unsigned x.number
 
--- the value of a chain's end
-ended_is : (w h b n : ℕ) (r : Bool) (c : List ChangeValue × List ℕ) (x : AnswerValue × List ℕ) → ended w h b n r c ≡ Ok x → (made w h b n r c.0, c.1) ≡ x
-ended_is w h b n r c x e = (guard_ended (regions_fit h c.0) Region (made w h b n r c.0, c.1) x e).1
+record HeadFound (cells : ℕ) (bytes : List ℕ) (x : Head × List ℕ) : Type 0 where
+  -- before the number of changes
+  pub middle : List ℕ
+  pub front : Takes bytes (head_bytes x.0) middle
+  pub listed : Takes middle (array x.0.count) x.1
+  pub count : x.0.count < 2 ^ 64
+  pub few : x.0.width * x.0.height ≤ cells
 
-pub answer_takes : (bytes : List ℕ) (x : AnswerValue × List ℕ) → IsBytes bytes → answer_at bytes ≡ Ok x → Takes bytes (answer x.0) x.1
-unfolding answer_at answer
-answer_takes bytes x fits e =
-    let start = bind_ok (array_of_at 7 bytes) (λ start. version_at start >>= λ body. size_at body >>= λ w. from_width w) x e in
-    let body = bind_ok (version_at start.0) (λ body. size_at body >>= λ w. from_width w) x start.2 in
-    let w = bind_ok (size_at body.0) (λ w. from_width w) x body.2 in
-    let h = bind_ok (size_at w.0.1) (λ h. from_height w.0.0 h) x w.2 in
-    let b = bind_ok (unsigned_at h.0.1) (λ b. from_base w.0.0 h.0.0 b) x h.2 in
-    let n = bind_ok (unsigned_at b.0.1) (λ n. from_number w.0.0 h.0.0 b.0.0 n) x b.2 in
-    let r = bind_ok (boolean_at n.0.1) (λ r. from_repaint w.0.0 h.0.0 b.0.0 n.0.0 r) x n.2 in
-    let c = bind_ok (changes_at r.0.1) (λ c. ended w.0.0 h.0.0 b.0.0 n.0.0 r.0.0 c) x r.2 in
-    let ts = array_of_takes 7 bytes start.0 fits start.1 in
-    let tv = version_takes start.0 body.0 ts.rest_fits body.1 in
-    let tw = size_takes body.0 w.0 tv.rest_fits w.1 in
-    let th = size_takes w.0.1 h.0 tw.rest_fits h.1 in
-    let tb = head_takes 0 h.0.1 b.0 th.rest_fits b.1 in
-    let tn = head_takes 0 b.0.1 n.0 tb.0.rest_fits n.1 in
-    let tr = boolean_takes n.0.1 r.0 tn.0.rest_fits r.1 in
-    let tc = changes_takes r.0.1 c.0 tr.rest_fits c.1 in
-    let v1 = Takes-then bytes (array 7) start.0 (unsigned 1) body.0 ts tv in
-    let w1 = Takes-then bytes (array 7 ++ unsigned 1) body.0 (unsigned w.0.0) w.0.1 v1 tw in
-    let h1 = Takes-then bytes (array 7 ++ unsigned 1 ++ unsigned w.0.0) w.0.1 (unsigned h.0.0) h.0.1 w1 th in
-    let b1 = Takes-then bytes (array 7 ++ unsigned 1 ++ unsigned w.0.0 ++ unsigned h.0.0) h.0.1 (unsigned b.0.0) b.0.1 h1 tb.0 in
-    let n1 = Takes-then bytes (array 7 ++ unsigned 1 ++ unsigned w.0.0 ++ unsigned h.0.0 ++ unsigned b.0.0) b.0.1 (unsigned n.0.0) n.0.1 b1 tn.0 in
-    let r1 = Takes-then bytes (array 7 ++ unsigned 1 ++ unsigned w.0.0 ++ unsigned h.0.0 ++ unsigned b.0.0 ++ unsigned n.0.0) n.0.1 (boolean r.0.0) r.0.1 n1 tr in
-    let all = Takes-then bytes (array 7 ++ unsigned 1 ++ unsigned w.0.0 ++ unsigned h.0.0 ++ unsigned b.0.0 ++ unsigned n.0.0 ++ boolean r.0.0) r.0.1 (changes c.0.0) c.0.1 r1 tc.0 in
-    subst (λ (y : AnswerValue × List ℕ). Takes bytes (answer y.0) y.1) (ended_is w.0.0 h.0.0 b.0.0 n.0.0 r.0.0 c.0 x c.2) all
+head_takes : (room cells : ℕ) (bytes : List ℕ) (x : Head × List ℕ) → IsBytes bytes → head_at room cells bytes ≡ Ok x → HeadFound cells bytes x
+unfolding head_at
+head_takes room cells bytes x fits e =
+    let body = bind_ok (opened_at room 7 bytes) (λ body. source_at room body >>= λ s. from_source room cells s) x e in
+    let s = bind_ok (source_at room body.0) (λ s. from_source room cells s) x body.2 in
+    let w = bind_ok (size_at room s.0.1) (λ w. from_width room cells s.0.0 w) x s.2 in
+    let h = bind_ok (height_at room cells w.0.0 w.0.1) (λ h. from_height room s.0.0 w.0.0 h) x w.2 in
+    let b = bind_ok (unsigned_at room h.0.1) (λ b. from_base room s.0.0 w.0.0 h.0.0 b) x h.2 in
+    let n = bind_ok (number_at room b.0.0 b.0.1) (λ n. from_number room s.0.0 w.0.0 h.0.0 b.0.0 n) x b.2 in
+    let c = bind_ok (list_at room n.0.1) (λ c. ok (record { source = s.0.0; width = w.0.0; height = h.0.0; base = b.0.0; number = n.0.0; count = c.0 }) c.1) x n.2 in
+    let t0 = opened_takes room 7 bytes body.0 fits body.1 in
+    let ts = source_takes room body.0 s.0 t0.rest_fits s.1 in
+    let tw = size_takes room s.0.1 w.0 ts.rest_fits w.1 in
+    let th = height_takes room cells w.0.0 w.0.1 h.0 tw.rest_fits h.1 in
+    let tb = unsigned_takes room h.0.1 b.0 th.0.rest_fits b.1 in
+    let tn = number_found room b.0.0 b.0.1 n.0 tb.0.rest_fits n.1 in
+    let tc = list_takes room n.0.1 c.0 tn.rest_fits c.1 in
+    let s1 = Takes-then bytes (array 7 ++ unsigned 2) body.0 (unsigned s.0.0) s.0.1 t0 ts in
+    let w1 = Takes-then bytes (array 7 ++ unsigned 2 ++ unsigned s.0.0) s.0.1 (unsigned w.0.0) w.0.1 s1 tw in
+    let h1 = Takes-then bytes (array 7 ++ unsigned 2 ++ unsigned s.0.0 ++ unsigned w.0.0) w.0.1 (unsigned h.0.0) h.0.1 w1 th.0 in
+    let b1 = Takes-then bytes (array 7 ++ unsigned 2 ++ unsigned s.0.0 ++ unsigned w.0.0 ++ unsigned h.0.0) h.0.1 (unsigned b.0.0) b.0.1 h1 tb.0 in
+    let n1 = Takes-then bytes (array 7 ++ unsigned 2 ++ unsigned s.0.0 ++ unsigned w.0.0 ++ unsigned h.0.0 ++ unsigned b.0.0) b.0.1 (unsigned n.0.0) n.0.1 b1 tn in
+    let made : Head = record { source = s.0.0; width = w.0.0; height = h.0.0; base = b.0.0; number = n.0.0; count = c.0.0 } in
+    subst (λ (y : Head × List ℕ). HeadFound cells bytes y) (ok_is {A = Head × List ℕ} {E = Stop} (made, c.0.1) x c.2)
+    (record { middle = n.0.1; front = n1; listed = tc.0; count = tc.1; few = th.1 })
+
+-- ---- answers
+
+pub record AnswerFound (measure : List ℕ → ℕ) (cells : ℕ) (bytes : List ℕ) (x : SentAnswer × List ℕ) : Type 0 where
+  pub taken : Takes bytes (answer measure x.0) x.1
+  pub few : x.0.answer.width * x.0.answer.height ≤ cells
+
+pub answer_takes : (measure : List ℕ → ℕ) (room cells : ℕ) (bytes : List ℕ) (x : SentAnswer × List ℕ) → IsBytes bytes → answer_in measure room cells bytes ≡ Ok x → AnswerFound measure cells bytes x
+unfolding answer_in answer
+answer_takes measure room cells bytes x fits e =
+    let head = bind_ok (halted None (head_at room cells bytes)) (λ head. each_at measure room (Some head.0.height) [] head.0.count head.1 >>= λ changes. ok (sent_of head.0 changes.0) changes.1) x e in
+    let cs = bind_ok (each_at measure room (Some head.0.0.height) [] head.0.0.count head.0.1) (λ changes. ok (sent_of head.0.0 changes.0) changes.1) x head.2 in
+    let th = head_takes room cells bytes head.0 fits (halted_ok None (head_at room cells bytes) head.0 head.1) in
+    let tc = listed_takes measure room (Some head.0.0.height) head.0.0.count th.middle head.0.1 cs.0 th.listed th.count cs.1 in
+    let all = Takes-then bytes (head_bytes head.0.0) th.middle (changes measure cs.0.0) cs.0.1 th.front tc.0 in
+    subst (λ (y : SentAnswer × List ℕ). AnswerFound measure cells bytes y) (ok_is {A = SentAnswer × List ℕ} {E = Halt} (sent_of head.0.0 cs.0.0, cs.0.1) x cs.2)
+    (record { taken = all; few = th.few })
+
+-- the regions of what was decoded lie on the rows
+pub each_regions : (measure : List ℕ → ℕ) (room height n : ℕ) (bytes : List ℕ) (x : List ChangeValue × List ℕ) → IsBytes bytes → n < 2 ^ 64 → each_at measure room (Some height) [] n bytes ≡ Ok x → regions_fit height x.0 ≡ true
+each_regions measure room height n bytes x fits lt e =
+    let start : Takes (array n ++ bytes) (array n) bytes = record { parts = refl; rest_fits = fits } in
+    regions_of height x.0 (listed_takes measure room (Some height) n (array n ++ bytes) bytes x start lt e).2
 
 -- its changes are no more than the bytes that it took
-pub answer-some : (a : AnswerValue) (bytes rest : List ℕ) → bytes ≡ answer a ++ rest → length a.changes + length rest ≤ length bytes
+pub answer-some : (measure : List ℕ → ℕ) (s : SentAnswer) (bytes rest : List ℕ) → bytes ≡ answer measure s ++ rest → length s.answer.changes + length rest ≤ length bytes
 unfolding answer
-answer-some a bytes rest e =
-    let front : List ℕ = array 7 ++ unsigned 1 ++ unsigned a.width ++ unsigned a.height ++ unsigned a.base ++ unsigned a.number ++ boolean a.is_repaint in
-    let all : length bytes ≡ length (front ++ changes a.changes) + length rest = ap length e ∙ length-append (front ++ changes a.changes) rest in
-    let parts : length (front ++ changes a.changes) ≡ length front + length (changes a.changes) = length-append front (changes a.changes) in
-    let some : length a.changes + length rest ≤ length (changes a.changes ++ rest) = changes-some a.changes (changes a.changes ++ rest) rest refl in
-    let split : length (changes a.changes ++ rest) ≡ length (changes a.changes) + length rest = length-append (changes a.changes) rest in
+answer-some measure s bytes rest e =
+    let front : List ℕ = array 7 ++ unsigned 2 ++ unsigned s.source ++ unsigned s.answer.width ++ unsigned s.answer.height ++ unsigned s.answer.base ++ unsigned s.answer.number in
+    let cs : List ChangeValue = s.answer.changes in
+    let all : length bytes ≡ length (front ++ changes measure cs) + length rest = ap length e ∙ length-append (front ++ changes measure cs) rest in
+    let parts : length (front ++ changes measure cs) ≡ length front + length (changes measure cs) = length-append front (changes measure cs) in
+    let some : length cs + length rest ≤ length (changes measure cs ++ rest) = changes-some measure cs (changes measure cs ++ rest) rest refl in
+    let split : length (changes measure cs ++ rest) ≡ length (changes measure cs) + length rest = length-append (changes measure cs) rest in
     omega (arith, all, parts, some, split)
+
+-- ---- asks
+
+asked_takes : (room source : ℕ) (bytes : List ℕ) (x : ℕ × List ℕ) → IsBytes bytes → asked_at room source bytes ≡ Ok x → Takes bytes (unsigned x.0) x.1
+unfolding asked_at
+asked_takes room source bytes x fits e = (let_takes room (λ n. eqb source 0 && not (eqb n 0)) faults.Range bytes x fits e).0
+
+pub ask_takes : (room : ℕ) (bytes : List ℕ) (x : Ask × List ℕ) → IsBytes bytes → ask_in room bytes ≡ Ok x → Takes bytes (ask x.0) x.1
+unfolding ask_in ask
+ask_takes room bytes x fits e =
+    let body = bind_ok (opened_at room 3 bytes) (λ body. unsigned_at room body >>= λ s. asked_at room s.0 s.1 >>= λ n. ok (record { source = s.0; number = n.0 }) n.1) x e in
+    let s = bind_ok (unsigned_at room body.0) (λ s. asked_at room s.0 s.1 >>= λ n. ok (record { source = s.0; number = n.0 }) n.1) x body.2 in
+    let n = bind_ok (asked_at room s.0.0 s.0.1) (λ n. ok (record { source = s.0.0; number = n.0 }) n.1) x s.2 in
+    let t0 = opened_takes room 3 bytes body.0 fits body.1 in
+    let ts = unsigned_takes room body.0 s.0 t0.rest_fits s.1 in
+    let tn = asked_takes room s.0.0 s.0.1 n.0 ts.0.rest_fits n.1 in
+    let s1 = Takes-then bytes (array 3 ++ unsigned 2) body.0 (unsigned s.0.0) s.0.1 t0 ts.0 in
+    let all = Takes-then bytes (array 3 ++ unsigned 2 ++ unsigned s.0.0) s.0.1 (unsigned n.0.0) n.0.1 s1 tn in
+    let made : Ask = record { source = s.0.0; number = n.0.0 } in
+    subst (λ (y : Ask × List ℕ). Takes bytes (ask y.0) y.1) (ok_is {A = Ask × List ℕ} {E = Stop} (made, n.0.1) x n.2) all

@@ -6,32 +6,38 @@ use Rattle.std.proofs.lemmas.List.Concat.{flat_map-cons}
 use Rattle.cbor.specs.Encoding.{array, unsigned}
 use Rattle.cbor.proofs.Heads.{head_begins}
 use Rattle.termwiz_cell.specs.ChangeValue.{ChangeValue}
-use Rattle.termwiz_wire.specs.Encoding.{change, changes, change_kind, change_count, change_values}
+use Rattle.termwiz_wire.specs.Encoding.{change, changes, change_kind, item_count, change_values}
 
-array-some : (n : ℕ) → 0 < length (array n)
+pub array-some : (n : ℕ) → 0 < length (array n)
 array-some n =
     let h = head_begins 4 n in
     let e : length (array n) ≡ length ((32 * 4 + h.0) ∷ h.1) = ap length h.3 in
     omega (arith, e)
 
-change-some : (c : ChangeValue) → 0 < length (change c)
-change-some c =
-    let n : ℕ = change_count (change_kind c) in
+pub unsigned-some : (n : ℕ) → 0 < length (unsigned n)
+unsigned-some n =
+    let h = head_begins 0 n in
+    let e : length (unsigned n) ≡ length ((32 * 0 + h.0) ∷ h.1) = ap length h.3 in
+    omega (arith, e)
+
+change-some : (measure : List ℕ → ℕ) (c : ChangeValue) → 0 < length (change measure c)
+change-some measure c =
+    let n : ℕ = item_count measure c in
     let k : List ℕ = unsigned (change_kind c) in
-    let v : List ℕ = change_values c in
+    let v : List ℕ = change_values measure c in
     let all : length (array n ++ k ++ v) ≡ length (array n ++ k) + length v = length-append (array n ++ k) v in
     let front : length (array n ++ k) ≡ length (array n) + length k = length-append (array n) k in
     omega (arith, all, front, array-some n)
 
-each-some : (cs : List ChangeValue) → length cs ≤ length (flat_map change cs)
-each-some [] = omega arith
-each-some (c ∷ cs) =
-    let all : length (flat_map change (c ∷ cs)) ≡ length (change c) + length (flat_map change cs) = ap length (flat_map-cons change c cs) ∙ length-append (change c) (flat_map change cs) in
-    omega (arith, all, change-some c, each-some cs)
+pub each-some : (measure : List ℕ → ℕ) (cs : List ChangeValue) → length cs ≤ length (flat_map (change measure) cs)
+each-some measure [] = omega arith
+each-some measure (c ∷ cs) =
+    let all : length (flat_map (change measure) (c ∷ cs)) ≡ length (change measure c) + length (flat_map (change measure) cs) = ap length (flat_map-cons (change measure) c cs) ∙ length-append (change measure c) (flat_map (change measure) cs) in
+    omega (arith, all, change-some measure c, each-some measure cs)
 
-pub changes-some : (cs : List ChangeValue) (bytes rest : List ℕ) → bytes ≡ changes cs ++ rest → length cs + length rest ≤ length bytes
+pub changes-some : (measure : List ℕ → ℕ) (cs : List ChangeValue) (bytes rest : List ℕ) → bytes ≡ changes measure cs ++ rest → length cs + length rest ≤ length bytes
 unfolding changes
-changes-some cs bytes rest e =
-    let all : length bytes ≡ length (array (length cs) ++ flat_map change cs) + length rest = ap length e ∙ length-append (array (length cs) ++ flat_map change cs) rest in
-    let parts : length (array (length cs) ++ flat_map change cs) ≡ length (array (length cs)) + length (flat_map change cs) = length-append (array (length cs)) (flat_map change cs) in
-    omega (arith, all, parts, each-some cs)
+changes-some measure cs bytes rest e =
+    let all : length bytes ≡ length (array (length cs) ++ flat_map (change measure) cs) + length rest = ap length e ∙ length-append (array (length cs) ++ flat_map (change measure) cs) rest in
+    let parts : length (array (length cs) ++ flat_map (change measure) cs) ≡ length (array (length cs)) + length (flat_map (change measure) cs) = length-append (array (length cs)) (flat_map (change measure) cs) in
+    omega (arith, all, parts, each-some measure cs)

@@ -1,7 +1,7 @@
 -- The small attributes are the values in the bit fields of their number.
 use Rattle.std.proofs.Common.{◌≡◌, ℕ, ◌+◌, ◌*◌, ◌/◌, ◌%◌, ◌<◌, ◌≤◌, Bool, true, false, List, [], ◌∷◌, ◌++◌, refl, ap, ◌∙◌, arith, Ok}
 use Rattle.std.proofs.lemmas.Bool.{lt-ltb}
-use Rattle.cbor.proofs.Heads.{limited_again}
+use Rattle.cbor.proofs.Items.{below_again}
 use Rattle.cbor.specs.Encoding.{unsigned}
 use Rattle.std.proofs.Math.Nat.{add-mul-mod_self_left, mod-eq_of_lt, add-mul-div_left, div-eq_of_lt, mul-le-mul_left}
 use Rattle.termwiz_cell.specs.Attributes.{Attributes, bits_of, default_attributes, without_colors}
@@ -114,11 +114,11 @@ styled-again a = ap styled_by (split-joined fields (bits_of a) (bits-fit a)) ∙
 pub style-below : (a : Attributes) → style_number a < style_limit
 style-below a = joined-below fields (bits_of a) (bits-fit a)
 
-pub style_again : (a : Attributes) (rest : List ℕ) → style_at (unsigned (style_number a) ++ rest) ≡ Ok (style_number a, rest)
+pub style_again : (room : ℕ) (a : Attributes) (rest : List ℕ) → style_at room (unsigned (style_number a) ++ rest) ≡ Ok (style_number a, rest)
 unfolding style_at
-style_again a rest =
+style_again room a rest =
     let small : are_small (split fields (style_number a)) ≡ true = ap are_small (split-joined fields (bits_of a) (bits-fit a)) ∙ small-fields a in
-    rw (limited_again 0 style_limit (style_number a) rest (omega (arith, style-below a)) (style-below a), small) refl
+    rw (below_again room style_limit (style_number a) rest (omega (arith, style-below a)) (style-below a), small) refl
 
 pub plain_style : (a : Attributes) → without_colors a ≡ without_colors default_attributes → style_number a ≡ 0
 plain_style a e = ap style_number e

@@ -1,9 +1,9 @@
 -- A number whose bit fields have the numbers of attributes is the number of those.
-use Rattle.std.proofs.Common.{◌≡◌, ℕ, zero, suc, ◌+◌, ◌*◌, ◌/◌, ◌%◌, ◌<◌, true, cond, ltb, ◌&&◌, List, [], ◌∷◌, Ok, Err, refl, ap, subst, ◌∙◌, arith}
+use Rattle.std.proofs.Common.{◌≡◌, ℕ, zero, suc, ◌+◌, ◌*◌, ◌/◌, ◌%◌, ◌<◌, true, cond, ltb, ◌&&◌, List, [], ◌∷◌, Ok, refl, ap, subst, ◌∙◌, arith}
 use Rattle.std.specs.Prelude.{slice_index}
 use Rattle.std.proofs.lemmas.Bool.{ltb-true}
 use Rattle.std.proofs.Math.Nat.{mod-add-div, lt_of_mul-lt-mul_left}
-use Rattle.cbor.specs.declared.error.Fault.TheVariants.{Range}
+use Rattle.cbor.specs.declared.error.FaultKind.TheVariants.{Range}
 use Rattle.cbor.specs.Decoding.{IsBytes, below_at}
 use Rattle.cbor.specs.Encoding.{unsigned}
 use Rattle.cbor.proofs.Steps.{Takes, bind_ok, guard_ended}
@@ -11,7 +11,8 @@ use Rattle.termwiz_cell.specs.Attributes.{bits_of}
 use Rattle.termwiz_cell.specs.Style.{intensity_number, intensity_at, underline_number, underline_at, blink_number, blink_at, semantic_number, semantic_at, vertical_number, vertical_at, flag_number, flag_at}
 use Rattle.termwiz_wire.specs.Encoding.{fields, joined, style_number}
 use Rattle.termwiz_wire.specs.Decoding.{split, are_small, styled, style_limit, style_at}
-use Rattle.termwiz_wire.proofs.Steps.{both, number_takes}
+use Rattle.termwiz_wire.specs.Cuts.{refused}
+use Rattle.termwiz_wire.proofs.Steps.{both, number_takes, stopped}
 use Rattle.termwiz_wire.proofs.Style.{product}
 
 abbrev ArePositive : List ℕ → Type 0
@@ -89,10 +90,10 @@ style-found n lt e =
     let positive : ArePositive fields = (omega arith, (omega arith, (omega arith, (omega arith, (omega arith, (omega arith, (omega arith, (omega arith, (omega arith, (omega arith, (omega arith, tt))))))))))) in
     ap (joined fields) (bits-found n e) ∙ joined-split fields n positive lt
 
-pub style_takes : (bytes : List ℕ) (x : ℕ × List ℕ) → IsBytes bytes → style_at bytes ≡ Ok x → Takes bytes (unsigned x.0) x.1 × (style_number (styled x.0) ≡ x.0)
+pub style_takes : (room : ℕ) (bytes : List ℕ) (x : ℕ × List ℕ) → IsBytes bytes → style_at room bytes ≡ Ok x → Takes bytes (unsigned x.0) x.1 × (style_number (styled x.0) ≡ x.0)
 unfolding style_at
-style_takes bytes x fits e =
-    let a = bind_ok (below_at style_limit bytes) (λ n. cond (are_small (split fields n.0)) (Ok n) (Err Range)) x e in
-    let g = guard_ended (are_small (split fields a.0.0)) Range a.0 x a.2 in
-    let t = number_takes style_limit bytes a.0 fits a.1 in
+style_takes room bytes x fits e =
+    let a = bind_ok (below_at room style_limit bytes) (λ n. cond (are_small (split fields n.0)) (Ok n) (refused Range room bytes)) x e in
+    let g = guard_ended (are_small (split fields a.0.0)) (stopped Range room bytes) a.0 x a.2 in
+    let t = number_takes room style_limit bytes a.0 fits a.1 in
     subst (λ (y : ℕ × List ℕ). Takes bytes (unsigned y.0) y.1 × (style_number (styled y.0) ≡ y.0)) g.1 (t.0, style-found a.0.0 t.1 g.0)

@@ -1,4 +1,4 @@
--- How changes and answers are encoded. An array begins with the number of its items, and what comes in several kinds with the number of its kind.
+-- How changes are encoded. An array begins with the number of its items, and what comes in several kinds with the number of its kind.
 use Rattle.std.specs.Prelude.{ℕ, Bool, true, false, ◌+◌, ◌*◌, List, [], ◌∷◌, ◌++◌, length, Option, Some, None, ◌==◌, if◌then◌else◌}
 use Rattle.std.specs.List.{flat_map}
 use Rattle.cbor.specs.Encoding.{unsigned, signed, boolean, null, text, array}
@@ -16,6 +16,8 @@ use Rattle.termwiz_cell.specs.declared.change.Position.{Position}
 use Rattle.termwiz_cell.specs.declared.change.Position.TheVariants.{Relative, Absolute, EndRelative}
 use Rattle.termwiz_cell.specs.declared.change.CursorVisibility.{CursorVisibility}
 use Rattle.termwiz_cell.specs.declared.change.CursorVisibility.TheVariants.{Hidden, Visible}
+use Rattle.termwiz_wire.specs.Pieces.{runs, needs_pieces}
+use Rattle.termwiz_wire.specs.declared.pieces.Run.{Run}
 
 unfoldable pub color : ColorAttribute → List ℕ
 color colors.Default = null
@@ -88,6 +90,18 @@ abbrev pub is_visible : CursorVisibility → Bool
 is_visible Hidden = false
 is_visible Visible = true
 
+-- a run of pieces
+unfoldable pub run : Run → List ℕ
+run r = unsigned r.count ++ unsigned r.characters ++ unsigned r.columns
+
+-- runs of pieces, by three numbers each
+unfoldable pub pieces : List Run → List ℕ
+pieces rs = array (3 * length rs) ++ flat_map run rs
+
+-- a text with its pieces, where it needs them
+abbrev pub with_pieces : List ℕ → List Run → List ℕ
+with_pieces t rs = text t ++ (if needs_pieces rs then pieces rs else [])
+
 unfoldable pub scroll : ℕ → ℕ → ℕ → List ℕ
 scroll first size count = unsigned first ++ unsigned size ++ unsigned count
 
@@ -108,29 +122,37 @@ change_kind (changed.ScrollRegionDown first size count) = 11
 change_kind (changed.Title t) = 12
 change_kind (changed.LineAttribute l) = 13
 
--- how many items a change of this kind has, with the kind
+-- how many items a change of this kind has, with the kind and without pieces
 abbrev pub change_count : ℕ → ℕ
 change_count kind = if kind == 6 then 3 else if kind == 10 then 4 else if kind == 11 then 4 else 2
 
-unfoldable pub change_values : ChangeValue → List ℕ
-change_values (changed.Attribute c) = attribute_change c
-change_values (changed.AllAttributes a) = attributes a
-change_values (changed.Text t) = text t
-change_values (changed.ClearScreen c) = color c
-change_values (changed.ClearToEndOfLine c) = color c
-change_values (changed.ClearToEndOfScreen c) = color c
-change_values (changed.CursorPosition x y) = position x ++ position y
-change_values (changed.CursorColor c) = color c
-change_values (changed.CursorShape s) = unsigned (shape_number s)
-change_values (changed.CursorVisibility v) = boolean (is_visible v)
-change_values (changed.ScrollRegionUp first size count) = scroll first size count
-change_values (changed.ScrollRegionDown first size count) = scroll first size count
-change_values (changed.Title t) = text t
-change_values (changed.LineAttribute l) = unsigned (line_number l)
+-- the pieces are an item more
+abbrev pub has_pieces : (List ℕ → ℕ) → ChangeValue → Bool
+has_pieces measure (changed.Text t) = needs_pieces (runs measure t)
+has_pieces measure _ = false
 
-abbrev pub change : ChangeValue → List ℕ
-change c = array (change_count (change_kind c)) ++ unsigned (change_kind c) ++ change_values c
+abbrev pub item_count : (List ℕ → ℕ) → ChangeValue → ℕ
+item_count measure c = if has_pieces measure c then 3 else change_count (change_kind c)
+
+unfoldable pub change_values : (List ℕ → ℕ) → ChangeValue → List ℕ
+change_values measure (changed.Attribute c) = attribute_change c
+change_values measure (changed.AllAttributes a) = attributes a
+change_values measure (changed.Text t) = with_pieces t (runs measure t)
+change_values measure (changed.ClearScreen c) = color c
+change_values measure (changed.ClearToEndOfLine c) = color c
+change_values measure (changed.ClearToEndOfScreen c) = color c
+change_values measure (changed.CursorPosition x y) = position x ++ position y
+change_values measure (changed.CursorColor c) = color c
+change_values measure (changed.CursorShape s) = unsigned (shape_number s)
+change_values measure (changed.CursorVisibility v) = boolean (is_visible v)
+change_values measure (changed.ScrollRegionUp first size count) = scroll first size count
+change_values measure (changed.ScrollRegionDown first size count) = scroll first size count
+change_values measure (changed.Title t) = text t
+change_values measure (changed.LineAttribute l) = unsigned (line_number l)
+
+abbrev pub change : (List ℕ → ℕ) → ChangeValue → List ℕ
+change measure c = array (item_count measure c) ++ unsigned (change_kind c) ++ change_values measure c
 
 -- how many, and each
-unfoldable pub changes : List ChangeValue → List ℕ
-changes cs = array (length cs) ++ flat_map change cs
+unfoldable pub changes : (List ℕ → ℕ) → List ChangeValue → List ℕ
+changes measure cs = array (length cs) ++ flat_map (change measure) cs

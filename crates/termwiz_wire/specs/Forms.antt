@@ -1,5 +1,5 @@
 -- What has an encoding: each value of a program does.
-use Rattle.std.specs.Prelude.{ℕ, ◌<◌, ◌^◌, List, length, Option, Some, None}
+use Rattle.std.specs.Prelude.{◌≡◌, ℕ, ◌*◌, ◌<◌, ◌^◌, true, List, length, Option, Some, None}
 use Rattle.std.specs.List.{AllByRecursion}
 use Rattle.cbor.specs.Encoding.{IsSigned, IsText}
 use Rattle.termwiz_cell.specs.Attributes.{Attributes}
@@ -14,6 +14,7 @@ use Rattle.termwiz_cell.specs.declared.color.ColorAttribute.{ColorAttribute}
 use Rattle.termwiz_cell.specs.declared.color.ColorAttribute.TheVariants as colors
 use Rattle.termwiz_cell.specs.declared.change.Position.{Position}
 use Rattle.termwiz_cell.specs.declared.change.Position.TheVariants.{Relative, Absolute, EndRelative}
+use Rattle.termwiz_wire.specs.Pieces.{runs, needs_pieces}
 
 pub record IsRgb (c : Rgb) : Type 0 where
   pub red : c.red < 256
@@ -60,20 +61,25 @@ IsPosition (EndRelative n) = n < 2 ^ 64
 abbrev pub IsScroll : ℕ → ℕ → ℕ → Type 0
 IsScroll first size count = (first < 2 ^ 64) × (size < 2 ^ 64) × (count < 2 ^ 64)
 
-abbrev pub IsChange : ChangeValue → Type 0
-IsChange (changed.Attribute c) = IsAttributeChange c
-IsChange (changed.AllAttributes a) = AreAttributes a
-IsChange (changed.Text t) = IsText t
-IsChange (changed.ClearScreen c) = IsColor c
-IsChange (changed.ClearToEndOfLine c) = IsColor c
-IsChange (changed.ClearToEndOfScreen c) = IsColor c
-IsChange (changed.CursorPosition x y) = IsPosition x × IsPosition y
-IsChange (changed.CursorColor c) = IsColor c
-IsChange (changed.ScrollRegionUp first size count) = IsScroll first size count
-IsChange (changed.ScrollRegionDown first size count) = IsScroll first size count
-IsChange (changed.Title t) = IsText t
-IsChange _ = Unit {0}
+-- a text whose pieces, where it needs them, can be counted
+pub record IsPrinted (measure : List ℕ → ℕ) (t : List ℕ) : Type 0 where
+  pub text : IsText t
+  pub pieces : needs_pieces (runs measure t) ≡ true → 3 * length (runs measure t) < 2 ^ 64
 
-pub record AreChanges (cs : List ChangeValue) : Type 0 where
+abbrev pub IsChange : (List ℕ → ℕ) → ChangeValue → Type 0
+IsChange measure (changed.Attribute c) = IsAttributeChange c
+IsChange measure (changed.AllAttributes a) = AreAttributes a
+IsChange measure (changed.Text t) = IsPrinted measure t
+IsChange measure (changed.ClearScreen c) = IsColor c
+IsChange measure (changed.ClearToEndOfLine c) = IsColor c
+IsChange measure (changed.ClearToEndOfScreen c) = IsColor c
+IsChange measure (changed.CursorPosition x y) = IsPosition x × IsPosition y
+IsChange measure (changed.CursorColor c) = IsColor c
+IsChange measure (changed.ScrollRegionUp first size count) = IsScroll first size count
+IsChange measure (changed.ScrollRegionDown first size count) = IsScroll first size count
+IsChange measure (changed.Title t) = IsText t
+IsChange measure _ = Unit {0}
+
+pub record AreChanges (measure : List ℕ → ℕ) (cs : List ChangeValue) : Type 0 where
   pub count : length cs < 2 ^ 64
-  pub each : AllByRecursion IsChange cs
+  pub each : AllByRecursion (IsChange measure) cs

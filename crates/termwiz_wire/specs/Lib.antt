@@ -1,5 +1,11 @@
+pub mod Pieces
+pub mod Beginning
+pub mod RunsLeft
 pub mod Encoding
+pub mod Cuts
 pub mod Decoding
 pub mod Forms
+pub mod Sent
 pub mod Answers
+pub mod MoreBytes
 pub mod Lengths

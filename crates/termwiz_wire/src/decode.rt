@@ -1,9 +1,14 @@
 //! Values decoded from the front of bytes.
 mod answers;
+mod asks;
 mod attributes;
 mod changes;
+mod cuts;
+mod halted;
+mod heads;
 mod links;
 mod small;
 
 pub use answers::decode_answer;
+pub use asks::decode_ask;
 pub use changes::{decode_change, decode_changes};

@@ -4,11 +4,10 @@ mod attributes;
 mod changes;
 mod links;
 mod small;
+mod texts;
 
-pub use answers::encode_answer;
+pub use answers::{encode_answer, encode_ask};
 pub(crate) use attributes::attribute_kind;
-pub(crate) use changes::{change_count, change_kind};
+pub(crate) use changes::change_count;
 pub use changes::{encode_change, encode_changes};
-pub(crate) use small::{
-    blink_number, intensity_number, line_number, shape_number, style_number, underline_number,
-};
+pub(crate) use small::style_number;

@@ -4,22 +4,26 @@ ghost use Rattle.std.specs.List.{flat_map};
 ghost use Rattle.termwiz_cell.specs.AttributeChangeValue.{attribute_change_value};
 ghost use Rattle.termwiz_cell.specs.ChangeValue.{change_value};
 ghost use Rattle.termwiz_cell.specs.Link.{linked, param_bytes};
-ghost use Rattle.termwiz_wire.specs.Answers.{answer};
+ghost use Rattle.termwiz_cell.specs.Measure.{measure};
 ghost use Rattle.termwiz_wire.specs.Encoding.{attribute_change, attribute_value, attributes};
 ghost use Rattle.termwiz_wire.specs.Encoding.{change, change_values, changes, color, link};
-ghost use Rattle.termwiz_wire.specs.Encoding.{optional_link, param, position, scroll};
+ghost use Rattle.termwiz_wire.specs.Encoding.{optional_link, param, pieces, position, run, scroll};
+ghost use Rattle.termwiz_wire.specs.Encoding.{with_pieces};
+ghost use Rattle.termwiz_wire.specs.Beginning.{IsNeeded};
 ghost use Rattle.termwiz_wire.specs.Lengths.{capped};
+ghost use Rattle.termwiz_wire.specs.Pieces.{runs};
+ghost use Rattle.termwiz_wire.specs.Sent.{answer};
 
-use crate::encode::{
-    attribute_kind, blink_number, change_count, change_kind, intensity_number, line_number,
-    shape_number, style_number, underline_number,
-};
+use crate::encode::{attribute_kind, style_number};
+use crate::pieces::{Run, Runs, needed_runs};
+use crate::sent::SourceNo;
 use cbor::{array_len, signed_len, text_len, unsigned_len};
 use std::collections::BTreeMap;
 use std::rc::Rc;
 use termwiz_cell::cell::{AttributeChange, CellAttributes};
 use termwiz_cell::change::{Change, Position};
 use termwiz_cell::color::ColorAttribute;
+use termwiz_cell::emoji::Widths;
 use termwiz_cell::hyperlink::Hyperlink;
 use termwiz_surface_core::surface::Answer;
 
@@ -125,10 +129,10 @@ fn attribute_value_len(value: &AttributeChange) -> usize
     ensures { result ≡ capped (length (attribute_value (attribute_change_value value.now))) }
 {
     match value {
-        AttributeChange::Intensity(value) => unsigned_len(intensity_number(*value)),
-        AttributeChange::Underline(value) => unsigned_len(underline_number(*value)),
+        AttributeChange::Intensity(value) => unsigned_len(*value as usize),
+        AttributeChange::Underline(value) => unsigned_len(*value as usize),
         AttributeChange::Italic(_) => 1,
-        AttributeChange::Blink(value) => unsigned_len(blink_number(*value)),
+        AttributeChange::Blink(value) => unsigned_len(*value as usize),
         AttributeChange::Reverse(_) => 1,
         AttributeChange::StrikeThrough(_) => 1,
         AttributeChange::Invisible(_) => 1,
@@ -152,20 +156,60 @@ fn scroll_len(first: usize, size: usize, count: usize) -> usize
     unsigned_len(first) + unsigned_len(size) + unsigned_len(count)
 }
 
+#[tactic(auto, unfolding(crate::specs::Encoding::run))]
+fn run_len(value: Run) -> usize
+    ensures value { result ≡ length (run value) }
+    ensures few { result ≤ 27 }
+{
+    unsigned_len(value.count) + unsigned_len(value.characters) + unsigned_len(value.columns)
+}
+
+fn runs_len<W: Widths>(widths: &W, text: &str) -> usize
+    ensures { result
+        ≡ capped (length (flat_map run (runs (measure W.width_of widths.now) text.now))) }
+{
+    let mut total: usize = 0;
+    for run in Runs::new(widths, text) {
+        total = total.saturating_add(run_len(run));
+    }
+    total
+}
+
+// The pieces of a text, of which there are so many runs.
+#[tactic(auto, unfolding(crate::specs::Encoding::pieces))]
+fn pieces_len<W: Widths>(widths: &W, text: &str, count: usize) -> usize
+    requires { IsNeeded count (runs (measure W.width_of widths.now) text.now) }
+    ensures { result ≡ capped (length (pieces (runs (measure W.width_of widths.now) text.now))) }
+{
+    array_len(count.saturating_mul(3)).saturating_add(runs_len(widths, text))
+}
+
+fn printed_len<W: Widths>(widths: &W, text: &str) -> usize
+    ensures { result ≡ capped
+        (length (with_pieces text.now (runs (measure W.width_of widths.now) text.now))) }
+{
+    let bytes = text_len(text);
+    match needed_runs(widths, text) {
+        None => bytes,
+        Some(count) => bytes.saturating_add(pieces_len(widths, text, count)),
+    }
+}
+
 #[tactic(auto, unfolding(crate::specs::Encoding::change_values))]
-fn values_len(value: &Change) -> usize
-    ensures { result ≡ capped (length (change_values (change_value value.now))) }
+fn values_len<W: Widths>(widths: &W, value: &Change) -> usize
+    ensures { result ≡ capped
+        (length (change_values (measure W.width_of widths.now) (change_value value.now))) }
 {
     match value {
         Change::Attribute(change) => attribute_change_len(change),
         Change::AllAttributes(attrs) => attributes_len(attrs),
-        Change::Text(text) => text_len(text.as_str()),
+        Change::Text(text) => printed_len(widths, text.as_str()),
         Change::ClearScreen(color) => color_len(*color),
         Change::ClearToEndOfLine(color) => color_len(*color),
         Change::ClearToEndOfScreen(color) => color_len(*color),
         Change::CursorPosition { x, y } => position_len(*x) + position_len(*y),
         Change::CursorColor(color) => color_len(*color),
-        Change::CursorShape(shape) => unsigned_len(shape_number(*shape)),
+        Change::CursorShape(shape) => unsigned_len(*shape as usize),
         Change::CursorVisibility(_) => 1,
         Change::ScrollRegionUp {
             first_row,
@@ -178,46 +222,46 @@ fn values_len(value: &Change) -> usize
             scroll_count,
         } => scroll_len(*first_row, *region_size, *scroll_count),
         Change::Title(title) => text_len(title.as_str()),
-        Change::LineAttribute(line) => unsigned_len(line_number(*line)),
+        Change::LineAttribute(line) => unsigned_len(*line as usize),
     }
 }
 
-fn change_len(value: &Change) -> usize
-    ensures { result ≡ capped (length (change (change_value value.now))) }
+// A change's head has one byte for the count of its items, and one for its kind.
+fn change_len<W: Widths>(widths: &W, value: &Change) -> usize
+    ensures { result
+        ≡ capped (length (change (measure W.width_of widths.now) (change_value value.now))) }
 {
-    let kind = change_kind(value);
-    let head = array_len(change_count(kind)) + unsigned_len(kind);
-    head.saturating_add(values_len(value))
+    values_len(widths, value).saturating_add(2)
 }
 
-fn each_len(values: &[Change]) -> usize
-    ensures { result ≡ capped (length (flat_map change (map change_value values.now))) }
+fn each_len<W: Widths>(widths: &W, values: &[Change]) -> usize
+    ensures { result ≡ capped (length
+        (flat_map (change (measure W.width_of widths.now)) (map change_value values.now))) }
 {
     let mut total: usize = 0;
     for value in values {
-        total = total.saturating_add(change_len(value));
+        total = total.saturating_add(change_len(widths, value));
     }
     total
 }
 
 #[tactic(auto, unfolding(crate::specs::Encoding::changes))]
-fn changes_len(values: &[Change]) -> usize
-    ensures { result ≡ capped (length (changes (map change_value values.now))) }
+fn changes_len<W: Widths>(widths: &W, values: &[Change]) -> usize
+    ensures { result
+        ≡ capped (length (changes (measure W.width_of widths.now) (map change_value values.now))) }
 {
-    array_len(values.len()).saturating_add(each_len(values))
+    array_len(values.len()).saturating_add(each_len(widths, values))
 }
 
-/// The number of bytes of an answer's encoding, or the greatest `usize` where that is smaller.
-#[tactic(auto, unfolding(crate::specs::Answers::answer))]
-pub fn encoded_len(value: &Answer) -> usize
-    ensures { result ≡ capped (length (answer value.now)) }
+/// The number of bytes that `encode_answer` appends, or the greatest `usize` where that is smaller.
+#[tactic(auto, unfolding(crate::specs::Sent::answer))]
+pub fn encoded_len<W: Widths>(widths: &W, source: SourceNo, value: &Answer) -> usize
+    ensures { result ≡ capped (length (answer (measure W.width_of widths.now)
+        (record { source = source; answer = value.now }))) }
 {
     let (width, height) = value.size();
-    let base = value.base();
-    let number = value.number();
-    let _is_repaint = value.is_repaint();
     let size = unsigned_len(width) + unsigned_len(height);
-    let numbers = unsigned_len(base) + unsigned_len(number);
-    let head = array_len(7) + unsigned_len(1) + size + numbers + 1;
-    head.saturating_add(changes_len(value.changes()))
+    let numbers = unsigned_len(value.base()) + unsigned_len(value.number());
+    let head = array_len(7) + unsigned_len(2) + unsigned_len(source) + size + numbers;
+    head.saturating_add(changes_len(widths, value.changes()))
 }

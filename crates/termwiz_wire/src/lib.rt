@@ -1,17 +1,23 @@
-//! Changes and answers as bytes, and back: CBOR in core deterministic encoding, in the form that
-//! `docs/stream.cddl` describes. A stream is one answer behind another, and a `Reader` goes from
-//! each to the next.
+//! Answers and asks as bytes, and back: CBOR in core deterministic encoding, in the form that
+//! `docs/stream.cddl` describes. A stream is one answer behind another.
 //!
 //! What is encoded is decoded again, whatever follows it, and what is decoded was encoded so. An
-//! error is the first fault from left to right, or want of memory, and leaves the reader as it was:
-//! after `Truncated` more bytes may complete the value.
+//! error is the first fault from left to right, with its place, or want of memory. After
+//! `Truncated` more bytes may complete the value; any other fault stays.
 #![tactic(auto)]
 
 mod decode;
 mod encode;
+mod fault;
 mod len;
+mod more_bytes;
+mod pieces;
+mod sent;
 
-pub use cbor::{Fault, ReadError as WireError, Reader};
-pub use decode::{decode_answer, decode_change, decode_changes};
-pub use encode::{encode_answer, encode_change, encode_changes};
+pub use cbor::FaultKind;
+pub use decode::{decode_answer, decode_ask, decode_change, decode_changes};
+pub use encode::{encode_answer, encode_ask, encode_change, encode_changes};
+pub use fault::{Fault, Limits, WireError};
 pub use len::encoded_len;
+pub use more_bytes::{answers, decided, stays};
+pub use sent::{Ask, SentAnswer, SourceNo};

@@ -2,13 +2,11 @@
 use std::alloc::Global;
 use std::process::Abort;
 use termwiz_cell::cell::CellAttributes;
-use termwiz_cell::change::{Change, ChangeSequence, LineAttribute, SequenceNo};
+use termwiz_cell::change::{Change, ChangeSequence, LineAttribute};
 use termwiz_cell::color::ColorAttribute;
 use termwiz_cell::emoji::UnicodeWidths;
 use termwiz_surface::surface::Surface;
 use termwiz_surface::view::Viewer;
-use termwiz_wire::{Reader, encode_answer};
-use uses::carried::receive_all;
 use uses::damage::show_the_same;
 use uses::follower::{Follower, make_and_show};
 use uses::last_row::{clear_last_row, draw_status};
@@ -19,7 +17,8 @@ use uses::prompt::show_prompt;
 use uses::relay::relay;
 use uses::remote::show_heading;
 use uses::renderer::{refresh, refresh_all};
-use uses::sharing::{deliver_each_late, join, reconnect};
+use uses::serving::Room;
+use uses::sharing::{join, reconnect};
 use uses::window::show_widget;
 
 fn text(rt: &impl Abort, alloc: Global, text: &str) -> Change {
@@ -202,17 +201,11 @@ fn a_remote_terminal_has_the_title_and_the_heading(rt: HostRuntime) {
 }
 
 #[test]
-fn late_answers_leave_a_viewer_one_change_behind(rt: HostRuntime) {
+fn a_viewer_reconnects(rt: HostRuntime) {
     let alloc = rt.alloc();
     let mut surface = Surface::new(alloc, 6, 1, UnicodeWidths).expect(&rt, "a surface");
     let mut viewer = join(alloc, &surface).expect(&rt, "a viewer");
-    let first = text(&rt, alloc, "w00");
-    let second = text(&rt, alloc, "t");
-    let third = text(&rt, alloc, "!");
-    let changes = vec![in alloc; first, second, third].expect(&rt, "a list");
-    deliver_each_late(&mut surface, &mut viewer, changes).expect(&rt, "three answers");
-    assert_rows(&rt, viewer.surface(), "w00t  \n");
-    assert_eq!(rt; viewer.last(), 2);
+    print(&rt, alloc, &mut surface, "w00t!");
     assert!(rt; !surface.is_full());
     reconnect(&surface, &mut viewer).expect(&rt, "a followed surface");
     assert_rows(&rt, viewer.surface(), "w00t! \n");
@@ -222,40 +215,15 @@ fn late_answers_leave_a_viewer_one_change_behind(rt: HostRuntime) {
     assert_rows(&rt, far.surface(), "w00t! \n");
 }
 
-// Sends what a viewer with this number needs.
-fn send(
-    rt: &impl Abort,
-    surface: &Surface<UnicodeWidths>,
-    number: SequenceNo,
-    bytes: &mut Vec<u8>,
-) {
-    let answer = surface.answer(number).expect(rt, "an answer");
-    encode_answer(bytes, &answer).expect(rt, "an encoded answer");
-}
-
 #[test]
-fn a_client_receives_a_stream(rt: HostRuntime) {
+fn three_clients_show_a_screen(rt: HostRuntime) {
     let alloc = rt.alloc();
-    let mut surface = Surface::new(alloc, 4, 1, UnicodeWidths).expect(&rt, "a surface");
-    let mut viewer = Viewer::new(alloc, &surface).expect(&rt, "a viewer");
-    let mut bytes = Vec::new(alloc);
-    print(&rt, alloc, &mut surface, "w");
-    send(&rt, &surface, 0, &mut bytes);
-    print(&rt, alloc, &mut surface, "00t");
-    send(&rt, &surface, 1, &mut bytes);
-    surface.resize(6, 1).expect(&rt, "a resized surface");
-    send(&rt, &surface, 2, &mut bytes);
-    // All but the last byte: the last answer is cut.
-    let cut = bytes.len().saturating_sub(1);
-    let front = bytes.get(..cut).unwrap_or(&[]);
-    let mut reader = Reader::new(front);
-    let stop = receive_all(alloc, &mut viewer, &mut reader).expect_err(&rt, "a cut stream");
-    assert_eq!(rt; stop.index, 2);
-    assert_eq!(rt; viewer.last(), 2);
-    assert_rows(&rt, viewer.surface(), "w00t\n");
-    // Received again from its first answer, a repaint, the whole stream leads on from there.
-    let mut reader = Reader::new(&bytes);
-    let count = receive_all(alloc, &mut viewer, &mut reader).expect(&rt, "a whole stream");
-    assert_eq!(rt; count, 3);
-    assert_rows(&rt, viewer.surface(), "w00t  \n");
+    let mut room = Room::new(alloc, 7, (4, 1), UnicodeWidths).expect(&rt, "a room");
+    let changes = vec![in alloc; text(&rt, alloc, "w00"), text(&rt, alloc, "t")];
+    let changes = changes.expect(&rt, "two changes");
+    room.share(changes).expect(&rt, "three clients");
+    for client in [room.first(), room.second(), room.third()] {
+        assert_rows(&rt, client.surface(), "w00t\n");
+        assert_eq!(rt; client.number(), 2);
+    }
 }

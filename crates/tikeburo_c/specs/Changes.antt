@@ -5,49 +5,51 @@ use Rattle.std.specs.declared.vec.Vec.{Vec}
 use Rattle.termwiz_cell.specs.AttributeChangeValue.{Hyperlink}
 use Rattle.termwiz_cell.specs.ChangeValue.{Attribute, ChangeValue, change_value}
 use Rattle.termwiz_cell.specs.declared.change.Change.{Change}
+use Rattle.termwiz_share.specs.Serving.{KeepsClients}
+use Rattle.termwiz_share.specs.Source.{SourceValue, trimmed}
 use Rattle.termwiz_surface_core.specs.Adding.{Adds}
 use Rattle.termwiz_surface_core.specs.Following.{KeepsViewers}
-use Rattle.termwiz_surface_core.specs.History.{KeepsNames}
-use Rattle.termwiz_surface_core.specs.SurfaceValue.{SurfaceValue}
 use Rattle.termwiz_surface_core.specs.declared.surface.SurfaceError.{SurfaceError}
 use Rattle.termwiz_wire.specs.Encoding.{changes}
 use Rattle.termwiz_wire.specs.Forms.{AreChanges}
 use Rattle.tikeburo_c.specs.Handles.{kept_of}
 use Rattle.tikeburo_c.specs.Outcomes.{Outcome, Reports, status_of, outcome_of, changing_failure}
-use Rattle.tikeburo_c.specs.Results.{OnSurface, OrNoMemory, Refused}
+use Rattle.tikeburo_c.specs.Results.{NotRead, OnSurface, OrNoMemory}
 use Rattle.tikeburo_c.specs.Widths.{columns_by}
 use Rattle.tikeburo_c.specs.declared.failure.Failure.{Failure}
-use Rattle.tikeburo_c.specs.declared.failure.Failure.TheVariants.{Memory, Range, Unreadable}
+use Rattle.tikeburo_c.specs.declared.failure.Failure.TheVariants.{Memory, Range, Truncated, Unreadable}
 use Rattle.tikeburo_c.specs.declared.handle.Handle.{Handle}
 use Rattle.tikeburo_c.specs.declared.widths.ChosenWidths.{ChosenWidths}
 
--- what stays with each change, whatever comes of it: viewers that follow the surface, and what its numbers named
-abbrev pub GoesOn : SurfaceValue ChosenWidths → SurfaceValue ChosenWidths → Type 0
-GoesOn old new = KeepsViewers columns_by old new × KeepsNames (columns_by old.widths) old new
+-- what stays with each change, whatever comes of it: the number, the clients that show the surface, and the viewers that follow it
+pub record GoesOn (old new : SourceValue ChosenWidths) : Type 0 where
+  pub number : new.number ≡ old.number
+  pub serves : KeepsClients columns_by old new
+  pub followed : KeepsViewers columns_by old.surface new.surface
 
 -- the list of changes is added as the library adds it, whatever number that returns
-abbrev pub AddsList : List ChangeValue → SurfaceValue ChosenWidths → Outcome → SurfaceValue ChosenWidths → Type 0
+abbrev pub AddsList : List ChangeValue → SourceValue ChosenWidths → Outcome → SourceValue ChosenWidths → Type 0
 AddsList changes old outcome new =
-    (number : ℕ) × (added : Result ℕ SurfaceError) × (outcome ≡ outcome_of changing_failure added) × Adds (columns_by old.widths) old changes number added new × GoesOn old new
+    (number : ℕ) × (added : Result ℕ SurfaceError) × (outcome ≡ outcome_of changing_failure added) × Adds (columns_by old.surface.widths) (trimmed old.surface) changes number added new.surface × GoesOn old new
 
 -- one change is added
-abbrev pub AddsOne : ChangeValue → SurfaceValue ChosenWidths → Outcome → SurfaceValue ChosenWidths → Type 0
+abbrev pub AddsOne : ChangeValue → SourceValue ChosenWidths → Outcome → SourceValue ChosenWidths → Type 0
 AddsOne change = AddsList (change ∷ [])
 
 -- the one list that the bytes encode, with nothing behind it
-abbrev pub IsOnlyList : List ℕ → Result (Vec Change Global) Failure → Type 0
-IsOnlyList bytes (Ok x) = (bytes ≡ changes (map change_value x.items)) × ((cs : List ChangeValue) → AreChanges cs → bytes ≡ changes cs → map change_value x.items ≡ cs)
-IsOnlyList bytes (Err failure) = (failure ≡ Memory) ⊎ ((failure ≡ Unreadable) × ((cs : List ChangeValue) → AreChanges cs → bytes ≡ changes cs → ⊥))
+abbrev pub IsOnlyList : (List ℕ → ℕ) → List ℕ → Result (Vec Change Global) Failure → Type 0
+IsOnlyList measure bytes (Ok x) = (bytes ≡ changes measure (map change_value x.items)) × ((cs : List ChangeValue) → AreChanges measure cs → bytes ≡ changes measure cs → map change_value x.items ≡ cs)
+IsOnlyList measure bytes (Err failure) = (failure ≡ Memory) ⊎ (((failure ≡ Unreadable) ⊎ (failure ≡ Truncated)) × ((cs : List ChangeValue) → AreChanges measure cs → bytes ≡ changes measure cs → ⊥))
 
 -- some list of changes that the bytes encode is added
-abbrev pub AddsEncoded : List ℕ → SurfaceValue ChosenWidths → Outcome → SurfaceValue ChosenWidths → Type 0
-AddsEncoded bytes old outcome new = (cs : List ChangeValue) × (bytes ≡ changes cs) × AddsList cs old outcome new
+abbrev pub AddsEncoded : List ℕ → SourceValue ChosenWidths → Outcome → SourceValue ChosenWidths → Type 0
+AddsEncoded bytes old outcome new = (cs : List ChangeValue) × (bytes ≡ changes (columns_by old.surface.widths) cs) × AddsList cs old outcome new
 
--- the one list of changes that the bytes encode is added, unless memory for it was refused
-pub record AddsBytes (bytes : List ℕ) (old : SurfaceValue ChosenWidths) (outcome : Outcome) (new : SurfaceValue ChosenWidths) : Type 0 where
-  pub adds : (cs : List ChangeValue) → AreChanges cs → bytes ≡ changes cs → OrNoMemory (AddsList cs) old outcome new
+-- the one list of changes that the bytes encode, by how the surface measures, is added, unless memory for it was refused
+pub record AddsBytes (bytes : List ℕ) (old : SourceValue ChosenWidths) (outcome : Outcome) (new : SourceValue ChosenWidths) : Type 0 where
+  pub adds : (cs : List ChangeValue) → AreChanges (columns_by old.surface.widths) cs → bytes ≡ changes (columns_by old.surface.widths) cs → OrNoMemory (AddsList cs) old outcome new
   -- whatever the bytes are, nothing has changed, or they encode a list that is added
-  pub others : Refused Unreadable old outcome new ⊎ OrNoMemory (AddsEncoded bytes) old outcome new
+  pub others : NotRead old outcome new ⊎ OrNoMemory (AddsEncoded bytes) old outcome new
 
 -- the call adds this change to the surface of the handle
 abbrev pub Makes : ChangeValue → Handle → ℤ → Handle → Type 0

@@ -1,5 +1,6 @@
 -- How surfaces are drawn on others, and regions copied.
 use Rattle.std.specs.Prelude.{◌≡◌, ℕ, Result, Err, OnOk, Option, Some, None}
+use Rattle.termwiz_share.specs.Source.{SourceValue, trimmed}
 use Rattle.termwiz_surface.specs.{HasCopied, HasDrawn, IsCopied, IsDrawn, SurfaceValue, copied_region, screen_of}
 use Rattle.termwiz_surface_core.specs.declared.surface.SurfaceError.{SurfaceError}
 use Rattle.termwiz_surface_core.specs.declared.surface.SurfaceError.TheVariants.{ScrollRegion}
@@ -13,16 +14,16 @@ use Rattle.tikeburo_c.specs.declared.kept.Kept.{Kept}
 use Rattle.tikeburo_c.specs.declared.widths.ChosenWidths.{ChosenWidths}
 
 -- a surface is drawn on another one as the library draws it
-pub record DrawsAs (source : SurfaceValue ChosenWidths) (x y : ℕ) (old : SurfaceValue ChosenWidths) (result : Result ℕ SurfaceError) (new : SurfaceValue ChosenWidths) : Type 0 where
-  pub drawn : IsDrawn columns_by old source x y result new
+pub record DrawsAs (source : SurfaceValue ChosenWidths) (x y : ℕ) (old : SourceValue ChosenWidths) (result : Result ℕ SurfaceError) (new : SourceValue ChosenWidths) : Type 0 where
+  pub drawn : IsDrawn columns_by (trimmed old.surface) source x y result new.surface
   -- all but the rows is as before
-  pub restores : OnOk result (screen_of new ≡ record (screen_of old) { rows = (screen_of new).rows })
+  pub restores : OnOk result (screen_of new.surface ≡ record (screen_of old.surface) { rows = (screen_of new.surface).rows })
   -- its rows are there, where no wide grapheme crosses an edge
-  pub region : OnOk result (HasDrawn columns_by old source x y (screen_of new))
+  pub region : OnOk result (HasDrawn columns_by old.surface source x y (screen_of new.surface))
   pub no_scroll : result ≡ Err ScrollRegion → ⊥
   pub goes_on : GoesOn old new
 
-abbrev pub Draws : SurfaceValue ChosenWidths → ℕ → ℕ → SurfaceValue ChosenWidths → Outcome → SurfaceValue ChosenWidths → Type 0
+abbrev pub Draws : SurfaceValue ChosenWidths → ℕ → ℕ → SourceValue ChosenWidths → Outcome → SourceValue ChosenWidths → Type 0
 Draws source x y old outcome new = (result : Result ℕ SurfaceError) × (outcome ≡ outcome_of changing_failure result) × DrawsAs source x y old result new
 
 abbrev pub DrawsSource : Option Kept → ℕ → ℕ → Option Kept → Outcome → Option Kept → Type 0
@@ -30,12 +31,12 @@ DrawsSource (Some source) x y = OnSurface (Draws (shown_of source) x y)
 DrawsSource None x y = Refused NoHandle
 
 -- a region is copied as the library copies it
-pub record CopiesAs (from_x from_y width height x y : ℕ) (old : SurfaceValue ChosenWidths) (result : Result ℕ SurfaceError) (new : SurfaceValue ChosenWidths) : Type 0 where
-  pub copied : IsCopied columns_by old from_x from_y width height x y result new
+pub record CopiesAs (from_x from_y width height x y : ℕ) (old : SourceValue ChosenWidths) (result : Result ℕ SurfaceError) (new : SourceValue ChosenWidths) : Type 0 where
+  pub copied : IsCopied columns_by (trimmed old.surface) from_x from_y width height x y result new.surface
   -- what the region showed before, where no wide grapheme crosses an edge
-  pub region : OnOk result (HasCopied old (copied_region (screen_of old) from_x from_y width height x y) (screen_of new))
+  pub region : OnOk result (HasCopied old.surface (copied_region (screen_of old.surface) from_x from_y width height x y) (screen_of new.surface))
   pub no_scroll : result ≡ Err ScrollRegion → ⊥
   pub goes_on : GoesOn old new
 
-abbrev pub Copies : (from_x from_y width height x y : ℕ) → SurfaceValue ChosenWidths → Outcome → SurfaceValue ChosenWidths → Type 0
+abbrev pub Copies : (from_x from_y width height x y : ℕ) → SourceValue ChosenWidths → Outcome → SourceValue ChosenWidths → Type 0
 Copies from_x from_y width height x y old outcome new = (result : Result ℕ SurfaceError) × (outcome ≡ outcome_of changing_failure result) × CopiesAs from_x from_y width height x y old result new

@@ -2,6 +2,7 @@ pub mod Cells
 pub mod Changes
 pub mod Drawing
 pub mod Fields
+pub mod Following
 pub mod Handles
 pub mod Held
 pub mod Kept

@@ -1,58 +1,49 @@
--- How surfaces and viewers are made, and take another size.
-use Rattle.std.specs.Prelude.{◌≡◌, ℕ, ◌^◌, Bool, ◌&&◌, nat_lt, Result, Ok, OnOk, OnErr, Option, Some, None, if◌then◌else◌, MatchBool}
-use Rattle.termwiz_screen.specs.Log.{flushed}
-use Rattle.termwiz_screen.specs.Picture.{screens, full_screens}
-use Rattle.termwiz_surface.specs.Showing.{KeepsShowing}
-use Rattle.termwiz_surface_core.specs.Adding.{with_log}
-use Rattle.termwiz_surface_core.specs.Following.{Follows, blank_viewer}
+-- How surfaces and clients are made, and how surfaces take another size.
+use Rattle.std.specs.Prelude.{◌≡◌, ℕ, ◌^◌, Bool, true, ◌&&◌, nat_lt, Result, Ok, Option, Some, None, [], if◌then◌else◌, MatchBool}
+use Rattle.termwiz_share.specs.Client.{ClientValue}
+use Rattle.termwiz_share.specs.Source.{SourceValue}
 use Rattle.termwiz_surface_core.specs.Resizing.{Resizes}
-use Rattle.termwiz_surface_core.specs.SurfaceValue.{SurfaceValue, blank_surface}
+use Rattle.termwiz_surface_core.specs.SurfaceValue.{blank_surface}
 use Rattle.termwiz_surface_core.specs.declared.surface.SurfaceError.{SurfaceError}
+use Rattle.termwiz_wire.specs.declared.fault.Limits.{Limits}
 use Rattle.tikeburo_c.specs.Changes.{GoesOn}
-use Rattle.tikeburo_c.specs.Kept.{shown_of}
 use Rattle.tikeburo_c.specs.Outcomes.{Outcome, changing_failure, outcome_of}
-use Rattle.tikeburo_c.specs.Results.{OnKept, OrNoMemory, Refused, Returns}
-use Rattle.tikeburo_c.specs.Widths.{columns_by, widths_at}
-use Rattle.tikeburo_c.specs.declared.failure.Failure.TheVariants.{NoHandle, Range}
+use Rattle.tikeburo_c.specs.Results.{OnSurface, OrNoMemory, Refused, Returns}
+use Rattle.tikeburo_c.specs.Widths.{widths_at}
+use Rattle.tikeburo_c.specs.declared.failure.Failure.TheVariants.{Range}
 use Rattle.tikeburo_c.specs.declared.kept.Kept.{Kept}
-use Rattle.tikeburo_c.specs.declared.kept.Kept.TheVariants.{Surface, Viewer}
+use Rattle.tikeburo_c.specs.declared.kept.Kept.TheVariants.{Surface, Client}
 use Rattle.tikeburo_c.specs.declared.widths.ChosenWidths.{ChosenWidths}
 
 -- a surface may have this size
 abbrev pub is_size : ℕ → ℕ → Bool
 is_size width height = (nat_lt 0 width && nat_lt 0 height) && (nat_lt width (2 ^ 32) && nat_lt height (2 ^ 32))
 
+-- a blank surface of this number as a source
+abbrev pub blank_source : ChosenWidths → ℕ → ℕ → ℕ → SourceValue ChosenWidths
+blank_source widths width height source = record { surface = blank_surface widths width height true; number = source }
+
 -- a blank surface is made, in the place of what the handle had
-abbrev pub MakesSurface : ℕ → ℕ → Bool → Option ChosenWidths → Option Kept → Outcome → Option Kept → Type 0
-MakesSurface width height full (Some widths) = OrNoMemory (Returns (Some (Surface (blank_surface widths width height full))))
-MakesSurface width height full None = Refused Range
+abbrev pub MakesSurface : ℕ → ℕ → ℕ → Option ChosenWidths → Option Kept → Outcome → Option Kept → Type 0
+MakesSurface width height source (Some widths) = OrNoMemory (Returns (Some (Surface (blank_source widths width height source))))
+MakesSurface width height source None = Refused Range
 
--- the choice of widths, where there is one and the size is one
-abbrev pub widths_for : ℕ → ℕ → ℕ → Option ChosenWidths
-widths_for width height number = if is_size width height then widths_at number else None
+-- the choice of widths, where there is one, and the size and the source's number are some
+abbrev pub widths_for : ℕ → ℕ → ℕ → ℕ → Option ChosenWidths
+widths_for width height source number = if nat_lt 0 source && is_size width height then widths_at number else None
 
--- a blank viewer of what the source shows, which follows it
-abbrev pub HasViewer : SurfaceValue ChosenWidths → Option Kept → Outcome → Option Kept → Type 0
-HasViewer source old outcome new = Returns (Some (Viewer (blank_viewer source))) old outcome new × Follows columns_by (blank_viewer source) source
-
-abbrev pub MakesViewer : Option Kept → Option Kept → Outcome → Option Kept → Type 0
-MakesViewer (Some source) = OrNoMemory (HasViewer (shown_of source))
-MakesViewer None = Refused NoHandle
-
--- a surface takes another size, or a viewer does and has no number then
-abbrev pub TakesSize : ℕ → ℕ → Kept → Outcome → Kept → Type 0
-TakesSize width height (Surface old) outcome (Surface new) =
-    (resized : Result (Unit {0}) SurfaceError) × (outcome ≡ outcome_of changing_failure resized) × Resizes old width height resized new × GoesOn old new
-TakesSize width height (Viewer old) outcome (Viewer new) =
-    (resized : Result (Unit {0}) SurfaceError) × (outcome ≡ outcome_of changing_failure resized) × Resizes old.surface width height resized new.surface × OnOk resized (new.last ≡ 0) × OnErr resized (new ≡ old) × KeepsShowing screens old new × KeepsShowing full_screens old new
-    × GoesOn old.surface new.surface
-TakesSize width height _ outcome _ = ⊥
+-- the surface takes another size
+abbrev pub TakesSize : ℕ → ℕ → SourceValue ChosenWidths → Outcome → SourceValue ChosenWidths → Type 0
+TakesSize width height old outcome new = (resized : Result (Unit {0}) SurfaceError) × (outcome ≡ outcome_of changing_failure resized) × Resizes old.surface width height resized new.surface × GoesOn old new
 
 abbrev pub ResizesIn : ℕ → ℕ → Option Kept → Outcome → Option Kept → Type 0
-ResizesIn width height old outcome new = MatchBool (is_size width height) (OnKept (TakesSize width height) old outcome new) (Refused Range old outcome new)
+ResizesIn width height old outcome new = MatchBool (is_size width height) (OnSurface (TakesSize width height) old outcome new) (Refused Range old outcome new)
 
--- the changes before a number are forgotten, of a viewer's own surface where it is one
-abbrev pub Forgets : ℕ → Kept → Outcome → Kept → Type 0
-Forgets number (Surface old) outcome (Surface new) = (outcome ≡ Ok tt) × (new ≡ with_log old (flushed old.log number)) × GoesOn old new
-Forgets number (Viewer old) outcome (Viewer new) = (outcome ≡ Ok tt) × (new.surface ≡ with_log old.surface (flushed old.surface.log number)) × (new.last ≡ old.last) × GoesOn old.surface new.surface
-Forgets number _ outcome _ = ⊥
+-- a client that shows nothing yet
+abbrev pub blank_client : ChosenWidths → Limits → ClientValue ChosenWidths
+blank_client widths limits = record { surface = blank_surface widths 1 1 true; source = 0; number = 0; kept = []; limits = limits; stopped = None }
+
+-- such a client is made, in the place of what the handle had
+abbrev pub MakesClient : Option ChosenWidths → Limits → Option Kept → Outcome → Option Kept → Type 0
+MakesClient (Some widths) limits = OrNoMemory (Returns (Some (Client (blank_client widths limits))))
+MakesClient None limits = Refused Range

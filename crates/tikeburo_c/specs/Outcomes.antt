@@ -1,13 +1,13 @@
 -- What a call returns: the number of its outcome.
 use Rattle.std.specs.Prelude.{◌≡◌, ℤ, pos, Result, Ok, Err}
-use Rattle.cbor.specs.declared.error.ReadError.{ReadError}
-use Rattle.cbor.specs.declared.error.ReadError.TheVariants as decoding
-use Rattle.termwiz_surface.specs.declared.view.viewer.AcceptError.{AcceptError}
-use Rattle.termwiz_surface.specs.declared.view.viewer.AcceptError.TheVariants as accepting
+use Rattle.cbor.specs.declared.error.FaultKind.{FaultKind}
+use Rattle.cbor.specs.declared.error.FaultKind.TheVariants as faults
 use Rattle.termwiz_surface_core.specs.declared.surface.SurfaceError.{SurfaceError}
 use Rattle.termwiz_surface_core.specs.declared.surface.SurfaceError.TheVariants as changing
+use Rattle.termwiz_wire.specs.declared.fault.WireError.{WireError}
+use Rattle.termwiz_wire.specs.declared.fault.WireError.TheVariants as decoding
 use Rattle.tikeburo_c.specs.declared.failure.Failure.{Failure}
-use Rattle.tikeburo_c.specs.declared.failure.Failure.TheVariants.{Memory, Unreadable, Region, Numbers, Size, Stale, NoHandle, WrongKind, Range, Short}
+use Rattle.tikeburo_c.specs.declared.failure.Failure.TheVariants.{Memory, Unreadable, Truncated, Region, Numbers, NoHandle, WrongKind, Range, Short}
 
 -- what a call came to
 abbrev pub Outcome : Type 0
@@ -18,34 +18,31 @@ abbrev pub status_of : Outcome → ℤ
 status_of (Ok _) = pos 0
 status_of (Err Memory) = pos 1
 status_of (Err Unreadable) = pos 2
-status_of (Err Region) = pos 3
-status_of (Err Numbers) = pos 4
-status_of (Err Size) = pos 5
-status_of (Err Stale) = pos 6
-status_of (Err NoHandle) = pos 7
-status_of (Err WrongKind) = pos 8
-status_of (Err Range) = pos 9
-status_of (Err Short) = pos 10
+status_of (Err Truncated) = pos 3
+status_of (Err Region) = pos 4
+status_of (Err Numbers) = pos 5
+status_of (Err NoHandle) = pos 6
+status_of (Err WrongKind) = pos 7
+status_of (Err Range) = pos 8
+status_of (Err Short) = pos 9
 
 -- the number is that of an outcome of which this holds
 abbrev pub Reports : ℤ → (Outcome → Type 0) → Type 0
 Reports number P = (outcome : Outcome) × (number ≡ status_of outcome) × P outcome
 
--- why changes were not made, why an answer was not accepted, and why bytes were not decoded
+-- why changes were not made, and why bytes were not decoded
 abbrev pub changing_failure : SurfaceError → Failure
 changing_failure changing.ScrollRegion = Region
 changing_failure changing.Numbers = Numbers
 changing_failure changing.Memory = Memory
 
-abbrev pub accepting_failure : AcceptError → Failure
-accepting_failure accepting.Size = Size
-accepting_failure accepting.Stale = Stale
-accepting_failure accepting.Numbers = Numbers
-accepting_failure accepting.Memory = Memory
+abbrev pub unread_by : FaultKind → Failure
+unread_by faults.Truncated = Truncated
+unread_by _ = Unreadable
 
-abbrev pub decoding_failure : ReadError → Failure
+abbrev pub decoding_failure : WireError → Failure
 decoding_failure decoding.Memory = Memory
-decoding_failure _ = Unreadable
+decoding_failure (decoding.Fault f) = unread_by f.kind
 
 -- what a call of the library came to, whatever it returned
 abbrev pub outcome_of : {A E : Type 0} → (E → Failure) → Result A E → Outcome

@@ -1,13 +1,15 @@
 -- What calls make of what a handle has, and of what they write.
 use Rattle.std.specs.Prelude.{◌≡◌, ◌⊎◌, ℕ, ◌≤◌, ◌<◌, Ok, Err, Option, Some, None, List, ◌++◌, length, drop}
-use Rattle.termwiz_surface_core.specs.Following.{ViewerValue}
+use Rattle.termwiz_share.specs.Client.{ClientValue}
+use Rattle.termwiz_share.specs.Source.{SourceValue}
 use Rattle.termwiz_surface_core.specs.SurfaceValue.{SurfaceValue}
 use Rattle.tikeburo_c.specs.Kept.{shown_of}
 use Rattle.tikeburo_c.specs.Outcomes.{Outcome}
 use Rattle.tikeburo_c.specs.declared.failure.Failure.{Failure}
-use Rattle.tikeburo_c.specs.declared.failure.Failure.TheVariants.{Memory, NoHandle, WrongKind, Short}
+use Rattle.tikeburo_c.specs.declared.failure.Failure.TheVariants.{Memory, NoHandle, WrongKind, Short, Truncated, Unreadable}
+use Rattle.tikeburo_c.specs.declared.followers.Follower.{Follower}
 use Rattle.tikeburo_c.specs.declared.kept.Kept.{Kept}
-use Rattle.tikeburo_c.specs.declared.kept.Kept.TheVariants.{Surface, Viewer}
+use Rattle.tikeburo_c.specs.declared.kept.Kept.TheVariants.{Surface, Viewer, Client}
 use Rattle.tikeburo_c.specs.declared.widths.ChosenWidths.{ChosenWidths}
 
 -- the call failed so, and changed nothing
@@ -18,21 +20,35 @@ Refused failure old outcome new = (outcome ≡ Err failure) × (new ≡ old)
 abbrev pub OrNoMemory : {A : Type 0} → (A → Outcome → A → Type 0) → A → Outcome → A → Type 0
 OrNoMemory P old outcome new = Refused Memory old outcome new ⊎ P old outcome new
 
+-- the bytes were not what is wanted, or the beginning of it, and nothing has changed
+abbrev pub NotRead : {A : Type 0} → A → Outcome → A → Type 0
+NotRead old outcome new = Refused Unreadable old outcome new ⊎ Refused Truncated old outcome new
+
 -- the call did this to the surface that the handle has
-abbrev pub OnSurface : (SurfaceValue ChosenWidths → Outcome → SurfaceValue ChosenWidths → Type 0) → Option Kept → Outcome → Option Kept → Type 0
+abbrev pub OnSurface : (SourceValue ChosenWidths → Outcome → SourceValue ChosenWidths → Type 0) → Option Kept → Outcome → Option Kept → Type 0
 OnSurface P (Some (Surface old)) outcome (Some (Surface new)) = P old outcome new
 OnSurface P (Some (Surface old)) outcome _ = ⊥
-OnSurface P (Some (Viewer v)) outcome new = Refused WrongKind (Some (Viewer v)) outcome new
+OnSurface P (Some (Viewer f)) outcome new = Refused WrongKind (Some (Viewer f)) outcome new
+OnSurface P (Some (Client c)) outcome new = Refused WrongKind (Some (Client c)) outcome new
 OnSurface P None outcome new = Refused NoHandle None outcome new
 
 -- the call did this to the viewer that the handle has
-abbrev pub OnViewer : (ViewerValue ChosenWidths → Outcome → ViewerValue ChosenWidths → Type 0) → Option Kept → Outcome → Option Kept → Type 0
+abbrev pub OnViewer : (Follower → Outcome → Follower → Type 0) → Option Kept → Outcome → Option Kept → Type 0
 OnViewer P (Some (Viewer old)) outcome (Some (Viewer new)) = P old outcome new
 OnViewer P (Some (Viewer old)) outcome _ = ⊥
 OnViewer P (Some (Surface s)) outcome new = Refused WrongKind (Some (Surface s)) outcome new
+OnViewer P (Some (Client c)) outcome new = Refused WrongKind (Some (Client c)) outcome new
 OnViewer P None outcome new = Refused NoHandle None outcome new
 
--- the call read this of the surface that the handle has, or that its viewer shows
+-- the call did this to the client that the handle has
+abbrev pub OnClient : (ClientValue ChosenWidths → Outcome → ClientValue ChosenWidths → Type 0) → Option Kept → Outcome → Option Kept → Type 0
+OnClient P (Some (Client old)) outcome (Some (Client new)) = P old outcome new
+OnClient P (Some (Client old)) outcome _ = ⊥
+OnClient P (Some (Surface s)) outcome new = Refused WrongKind (Some (Surface s)) outcome new
+OnClient P (Some (Viewer f)) outcome new = Refused WrongKind (Some (Viewer f)) outcome new
+OnClient P None outcome new = Refused NoHandle None outcome new
+
+-- the call read this of the surface that the handle has, or that its viewer or client shows
 abbrev pub Reads : {B : Type 0} → (SurfaceValue ChosenWidths → B → Outcome → B → Type 0) → Option Kept → B → Outcome → B → Type 0
 Reads P (Some kept) old outcome new = P (shown_of kept) old outcome new
 Reads P None old outcome new = Refused NoHandle old outcome new
@@ -50,9 +66,3 @@ abbrev pub Gives : List ℕ → Buffer → Outcome → Buffer → Type 0
 Gives bytes old (Ok _) new = (length bytes ≤ length old.0) × (new.0 ≡ bytes ++ drop (length bytes) old.0) × (new.1 ≡ length bytes)
 Gives bytes old (Err Short) new = (length old.0 < length bytes) × (new.0 ≡ old.0) × (new.1 ≡ length bytes)
 Gives bytes old (Err _) new = ⊥
-
--- the call did this to the value that the handle has
-abbrev pub OnKept : (Kept → Outcome → Kept → Type 0) → Option Kept → Outcome → Option Kept → Type 0
-OnKept P (Some old) outcome (Some new) = P old outcome new
-OnKept P (Some old) outcome None = ⊥
-OnKept P None outcome new = Refused NoHandle None outcome new

@@ -1,95 +1,148 @@
--- What goes between surfaces and viewers as bytes, and what viewers make of it.
-use Rattle.std.specs.Prelude.{◌≡◌, ◌⊎◌, ℕ, true, Result, Ok, Err, OnOk, OnErr, Option, Some, None, List}
+-- What goes between surfaces and clients as bytes.
+use Rattle.std.specs.Prelude.{◌≡◌, ◌⊎◌, ℕ, true, false, Result, Ok, Err, OnOk, Option, Some, None, List, [], ◌++◌, ◌==◌, if◌then◌else◌}
+use Rattle.cbor.specs.declared.error.FaultKind.{FaultKind}
+use Rattle.cbor.specs.declared.error.FaultKind.TheVariants as faults
+use Rattle.termwiz_share.specs.Client.{ClientValue, IsReady, ask_of}
+use Rattle.termwiz_share.specs.Feeding.{Feeds}
+use Rattle.termwiz_share.specs.Histories.{Follows, FollowsTo, Given}
+use Rattle.termwiz_share.specs.Serving.{KeepsSources, Serves, Shows}
+use Rattle.termwiz_share.specs.Source.{IsResponse, SourceValue, trimmed}
+use Rattle.termwiz_share.specs.declared.error.ClientError.{ClientError}
+use Rattle.termwiz_share.specs.declared.error.ClientError.TheVariants as errors
 use Rattle.termwiz_screen.specs.FullScreen.{FullScreen}
-use Rattle.termwiz_screen.specs.Picture.{screens, full_screens}
-use Rattle.termwiz_screen.specs.Screen.{Screen}
-use Rattle.termwiz_surface.specs.Accepting.{Takes}
-use Rattle.termwiz_surface.specs.Showing.{HasCaughtUp, ShowsCarried, StaysNamed}
-use Rattle.termwiz_surface.specs.declared.view.viewer.AcceptError.{AcceptError}
-use Rattle.termwiz_surface_core.specs.Answer.{AnswerValue}
-use Rattle.termwiz_surface_core.specs.Carried.{CarriesTo, IsGivenBy, IsPastOf}
-use Rattle.termwiz_surface_core.specs.Following.{Follows, FollowsTo, ViewerValue}
-use Rattle.termwiz_surface_core.specs.SurfaceValue.{SurfaceValue, full_of, screen_of}
-use Rattle.termwiz_surface_core.specs.declared.surface.SurfaceError.{SurfaceError}
-use Rattle.termwiz_wire.specs.Answers.{IsAnswer, answer}
+use Rattle.termwiz_wire.specs.Sent.{IsAsk, ask}
+use Rattle.termwiz_wire.specs.declared.fault.Fault.{Fault}
+use Rattle.termwiz_wire.specs.declared.sent.Ask.{Ask}
 use Rattle.tikeburo_c.specs.Changes.{GoesOn}
-use Rattle.tikeburo_c.specs.Kept.{shown_of}
-use Rattle.tikeburo_c.specs.Outcomes.{Outcome, accepting_failure, changing_failure, outcome_of}
-use Rattle.tikeburo_c.specs.Results.{Buffer, Gives, OnViewer, OrNoMemory, Refused}
+use Rattle.tikeburo_c.specs.Outcomes.{Outcome}
+use Rattle.tikeburo_c.specs.Results.{Buffer, Gives, NotRead, OrNoMemory, Refused}
 use Rattle.tikeburo_c.specs.Widths.{columns_by}
+use Rattle.tikeburo_c.specs.declared.clients.FaultFields.{FaultFields}
 use Rattle.tikeburo_c.specs.declared.failure.Failure.{Failure}
-use Rattle.tikeburo_c.specs.declared.failure.Failure.TheVariants.{Memory, NoHandle, Unreadable, WrongKind}
+use Rattle.tikeburo_c.specs.declared.failure.Failure.TheVariants.{Memory, NoHandle, Numbers, Truncated, Unreadable, WrongKind}
 use Rattle.tikeburo_c.specs.declared.kept.Kept.{Kept}
-use Rattle.tikeburo_c.specs.declared.kept.Kept.TheVariants.{Surface, Viewer}
+use Rattle.tikeburo_c.specs.declared.kept.Kept.TheVariants.{Surface, Viewer, Client}
 use Rattle.tikeburo_c.specs.declared.widths.ChosenWidths.{ChosenWidths}
 
--- what a surface answers to a number: it leads to the screen that the surface has, and of a full surface to its full screen
-pub record Answers (s : SurfaceValue ChosenWidths) (number : ℕ) (a : AnswerValue) : Type 0 where
-  pub form : IsAnswer a
-  pub given : IsGivenBy screens columns_by s number a
-  pub given_fully : s.full ≡ true → IsGivenBy full_screens columns_by s number a
-  pub carries : (past : ℕ → Screen) → IsPastOf screens columns_by past s → CarriesTo screens columns_by past a s
-  pub carries_fully : s.full ≡ true → (past : ℕ → FullScreen) → IsPastOf full_screens columns_by past s → CarriesTo full_screens columns_by past a s
+-- ---- answers
 
--- the encoding of such an answer is given
-abbrev pub GivesAnswer : ℕ → SurfaceValue ChosenWidths → Buffer → Outcome → Buffer → Type 0
-GivesAnswer number s old outcome new = (a : AnswerValue) × Answers s number a × Gives (answer a) old outcome new
+-- the one ask that the bytes encode, with nothing behind it
+abbrev pub IsOnlyAsk : List ℕ → Result Ask Failure → Type 0
+IsOnlyAsk bytes (Ok a) = (bytes ≡ ask a) × ((b : Ask) → IsAsk b → bytes ≡ ask b → a ≡ b)
+IsOnlyAsk bytes (Err failure) = (failure ≡ Memory) ⊎ (((failure ≡ Unreadable) ⊎ (failure ≡ Truncated)) × ((a : Ask) → IsAsk a → bytes ≡ ask a → ⊥))
 
--- the viewer accepts the answer as the library's viewers do: one that shows what its number names has the screen that the answer was given for, and of a full surface the full screen
-pub record AcceptsAs (a : AnswerValue) (old : ViewerValue ChosenWidths) (result : Result ℕ AcceptError) (new : ViewerValue ChosenWidths) : Type 0 where
-  pub takes : Takes (columns_by old.surface.widths) old a result new
-  pub shows : ShowsCarried screens columns_by old a result new
-  pub shows_fully : ShowsCarried full_screens columns_by old a result new
-  pub names : StaysNamed screens columns_by old a new
-  pub names_fully : StaysNamed full_screens columns_by old a new
-  pub goes_on : GoesOn old.surface new.surface
+-- a surface, and a caller's buffer
+abbrev pub Answering : Type 0
+Answering = SourceValue ChosenWidths × Buffer
 
-abbrev pub Accepts : AnswerValue → ViewerValue ChosenWidths → Outcome → ViewerValue ChosenWidths → Type 0
-Accepts a old outcome new = (result : Result ℕ AcceptError) × (outcome ≡ outcome_of accepting_failure result) × AcceptsAs a old result new
+-- the surface answers this ask, and forgets what no answer needs
+pub record AnswersAsk (a : Ask) (old : Answering) (outcome : Outcome) (new : Answering) : Type 0 where
+  pub bytes : List ℕ
+  pub response : IsResponse columns_by new.0 a bytes
+  pub gives : Gives bytes old.1 outcome new.1
+  pub trims : new.0 ≡ record old.0 { surface = trimmed old.0.surface }
+  pub goes_on : GoesOn old.0 new.0
 
--- the one answer that the bytes encode, with nothing behind it
-pub record IsOnly (bytes : List ℕ) (x : AnswerValue) : Type 0 where
-  pub encoded : bytes ≡ answer x
-  pub unique : (a : AnswerValue) → IsAnswer a → bytes ≡ answer a → x ≡ a
+-- it answers some ask that the bytes encode
+abbrev pub AnswersEncoded : List ℕ → Answering → Outcome → Answering → Type 0
+AnswersEncoded bytes old outcome new = (a : Ask) × (bytes ≡ ask a) × AnswersAsk a old outcome new
 
-abbrev pub IsOnlyAnswer : List ℕ → Result AnswerValue Failure → Type 0
-IsOnlyAnswer bytes (Ok x) = IsOnly bytes x
-IsOnlyAnswer bytes (Err failure) = (failure ≡ Memory) ⊎ ((failure ≡ Unreadable) × ((a : AnswerValue) → IsAnswer a → bytes ≡ answer a → ⊥))
+-- the one ask that the bytes encode is answered, unless memory was refused
+pub record AnswersBytes (bytes : List ℕ) (old : Answering) (outcome : Outcome) (new : Answering) : Type 0 where
+  pub answers : (a : Ask) → IsAsk a → bytes ≡ ask a → OrNoMemory (AnswersAsk a) old outcome new
+  -- whatever the bytes are, nothing has changed, or they encode an ask that is answered
+  pub others : NotRead old outcome new ⊎ OrNoMemory (AnswersEncoded bytes) old outcome new
 
--- some answer that the bytes encode is accepted
-abbrev pub AcceptsEncoded : List ℕ → ViewerValue ChosenWidths → Outcome → ViewerValue ChosenWidths → Type 0
-AcceptsEncoded bytes old outcome new = (a : AnswerValue) × (bytes ≡ answer a) × Accepts a old outcome new
+-- by the surface that the handle has
+abbrev pub AnswersIn : List ℕ → Option Kept × Buffer → Outcome → Option Kept × Buffer → Type 0
+AnswersIn bytes (Some (Surface s), old) outcome (Some (Surface t), new) = AnswersBytes bytes (s, old) outcome (t, new)
+AnswersIn bytes (Some (Surface s), old) outcome _ = ⊥
+AnswersIn bytes (Some (Viewer f), old) outcome new = Refused WrongKind (Some (Viewer f), old) outcome new
+AnswersIn bytes (Some (Client c), old) outcome new = Refused WrongKind (Some (Client c), old) outcome new
+AnswersIn bytes (None, old) outcome new = Refused NoHandle (None, old) outcome new
 
--- the one answer that the bytes encode is accepted, unless memory for it was refused
-pub record AcceptsBytes (bytes : List ℕ) (old : ViewerValue ChosenWidths) (outcome : Outcome) (new : ViewerValue ChosenWidths) : Type 0 where
-  pub accepts : (a : AnswerValue) → IsAnswer a → bytes ≡ answer a → OrNoMemory (Accepts a) old outcome new
-  -- whatever the bytes are, nothing has changed, or they encode an answer that is accepted
-  pub others : Refused Unreadable old outcome new ⊎ OrNoMemory (AcceptsEncoded bytes) old outcome new
+-- ---- clients
 
--- the viewer's number is returned
-abbrev pub ReadsLast : Option Kept → ℕ → Outcome → ℕ → Type 0
-ReadsLast (Some (Viewer v)) old outcome new = (outcome ≡ Ok tt) × (new ≡ v.last)
-ReadsLast (Some (Surface s)) old outcome new = Refused WrongKind old outcome new
-ReadsLast None old outcome new = Refused NoHandle old outcome new
+-- the number of a fault, as the header names them; bytes that are cut are none
+abbrev pub fault_number : FaultKind → ℕ
+fault_number faults.Version = 0
+fault_number faults.Type = 1
+fault_number faults.Utf8 = 2
+fault_number faults.Range = 3
+fault_number faults.Region = 4
+fault_number faults.Measure = 6
+fault_number faults.Limit = 7
+fault_number faults.Truncated = 8
 
--- the viewer follows the source as the library's viewers do
-pub record FollowsAs (source : SurfaceValue ChosenWidths) (old : ViewerValue ChosenWidths) (result : Result ℕ SurfaceError) (new : ViewerValue ChosenWidths) : Type 0 where
-  pub steps : FollowsTo columns_by source old result new
-  -- one that follows it shows its screen after each success, and that of a full source its full screen
-  pub caught_up : Follows columns_by old source → OnOk result (HasCaughtUp new source)
-  pub fully_caught_up : Follows columns_by old source → source.full ≡ true → OnOk result (full_of new.surface ≡ full_of source)
-  pub follows : Follows columns_by old source → Follows columns_by new source
-  pub failed : OnErr result (new.last ≡ 0)
-  pub goes_on : GoesOn old.surface new.surface
+-- a fault as a struct, with the change that it is in
+abbrev pub fields_at : ℕ → ℕ → Option ℕ → FaultFields
+fields_at kind at (Some change) = record { kind = kind; has_change = true; at = at; change = change }
+fields_at kind at None = record { kind = kind; has_change = false; at = at; change = 0 }
 
-abbrev pub FollowsOne : SurfaceValue ChosenWidths → ViewerValue ChosenWidths → Outcome → ViewerValue ChosenWidths → Type 0
-FollowsOne source old outcome new = (result : Result ℕ SurfaceError) × (outcome ≡ outcome_of changing_failure result) × FollowsAs source old result new
+-- what a call came to that fed a client, and what it wrote to the struct
+abbrev pub Fails : ClientError → FaultFields → Outcome → FaultFields → Type 0
+Fails (errors.Fault f) old outcome new = (outcome ≡ Err Unreadable) × (new ≡ fields_at (fault_number f.kind) f.at f.change)
+Fails (errors.Size at) old outcome new = (outcome ≡ Err Unreadable) × (new ≡ fields_at 5 at None)
+Fails errors.Numbers old outcome new = (outcome ≡ Err Numbers) × (new ≡ old)
+Fails errors.Memory old outcome new = (outcome ≡ Err Memory) × (new ≡ old)
 
-abbrev pub FollowsSource : Option Kept → Option Kept → Outcome → Option Kept → Type 0
-FollowsSource (Some source) old outcome new = OnViewer (FollowsOne (shown_of source)) old outcome new
-FollowsSource None old outcome new = Refused NoHandle old outcome new
+abbrev pub Reaches : Result (Unit {0}) ClientError → FaultFields → Outcome → FaultFields → Type 0
+Reaches (Ok u) old outcome new = (outcome ≡ Ok tt) × (new ≡ old)
+Reaches (Err error) old outcome new = Fails error old outcome new
 
--- what the handle has, or its viewer shows, has the screen of this surface
-abbrev pub ShowsScreen : Option Kept → SurfaceValue ChosenWidths → Type 0
-ShowsScreen (Some kept) s = screen_of (shown_of kept) ≡ screen_of s
-ShowsScreen None s = ⊥
+-- bytes are fed to a client as the library's clients take them
+pub record FeedsAs (piece : List ℕ) (old : ClientValue ChosenWidths) (result : Result (Unit {0}) ClientError) (new : ClientValue ChosenWidths) : Type 0 where
+  pub feeds : Feeds columns_by old piece result new
+  pub follows : (histories : ℕ → ℕ → FullScreen) (sent : List Given) (future : List ℕ) → Follows columns_by histories sent old (piece ++ future) → FollowsTo columns_by histories sent future old result new
+  -- one that is fed the response to its ask shows what the source shows, and is served by it still, also after an error
+  pub shows : (s : SourceValue ChosenWidths) → Serves columns_by s old → IsReady old → IsResponse columns_by s (ask_of old) piece → OnOk result (Shows s new × IsReady new)
+  pub serves : (s : SourceValue ChosenWidths) → Serves columns_by s old → IsReady old → IsResponse columns_by s (ask_of old) piece → Serves columns_by s new
+
+-- a client, and a caller's struct for a fault
+abbrev pub Feeding : Type 0
+Feeding = ClientValue ChosenWidths × FaultFields
+
+abbrev pub FeedsBytes : List ℕ → Feeding → Outcome → Feeding → Type 0
+FeedsBytes piece old outcome new = (result : Result (Unit {0}) ClientError) × Reaches result old.1 outcome new.1 × FeedsAs piece old.0 result new.0
+
+-- to the client that the handle has
+abbrev pub FeedsIn : List ℕ → Option Kept × FaultFields → Outcome → Option Kept × FaultFields → Type 0
+FeedsIn piece (Some (Client c), old) outcome (Some (Client d), new) = FeedsBytes piece (c, old) outcome (d, new)
+FeedsIn piece (Some (Client c), old) outcome _ = ⊥
+FeedsIn piece (Some (Surface s), old) outcome new = Refused WrongKind (Some (Surface s), old) outcome new
+FeedsIn piece (Some (Viewer f), old) outcome new = Refused WrongKind (Some (Viewer f), old) outcome new
+FeedsIn piece (None, old) outcome new = Refused NoHandle (None, old) outcome new
+
+-- an ask that names no source has no number
+abbrev pub named_ask : Ask → Ask
+named_ask a = if a.source == 0 then record { source = 0; number = 0 } else a
+
+-- this ask is given
+abbrev pub GivesOne : Ask → Buffer → Outcome → Buffer → Type 0
+GivesOne a old outcome new = IsAsk a × Gives (ask a) old outcome new
+
+-- what the client asks by is given
+abbrev pub GivesAsk : Option Kept → Buffer → Outcome → Buffer → Type 0
+GivesAsk (Some (Client c)) = OrNoMemory (GivesOne (named_ask (ask_of c)))
+GivesAsk (Some (Surface s)) = Refused WrongKind
+GivesAsk (Some (Viewer f)) = Refused WrongKind
+GivesAsk None = Refused NoHandle
+
+-- the client is ready for the bytes of a new stream, and shows what it showed
+pub record Resets (old : ClientValue ChosenWidths) (outcome : Outcome) (new : ClientValue ChosenWidths) : Type 0 where
+  pub done : outcome ≡ Ok tt
+  pub resets : new ≡ record old { kept = []; stopped = None }
+  pub ready : IsReady new
+  pub serves : KeepsSources columns_by old new
+
+-- ---- a surface and a client, by their handles
+
+-- the surface serves the client
+abbrev pub ServesIn : Option Kept → Option Kept → Type 0
+ServesIn (Some (Surface s)) (Some (Client c)) = Serves columns_by s c
+ServesIn _ _ = ⊥
+
+-- the client shows all that the surface keeps
+abbrev pub ShowsIn : Option Kept → Option Kept → Type 0
+ShowsIn (Some (Surface s)) (Some (Client c)) = Shows s c
+ShowsIn _ _ = ⊥

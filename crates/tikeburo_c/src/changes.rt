@@ -5,14 +5,16 @@ ghost use Rattle.tikeburo_c.specs.Changes.{AddsBytes, AddsList, AddsOne, IsOnlyL
 ghost use Rattle.tikeburo_c.specs.Outcomes.{Reports};
 ghost use Rattle.tikeburo_c.specs.Handles.{kept_of};
 ghost use Rattle.tikeburo_c.specs.Results.{OnSurface};
+ghost use Rattle.tikeburo_c.specs.Widths.{columns_by};
 
 use crate::failure::{Failure, status};
 use crate::handle::Handle;
 use crate::kept::Kept;
 use crate::widths::ChosenWidths;
 use std::alloc::Global;
-use termwiz_surface::{Change, Surface};
-use termwiz_wire::{Reader, decode_changes};
+use termwiz_share::Source;
+use termwiz_surface::Change;
+use termwiz_wire::decode_changes;
 
 /// Adds a change to the surface that the handle has.
 pub(crate) fn add(alloc: Global, handle: &mut Handle, change: Change) -> Result<(), Failure>
@@ -24,13 +26,13 @@ pub(crate) fn add(alloc: Global, handle: &mut Handle, change: Change) -> Result<
     };
     let outcome = match &mut *kept {
         Kept::Surface(surface) => add_to(surface, change),
-        Kept::Viewer(_) => Err(Failure::WrongKind),
+        Kept::Viewer(_) | Kept::Client(_) => Err(Failure::WrongKind),
     };
     handle.put(alloc, kept);
     outcome
 }
 
-fn add_to(surface: &mut Surface<ChosenWidths>, change: Change) -> Result<(), Failure>
+fn add_to(surface: &mut Source<ChosenWidths>, change: Change) -> Result<(), Failure>
     ensures { AddsOne (change_value change) surface.old result surface.new }
 {
     surface.add_change(change)?;
@@ -38,18 +40,21 @@ fn add_to(surface: &mut Surface<ChosenWidths>, change: Change) -> Result<(), Fai
 }
 
 // The list of changes that the bytes encode, with nothing behind it.
-fn only_changes(alloc: Global, bytes: &[u8]) -> Result<Vec<Change>, Failure>
-    ensures { IsOnlyList bytes.now result }
+fn only_changes(
+    alloc: Global,
+    widths: ChosenWidths,
+    bytes: &[u8],
+) -> Result<Vec<Change>, Failure>
+    ensures { IsOnlyList (columns_by widths) bytes.now result }
 {
-    let mut reader = Reader::new(bytes);
-    let changes = decode_changes(alloc, &mut reader)?;
-    if !reader.bytes.is_empty() {
+    let (changes, taken) = decode_changes(alloc, &widths, bytes)?;
+    if taken < bytes.len() {
         return Err(Failure::Unreadable);
     }
     Ok(changes)
 }
 
-fn add_list(surface: &mut Surface<ChosenWidths>, changes: Vec<Change>) -> Result<(), Failure>
+fn add_list(surface: &mut Source<ChosenWidths>, changes: Vec<Change>) -> Result<(), Failure>
     ensures { AddsList (map change_value changes.items) surface.old result surface.new }
 {
     surface.add_changes(changes)?;
@@ -58,12 +63,12 @@ fn add_list(surface: &mut Surface<ChosenWidths>, changes: Vec<Change>) -> Result
 
 fn add_bytes(
     alloc: Global,
-    surface: &mut Surface<ChosenWidths>,
+    surface: &mut Source<ChosenWidths>,
     bytes: &[u8],
 ) -> Result<(), Failure>
     ensures { AddsBytes bytes.now surface.old result surface.new }
 {
-    let changes = only_changes(alloc, bytes)?;
+    let changes = only_changes(alloc, surface.surface().widths(), bytes)?;
     add_list(surface, changes)
 }
 
@@ -77,7 +82,7 @@ pub extern "C" fn tk_add_changes(alloc: Global, handle: &mut Handle, bytes: &[u8
         Some(mut kept) => {
             let outcome = match &mut *kept {
                 Kept::Surface(surface) => add_bytes(alloc, surface, bytes),
-                Kept::Viewer(_) => Err(Failure::WrongKind),
+                Kept::Viewer(_) | Kept::Client(_) => Err(Failure::WrongKind),
             };
             handle.put(alloc, kept);
             outcome

@@ -10,10 +10,11 @@ use crate::handle::Handle;
 use crate::kept::Kept;
 use crate::widths::ChosenWidths;
 use std::alloc::Global;
+use termwiz_share::Source;
 use termwiz_surface::Surface;
 
 fn draw_on(
-    surface: &mut Surface<ChosenWidths>,
+    surface: &mut Source<ChosenWidths>,
     source: &Surface<ChosenWidths>,
     column: usize,
     row: usize,
@@ -39,7 +40,7 @@ fn draw(
     };
     let outcome = match &mut *kept {
         Kept::Surface(surface) => draw_on(surface, source, column, row),
-        Kept::Viewer(_) => Err(Failure::WrongKind),
+        Kept::Viewer(_) | Kept::Client(_) => Err(Failure::WrongKind),
     };
     handle.put(alloc, kept);
     outcome
@@ -70,7 +71,7 @@ pub extern "C" fn tk_draw(
 }
 
 fn copy_within(
-    surface: &mut Surface<ChosenWidths>,
+    surface: &mut Source<ChosenWidths>,
     column: usize,
     row: usize,
     width: usize,
@@ -106,7 +107,7 @@ pub extern "C" fn tk_copy(
                 Kept::Surface(surface) => {
                     copy_within(surface, column, row, width, height, to_column, to_row)
                 }
-                Kept::Viewer(_) => Err(Failure::WrongKind),
+                Kept::Viewer(_) | Kept::Client(_) => Err(Failure::WrongKind),
             };
             handle.put(alloc, kept);
             outcome

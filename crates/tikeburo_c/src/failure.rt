@@ -1,11 +1,12 @@
 //! Why calls fail, and the numbers that they return.
 ghost use Rattle.std.specs.Prelude.{◌≡◌};
-ghost use Rattle.tikeburo_c.specs.Outcomes.{accepting_failure, changing_failure, status_of};
-ghost use Rattle.tikeburo_c.specs.Outcomes.{decoding_failure};
+ghost use Rattle.tikeburo_c.specs.Outcomes.{changing_failure, decoding_failure, status_of};
+ghost use Rattle.tikeburo_c.specs.Outcomes.{unread_by};
 ghost use Rattle.tikeburo_c.specs.declared.failure.Failure.TheVariants.{Memory};
 
 use std::alloc::{AllocError, AllocFailed};
-use termwiz_surface::{AcceptError, SurfaceError};
+use cbor::FaultKind;
+use termwiz_surface::SurfaceError;
 use termwiz_wire::WireError;
 
 /// Why a call failed.
@@ -13,10 +14,9 @@ use termwiz_wire::WireError;
 pub(crate) enum Failure {
     Memory,
     Unreadable,
+    Truncated,
     Region,
     Numbers,
-    Size,
-    Stale,
     NoHandle,
     WrongKind,
     Range,
@@ -31,14 +31,13 @@ pub(crate) fn status(outcome: Result<(), Failure>) -> i32
         Ok(()) => 0,
         Err(Failure::Memory) => 1,
         Err(Failure::Unreadable) => 2,
-        Err(Failure::Region) => 3,
-        Err(Failure::Numbers) => 4,
-        Err(Failure::Size) => 5,
-        Err(Failure::Stale) => 6,
-        Err(Failure::NoHandle) => 7,
-        Err(Failure::WrongKind) => 8,
-        Err(Failure::Range) => 9,
-        Err(Failure::Short) => 10,
+        Err(Failure::Truncated) => 3,
+        Err(Failure::Region) => 4,
+        Err(Failure::Numbers) => 5,
+        Err(Failure::NoHandle) => 6,
+        Err(Failure::WrongKind) => 7,
+        Err(Failure::Range) => 8,
+        Err(Failure::Short) => 9,
     }
 }
 
@@ -62,27 +61,23 @@ impl From<SurfaceError> for Failure {
     }
 }
 
-impl From<AcceptError> for Failure {
-    ghost from_gives = { λ error failure. failure ≡ accepting_failure error };
-
-    fn from(error: AcceptError) -> Failure {
-        match error {
-            AcceptError::Size => Failure::Size,
-            AcceptError::Stale => Failure::Stale,
-            AcceptError::Numbers => Failure::Numbers,
-            AcceptError::Memory => Failure::Memory,
-        }
-    }
-}
-
 impl From<WireError> for Failure {
     ghost from_gives = { λ error failure. failure ≡ decoding_failure error };
 
     fn from(error: WireError) -> Failure {
         match error {
             WireError::Memory => Failure::Memory,
-            _ => Failure::Unreadable,
+            WireError::Fault(fault) => unread(fault.kind),
         }
+    }
+}
+
+fn unread(kind: FaultKind) -> Failure
+    ensures { result ≡ unread_by kind }
+{
+    match kind {
+        FaultKind::Truncated => Failure::Truncated,
+        _ => Failure::Unreadable,
     }
 }
 

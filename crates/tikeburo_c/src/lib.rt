@@ -1,14 +1,18 @@
-//! A static library with which C keeps surfaces and viewers, by handles.
+//! A static library with which C keeps surfaces, viewers and clients, by handles.
 #![tactic(auto)]
 
+mod answers;
 mod buffers;
 mod carried;
 mod cells;
 mod changes;
 mod clears;
+mod clients;
 mod drawing;
 mod failure;
 mod fields;
+mod followers;
+mod following;
 mod handle;
 mod kept;
 mod looks;
@@ -16,7 +20,6 @@ mod loose;
 mod numbers;
 mod pens;
 mod reading;
-mod streams;
 mod surfaces;
 mod texts;
 mod widths;

@@ -1,5 +1,4 @@
 mod ClearedRow
-mod Client
 mod Followed
 mod HeadingRow
 mod RowsOfForm

@@ -5,16 +5,16 @@ pub mod Headings
 pub mod Words
 pub mod FirstLetters
 pub mod Late
-pub mod Client
+pub mod Serving
 -- what the contracts of this crate use, by its name alone
 pub use Rattle.termwiz_surface.specs.{All, Any, AreRows, CellValue, DoubleWidthLine, Follows, FullScreen, HasDrawn, IsDiff, IsLower, IsPastOf, IsSurfaceSize, IsUnchanged, IsUpper, IsWrapped, KeepsNames, KeepsShowing, LineValue, MeasureAlike, Print, PrintsWithin, Screen, ShowsNamed, SingleWidthLine, SurfaceValue, ViewerValue, appended, change_value, default_attributes, flushed, full_of, full_screens, is_known, line_contents, line_eq, measure, need, next_number, no_flags, print_all, printed, row_at, screen_after, screen_of, screens, stored, stored_text, texts_of, visible, whole, with_sizes}
-pub use Rattle.cbor.specs.declared.error.ReadError.TheVariants.{Memory}
-pub use Rattle.uses.specs.declared.carried.ClientError.TheVariants.{Wire, Resize, Accept}
-pub use Rattle.uses.specs.Client.{Brings, BringsAll, HasTaken, IsLeft, Receives, ReceivesAll, Sent}
+pub use Rattle.termwiz_wire.specs.declared.fault.WireError.TheVariants.{Memory}
+pub use Rattle.termwiz_share.specs.{IsReady, KeepsClients, Serves}
+pub use Rattle.uses.specs.Serving.{ShowsAll}
 pub use Rattle.uses.specs.FirstLetters.{SetsFirstLetters}
 pub use Rattle.uses.specs.Headings.{heading_changes}
 pub use Rattle.uses.specs.LastRow.{blank_in, last_row_cleared}
-pub use Rattle.uses.specs.Late.{AddsOne, IsOneBehind, IsServed}
+pub use Rattle.uses.specs.Late.{IsServed}
 pub use Rattle.uses.specs.Prompt.{prompted}
 pub use Rattle.uses.specs.Status.{status_line}
 pub use Rattle.uses.specs.Words.{is_in_word}

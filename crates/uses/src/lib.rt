@@ -15,6 +15,7 @@ pub mod relay;
 pub mod remote;
 pub mod renderer;
 pub mod scrollback;
+pub mod serving;
 pub mod shaper;
 pub mod sharing;
 pub mod window;

@@ -259,6 +259,28 @@ impl<W: Widths> Viewer<W> {
         Ok(())
     }
 
+    // The same of an answer that is given away.
+    fn take_owned(&mut self, answer: Answer) -> Result<(), AllocError>
+        requires may { MayTake self.old answer }
+        requires numbers { next_number self.old.surface.log + length answer.changes < 2 ^ 64 }
+        ensures ok { OnOk result ((self.new.last ≡ answer.number)
+            × Makes (measure W.width_of self.old.surface.widths)
+            self.old.surface answer.changes self.new.surface) }
+        ensures err { OnErr result (
+            HasDropped (measure W.width_of self.old.surface.widths) self.old self.new) }
+        ensures followed { KeepsViewers (measure W.width_of) self.old.surface self.new.surface }
+        ensures remembered { KeepsNames (measure W.width_of self.old.surface.widths)
+            self.old.surface self.new.surface }
+    {
+        let number = answer.number();
+        self.last = SEQ_ZERO;
+        if self.surface.add_changes(answer.into_changes()).is_err() {
+            return Err(AllocError);
+        }
+        self.last = number;
+        Ok(())
+    }
+
     /// Makes the changes of an answer, takes its number, and returns it: so the viewer shows what
     /// the surface showed when it gave the answer, whatever either has done since.
     ///
@@ -293,6 +315,37 @@ impl<W: Widths> Viewer<W> {
         }
         self.take(answer)?;
         Ok(answer.number())
+    }
+
+    /// Behaves like `accept`, of an answer that is given away: its changes are moved into the log
+    /// of the viewer's own surface, and not copied.
+    pub fn accept_owned(&mut self, answer: Answer) -> Result<SequenceNo, AcceptError>
+        ensures takes { Takes (measure W.width_of self.old.surface.widths)
+            self.old answer result self.new }
+        // A viewer that shows what its number names has the screen that the answer was given for,
+        // and of a full surface the full screen,
+        ensures shows { ShowsCarried screens (measure W.width_of)
+            self.old answer result self.new }
+        ensures shows_fully { ShowsCarried full_screens (measure W.width_of)
+            self.old answer result self.new }
+        // and shows what its number names then, also after an error.
+        ensures names { StaysNamed screens (measure W.width_of) self.old answer self.new }
+        ensures names_fully { StaysNamed full_screens (measure W.width_of)
+            self.old answer self.new }
+        // Each viewer that follows the viewer's own surface goes on to, also after an error.
+        ensures followed { KeepsViewers (measure W.width_of) self.old.surface self.new.surface }
+        // What the numbers of its own surface named they name still, also after an error.
+        ensures remembered { KeepsNames (measure W.width_of self.old.surface.widths)
+            self.old.surface self.new.surface }
+    {
+        self.decline(&answer)?;
+        if !self.has_numbers(answer.changes().len()) {
+            self.forget();
+            return Err(AcceptError::Numbers);
+        }
+        let number = answer.number();
+        self.take_owned(answer)?;
+        Ok(number)
     }
 
     /// Takes another size, as a surface does, and has no number then: so it is to be answered by a

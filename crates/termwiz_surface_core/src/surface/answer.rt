@@ -1,9 +1,9 @@
 //! Answers that can be carried off, and accepted by viewers later.
-ghost use Rattle.std.specs.Prelude.{◌≡◌, ◌≤◌, if◌then◌else◌, IfOk, None, false, length};
+ghost use Rattle.std.specs.Prelude.{◌≡◌, ◌≤◌, ◌&&◌, if◌then◌else◌, IfOk, None, false, length, nat_le};
 ghost use Rattle.termwiz_surface_core.specs.{IsBorrowedSlice, IsSurfaceSize, map, most_own_entries};
 ghost use Rattle.termwiz_surface_core.specs.{IsOwnedSlice, change_value, full_screens, own_repaint};
 ghost use Rattle.termwiz_surface_core.specs.{CarriesTo, FullScreen, IsGivenBy, Screen, regions_fit};
-ghost use Rattle.termwiz_surface_core.specs.{IsPastOf, Some, ℕ, knows, measure, screens, true};
+ghost use Rattle.termwiz_surface_core.specs.{IsPastOf, Some, ℕ, is_repaint, knows, measure, screens, true};
 
 use super::Surface;
 use std::alloc::AllocError;
@@ -22,7 +22,6 @@ pub struct Answer {
     height: usize,
     base: SequenceNo,
     number: SequenceNo,
-    is_repaint: bool,
     changes: Vec<Change>,
 }
 
@@ -38,7 +37,6 @@ impl Model for Answer {
       height = a.height;
       base = a.base;
       number = a.number;
-      is_repaint = a.is_repaint;
       changes = map change_value a.changes.items;
     } };
 
@@ -46,27 +44,30 @@ impl Model for Answer {
 }
 
 impl Answer {
-    /// An answer that is put together of its parts, as one that was stored or sent has them. It is
-    /// `None` where a scroll among the changes has a region that goes past the last row.
+    /// An answer that is put together of its parts, as one that was stored or sent has them: a
+    /// repaint where the base is 0. It is `None` where the number is below the base, or a scroll
+    /// among the changes has a region that goes past the last row.
     pub fn from_parts(
         size: (usize, usize),
         base: SequenceNo,
         number: SequenceNo,
-        is_repaint: bool,
         changes: Vec<Change>,
     ) -> Option<Answer>
         requires size { IsSurfaceSize size.0 size.1 }
         ensures { result
-            ≡ (if regions_fit size.1 (map change_value changes.items) then Some (record {
+            ≡ (if nat_le base number && regions_fit size.1 (map change_value changes.items)
+            then Some (record {
               width = size.0;
               height = size.1;
               base = base;
               number = number;
-              is_repaint = is_repaint;
               changes = map change_value changes.items;
             }) else None) }
     {
         let (width, height) = size;
+        if number < base {
+            return None;
+        }
         if !regions_fit(&changes, height) {
             return None;
         }
@@ -75,7 +76,6 @@ impl Answer {
             height,
             base,
             number,
-            is_repaint,
             changes,
         })
     }
@@ -101,16 +101,17 @@ impl Answer {
 
     /// The surface's number when it gave the answer, which a viewer that accepts it has then.
     pub fn number(&self) -> SequenceNo
-        ensures { result ≡ self.now.number }
+        ensures value { result ≡ self.now.number }
+        ensures ordered { self.now.base ≤ result }
     {
         self.number
     }
 
-    /// Whether it brings any screen of its size to the surface's.
+    /// Whether it brings any screen of its size to the surface's: whether its base is 0.
     pub fn is_repaint(&self) -> bool
-        ensures { result ≡ self.now.is_repaint }
+        ensures { result ≡ is_repaint self.now }
     {
-        self.is_repaint
+        self.base == SEQ_ZERO
     }
 
     /// The changes that a viewer makes.
@@ -120,6 +121,15 @@ impl Answer {
         ensures regions { regions_fit self.now.height (map change_value result.now) ≡ true }
     {
         self.changes.as_slice()
+    }
+
+    /// The changes, of an answer that is given away.
+    pub fn into_changes(self) -> Vec<Change>
+        ensures value { map change_value result.items ≡ self.changes }
+        // No scroll among them has a region that goes past the last row.
+        ensures regions { regions_fit self.height (map change_value result.items) ≡ true }
+    {
+        self.changes
     }
 }
 
@@ -158,7 +168,6 @@ impl<W: Widths> Surface<W> {
             height: self.height,
             base: if is_repaint { SEQ_ZERO } else { seq },
             number,
-            is_repaint,
             changes,
         })
     }

@@ -4,7 +4,7 @@ ghost use Rattle.termwiz_surface_core.specs.{IsOwnedSlice, KeepsNames, KeepsView
 ghost use Rattle.termwiz_surface_core.specs.{Repaints, StreamsFrom, StreamsFullyFrom, change_value};
 ghost use Rattle.termwiz_surface_core.specs.{flushed, full_of, full_repaint, is_known, knows, not};
 ghost use Rattle.termwiz_surface_core.specs.{measure, most_own_entries, next_number, own_repaint};
-ghost use Rattle.termwiz_surface_core.specs.{regions_fit, repaint, screen_of, stream_of, with_log};
+ghost use Rattle.termwiz_surface_core.specs.{delta_limit, forgotten, regions_fit, repaint, screen_of, stream_of, with_log};
 
 use super::Surface;
 use std::alloc::AllocError;
@@ -41,6 +41,28 @@ impl<W: Widths> Surface<W> {
         ensures remembered { KeepsNames (measure W.width_of self.old.widths) self.old self.new }
     {
         self.log.flush(seq);
+    }
+
+    /// Forgets the changes that no answer needs: all but as many of the last as an answer may lend,
+    /// which are 3 plus six fifths of the number of cells. Whoever asks is answered as before.
+    ///
+    /// All calls together cost a few instructions for each change that they forget.
+    pub fn forget_unneeded(&mut self)
+        ensures forgets { self.new ≡ with_log self.old
+            (forgotten (delta_limit self.old.width self.old.height) self.old.log) }
+        // The same numbers are known, and the same is due from each of them.
+        ensures answers { (n : ℕ) → (knows self.new n ≡ knows self.old n)
+            × (knows self.old n ≡ true → due self.new.log n ≡ due self.old.log n) }
+        ensures few { length self.new.log.changes
+            ≤ delta_limit self.new.width self.new.height }
+        // Each viewer that follows the surface goes on to.
+        ensures followed { KeepsViewers (measure W.width_of) self.old self.new }
+        // What its numbers named they name still.
+        ensures remembered { KeepsNames (measure W.width_of self.old.widths) self.old self.new }
+    {
+        let most = delta_limit(self.width, self.height);
+        let first = self.log.next_number().saturating_sub(most);
+        self.flush_changes_older_than(first);
     }
 
     /// The number of the coming change, and what a viewer that was last given this number has to

@@ -1,88 +1,103 @@
 //! Answers.
-ghost use Rattle.std.specs.Prelude.{◌≡◌, ◌+◌, ◌<◌, ◌≤◌, ◌^◌, ◌++◌, List, ℕ};
-ghost use Rattle.std.specs.Prelude.{length, IfOk, OnErr};
-ghost use Rattle.cbor.specs.Decoding.{Gives, ok};
-ghost use Rattle.termwiz_surface_core.specs.Answer.{AnswerValue};
-ghost use Rattle.termwiz_wire.specs.Answers.{IsAnswer, answer, answer_at, size_at, version_at};
+ghost use Rattle.std.specs.Prelude.{◌≡◌, ◌+◌, ◌-◌, ◌*◌, ◌<◌, ◌≤◌, ◌^◌, ◌++◌, IfOk, List, Some, ℕ};
+ghost use Rattle.std.specs.Prelude.{drop, length, map, true};
+ghost use Rattle.cbor.specs.Decoding.{allowed, ok};
+ghost use Rattle.termwiz_cell.specs.ChangeValue.{change_value};
+ghost use Rattle.termwiz_cell.specs.Measure.{measure};
+ghost use Rattle.termwiz_screen.specs.Step.{regions_fit};
+ghost use Rattle.termwiz_wire.specs.Answers.{Decodes, Halts, answer_at, answer_in, sent_of};
+ghost use Rattle.termwiz_wire.specs.Sent.{IsSent, answer};
+ghost use Rattle.termwiz_wire.specs.declared.sent.SentAnswer.{SentAnswer};
 
-use super::changes::changes_of;
-use crate::WireError;
+use super::changes::each_of;
+use super::halted::Halted;
+use super::heads::{Head, head_of};
+use crate::fault::{Limits, WireError};
+use crate::sent::SentAnswer;
 use cbor::Reader;
 use std::alloc::Global;
+use termwiz_cell::change::Change;
+use termwiz_cell::emoji::Widths;
 use termwiz_surface_core::surface::Answer;
 
-/// Decodes the answer at the front of the bytes. An error leaves the reader as it was. Whether the
-/// regions of scrolls lie within the height is looked at behind the last change.
-pub fn decode_answer(alloc: Global, reader: &mut Reader<'_>) -> Result<Answer, WireError>
-    // What is encoded so is decoded, whatever follows it.
-    ensures again { (a : AnswerValue) (rest : List ℕ) → IsAnswer a →
-        reader.old.bytes.now ≡ answer a ++ rest →
-        Gives (λ x. (x, reader.new.bytes.now)) result (ok a rest) }
-    // What is decoded was encoded so.
+/// Decodes the answer at the front of the bytes, and returns how many bytes it takes. Its texts are
+/// cut and measured by `widths` as they were by its sender.
+///
+/// It fails with the first fault from left to right. `Truncated` says that more bytes may complete
+/// the answer; any other fault stays, whatever bytes follow. An answer of more cells or bytes than
+/// the limits is `Limit`, before memory is taken for it.
+pub fn decode_answer<W: Widths>(
+    alloc: Global,
+    widths: &W,
+    limits: Limits,
+    bytes: &[u8],
+) -> Result<(SentAnswer, usize), WireError>
+    // What is encoded so is decoded, whatever follows it, if the limits allow it.
+    ensures again { (s : SentAnswer) (rest : List ℕ) →
+        IsSent (measure W.width_of widths.now) s →
+        s.answer.width * s.answer.height ≤ limits.cells →
+        length (answer (measure W.width_of widths.now) s) ≤ limits.bytes →
+        bytes.now ≡ answer (measure W.width_of widths.now) s ++ rest →
+        Decodes (λ x. (x.0, drop x.1 bytes.now)) result (ok s rest) }
+    // What is decoded was encoded so, in so many bytes.
     ensures found { IfOk result (λ x.
-        reader.old.bytes.now ≡ answer x ++ reader.new.bytes.now) }
-    // It has no more changes than bytes that it took.
-    ensures bounded { IfOk result (λ x.
-        length x.changes + length reader.new.bytes.now ≤ length reader.old.bytes.now) }
+        (bytes.now ≡ answer (measure W.width_of widths.now) x.0 ++ drop x.1 bytes.now)
+        × (x.1 ≤ length bytes.now)) }
+    // It is within the limits.
+    ensures limited { IfOk result (λ x.
+        (x.0.answer.width * x.0.answer.height ≤ limits.cells) × (x.1 ≤ limits.bytes)) }
+    // It has no more changes than bytes.
+    ensures bounded { IfOk result (λ x. length x.0.answer.changes ≤ x.1) }
     // It is this value, or this fault.
-    ensures exact { Gives (λ x. (x, reader.new.bytes.now)) result
-        (answer_at reader.old.bytes.now) }
-    ensures left { OnErr result (reader.new.bytes.now ≡ reader.old.bytes.now) }
+    ensures exact { Decodes (λ x. (x.0, drop x.1 bytes.now)) result
+        (answer_at (measure W.width_of widths.now) limits bytes.now) }
 {
+    let mut reader = Reader::with_limit(bytes, limits.bytes);
+    let len = reader.rest().len();
+    match answer_of(alloc, widths, limits.cells, &mut reader) {
+        Ok(sent) => Ok((sent, len.saturating_sub(reader.bytes.len()))),
+        Err(halted) => Err(halted.located(len.saturating_sub(reader.bytes.len()))),
+    }
+}
+
+#[tactic(auto, unfolding(crate::specs::Answers::answer_in))]
+fn answer_of<W: Widths>(
+    alloc: Global,
+    widths: &W,
+    cells: usize,
+    reader: &mut Reader<'_>,
+) -> Result<SentAnswer, Halted>
+    ensures value { Halts (allowed reader.new.room reader.new.bytes.now)
+        (λ x. (x, reader.new.bytes.now)) result
+        (answer_in (measure W.width_of widths.now) reader.old.room cells reader.old.bytes.now) }
+    ensures room { reader.new.room ≡ reader.old.room }
+{
+    let head = match head_of(reader, cells) {
+        Ok(head) => head,
+        Err(error) => {
+            return Err(Halted {
+                error,
+                change: None,
+            });
+        }
+    };
     // Each byte is below 256.
     let _bytes = reader.rest();
-    whole_answer(alloc, reader)
+    let changes = each_of(alloc, widths, Some(head.height), head.count, reader)?;
+    Ok(sent_from(head, changes))
 }
 
-fn whole_answer(alloc: Global, reader: &mut Reader<'_>) -> Result<Answer, WireError>
-    ensures exact { Gives (λ x. (x, reader.new.bytes.now)) result
-        (answer_at reader.old.bytes.now) }
-    ensures left { OnErr result (reader.new.bytes.now ≡ reader.old.bytes.now) }
+fn sent_from(head: Head, changes: Vec<Change>) -> SentAnswer
+    requires width { (0 < head.width) × (head.width < 2 ^ 32) }
+    requires height { (0 < head.height) × (head.height < 2 ^ 32) }
+    requires numbers { head.base ≤ head.number }
+    requires regions { regions_fit head.height (map change_value changes.items) ≡ true }
+    ensures { result ≡ sent_of head (map change_value changes.items) }
 {
-    let mut ahead = *reader;
-    let answer = answer_of(alloc, &mut ahead)?;
-    reader.bytes = ahead.bytes;
-    Ok(answer)
-}
-
-#[tactic(auto, unfolding(crate::specs::Answers::answer_at))]
-fn answer_of(alloc: Global, reader: &mut Reader<'_>) -> Result<Answer, WireError>
-    ensures { Gives (λ x. (x, reader.new.bytes.now)) result (answer_at reader.old.bytes.now) }
-{
-    reader.array_of(7)?;
-    version_of(reader)?;
-    let width = size_of(reader)?;
-    let height = size_of(reader)?;
-    let base = reader.unsigned()?;
-    let number = reader.unsigned()?;
-    let is_repaint = reader.boolean()?;
-    let changes = changes_of(alloc, reader)?;
-    match Answer::from_parts((width, height), base, number, is_repaint, changes) {
-        Some(answer) => Ok(answer),
-        None => Err(WireError::Region),
+    let size = (head.width, head.height);
+    let answer = Answer::from_parts(size, head.base, head.number, changes).unwrap();
+    SentAnswer {
+        source: head.source,
+        answer,
     }
-}
-
-#[tactic(auto, unfolding(crate::specs::Answers::version_at))]
-fn version_of(reader: &mut Reader<'_>) -> Result<(), WireError>
-    ensures { Gives (λ _. reader.new.bytes.now) result (version_at reader.old.bytes.now) }
-{
-    match reader.unsigned()? {
-        1 => Ok(()),
-        _ => Err(WireError::Version),
-    }
-}
-
-// A width or a height.
-#[tactic(auto, unfolding(crate::specs::Answers::size_at))]
-fn size_of(reader: &mut Reader<'_>) -> Result<usize, WireError>
-    ensures value { Gives (λ x. (x, reader.new.bytes.now)) result (size_at reader.old.bytes.now) }
-    ensures some { IfOk result (λ x. 0 < x) }
-    ensures fits { IfOk result (λ x. x < 2 ^ 32) }
-{
-    let size = reader.below(4294967296)?;
-    if size == 0 {
-        return Err(WireError::Range);
-    }
-    Ok(size)
 }

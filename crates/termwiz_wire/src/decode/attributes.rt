@@ -1,14 +1,13 @@
 //! Attributes, and changes of one attribute.
 ghost use Rattle.std.specs.Prelude.{◌≡◌, IfOk};
-ghost use Rattle.cbor.specs.Decoding.{Gives};
+ghost use Rattle.cbor.specs.Decoding.{Gives, allowed};
 ghost use Rattle.termwiz_cell.specs.AttributeChangeValue.{attribute_change_value};
 ghost use Rattle.termwiz_cell.specs.Link.{linked};
 ghost use Rattle.termwiz_wire.specs.Decoding.{attribute_change_at, attributes_at};
 
 use super::links::optional_link_of;
-use super::small::{blink_from, color_of, intensity_from, style_of, styled, underline_from};
-use crate::WireError;
-use cbor::Reader;
+use super::small::{blink_from, color_of, intensity_from, style_of, styled, underline_from, which_of};
+use cbor::{ReadError, Reader};
 use std::alloc::{AllocError, Global};
 use std::rc::Rc;
 use termwiz_cell::cell::{AttributeChange, CellAttributes};
@@ -20,8 +19,9 @@ use termwiz_cell::hyperlink::Hyperlink;
 pub(super) fn attributes_of(
     alloc: Global,
     reader: &mut Reader<'_>,
-) -> Result<CellAttributes, WireError>
-    ensures { Gives (λ x. (x, reader.new.bytes.now)) result (attributes_at reader.old.bytes.now) }
+) -> Result<CellAttributes, ReadError>
+    ensures value { Gives (allowed reader.new.room reader.new.bytes.now) (λ x. (x, reader.new.bytes.now)) result (attributes_at reader.old.room reader.old.bytes.now) }
+    ensures room { reader.new.room ≡ reader.old.room }
 {
     reader.array_of(5)?;
     let number = style_of(reader)?;
@@ -67,12 +67,13 @@ fn colored(
 pub(super) fn attribute_change_of(
     alloc: Global,
     reader: &mut Reader<'_>,
-) -> Result<AttributeChange, WireError>
-    ensures { Gives (λ x. (attribute_change_value x, reader.new.bytes.now)) result
-        (attribute_change_at reader.old.bytes.now) }
+) -> Result<AttributeChange, ReadError>
+    ensures value { Gives (allowed reader.new.room reader.new.bytes.now) (λ x. (attribute_change_value x, reader.new.bytes.now)) result
+        (attribute_change_at reader.old.room reader.old.bytes.now) }
+    ensures room { reader.new.room ≡ reader.old.room }
 {
     reader.array_of(2)?;
-    let change = match reader.unsigned()? {
+    let change = match which_of(reader, 10)? {
         0 => AttributeChange::Intensity(intensity_from(reader.below(3)?)),
         1 => AttributeChange::Underline(underline_from(reader.below(6)?)),
         2 => AttributeChange::Italic(reader.boolean()?),
@@ -83,7 +84,7 @@ pub(super) fn attribute_change_of(
         7 => AttributeChange::Foreground(color_of(reader)?),
         8 => AttributeChange::Background(color_of(reader)?),
         9 => AttributeChange::Hyperlink(optional_link_of(alloc, reader)?),
-        _ => return Err(WireError::Type),
+        _ => return Err(ReadError::Type),
     };
     Ok(change)
 }

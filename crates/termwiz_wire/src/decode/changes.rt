@@ -1,130 +1,243 @@
 //! Changes.
-ghost use Rattle.std.specs.Prelude.{◌≡◌, ◌++◌, ◌+◌, ◌≤◌, [], List, ℕ, length, map};
-ghost use Rattle.std.specs.Prelude.{IfOk, OnErr};
-ghost use Rattle.cbor.specs.Decoding.{Gives, ok};
+ghost use Rattle.std.specs.Prelude.{◌≡◌, ◌++◌, ◌+◌, ◌-◌, ◌≤◌, [], IfOk, List, None, ℕ, drop, length};
+ghost use Rattle.std.specs.Prelude.{map, true};
+ghost use Rattle.cbor.specs.Decoding.{Gives, allowed, ok};
 ghost use Rattle.termwiz_cell.specs.ChangeValue as changed;
 ghost use Rattle.termwiz_cell.specs.ChangeValue.{ChangeValue, change_value};
-ghost use Rattle.termwiz_wire.specs.Decoding.{change_at, change_by, changes_at, each_at, place_at};
-ghost use Rattle.termwiz_wire.specs.Decoding.{scroll_at};
+ghost use Rattle.termwiz_cell.specs.Measure.{measure};
+ghost use Rattle.termwiz_wire.specs.Answers.{Decodes, Halts, changes_at, changes_in, each_at};
+ghost use Rattle.termwiz_wire.specs.Answers.{halted, one_change_at};
+ghost use Rattle.termwiz_wire.specs.Cuts.{others_at, pieces_at, pieces_by};
+ghost use Rattle.termwiz_wire.specs.Decoding.{change_at, change_by, change_kind_at, count_at};
+ghost use Rattle.termwiz_wire.specs.Decoding.{has_count, is_on, place_at, printed_at};
+ghost use Rattle.termwiz_wire.specs.Decoding.{region_size_at, scroll_at};
 ghost use Rattle.termwiz_wire.specs.Encoding.{change, changes};
 ghost use Rattle.termwiz_wire.specs.Forms.{AreChanges, IsChange};
+ghost use Rattle.termwiz_wire.specs.Pieces.{runs};
+ghost use Rattle.termwiz_wire.specs.Beginning.{IsNeeded};
 
 use super::attributes::{attribute_change_of, attributes_of};
+use super::cuts::{are_same, cut_of};
+use super::halted::Halted;
 use super::links::owned_of;
 use super::small::{color_of, line_from, position_of, shape_from, visibility_of};
-use crate::WireError;
 use crate::encode::change_count;
-use cbor::Reader;
+use crate::fault::WireError;
+use crate::pieces::needed_runs;
+use cbor::{ReadError, Reader};
 use std::alloc::Global;
 use termwiz_cell::change::Change;
+use termwiz_cell::emoji::Widths;
 
-/// Decodes the change at the front of the bytes. An error leaves the reader as it was.
-pub fn decode_change(alloc: Global, reader: &mut Reader<'_>) -> Result<Change, WireError>
+/// Decodes the change at the front of the bytes, and returns how many bytes it takes. The region of
+/// a scroll may lie anywhere.
+pub fn decode_change<W: Widths>(
+    alloc: Global,
+    widths: &W,
+    bytes: &[u8],
+) -> Result<(Change, usize), WireError>
     // What is encoded so is decoded, whatever follows it.
-    ensures again { (c : ChangeValue) (rest : List ℕ) → IsChange c →
-        reader.old.bytes.now ≡ change c ++ rest →
-        Gives (λ x. (change_value x, reader.new.bytes.now)) result (ok c rest) }
-    // What is decoded was encoded so.
+    ensures again { (c : ChangeValue) (rest : List ℕ) →
+        IsChange (measure W.width_of widths.now) c →
+        bytes.now ≡ change (measure W.width_of widths.now) c ++ rest →
+        Decodes (λ x. (change_value x.0, drop x.1 bytes.now)) result (ok c rest) }
+    // What is decoded was encoded so, in so many bytes.
     ensures found { IfOk result (λ x.
-        reader.old.bytes.now ≡ change (change_value x) ++ reader.new.bytes.now) }
+        (bytes.now ≡ change (measure W.width_of widths.now) (change_value x.0) ++ drop x.1 bytes.now)
+        × (x.1 ≤ length bytes.now)) }
     // It is this value, or this fault.
-    ensures exact { Gives (λ x. (change_value x, reader.new.bytes.now)) result
-        (change_at reader.old.bytes.now) }
-    ensures left { OnErr result (reader.new.bytes.now ≡ reader.old.bytes.now) }
+    ensures exact { Decodes (λ x. (change_value x.0, drop x.1 bytes.now)) result
+        (one_change_at (measure W.width_of widths.now) bytes.now) }
 {
-    // Each byte is below 256.
-    let _bytes = reader.rest();
-    whole_change(alloc, reader)
+    let mut reader = Reader::with_limit(bytes, usize::MAX);
+    let len = reader.rest().len();
+    match one_change_of(alloc, widths, &mut reader) {
+        Ok(value) => Ok((value, len.saturating_sub(reader.bytes.len()))),
+        Err(halted) => Err(halted.located(len.saturating_sub(reader.bytes.len()))),
+    }
 }
 
-fn whole_change(alloc: Global, reader: &mut Reader<'_>) -> Result<Change, WireError>
-    ensures exact { Gives (λ x. (change_value x, reader.new.bytes.now)) result
-        (change_at reader.old.bytes.now) }
-    ensures left { OnErr result (reader.new.bytes.now ≡ reader.old.bytes.now) }
-{
-    let mut ahead = *reader;
-    let change = change_of(alloc, &mut ahead)?;
-    reader.bytes = ahead.bytes;
-    Ok(change)
-}
-
-/// Decodes the list of changes at the front of the bytes. An error leaves the reader as it was.
-pub fn decode_changes(alloc: Global, reader: &mut Reader<'_>) -> Result<Vec<Change>, WireError>
+/// Decodes the list of changes at the front of the bytes, and returns how many bytes it takes. The
+/// regions of scrolls may lie anywhere.
+pub fn decode_changes<W: Widths>(
+    alloc: Global,
+    widths: &W,
+    bytes: &[u8],
+) -> Result<(Vec<Change>, usize), WireError>
     // What is encoded so is decoded, whatever follows it.
-    ensures again { (cs : List ChangeValue) (rest : List ℕ) → AreChanges cs →
-        reader.old.bytes.now ≡ changes cs ++ rest →
-        Gives (λ x. (map change_value x.items, reader.new.bytes.now)) result (ok cs rest) }
-    // What is decoded was encoded so.
+    ensures again { (cs : List ChangeValue) (rest : List ℕ) →
+        AreChanges (measure W.width_of widths.now) cs →
+        bytes.now ≡ changes (measure W.width_of widths.now) cs ++ rest →
+        Decodes (λ x. (map change_value x.0.items, drop x.1 bytes.now)) result (ok cs rest) }
+    // What is decoded was encoded so, in so many bytes.
     ensures found { IfOk result (λ x.
-        reader.old.bytes.now ≡ changes (map change_value x.items) ++ reader.new.bytes.now) }
-    // There are no more of them than bytes that they took.
-    ensures bounded { IfOk result (λ x.
-        length x.items + length reader.new.bytes.now ≤ length reader.old.bytes.now) }
-    // They are these values, or it is this fault.
-    ensures exact { Gives (λ x. (map change_value x.items, reader.new.bytes.now)) result
-        (changes_at reader.old.bytes.now) }
-    ensures left { OnErr result (reader.new.bytes.now ≡ reader.old.bytes.now) }
+        (bytes.now ≡ changes (measure W.width_of widths.now) (map change_value x.0.items) ++ drop x.1 bytes.now)
+        × (x.1 ≤ length bytes.now)) }
+    // There are no more of them than bytes that they take.
+    ensures bounded { IfOk result (λ x. length x.0.items ≤ x.1) }
+    // It is this value, or this fault.
+    ensures exact { Decodes (λ x. (map change_value x.0.items, drop x.1 bytes.now)) result
+        (changes_at (measure W.width_of widths.now) bytes.now) }
 {
-    // Each byte is below 256.
-    let _bytes = reader.rest();
-    whole_changes(alloc, reader)
+    let mut reader = Reader::with_limit(bytes, usize::MAX);
+    let len = reader.rest().len();
+    match changes_of(alloc, widths, &mut reader) {
+        Ok(value) => Ok((value, len.saturating_sub(reader.bytes.len()))),
+        Err(halted) => Err(halted.located(len.saturating_sub(reader.bytes.len()))),
+    }
 }
 
-fn whole_changes(alloc: Global, reader: &mut Reader<'_>) -> Result<Vec<Change>, WireError>
-    ensures exact { Gives (λ x. (map change_value x.items, reader.new.bytes.now)) result
-        (changes_at reader.old.bytes.now) }
-    ensures left { OnErr result (reader.new.bytes.now ≡ reader.old.bytes.now) }
+fn one_change_of<W: Widths>(
+    alloc: Global,
+    widths: &W,
+    reader: &mut Reader<'_>,
+) -> Result<Change, Halted>
+    ensures value { Halts (allowed reader.new.room reader.new.bytes.now)
+        (λ x. (change_value x, reader.new.bytes.now)) result
+        (halted None (change_at (measure W.width_of widths.now) reader.old.room None reader.old.bytes.now)) }
+    ensures room { reader.new.room ≡ reader.old.room }
 {
-    let mut ahead = *reader;
-    let changes = changes_of(alloc, &mut ahead)?;
-    reader.bytes = ahead.bytes;
-    Ok(changes)
+    match change_of(alloc, widths, None, reader) {
+        Ok(change) => Ok(change),
+        Err(error) => Err(Halted {
+            error,
+            change: None,
+        }),
+    }
 }
 
-#[tactic(auto, unfolding(crate::specs::Decoding::changes_at))]
-pub(super) fn changes_of(alloc: Global, reader: &mut Reader<'_>) -> Result<Vec<Change>, WireError>
-    ensures { Gives (λ x. (map change_value x.items, reader.new.bytes.now)) result
-        (changes_at reader.old.bytes.now) }
+#[tactic(auto, unfolding(crate::specs::Answers::changes_in))]
+fn changes_of<W: Widths>(
+    alloc: Global,
+    widths: &W,
+    reader: &mut Reader<'_>,
+) -> Result<Vec<Change>, Halted>
+    ensures value { Halts (allowed reader.new.room reader.new.bytes.now)
+        (λ x. (map change_value x.items, reader.new.bytes.now)) result
+        (changes_in (measure W.width_of widths.now) reader.old.room None reader.old.bytes.now) }
+    ensures room { reader.new.room ≡ reader.old.room }
 {
-    let count = reader.array()?;
-    each_of(alloc, count, reader)
+    let count = match reader.list() {
+        Ok(count) => count,
+        Err(error) => {
+            return Err(Halted {
+                error,
+                change: None,
+            });
+        }
+    };
+    each_of(alloc, widths, None, count, reader)
 }
 
-fn each_of(alloc: Global, count: usize, reader: &mut Reader<'_>) -> Result<Vec<Change>, WireError>
-    ensures { Gives (λ x. (map change_value x.items, reader.new.bytes.now)) result
-        (each_at [] count reader.old.bytes.now) }
+/// Decodes so many changes, whose regions lie on these rows, if any are given.
+pub(super) fn each_of<W: Widths>(
+    alloc: Global,
+    widths: &W,
+    rows: Option<usize>,
+    count: usize,
+    reader: &mut Reader<'_>,
+) -> Result<Vec<Change>, Halted>
+    ensures value { Halts (allowed reader.new.room reader.new.bytes.now)
+        (λ x. (map change_value x.items, reader.new.bytes.now)) result
+        (each_at (measure W.width_of widths.now) reader.old.room rows [] count reader.old.bytes.now) }
+    ensures room { reader.new.room ≡ reader.old.room }
 {
     let mut changes = Vec::new(alloc);
-    for _ in 0..count {
-        let change = change_of(alloc, reader)?;
+    for index in 0..count {
+        let change = match change_of(alloc, widths, rows, reader) {
+            Ok(change) => change,
+            Err(error) => {
+                return Err(Halted {
+                    error,
+                    change: Some(index),
+                });
+            }
+        };
         changes.push(change)?;
     }
     Ok(changes)
 }
 
 #[tactic(auto, unfolding(crate::specs::Decoding::change_at))]
-fn change_of(alloc: Global, reader: &mut Reader<'_>) -> Result<Change, WireError>
-    ensures { Gives (λ x. (change_value x, reader.new.bytes.now)) result
-        (change_at reader.old.bytes.now) }
+fn change_of<W: Widths>(
+    alloc: Global,
+    widths: &W,
+    rows: Option<usize>,
+    reader: &mut Reader<'_>,
+) -> Result<Change, ReadError>
+    ensures value { Gives (allowed reader.new.room reader.new.bytes.now)
+        (λ x. (change_value x, reader.new.bytes.now)) result
+        (change_at (measure W.width_of widths.now) reader.old.room rows reader.old.bytes.now) }
+    ensures room { reader.new.room ≡ reader.old.room }
 {
+    let count = count_of(reader)?;
+    let kind = kind_of(reader, count)?;
+    values_of(alloc, widths, rows, count, kind, reader)
+}
+
+// How many items a change has: two to four.
+#[inline(always)]
+#[tactic(auto, unfolding(crate::specs::Decoding::count_at))]
+fn count_of(reader: &mut Reader<'_>) -> Result<usize, ReadError>
+    ensures value { Gives (allowed reader.new.room reader.new.bytes.now)
+        (λ x. (x, reader.new.bytes.now)) result
+        (count_at reader.old.room reader.old.bytes.now) }
+    ensures room { reader.new.room ≡ reader.old.room }
+{
+    let start = reader.bytes;
     let count = reader.array()?;
-    let kind = reader.unsigned()?;
-    if count == change_count(kind) {
-        values_of(alloc, kind, reader)
+    if 1 < count && count < 5 {
+        Ok(count)
     } else {
-        Err(WireError::Type)
+        reader.bytes = start;
+        Err(ReadError::Type)
     }
 }
 
+// The kind of a change of so many items.
+#[inline(always)]
+#[tactic(auto, unfolding(crate::specs::Decoding::change_kind_at))]
+fn kind_of(reader: &mut Reader<'_>, count: usize) -> Result<usize, ReadError>
+    ensures value { Gives (allowed reader.new.room reader.new.bytes.now)
+        (λ x. (x, reader.new.bytes.now)) result
+        (change_kind_at reader.old.room count reader.old.bytes.now) }
+    ensures room { reader.new.room ≡ reader.old.room }
+{
+    let start = reader.bytes;
+    let kind = reader.unsigned()?;
+    if has_count(kind, count) {
+        Ok(kind)
+    } else {
+        reader.bytes = start;
+        Err(ReadError::Type)
+    }
+}
+
+// Whether a change of this kind has so many items: a text has one more with its pieces.
+fn has_count(kind: usize, count: usize) -> bool
+    ensures { result ≡ has_count kind count }
+{
+    kind < 14 && (count == change_count(kind) || kind == 2 && count == 3)
+}
+
 // The change of this kind.
-fn values_of(alloc: Global, kind: usize, reader: &mut Reader<'_>) -> Result<Change, WireError>
-    ensures { Gives (λ x. (change_value x, reader.new.bytes.now)) result
-        (change_by kind reader.old.bytes.now) }
+fn values_of<W: Widths>(
+    alloc: Global,
+    widths: &W,
+    rows: Option<usize>,
+    count: usize,
+    kind: usize,
+    reader: &mut Reader<'_>,
+) -> Result<Change, ReadError>
+    ensures value { Gives (allowed reader.new.room reader.new.bytes.now)
+        (λ x. (change_value x, reader.new.bytes.now)) result
+        (change_by (measure W.width_of widths.now) reader.old.room rows count kind reader.old.bytes.now) }
+    ensures room { reader.new.room ≡ reader.old.room }
 {
     let change = match kind {
         0 => Change::Attribute(attribute_change_of(alloc, reader)?),
         1 => Change::AllAttributes(attributes_of(alloc, reader)?),
-        2 => Change::Text(owned_of(alloc, reader)?),
+        2 => printed_of(alloc, widths, count, reader)?,
         3 => Change::ClearScreen(color_of(reader)?),
         4 => Change::ClearToEndOfLine(color_of(reader)?),
         5 => Change::ClearToEndOfScreen(color_of(reader)?),
@@ -132,32 +245,161 @@ fn values_of(alloc: Global, kind: usize, reader: &mut Reader<'_>) -> Result<Chan
         7 => Change::CursorColor(color_of(reader)?),
         8 => Change::CursorShape(shape_from(reader.below(7)?)),
         9 => Change::CursorVisibility(visibility_of(reader.boolean()?)),
-        10 => scroll_up_of(reader)?,
-        11 => scroll_down_of(reader)?,
+        10 => scroll_up_of(reader, rows)?,
+        11 => scroll_down_of(reader, rows)?,
         12 => Change::Title(owned_of(alloc, reader)?),
         13 => Change::LineAttribute(line_from(reader.below(4)?)),
-        _ => return Err(WireError::Type),
+        _ => return Err(ReadError::Type),
     };
     Ok(change)
 }
 
+// A text that is cut and measured here as it is sent.
+#[tactic(auto, unfolding(crate::specs::Decoding::printed_at))]
+fn printed_of<W: Widths>(
+    alloc: Global,
+    widths: &W,
+    count: usize,
+    reader: &mut Reader<'_>,
+) -> Result<Change, ReadError>
+    ensures value { Gives (allowed reader.new.room reader.new.bytes.now)
+        (λ x. (change_value x, reader.new.bytes.now)) result
+        (printed_at (measure W.width_of widths.now) reader.old.room count reader.old.bytes.now) }
+    ensures room { reader.new.room ≡ reader.old.room }
+{
+    let start = reader.bytes;
+    let text = reader.text()?;
+    pieces_of(alloc, widths, count, text, start, reader)?;
+    let text = String::from_str(alloc, text)?;
+    Ok(Change::Text(text))
+}
+
+// The pieces of a text, if they come as a third item. The text has its own fault where it begins.
+#[tactic(auto, unfolding(crate::specs::Cuts::pieces_by))]
+fn pieces_of<'a, W: Widths>(
+    alloc: Global,
+    widths: &W,
+    count: usize,
+    text: &str,
+    start: &'a [u8],
+    reader: &mut Reader<'a>,
+) -> Result<(), ReadError>
+    ensures value { Gives (allowed reader.new.room reader.new.bytes.now)
+        (λ _. reader.new.bytes.now) result
+        (pieces_by reader.old.room (allowed reader.old.room start.now) count text.now
+        (runs (measure W.width_of widths.now) text.now) reader.old.bytes.now) }
+    ensures room { reader.new.room ≡ reader.old.room }
+{
+    match needed_runs(widths, text) {
+        None if count == 3 => others_of(alloc, text, start, reader),
+        None => Ok(()),
+        Some(needed) if count == 3 => listed_of(alloc, widths, text, needed, start, reader),
+        Some(_) => {
+            reader.bytes = start;
+            Err(ReadError::Measure)
+        }
+    }
+}
+
+// The list of a text's pieces, which it needs, of so many runs.
+#[inline(never)]
+#[tactic(auto, unfolding(crate::specs::Cuts::pieces_at))]
+fn listed_of<'a, W: Widths>(
+    alloc: Global,
+    widths: &W,
+    text: &str,
+    needed: usize,
+    start: &'a [u8],
+    reader: &mut Reader<'a>,
+) -> Result<(), ReadError>
+    requires { IsNeeded needed (runs (measure W.width_of widths.now) text.now) }
+    ensures value { Gives (allowed reader.new.room reader.new.bytes.now)
+        (λ _. reader.new.bytes.now) result
+        (pieces_at reader.old.room (allowed reader.old.room start.now) text.now
+        (runs (measure W.width_of widths.now) text.now) reader.old.bytes.now) }
+    ensures room { reader.new.room ≡ reader.old.room }
+{
+    let list = reader.bytes;
+    if are_same(reader, widths, text, needed)? {
+        return Ok(());
+    }
+    reader.bytes = list;
+    others_of(alloc, text, start, reader)
+}
+
+// Pieces that are not those of the text here: a fault of theirs, and else the text's.
+#[inline(never)]
+#[tactic(auto, unfolding(crate::specs::Cuts::others_at))]
+fn others_of<'a>(
+    alloc: Global,
+    text: &str,
+    start: &'a [u8],
+    reader: &mut Reader<'a>,
+) -> Result<(), ReadError>
+    ensures value { Gives (allowed reader.new.room reader.new.bytes.now)
+        (λ _. reader.new.bytes.now) result
+        (others_at reader.old.room (allowed reader.old.room start.now) text.now
+        reader.old.bytes.now) }
+    ensures room { reader.new.room ≡ reader.old.room }
+{
+    cut_of(alloc, text, reader)?;
+    reader.bytes = start;
+    Err(ReadError::Measure)
+}
+
 #[tactic(auto, unfolding(crate::specs::Decoding::place_at))]
-fn place_of(reader: &mut Reader<'_>) -> Result<Change, WireError>
-    ensures { Gives (λ x. (change_value x, reader.new.bytes.now)) result
-        (place_at reader.old.bytes.now) }
+fn place_of(reader: &mut Reader<'_>) -> Result<Change, ReadError>
+    ensures value { Gives (allowed reader.new.room reader.new.bytes.now)
+        (λ x. (change_value x, reader.new.bytes.now)) result
+        (place_at reader.old.room reader.old.bytes.now) }
+    ensures room { reader.new.room ≡ reader.old.room }
 {
     let x = position_of(reader)?;
     let y = position_of(reader)?;
     Ok(Change::CursorPosition { x, y })
 }
 
+// How many rows a region has that begins at row `first`.
+#[tactic(auto, unfolding(crate::specs::Decoding::region_size_at))]
+fn region_size_of(
+    reader: &mut Reader<'_>,
+    rows: Option<usize>,
+    first: usize,
+) -> Result<usize, ReadError>
+    ensures value { Gives (allowed reader.new.room reader.new.bytes.now)
+        (λ x. (x, reader.new.bytes.now)) result
+        (region_size_at reader.old.room rows first reader.old.bytes.now) }
+    ensures room { reader.new.room ≡ reader.old.room }
+{
+    let start = reader.bytes;
+    let size = reader.unsigned()?;
+    if is_on(rows, first, size) {
+        Ok(size)
+    } else {
+        reader.bytes = start;
+        Err(ReadError::Region)
+    }
+}
+
+// Whether a region lies on so many rows, where they are known.
+fn is_on(rows: Option<usize>, first: usize, size: usize) -> bool
+    ensures { result ≡ is_on rows first size }
+{
+    match rows {
+        None => true,
+        Some(rows) => first <= rows && size <= rows - first,
+    }
+}
+
 #[tactic(auto, unfolding(crate::specs::Decoding::scroll_at))]
-fn scroll_up_of(reader: &mut Reader<'_>) -> Result<Change, WireError>
-    ensures { Gives (λ x. (change_value x, reader.new.bytes.now)) result
-        (scroll_at changed.ScrollRegionUp reader.old.bytes.now) }
+fn scroll_up_of(reader: &mut Reader<'_>, rows: Option<usize>) -> Result<Change, ReadError>
+    ensures value { Gives (allowed reader.new.room reader.new.bytes.now)
+        (λ x. (change_value x, reader.new.bytes.now)) result
+        (scroll_at reader.old.room rows changed.ScrollRegionUp reader.old.bytes.now) }
+    ensures room { reader.new.room ≡ reader.old.room }
 {
     let first_row = reader.unsigned()?;
-    let region_size = reader.unsigned()?;
+    let region_size = region_size_of(reader, rows, first_row)?;
     let scroll_count = reader.unsigned()?;
     Ok(Change::ScrollRegionUp {
         first_row,
@@ -167,12 +409,14 @@ fn scroll_up_of(reader: &mut Reader<'_>) -> Result<Change, WireError>
 }
 
 #[tactic(auto, unfolding(crate::specs::Decoding::scroll_at))]
-fn scroll_down_of(reader: &mut Reader<'_>) -> Result<Change, WireError>
-    ensures { Gives (λ x. (change_value x, reader.new.bytes.now)) result
-        (scroll_at changed.ScrollRegionDown reader.old.bytes.now) }
+fn scroll_down_of(reader: &mut Reader<'_>, rows: Option<usize>) -> Result<Change, ReadError>
+    ensures value { Gives (allowed reader.new.room reader.new.bytes.now)
+        (λ x. (change_value x, reader.new.bytes.now)) result
+        (scroll_at reader.old.room rows changed.ScrollRegionDown reader.old.bytes.now) }
+    ensures room { reader.new.room ≡ reader.old.room }
 {
     let first_row = reader.unsigned()?;
-    let region_size = reader.unsigned()?;
+    let region_size = region_size_of(reader, rows, first_row)?;
     let scroll_count = reader.unsigned()?;
     Ok(Change::ScrollRegionDown {
         first_row,

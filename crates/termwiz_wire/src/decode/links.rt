@@ -1,14 +1,13 @@
 //! Links.
 ghost use Rattle.std.specs.Prelude.{◌≡◌, ◌++◌, [], ◌∷◌, map, string_bytes, true, IfOk};
 ghost use Rattle.std.specs.Prelude.{OnOk};
-ghost use Rattle.cbor.specs.Decoding.{Gives, text_at};
+ghost use Rattle.cbor.specs.Decoding.{Gives, allowed, text_at};
 ghost use Rattle.termwiz_cell.specs.Link.{linked, param_bytes};
 ghost use Rattle.termwiz_cell.specs.LinkPairs.{with_pair};
-ghost use Rattle.termwiz_wire.specs.Decoding.{ascends, link_at, optional_link_at, param_at};
+ghost use Rattle.termwiz_wire.specs.Decoding.{ascends, key_at, link_at, optional_link_at, param_at};
 ghost use Rattle.termwiz_wire.specs.Decoding.{params_at};
 
-use crate::WireError;
-use cbor::{Kind, Reader};
+use cbor::{Kind, ReadError, Reader};
 use std::alloc::{AllocError, Global};
 use std::collections::BTreeMap;
 use std::rc::Rc;
@@ -19,9 +18,10 @@ use termwiz_cell::hyperlink::Hyperlink;
 pub(super) fn optional_link_of(
     alloc: Global,
     reader: &mut Reader<'_>,
-) -> Result<Option<Rc<Hyperlink>>, WireError>
-    ensures { Gives (λ x. (linked x, reader.new.bytes.now)) result
-        (optional_link_at reader.old.bytes.now) }
+) -> Result<Option<Rc<Hyperlink>>, ReadError>
+    ensures value { Gives (allowed reader.new.room reader.new.bytes.now) (λ x. (linked x, reader.new.bytes.now)) result
+        (optional_link_at reader.old.room reader.old.bytes.now) }
+    ensures room { reader.new.room ≡ reader.old.room }
 {
     match reader.kind()? {
         Kind::Null => {
@@ -32,15 +32,16 @@ pub(super) fn optional_link_of(
             let link = some_link_of(alloc, reader)?;
             Ok(Some(link))
         }
-        _ => Err(WireError::Type),
+        _ => Err(ReadError::Type),
     }
 }
 
 // A link. It stands apart, so that the way of no link is short.
 #[inline(never)]
-fn some_link_of(alloc: Global, reader: &mut Reader<'_>) -> Result<Rc<Hyperlink>, WireError>
-    ensures { Gives (λ x. (x.value, reader.new.bytes.now)) result
-        (link_at reader.old.bytes.now) }
+fn some_link_of(alloc: Global, reader: &mut Reader<'_>) -> Result<Rc<Hyperlink>, ReadError>
+    ensures value { Gives (allowed reader.new.room reader.new.bytes.now) (λ x. (x.value, reader.new.bytes.now)) result
+        (link_at reader.old.room reader.old.bytes.now) }
+    ensures room { reader.new.room ≡ reader.old.room }
 {
     let link = link_of(alloc, reader)?;
     let link = Rc::new(alloc, link)?;
@@ -48,21 +49,23 @@ fn some_link_of(alloc: Global, reader: &mut Reader<'_>) -> Result<Rc<Hyperlink>,
 }
 
 #[tactic(auto, unfolding(crate::specs::Decoding::link_at))]
-fn link_of(alloc: Global, reader: &mut Reader<'_>) -> Result<Hyperlink, WireError>
-    ensures { Gives (λ x. (x, reader.new.bytes.now)) result (link_at reader.old.bytes.now) }
+fn link_of(alloc: Global, reader: &mut Reader<'_>) -> Result<Hyperlink, ReadError>
+    ensures value { Gives (allowed reader.new.room reader.new.bytes.now) (λ x. (x, reader.new.bytes.now)) result (link_at reader.old.room reader.old.bytes.now) }
+    ensures room { reader.new.room ≡ reader.old.room }
 {
     reader.array_of(3)?;
     let uri = owned_of(alloc, reader)?;
     let implicit = reader.boolean()?;
-    let count = reader.array()?;
+    let count = reader.list()?;
     let params = params_of(alloc, count, reader)?;
     Ok(Hyperlink::from_parts(uri, params, implicit))
 }
 
 /// Decodes a text of its own.
-pub(super) fn owned_of(alloc: Global, reader: &mut Reader<'_>) -> Result<String, WireError>
-    ensures { Gives (λ x. (string_bytes x, reader.new.bytes.now)) result
-        (text_at reader.old.bytes.now) }
+pub(super) fn owned_of(alloc: Global, reader: &mut Reader<'_>) -> Result<String, ReadError>
+    ensures value { Gives (allowed reader.new.room reader.new.bytes.now) (λ x. (string_bytes x, reader.new.bytes.now)) result
+        (text_at reader.old.room reader.old.bytes.now) }
+    ensures room { reader.new.room ≡ reader.old.room }
 {
     let text = reader.text()?;
     let text = String::from_str(alloc, text)?;
@@ -73,9 +76,10 @@ fn params_of(
     alloc: Global,
     count: usize,
     reader: &mut Reader<'_>,
-) -> Result<BTreeMap<String, String>, WireError>
-    ensures { Gives (λ x. (map param_bytes x.entries, reader.new.bytes.now)) result
-        (params_at [] count reader.old.bytes.now) }
+) -> Result<BTreeMap<String, String>, ReadError>
+    ensures value { Gives (allowed reader.new.room reader.new.bytes.now) (λ x. (map param_bytes x.entries, reader.new.bytes.now)) result
+        (params_at reader.old.room [] count reader.old.bytes.now) }
+    ensures room { reader.new.room ≡ reader.old.room }
 {
     let mut params = BTreeMap::new(alloc);
     for _ in 0..count {
@@ -91,20 +95,40 @@ fn param_of(
     alloc: Global,
     before: &BTreeMap<String, String>,
     reader: &mut Reader<'_>,
-) -> Result<(String, String), WireError>
-    ensures value { Gives (λ x. ((string_bytes x.0, string_bytes x.1), reader.new.bytes.now)) result
-        (param_at (map param_bytes before.now.entries) reader.old.bytes.now) }
+) -> Result<(String, String), ReadError>
+    ensures value { Gives (allowed reader.new.room reader.new.bytes.now) (λ x. ((string_bytes x.0, string_bytes x.1), reader.new.bytes.now)) result
+        (param_at reader.old.room (map param_bytes before.now.entries) reader.old.bytes.now) }
     ensures above { IfOk result (λ x.
         ascends (map param_bytes before.now.entries) (string_bytes x.0) ≡ true) }
+    ensures room { reader.new.room ≡ reader.old.room }
 {
     reader.array_of(2)?;
-    let key = reader.text()?;
-    if !ascends(before, key) {
-        return Err(WireError::Range);
-    }
+    let key = key_of(before, reader)?;
     let key = String::from_str(alloc, key)?;
     let value = owned_of(alloc, reader)?;
     Ok((key, value))
+}
+
+// A key that is above those that there are.
+#[tactic(auto, unfolding(crate::specs::Decoding::key_at))]
+fn key_of<'a>(
+    before: &BTreeMap<String, String>,
+    reader: &mut Reader<'a>,
+) -> Result<&'a str, ReadError>
+    ensures value { Gives (allowed reader.new.room reader.new.bytes.now)
+        (λ x. (x.now, reader.new.bytes.now)) result
+        (key_at reader.old.room (map param_bytes before.now.entries) reader.old.bytes.now) }
+    ensures above { IfOk result (λ x.
+        ascends (map param_bytes before.now.entries) x.now ≡ true) }
+    ensures room { reader.new.room ≡ reader.old.room }
+{
+    let start = reader.bytes;
+    let key = reader.text()?;
+    if !ascends(before, key) {
+        reader.bytes = start;
+        return Err(ReadError::Range);
+    }
+    Ok(key)
 }
 
 // Whether the key is above the last one.

@@ -1,16 +1,15 @@
 //! Small attributes, colours and positions.
 ghost use Rattle.std.specs.Prelude.{◌≡◌};
-ghost use Rattle.cbor.specs.Decoding.{Gives};
+ghost use Rattle.cbor.specs.Decoding.{Gives, allowed};
 ghost use Rattle.termwiz_cell.specs.Shapes.{line_at, shape_at};
 ghost use Rattle.termwiz_cell.specs.Style.{blink_at, intensity_at, semantic_at, underline_at};
 ghost use Rattle.termwiz_cell.specs.Style.{vertical_at};
 ghost use Rattle.termwiz_wire.specs.Decoding.{are_small, color_at, palette_at, position_at};
 ghost use Rattle.termwiz_wire.specs.Decoding.{rgb_at, rgb_palette_at, split, style_at, styled};
-ghost use Rattle.termwiz_wire.specs.Decoding.{visibility_of};
+ghost use Rattle.termwiz_wire.specs.Decoding.{visibility_of, which_at};
 ghost use Rattle.termwiz_wire.specs.Encoding.{fields};
 
-use crate::WireError;
-use cbor::{Kind, Reader};
+use cbor::{Kind, ReadError, Reader};
 use termwiz_cell::cell::{
     Blink, CellAttributes, Intensity, SemanticType, Underline, VerticalAlign,
 };
@@ -122,14 +121,17 @@ fn has_small_fields(number: usize) -> bool
 
 /// The small attributes as one number.
 #[tactic(auto, unfolding(crate::specs::Decoding::style_at))]
-pub(super) fn style_of(reader: &mut Reader<'_>) -> Result<usize, WireError>
-    ensures { Gives (λ x. (x, reader.new.bytes.now)) result (style_at reader.old.bytes.now) }
+pub(super) fn style_of(reader: &mut Reader<'_>) -> Result<usize, ReadError>
+    ensures value { Gives (allowed reader.new.room reader.new.bytes.now) (λ x. (x, reader.new.bytes.now)) result (style_at reader.old.room reader.old.bytes.now) }
+    ensures room { reader.new.room ≡ reader.old.room }
 {
+    let start = reader.bytes;
     let number = reader.below(131072)?;
     if has_small_fields(number) {
         Ok(number)
     } else {
-        Err(WireError::Range)
+        reader.bytes = start;
+        Err(ReadError::Range)
     }
 }
 
@@ -163,16 +165,18 @@ pub(super) fn styled(number: usize) -> CellAttributes
 }
 
 #[tactic(auto, unfolding(crate::specs::Decoding::palette_at))]
-fn palette_of(reader: &mut Reader<'_>) -> Result<ColorAttribute, WireError>
-    ensures { Gives (λ x. (x, reader.new.bytes.now)) result (palette_at reader.old.bytes.now) }
+fn palette_of(reader: &mut Reader<'_>) -> Result<ColorAttribute, ReadError>
+    ensures value { Gives (allowed reader.new.room reader.new.bytes.now) (λ x. (x, reader.new.bytes.now)) result (palette_at reader.old.room reader.old.bytes.now) }
+    ensures room { reader.new.room ≡ reader.old.room }
 {
     let index = reader.below(256)?;
     Ok(ColorAttribute::PaletteIndex(index as u8))
 }
 
 #[tactic(auto, unfolding(crate::specs::Decoding::rgb_at))]
-fn rgb_of(reader: &mut Reader<'_>) -> Result<ColorAttribute, WireError>
-    ensures { Gives (λ x. (x, reader.new.bytes.now)) result (rgb_at reader.old.bytes.now) }
+fn rgb_of(reader: &mut Reader<'_>) -> Result<ColorAttribute, ReadError>
+    ensures value { Gives (allowed reader.new.room reader.new.bytes.now) (λ x. (x, reader.new.bytes.now)) result (rgb_at reader.old.room reader.old.bytes.now) }
+    ensures room { reader.new.room ≡ reader.old.room }
 {
     let red = reader.below(256)?;
     let green = reader.below(256)?;
@@ -182,9 +186,10 @@ fn rgb_of(reader: &mut Reader<'_>) -> Result<ColorAttribute, WireError>
 }
 
 #[tactic(auto, unfolding(crate::specs::Decoding::rgb_palette_at))]
-fn rgb_palette_of(reader: &mut Reader<'_>) -> Result<ColorAttribute, WireError>
-    ensures { Gives (λ x. (x, reader.new.bytes.now)) result
-        (rgb_palette_at reader.old.bytes.now) }
+fn rgb_palette_of(reader: &mut Reader<'_>) -> Result<ColorAttribute, ReadError>
+    ensures value { Gives (allowed reader.new.room reader.new.bytes.now) (λ x. (x, reader.new.bytes.now)) result
+        (rgb_palette_at reader.old.room reader.old.bytes.now) }
+    ensures room { reader.new.room ≡ reader.old.room }
 {
     let red = reader.below(256)?;
     let green = reader.below(256)?;
@@ -196,8 +201,11 @@ fn rgb_palette_of(reader: &mut Reader<'_>) -> Result<ColorAttribute, WireError>
 
 /// Decodes a colour.
 #[tactic(auto, unfolding(crate::specs::Decoding::color_at))]
-pub(super) fn color_of(reader: &mut Reader<'_>) -> Result<ColorAttribute, WireError>
-    ensures { Gives (λ x. (x, reader.new.bytes.now)) result (color_at reader.old.bytes.now) }
+pub(super) fn color_of(reader: &mut Reader<'_>) -> Result<ColorAttribute, ReadError>
+    ensures value { Gives (allowed reader.new.room reader.new.bytes.now)
+        (λ x. (x, reader.new.bytes.now)) result
+        (color_at reader.old.room reader.old.bytes.now) }
+    ensures room { reader.new.room ≡ reader.old.room }
 {
     match reader.kind()? {
         Kind::Null => {
@@ -205,25 +213,51 @@ pub(super) fn color_of(reader: &mut Reader<'_>) -> Result<ColorAttribute, WireEr
             Ok(ColorAttribute::Default)
         }
         Kind::Unsigned => palette_of(reader),
-        Kind::Array => match reader.array()? {
-            3 => rgb_of(reader),
-            4 => rgb_palette_of(reader),
-            _ => Err(WireError::Type),
-        },
-        _ => Err(WireError::Type),
+        Kind::Array => {
+            let start = reader.bytes;
+            match reader.array()? {
+                3 => rgb_of(reader),
+                4 => rgb_palette_of(reader),
+                _ => {
+                    reader.bytes = start;
+                    Err(ReadError::Type)
+                }
+            }
+        }
+        _ => Err(ReadError::Type),
+    }
+}
+
+/// Decodes one of so many kinds.
+#[inline(always)]
+#[tactic(auto, unfolding(crate::specs::Decoding::which_at))]
+pub(super) fn which_of(reader: &mut Reader<'_>, limit: usize) -> Result<usize, ReadError>
+    ensures value { Gives (allowed reader.new.room reader.new.bytes.now)
+        (λ x. (x, reader.new.bytes.now)) result
+        (which_at reader.old.room limit reader.old.bytes.now) }
+    ensures room { reader.new.room ≡ reader.old.room }
+{
+    let start = reader.bytes;
+    let number = reader.unsigned()?;
+    if number < limit {
+        Ok(number)
+    } else {
+        reader.bytes = start;
+        Err(ReadError::Type)
     }
 }
 
 /// Decodes a column or a row.
 #[tactic(auto, unfolding(crate::specs::Decoding::position_at))]
-pub(super) fn position_of(reader: &mut Reader<'_>) -> Result<Position, WireError>
-    ensures { Gives (λ x. (x, reader.new.bytes.now)) result (position_at reader.old.bytes.now) }
+pub(super) fn position_of(reader: &mut Reader<'_>) -> Result<Position, ReadError>
+    ensures value { Gives (allowed reader.new.room reader.new.bytes.now) (λ x. (x, reader.new.bytes.now)) result (position_at reader.old.room reader.old.bytes.now) }
+    ensures room { reader.new.room ≡ reader.old.room }
 {
     reader.array_of(2)?;
-    match reader.unsigned()? {
+    match which_of(reader, 3)? {
         0 => Ok(Position::Relative(reader.signed()?)),
         1 => Ok(Position::Absolute(reader.unsigned()?)),
         2 => Ok(Position::EndRelative(reader.unsigned()?)),
-        _ => Err(WireError::Type),
+        _ => Err(ReadError::Type),
     }
 }

@@ -1,28 +1,64 @@
-//! Answers.
-ghost use Rattle.std.specs.Prelude.{◌≡◌, ◌++◌, OnOk};
-ghost use Rattle.termwiz_wire.specs.Answers.{IsAnswer, answer};
+//! Answers, and what is asked for.
+ghost use Rattle.std.specs.Prelude.{◌≡◌, ◌<◌, ◌++◌, OnOk};
+ghost use Rattle.cbor.specs.Encoding.{Extends};
+ghost use Rattle.termwiz_cell.specs.Measure.{measure};
+ghost use Rattle.termwiz_wire.specs.Sent.{IsAsk, IsSent, answer, ask};
 
 use super::changes::encode_changes;
-use cbor::{put_array, put_bool, put_unsigned};
+use crate::sent::{Ask, SourceNo};
+use cbor::{put_array, put_unsigned};
 use std::alloc::AllocError;
+use termwiz_cell::emoji::Widths;
 use termwiz_surface_core::surface::Answer;
 
-/// Appends an answer to the bytes. After an error some of it may stand there.
-#[tactic(auto, unfolding(crate::specs::Answers::answer))]
-pub fn encode_answer(out: &mut Vec<u8>, value: &Answer) -> Result<(), AllocError>
-    ensures written { OnOk result (out.new.items ≡ out.old.items ++ answer value.now) }
+/// The version of the stream.
+const VERSION: usize = 2;
+
+/// Appends an answer of this source to the bytes, its texts cut and measured by this width value.
+/// It fails where memory is refused, and then some of the answer may stand behind what the bytes
+/// began with.
+#[tactic(auto, unfolding(crate::specs::Sent::answer))]
+pub fn encode_answer<W: Widths>(
+    out: &mut Vec<u8>,
+    widths: &W,
+    source: SourceNo,
+    value: &Answer,
+) -> Result<(), AllocError>
+    requires { 0 < source }
+    ensures written { OnOk result (out.new.items ≡ out.old.items ++ answer
+        (measure W.width_of widths.now) (record { source = source; answer = value.now })) }
+    // After an error too, the bytes begin with what they began with.
+    ensures kept { Extends out.old.items out.new.items }
     // It is one that is decoded again.
-    ensures form { OnOk result (IsAnswer value.now) }
+    ensures form { OnOk result
+        (IsSent (measure W.width_of widths.now) (record { source = source; answer = value.now })) }
 {
     let (width, height) = value.size();
     let base = value.base();
     let number = value.number();
     put_array(out, 7)?;
-    put_unsigned(out, 1)?;
+    put_unsigned(out, VERSION)?;
+    put_unsigned(out, source)?;
     put_unsigned(out, width)?;
     put_unsigned(out, height)?;
     put_unsigned(out, base)?;
     put_unsigned(out, number)?;
-    put_bool(out, value.is_repaint())?;
-    encode_changes(out, value.changes())
+    encode_changes(out, widths, value.changes())
+}
+
+/// Appends what a viewer asks by to the bytes. It fails where memory is refused, and then some of
+/// it may stand behind what the bytes began with.
+#[tactic(auto, unfolding(crate::specs::Sent::ask))]
+pub fn encode_ask(out: &mut Vec<u8>, value: Ask) -> Result<(), AllocError>
+    requires { value.source ≡ 0 → value.number ≡ 0 }
+    ensures written { OnOk result (out.new.items ≡ out.old.items ++ ask value) }
+    // After an error too, the bytes begin with what they began with.
+    ensures kept { Extends out.old.items out.new.items }
+    // It is one that is decoded again.
+    ensures form { OnOk result (IsAsk value) }
+{
+    put_array(out, 3)?;
+    put_unsigned(out, VERSION)?;
+    put_unsigned(out, value.source)?;
+    put_unsigned(out, value.number)
 }

@@ -1,14 +1,13 @@
 //! Attributes, and changes of one attribute.
 ghost use Rattle.std.specs.Prelude.{◌≡◌, ◌<◌, ◌++◌, OnOk};
+ghost use Rattle.cbor.specs.Encoding.{Extends};
 ghost use Rattle.termwiz_cell.specs.AttributeChangeValue.{attribute_change_value};
 ghost use Rattle.termwiz_wire.specs.Forms.{AreAttributes, IsAttributeChange, IsOptionalLink};
 ghost use Rattle.termwiz_wire.specs.Encoding.{attribute_change, attribute_kind, attribute_value};
 ghost use Rattle.termwiz_wire.specs.Encoding.{attributes, optional_link};
 
 use super::links::{put_link, put_optional_link};
-use super::small::{
-    blink_number, intensity_number, put_color, put_kind, style_number, underline_number,
-};
+use super::small::{put_color, put_kind, style_number};
 use cbor::{put_array, put_bool, put_null, put_unsigned};
 use std::alloc::AllocError;
 use termwiz_cell::cell::{AttributeChange, CellAttributes};
@@ -17,6 +16,7 @@ use termwiz_cell::cell::{AttributeChange, CellAttributes};
 #[tactic(auto, unfolding(crate::specs::Encoding::attributes))]
 pub(super) fn put_attributes(out: &mut Vec<u8>, attrs: &CellAttributes) -> Result<(), AllocError>
     ensures written { OnOk result (out.new.items ≡ out.old.items ++ attributes attrs.now) }
+    ensures kept { Extends out.old.items out.new.items }
     ensures form { OnOk result (AreAttributes attrs.now) }
 {
     put_array(out, 5)?;
@@ -31,6 +31,7 @@ pub(super) fn put_attributes(out: &mut Vec<u8>, attrs: &CellAttributes) -> Resul
 fn put_own_link(out: &mut Vec<u8>, attrs: &CellAttributes) -> Result<(), AllocError>
     ensures written { OnOk result
         (out.new.items ≡ out.old.items ++ optional_link attrs.now.hyperlink) }
+    ensures kept { Extends out.old.items out.new.items }
     ensures form { OnOk result (IsOptionalLink attrs.now.hyperlink) }
 {
     match attrs.hyperlink() {
@@ -64,6 +65,7 @@ pub(super) fn put_attribute_change(
 ) -> Result<(), AllocError>
     ensures written { OnOk result (out.new.items
         ≡ out.old.items ++ attribute_change (attribute_change_value value.now)) }
+    ensures kept { Extends out.old.items out.new.items }
     ensures form { OnOk result (IsAttributeChange (attribute_change_value value.now)) }
 {
     put_kind(out, attribute_kind(value))?;
@@ -74,13 +76,14 @@ pub(super) fn put_attribute_change(
 fn put_attribute_value(out: &mut Vec<u8>, value: &AttributeChange) -> Result<(), AllocError>
     ensures written { OnOk result (out.new.items
         ≡ out.old.items ++ attribute_value (attribute_change_value value.now)) }
+    ensures kept { Extends out.old.items out.new.items }
     ensures form { OnOk result (IsAttributeChange (attribute_change_value value.now)) }
 {
     match value {
-        AttributeChange::Intensity(value) => put_unsigned(out, intensity_number(*value)),
-        AttributeChange::Underline(value) => put_unsigned(out, underline_number(*value)),
+        AttributeChange::Intensity(value) => put_unsigned(out, *value as usize),
+        AttributeChange::Underline(value) => put_unsigned(out, *value as usize),
         AttributeChange::Italic(on) => put_bool(out, *on),
-        AttributeChange::Blink(value) => put_unsigned(out, blink_number(*value)),
+        AttributeChange::Blink(value) => put_unsigned(out, *value as usize),
         AttributeChange::Reverse(on) => put_bool(out, *on),
         AttributeChange::StrikeThrough(on) => put_bool(out, *on),
         AttributeChange::Invisible(on) => put_bool(out, *on),

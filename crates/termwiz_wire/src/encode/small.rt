@@ -1,7 +1,6 @@
 //! Small attributes, colours and positions.
 ghost use Rattle.std.specs.Prelude.{◌≡◌, ◌<◌, ◌++◌, OnOk};
-ghost use Rattle.cbor.specs.Encoding.{array, unsigned};
-ghost use Rattle.termwiz_cell.specs.Shapes.{line_number, shape_number};
+ghost use Rattle.cbor.specs.Encoding.{Extends, array, unsigned};
 ghost use Rattle.termwiz_cell.specs.Style.{blink_number, flag_number, intensity_number};
 ghost use Rattle.termwiz_cell.specs.Style.{semantic_number, underline_number, vertical_number};
 ghost use Rattle.termwiz_wire.specs.Encoding.{color, is_visible, position, style_number};
@@ -12,91 +11,8 @@ use std::alloc::AllocError;
 use termwiz_cell::cell::{
     Blink, CellAttributes, Intensity, SemanticType, Underline, VerticalAlign,
 };
-use termwiz_cell::change::{CursorShape, CursorVisibility, LineAttribute, Position};
+use termwiz_cell::change::{CursorVisibility, Position};
 use termwiz_cell::color::{ColorAttribute, RgbColor};
-
-pub(crate) fn intensity_number(value: Intensity) -> usize
-    ensures value { result ≡ intensity_number value }
-    ensures small { result < 3 }
-{
-    match value {
-        Intensity::Normal => 0,
-        Intensity::Bold => 1,
-        Intensity::Half => 2,
-    }
-}
-
-pub(crate) fn underline_number(value: Underline) -> usize
-    ensures value { result ≡ underline_number value }
-    ensures small { result < 6 }
-{
-    match value {
-        Underline::None => 0,
-        Underline::Single => 1,
-        Underline::Double => 2,
-        Underline::Curly => 3,
-        Underline::Dotted => 4,
-        Underline::Dashed => 5,
-    }
-}
-
-pub(crate) fn blink_number(value: Blink) -> usize
-    ensures value { result ≡ blink_number value }
-    ensures small { result < 3 }
-{
-    match value {
-        Blink::None => 0,
-        Blink::Slow => 1,
-        Blink::Rapid => 2,
-    }
-}
-
-fn semantic_number(value: SemanticType) -> usize
-    ensures value { result ≡ semantic_number value }
-    ensures small { result < 3 }
-{
-    match value {
-        SemanticType::Output => 0,
-        SemanticType::Input => 1,
-        SemanticType::Prompt => 2,
-    }
-}
-
-fn vertical_number(value: VerticalAlign) -> usize
-    ensures value { result ≡ vertical_number value }
-    ensures small { result < 3 }
-{
-    match value {
-        VerticalAlign::BaseLine => 0,
-        VerticalAlign::SuperScript => 1,
-        VerticalAlign::SubScript => 2,
-    }
-}
-
-pub(crate) fn shape_number(value: CursorShape) -> usize
-    ensures { result ≡ shape_number value }
-{
-    match value {
-        CursorShape::Default => 0,
-        CursorShape::BlinkingBlock => 1,
-        CursorShape::SteadyBlock => 2,
-        CursorShape::BlinkingUnderline => 3,
-        CursorShape::SteadyUnderline => 4,
-        CursorShape::BlinkingBar => 5,
-        CursorShape::SteadyBar => 6,
-    }
-}
-
-pub(crate) fn line_number(value: LineAttribute) -> usize
-    ensures { result ≡ line_number value }
-{
-    match value {
-        LineAttribute::DoubleHeightTopHalfLine => 0,
-        LineAttribute::DoubleHeightBottomHalfLine => 1,
-        LineAttribute::DoubleWidthLine => 2,
-        LineAttribute::SingleWidthLine => 3,
-    }
-}
 
 pub(super) fn is_visible(value: CursorVisibility) -> bool
     ensures { result ≡ is_visible value }
@@ -107,11 +23,46 @@ pub(super) fn is_visible(value: CursorVisibility) -> bool
     }
 }
 
+fn intensity_number(value: Intensity) -> usize
+    ensures value { result ≡ intensity_number value }
+    ensures small { result < 3 }
+{
+    value as usize
+}
+
+fn underline_number(value: Underline) -> usize
+    ensures value { result ≡ underline_number value }
+    ensures small { result < 6 }
+{
+    value as usize
+}
+
+fn blink_number(value: Blink) -> usize
+    ensures value { result ≡ blink_number value }
+    ensures small { result < 3 }
+{
+    value as usize
+}
+
+fn semantic_number(value: SemanticType) -> usize
+    ensures value { result ≡ semantic_number value }
+    ensures small { result < 3 }
+{
+    value as usize
+}
+
+fn vertical_number(value: VerticalAlign) -> usize
+    ensures value { result ≡ vertical_number value }
+    ensures small { result < 3 }
+{
+    value as usize
+}
+
 fn flag_number(on: bool) -> usize
     ensures value { result ≡ flag_number on }
     ensures small { result < 2 }
 {
-    if on { 1 } else { 0 }
+    on as usize
 }
 
 /// The small attributes in their bit fields, the lowest first. Most cells have the default ones.
@@ -145,7 +96,8 @@ fn joined_fields(attrs: &CellAttributes) -> usize
 /// Appends a kind and the head of the array that it shares with one value, which is to follow.
 #[inline]
 pub(super) fn put_kind(out: &mut Vec<u8>, kind: usize) -> Result<(), AllocError>
-    ensures { OnOk result (out.new.items ≡ out.old.items ++ array 2 ++ unsigned kind) }
+    ensures written { OnOk result (out.new.items ≡ out.old.items ++ array 2 ++ unsigned kind) }
+    ensures kept { Extends out.old.items out.new.items }
 {
     put_array(out, 2)?;
     put_unsigned(out, kind)
@@ -156,6 +108,7 @@ pub(super) fn put_kind(out: &mut Vec<u8>, kind: usize) -> Result<(), AllocError>
 #[tactic(auto, unfolding(crate::specs::Encoding::color))]
 pub(super) fn put_color(out: &mut Vec<u8>, value: ColorAttribute) -> Result<(), AllocError>
     ensures written { OnOk result (out.new.items ≡ out.old.items ++ color value) }
+    ensures kept { Extends out.old.items out.new.items }
     ensures form { OnOk result (IsColor value) }
 {
     match value {
@@ -177,6 +130,7 @@ pub(super) fn put_color(out: &mut Vec<u8>, value: ColorAttribute) -> Result<(), 
 fn put_rgb(out: &mut Vec<u8>, color: RgbColor) -> Result<(), AllocError>
     ensures written { OnOk result (out.new.items
         ≡ out.old.items ++ unsigned color.red ++ unsigned color.green ++ unsigned color.blue) }
+    ensures kept { Extends out.old.items out.new.items }
     ensures form { OnOk result (IsRgb color) }
 {
     let (red, green, blue) = color.to_tuple_rgb8();
@@ -189,6 +143,7 @@ fn put_rgb(out: &mut Vec<u8>, color: RgbColor) -> Result<(), AllocError>
 #[tactic(auto, unfolding(crate::specs::Encoding::position))]
 pub(super) fn put_position(out: &mut Vec<u8>, at: Position) -> Result<(), AllocError>
     ensures written { OnOk result (out.new.items ≡ out.old.items ++ position at) }
+    ensures kept { Extends out.old.items out.new.items }
     ensures form { IsPosition at }
 {
     match at {

@@ -12,10 +12,10 @@ pub loop-event-init : goal.loop-event-init
 loop-event-init c =
     let given = c.into_iter-event-iterator.ensures.into_iter_gives in
     let s = c.in_ok-surface.surface in
-    let P : List SendOutcome → Type 0 = λ os. HasRun c.args.width c.args.height c.args.events.items (into_iter_items c.into_iter-event-iterator.result) os s 0 in
-    let Q : List SendEvent → Type 0 = λ left. HasRun c.args.width c.args.height c.args.events.items left [] s 0 in
+    let P : List SendOutcome → Type 0 = λ os. HasRun c.args.source c.args.width c.args.height c.args.events.items (into_iter_items c.into_iter-event-iterator.result) os s 0 in
+    let Q : List SendEvent → Type 0 = λ left. HasRun c.args.source c.args.width c.args.height c.args.events.items left [] s 0 in
     record {
-      run = subst P (sym c.new-outcomes.ensures.items) (subst Q (sym given.0) (first_run c.args.width c.args.height c.args.events.items s 0 c.in_ok-surface.ensures refl c.requires.sizes));
+      run = subst P (sym c.new-outcomes.ensures.items) (subst Q (sym given.0) (first_run c.args.source c.args.width c.args.height c.args.events.items s 0 c.in_ok-surface.ensures refl c.requires.sizes));
       count = search rules;
     }
 
@@ -25,18 +25,18 @@ loop-event-preserved c =
     let left : List SendEvent = into_iter_items c.next.new.self in
     let steps : into_iter_items at.event-iterator ≡ c.in-Some.event ∷ left = c.in-Some.ensures.steps.0 in
     let short = ap length steps in
-    let P : List SendEvent → Type 0 = λ events. HasRun c.args.width c.args.height c.args.events.items events at.outcomes.items at.surface at.last in
-    let run : HasRun c.args.width c.args.height c.args.events.items (c.in-Some.event ∷ left) at.outcomes.items at.surface at.last = subst P steps at.invariant.run in
-    let Q : List SendOutcome → Type 0 = λ os. HasRun c.args.width c.args.height c.args.events.items left os c.serve.new.surface c.serve.new.last in
+    let P : List SendEvent → Type 0 = λ events. HasRun c.args.source c.args.width c.args.height c.args.events.items events at.outcomes.items at.surface at.last in
+    let run : HasRun c.args.source c.args.width c.args.height c.args.events.items (c.in-Some.event ∷ left) at.outcomes.items at.surface at.last = subst P steps at.invariant.run in
+    let Q : List SendOutcome → Type 0 = λ os. HasRun c.args.source c.args.width c.args.height c.args.events.items left os c.serve.new.surface c.serve.new.last in
     record {
       run = subst Q (sym c.in_ok-push.ensures.items)
-          (next_run c.args.width c.args.height c.args.events.items left at.outcomes.items at.surface c.serve.new.surface at.last c.serve.new.last c.in-Some.event c.in_ok-outcome.outcome run
-          (c.in_ok-outcome.ensures run.screen run.named) (All-tail IsInRange c.in-Some.event left run.in_range));
+          (next_run c.args.source c.args.width c.args.height c.args.events.items left at.outcomes.items at.surface c.serve.new.surface at.last c.serve.new.last c.in-Some.event c.in_ok-outcome.outcome run
+          (c.in_ok-outcome.ensures run.viewing run.named) (All-tail IsInRange c.in-Some.event left run.in_range));
       count = omega (arith, c.in-Some.ensures.steps.1, at.invariant.count, short);
     }
 
 pub returns : goal.returns
 returns c =
     let at = c.loop-event in
-    ended_run c.args.width c.args.height c.args.events.items (into_iter_items at.event-iterator) at.outcomes.items at.surface at.last
+    ended_run c.args.source c.args.width c.args.height c.args.events.items (into_iter_items at.event-iterator) at.outcomes.items at.surface at.last
     (nil_from_length (into_iter_items at.event-iterator) (sym at.invariant.count ∙ c.in-None.ensures.steps.0)) at.invariant.run

@@ -1,15 +1,55 @@
-use Rattle.std.proofs.Common.{◌≡◌, pos, ◌∙◌, arith}
+use Rattle.std.proofs.Common.{◌≡◌, pos, take, sym, subst, arith}
 use Rattle.std.proofs.lemmas.Int.{ints}
-use Rattle.tikeburo_c.proofs.Delivered.{answer_given, answers_of, front_is, shown_after}
+use Rattle.std.specs.Prelude.{Option}
+use Rattle.tikeburo_c.proofs.Delivered.{Asked, IsReadyIn, asked, asks_by, done_by, ready_reset, responded, serves_answered, serves_fed, serves_reset, shows_fed}
 use Rattle.tikeburo_c.specs.Handles.{kept_of}
+use Rattle.tikeburo_c.specs.Streams.{ServesIn}
+use Rattle.tikeburo_c.specs.declared.kept.Kept.{Kept}
 use Rattle.tikeburo_c.proofs.carried.carry.Goals as goal
 
+pub returns-then-answered-ne0-clause-serves : goal.returns-then-answered-ne0-clause-serves
+returns-then-answered-ne0-clause-serves c serves =
+    let reset = c.tk_client_reset-reset in
+    let ask = c.tk_client_ask-asked in
+    let answer = c.tk_respond-answered in
+    let surface = kept_of c.args.surface.now in
+    let served = serves_reset surface (kept_of c.args.client.now) (kept_of reset.new.handle) reset.ensures.0 serves reset.ensures.2 in
+    let still = subst (λ (k : Option Kept). ServesIn surface k) (sym ask.ensures.same) served in
+    serves_answered _ surface (kept_of ask.new.handle) (kept_of answer.new.handle) (c.args.room.now, 0) (answer.new.room, answer.new.len) answer.ensures.0 still answer.ensures.2
+
+pub returns-clause-serves : goal.returns-clause-serves
+returns-clause-serves c serves =
+    let reset = c.tk_client_reset-reset in
+    let ask = c.tk_client_ask-asked in
+    let answer = c.tk_respond-answered in
+    let fed = c.tk_client_feed in
+    let surface = kept_of c.args.surface.now in
+    let served = serves_reset surface (kept_of c.args.client.now) (kept_of reset.new.handle) reset.ensures.0 serves reset.ensures.2 in
+    let still = subst (λ (k : Option Kept). ServesIn surface k) (sym ask.ensures.same) served in
+    let after = serves_answered _ surface (kept_of ask.new.handle) (kept_of answer.new.handle) (c.args.room.now, 0) (answer.new.room, answer.new.len) answer.ensures.0 still answer.ensures.2 in
+    let ready = subst IsReadyIn (sym ask.ensures.same) (ready_reset surface (kept_of c.args.client.now) (kept_of reset.new.handle) reset.ensures.0 serves reset.ensures.2) in
+    let given : ask.result ≡ pos 0 = omega (arith, ints) in
+    let answered : answer.result ≡ pos 0 = omega (arith, ints) in
+    let asks = asked (kept_of reset.new.handle) _ (ask.new.room, ask.new.len) (done_by ask.result _ ask.ensures.read given) in
+    let asks_still = subst (λ (k : Option Kept). Asked (asks_by k) (take ask.new.len ask.new.room)) (sym ask.ensures.same) asks in
+    let responds = responded _ surface (kept_of ask.new.handle) (kept_of answer.new.handle) (c.args.room.now, 0) (answer.new.room, answer.new.len) still asks_still (done_by answer.result _ answer.ensures answered) in
+    serves_fed _ (kept_of answer.new.handle) (kept_of ask.new.handle) (kept_of fed.new.handle) c.args.fault.now fed.new.fault fed.ensures.0 after ready responds fed.ensures.2
+
 pub returns-clause-shows : goal.returns-clause-shows
-returns-clause-shows c s v past had_surface had_viewer same is_past names done =
-    let asked = c.tk_last-asked in
-    let sent = c.tk_answer-answered in
-    let answered : sent.result ≡ pos 0 = omega (arith, ints) in
-    let accepted : c.tk_accept.result ≡ pos 0 = omega (arith, ints) in
-    let given = answer_given (kept_of c.args.surface.now) asked.new.number (c.args.room.now, 0) (sent.new.room, sent.new.len) sent.result sent.ensures.read answered in
-    let answers = answers_of s (kept_of c.args.surface.now) asked.new.number (c.args.room.now, 0) (sent.new.room, sent.new.len) had_surface given in
-    shown_after s asked.new.number given.sent answers past is_past (kept_of asked.new.handle) v (kept_of c.tk_accept.new.handle) _ c.tk_accept.result (asked.ensures.same ∙ had_viewer) (front_is _ _ _ _ given.gives.1 given.gives.2) same names accepted c.tk_accept.ensures
+returns-clause-shows c serves done =
+    let reset = c.tk_client_reset-reset in
+    let ask = c.tk_client_ask-asked in
+    let answer = c.tk_respond-answered in
+    let fed = c.tk_client_feed in
+    let surface = kept_of c.args.surface.now in
+    let served = serves_reset surface (kept_of c.args.client.now) (kept_of reset.new.handle) reset.ensures.0 serves reset.ensures.2 in
+    let still = subst (λ (k : Option Kept). ServesIn surface k) (sym ask.ensures.same) served in
+    let after = serves_answered _ surface (kept_of ask.new.handle) (kept_of answer.new.handle) (c.args.room.now, 0) (answer.new.room, answer.new.len) answer.ensures.0 still answer.ensures.2 in
+    let ready = subst IsReadyIn (sym ask.ensures.same) (ready_reset surface (kept_of c.args.client.now) (kept_of reset.new.handle) reset.ensures.0 serves reset.ensures.2) in
+    let given : ask.result ≡ pos 0 = omega (arith, ints) in
+    let answered : answer.result ≡ pos 0 = omega (arith, ints) in
+    let taken : fed.result ≡ pos 0 = omega (arith, ints) in
+    let asks = asked (kept_of reset.new.handle) _ (ask.new.room, ask.new.len) (done_by ask.result _ ask.ensures.read given) in
+    let asks_still = subst (λ (k : Option Kept). Asked (asks_by k) (take ask.new.len ask.new.room)) (sym ask.ensures.same) asks in
+    let responds = responded _ surface (kept_of ask.new.handle) (kept_of answer.new.handle) (c.args.room.now, 0) (answer.new.room, answer.new.len) still asks_still (done_by answer.result _ answer.ensures answered) in
+    shows_fed _ (kept_of answer.new.handle) (kept_of ask.new.handle) (kept_of fed.new.handle) c.args.fault.now fed.new.fault after ready responds (done_by fed.result _ fed.ensures taken)

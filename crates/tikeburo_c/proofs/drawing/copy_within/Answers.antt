@@ -8,10 +8,10 @@ returns-in_err-copy_region c =
       Err c.in_err-copy_region.field-0.0,
       search rules,
       record {
-        copied = e.copied;
+        copied = e.copies;
         region = e.region;
         no_scroll = e.no_scroll;
-        goes_on = (e.followed, e.remembered);
+        goes_on = record { number = e.number; serves = e.serves; followed = e.followed };
       },
     )
 
@@ -21,9 +21,9 @@ returns c =
       Ok c.in_ok-copy_region.field-0,
       refl,
       record {
-        copied = e.copied;
+        copied = e.copies;
         region = e.region;
         no_scroll = e.no_scroll;
-        goes_on = (e.followed, e.remembered);
+        goes_on = record { number = e.number; serves = e.serves; followed = e.followed };
       },
     )

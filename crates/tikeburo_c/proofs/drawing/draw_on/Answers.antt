@@ -8,11 +8,11 @@ returns-in_err-draw_from_screen c =
       Err c.in_err-draw_from_screen.field-0.0,
       search rules,
       record {
-        drawn = e.drawn;
+        drawn = e.draws;
         restores = e.restores;
         region = e.region;
         no_scroll = e.no_scroll;
-        goes_on = (e.followed, e.remembered);
+        goes_on = record { number = e.number; serves = e.serves; followed = e.followed };
       },
     )
 
@@ -22,10 +22,10 @@ returns c =
       Ok c.in_ok-draw_from_screen.field-0,
       refl,
       record {
-        drawn = e.drawn;
+        drawn = e.draws;
         restores = e.restores;
         region = e.region;
         no_scroll = e.no_scroll;
-        goes_on = (e.followed, e.remembered);
+        goes_on = record { number = e.number; serves = e.serves; followed = e.followed };
       },
     )

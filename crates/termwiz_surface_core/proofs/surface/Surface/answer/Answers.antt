@@ -1,4 +1,4 @@
-use Rattle.std.proofs.Common.{◌≡◌, true, inl, inr, map, refl, sym, ap, subst, ◌∙◌}
+use Rattle.std.proofs.Common.{◌≡◌, ◌≤◌, true, inl, inr, map, refl, sym, ap, subst, ◌∙◌, arith}
 use Rattle.std.specs.Prelude.{not, if◌then◌else◌}
 use Rattle.std.specs.Cow.{IsBorrowedSlice, IsOwnedSlice}
 use Rattle.std.specs.declared.borrow.CowSlice.{CowSlice}
@@ -11,7 +11,7 @@ use Rattle.termwiz_surface_core.specs.SurfaceValue.{full_of, SurfaceValue, scree
 use Rattle.termwiz_screen.specs.Picture.{screens, full_screens}
 use Rattle.termwiz_screen.specs.Step.{regions_fit}
 use Rattle.termwiz_screen.specs.Stream.{IsStream, IsFullStream, stream_of}
-use Rattle.termwiz_surface_core.proofs.Remembering.{given-carries, is-given}
+use Rattle.termwiz_surface_core.proofs.Remembering.{given-carries, is-given, known_reaches}
 use Rattle.termwiz_surface_core.proofs.surface.Surface.answer.Given as given
 use Rattle.termwiz_surface_core.proofs.surface.Surface.answer.Goals as goal
 use Rattle.termwiz_surface_core.proofs.surface.Surface.answer.Goals.{then-is_repaint, else-is_repaint}
@@ -49,6 +49,17 @@ module _ (g : given.Over) (c : goal.Joined-is_repaint g) where
     | else-is_repaint w ↦ w.result-is ∙ rw w.if-is_repaint.false refl
   ]
 
+  ordered : c.if-is_repaint.result ≤ c.in_ok-number.number
+  ordered = elim (cases_Bool c.is_owned-is_repaint.result) [
+    | inl made ↦
+        let zero : c.if-is_repaint.result ≡ 0 = base ∙ rw made refl in
+        omega (arith, zero)
+    | inr lent ↦
+        let asked : c.if-is_repaint.result ≡ c.args.seq = base ∙ rw lent refl in
+        let is : is_known (delta_limit c.args.self.now.width c.args.self.now.height) c.args.self.now.log c.args.seq ≡ true = known ∙ rw lent refl in
+        omega (arith, asked, known_reaches (delta_limit c.args.self.now.width c.args.self.now.height) c.args.self.now.log c.args.seq is, c.in_ok-number.ensures.number)
+  ]
+
 pub invariant_of-result : goal.invariant_of-result
 invariant_of-result g c =
     let sound = c.self.invariant.0 in
@@ -57,6 +68,7 @@ invariant_of-result g c =
       some_row = sound.some_row;
       fits = sound.fits;
       fits_height = sound.fits_height;
+      ordered = ordered g c;
       regions =
           ap (regions_fit c.self.inside.height) (copies g c)
           ∙ subst (λ (v : SurfaceValue _). regions_fit v.height (stream_of c.in_ok-number.changes) ≡ true) (sym c.self.view_is) c.in_ok-number.ensures.regions;
@@ -65,12 +77,12 @@ invariant_of-result g c =
 pub returns-clause-given : goal.returns-clause-given
 returns-clause-given g c =
     let v = c.args.self.now in
-    is-given screens _ (screen_of v) v.log c.args.seq _ (width g c) (height g c) c.in_ok-number.ensures.number (base g c) (known g c) (subst (IsStream _ (screen_of v) v.log c.args.seq) (sym (copies g c)) c.in_ok-number.ensures.stream)
+    is-given screens _ (screen_of v) v.log c.args.seq c.is_owned-is_repaint.result _ (width g c) (height g c) c.in_ok-number.ensures.number (base g c) (known g c) (subst (IsStream _ (screen_of v) v.log c.args.seq) (sym (copies g c)) c.in_ok-number.ensures.stream)
 
 pub returns-clause-given_fully : goal.returns-clause-given_fully
 returns-clause-given_fully g c full =
     let v = c.args.self.now in
-    is-given full_screens _ (full_of v) v.log c.args.seq _ (width g c) (height g c) c.in_ok-number.ensures.number (base g c) (known g c) (subst (IsFullStream _ (full_of v) v.log c.args.seq) (sym (copies g c)) (c.in_ok-number.ensures.full full))
+    is-given full_screens _ (full_of v) v.log c.args.seq c.is_owned-is_repaint.result _ (width g c) (height g c) c.in_ok-number.ensures.number (base g c) (known g c) (subst (IsFullStream _ (full_of v) v.log c.args.seq) (sym (copies g c)) (c.in_ok-number.ensures.full full))
 
 pub returns-clause-carries : goal.returns-clause-carries
 returns-clause-carries g c past is = given-carries screens _ past _ _ _ _ is (returns-clause-given g c)

@@ -1,24 +1,71 @@
-use Rattle.std.proofs.Common.{◌≡◌, ℕ, ◌+◌, ◌≤◌, List, ◌++◌, length, subst}
+use Rattle.std.proofs.Common.{◌≡◌, ℕ, ◌-◌, ◌*◌, ◌≤◌, List, ◌++◌, length, take, drop, Result, Ok, Err, sym, subst, ◌∙◌, arith}
+use Rattle.std.proofs.lemmas.List.{length-drop}
 use Rattle.cbor.specs.Decoding.{IsBytes}
-use Rattle.cbor.proofs.Calls.{again_pair, found_of}
-use Rattle.termwiz_wire.specs.Answers.{answer, answer_at}
+use Rattle.termwiz_cell.specs.Measure.{measure}
+use Rattle.termwiz_wire.specs.declared.fault.Fault.{Fault}
+use Rattle.termwiz_wire.proofs.Within.{Took, took, stopped_at, within_again, lens_of}
+use Rattle.termwiz_wire.specs.Answers.{Decodes, Halt, answer_at, answer_in}
+use Rattle.termwiz_wire.specs.Sent.{IsSent, answer}
+use Rattle.termwiz_wire.specs.declared.fault.Limits.{Limits}
+use Rattle.termwiz_wire.specs.declared.sent.SentAnswer.{SentAnswer}
 use Rattle.termwiz_wire.proofs.AnswersAgain.{answer_again}
 use Rattle.termwiz_wire.proofs.AnswersFound.{answer_takes, answer-some}
 use Rattle.termwiz_wire.proofs.decode.answers.decode_answer.Goals as goal
 
-pub returns-clause-again : goal.returns-clause-again
-returns-clause-again c = λ a rest is e. again_pair (λ x. x) c.whole_answer.result c.whole_answer.new.reader.bytes.now answer_at c.args.reader.now.bytes.now (answer a ++ rest) a rest e (answer_again a rest is) c.whole_answer.ensures.exact
+abbrev reading : (List ℕ → ℕ) → ℕ → ℕ → List ℕ → Result (SentAnswer × List ℕ) Halt
+reading columns cells room bytes = answer_in columns room cells bytes
 
-pub returns-clause-found : goal.returns-clause-found
-returns-clause-found c =
-    found_of (λ x. (x, c.whole_answer.new.reader.bytes.now)) c.whole_answer.result (answer_at c.args.reader.now.bytes.now) (λ x. c.args.reader.now.bytes.now ≡ answer x ++ c.whole_answer.new.reader.bytes.now)
-    (λ x e. (answer_takes c.args.reader.now.bytes.now (x, c.whole_answer.new.reader.bytes.now) (subst (λ (bytes : List ℕ). IsBytes bytes) c.rest-bytes.ensures.value c.rest-bytes.ensures.bytes) e).parts)
-    c.whole_answer.ensures.exact
+abbrev View : List ℕ → SentAnswer × ℕ → SentAnswer × List ℕ
+View bytes x = (x.0, drop x.1 bytes)
 
-pub returns-clause-bounded : goal.returns-clause-bounded
-returns-clause-bounded c =
-    found_of (λ x. (x, c.whole_answer.new.reader.bytes.now)) c.whole_answer.result (answer_at c.args.reader.now.bytes.now) (λ x. length x.changes + length c.whole_answer.new.reader.bytes.now ≤ length c.args.reader.now.bytes.now)
-    (λ x e.
-    let parts = (answer_takes c.args.reader.now.bytes.now (x, c.whole_answer.new.reader.bytes.now) (subst (λ (bytes : List ℕ). IsBytes bytes) c.rest-bytes.ensures.value c.rest-bytes.ensures.bytes) e).parts in
-    answer-some x c.args.reader.now.bytes.now c.whole_answer.new.reader.bytes.now parts)
-    c.whole_answer.ensures.exact
+taken : (columns : List ℕ → ℕ) (limits : Limits) (bytes hand rest : List ℕ) (room n : ℕ) (s : SentAnswer) → hand ≡ take limits.bytes bytes → room ≡ limits.bytes - length bytes → IsBytes hand → answer_in columns room limits.cells hand ≡ Ok (s, rest) → n ≡ length hand - length rest → Took (reading columns limits.cells) limits.bytes (answer columns s) bytes n s
+taken columns limits bytes hand rest room n s same left fits e is = took (reading columns limits.cells) limits.bytes (answer columns s) bytes hand rest room n s same left (answer_takes columns room limits.cells hand (s, rest) fits e).taken.parts e is
+
+-- an answer within the limits
+again : (columns : List ℕ → ℕ) (limits : Limits) (bytes rest : List ℕ) (s : SentAnswer) → IsSent columns s → s.answer.width * s.answer.height ≤ limits.cells → length (answer columns s) ≤ limits.bytes → bytes ≡ answer columns s ++ rest → answer_at columns limits bytes ≡ Ok (s, rest)
+unfolding answer_at
+again columns limits bytes rest s is few fits e = within_again (reading columns limits.cells) limits.bytes bytes (answer columns s) rest s fits e (λ room more. answer_again columns room limits.cells s more is few)
+
+-- it has no more changes than bytes
+bounded : (columns : List ℕ → ℕ) (s : SentAnswer) (bytes : List ℕ) (n : ℕ) → bytes ≡ answer columns s ++ drop n bytes → n ≤ length bytes → length s.answer.changes ≤ n
+bounded columns s bytes n parts fits = omega (arith, answer-some columns s bytes (drop n bytes) parts, fits, length-drop n bytes)
+
+pub returns-in-Ok-clause-found : goal.returns-in-Ok-clause-found
+returns-in-Ok-clause-found g c =
+    let fits : IsBytes c.with_limit-reader.result.bytes.now = subst (λ (b : List ℕ). IsBytes b) c.rest-len.ensures.value c.rest-len.ensures.bytes in
+    let n = lens_of c.rest-len.result.now c.with_limit-reader.result.bytes.now c.answer_of.new.reader.bytes.now c.saturating_sub.result c.saturating_sub.ensures c.rest-len.ensures.value in
+    let t = taken (measure g.W.Widths.width_of c.args.widths.now) c.args.limits c.args.bytes.now c.with_limit-reader.result.bytes.now c.answer_of.new.reader.bytes.now c.with_limit-reader.result.room c.saturating_sub.result c.in-Ok.sent c.with_limit-reader.ensures.bytes c.with_limit-reader.ensures.room fits c.in-Ok.ensures.value n in
+    (t.parts, t.fits)
+
+pub returns-in-Ok-clause-exact : goal.returns-in-Ok-clause-exact
+unfolding answer_at
+returns-in-Ok-clause-exact g c =
+    let fits : IsBytes c.with_limit-reader.result.bytes.now = subst (λ (b : List ℕ). IsBytes b) c.rest-len.ensures.value c.rest-len.ensures.bytes in
+    let n = lens_of c.rest-len.result.now c.with_limit-reader.result.bytes.now c.answer_of.new.reader.bytes.now c.saturating_sub.result c.saturating_sub.ensures c.rest-len.ensures.value in
+    (taken (measure g.W.Widths.width_of c.args.widths.now) c.args.limits c.args.bytes.now c.with_limit-reader.result.bytes.now c.answer_of.new.reader.bytes.now c.with_limit-reader.result.room c.saturating_sub.result c.in-Ok.sent c.with_limit-reader.ensures.bytes c.with_limit-reader.ensures.room fits c.in-Ok.ensures.value n).exact
+
+pub returns-in-Ok-clause-again : goal.returns-in-Ok-clause-again
+returns-in-Ok-clause-again g c = λ s rest is few fits e.
+    sym (again (measure g.W.Widths.width_of c.args.widths.now) c.args.limits c.args.bytes.now rest s is few fits e) ∙ returns-in-Ok-clause-exact g c
+
+pub returns-in-Err-clause-exact : goal.returns-in-Err-clause-exact
+unfolding answer_at
+returns-in-Err-clause-exact g c =
+    let n = lens_of c.rest-len.result.now c.with_limit-reader.result.bytes.now c.answer_of.new.reader.bytes.now c.saturating_sub-in-Err.result c.saturating_sub-in-Err.ensures c.rest-len.ensures.value in
+    stopped_at (View c.args.bytes.now) (reading (measure g.W.Widths.width_of c.args.widths.now) c.args.limits.cells) c.args.limits.bytes c.args.bytes.now c.with_limit-reader.result.bytes.now c.answer_of.new.reader.bytes.now c.with_limit-reader.result.room c.answer_of.new.reader.room c.saturating_sub-in-Err.result c.in-Err.halted.error c.in-Err.halted.change c.located.result c.with_limit-reader.ensures.bytes c.with_limit-reader.ensures.room c.answer_of.ensures.room c.in-Err.ensures.value n c.located.ensures
+
+pub returns-in-Err-clause-again : goal.returns-in-Err-clause-again
+returns-in-Err-clause-again g c = λ s rest is few fits e.
+    subst (λ (r : Result (SentAnswer × List ℕ) Fault). Decodes (View c.args.bytes.now) (Err c.located.result) r) (again (measure g.W.Widths.width_of c.args.widths.now) c.args.limits c.args.bytes.now rest s is few fits e) (returns-in-Err-clause-exact g c)
+
+pub returns-in-Ok-clause-limited : goal.returns-in-Ok-clause-limited
+returns-in-Ok-clause-limited g c =
+    let fits : IsBytes c.with_limit-reader.result.bytes.now = subst (λ (b : List ℕ). IsBytes b) c.rest-len.ensures.value c.rest-len.ensures.bytes in
+    let n = lens_of c.rest-len.result.now c.with_limit-reader.result.bytes.now c.answer_of.new.reader.bytes.now c.saturating_sub.result c.saturating_sub.ensures c.rest-len.ensures.value in
+    let t = taken (measure g.W.Widths.width_of c.args.widths.now) c.args.limits c.args.bytes.now c.with_limit-reader.result.bytes.now c.answer_of.new.reader.bytes.now c.with_limit-reader.result.room c.saturating_sub.result c.in-Ok.sent c.with_limit-reader.ensures.bytes c.with_limit-reader.ensures.room fits c.in-Ok.ensures.value n in
+    ((answer_takes (measure g.W.Widths.width_of c.args.widths.now) c.with_limit-reader.result.room c.args.limits.cells c.with_limit-reader.result.bytes.now (c.in-Ok.sent, c.answer_of.new.reader.bytes.now) fits c.in-Ok.ensures.value).few, t.limited)
+
+pub returns-in-Ok-clause-bounded : goal.returns-in-Ok-clause-bounded
+returns-in-Ok-clause-bounded g c =
+    let found = returns-in-Ok-clause-found g c in
+    bounded (measure g.W.Widths.width_of c.args.widths.now) c.in-Ok.sent c.args.bytes.now c.saturating_sub.result found.0 found.1

@@ -1,7 +1,12 @@
-use Rattle.std.proofs.Common.{◌≡◌, ◌-◌, map, []}
+use Rattle.std.proofs.Common.{◌≡◌, ◌-◌, map, [], length}
 use Rattle.termwiz_cell.specs.ChangeValue.{change_value}
-use Rattle.termwiz_wire.specs.Decoding.{each_at}
+use Rattle.termwiz_cell.specs.Measure.{measure}
+use Rattle.termwiz_wire.specs.Answers.{each_at}
 use Rattle.termwiz_wire.proofs.decode.changes.each_of.Given as goal
 
-abbrev pub invariant-loop : goal.invariant-loop
-invariant-loop l = each_at (map change_value l.changes.items) (l.count - l.counter) l.reader.bytes.now ≡ each_at [] l.count l.fn.reader.bytes.now
+abbrev pub invariant-loop-index : goal.invariant-loop-index
+invariant-loop-index g l = record {
+  read : each_at (measure g.W.Widths.width_of l.widths) l.fn.reader.room l.rows (map change_value l.changes.items) (l.count - l.index) l.reader.bytes.now ≡ each_at (measure g.W.Widths.width_of l.widths) l.fn.reader.room l.rows [] l.count l.fn.reader.bytes.now;
+  made : length (map change_value l.changes.items) ≡ l.index;
+  room : l.reader.room ≡ l.fn.reader.room;
+}

@@ -1,0 +1,29 @@
+import type { Player } from './recording.js';
+import type { Client, Screen } from './tikeburo.js';
+
+/**
+ * `<tikeburo-screen>`, which is defined where this module is loaded. It sends the events `screen`,
+ * after each drawing, and `state`, where `state` or `message` is another.
+ */
+export class TikeburoScreen extends HTMLElement {
+    readonly screen: Screen;
+    readonly client: Client;
+    /** Where the source is a recording. */
+    readonly player: Player | null;
+    /** `ready` is said of a recording that is there; `lost` waits for a new connection. */
+    readonly state: 'connecting' | 'live' | 'ready' | 'ended' | 'lost' | undefined;
+    /** What is wrong, or nothing. */
+    readonly message: string | undefined;
+    /** How fast it plays, by the attribute of this name; 1 is as it was. */
+    readonly speed: number;
+
+    play(): void;
+    pause(): void;
+    seek(milliseconds: number): void;
+}
+
+declare global {
+    interface HTMLElementTagNameMap {
+        'tikeburo-screen': TikeburoScreen;
+    }
+}

@@ -1,0 +1,196 @@
+// A screen as a grid of rows and spans. Nothing of a stream becomes anything but text, a colour or
+// a number here, and each cell is isolated and clipped.
+import { addressOf, cssColor, spansOf } from './look.mjs';
+
+const DARK = ['#1d2330', '#e05f65', '#78c28a', '#dcb862', '#6a9cf0', '#b98ae0', '#5bb8c0',
+    '#c8ccd4', '#5c6478', '#ff8087', '#98e0a6', '#f6d585', '#8fb8ff', '#d6b0f5', '#86dbe2',
+    '#ffffff'];
+const LIGHT = ['#2a303c', '#c2333b', '#22803f', '#96690a', '#2a5fc4', '#8440b4', '#10767f',
+    '#8b93a1', '#6b7385', '#e04850', '#35a055', '#b98516', '#4a80e8', '#a45cd6', '#2096a0',
+    '#b4bbc7'];
+
+/** A look's colours: text, ground, cursor, and the palette's first 16. */
+function lookCss(scheme, [front, back, cursor], colors) {
+    const palette = colors.map((color, n) => `--color-${n}: ${color};`).join(' ');
+    return `color-scheme: ${scheme}; --front: ${front}; --back: ${back}; --cursor: ${cursor};`
+        + ` ${palette}`;
+}
+
+const DARK_CSS = lookCss('dark', ['#d8dee9', '#10141b', '#f2f4f8'], DARK);
+const LIGHT_CSS = lookCss('light', ['#2a303c', '#fdfdfb', '#20242c'], LIGHT);
+
+export const STYLES = `
+:host { display: block; ${DARK_CSS} background: var(--back); color: var(--front);
+    --line: color-mix(in srgb, currentColor 20%, transparent);
+    font: 16px "DejaVu Sans Mono", "Noto Sans Mono", Menlo, Consolas, monospace; }
+@media (prefers-color-scheme: light) { :host(:not([look=dark])) { ${LIGHT_CSS} } }
+:host([look=light]) { ${LIGHT_CSS} }
+:host([hidden]), [hidden] { display: none !important; }
+:host([fit=both]) { display: flex; flex-direction: column; }
+:host([fit=both]) [part=view] { display: grid; place-content: safe center; flex: 1;
+    min-height: 0; }
+[part=view] { overflow: auto; }
+[part=grid] { position: relative; margin: 0 auto; direction: ltr; text-align: left;
+    font-variant-ligatures: none; }
+.row { overflow: hidden; white-space: pre; contain: strict; }
+.row > span { display: block; height: 100%; transform-origin: 0 0; }
+.double > span { transform: scale(2, 1); }
+.top > span { transform: scale(2, 2); }
+.bottom > span { transform: translateY(-100%) scale(2, 2); }
+.cell { display: inline-block; height: 100%; overflow: hidden; vertical-align: top;
+    white-space: pre; color: inherit; unicode-bidi: isolate; text-underline-offset: 0.06em;
+    text-decoration-thickness: 0.06em; text-decoration-skip-ink: none; }
+.alone { text-align: center; }
+a.cell { cursor: pointer; }
+a.cell:hover { filter: brightness(1.25); }
+.unopened { cursor: help; }
+.super { font-size: 65%; line-height: 1.1em; }
+.sub { font-size: 65%; line-height: 2.7em; }
+.slow { animation: blink 1.2s steps(2, jump-none) infinite; }
+.rapid { animation: blink 0.5s steps(2, jump-none) infinite; }
+@keyframes blink { to { color: transparent; text-decoration-color: transparent; } }
+.cursor { position: absolute; overflow: hidden; white-space: pre; pointer-events: none;
+    user-select: none; box-sizing: border-box; text-align: center; }
+.blinking { animation: vanish 1.2s steps(2, jump-none) infinite; }
+@keyframes vanish { to { opacity: 0; } }
+@media (prefers-reduced-motion: reduce) { .slow, .rapid, .blinking { animation: none; } }
+[part=controls] { display: flex; gap: 10px; align-items: center; padding: 6px 10px;
+    font: 13px system-ui, sans-serif; border-top: 1px solid var(--line); }
+[part=time-line] { flex: 1; min-width: 40px; }
+[part=time] { font-variant-numeric: tabular-nums; }
+[part=play], [part=speed] { font: inherit; color: inherit; background: none; padding: 2px 8px;
+    border: 1px solid var(--line); border-radius: 6px; }
+[part=speed] option { background: var(--back); }
+[part=status] { padding: 6px 10px; font: 13px system-ui, sans-serif; color: var(--color-1);
+    unicode-bidi: isolate; overflow-wrap: anywhere; }
+`;
+
+const ROW_CLASSES = ['row top', 'row bottom', 'row double', 'row'];
+const LINE_HEIGHT = 1.25; // of the font's size
+const SMALLEST = 2, GREATEST_FONT = 64; // a cell's width and a font's size, in CSS pixels
+const LONGEST_CELL = 256; // no hostile cell of a million marks is laid out
+
+function makeRow() {
+    const row = document.createElement('div');
+    row.append(document.createElement('span'));
+    return row;
+}
+
+export class Grid {
+    element = document.createElement('div');
+    #rows = []; // the elements, and what they were made of
+    #keys = [];
+    #cursor = document.createElement('div');
+    #probe = document.createElement('span');
+    #cell = 9.6; // CSS pixels
+    #row = 20;
+    #drawn = '';
+
+    constructor() {
+        this.element.setAttribute('part', 'grid');
+        this.#probe.textContent = 'x'.repeat(50);
+        this.#probe.style.cssText = 'position:absolute;visibility:hidden;font-size:100px;'
+            + 'line-height:1;pointer-events:none;user-select:none;contain:strict;width:0;height:0';
+    }
+
+    /** A font's size by which the screen fits its view. */
+    fit({ width, height }, view, mode) {
+        if (!width || !view.clientWidth) return;
+        const wanted = parseFloat(getComputedStyle(view).fontSize), ratio = this.#ratio();
+        const dots = globalThis.devicePixelRatio || 1;
+        const snapped = length => Math.floor(length * dots) / dots; // so that no seams show
+        let cell = mode === 'both' ? GREATEST_FONT * ratio : wanted * ratio;
+        if (mode !== 'none') cell = Math.min(cell, view.clientWidth / width);
+        if (mode === 'both') {
+            cell = Math.min(cell, view.clientHeight / height / LINE_HEIGHT * ratio);
+        }
+        this.#cell = Math.max(SMALLEST, snapped(cell));
+        const font = this.#cell / ratio;
+        this.#row = Math.max(1, snapped(font * LINE_HEIGHT));
+        const css = `width:${width * this.#cell}px;height:${height * this.#row}px;`
+            + `font-size:${font}px;line-height:${this.#row}px`;
+        if (css === this.#drawn) return;
+        this.#drawn = this.element.style.cssText = css;
+        this.#keys = [];
+    }
+
+    /** A character's width, in font sizes. */
+    #ratio() {
+        this.#probe.style.contain = 'none';
+        this.#probe.style.width = 'auto';
+        this.element.append(this.#probe);
+        const { width } = this.#probe.getBoundingClientRect();
+        this.#probe.remove();
+        return width / 5000 || 0.6;
+    }
+
+    draw(screen) {
+        while (this.#rows.length > screen.height) this.#rows.pop().remove();
+        while (this.#rows.length < screen.height) this.#rows.push(makeRow());
+        this.#keys.length = screen.height;
+        this.#rows.forEach((row, y) => this.#drawRow(row, y, screen));
+        if (this.element.childElementCount !== screen.height + 1) {
+            this.element.replaceChildren(...this.#rows, this.#cursor);
+        }
+        this.#drawCursor(screen);
+    }
+
+    /** Draws a row unless it is as it was. */
+    #drawRow(row, y, screen) {
+        const spans = spansOf(screen, y), { attribute } = screen.rows[y];
+        const parts = spans.map(({ text, columns, look, attributes }) =>
+            [text, columns, look.css, look.classes, attributes.link?.uri]);
+        const key = JSON.stringify([attribute, parts]);
+        if (key === this.#keys[y]) return;
+        this.#keys[y] = key;
+        row.className = ROW_CLASSES[attribute];
+        row.style.height = `${this.#row}px`;
+        row.firstChild.replaceChildren(...spans.map(span => this.#makeSpan(span)));
+    }
+
+    #makeSpan({ text, columns, attributes, look, isPlain }) {
+        const { link } = attributes, address = link && addressOf(link);
+        const span = document.createElement(address ? 'a' : 'span');
+        span.className = `cell${isPlain ? '' : ' alone'}${look.classes}`;
+        span.style.cssText = `width:${columns * this.#cell}px;${look.css}`;
+        if (look.classes) span.style.animationDelay = `${-performance.now() % 6000}ms`; // in step
+        if (link) span.title = address ?? `not opened: ${link.uri}`;
+        if (address) {
+            const rel = 'noopener noreferrer nofollow';
+            Object.assign(span, { href: address, rel, target: '_blank' });
+        } else if (link) {
+            span.className += ' unopened';
+        }
+        span.textContent = isPlain ? text : text.slice(0, LONGEST_CELL);
+        return span;
+    }
+
+    /** The cursor lies over the cell that it is in; behind the last column, over the last one. */
+    #drawCursor(screen) {
+        const { x, y, shape, color, visible } = screen.cursor, cursor = this.#cursor;
+        cursor.hidden = !visible || !screen.height;
+        if (cursor.hidden) return;
+        const twice = screen.rows[y].attribute < 3 ? 2 : 1;
+        const at = Math.min(x, screen.width - 1);
+        const [column, cell] = [...screen.cells(y)].findLast(([begin]) => begin <= at);
+        const columns = Math.min(cell.columns, screen.width - column);
+        const paint = cssColor(color, 'var(--cursor)');
+        const kind = shape === 0 ? 'block' : ['block', 'underline', 'bar'][shape - 1 >> 1];
+        const look = {
+            block: `background:${paint};color:var(--back)`,
+            underline: `border-bottom:2px solid ${paint}`,
+            bar: `border-left:2px solid ${paint}`,
+        }[kind];
+        cursor.className = shape % 2 ? 'cursor blinking' : 'cursor';
+        cursor.ariaHidden = 'true';
+        cursor.textContent = kind === 'block' && twice === 1 ? cell.text : '';
+        cursor.style.cssText = `left:${column * this.#cell * twice}px;top:${y * this.#row}px;`
+            + `width:${columns * this.#cell * twice}px;height:${this.#row}px;${look}`;
+    }
+
+    /** The text that is selected, without blanks at its rows' ends. */
+    selectedText(root) {
+        const text = String(root.getSelection?.() ?? document.getSelection());
+        return text.replace(/[ \u00a0]+$/gm, '');
+    }
+}

@@ -1,0 +1,396 @@
+// The page in a browser: its cells, as they are in the document and in a screenshot, are those of
+// the client's screen. Run it by `node --test test/page.mjs`; `SHOTS=FOLDER` keeps screenshots.
+import assert from 'node:assert/strict';
+import { once } from 'node:events';
+import { readFileSync, writeFileSync } from 'node:fs';
+import { createServer } from 'node:http';
+import { join } from 'node:path';
+import test, { after, before } from 'node:test';
+import { fileURLToPath } from 'node:url';
+import { Player, readRecording } from '../recording.mjs';
+import { answer, Kept, serve } from '../serve.mjs';
+import { Client, decodeAsk, styleOf } from '../tikeburo.mjs';
+import { Chromium, findChromium } from './chromium.mjs';
+import { sequence } from './encode.mjs';
+import { readPng } from './png.mjs';
+import { randomFrom } from './random.mjs';
+import { randomChanges } from './screens.mjs';
+
+const demo = fileURLToPath(new URL('../demo.cborseq', import.meta.url));
+const program = findChromium(), skip = program ? false : 'chromium is not there';
+const servers = [];
+let browser = null;
+
+before(() => {
+    if (program) browser = new Chromium(program);
+});
+after(async () => {
+    await browser?.close();
+    for (const server of servers) {
+        server.close();
+        server.closeAllConnections();
+    }
+});
+
+const ELEMENT = "document.querySelector('tikeburo-screen')";
+const ROOT = `${ELEMENT}.shadowRoot`;
+
+async function open(source, query = '', width = 1000, height = 640) {
+    const server = await serve({ port: 0, source });
+    servers.push(server);
+    const address = `http://127.0.0.1:${server.address().port}/${query}`;
+    const page = await browser.open(address, width, height);
+    await page.until(`customElements.get('tikeburo-screen') && ${ELEMENT}.screen.width`);
+    return page;
+}
+
+const numberIs = number => `${ELEMENT}.screen.number === ${number}n && ${ELEMENT}.state === 'live'`;
+const drawn = page => page.evaluate(
+    'new Promise(done => requestAnimationFrame(() => requestAnimationFrame(done)))');
+
+/** Each row's class and its spans, as a browser has laid them out and styled them. */
+const readRows = page => page.evaluate(`(() => {
+    const grid = ${ROOT}.querySelector('[part=grid]'), left = grid.getBoundingClientRect().left;
+    const cell = grid.getBoundingClientRect().width / ${ELEMENT}.screen.width;
+    return [...grid.querySelectorAll('.row')].map(row => ({
+        name: row.className,
+        spans: [...row.firstChild.children].map(span => {
+            const style = getComputedStyle(span), box = span.getBoundingClientRect();
+            return {
+                text: span.textContent, left: (box.left - left) / cell, columns: box.width / cell,
+                weight: style.fontWeight, slant: style.fontStyle, front: style.color,
+                back: style.backgroundColor, line: style.textDecorationLine,
+                shape: style.textDecorationStyle, lines: style.backgroundImage.split('),').length,
+                cut: style.overflow, bidi: style.unicodeBidi, href: span.href ?? null,
+                blinks: style.animationName, name: span.localName,
+            };
+        }),
+    }));
+})()`);
+
+const UNDERLINES = ['solid', 'solid', 'double', 'wavy', 'dotted', 'dashed'];
+const rgb = color => (Array.isArray(color) ? `rgb(${color.slice(0, 3).join(', ')})` : null);
+
+/** Whether a span looks as a cell's attributes say. */
+function judgeLook(span, attributes) {
+    const style = styleOf(attributes.style);
+    assert.equal(span.weight, style.intensity === 1 ? '700' : '400');
+    assert.equal(span.slant, style.italic ? 'italic' : 'normal');
+    assert.equal(span.line, style.underline ? 'underline' : 'none');
+    if (style.underline) assert.equal(span.shape, UNDERLINES[style.underline]);
+    const { foreground: front, background: back } = attributes;
+    const [text, ground] = (style.reverse ? [back, front] : [front, back]).map(rgb);
+    if (ground) assert.equal(span.back, ground);
+    if (style.invisible) assert.equal(span.front, 'rgba(0, 0, 0, 0)');
+    else if (text && style.intensity !== 2 && !style.blink) assert.equal(span.front, text);
+    assert.equal(span.blinks, style.blink ? 'blink' : 'none');
+    const isOpened = attributes.link?.uri.trim().startsWith('https://e');
+    assert.equal(span.href, isOpened ? new URL(attributes.link.uri).href : null);
+    assert.equal(span.name, isOpened ? 'a' : 'span');
+}
+
+/** Whether each cell of the screen stands in the page, where it belongs. */
+async function judgeCells(page, screen) {
+    const rows = await readRows(page);
+    assert.equal(rows.length, screen.height);
+    rows.forEach(({ name, spans }, y) => {
+        const { attribute } = screen.rows[y];
+        assert.equal(name, ['row top', 'row bottom', 'row double', 'row'][attribute]);
+        const scale = attribute < 3 ? 2 : 1, cells = [...screen.cells(y)];
+        for (const span of spans) {
+            const [x, { attributes }] = cells[0];
+            judgeLook(span, attributes);
+            assert.equal(span.cut, 'hidden');
+            assert.equal(span.bidi, 'isolate');
+            assert.ok(Math.abs(span.left / scale - x) < 0.05, `${span.left} for ${x}`);
+            let text = '', end = x;
+            while (text.length < span.text.length) {
+                const [, cell] = cells.shift();
+                text += cell.text;
+                end += cell.columns;
+            }
+            assert.equal(text, span.text);
+            const columns = Math.min(end, screen.width) - x;
+            assert.ok(Math.abs(span.columns / scale - columns) < 0.05);
+        }
+        assert.equal(cells.length, 0);
+    });
+}
+
+/** The middles of blanks with a true colour have it in a screenshot. Returns how many there are. */
+async function judgePixels(page, screen) {
+    const pixel = readPng(await page.screenshot());
+    const box = await page.evaluate(`(() => {
+        const grid = ${ROOT}.querySelector('[part=grid]');
+        return JSON.parse(JSON.stringify(grid.getBoundingClientRect()));
+    })()`);
+    let judged = 0;
+    for (let y = 0; y < screen.height; y++) {
+        if (screen.rows[y].attribute !== 3) continue;
+        for (const [x, { text, attributes }] of screen.cells(y)) {
+            const { background, style } = attributes, { cursor } = screen;
+            const isCursor = cursor.y === y && Math.abs(cursor.x - x) < 2;
+            if (text !== ' ' || !Array.isArray(background) || style || isCursor) continue;
+            const left = box.left + (x + 0.5) * box.width / screen.width;
+            const top = box.top + (y + 0.5) * box.height / screen.height;
+            assert.deepEqual(pixel(Math.floor(left), Math.floor(top)), background.slice(0, 3));
+            judged++;
+        }
+    }
+    return judged;
+}
+
+test('30 random screens, in the document and in screenshots', { skip }, async () => {
+    const random = randomFrom(30), kept = new Kept(), client = new Client();
+    let page = null, base = 0, size = null, pixels = 0;
+    for (let number = 1; number <= 30; number++) {
+        if (base === 0) size = [1 + random(60), 1 + random(20)];
+        const answer = sequence([2, 9, ...size, base, number, randomChanges(random, ...size)]);
+        kept.put(answer);
+        client.feed(answer);
+        assert.equal(client.fault, null);
+        page ??= await open(kept);
+        await page.until(numberIs(number));
+        await drawn(page);
+        await judgeCells(page, client.screen);
+        pixels += await judgePixels(page, client.screen);
+        base = random(3) ? number : 0;
+    }
+    assert.ok(pixels > 100, `${pixels} pixels`);
+    const names = await page.evaluate(
+        `[...new Set([...${ROOT}.querySelectorAll('[part=grid] *')].map(e => e.localName))]`);
+    assert.deepEqual(names.filter(name => !['div', 'span', 'a'].includes(name)), []);
+});
+
+test('the demo is played, there and back', { skip }, async () => {
+    const page = await open(demo, '?controls&speed=8');
+    const { entries } = readRecording(readFileSync(demo)), player = new Player(entries);
+    assert.equal(await page.evaluate(`${ELEMENT}.player.duration`), player.duration);
+    await page.until(`${ELEMENT}.player.time > 500`);
+    await page.evaluate(`${ELEMENT}.pause()`);
+    for (const time of [player.duration, 0, 3000, 1200, 4000, player.duration]) {
+        await page.evaluate(`${ELEMENT}.seek(${time})`);
+        await drawn(page);
+        player.seek(time);
+        await judgeCells(page, player.client.screen);
+    }
+    await page.evaluate(`${ELEMENT}.play()`); // from the end it begins anew
+    await page.until(`${ELEMENT}.player.time < ${player.duration}`);
+    await page.until(`${ELEMENT}.player.isOver`);
+});
+
+const repaint = (number, ...changes) => sequence([2, 9, 20, 4, 0, number, changes]);
+const shownText = page => page.evaluate(
+    `[...${ROOT}.querySelectorAll('.row')].map(row => row.textContent.trimEnd()).join('|')`);
+
+test('links open on a click alone, and https alone', { skip }, async () => {
+    const kept = new Kept(), links = ['https://a.invalid/', 'javascript:document.title=1'];
+    kept.put(repaint(1, ...links.flatMap((uri, y) =>
+        [[6, [1, 0], [1, y]], [1, [0, null, null, null, [uri, false, []]]], [2, 'a link']])));
+    const page = await open(kept), opened = [];
+    await browser.send('Target.setDiscoverTargets', { discover: true });
+    browser.on('Target.targetCreated', ({ targetInfo }) => opened.push(targetInfo.openerId));
+    await drawn(page);
+    const places = await page.evaluate(`[...${ROOT}.querySelectorAll('[title]')].map(e => {
+        const { left, top } = e.getBoundingClientRect();
+        return [e.localName, e.rel ?? '', e.title, left + 5, top + 5];
+    })`);
+    assert.deepEqual(places.map(place => place.slice(0, 3)), [
+        ['a', 'noopener noreferrer nofollow', links[0]], ['span', '', `not opened: ${links[1]}`],
+    ]);
+    opened.length = 0;
+    await page.click(places[1][3], places[1][4]);
+    await new Promise(done => setTimeout(done, 200));
+    assert.equal(opened.length, 0);
+    await page.click(places[0][3], places[0][4]);
+    for (let left = 100; left && !opened.length; left--) {
+        await new Promise(done => setTimeout(done, 50));
+    }
+    assert.equal(opened.length, 1);
+});
+
+test('what is copied is the text without blanks behind it', { skip }, async () => {
+    const kept = new Kept();
+    kept.put(repaint(1, [2, 'か and <b>\r\n  two', [1, 1, 2, 8, 1, 1, 1, 2, 0, 5, 1, 1]]));
+    const page = await open(kept);
+    await drawn(page);
+    const copied = await page.evaluate(`new Promise(done => {
+        document.addEventListener('copy', event => done(event.clipboardData.getData('text/plain')));
+        const grid = ${ROOT}.querySelector('[part=grid]');
+        getSelection().setBaseAndExtent(grid.children[0], 0, grid.children[2], 0);
+        document.execCommand('copy');
+    })`);
+    assert.equal(copied.trimEnd(), 'か and <b>\n  two');
+});
+
+test('the screen fits the window, in dark and in light', { skip }, async () => {
+    const kept = new Kept();
+    kept.put(repaint(1, [2, 'text']));
+    const page = await open(kept);
+    const size = async (...window) => {
+        await page.resize(...window);
+        await drawn(page);
+        await drawn(page);
+        return page.evaluate(`(() => {
+            const grid = ${ROOT}.querySelector('[part=grid]').getBoundingClientRect();
+            const view = ${ROOT}.querySelector('[part=view]').getBoundingClientRect();
+            const isWithin = grid.width <= view.width && grid.height <= view.height;
+            return [grid.width, grid.height, isWithin];
+        })()`);
+    };
+    const great = await size(1000, 640), small = await size(300, 400, 2);
+    assert.ok(great[2] && small[2]);
+    assert.ok(great[0] > 500 && small[0] < 300 && small[0] > 200, `${great} ${small}`);
+    const back = `getComputedStyle(${ELEMENT}).backgroundColor`;
+    await page.evaluate(`${ELEMENT}.removeAttribute('look')`);
+    await page.prefer({ 'prefers-color-scheme': 'light' });
+    assert.equal(await page.evaluate(back), 'rgb(253, 253, 251)');
+    await page.prefer({ 'prefers-color-scheme': 'dark' });
+    assert.equal(await page.evaluate(back), 'rgb(16, 20, 27)');
+    await page.evaluate(`${ELEMENT}.setAttribute('look', 'light')`);
+    assert.equal(await page.evaluate(back), 'rgb(253, 253, 251)');
+});
+
+test('blinks, and none where less motion is preferred', { skip }, async () => {
+    const kept = new Kept();
+    kept.put(repaint(1, [1, [1 << 5, null, null, null, null]], [2, 'slow'], [8, 1]));
+    const page = await open(kept);
+    await drawn(page);
+    const names = `['.slow', '.cursor'].map(name =>
+        getComputedStyle(${ROOT}.querySelector(name)).animationName).join()`;
+    assert.equal(await page.evaluate(names), 'blink,vanish');
+    await page.prefer({ 'prefers-reduced-motion': 'reduce' });
+    assert.equal(await page.evaluate(names), 'none,none');
+});
+
+test('the cursor has its place, its shape and its colour', { skip }, async () => {
+    const kept = new Kept();
+    const found = async (page, number, ...changes) => {
+        kept.put(repaint(number, ...changes));
+        page ??= await open(kept);
+        await page.until(numberIs(number));
+        await drawn(page);
+        return [page, await page.evaluate(`(() => {
+            const cursor = ${ROOT}.querySelector('.cursor'), style = getComputedStyle(cursor);
+            const box = cursor.getBoundingClientRect();
+            const grid = ${ROOT}.querySelector('[part=grid]').getBoundingClientRect();
+            const cell = grid.width / 20, row = grid.height / 4;
+            return [Math.round((box.left - grid.left) / cell),
+                Math.round((box.top - grid.top) / row), Math.round(box.width / cell),
+                style.display, style.backgroundColor, style.borderBottomWidth,
+                style.borderLeftWidth];
+        })()`)];
+    };
+    const red = [7, [255, 0, 0]], wide = [2, 'abか', [2, 1, 1, 1, 1, 2]];
+    const none = 'rgba(0, 0, 0, 0)', places = [];
+    let [page, place] = await found(null, 1, red, wide, [8, 2], [6, [1, 3], [1, 0]]);
+    places.push(place);
+    [page, place] = await found(page, 2, red, [8, 3], [6, [1, 20], [1, 2]]);
+    places.push(place);
+    [page, place] = await found(page, 3, [8, 6], [6, [1, 1], [1, 1]], [13, 2]);
+    places.push(place);
+    [page, place] = await found(page, 4, [9, false]);
+    assert.deepEqual(places, [
+        [2, 0, 2, 'block', 'rgb(255, 0, 0)', '0px', '0px'],
+        [19, 2, 1, 'block', none, '2px', '0px'], [2, 1, 2, 'block', none, '0px', '2px'],
+    ]);
+    assert.equal(place[3], 'none');
+});
+
+test('who joins late waits for a repaint', { skip }, async () => {
+    const kept = new Kept(), server = await serve({ port: 0, source: kept });
+    servers.push(server);
+    kept.put(sequence([2, 9, 20, 4, 3, 4, [[2, 'lost']]]));
+    const page = await browser.open(`http://127.0.0.1:${server.address().port}/`, 800, 600);
+    await page.until(`${ELEMENT}?.message === 'waiting for a repaint'`);
+    kept.put(repaint(5, [2, 'shown']));
+    await page.until(`${numberIs(5)} && ${ELEMENT}.message === ''`);
+    await drawn(page);
+    assert.equal(await shownText(page), 'shown|||');
+});
+
+test('a damaged stream: the screen stays, and the place is shown', { skip }, async () => {
+    const kept = new Kept();
+    kept.put(repaint(1, [2, 'it stays']));
+    const page = await open(kept);
+    await page.until(numberIs(1));
+    kept.put(Uint8Array.from([0x87, 2, 0]));
+    await page.until(`${ELEMENT}.message.startsWith('answer 2: range at 2')`);
+    assert.equal(await shownText(page), 'it stays|||');
+});
+
+/** A source that holds each ask until `put` has what to answer: bytes, or a status. */
+class Asked {
+    asks = [];
+    #answers = [];
+    #waiting = [];
+
+    async start() {
+        const server = createServer((request, response) => (request.method === 'POST'
+            ? this.#hold(request, response)
+            : answer(request, response, null, server.address().port)));
+        servers.push(server);
+        server.listen(0, '127.0.0.1');
+        await once(server, 'listening');
+        return `http://127.0.0.1:${server.address().port}/?pull`;
+    }
+
+    async #hold(request, response) {
+        const parts = [];
+        for await (const part of request) parts.push(part);
+        const { surface, number } = decodeAsk(Buffer.concat(parts));
+        this.asks.push(`${surface} ${number}`);
+        this.#waiting.push(response);
+        this.#match();
+    }
+
+    put(next) {
+        this.#answers.push(next);
+        this.#match();
+    }
+
+    #match() {
+        while (this.#answers.length && this.#waiting.length) {
+            const next = this.#answers.shift(), response = this.#waiting.shift();
+            response.writeHead(typeof next === 'number' ? next : 200);
+            response.end(typeof next === 'number' ? '' : next);
+        }
+    }
+}
+
+test('a source that takes asks', { skip }, async () => {
+    const source = new Asked(), page = await browser.open(await source.start(), 800, 600);
+    const next = (base, text) => sequence([2, 9, 20, 4, base, base + 1, [[2, text]]]);
+    source.put(repaint(5, [2, 'one']));
+    await page.until(`customElements.get('tikeburo-screen') && ${numberIs(5)}`);
+    source.put(next(5, ' two'));
+    source.put(500); // from then on it is another connection
+    source.put(next(6, ' three'));
+    await page.until(numberIs(7));
+    source.put(Uint8Array.from([0x87, 3]));
+    await page.until(`${ELEMENT}.state === 'lost'`);
+    await drawn(page);
+    assert.equal(await shownText(page), 'one two three|||');
+    assert.deepEqual(source.asks, ['0 0', '9 5', '9 6', '9 6', '9 7']);
+    await page.evaluate(`${ELEMENT}.setAttribute('src', 'again')`); // a version is no passing fault
+    source.put(repaint(1, [2, 'anew']));
+    await page.until(numberIs(1));
+    source.put(410);
+    await page.until(`${ELEMENT}.state === 'ended'`);
+    assert.deepEqual(source.asks.slice(5), ['0 0', '9 1']);
+});
+
+test('screenshots of the demo', { skip: skip || !process.env.SHOTS }, async () => {
+    const page = await open(demo, '?controls', 900, 600);
+    for (const look of ['dark', 'light']) {
+        await page.prefer({ 'prefers-color-scheme': look, 'prefers-reduced-motion': 'reduce' });
+        await page.evaluate(`(() => {
+            const button = document.getElementById('look');
+            if (button.textContent === '${look}') button.click();
+            ${ELEMENT}.pause();
+            ${ELEMENT}.seek(7000);
+        })()`);
+        await drawn(page);
+        writeFileSync(join(process.env.SHOTS, `browser-${look}.png`), await page.screenshot());
+    }
+});

@@ -1,0 +1,141 @@
+//! Clients, which show what a surface shows by way of bytes.
+
+use crate::error::Error;
+use crate::fault::Fault;
+use crate::ffi::{self, tk_fault};
+use crate::handle::{self, Handle};
+use crate::screen::Screen;
+use crate::surface::Widths;
+
+/// What a client asks of the surface whose answers it is fed: bytes, which can go over any
+/// connection.
+#[derive(Clone, PartialEq, Eq, Hash, Debug)]
+pub struct Ask {
+    bytes: Vec<u8>,
+}
+
+impl Ask {
+    /// Its bytes: one ask of `docs/stream.cddl`, 20 at most.
+    pub fn as_bytes(&self) -> &[u8] {
+        &self.bytes
+    }
+
+    /// Its bytes.
+    pub fn into_bytes(self) -> Vec<u8> {
+        self.bytes
+    }
+}
+
+/// The ask of these bytes, which [`Surface::respond`](crate::Surface::respond) judges.
+impl From<Vec<u8>> for Ask {
+    fn from(bytes: Vec<u8>) -> Ask {
+        Ask { bytes }
+    }
+}
+
+impl From<&[u8]> for Ask {
+    fn from(bytes: &[u8]) -> Ask {
+        Ask::from(bytes.to_vec())
+    }
+}
+
+/// The most that an answer may have, which a client checks before it takes memory.
+#[derive(Clone, Copy, PartialEq, Eq, Hash, Debug)]
+pub struct Limits {
+    /// The screen's width times its height.
+    pub cells: usize,
+    /// The answer's bytes.
+    pub bytes: usize,
+}
+
+/// 1,048,576 cells and 16,777,216 bytes.
+impl Default for Limits {
+    fn default() -> Limits {
+        Limits {
+            cells: 1 << 20,
+            bytes: 1 << 24,
+        }
+    }
+}
+
+/// Shows what a surface of any process showed when it gave the answer that was fed last.
+///
+/// ```
+/// use tikeburo::{Client, Error, Surface};
+///
+/// let mut surface = Surface::new(8, 2)?;
+/// let mut client = Client::new()?;
+/// for text in ["one", " two"] {
+///     surface.add_change(text)?;
+///     let answer = surface.respond(&client.ask()?)?;
+///     for byte in answer {
+///         client.feed(&[byte])?; // in any pieces
+///     }
+/// }
+/// assert_eq!(client.screen().row(0).text()?.trim_end(), "one two");
+/// # Ok::<(), Error>(())
+/// ```
+#[derive(Debug)]
+pub struct Client {
+    screen: Screen,
+}
+
+impl Client {
+    /// A client that shows nothing yet, measures texts by Unicode, and has the usual limits.
+    pub fn new() -> Result<Client, Error> {
+        Client::with_limits(Widths::default(), Limits::default())
+    }
+
+    /// A client that shows nothing yet. An answer of a surface that measures in another way is the
+    /// fault [`Measure`](crate::FaultKind::Measure), where the answer's texts show it.
+    pub fn with_limits(widths: Widths, limits: Limits) -> Result<Client, Error> {
+        let widths = widths as u8;
+        // Safety: the handle is all zero before.
+        let handle = Handle::made(|handle| unsafe {
+            ffi::tk_client_new(handle, widths, limits.cells, limits.bytes)
+        })?;
+        let screen = Screen { handle };
+        Ok(Client { screen })
+    }
+
+    /// Takes the next bytes of a stream of answers, in whatever pieces they come. Of an answer that
+    /// is whole it shows what the surface showed when it gave it. An answer that is late, comes
+    /// twice, or leads on from what another surface showed changes nothing, and is no error.
+    ///
+    /// After an error the stream can't go on: see [`Client::reset`]. [`Error::Fault`]: the answer
+    /// of these bytes has changed nothing. [`Error::Numbers`] and [`Error::Memory`]: the client may
+    /// show anything, and asks for the whole screen.
+    pub fn feed(&mut self, bytes: &[u8]) -> Result<(), Error> {
+        let handle = self.screen.handle.get();
+        let mut fault = tk_fault::default();
+        // Safety: the handle is live, the bytes are only read, and the fault alone is written.
+        let status =
+            unsafe { ffi::tk_client_feed(handle, bytes.as_ptr(), bytes.len(), &mut fault) };
+        match Error::check(status) {
+            Err(Error::Unreadable) => Err(Error::Fault(Fault::from(fault))),
+            outcome => outcome,
+        }
+    }
+
+    /// What to ask for the next answer: what changed since the last one, or all where there is none.
+    pub fn ask(&self) -> Result<Ask, Error> {
+        let handle = self.screen.handle.get();
+        // Safety: the handle is live, and the buffer has the room that is named.
+        let bytes = handle::bytes(&mut [0; 20], |bytes, room, len| unsafe {
+            ffi::tk_client_ask(handle, bytes, room, len)
+        })?;
+        Ok(Ask::from(bytes))
+    }
+
+    /// Begins a new stream: drops the bytes that make no whole answer yet. What the client shows
+    /// stays, and so does what it asks for.
+    pub fn reset(&mut self) {
+        // Safety: the handle is live, and then the call doesn't fail.
+        unsafe { ffi::tk_client_reset(self.screen.handle.get()) };
+    }
+
+    /// What it shows.
+    pub fn screen(&self) -> &Screen {
+        &self.screen
+    }
+}

@@ -1,0 +1,103 @@
+//! What is shown, and how it is read.
+
+use crate::change::CursorVisibility;
+use crate::error::Error;
+use crate::ffi;
+use crate::handle::{self, Handle};
+use crate::rows::{Row, Rows};
+use std::fmt;
+
+/// What a surface, a viewer or a client shows: rows of cells, and the cursor.
+///
+/// ```
+/// use tikeburo::{Screen, Surface};
+///
+/// fn last_row(screen: &Screen) -> Result<String, tikeburo::Error> {
+///     let (_, height) = screen.dimensions();
+///     screen.row(height - 1).text()
+/// }
+///
+/// let mut surface = Surface::new(20, 2)?;
+/// surface.add_change("first\r\nsecond")?;
+/// assert_eq!(last_row(&surface)?.trim_end(), "second");
+/// # Ok::<(), tikeburo::Error>(())
+/// ```
+pub struct Screen {
+    pub(crate) handle: Handle,
+}
+
+impl Screen {
+    /// The width in columns and the height in rows.
+    pub fn dimensions(&self) -> (usize, usize) {
+        self.handle.numbers(ffi::tk_size).unwrap_or_default()
+    }
+
+    /// The cursor's column and row. The column is the width where a wrap is pending.
+    pub fn cursor_position(&self) -> (usize, usize) {
+        self.handle.numbers(ffi::tk_cursor).unwrap_or_default()
+    }
+
+    /// Whether the cursor is shown.
+    pub fn cursor_visibility(&self) -> CursorVisibility {
+        let mut is_visible = true;
+        // Safety: the handle is live, and then the call doesn't fail.
+        unsafe { ffi::tk_cursor_is_visible(self.handle.get(), &mut is_visible) };
+        if is_visible {
+            CursorVisibility::Visible
+        } else {
+            CursorVisibility::Hidden
+        }
+    }
+
+    /// The title, which is empty at first.
+    pub fn title(&self) -> Result<String, Error> {
+        let handle = self.handle.get();
+        // Safety: the handle is live, and the buffer has the room that is named.
+        handle::text(|text, room, len| unsafe { ffi::tk_title(handle, text, room, len) })
+    }
+
+    /// The texts of all rows, with a line feed behind each. Blanks at a row's end may be left out.
+    pub fn screen_chars_to_string(&self) -> Result<String, Error> {
+        let handle = self.handle.get();
+        // Safety: the handle is live, and the buffer has the room that is named.
+        handle::text(|text, room, len| unsafe { ffi::tk_screen_text(handle, text, room, len) })
+    }
+
+    /// The rows, from the top.
+    ///
+    /// ```
+    /// use tikeburo::Surface;
+    ///
+    /// let mut surface = Surface::new(8, 3)?;
+    /// surface.add_change("one\r\ntwo")?;
+    /// let mut texts = surface.rows().map(|row| row.text());
+    /// assert_eq!(texts.next().unwrap()?.trim_end(), "one");
+    /// # Ok::<(), tikeburo::Error>(())
+    /// ```
+    pub fn rows(&self) -> Rows<'_> {
+        let (_, height) = self.dimensions();
+        Rows::new(self, height)
+    }
+
+    /// A row by its number from 0. Its calls fail with [`Error::Range`] where there is none.
+    pub fn row(&self, number: usize) -> Row<'_> {
+        Row::new(self, number)
+    }
+}
+
+impl fmt::Debug for Screen {
+    fn fmt(&self, f: &mut fmt::Formatter<'_>) -> fmt::Result {
+        f.debug_struct("Screen")
+            .field("dimensions", &self.dimensions())
+            .field("cursor_position", &self.cursor_position())
+            .finish_non_exhaustive()
+    }
+}
+
+/// The rows, with a line feed behind each, and nothing where memory is refused.
+impl fmt::Display for Screen {
+    fn fmt(&self, f: &mut fmt::Formatter<'_>) -> fmt::Result {
+        let text = self.screen_chars_to_string().unwrap_or_default();
+        f.write_str(&text)
+    }
+}

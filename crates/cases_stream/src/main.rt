@@ -1,0 +1,18 @@
+//! Plays worked streams to `surfwatch`. Standard input has the cases, and standard output repeats
+//! them with each answer below its line. A line `case ..` begins a case, and a line that begins
+//! with `#` is left out.
+//!
+//! - `watch HEX`: what `surfwatch` prints of the stream of these bytes, its error and its status.
+//!   `-` stands for no bytes.
+#![tactic(auto)]
+
+mod hex;
+mod stage;
+
+use cases_words::fault::Fault;
+use cases_words::play::play_input;
+use stage::Stage;
+
+fn main(rt: HostRuntime) -> Result<(), Fault> {
+    play_input(&rt, &mut Stage::new(rt.alloc()))
+}

@@ -1,0 +1,50 @@
+-- What is printed of a stream.
+use Rattle.std.specs.Bool.{⊤}
+use Rattle.std.specs.Io.KnownBytes.{Appends}
+use Rattle.std.specs.List.{flat_map}
+use Rattle.std.specs.Prelude.{◌≡◌, ℕ, List, [], map, length, codes, String, Option, Some, None, Result, Ok, Err}
+use Rattle.surfview_session.specs.Printed.{viewed_lines}
+use Rattle.stream_session.specs.Viewing.{Viewing, first_viewing}
+use Rattle.stream_session.specs.Watching.{Ends, Shown, Watches, kept, shown_by, shown_of}
+use Rattle.stream_session.specs.Words.{AskFor, first_options}
+use Rattle.stream_session.specs.declared.viewing.AnswerFault.{AnswerFault}
+use Rattle.stream_session.specs.declared.viewing.View.{View}
+use Rattle.stream_session.specs.declared.watch_session.WatchEnd.{WatchEnd}
+use Rattle.stream_session.specs.declared.watch_session.WatchEnd.TheVariants.{Fault, Session}
+use Rattle.stream_session.specs.declared.words.WatchOptions.{WatchOptions}
+
+-- the lines of what is shown
+abbrev pub shown_lines : Shown → List ℕ
+shown_lines s = viewed_lines (codes "viewer") s.number s.screen
+
+abbrev pub view_lines : View → List ℕ
+view_lines view = shown_lines (shown_by view)
+
+abbrev pub last_lines : Option View → List ℕ
+last_lines None = []
+last_lines (Some view) = view_lines view
+
+-- of these bytes each answer is taken until this end, and what is shown then is printed, or the last of it
+pub record PrintsUpTo (o : WatchOptions) (bytes : List ℕ) (fault : Option (ℕ × AnswerFault)) (old new : Option (List ℕ)) : Type 0 where
+  pub shown : List Viewing
+  pub last : Viewing
+  pub rest : List ℕ
+  pub watches : Watches o.limits first_viewing bytes shown last rest
+  pub ends : Ends o.limits last rest (length shown) fault
+  pub printed : Appends old new (flat_map shown_lines (kept o.each (map shown_of shown)))
+
+-- all of them, or up to a fault; where memory, a read or a write was refused nothing is said
+abbrev pub Prints : WatchOptions → List ℕ → Result (Unit {0}) WatchEnd → Option (List ℕ) → Option (List ℕ) → Type 0
+Prints o bytes (Ok u) old new = PrintsUpTo o bytes None old new
+Prints o bytes (Err (Fault number why)) old new = PrintsUpTo o bytes (Some (number, why)) old new
+Prints o bytes (Err (Session error)) old new = ⊤
+
+-- as the words ask
+pub record PrintsAll {A : Type 0} (words : List (String A)) (bytes : List ℕ) (old new : Option (List ℕ)) : Type 0 where
+  pub options : WatchOptions
+  pub asked : AskFor first_options words options
+  pub prints : PrintsUpTo options bytes None old new
+
+abbrev pub PrintsAsAsked : {A : Type 0} → List (String A) → List ℕ → Result (Unit {0}) WatchEnd → Option (List ℕ) → Option (List ℕ) → Type 0
+PrintsAsAsked words bytes (Ok u) old new = PrintsAll words bytes old new
+PrintsAsAsked words bytes (Err e) old new = ⊤

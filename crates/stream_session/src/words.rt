@@ -1,0 +1,115 @@
+//! The words of the two programs.
+ghost use Rattle.std.specs.Prelude.{◌≡◌, ◌<◌, ◌↔◌, length, IfSome, IsSome};
+ghost use Rattle.std.specs.Option.{SomeIff};
+ghost use Rattle.surfview_session.specs.Number.{value_of};
+ghost use Rattle.stream_session.specs.Words.{AreSendWords, AskFor, GiveSending, IsSourceNo};
+ghost use Rattle.stream_session.specs.Words.{IsWhole, first_options};
+ghost use Rattle.stream_session.specs.declared.words.WatchOptions.{WatchOptions};
+
+use surfview_session::script::size;
+use surfview_session::session::dimensions;
+use termwiz_wire::{Limits, SourceNo};
+
+/// What the words of `surfsend` ask for.
+#[derive(Clone, Copy, PartialEq, Eq, Debug)]
+pub struct SendOptions {
+    /// The number of the source.
+    pub source: SourceNo,
+    /// The surface's columns.
+    pub width: usize,
+    /// The surface's rows.
+    pub height: usize,
+}
+
+/// What the words of `surfwatch` ask for.
+#[derive(Clone, Copy, PartialEq, Eq, Debug)]
+pub struct WatchOptions {
+    /// Whether what is shown after each answer is printed, or after the last one alone.
+    pub each: bool,
+    /// How many cells and bytes an answer may have.
+    pub limits: Limits,
+}
+
+/// The number that a word of decimal digits writes, which is at most 2^64 - 1.
+fn whole(word: &str) -> Option<usize>
+    ensures { SomeIff result (IsWhole word.now) (value_of word.now) }
+{
+    if word.starts_with('+') {
+        return None;
+    }
+    word.parse().ok()
+}
+
+/// The number of a source that a word writes, from 1 on.
+fn source_number(word: &str) -> Option<SourceNo>
+    ensures { SomeIff result (IsSourceNo word.now) (value_of word.now) }
+{
+    let number = whole(word)?;
+    if number == 0 { None } else { Some(number) }
+}
+
+/// What the words of `surfsend` ask for: a width and a height, and in front of them a source's
+/// number behind `-s`, which is 1 otherwise.
+pub fn send_options(args: &[String]) -> Option<SendOptions>
+    ensures words { IsSome result ↔ AreSendWords args.now }
+    ensures found { IfSome result (λ options.
+        GiveSending args.now options.source options.width options.height) }
+    ensures source { IfSome result (λ options. 0 < options.source) }
+{
+    match args {
+        [option, number, width, height] if option.as_str() == "-s" => Some(SendOptions {
+            source: source_number(number.as_str())?,
+            width: size(width.as_str())?,
+            height: size(height.as_str())?,
+        }),
+        _ => {
+            let (width, height) = dimensions(args)?;
+            Some(SendOptions {
+                source: 1,
+                width,
+                height,
+            })
+        }
+    }
+}
+
+/// What the words of `surfwatch` ask for, in any order: `-a`, and the limits behind `--cells` and
+/// `--bytes`.
+pub fn watch_options(args: &[String]) -> Option<WatchOptions>
+    ensures { IfSome result (λ options. AskFor first_options args.now options) }
+{
+    let mut options = WatchOptions {
+        each: false,
+        limits: Limits::default(),
+    };
+    let mut rest = args;
+    while !rest.is_empty() {
+        rest = options.take(rest)?;
+    }
+    Some(options)
+}
+
+impl WatchOptions {
+    // Takes the option at the front of the words, and returns the words behind it.
+    fn take<'a>(&mut self, words: &'a [String]) -> Option<&'a [String]>
+        ensures asked { IfSome result (λ rest. (p : WatchOptions) →
+            AskFor self.new rest.now p → AskFor self.old words.now p) }
+        ensures shorter { IfSome result (λ rest. length rest.now < length words.now) }
+    {
+        match words {
+            [word, rest @ ..] if word.as_str() == "-a" => {
+                self.each = true;
+                Some(rest)
+            }
+            [word, number, rest @ ..] if word.as_str() == "--cells" => {
+                self.limits.cells = whole(number.as_str())?;
+                Some(rest)
+            }
+            [word, number, rest @ ..] if word.as_str() == "--bytes" => {
+                self.limits.bytes = whole(number.as_str())?;
+                Some(rest)
+            }
+            _ => None,
+        }
+    }
+}

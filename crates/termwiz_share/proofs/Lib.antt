@@ -1,0 +1,5 @@
+pub mod Streams
+pub mod Fed
+pub mod Taking
+pub mod Served
+pub mod Answering

@@ -1,0 +1,7 @@
+use Rattle.termwiz_cell.specs.Measure.{measure}
+use Rattle.termwiz_share.proofs.Served.{keeps_after}
+use Rattle.termwiz_share.proofs.source.Source.add_changes.Goals as goal
+
+pub returns-clause-serves : goal.returns-clause-serves
+returns-clause-serves g c =
+    rw (← c.self.view_is) (keeps_after (measure g.W.Widths.width_of) c.self.inside.number c.self.inside.surface _ _ c.forget_unneeded.ensures.followed c.forget_unneeded.ensures.remembered c.add_changes.ensures.followed c.add_changes.ensures.remembered)

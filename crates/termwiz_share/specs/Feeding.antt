@@ -1,0 +1,99 @@
+-- What a client makes of the bytes that it is fed.
+use Rattle.std.specs.Prelude.{◌≡◌, ◌≢◌, ◌⊎◌, ℕ, ◌+◌, ◌≤◌, ◌^◌, Bool, true, false, Option, Some, None, List, [], ◌∷◌, ◌++◌, length, Result, Ok, Err}
+use Rattle.cbor.specs.declared.error.FaultKind.TheVariants.{Truncated}
+use Rattle.termwiz_screen.specs.Log.{next_number}
+use Rattle.termwiz_surface_core.specs.Answer.{is_repaint}
+use Rattle.termwiz_wire.specs.Answers.{answer_at}
+use Rattle.termwiz_wire.specs.declared.fault.Fault.{Fault}
+use Rattle.termwiz_wire.specs.declared.fault.Limits.{Limits}
+use Rattle.termwiz_wire.specs.declared.sent.SentAnswer.{SentAnswer}
+use Rattle.termwiz_share.specs.Client.{ClientValue, SameSettings, Shown, fits, has_other_size, shown_by, size_place, taken}
+use Rattle.termwiz_share.specs.declared.error.ClientError.{ClientError}
+use Rattle.termwiz_share.specs.declared.error.ClientError.TheVariants as errors
+
+module _ (measure : List ℕ → ℕ) (limits : Limits) where
+  -- whoever shows s takes the answers that are decoded from the front of the bytes, one behind another, each in its size; t is shown then, and these bytes are left
+  abbrev pub TakesAll : Shown → List ℕ → List SentAnswer → Shown → List ℕ → Type 0
+  TakesAll s bytes [] t rest = (bytes ≡ rest) × (t ≡ s)
+  TakesAll s bytes (a ∷ more) t rest = (next : List ℕ) × (answer_at measure limits bytes ≡ Ok (a, next)) × (has_other_size s a ≡ false) × TakesAll (taken measure s a) next more t rest
+
+  -- more bytes may make an answer
+  pub record AreCut (bytes : List ℕ) : Type 0 where
+    pub fault : Fault
+    pub is : answer_at measure limits bytes ≡ Err fault
+    pub cut : fault.kind ≡ Truncated
+
+module _ {W : Type 0} where
+  -- the client takes no more bytes, for this reason
+  abbrev pub stopped_by : ClientValue W → ClientError → ClientValue W
+  stopped_by c e = record c { stopped = Some e }
+
+  -- it has these bytes behind those that it had
+  abbrev pub with_bytes : ClientValue W → List ℕ → ClientValue W
+  with_bytes c piece = record c { kept = c.kept ++ piece }
+
+  -- it shows what it showed, and that has no source and no number
+  abbrev pub unnamed : ClientValue W → ClientValue W
+  unnamed c = record c { source = 0; number = 0 }
+
+  -- it may show anything, which has no source and no number
+  pub record HasForgotten (old new : ClientValue W) : Type 0 where
+    pub source : new.source ≡ 0
+    pub number : new.number ≡ 0
+    pub kept : new.kept ≡ old.kept
+    pub settings : SameSettings old new
+
+  -- the changes of a delta would pass the greatest number of the client's own surface
+  pub record LacksNumbers (c : ClientValue W) (a : SentAnswer) : Type 0 where
+    pub fits : fits (shown_by c) a ≡ true
+    pub delta : is_repaint a.answer ≡ false
+    pub passes : 2 ^ 64 ≤ next_number c.surface.log + length a.answer.changes
+
+  module _ (measure_of : W → List ℕ → ℕ) where
+    -- the client takes an answer, whose bytes it has
+    abbrev pub Takes : ClientValue W → SentAnswer → Result (Unit {0}) ClientError → ClientValue W → Type 0
+    Takes old a (Ok u) new = (has_other_size (shown_by old) a ≡ false) × (shown_by new ≡ taken (measure_of old.surface.widths) (shown_by old) a) × (new.kept ≡ old.kept) × SameSettings old new
+    Takes old a (Err (errors.Fault f)) new = ⊥
+    Takes old a (Err (errors.Size at)) new = (has_other_size (shown_by old) a ≡ true) × (at ≡ size_place (shown_by old) a) × (new ≡ stopped_by old (errors.Size at))
+    Takes old a (Err errors.Numbers) new = LacksNumbers old a × (new ≡ unnamed old)
+    Takes old a (Err errors.Memory) new = (new ≡ old) ⊎ HasForgotten old new
+
+    -- what its bytes begin with
+    abbrev pub read_of : ClientValue W → Result (SentAnswer × List ℕ) Fault
+    read_of c = answer_at (measure_of c.surface.widths) c.limits c.kept
+
+    -- the client takes the next answer, or there is none
+    abbrev pub Steps : ClientValue W → Result Bool ClientError → ClientValue W → Type 0
+    Steps old (Ok true) new = (a : SentAnswer) × (read_of old ≡ Ok (a, new.kept)) × (has_other_size (shown_by old) a ≡ false) × (shown_by new ≡ taken (measure_of old.surface.widths) (shown_by old) a) × SameSettings old new
+    Steps old (Ok false) new = AreCut (measure_of old.surface.widths) old.limits old.kept × (new ≡ old)
+    Steps old (Err (errors.Fault f)) new = (read_of old ≡ Err f) × (f.kind ≢ Truncated) × (new ≡ stopped_by old (errors.Fault f))
+    Steps old (Err (errors.Size at)) new = (a : SentAnswer) × (rest : List ℕ) × (read_of old ≡ Ok (a, rest)) × (has_other_size (shown_by old) a ≡ true) × (at ≡ size_place (shown_by old) a) × (new ≡ stopped_by old (errors.Size at))
+    Steps old (Err errors.Numbers) new = (a : SentAnswer) × (rest : List ℕ) × (read_of old ≡ Ok (a, rest)) × LacksNumbers old a × (new ≡ unnamed old)
+    Steps old (Err errors.Memory) new = (new ≡ old) ⊎ HasForgotten old new
+
+    -- it has taken the answers of its bytes, up to those that are left
+    pub record HasTaken (old new : ClientValue W) : Type 0 where
+      pub given : List SentAnswer
+      pub takes : TakesAll (measure_of old.surface.widths) old.limits (shown_by old) old.kept given (shown_by new) new.kept
+      pub settings : SameSettings old new
+
+    -- how it ends, where there is no next one, or that isn't taken
+    abbrev pub Ends : ClientValue W → Result (Unit {0}) ClientError → ClientValue W → Type 0
+    Ends old (Ok u) new = Steps old (Ok false) new
+    Ends old (Err e) new = Steps old (Err e) new
+
+    -- it takes all answers of its bytes, or stops before one
+    pub record Reads (old : ClientValue W) (result : Result (Unit {0}) ClientError) (new : ClientValue W) : Type 0 where
+      pub mid : ClientValue W
+      pub has_taken : HasTaken old mid
+      pub ends : Ends mid result new
+
+    -- bytes are fed to it
+    abbrev pub Feeds : ClientValue W → List ℕ → Result (Unit {0}) ClientError → ClientValue W → Type 0
+    Feeds old piece result new =
+        -- it takes none, since it has stopped before
+        ((e : ClientError) × (old.stopped ≡ Some e) × (result ≡ Err e) × (new ≡ old))
+        -- there is no memory for them, so that it stops
+        ⊎ ((old.stopped ≡ None) × (result ≡ Err errors.Memory) × (new ≡ stopped_by old errors.Memory))
+        -- or it reads them
+        ⊎ ((old.stopped ≡ None) × Reads (with_bytes old piece) result new)

@@ -1,0 +1,26 @@
+pub mod Source
+pub mod Client
+pub mod Feeding
+pub mod Histories
+pub mod Serving
+-- what the contracts of this crate use, by its name alone
+pub use Rattle.std.specs.Prelude.{IfErr, IfOk, OnErr, OnOk, length, map, true}
+pub use Rattle.termwiz_cell.specs.ChangeValue.{change_value}
+pub use Rattle.termwiz_cell.specs.Measure.{measure}
+pub use Rattle.termwiz_screen.specs.FullScreen.{FullScreen, full_replay}
+pub use Rattle.termwiz_screen.specs.Log.{next_number}
+pub use Rattle.termwiz_surface_core.specs.Adding.{Adds, with_log}
+pub use Rattle.termwiz_surface_core.specs.Answer.{is_repaint, suits}
+pub use Rattle.termwiz_surface_core.specs.Copies.{IsCopied, IsDrawn}
+pub use Rattle.termwiz_surface_core.specs.Diffs.{MeasureAlike}
+pub use Rattle.termwiz_surface_core.specs.Resizing.{Resizes}
+pub use Rattle.termwiz_surface_core.specs.SurfaceValue.{IsSurfaceSize, SurfaceValue, blank_surface, full_of}
+pub use Rattle.termwiz_wire.specs.Answers.{answer_at}
+pub use Rattle.termwiz_wire.specs.Sent.{IsAsk, ask}
+pub use Rattle.termwiz_wire.specs.declared.fault.Fault.{Fault}
+pub use Rattle.termwiz_share.specs.declared.error.ClientError.TheVariants.{Memory}
+pub use Rattle.termwiz_share.specs.Source.{Answers, IsResponse, Responds, SourceValue, most_bytes, sent_by, trimmed}
+pub use Rattle.termwiz_share.specs.Client.{ClientValue, IsReady, ask_of, fits, shown_by, size_place}
+pub use Rattle.termwiz_share.specs.Feeding.{Feeds, Reads, Steps, Takes, stopped_by, unnamed, with_bytes}
+pub use Rattle.termwiz_share.specs.Histories.{Follows, FollowsTo, Given}
+pub use Rattle.termwiz_share.specs.Serving.{KeepsClients, KeepsSources, Serves, Shows}

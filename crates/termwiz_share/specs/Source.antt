@@ -1,0 +1,66 @@
+-- What contracts see of a source, and what it answers.
+use Rattle.std.specs.Prelude.{◌≡◌, ◌⊎◌, ℕ, ◌+◌, ◌*◌, ◌<◌, ◌≤◌, ◌^◌, List, ◌++◌, length, max}
+use Rattle.termwiz_screen.specs.FullScreen.{FullScreen, HasFullSize}
+use Rattle.termwiz_screen.specs.Log.{delta_limit, next_number}
+use Rattle.termwiz_screen.specs.Picture.{full_screens}
+use Rattle.termwiz_surface_core.specs.Adding.{with_log}
+use Rattle.termwiz_surface_core.specs.Answer.{AnswerValue}
+use Rattle.termwiz_surface_core.specs.Asking.{forgotten, own_repaint}
+use Rattle.termwiz_surface_core.specs.Carried.{CarriesTo, IsGivenBy, IsPastOf}
+use Rattle.termwiz_surface_core.specs.SurfaceValue.{SurfaceValue, full_of}
+use Rattle.termwiz_wire.specs.Sent.{IsSent, answer}
+use Rattle.termwiz_wire.specs.declared.sent.Ask.{Ask}
+use Rattle.termwiz_wire.specs.declared.sent.SentAnswer.{SentAnswer}
+
+pub record SourceValue (W : Type 0) : Type 0 where
+  -- a full surface
+  pub surface : SurfaceValue W
+  -- the number that names it
+  pub number : ℕ
+
+-- an answer of this source
+abbrev pub sent_by : ℕ → AnswerValue → SentAnswer
+sent_by source a = record { source = source; answer = a }
+
+-- how many bytes a delta has at most that is worth sending where a screen of this size could be repainted
+abbrev pub most_bytes : ℕ → ℕ → ℕ
+most_bytes w h = 64 + 4 * (w * h)
+
+module _ {W : Type 0} where
+  -- the surface without the changes that no answer needs
+  abbrev pub trimmed : SurfaceValue W → SurfaceValue W
+  trimmed s = with_log s (forgotten (delta_limit s.width s.height) s.log)
+
+  -- its repaint
+  abbrev pub repaint_of : SurfaceValue W → AnswerValue
+  repaint_of s = record { width = s.width; height = s.height; base = 0; number = next_number s.log; changes = own_repaint s }
+
+  module _ (measure_of : W → List ℕ → ℕ) where
+    -- the bytes are those of an answer for this ask: it leads to the full screen that the source has now, from the picture that the ask names or from none
+    pub record IsResponse (s : SourceValue W) (ask : Ask) (bytes : List ℕ) : Type 0 where
+      pub given : AnswerValue
+      pub encoded : bytes ≡ answer (measure_of s.surface.widths) (sent_by s.number given)
+      pub is_sent : IsSent (measure_of s.surface.widths) (sent_by s.number given)
+      pub width : given.width ≡ s.surface.width
+      pub height : given.height ≡ s.surface.height
+      pub sized : HasFullSize given.width given.height (full_of s.surface)
+      pub number : given.number ≡ next_number s.surface.log
+      pub from : (given.base ≡ 0) ⊎ ((ask.source ≡ s.number) × (given.base ≡ ask.number))
+      pub carries : (past : ℕ → FullScreen) → IsPastOf full_screens measure_of past s.surface → CarriesTo full_screens measure_of past given s.surface
+      -- a screen bounds it
+      pub few : length bytes ≤ max (most_bytes s.surface.width s.surface.height) (length (answer (measure_of s.surface.widths) (sent_by s.number (repaint_of s.surface))))
+
+    -- the source gives this answer for a number, or for none
+    pub record Answers (s : SourceValue W) (n : ℕ) (given : AnswerValue) : Type 0 where
+      pub asked : ℕ
+      pub from : (asked ≡ 0) ⊎ (asked ≡ n)
+      pub is_given : IsGivenBy full_screens measure_of s.surface asked given
+      pub sized : HasFullSize s.surface.width s.surface.height (full_of s.surface)
+      -- a screen bounds it, if a buffer can have it
+      pub few : length (answer (measure_of s.surface.widths) (sent_by s.number given)) < 2 ^ 64 → length (answer (measure_of s.surface.widths) (sent_by s.number given)) ≤ max (most_bytes s.surface.width s.surface.height) (length (answer (measure_of s.surface.widths) (sent_by s.number (repaint_of s.surface))))
+
+    -- the response comes behind what the buffer had
+    pub record Responds (s : SourceValue W) (ask : Ask) (before after : List ℕ) : Type 0 where
+      pub bytes : List ℕ
+      pub appended : after ≡ before ++ bytes
+      pub response : IsResponse s ask bytes

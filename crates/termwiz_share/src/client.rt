@@ -1,0 +1,235 @@
+//! Clients: what takes the answers of sources, and shows what they had.
+ghost use Rattle.std.specs.Prelude.{◌≡◌, ◌<◌, ◌++◌, [], IfErr, IfOk, List, None, OnErr, OnOk, ℕ};
+ghost use Rattle.std.specs.Prelude.{length};
+ghost use Rattle.termwiz_share.specs.{ClientValue, Feeds, Follows, FollowsTo, FullScreen, Given};
+ghost use Rattle.termwiz_share.specs.{IsAsk, IsReady, IsResponse, KeepsSources, Reads, Serves};
+ghost use Rattle.termwiz_share.specs.{Shows, SourceValue, Steps};
+ghost use Rattle.termwiz_share.specs.{Memory, ask, ask_of, blank_surface, measure, stopped_by};
+ghost use Rattle.termwiz_share.specs.{true, with_bytes};
+
+mod taking;
+
+use crate::error::ClientError;
+use crate::store::append;
+use std::alloc::{AllocError, Global};
+use std::marker::Model;
+use termwiz_cell::change::SequenceNo;
+use termwiz_cell::emoji::Widths;
+use termwiz_surface_core::surface::Surface;
+use termwiz_wire::{Ask, FaultKind, Limits, SourceNo, WireError, answers, decode_answer, encode_ask};
+
+/// Shows what a source showed when it gave the last answer that was taken.
+///
+/// It takes the bytes of a stream in whatever pieces they come. An answer is read whole before
+/// anything changes; one that is late, comes again, or is of another source than the one shown
+/// changes nothing, unless it is a repaint. Of its own surface it keeps no changes.
+#[derive(Drop, Debug)]
+pub struct Client<W: Widths> {
+    alloc: Global,
+    limits: Limits,
+    surface: Surface<W>,
+    source: SourceNo,
+    number: SequenceNo,
+    bytes: Vec<u8>,
+    // How many of them are used.
+    start: usize,
+    stopped: Option<ClientError>,
+}
+
+impl<W: Widths> Model for Client<W> {
+    ghost use Rattle.std.specs.Prelude.{◌≡◌, ◌<◌, ◌≤◌, [], drop, length, true};
+    ghost use Rattle.termwiz_share.specs.Client.{ClientValue};
+
+    ghost Value = { ClientValue W };
+
+    ghost view = { λ c. record {
+      surface = c.surface;
+      source = c.source;
+      number = c.number;
+      kept = drop c.start c.bytes.items;
+      limits = c.limits;
+      stopped = c.stopped;
+    } };
+
+    ghost invariant = { λ c. (c.start ≤ length c.bytes.items)
+        × (c.surface.full ≡ true) × (c.surface.log.changes ≡ [])
+        × (0 < c.limits.bytes) × (c.source ≡ 0 → c.number ≡ 0) };
+}
+
+impl<W: Widths> Client<W> {
+    /// A client that shows a blank surface of one cell, and no source. It measures texts by this
+    /// width value, and takes answers within these limits.
+    pub fn new(alloc: Global, widths: W, limits: Limits) -> Result<Client<W>, AllocError>
+        requires some { 0 < limits.bytes }
+        ensures blank { IfOk result (λ client. client ≡ record {
+          surface = blank_surface widths 1 1 true;
+          source = 0;
+          number = 0;
+          kept = [];
+          limits = limits;
+          stopped = None;
+        }) }
+        // A source that serves a client serves this one too.
+        ensures serves { IfOk result (λ client. (source : SourceValue W) (other : ClientValue W) →
+            Serves (measure W.width_of) source other →
+            measure W.width_of widths ≡ measure W.width_of source.surface.widths →
+            Serves (measure W.width_of) source client) }
+    {
+        let surface = Surface::new_full(alloc, 1, 1, widths)?;
+        Ok(Client {
+            alloc,
+            limits,
+            surface,
+            source: 0,
+            number: 0,
+            bytes: Vec::new(alloc),
+            start: 0,
+            stopped: None,
+        })
+    }
+
+    /// What the client shows.
+    pub fn surface(&self) -> &Surface<W>
+        ensures value { result.now ≡ self.now.surface }
+        ensures full { result.now.full ≡ true }
+        ensures log { result.now.log.changes ≡ [] }
+    {
+        &self.surface
+    }
+
+    /// The source of the answer that was taken last, or 0 where there is none.
+    pub fn source(&self) -> SourceNo
+        ensures { result ≡ self.now.source }
+    {
+        self.source
+    }
+
+    /// The number of the answer that was taken last, or 0 where there is none.
+    pub fn number(&self) -> SequenceNo
+        ensures { result ≡ self.now.number }
+    {
+        self.number
+    }
+
+    /// Why the client takes no more bytes, if it is so.
+    pub fn stopped(&self) -> Option<ClientError>
+        ensures { result ≡ self.now.stopped }
+    {
+        self.stopped
+    }
+
+    /// What to send to a source, by which it answers.
+    pub fn ask(&self) -> Ask
+        ensures value { result ≡ ask_of self.now }
+        ensures named { result.source ≡ 0 → result.number ≡ 0 }
+    {
+        Ask {
+            source: self.source,
+            number: self.number,
+        }
+    }
+
+    /// Appends the bytes of what to send to a source to a buffer. After an error the buffer begins
+    /// with what it had.
+    pub fn encode_ask(&self, out: &mut Vec<u8>) -> Result<(), AllocError>
+        ensures ok { OnOk result (out.new.items ≡ out.old.items ++ ask (ask_of self.now)) }
+        // It is one that is decoded again.
+        ensures form { OnOk result (IsAsk (ask_of self.now)) }
+        ensures begins { OnErr result ((more : List ℕ) × (out.new.items ≡ out.old.items ++ more)) }
+    {
+        encode_ask(out, self.ask())
+    }
+
+    /// Makes it ready for the bytes of a new connection. What it shows stays.
+    pub fn reset(&mut self)
+        ensures resets { self.new ≡ record self.old { kept = []; stopped = None } }
+        ensures ready { IsReady self.new }
+        ensures serves { KeepsSources (measure W.width_of) self.old self.new }
+    {
+        self.bytes.clear();
+        self.start = 0;
+        self.stopped = None;
+    }
+
+    /// Takes the next bytes of the stream, in whatever pieces they come, and the answers that are
+    /// whole then.
+    ///
+    /// What stands after an error is said at each of the errors.
+    pub fn feed(&mut self, piece: &[u8]) -> Result<(), ClientError>
+        // Whatever the bytes are.
+        ensures feeds { Feeds (measure W.width_of) self.old piece.now result self.new }
+        // Of a stream of answers, of any sources and in any order, it shows what the last one that
+        // fits was given for, and fails for want of memory or of numbers alone.
+        ensures follows { (histories : ℕ → ℕ → FullScreen) (sent : List Given) (future : List ℕ) →
+            Follows (measure W.width_of) histories sent self.old (piece.now ++ future) →
+            FollowsTo (measure W.width_of) histories sent future self.old result self.new }
+        // A client that is fed the response to its ask shows what the source shows,
+        ensures shows { (source : SourceValue W) → Serves (measure W.width_of) source self.old →
+            IsReady self.old →
+            IsResponse (measure W.width_of) source (ask_of self.old) piece.now →
+            OnOk result (Shows source self.new × IsReady self.new) }
+        // and is served by it still, also after an error.
+        ensures serves { (source : SourceValue W) → Serves (measure W.width_of) source self.old →
+            IsReady self.old →
+            IsResponse (measure W.width_of) source (ask_of self.old) piece.now →
+            Serves (measure W.width_of) source self.new }
+    {
+        answers();
+        if let Some(error) = self.stopped {
+            return Err(error);
+        }
+        self.keep(piece)?;
+        self.take_all()
+    }
+
+    // Keeps the bytes behind those that are kept.
+    fn keep(&mut self, piece: &[u8]) -> Result<(), ClientError>
+        ensures ok { OnOk result (self.new ≡ with_bytes self.old piece.now) }
+        ensures err { IfErr result (λ error.
+            (error ≡ Memory) × (self.new ≡ stopped_by self.old Memory)) }
+    {
+        if append(&mut self.bytes, &mut self.start, piece).is_err() {
+            self.stopped = Some(ClientError::Memory);
+            return Err(ClientError::Memory);
+        }
+        Ok(())
+    }
+
+    // Takes the answers that are whole.
+    fn take_all(&mut self) -> Result<(), ClientError>
+        ensures { Reads (measure W.width_of) self.old result self.new }
+    {
+        'answers: while self.take_next()? {}
+        Ok(())
+    }
+
+    // Takes the next answer, or returns whether there is none.
+    fn take_next(&mut self) -> Result<bool, ClientError>
+        ensures steps { Steps (measure W.width_of) self.old result self.new }
+        ensures shorter { IfOk result (λ more. more ≡ true →
+            length self.new.kept < length self.old.kept) }
+    {
+        let widths = self.surface.widths();
+        match decode_answer(self.alloc, &widths, self.limits, &self.bytes[self.start..]) {
+            Ok((sent, taken)) => {
+                self.take(sent)?;
+                self.start += taken;
+                Ok(true)
+            }
+            Err(WireError::Memory) => Err(ClientError::Memory),
+            Err(WireError::Fault(fault)) => match fault.kind {
+                FaultKind::Truncated => Ok(false),
+                _ => Err(self.stop(ClientError::Fault(fault))),
+            },
+        }
+    }
+
+    // Takes no more bytes.
+    fn stop(&mut self, error: ClientError) -> ClientError
+        ensures stopped { self.new ≡ stopped_by self.old error }
+        ensures error { result ≡ error }
+    {
+        self.stopped = Some(error);
+        error
+    }
+}

@@ -1,0 +1,213 @@
+//! Sources: full surfaces whose answers name them.
+ghost use Rattle.std.specs.Prelude.{◌≡◌, ◌≢◌, ◌+◌, ◌-◌, ◌<◌, ◌^◌, ◌∷◌, ◌++◌, [], IfOk, List, OnErr};
+ghost use Rattle.std.specs.Prelude.{OnOk, ℕ, min, vec_len};
+ghost use Rattle.termwiz_share.specs.{Adds, Answers, ClientValue, IsCopied, IsDrawn, IsSurfaceSize};
+ghost use Rattle.termwiz_share.specs.{KeepsClients, MeasureAlike, Resizes, Responds, Serves};
+ghost use Rattle.termwiz_share.specs.{SourceValue};
+ghost use Rattle.termwiz_share.specs.{blank_surface, change_value, full_of, length, map, measure};
+ghost use Rattle.termwiz_share.specs.{most_bytes, next_number, trimmed, true};
+
+use std::alloc::{AllocError, Global};
+use std::marker::Model;
+use termwiz_cell::change::{Change, SEQ_ZERO, SequenceNo};
+use termwiz_cell::emoji::Widths;
+use termwiz_surface_core::surface::{Answer, Surface, SurfaceError};
+use termwiz_wire::{Ask, SourceNo, encode_answer, encoded_len};
+
+/// A full surface that clients show, with a number that names it among all sources that a client
+/// may hear of: one of 64 random bits serves.
+///
+/// Its log is kept short by itself: each call that changes the surface, and each response, forgets
+/// the changes that no answer needs.
+#[derive(Drop, Debug)]
+pub struct Source<W: Widths> {
+    surface: Surface<W>,
+    number: SourceNo,
+}
+
+impl<W: Widths> Model for Source<W> {
+    ghost use Rattle.std.specs.Prelude.{◌≡◌, ◌<◌, true};
+    ghost use Rattle.termwiz_share.specs.Source.{SourceValue};
+
+    ghost Value = { SourceValue W };
+
+    ghost view = { λ s. record { surface = s.surface; number = s.number } };
+
+    ghost invariant = { λ s. (s.surface.full ≡ true) × (0 < s.number) };
+}
+
+impl<W: Widths> Source<W> {
+    /// A source with a blank surface of this width in columns and this height in rows.
+    pub fn new(
+        alloc: Global,
+        number: SourceNo,
+        width: usize,
+        height: usize,
+        widths: W,
+    ) -> Result<Source<W>, AllocError>
+        requires some { 0 < number }
+        requires size { IsSurfaceSize width height }
+        ensures blank { IfOk result (λ source. source ≡ record {
+          surface = blank_surface widths width height true;
+          number = number;
+        }) }
+        // It serves each client that shows another source, or none.
+        ensures serves { IfOk result (λ source. (client : ClientValue W) →
+            client.source ≢ number →
+            measure W.width_of client.surface.widths ≡ measure W.width_of widths →
+            Serves (measure W.width_of) source client) }
+    {
+        let surface = Surface::new_full(alloc, width, height, widths)?;
+        Ok(Source { surface, number })
+    }
+
+    /// What the source shows.
+    pub fn surface(&self) -> &Surface<W>
+        ensures value { result.now ≡ self.now.surface }
+        ensures full { result.now.full ≡ true }
+    {
+        &self.surface
+    }
+
+    /// The number that names it.
+    pub fn number(&self) -> SourceNo
+        ensures value { result ≡ self.now.number }
+        ensures some { 0 < result }
+    {
+        self.number
+    }
+
+    /// Makes one change, as `Surface::add_change` does.
+    pub fn add_change(&mut self, change: Change) -> Result<SequenceNo, SurfaceError>
+        ensures adds { Adds (measure W.width_of self.old.surface.widths)
+            (trimmed self.old.surface) (change_value change ∷ [])
+            (next_number (trimmed self.old.surface).log) result self.new.surface }
+        ensures number { self.new.number ≡ self.old.number }
+        // Each client that it serves it serves still, also after an error.
+        ensures serves { KeepsClients (measure W.width_of) self.old self.new }
+    {
+        self.surface.forget_unneeded();
+        self.surface.add_change(change)
+    }
+
+    /// Makes the changes in order, as `Surface::add_changes` does.
+    pub fn add_changes(&mut self, changes: Vec<Change>) -> Result<SequenceNo, SurfaceError>
+        ensures adds { Adds (measure W.width_of self.old.surface.widths)
+            (trimmed self.old.surface) (map change_value changes.items)
+            (next_number (trimmed self.old.surface).log - 1 + vec_len changes)
+            result self.new.surface }
+        ensures number { self.new.number ≡ self.old.number }
+        ensures serves { KeepsClients (measure W.width_of) self.old self.new }
+    {
+        self.surface.forget_unneeded();
+        self.surface.add_changes(changes)
+    }
+
+    /// Makes copies of the changes in order, as `Surface::add_lent_changes` does.
+    pub fn add_lent_changes(&mut self, changes: &[Change]) -> Result<SequenceNo, SurfaceError>
+        ensures adds { Adds (measure W.width_of self.old.surface.widths)
+            (trimmed self.old.surface) (map change_value changes.now)
+            (next_number (trimmed self.old.surface).log - 1 + length changes.now)
+            result self.new.surface }
+        ensures number { self.new.number ≡ self.old.number }
+        ensures serves { KeepsClients (measure W.width_of) self.old self.new }
+    {
+        self.surface.forget_unneeded();
+        self.surface.add_lent_changes(changes)
+    }
+
+    /// Draws another surface from this column and this row on, as `Surface::draw_from_screen` does.
+    pub fn draw_from_screen(
+        &mut self,
+        other: &Surface<W>,
+        x: usize,
+        y: usize,
+    ) -> Result<SequenceNo, SurfaceError>
+        ensures draws { IsDrawn (measure W.width_of) (trimmed self.old.surface) other.now x y
+            result self.new.surface }
+        ensures number { self.new.number ≡ self.old.number }
+        ensures serves { KeepsClients (measure W.width_of) self.old self.new }
+    {
+        self.surface.forget_unneeded();
+        self.surface.draw_from_screen(other, x, y)
+    }
+
+    /// Copies a region within the surface, as `Surface::copy_region` does.
+    pub fn copy_region(
+        &mut self,
+        src_x: usize,
+        src_y: usize,
+        width: usize,
+        height: usize,
+        dest_x: usize,
+        dest_y: usize,
+    ) -> Result<SequenceNo, SurfaceError>
+        ensures copies { IsCopied (measure W.width_of) (trimmed self.old.surface)
+            src_x src_y width height dest_x dest_y result self.new.surface }
+        ensures number { self.new.number ≡ self.old.number }
+        ensures serves { KeepsClients (measure W.width_of) self.old self.new }
+    {
+        self.surface.forget_unneeded();
+        self.surface
+            .copy_region(src_x, src_y, width, height, dest_x, dest_y)
+    }
+
+    /// Takes another size, as `Surface::resize` does.
+    pub fn resize(&mut self, width: usize, height: usize) -> Result<(), SurfaceError>
+        requires size { IsSurfaceSize width height }
+        ensures resizes { Resizes self.old.surface width height result self.new.surface }
+        ensures number { self.new.number ≡ self.old.number }
+        ensures serves { KeepsClients (measure W.width_of) self.old self.new }
+    {
+        self.surface.resize(width, height)
+    }
+
+    /// Appends the answer for an ask to a buffer: the changes from the ask's number on, where the
+    /// ask names this source and the log has them, and else a repaint. Where the changes have more
+    /// than 64 bytes and 4 for each cell, it is a repaint too: so the answer has at most as many
+    /// bytes, or those of the repaint.
+    ///
+    /// After an error the source is as it was, and the buffer begins with what it had.
+    pub fn respond(&mut self, ask: Ask, out: &mut Vec<u8>) -> Result<(), AllocError>
+        ensures ok { OnOk result (
+            Responds (measure W.width_of) self.new ask out.old.items out.new.items) }
+        ensures trims { OnOk result (
+            self.new ≡ record self.old { surface = trimmed self.old.surface }) }
+        ensures err { OnErr result (self.new ≡ self.old) }
+        ensures begins { OnErr result ((more : List ℕ) × (out.new.items ≡ out.old.items ++ more)) }
+        ensures serves { KeepsClients (measure W.width_of) self.old self.new }
+    {
+        let from = if ask.source == self.number {
+            ask.number
+        } else {
+            SEQ_ZERO
+        };
+        let answer = self.answer(from)?;
+        encode_answer(out, &self.surface.widths(), self.number, &answer)?;
+        self.surface.forget_unneeded();
+        Ok(())
+    }
+
+    // The answer for a number, which is a repaint too where the changes have too many bytes.
+    fn answer(&self, from: SequenceNo) -> Result<Answer, AllocError>
+        ensures { IfOk result (λ given. Answers (measure W.width_of) self.now from given) }
+    {
+        let answer = self.surface.answer(from)?;
+        let (width, height) = self.surface.dimensions();
+        let bytes = encoded_len(&self.surface.widths(), self.number, &answer);
+        if answer.is_repaint() || bytes <= most_bytes(width, height) {
+            return Ok(answer);
+        }
+        self.surface.answer(SEQ_ZERO)
+    }
+}
+
+// How many bytes an answer that is no repaint may have.
+fn most_bytes(width: usize, height: usize) -> usize
+    requires width { width < 2 ^ 32 }
+    requires height { height < 2 ^ 32 }
+    ensures { result ≡ min (most_bytes width height) (2 ^ 64 - 1) }
+{
+    let cells = width * height;
+    cells.saturating_mul(4).saturating_add(64)
+}

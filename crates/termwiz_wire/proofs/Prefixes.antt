@@ -1,0 +1,335 @@
+-- What bytes of changes and answers decide, when more may come behind them.
+use Rattle.std.proofs.Common.{◌≡◌, ◌≢◌, ℕ, zero, suc, ◌+◌, ◌*◌, ◌/◌, ◌%◌, ◌^◌, Bool, true, false, not, ◌&&◌, ◌||◌, cond, ltb, eqb, List, [], ◌∷◌, ◌++◌, length, drop, Option, Some, None, Result, Ok, Err, refl, ap, subst, arith, inl, inr}
+use Rattle.std.proofs.lemmas.List.{length-append}
+use Rattle.std.specs.Str.{chars}
+use Rattle.cbor.specs.declared.error.FaultKind.{FaultKind}
+use Rattle.cbor.specs.declared.error.FaultKind.TheVariants.{Truncated}
+use Rattle.cbor.specs.declared.error.FaultKind.TheVariants as faults
+use Rattle.cbor.specs.declared.kind.Kind.{Kind}
+use Rattle.cbor.specs.declared.kind.Kind.TheVariants as kinds
+use Rattle.cbor.specs.Decoding.{◌>>=◌, Stop, ok, allowed, unsigned_at, array_at, list_at, text_at}
+use Rattle.cbor.specs.Prefixes.{left, behind, fault, Stays, Decides, Reads}
+use Rattle.cbor.proofs.Prefixes.{chain, bind, bind_rest, look, choose, done, done_rest, fails, unsigned_reads, array_reads, list_reads, below_reads, signed_reads, boolean_reads, null_reads, text_reads, array_of_reads, kind_reads}
+use Rattle.termwiz_cell.specs.ChangeValue.{ChangeValue}
+use Rattle.termwiz_cell.specs.ChangeValue as changed
+use Rattle.termwiz_wire.specs.Encoding.{fields}
+use Rattle.termwiz_wire.specs.Pieces.{runs, stands_out, needs_pieces}
+use Rattle.termwiz_wire.specs.Cuts.{refused, is_rest_at, is_run_at, are_at, same_at, is_count, are_characters, are_columns, kept_at, run_at, no_run, runs_at, threes_at, cut_at, others_at, pieces_at, pieces_by}
+use Rattle.termwiz_wire.specs.Decoding.{which_at, palette_at, rgb_at, rgb_palette_at, color_by, color_at, split, are_small, style_limit, style_at, ascends, key_at, param_at, params_at, link_at, optional_link_by, optional_link_at, attributes_at, attribute_change_by, attribute_change_at, position_by, position_at, place_at, is_on, region_size_at, scroll_at, printed_at, change_by, count_at, has_count, change_kind_at, change_at}
+use Rattle.termwiz_wire.specs.Answers.{version_at, body_at, opened_at, source_at, size_at, height_at, number_at, asked_at, ask_in, head_at, halted, each_at, changes_in, answer_in}
+use Rattle.termwiz_wire.specs.MoreBytes.{halt}
+use Rattle.termwiz_wire.specs.declared.pieces.Run.{Run}
+
+abbrev stop_at : {Z : Type 0} → FaultKind → ℕ → Result Z Stop
+stop_at f place = Err (record { fault = f; left = place })
+
+-- ---- the place of an item
+
+-- what is allowed from an item on is the same with more bytes behind
+here : {Z : Type 0} {gz : Z → List ℕ → Z} (f : ℕ → ℕ → List ℕ → Result Z Stop) → ((place : ℕ) → Reads fault gz (f place)) → Reads fault gz (λ room bytes. f (allowed room bytes) room bytes)
+here {gz = gz} f each = record {
+  stays = λ room bytes more.
+      let same : allowed (length more + room) bytes ≡ allowed room (bytes ++ more) = omega (arith, length-append bytes more) in
+      subst (λ (place : ℕ). Stays fault gz more (f (allowed (length more + room) bytes) (length more + room) bytes) (f place room (bytes ++ more))) same ((each (allowed (length more + room) bytes)).stays room bytes more);
+  ends = λ bytes. (each (allowed 0 bytes)).ends bytes;
+}
+
+refused_reads : {Z : Type 0} {gz : Z → List ℕ → Z} (f : FaultKind) → f ≢ Truncated → Reads fault gz (λ room bytes. refused f room bytes)
+refused_reads f other = here (λ place room bytes. stop_at f place) (λ place. fails other)
+
+-- a value that keeps a rule
+kept : {A : Type 0} {read : ℕ → List ℕ → Result (A × List ℕ) Stop} (f : FaultKind) → f ≢ Truncated → (rule : A → Bool) → Reads fault left read → Reads fault left (λ room bytes. read room bytes >>= λ n. cond (rule n.0) (Ok n) (refused f room bytes))
+kept {read = read} f other rule first = here (λ place room bytes. read room bytes >>= λ n. cond (rule n.0) (Ok n) (stop_at f place)) (λ place. bind _ first (λ a. choose (rule a) _ _ done (fails other)))
+
+-- a value that breaks no rule
+unless : {A : Type 0} {read : ℕ → List ℕ → Result (A × List ℕ) Stop} (f : FaultKind) → f ≢ Truncated → (rule : A → Bool) → Reads fault left read → Reads fault left (λ room bytes. read room bytes >>= λ n. cond (rule n.0) (refused f room bytes) (Ok n))
+unless {read = read} f other rule first = here (λ place room bytes. read room bytes >>= λ n. cond (rule n.0) (stop_at f place) (Ok n)) (λ place. bind _ first (λ a. choose (rule a) _ _ (fails other) done))
+
+-- by a value, from its beginning on
+over : {A Z E : Type 0} {fe : E → FaultKind} {gz : Z → List ℕ → Z} {read : ℕ → List ℕ → Result (A × List ℕ) E} (f : A → ℕ → List ℕ → Result Z E) → Reads fe left read → ((a : A) → Reads fe gz (f a)) → Reads fe gz (λ room bytes. read room bytes >>= λ y. f y.0 room bytes)
+over f first then = chain left (λ room y bytes. f y.0 room bytes) first (λ y room bytes more. (then y.0).stays room bytes more) (λ y bytes. (then y.0).ends bytes)
+
+-- by a test of a value: from its beginning on, or behind it
+fork : {A Z E : Type 0} {fe : E → FaultKind} {gz : Z → List ℕ → Z} {read : ℕ → List ℕ → Result (A × List ℕ) E} (c : A → Bool) (f g : A → ℕ → List ℕ → Result Z E) → Reads fe left read → ((a : A) → Reads fe gz (f a)) → ((a : A) → Reads fe gz (g a)) → Reads fe gz (λ room bytes. read room bytes >>= λ y. cond (c y.0) (f y.0 room bytes) (g y.0 room y.1))
+fork {fe = fe} {gz = gz} c f g first there after =
+    chain left (λ room y bytes. cond (c y.0) (f y.0 room bytes) (g y.0 room y.1)) first
+    (λ y room bytes more. elim (c y.0) as (λ b. Stays fe gz more (cond b (f y.0 (length more + room) bytes) (g y.0 (length more + room) y.1)) (cond b (f y.0 room (bytes ++ more)) (g y.0 room (y.1 ++ more)))) [
+      | true ↦ (there y.0).stays room bytes more
+      | false ↦ (after y.0).stays room y.1 more
+    ])
+    (λ y bytes. elim (c y.0) as (λ b. Decides fe (cond b (f y.0 0 bytes) (g y.0 0 y.1))) [
+      | true ↦ (there y.0).ends bytes
+      | false ↦ (after y.0).ends y.1
+    ])
+
+-- ---- colours
+
+which_reads : (limit : ℕ) → Reads fault left (λ room bytes. which_at room limit bytes)
+unfolding which_at
+which_reads limit = kept faults.Type (λ is. cc) (λ n. ltb n limit) unsigned_reads
+
+palette_reads : Reads fault left palette_at
+unfolding palette_at
+palette_reads = bind _ (below_reads 256) (λ index. done)
+
+rgb_reads : Reads fault left rgb_at
+unfolding rgb_at
+rgb_reads = bind _ (below_reads 256) (λ r. bind _ (below_reads 256) (λ g. bind _ (below_reads 256) (λ b. done)))
+
+rgb_palette_reads : Reads fault left rgb_palette_at
+unfolding rgb_palette_at
+rgb_palette_reads = bind _ (below_reads 256) (λ r. bind _ (below_reads 256) (λ g. bind _ (below_reads 256) (λ b. bind _ (below_reads 256) (λ index. done))))
+
+color_array_reads : Reads fault left (λ room bytes. color_by room kinds.Array bytes)
+color_array_reads = here (λ place room bytes. array_at room bytes >>= λ n. cond (eqb n.0 3) (rgb_at room n.1) (cond (eqb n.0 4) (rgb_palette_at room n.1) (stop_at faults.Type place))) (λ place. bind _ array_reads (λ n. choose (eqb n 3) _ _ rgb_reads (choose (eqb n 4) _ _ rgb_palette_reads (fails (λ is. cc)))))
+
+color_by_reads : (kind : Kind) → Reads fault left (λ room bytes. color_by room kind bytes)
+color_by_reads kinds.Null = bind_rest _ null_reads done
+color_by_reads kinds.Unsigned = palette_reads
+color_by_reads kinds.Array = color_array_reads
+color_by_reads _ = refused_reads faults.Type (λ is. cc)
+
+color_reads : Reads fault left color_at
+unfolding color_at
+color_reads = look _ kind_reads color_by_reads
+
+-- ---- attributes and links
+
+style_reads : Reads fault left style_at
+unfolding style_at
+style_reads = kept faults.Range (λ is. cc) (λ n. are_small (split fields n)) (below_reads style_limit)
+
+key_reads : (made : List (List ℕ × List ℕ)) → Reads fault left (λ room bytes. key_at room made bytes)
+unfolding key_at
+key_reads made = kept faults.Range (λ is. cc) (λ key. ascends made key) text_reads
+
+param_reads : (made : List (List ℕ × List ℕ)) → Reads fault left (λ room bytes. param_at room made bytes)
+unfolding param_at
+param_reads made = bind_rest _ (array_of_reads 2) (bind _ (key_reads made) (λ key. bind _ text_reads (λ value. done)))
+
+params_reads : (made : List (List ℕ × List ℕ)) (n : ℕ) → Reads fault left (λ room bytes. params_at room made n bytes)
+unfolding params_at
+params_reads made zero = done
+params_reads made (suc n) = bind _ (param_reads made) (λ first. params_reads (made ++ first ∷ []) n)
+
+link_reads : Reads fault left link_at
+unfolding link_at
+link_reads = bind_rest _ (array_of_reads 3) (bind _ text_reads (λ uri. bind _ boolean_reads (λ implicit. bind _ list_reads (λ count. bind _ (params_reads [] count) (λ params. done)))))
+
+optional_link_by_reads : (kind : Kind) → Reads fault left (λ room bytes. optional_link_by room kind bytes)
+optional_link_by_reads kinds.Null = bind_rest _ null_reads done
+optional_link_by_reads kinds.Array = bind _ link_reads (λ l. done)
+optional_link_by_reads _ = refused_reads faults.Type (λ is. cc)
+
+optional_link_reads : Reads fault left optional_link_at
+unfolding optional_link_at
+optional_link_reads = look _ kind_reads optional_link_by_reads
+
+attributes_reads : Reads fault left attributes_at
+unfolding attributes_at
+attributes_reads = bind_rest _ (array_of_reads 5) (bind _ style_reads (λ n. bind _ color_reads (λ f. bind _ color_reads (λ b. bind _ color_reads (λ u. bind _ optional_link_reads (λ l. done))))))
+
+attribute_change_by_reads : (kind : ℕ) → Reads fault left (λ room rest. attribute_change_by room kind rest)
+attribute_change_by_reads kind =
+    choose (eqb kind 0) _ _ (bind _ (below_reads 3) (λ v. done))
+    (choose (eqb kind 1) _ _ (bind _ (below_reads 6) (λ v. done))
+    (choose (eqb kind 2) _ _ (bind _ boolean_reads (λ v. done))
+    (choose (eqb kind 3) _ _ (bind _ (below_reads 3) (λ v. done))
+    (choose (eqb kind 4) _ _ (bind _ boolean_reads (λ v. done))
+    (choose (eqb kind 5) _ _ (bind _ boolean_reads (λ v. done))
+    (choose (eqb kind 6) _ _ (bind _ boolean_reads (λ v. done))
+    (choose (eqb kind 7) _ _ (bind _ color_reads (λ v. done))
+    (choose (eqb kind 8) _ _ (bind _ color_reads (λ v. done))
+    (choose (eqb kind 9) _ _ (bind _ optional_link_reads (λ v. done)) (refused_reads faults.Type (λ is. cc)))))))))))
+
+attribute_change_reads : Reads fault left attribute_change_at
+unfolding attribute_change_at
+attribute_change_reads = bind_rest _ (array_of_reads 2) (bind _ (which_reads 10) attribute_change_by_reads)
+
+-- ---- pieces
+
+is_rest_reads : (r : Run) → Reads fault left (λ room bytes. is_rest_at room r bytes)
+unfolding is_rest_at
+is_rest_reads r = bind _ unsigned_reads (λ size. choose (eqb size r.characters) _ _ (bind _ unsigned_reads (λ columns. done)) done)
+
+is_run_reads : (r : Run) → Reads fault left (λ room bytes. is_run_at room r bytes)
+unfolding is_run_at
+is_run_reads r = bind _ unsigned_reads (λ count. choose (eqb count r.count) _ _ (is_rest_reads r) done)
+
+are_reads : (rs : List Run) → Reads fault left (λ room bytes. are_at room rs bytes)
+unfolding are_at
+are_reads [] = done
+are_reads (r ∷ rs) = bind _ (is_run_reads r) (λ is. choose is _ _ (are_reads rs) done)
+
+same_reads : (rs : List Run) → Reads fault left (λ room bytes. same_at room rs bytes)
+unfolding same_at
+same_reads rs = fork (λ n. eqb n (3 * length rs)) (λ n room bytes. list_at room bytes >>= λ m. are_at room rs m.1) (λ n room rest. ok false rest) array_reads (λ n. bind _ list_reads (λ m. are_reads rs)) (λ n. done)
+
+kept_reads : (rule : ℕ → Bool) → Reads fault left (λ room bytes. kept_at room rule bytes)
+kept_reads rule = kept faults.Range (λ is. cc) rule unsigned_reads
+
+run_reads : (last : Run) (cs : List ℕ) → Reads fault left (λ room bytes. run_at room last cs bytes)
+unfolding run_at
+run_reads last cs = bind _ (kept_reads (is_count cs)) (λ count. bind _ (kept_reads (are_characters cs count)) (λ size. bind _ (kept_reads (are_columns last cs count size)) (λ columns. done)))
+
+runs_reads : (last : Run) (needed : Bool) (cs : List ℕ) (n : ℕ) → Reads fault left (λ room bytes. runs_at room last needed cs n bytes)
+unfolding runs_at
+runs_reads last needed cs zero = done
+runs_reads last needed cs (suc n) = bind _ (run_reads last cs) (λ r. runs_reads r (needed || stands_out r) (drop (r.count * r.characters) cs) n)
+
+threes_reads : Reads fault left threes_at
+unfolding threes_at
+threes_reads = over (λ n room bytes. cond (eqb (n % 3) 0) (list_at room bytes) (refused faults.Type room bytes)) array_reads (λ n. choose (eqb (n % 3) 0) _ _ list_reads (refused_reads faults.Type (λ is. cc)))
+
+cut_reads : (text : List ℕ) → Reads fault behind (λ room bytes. cut_at room text bytes)
+unfolding cut_at
+cut_reads text = here (λ place room bytes. threes_at room bytes >>= λ n. runs_at room no_run false (chars text) (n.0 / 3) n.1 >>= λ all. cond all.0 (Ok all.1) (stop_at faults.Range place)) (λ place. bind _ threes_reads (λ n. bind _ (runs_reads no_run false (chars text) (n / 3)) (λ all. choose all _ _ done_rest (fails (λ is. cc)))))
+
+others_reads : (place : ℕ) (text : List ℕ) → Reads fault behind (λ room bytes. others_at room place text bytes)
+unfolding others_at
+others_reads place text = bind_rest _ (cut_reads text) (fails (λ is. cc))
+
+same_or_others : (place : ℕ) (text : List ℕ) (rs : List Run) → Reads fault behind (λ room bytes. same_at room rs bytes >>= λ same. cond same.0 (Ok same.1) (others_at room place text bytes))
+same_or_others place text rs =
+    chain left (λ room same bytes. cond same.0 (Ok same.1) (others_at room place text bytes)) (same_reads rs)
+    (λ y room bytes more. elim y.0 as (λ b. Stays fault behind more (cond b (Ok y.1) (others_at (length more + room) place text bytes)) (cond b (Ok (y.1 ++ more)) (others_at room place text (bytes ++ more)))) [
+      | true ↦ refl
+      | false ↦ (others_reads place text).stays room bytes more
+    ])
+    (λ y bytes. elim y.0 as (λ b. Decides fault (cond b (Ok y.1) (others_at 0 place text bytes))) [
+      | true ↦ tt
+      | false ↦ (others_reads place text).ends bytes
+    ])
+
+pieces_reads : (place : ℕ) (text : List ℕ) (rs : List Run) → Reads fault behind (λ room bytes. pieces_at room place text rs bytes)
+unfolding pieces_at
+pieces_reads place text rs = choose (needs_pieces rs) _ _ (same_or_others place text rs) (others_reads place text)
+
+pieces_by_reads : (place count : ℕ) (text : List ℕ) (rs : List Run) → Reads fault behind (λ room bytes. pieces_by room place count text rs bytes)
+unfolding pieces_by
+pieces_by_reads place count text rs = choose (eqb count 3) _ _ (pieces_reads place text rs) (choose (needs_pieces rs) _ _ (fails (λ is. cc)) done_rest)
+
+-- ---- changes
+
+position_by_reads : (kind : ℕ) → Reads fault left (λ room rest. position_by room kind rest)
+position_by_reads kind =
+    choose (eqb kind 0) _ _ (bind _ signed_reads (λ n. done))
+    (choose (eqb kind 1) _ _ (bind _ unsigned_reads (λ n. done))
+    (choose (eqb kind 2) _ _ (bind _ unsigned_reads (λ n. done)) (refused_reads faults.Type (λ is. cc))))
+
+position_reads : Reads fault left position_at
+unfolding position_at
+position_reads = bind_rest _ (array_of_reads 2) (bind _ (which_reads 3) position_by_reads)
+
+place_reads : Reads fault left place_at
+unfolding place_at
+place_reads = bind _ position_reads (λ x. bind _ position_reads (λ y. done))
+
+region_size_reads : (rows : Option ℕ) (first : ℕ) → Reads fault left (λ room bytes. region_size_at room rows first bytes)
+unfolding region_size_at
+region_size_reads rows first = kept faults.Region (λ is. cc) (λ n. is_on rows first n) unsigned_reads
+
+scroll_reads : (rows : Option ℕ) (scroll : ℕ → ℕ → ℕ → ChangeValue) → Reads fault left (λ room bytes. scroll_at room rows scroll bytes)
+unfolding scroll_at
+scroll_reads rows scroll = bind _ unsigned_reads (λ first. bind _ (region_size_reads rows first) (λ size. bind _ unsigned_reads (λ count. done)))
+
+printed_reads : (measure : List ℕ → ℕ) (count : ℕ) → Reads fault left (λ room bytes. printed_at measure room count bytes)
+unfolding printed_at
+printed_reads measure count = here (λ place room bytes. text_at room bytes >>= λ t. pieces_by room place count t.0 (runs measure t.0) t.1 >>= λ rest. ok (changed.Text t.0) rest) (λ place. bind _ text_reads (λ t. bind_rest _ (pieces_by_reads place count t (runs measure t)) done))
+
+change_by_reads : (measure : List ℕ → ℕ) (rows : Option ℕ) (count kind : ℕ) → Reads fault left (λ room rest. change_by measure room rows count kind rest)
+change_by_reads measure rows count kind =
+    choose (eqb kind 0) _ _ (bind _ attribute_change_reads (λ v. done))
+    (choose (eqb kind 1) _ _ (bind _ attributes_reads (λ v. done))
+    (choose (eqb kind 2) _ _ (printed_reads measure count)
+    (choose (eqb kind 3) _ _ (bind _ color_reads (λ v. done))
+    (choose (eqb kind 4) _ _ (bind _ color_reads (λ v. done))
+    (choose (eqb kind 5) _ _ (bind _ color_reads (λ v. done))
+    (choose (eqb kind 6) _ _ place_reads
+    (choose (eqb kind 7) _ _ (bind _ color_reads (λ v. done))
+    (choose (eqb kind 8) _ _ (bind _ (below_reads 7) (λ v. done))
+    (choose (eqb kind 9) _ _ (bind _ boolean_reads (λ v. done))
+    (choose (eqb kind 10) _ _ (scroll_reads rows _)
+    (choose (eqb kind 11) _ _ (scroll_reads rows _)
+    (choose (eqb kind 12) _ _ (bind _ text_reads (λ v. done))
+    (choose (eqb kind 13) _ _ (bind _ (below_reads 4) (λ v. done)) (refused_reads faults.Type (λ is. cc)))))))))))))))
+
+count_reads : Reads fault left count_at
+unfolding count_at
+count_reads = kept faults.Type (λ is. cc) (λ n. ltb 1 n && ltb n 5) array_reads
+
+change_kind_reads : (count : ℕ) → Reads fault left (λ room bytes. change_kind_at room count bytes)
+unfolding change_kind_at
+change_kind_reads count = kept faults.Type (λ is. cc) (λ kind. has_count kind count) unsigned_reads
+
+pub change_reads : (measure : List ℕ → ℕ) (rows : Option ℕ) → Reads fault left (λ room bytes. change_at measure room rows bytes)
+unfolding change_at
+change_reads measure rows = bind _ count_reads (λ count. bind _ (change_kind_reads count) (λ kind. change_by_reads measure rows count kind))
+
+-- ---- the heads of answers
+
+version_reads : Reads fault behind version_at
+unfolding version_at
+version_reads = here (λ place room bytes. unsigned_at room bytes >>= λ version. cond (eqb version.0 2) (Ok version.1) (stop_at faults.Version place)) (λ place. bind _ unsigned_reads (λ version. choose (eqb version 2) _ _ done_rest (fails (λ is. cc))))
+
+opened_reads : (items : ℕ) → Reads fault behind (λ room bytes. opened_at room items bytes)
+unfolding opened_at body_at
+opened_reads items = here (λ place room bytes. array_at room bytes >>= λ count. cond (eqb count.0 0) (stop_at faults.Type place) (version_at room count.1) >>= λ body. cond (eqb count.0 items) (Ok body) (stop_at faults.Type place)) (λ place. bind _ array_reads (λ count. bind_rest _ (choose (eqb count 0) _ _ (fails (λ is. cc)) version_reads) (choose (eqb count items) _ _ done_rest (fails (λ is. cc)))))
+
+source_reads : Reads fault left source_at
+unfolding source_at
+source_reads = unless faults.Range (λ is. cc) (λ n. eqb n 0) unsigned_reads
+
+size_reads : Reads fault left size_at
+unfolding size_at
+size_reads = unless faults.Range (λ is. cc) (λ n. eqb n 0) (below_reads (2 ^ 32))
+
+height_reads : (cells width : ℕ) → Reads fault left (λ room bytes. height_at room cells width bytes)
+unfolding height_at
+height_reads cells width = unless faults.Limit (λ is. cc) (λ n. ltb cells (width * n)) size_reads
+
+number_reads : (base : ℕ) → Reads fault left (λ room bytes. number_at room base bytes)
+unfolding number_at
+number_reads base = unless faults.Range (λ is. cc) (λ n. ltb n base) unsigned_reads
+
+asked_reads : (source : ℕ) → Reads fault left (λ room bytes. asked_at room source bytes)
+unfolding asked_at
+asked_reads source = unless faults.Range (λ is. cc) (λ n. eqb source 0 && not (eqb n 0)) unsigned_reads
+
+pub ask_reads : Reads fault left ask_in
+unfolding ask_in
+ask_reads = bind_rest _ (opened_reads 3) (bind _ unsigned_reads (λ source. bind _ (asked_reads source) (λ number. done)))
+
+head_reads : (cells : ℕ) → Reads fault left (λ room bytes. head_at room cells bytes)
+unfolding head_at
+head_reads cells = bind_rest _ (opened_reads 7) (bind _ source_reads (λ s. bind _ size_reads (λ w. bind _ (height_reads cells w) (λ h. bind _ unsigned_reads (λ b. bind _ (number_reads b) (λ n. bind _ list_reads (λ c. done)))))))
+
+-- ---- answers
+
+halted_stays : {Y : Type 0} (gy : Y → List ℕ → Y) (change : Option ℕ) (more : List ℕ) (r later : Result Y Stop) → Stays fault gy more r later → Stays halt gy more (halted change r) (halted change later)
+halted_stays gy change more (Ok y) later stay = ap (halted change) stay
+halted_stays gy change more (Err e) later (inl want) = inl want
+halted_stays gy change more (Err e) later (inr same) = inr (ap (halted change) same)
+
+halted_ends : {Y : Type 0} (change : Option ℕ) (r : Result Y Stop) → Decides fault r → Decides halt (halted change r)
+halted_ends change (Ok y) is = tt
+halted_ends change (Err e) is = is
+
+pub halted_reads : {Y : Type 0} {gy : Y → List ℕ → Y} {read : ℕ → List ℕ → Result Y Stop} (change : Option ℕ) → Reads fault gy read → Reads halt gy (λ room bytes. halted change (read room bytes))
+halted_reads {gy = gy} {read = read} change reads = record {
+  stays = λ room bytes more. halted_stays gy change more (read (length more + room) bytes) (read room (bytes ++ more)) (reads.stays room bytes more);
+  ends = λ bytes. halted_ends change (read 0 bytes) (reads.ends bytes);
+}
+
+each_reads : (measure : List ℕ → ℕ) (rows : Option ℕ) (made : List ChangeValue) (n : ℕ) → Reads halt left (λ room bytes. each_at measure room rows made n bytes)
+unfolding each_at
+each_reads measure rows made zero = done
+each_reads measure rows made (suc n) = bind _ (halted_reads (Some (length made)) (change_reads measure rows)) (λ first. each_reads measure rows (made ++ first ∷ []) n)
+
+pub changes_reads : (measure : List ℕ → ℕ) (rows : Option ℕ) → Reads halt left (λ room bytes. changes_in measure room rows bytes)
+unfolding changes_in
+changes_reads measure rows = bind _ (halted_reads None list_reads) (λ n. each_reads measure rows [] n)
+
+pub answer_reads : (measure : List ℕ → ℕ) (cells : ℕ) → Reads halt left (λ room bytes. answer_in measure room cells bytes)
+unfolding answer_in
+answer_reads measure cells = bind _ (halted_reads None (head_reads cells)) (λ head. bind _ (each_reads measure (Some head.height) [] head.count) (λ changes. done))

@@ -1,0 +1,31 @@
+-- How answers and asks are encoded.
+use Rattle.std.specs.Prelude.{◌≡◌, ℕ, ◌<◌, ◌^◌, List, ◌++◌}
+use Rattle.cbor.specs.Encoding.{unsigned, array}
+use Rattle.termwiz_surface_core.specs.Answer.{IsWellFormed}
+use Rattle.termwiz_wire.specs.Encoding.{changes}
+use Rattle.termwiz_wire.specs.Forms.{AreChanges}
+use Rattle.termwiz_wire.specs.declared.sent.SentAnswer.{SentAnswer}
+use Rattle.termwiz_wire.specs.declared.sent.Ask.{Ask}
+
+-- the version, the source, the size, the base, the number, and the changes
+unfoldable pub answer : (List ℕ → ℕ) → SentAnswer → List ℕ
+answer measure s = array 7 ++ unsigned 2 ++ unsigned s.source ++ unsigned s.answer.width ++ unsigned s.answer.height ++ unsigned s.answer.base ++ unsigned s.answer.number ++ changes measure s.answer.changes
+
+-- the version, the source and the number
+unfoldable pub ask : Ask → List ℕ
+ask a = array 3 ++ unsigned 2 ++ unsigned a.source ++ unsigned a.number
+
+-- what has an encoding: each answer of a program does, with the number of a source
+pub record IsSent (measure : List ℕ → ℕ) (s : SentAnswer) : Type 0 where
+  pub some_source : 0 < s.source
+  pub source : s.source < 2 ^ 64
+  pub well_formed : IsWellFormed s.answer
+  pub base : s.answer.base < 2 ^ 64
+  pub number : s.answer.number < 2 ^ 64
+  pub changes : AreChanges measure s.answer.changes
+
+-- an ask that names no source has no number
+pub record IsAsk (a : Ask) : Type 0 where
+  pub source : a.source < 2 ^ 64
+  pub number : a.number < 2 ^ 64
+  pub named : a.source ≡ 0 → a.number ≡ 0

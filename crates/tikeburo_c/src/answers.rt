@@ -1,0 +1,82 @@
+//! The answers of surfaces, as bytes.
+ghost use Rattle.std.specs.Prelude.{◌≡◌};
+ghost use Rattle.tikeburo_c.specs.Handles.{kept_of};
+ghost use Rattle.tikeburo_c.specs.Outcomes.{Reports};
+ghost use Rattle.tikeburo_c.specs.Results.{OrNoMemory};
+ghost use Rattle.tikeburo_c.specs.Streams.{AnswersAsk, AnswersBytes, AnswersIn, IsOnlyAsk};
+
+use crate::buffers::give;
+use crate::failure::{Failure, status};
+use crate::handle::Handle;
+use crate::kept::Kept;
+use crate::widths::ChosenWidths;
+use std::alloc::Global;
+use termwiz_share::Source;
+use termwiz_wire::{Ask, decode_ask};
+
+// The one ask that the bytes encode, with nothing behind it.
+fn only_ask(bytes: &[u8]) -> Result<Ask, Failure>
+    ensures { IsOnlyAsk bytes.now result }
+{
+    let (ask, taken) = decode_ask(bytes)?;
+    if taken < bytes.len() {
+        return Err(Failure::Unreadable);
+    }
+    Ok(ask)
+}
+
+fn answer(
+    alloc: Global,
+    surface: &mut Source<ChosenWidths>,
+    ask: Ask,
+    room: &mut [u8],
+    len: &mut usize,
+) -> Result<(), Failure>
+    ensures { OrNoMemory (AnswersAsk ask) (surface.old, (room.old, len.old))
+        result (surface.new, (room.new, len.new)) }
+{
+    let mut bytes = Vec::new(alloc);
+    surface.respond(ask, &mut bytes)?;
+    give(&bytes, room, len)
+}
+
+fn answer_bytes(
+    alloc: Global,
+    surface: &mut Source<ChosenWidths>,
+    ask: &[u8],
+    room: &mut [u8],
+    len: &mut usize,
+) -> Result<(), Failure>
+    ensures { AnswersBytes ask.now (surface.old, (room.old, len.old))
+        result (surface.new, (room.new, len.new)) }
+{
+    let ask = only_ask(ask)?;
+    answer(alloc, surface, ask, room, len)
+}
+
+/// Writes the answer to the one ask that these bytes encode.
+#[unsafe(no_mangle)]
+pub extern "C" fn tk_respond(
+    alloc: Global,
+    handle: &mut Handle,
+    ask: &[u8],
+    room: &mut [u8],
+    len: &mut usize,
+) -> i32
+    ensures { Reports result (λ outcome. AnswersIn ask.now
+        (kept_of handle.old, (room.old, len.old))
+        outcome (kept_of handle.new, (room.new, len.new))) }
+{
+    let outcome = match handle.take(alloc) {
+        Some(mut kept) => {
+            let outcome = match &mut *kept {
+                Kept::Surface(surface) => answer_bytes(alloc, surface, ask, room, len),
+                Kept::Viewer(_) | Kept::Client(_) => Err(Failure::WrongKind),
+            };
+            handle.put(alloc, kept);
+            outcome
+        }
+        None => Err(Failure::NoHandle),
+    };
+    status(outcome)
+}

@@ -1,0 +1,255 @@
+//! Clients: how they are made, ask, and are fed.
+ghost use Rattle.std.specs.Prelude.{◌≡◌, IfErr, IfOk};
+ghost use Rattle.tikeburo_c.specs.Handles.{kept_of};
+ghost use Rattle.tikeburo_c.specs.Making.{MakesClient, blank_client};
+ghost use Rattle.tikeburo_c.specs.Outcomes.{Reports};
+ghost use Rattle.tikeburo_c.specs.Results.{OnClient, OrNoMemory};
+ghost use Rattle.tikeburo_c.specs.Streams.{FeedsBytes, FeedsIn, GivesAsk, GivesOne, Reaches};
+ghost use Rattle.tikeburo_c.specs.Streams.{Resets};
+ghost use Rattle.tikeburo_c.specs.Streams.{fault_number, fields_at, named_ask};
+ghost use Rattle.tikeburo_c.specs.Widths.{widths_at};
+ghost use Rattle.tikeburo_c.specs.declared.failure.Failure.TheVariants.{Memory};
+ghost use Rattle.tikeburo_c.specs.declared.kept.Kept.TheVariants as kinds;
+ghost use Rattle.termwiz_share.specs.Client.{ask_of};
+
+use crate::buffers::give;
+use crate::failure::{Failure, status};
+use crate::handle::Handle;
+use crate::kept::Kept;
+use crate::widths::ChosenWidths;
+use cbor::FaultKind;
+use std::alloc::Global;
+use termwiz_share::{Client, ClientError};
+use termwiz_wire::{Ask, Limits, encode_ask};
+
+/// What is wrong with the bytes of an answer. Where it is in no change, that is 0.
+#[repr(C)]
+#[derive(Clone, Copy)]
+pub struct FaultFields {
+    pub kind: u8,
+    pub has_change: bool,
+    pub at: usize,
+    pub change: usize,
+}
+
+fn blank_client(
+    alloc: Global,
+    widths: ChosenWidths,
+    limits: Limits,
+) -> Result<Box<Kept>, Failure>
+    ensures made { IfOk result (λ kept. kept.value ≡ kinds.Client (blank_client widths limits)) }
+    ensures memory { IfErr result (λ failure. failure ≡ Memory) }
+{
+    let client = Client::new(alloc, widths, limits)?;
+    let kept = Box::new(alloc, Kept::Client(client))?;
+    Ok(kept)
+}
+
+fn make_client(
+    alloc: Global,
+    handle: &mut Handle,
+    widths: u8,
+    limits: Limits,
+) -> Result<(), Failure>
+    ensures { MakesClient (widths_at widths) limits
+        (kept_of handle.old) result (kept_of handle.new) }
+{
+    let Some(widths) = ChosenWidths::at(widths) else {
+        return Err(Failure::Range);
+    };
+    let kept = blank_client(alloc, widths, limits)?;
+    handle.put(alloc, kept);
+    Ok(())
+}
+
+/// Makes a client that shows nothing yet, measures by the chosen widths, and takes no answer of
+/// more cells or bytes.
+#[unsafe(no_mangle)]
+pub extern "C" fn tk_client_new(
+    alloc: Global,
+    handle: &mut Handle,
+    widths: u8,
+    cells: usize,
+    bytes: usize,
+) -> i32
+    ensures { Reports result (λ outcome. MakesClient (widths_at widths)
+        (record { cells = cells; bytes = bytes })
+        (kept_of handle.old) outcome (kept_of handle.new)) }
+{
+    let limits = Limits { cells, bytes };
+    let outcome = make_client(alloc, handle, widths, limits);
+    status(outcome)
+}
+
+fn fault_number(kind: FaultKind) -> u8
+    ensures { result ≡ fault_number kind }
+{
+    match kind {
+        FaultKind::Version => 0,
+        FaultKind::Type => 1,
+        FaultKind::Utf8 => 2,
+        FaultKind::Range => 3,
+        FaultKind::Region => 4,
+        FaultKind::Measure => 6,
+        FaultKind::Limit => 7,
+        FaultKind::Truncated => 8,
+    }
+}
+
+fn fields_at(kind: u8, at: usize, change: Option<usize>) -> FaultFields
+    ensures { result ≡ fields_at kind at change }
+{
+    FaultFields {
+        kind,
+        has_change: change.is_some(),
+        at,
+        change: change.unwrap_or(0),
+    }
+}
+
+// What a call comes to that fed a client, with the fault in the struct where there is one.
+fn reached(fed: Result<(), ClientError>, fault: &mut FaultFields) -> Result<(), Failure>
+    ensures { Reaches fed fault.old result fault.new }
+{
+    match fed {
+        Ok(()) => Ok(()),
+        Err(ClientError::Fault(found)) => {
+            *fault = fields_at(fault_number(found.kind), found.at, found.change);
+            Err(Failure::Unreadable)
+        }
+        Err(ClientError::Size { at }) => {
+            *fault = fields_at(5, at, None);
+            Err(Failure::Unreadable)
+        }
+        Err(ClientError::Numbers) => Err(Failure::Numbers),
+        Err(ClientError::Memory) => Err(Failure::Memory),
+    }
+}
+
+fn feed(
+    client: &mut Client<ChosenWidths>,
+    bytes: &[u8],
+    fault: &mut FaultFields,
+) -> Result<(), Failure>
+    ensures { FeedsBytes bytes.now (client.old, fault.old) result (client.new, fault.new) }
+{
+    let fed = client.feed(bytes);
+    reached(fed, fault)
+}
+
+/// Takes the next bytes of a stream of answers.
+#[unsafe(no_mangle)]
+pub extern "C" fn tk_client_feed(
+    alloc: Global,
+    handle: &mut Handle,
+    bytes: &[u8],
+    fault: &mut FaultFields,
+) -> i32
+    ensures { Reports result (λ outcome. FeedsIn bytes.now
+        (kept_of handle.old, fault.old) outcome (kept_of handle.new, fault.new)) }
+{
+    let outcome = match handle.take(alloc) {
+        Some(mut kept) => {
+            let outcome = match &mut *kept {
+                Kept::Client(client) => feed(client, bytes, fault),
+                Kept::Surface(_) | Kept::Viewer(_) => Err(Failure::WrongKind),
+            };
+            handle.put(alloc, kept);
+            outcome
+        }
+        None => Err(Failure::NoHandle),
+    };
+    status(outcome)
+}
+
+fn named_ask(ask: Ask) -> Ask
+    ensures value { result ≡ named_ask ask }
+    ensures named { result.source ≡ 0 → result.number ≡ 0 }
+{
+    if ask.source == 0 {
+        Ask {
+            source: 0,
+            number: 0,
+        }
+    } else {
+        ask
+    }
+}
+
+fn give_ask(
+    alloc: Global,
+    client: &Client<ChosenWidths>,
+    room: &mut [u8],
+    len: &mut usize,
+) -> Result<(), Failure>
+    ensures { OrNoMemory (GivesOne (named_ask (ask_of client.now)))
+        (room.old, len.old) result (room.new, len.new) }
+{
+    let mut bytes = Vec::new(alloc);
+    encode_ask(&mut bytes, named_ask(client.ask()))?;
+    give(&bytes, room, len)
+}
+
+fn give_kept_ask(
+    alloc: Global,
+    kept: &Kept,
+    room: &mut [u8],
+    len: &mut usize,
+) -> Result<(), Failure>
+    ensures { GivesAsk (Some kept.now) (room.old, len.old) result (room.new, len.new) }
+{
+    match kept {
+        Kept::Client(client) => give_ask(alloc, client, room, len),
+        Kept::Surface(_) | Kept::Viewer(_) => Err(Failure::WrongKind),
+    }
+}
+
+/// Writes what to send to a surface, by which it answers.
+#[unsafe(no_mangle)]
+pub extern "C" fn tk_client_ask(
+    alloc: Global,
+    handle: &mut Handle,
+    room: &mut [u8],
+    len: &mut usize,
+) -> i32
+    ensures read { Reports result (λ outcome. GivesAsk (kept_of handle.old)
+        (room.old, len.old) outcome (room.new, len.new)) }
+    ensures same { kept_of handle.new ≡ kept_of handle.old }
+{
+    let outcome = match handle.take(alloc) {
+        Some(kept) => {
+            let outcome = give_kept_ask(alloc, &kept, room, len);
+            handle.put(alloc, kept);
+            outcome
+        }
+        None => Err(Failure::NoHandle),
+    };
+    status(outcome)
+}
+
+fn reset(client: &mut Client<ChosenWidths>) -> Result<(), Failure>
+    ensures { Resets client.old result client.new }
+{
+    client.reset();
+    Ok(())
+}
+
+/// Makes a client ready for the bytes of a new stream.
+#[unsafe(no_mangle)]
+pub extern "C" fn tk_client_reset(alloc: Global, handle: &mut Handle) -> i32
+    ensures { Reports result (λ outcome.
+        OnClient Resets (kept_of handle.old) outcome (kept_of handle.new)) }
+{
+    let outcome = match handle.take(alloc) {
+        Some(mut kept) => {
+            let outcome = match &mut *kept {
+                Kept::Client(client) => reset(client),
+                Kept::Surface(_) | Kept::Viewer(_) => Err(Failure::WrongKind),
+            };
+            handle.put(alloc, kept);
+            outcome
+        }
+        None => Err(Failure::NoHandle),
+    };
+    status(outcome)
+}

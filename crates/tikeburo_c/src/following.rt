@@ -1,0 +1,90 @@
+//! Viewers: how they are made, and follow.
+ghost use Rattle.std.specs.Prelude.{◌≡◌, IfErr, IfOk, OnOk, Some};
+ghost use Rattle.termwiz_surface_core.specs.Following.{Follows, blank_viewer};
+ghost use Rattle.tikeburo_c.specs.Following.{FollowsSource, MakesViewer, blank_follower};
+ghost use Rattle.tikeburo_c.specs.Handles.{kept_of};
+ghost use Rattle.tikeburo_c.specs.Outcomes.{Reports};
+ghost use Rattle.tikeburo_c.specs.Widths.{columns_by};
+ghost use Rattle.tikeburo_c.specs.declared.failure.Failure.TheVariants.{Memory};
+ghost use Rattle.tikeburo_c.specs.declared.kept.Kept.TheVariants as kinds;
+
+use crate::failure::{Failure, status};
+use crate::followers::Follower;
+use crate::handle::Handle;
+use crate::kept::Kept;
+use crate::widths::ChosenWidths;
+use std::alloc::Global;
+use termwiz_surface::Surface;
+
+fn blank_viewer(
+    alloc: Global,
+    surface: &Surface<ChosenWidths>,
+    source: usize,
+) -> Result<Box<Kept>, Failure>
+    ensures made { IfOk result (λ kept.
+        kept.value ≡ kinds.Viewer (blank_follower source surface.now)) }
+    ensures follows { OnOk result (Follows columns_by (blank_viewer surface.now) surface.now) }
+    ensures memory { IfErr result (λ failure. failure ≡ Memory) }
+{
+    let follower = Follower::new(alloc, surface, source)?;
+    let kept = Box::new(alloc, Kept::Viewer(follower))?;
+    Ok(kept)
+}
+
+fn make_viewer(alloc: Global, viewer: &mut Handle, source: &mut Handle) -> Result<(), Failure>
+    ensures made { MakesViewer (kept_of source.old)
+        (kept_of viewer.old) result (kept_of viewer.new) }
+    ensures source { kept_of source.new ≡ kept_of source.old }
+{
+    let Some(kept) = source.take(alloc) else {
+        return Err(Failure::NoHandle);
+    };
+    let made = blank_viewer(alloc, kept.shown(), kept.number());
+    source.put(alloc, kept);
+    let made = made?;
+    viewer.put(alloc, made);
+    Ok(())
+}
+
+/// Makes a viewer for what the source shows, which shows nothing yet.
+#[unsafe(no_mangle)]
+pub extern "C" fn tk_viewer_new(alloc: Global, viewer: &mut Handle, source: &mut Handle) -> i32
+    ensures made { Reports result (λ outcome. MakesViewer (kept_of source.old)
+        (kept_of viewer.old) outcome (kept_of viewer.new)) }
+    ensures source { kept_of source.new ≡ kept_of source.old }
+{
+    let outcome = make_viewer(alloc, viewer, source);
+    status(outcome)
+}
+
+fn follow_kept(alloc: Global, handle: &mut Handle, source: &Kept) -> Result<(), Failure>
+    ensures { FollowsSource (Some source.now) (kept_of handle.old) result (kept_of handle.new) }
+{
+    let Some(mut kept) = handle.take(alloc) else {
+        return Err(Failure::NoHandle);
+    };
+    let outcome = match &mut *kept {
+        Kept::Viewer(follower) => follower.follow(alloc, source.shown(), source.number()),
+        Kept::Surface(_) | Kept::Client(_) => Err(Failure::WrongKind),
+    };
+    handle.put(alloc, kept);
+    outcome
+}
+
+/// The viewer shows what the source shows.
+#[unsafe(no_mangle)]
+pub extern "C" fn tk_follow(alloc: Global, handle: &mut Handle, source: &mut Handle) -> i32
+    ensures follows { Reports result (λ outcome.
+        FollowsSource (kept_of source.old) (kept_of handle.old) outcome (kept_of handle.new)) }
+    ensures source { kept_of source.new ≡ kept_of source.old }
+{
+    let outcome = match source.take(alloc) {
+        Some(kept) => {
+            let outcome = follow_kept(alloc, handle, &kept);
+            source.put(alloc, kept);
+            outcome
+        }
+        None => Err(Failure::NoHandle),
+    };
+    status(outcome)
+}

@@ -146,6 +146,9 @@ marked_put_run u i o bs a cs n m = record {
   unowned = λ h. nothing_put_run i bs a cs n (m.unowned h);
 }
 
+pub marked_copied : (u i k : ℕ) (o : Bool) (b : ℕ) (a : Attributes) (cs : List CellValue) → needs_box a ≡ false → IsMarked u o cs → IsMarked (max u (i + k)) o (put_run i (replicate k b) a cs)
+marked_copied u i k o b a cs n m = subst (λ (j : ℕ). IsMarked (max u (i + j)) o (put_run i (replicate k b) a cs)) (length-replicate k b) (marked_put_run u i o (replicate k b) a cs n m)
+
 pub marked_put_letters : (u i : ℕ) (o : Bool) (ls : List ℕ) (a : Attributes) (cs : List CellValue) → list_all is_letter ls ≡ true → needs_box a ≡ false → IsMarked u o cs → IsMarked (max u (i + 2 * length ls)) o (put_letters i ls a cs)
 marked_put_letters u i o ls a cs l n m = record {
   blanks = used-put_letters u i ls a cs m.blanks;

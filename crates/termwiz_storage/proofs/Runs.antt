@@ -1,15 +1,15 @@
 -- A run of ASCII that is stored at once.
-use Rattle.std.proofs.Common.{◌≡◌, ◌++◌, get_or, ℕ, suc, ◌+◌, ◌-◌, ◌<◌, ◌≤◌, false, ◌&&◌, max, List, [], ◌∷◌, length, map, take, drop, set, refl, subst, sym, ◌∙◌, ap, arith, add-one, append_assoc, drop-drop, take_at}
+use Rattle.std.proofs.Common.{◌≡◌, ◌++◌, get_or, ℕ, zero, suc, ◌+◌, ◌-◌, ◌<◌, ◌≤◌, false, ◌&&◌, max, List, [], ◌∷◌, length, map, replicate, take, drop, set, refl, subst, sym, ◌∙◌, ap, arith, add-one, add-zero, append_assoc, drop-drop, take_at}
 use Rattle.std.specs.Prelude.{nat_lt}
 use Rattle.std.proofs.lemmas.Bool.{and_right}
-use Rattle.std.proofs.lemmas.List.{append-nil, get_or-set_same, length-map, length-set, map-append, take_more, take_more_set}
+use Rattle.std.proofs.lemmas.List.{append-nil, get_or-set_same, length-map, length-replicate, length-set, map-append, take_more, take_more_set}
 use Rattle.std.proofs.lemmas.List.Edits.{sets-eq}
 use Rattle.std.proofs.Math.Seq.{length-sets, sets}
 use Rattle.std.specs.List.{refill}
 use borrow.Rule.Slice.PartMut.{put_mid}
 use Rattle.termwiz_cell.specs.Attributes.{Attributes}
 use Rattle.termwiz_cell.specs.CellValue.{CellValue, blank, is_wide, plain_cell}
-use Rattle.termwiz_storage.specs.Stored.{torn, stored, padded, set_cell, set_run, put_run}
+use Rattle.termwiz_storage.specs.Stored.{fill, torn, stored, padded, set_cell, set_run, put_run}
 use Rattle.termwiz_storage.specs.Used.{IsUsedTo}
 use Rattle.termwiz_storage.proofs.Halves.{length-torn, length-padded, set_cell-torn}
 use Rattle.termwiz_storage.proofs.SetCell.{length-set_cell, set_cell-padded}
@@ -92,3 +92,23 @@ put_run-part i n bs a cs ws l m w =
     let all : put_mid i (i + length bs - i) cs ws ≡ sets cs i ws = rw (k, drop-drop) (sym (sets-eq ws cs i (omega arith) ∙ append_assoc (take i cs) ws (drop (i + length ws) cs))) in
     let same : sets cs i ws ≡ put_run i bs a cs = ap (sets cs i) w ∙ put_run-sets i bs a cs in
     take_at (put_mid i (i + length bs - i) cs ws) _ n (ap length all ∙ length-sets cs i ws ∙ sym m) ∙ all ∙ same
+
+-- one more copy of a cell is put
+pub copies_more : (k i : ℕ) (b : ℕ) (a : Attributes) (cs : List CellValue) → set (put_run i (replicate k b) a cs) (i + k) (plain_cell b a) ≡ put_run i (replicate (k + 1) b) a cs
+copies_more zero i b a cs = rw (add-zero i) refl
+copies_more (suc k) i b a cs =
+    let here : i + suc k ≡ i + 1 + k = omega arith in
+    rw here (copies_more k (i + 1) b a (set cs i (plain_cell b a)))
+
+pub length-copies : (i k : ℕ) (b : ℕ) (a : Attributes) (cs : List CellValue) → length (put_run i (replicate k b) a cs) ≡ length cs
+length-copies i zero b a cs = refl
+length-copies i (suc k) b a cs = length-copies (i + 1) k b a (set cs i (plain_cell b a)) ∙ length-set cs i (plain_cell b a)
+
+-- a fill is a run of one character
+pub fill-copies : (n i : ℕ) (b : ℕ) (a : Attributes) (cs : List CellValue) → set_run i (replicate n b) a cs ≡ fill n i (plain_cell b a) cs
+fill-copies zero i b a cs = refl
+fill-copies (suc n) i b a cs = fill-copies n (i + 1) b a (set_cell i (plain_cell b a) cs)
+
+-- padded, torn once, and filled
+pub filled-copies : (i k n : ℕ) (b : ℕ) (a : Attributes) (cs : List CellValue) → i < n → n ≡ i + k → put_run i (replicate k b) a (torn i (padded n cs)) ≡ fill k i (plain_cell b a) cs
+filled-copies i k n b a cs l e = put_run-torn i n (replicate k b) a cs l (e ∙ ap (λ (j : ℕ). i + j) (sym (length-replicate k b))) ∙ fill-copies k i b a cs

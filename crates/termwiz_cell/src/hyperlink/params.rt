@@ -88,5 +88,9 @@ pub(super) fn has_same_params(a: &BTreeMap<String, String>, b: &BTreeMap<String,
     ensures { result
         ≡ pointwise param_eq (map param_bytes a.now.entries) (map param_bytes b.now.entries) }
 {
+    // Few links have any.
+    if a.is_empty() && b.is_empty() {
+        return true;
+    }
     *a == *b
 }

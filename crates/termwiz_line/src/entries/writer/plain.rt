@@ -40,8 +40,22 @@ impl<'a> RowWriter<'a> {
         // A pen in a place of its own is compared without a look behind a reference.
         match self.pen.unboxed_copy() {
             Some(pen) => self.plain_run(left, &pen),
-            None => Ok(()),
+            None => self.boxed_run(left),
         }
+    }
+
+    // The same for a pen in a box. It stands apart, so that the way of the others is short.
+    #[inline(never)]
+    fn boxed_run(&mut self, left: &mut VecStorageIter<'a>) -> Result<(), AllocError>
+        requires spaces { self.old.spaces ≡ 0 }
+        requires text { last_is ends_printable self.old.printed.entries ≡ true }
+        ensures written { OnOk result (
+            (from : Penned) (all : List VisibleCell) →
+            IsUnderWay from all left.old self.old → IsUnderWay from all left.new self.new) }
+        ensures shorter { length left.new ≤ length left.old }
+    {
+        let pen = self.pen;
+        self.plain_run(left, pen)
     }
 
     // Writes the plain cells that come next in a pen that is equal to the one that stands.

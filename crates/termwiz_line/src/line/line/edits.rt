@@ -5,6 +5,8 @@ ghost use Rattle.termwiz_line.specs.{IsTakenFrom, IsUnchanged, MakesVector, cell
 ghost use Rattle.termwiz_line.specs.{AppendsAt, AreLetters, IsEditedAt, set_letters, with_halves};
 ghost use Rattle.termwiz_line.specs.{HasCells, IsEdited, IsFilled, IsPruned, LendsLine, needs_box};
 ghost use Rattle.termwiz_line.specs.{blank_of, inserted, is_plain, list_all, no_flags, set_cell};
+ghost use Rattle.termwiz_line.specs.{IfSome, IsSome};
+ghost use Rattle.termwiz_cell.specs.CellValue.{plain_cell};
 ghost use Rattle.termwiz_line.specs.{Fills, IfOk, OnErr, Prunes, erased, removed, set_run, visible};
 ghost use Rattle.termwiz_line.specs.{IsOk, OnOk, blank, chars, drop, false, max, sem, take, true};
 
@@ -197,6 +199,44 @@ impl Line {
         Ok(())
     }
 
+    // Sets the cell of a character of printable ASCII in each of the columns from one up to
+    // another, with attributes that take no memory.
+    fn set_copies(
+        &mut self,
+        from: usize,
+        to: usize,
+        byte: u8,
+        attrs: &CellAttributes,
+        seqno: SequenceNo,
+    ) -> Result<(), AllocError>
+        requires plain { is_plain byte ≡ true }
+        requires unboxed { needs_box attrs.now ≡ false }
+        ensures ok { OnOk result (
+            Fills self.old (to - from) from (plain_cell byte attrs.now) seqno self.new) }
+        ensures err { OnErr result (IsUnchanged self.old self.new) }
+        ensures made { OnOk result (self.new.is_vector ≡ true) }
+    {
+        drop_zones(&mut self.zones);
+        self.storage.set_copies(from, to, byte, attrs)?;
+        if from < to {
+            self.seqno = self.seqno.max(seqno);
+        }
+        Ok(())
+    }
+
+    // The character of a cell that is copied without taking memory, where the line is a vector.
+    fn copied_byte(&self, cell: &Cell) -> Option<u8>
+        ensures cell { IfSome result (λ byte. cell.now ≡ plain_cell byte cell.now.attrs) }
+        ensures plain { IfSome result (λ byte. is_plain byte ≡ true) }
+        ensures unboxed { IsSome result → needs_box cell.now.attrs ≡ false }
+        ensures vector { IsSome result → self.now.is_vector ≡ true }
+    {
+        if self.stored_cells().is_none() || cell.owns_memory() {
+            return None;
+        }
+        cell.as_plain()
+    }
+
     // Sets the cell in each of the columns from one up to another.
     fn set_cells(
         &mut self,
@@ -216,6 +256,10 @@ impl Line {
         }
         if cell.is_blank() {
             self.set_blanks(from, to, seqno)?;
+            return Ok(());
+        }
+        if let Some(byte) = self.copied_byte(cell) {
+            self.set_copies(from, to, byte, cell.attrs(), seqno)?;
             return Ok(());
         }
         for i in from..to {

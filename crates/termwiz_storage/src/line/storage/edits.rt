@@ -1,6 +1,7 @@
 //! Edits that move the stored cells.
-ghost use Rattle.std.specs.Prelude.{◌≡◌, ◌≤◌, ◌++◌, IfOk, IsOk, OnErr, OnOk, drop, replicate, take};
+ghost use Rattle.std.specs.Prelude.{◌≡◌, ◌≤◌, ◌-◌, ◌++◌, IfOk, IsOk, OnErr, OnOk, drop, replicate, take};
 ghost use Rattle.termwiz_storage.specs.{blank_of, cells_in, columns_between, erased, erased_within};
+ghost use Rattle.termwiz_storage.specs.{false, fill, is_plain, needs_box, plain_cell};
 ghost use Rattle.termwiz_storage.specs.{inserted, is_vector, removed, true, visible, with_halves};
 
 use crate::line::clusterline::ClusteredLine;
@@ -37,6 +38,30 @@ impl CellStorage {
             return Ok(());
         }
         *self = CellStorage::copies(alloc, len, Cell::blank_with_attrs(attrs))?;
+        Ok(())
+    }
+
+    /// Sets the cell of a character of printable ASCII in each of the columns from `from` up to
+    /// `to`, which is not among them, in order, with attributes that take no memory. A text becomes
+    /// a vector, also where there is no such column.
+    /// On an error the cells are as before.
+    pub fn set_copies(
+        &mut self,
+        from: usize,
+        to: usize,
+        byte: u8,
+        attrs: &CellAttributes,
+    ) -> Result<(), AllocError>
+        requires plain { is_plain byte ≡ true }
+        requires unboxed { needs_box attrs.now ≡ false }
+        ensures ok { OnOk result (
+            cells_in self.new
+            ≡ fill (to - from) from (plain_cell byte attrs.now) (cells_in self.old)) }
+        ensures err { OnErr result (cells_in self.new ≡ cells_in self.old) }
+        ensures vector { is_vector self.old ≡ true → is_vector self.new ≡ true }
+        ensures made { OnOk result (is_vector self.new ≡ true) }
+    {
+        self.coerce_vec()?.set_copies(from, to, byte, attrs)?;
         Ok(())
     }
 

@@ -4,8 +4,10 @@ ghost use Rattle.termwiz_storage.specs.{IfOk, OnErr, OnOk, blank, columns_betwee
 ghost use Rattle.termwiz_storage.specs.{erased_within, false, half, insert, inserted, is_wide, not};
 ghost use Rattle.termwiz_storage.specs.{inserted_at_margin, length, nat_le, padded, remove, take};
 ghost use Rattle.termwiz_storage.specs.{removed, removed_at_margin, replicate, vec_capacity};
+ghost use Rattle.termwiz_storage.specs.{fill, is_plain, needs_box, plain_cell, put_run, true};
 ghost use Rattle.termwiz_storage.specs.{vec_len, visible, with_half, with_halves};
 
+use super::lists::put_copies;
 use crate::line::vecstorage::{VecStorage, end_of, half_of, pad_cells};
 use std::alloc::{AllocError, Global};
 use std::mem;
@@ -93,6 +95,40 @@ impl VecStorage {
         self.used = self.cells.len();
         self.owns |= owned;
         Ok(())
+    }
+
+    /// Sets the cell of a character of printable ASCII in each of the columns from `from` up to
+    /// `to`, which is not among them, in order, with attributes that take no memory. It takes
+    /// memory only where the list grows. On an error nothing changed.
+    pub(crate) fn set_copies(
+        &mut self,
+        from: usize,
+        to: usize,
+        byte: u8,
+        attrs: &CellAttributes,
+    ) -> Result<(), AllocError>
+        requires plain { is_plain byte ≡ true }
+        requires unboxed { needs_box attrs.now ≡ false }
+        ensures ok { OnOk result (
+            self.new ≡ fill (to - from) from (plain_cell byte attrs.now) self.old) }
+        ensures err { OnErr result (self.new ≡ self.old) }
+    {
+        if from < to {
+            self.make_room(from, to)?;
+            self.put_copies(from, to - from, byte, attrs);
+        }
+        Ok(())
+    }
+
+    // The cell of the character comes to so many columns, from one on.
+    fn put_copies(&mut self, from: usize, count: usize, byte: u8, attrs: &CellAttributes)
+        requires plain { is_plain byte ≡ true }
+        requires unboxed { needs_box attrs.now ≡ false }
+        requires room { from + count ≤ length self.old }
+        ensures { self.new ≡ put_run from (replicate count byte) attrs.now self.old }
+    {
+        self.used = self.used.max(from + count);
+        put_copies(&mut self.cells, from, count, byte, attrs, self.owns);
     }
 
     /// Keeps the stored cells before a column, and hands out the rest. On an error nothing changed.

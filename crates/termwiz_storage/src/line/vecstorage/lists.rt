@@ -3,7 +3,7 @@ ghost use Rattle.std.specs.Prelude.{◌≡◌, ◌↔◌, ◌<◌, ◌≤◌, �
 ghost use Rattle.termwiz_storage.specs.{AreLetters, OwnNothing, is_plain, owns_memory, put_letters};
 ghost use Rattle.termwiz_storage.specs.{IfOk, IsOk, IsTrue, OnOk, chars, false, length, padded};
 ghost use Rattle.termwiz_storage.specs.{IsBlanked, OnErr, list_all, needs_box, plain_cell, vec_len};
-ghost use Rattle.termwiz_storage.specs.{take, true};
+ghost use Rattle.termwiz_storage.specs.{put_run, replicate, take, true};
 
 use std::alloc::{AllocError, Global};
 use std::mem;
@@ -148,6 +148,28 @@ pub(super) fn put_cells(cells: &mut [Cell], run: &[u8], attrs: &CellAttributes, 
     for k in 0..run.len() {
         let copy = own.unboxed_copy().unwrap();
         overwrite(&mut cells[k], Cell::plain(run[k], copy), owns);
+    }
+}
+
+// The cell of one character comes in the place of so many others, from a column on.
+pub(super) fn put_copies(
+    cells: &mut [Cell],
+    from: usize,
+    count: usize,
+    byte: u8,
+    attrs: &CellAttributes,
+    owns: bool,
+)
+    requires plain { is_plain byte ≡ true }
+    requires unboxed { needs_box attrs.now ≡ false }
+    requires unowned { owns ≡ false → OwnNothing cells.old }
+    requires room { from + count ≤ length cells.old }
+    ensures { cells.new ≡ put_run from (replicate count byte) attrs.now cells.old }
+{
+    let own = attrs.unboxed_copy().unwrap();
+    for k in 0..count {
+        let copy = own.unboxed_copy().unwrap();
+        overwrite(&mut cells[from + k], Cell::plain(byte, copy), owns);
     }
 }
 

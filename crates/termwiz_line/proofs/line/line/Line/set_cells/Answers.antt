@@ -30,3 +30,6 @@ returns-clause-appended c = HasForm-appended {b = c.args.to} (omega arith) c.loo
 
 pub returns-clause-made : goal.returns-clause-made
 returns-clause-made c = HasForm-elsewhere (omega arith) (iff_false c.is_blank.ensures c.if-is_blank.false) c.loop-i.invariant.form
+
+pub returns-in_err-set_copies-clause-err : goal.returns-in_err-set_copies-clause-err
+returns-in_err-set_copies-clause-err c = on_err _ (partly_filled {n = 0} {a = c.args.from} {b = c.args.to} (omega arith) (Fills-unchanged (Fills-none c.args.from c.args.seqno c.args.cell.now c.args.self.now) c.in_err-set_copies.ensures.err))

@@ -94,11 +94,16 @@ put_run-part i n bs a cs ws l m w =
     take_at (put_mid i (i + length bs - i) cs ws) _ n (ap length all ∙ length-sets cs i ws ∙ sym m) ∙ all ∙ same
 
 -- one more copy of a cell is put
-pub copies_more : (k i : ℕ) (b : ℕ) (a : Attributes) (cs : List CellValue) → set (put_run i (replicate k b) a cs) (i + k) (plain_cell b a) ≡ put_run i (replicate (k + 1) b) a cs
-copies_more zero i b a cs = rw (add-zero i) refl
-copies_more (suc k) i b a cs =
+copies_next : (k i : ℕ) (b : ℕ) (a : Attributes) (cs : List CellValue) → set (put_run i (replicate k b) a cs) (i + k) (plain_cell b a) ≡ put_run i (replicate (suc k) b) a cs
+copies_next zero i b a cs = rw (add-zero i) refl
+copies_next (suc k) i b a cs =
     let here : i + suc k ≡ i + 1 + k = omega arith in
-    rw here (copies_more k (i + 1) b a (set cs i (plain_cell b a)))
+    rw here (copies_next k (i + 1) b a (set cs i (plain_cell b a)))
+
+pub copies_more : (k i : ℕ) (b : ℕ) (a : Attributes) (cs : List CellValue) → set (put_run i (replicate k b) a cs) (i + k) (plain_cell b a) ≡ put_run i (replicate (k + 1) b) a cs
+copies_more k i b a cs =
+    let one : suc k ≡ k + 1 = omega arith in
+    subst (λ (n : ℕ). set (put_run i (replicate k b) a cs) (i + k) (plain_cell b a) ≡ put_run i (replicate n b) a cs) one (copies_next k i b a cs)
 
 pub length-copies : (i k : ℕ) (b : ℕ) (a : Attributes) (cs : List CellValue) → length (put_run i (replicate k b) a cs) ≡ length cs
 length-copies i zero b a cs = refl

@@ -27,22 +27,31 @@ NOTIONS = [
     ("full surface", ["SurfaceValue.full_of"]),
     ("due", ["Log.due", "Log.next_number"]),
     ("known", ["Log.is_known", "Log.delta_limit"]),
-    ("pictures", ["Picture.screens", "Picture.full_screens", "Picture.played"]),
+    ("full pictures", ["Picture.full_screens", "Picture.played"]),
+    ("pictures", ["Picture.screens"]),
     ("measure", ["Measure.measure"]),
     ("leads", ["Following.LeadsTo", "Following.ViewerValue"]),
     ("follows", ["Following.Follows"]),
     ("need", ["Diff.need"]),
     ("printed", ["Prints.printed", "Step.replay"]),
     ("changes", ["ChangeValue.change_value"]),
-    ("repaint", ["Asking.knows", "Asking.own_repaint", "Asking.most_own_entries"]),
+    ("repaint", ["Asking.own_repaint"]),
+    ("bound", ["Asking.knows", "Asking.most_own_entries"]),
     ("stream", ["Stream.IsStream", "Stream.IsFullStream"]),
     ("answer", ["Answer.AnswerValue"]),
     ("given", ["Carried.IsGivenBy"]),
-    ("carried", ["Answer.Carries", "Showing.ShowsNamed"]),
+    ("carried", ["Answer.Carries"]),
+    ("named", ["Showing.ShowsNamed"]),
     ("blank", ["SurfaceValue.blank_surface"]),
     ("act", ["Schedule.Acts"]),
     ("shown", ["ScreenValue.screen_value"]),
-    ("bytes", ["Answers.answer"]),
+    ("pieces", ["Pieces.runs", "Pieces.needs_pieces"]),
+    ("bytes", ["Sent.answer"]),
+    ("forms", ["Sent.IsSent"]),
+    ("decoding", ["Answers.answer_at"]),
+    ("client", ["Client.shown_by", "Client.fits"]),
+    ("taken", ["Client.taken", "Client.has_other_size"]),
+    ("source", ["Source.SourceValue", "Serving.Serves"]),
 ]
 THEOREMS = [
     ("a viewer has the screen", [("Viewer::follow", "caught_up fully_caught_up")]),
@@ -53,13 +62,18 @@ THEOREMS = [
     ("a carried answer leads", [("Surface::answer", "given given_fully carries carries_fully"),
                                 ("Viewer::accept", "shows shows_fully names names_fully")]),
     ("a run is allowed", [("view::run", ""), ("view::run_full", ""), ("many::run_many", "")]),
-    ("a client has the last screen", [("carried::receive_all", "")]),
+    ("a client shows what a source showed", [("Client::feed", "follows")]),
+    ("a client takes what is whole", [("Client::feed", "feeds")]),
+    ("a client is served", [("Source::respond", "ok serves"), ("Client::feed", "shows serves"),
+                            ("Client::reset", "ready serves")]),
+    ("more bytes", [("termwiz_wire::answers", ""), ("termwiz_wire::decided", ""),
+                    ("termwiz_wire::stays", "")]),
     ("a watcher shows what was sent", [("pipe::piped", "")]),
 ]
 
 
 def functions():
-    """Each function with a contract, by its type's or its file's name and its own."""
+    """Each function with a contract, by its type's, its file's or its crate's name and its own."""
     found = {}
     for name in chain():
         own = crate(name)
@@ -69,7 +83,8 @@ def functions():
         for module in own.modules.values():
             for item in module.items.values():
                 if item.kind == "fn":
-                    found.setdefault(f"{module.path.stem}::{item.name}", []).append((own, item))
+                    for home in {module.path.stem, name}:
+                        found.setdefault(f"{home}::{item.name}", []).append((own, item))
     return found
 
 

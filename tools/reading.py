@@ -5,9 +5,9 @@
     tools/reading.py --check   fails where the page differs from the sources
 
 NOTIONS are the definitions that the page explains, and THEOREMS the clauses of the headline of
-docs/THEOREMS.md: a new theorem there gets a line here, and a block `<!-- NAME -->` to
-`<!-- end -->` in the page. From each the names are followed to their definitions, through all of
-`specs/`. Names of the toolchain's own library end the way, and so do the types of the code. A
+docs/THEOREMS.md: a new theorem there gets a line here, and a block `<!--NAME-->` to
+`<!--end-->` in the page. From each the names are followed to their definitions, through all of
+`specs/`. Names of the toolchain's own library and types of the code end the way. A
 definition is listed once, where it is first read; a theorem names the lists that it reads whole.
 """
 import argparse
@@ -41,7 +41,6 @@ NOTIONS = [
     ("answer", ["Answer.AnswerValue"]),
     ("given", ["Carried.IsGivenBy"]),
     ("carried", ["Answer.Carries"]),
-    ("named", ["Showing.ShowsNamed"]),
     ("blank", ["SurfaceValue.blank_surface"]),
     ("act", ["Schedule.Acts"]),
     ("shown", ["ScreenValue.screen_value"]),
@@ -66,8 +65,8 @@ THEOREMS = [
     ("a client takes what is whole", [("Client::feed", "feeds")]),
     ("a client is served", [("Source::respond", "ok serves"), ("Client::feed", "shows serves"),
                             ("Client::reset", "ready serves")]),
-    ("more bytes", [("termwiz_wire::answers", ""), ("termwiz_wire::decided", ""),
-                    ("termwiz_wire::stays", "")]),
+    ("more bytes", [("termwiz_wire::answers", ""), ("termwiz_wire::decided", "answer"),
+                    ("termwiz_wire::stays", "answer")]),
     ("a watcher shows what was sent", [("pipe::piped", "")]),
 ]
 
@@ -205,9 +204,8 @@ def main():
     check = parser.parse_args().check
     text = PAGE.read_text()
     for name, lines in blocks().items():
-        block = "\n".join([f"<!-- {name} -->", "", *lines, "", "<!-- end -->"])
-        text, count = re.subn(rf"<!-- {name} -->.*?<!-- end -->", lambda _: block, text,
-                              flags=re.S)
+        block = "\n".join([f"<!--{name}-->", "", *lines, "", "<!--end-->"])
+        text, count = re.subn(rf"<!--{name}-->.*?<!--end-->", lambda _: block, text, flags=re.S)
         if count != 1:
             sys.exit(f"docs/READING.md has {count} blocks for {name}")
     write(PAGE, text, check, Path(__file__).name)

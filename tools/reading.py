@@ -9,6 +9,8 @@ docs/THEOREMS.md: a new theorem there gets a line here, and a block `<!--NAME-->
 `<!--end-->` in the page. From each the names are followed to their definitions, through all of
 `specs/`. Names of the toolchain's own library and types of the code end the way. A
 definition is listed once, where it is first read; a theorem names the lists that it reads whole.
+
+It fails too where docs/THEOREMS.md names a clause that its calls don't have.
 """
 import argparse
 import re
@@ -18,6 +20,7 @@ from pathlib import Path
 from sources import TOP, chain, cited, cites, crate, resolve, specs, write
 
 PAGE = TOP / "docs" / "READING.md"
+CLAIMS = TOP / "docs" / "THEOREMS.md"
 NOTIONS = [
     ("row", ["Row.row_of"]),
     ("step", ["Step.step"]),
@@ -85,6 +88,23 @@ def functions():
                     for home in {module.path.stem, name}:
                         found.setdefault(f"{home}::{item.name}", []).append((own, item))
     return found
+
+
+def lacking(known):
+    """The clauses that a row of CLAIMS names behind calls, or types, that don't have them."""
+    clauses = {}
+    for call, found in known.items():
+        owner, name = call.split("::")
+        names = {name}.union(*({clause.name for clause in item.clauses} for _, item in found))
+        for key in (call, owner, name):
+            clauses.setdefault(key, set()).update(names)
+    wrong = []
+    for line in CLAIMS.read_text().split("\n"):
+        for calls, names in re.findall(r"([^()|]*)\(([^()]*)\)", line.rstrip("|").split("|")[-1]):
+            keys = re.findall(r"`(?:\w+::)*?((?:\w+::)?\w+)`", calls)
+            having = set().union(*(clauses.get(key, set()) for key in keys))
+            wrong += [name for name in re.findall(r"`(\w+)`", names) if keys and name not in having]
+    return wrong
 
 
 def definition(path):
@@ -175,9 +195,9 @@ def amount(items):
     return f"{count}, {sum(item.size() for item in items)} lines"
 
 
-def blocks():
+def blocks(known):
     """Each block of the page, by its name."""
-    files, known, listed, made = order(), functions(), {}, {}
+    files, listed, made = order(), {}, {}
     for name, paths in NOTIONS:
         whole = reached(map(definition, paths))
         own = whole - set().union(*listed.values())
@@ -202,8 +222,10 @@ def main():
                                      formatter_class=argparse.RawDescriptionHelpFormatter)
     parser.add_argument("--check", action="store_true", help="compare the page, and write nothing")
     check = parser.parse_args().check
-    text = PAGE.read_text()
-    for name, lines in blocks().items():
+    known, text = functions(), PAGE.read_text()
+    if wrong := lacking(known):
+        sys.exit(f"docs/THEOREMS.md names clauses that aren't there: {', '.join(wrong)}")
+    for name, lines in blocks(known).items():
         block = "\n".join([f"<!--{name}-->", "", *lines, "", "<!--end-->"])
         text, count = re.subn(rf"<!--{name}-->.*?<!--end-->", lambda _: block, text, flags=re.S)
         if count != 1:

@@ -1,6 +1,6 @@
 #!/usr/bin/env python3
-"""Writes docs/API.md from the sources: every public item that `termwiz_surface` and `termwiz_wire`
-name.
+"""Writes docs/API.md from the sources: every public item that `termwiz_surface`, `termwiz_wire` and
+`termwiz_share` name.
 
     tools/api.py           writes the page
     tools/api.py --check   fails where the page differs from the sources
@@ -17,12 +17,12 @@ from sources import TOP, cited, crate, dedent, find, indent_of, resolve, write
 
 PAGE = TOP / "docs" / "API.md"
 ROOT = "termwiz_surface"
-WIRE = "termwiz_wire"
+STREAMS = ("termwiz_wire", "termwiz_share")
 ORDER = "surface view line cellcluster cell change color hyperlink emoji laws".split()
 KINDS = ("struct", "enum", "trait")
 INTRODUCTION = """# Calls
 
-All that `termwiz_surface` and `termwiz_wire` name, by module: {calls} calls and {types} types. A type is listed with its variants or public fields; a call with its signature, what its caller must keep (`requires`), its documentation and, folded, what it promises (`ensures`). Each name is a link to its line. `tools/api.py` makes the page from the sources; what is hidden from documentation, for the crates above, is left out.
+All that `termwiz_surface`, `termwiz_wire` and `termwiz_share` name, by module: {calls} calls and {types} types. A type is listed with its variants or public fields; a call with its signature, what its caller must keep (`requires`), its documentation and, folded, what it promises (`ensures`). Each name is a link to its line. `tools/api.py` makes the page from the sources; what is hidden from documentation, for the crates above, is left out.
 
 How to read a clause:
 
@@ -233,7 +233,8 @@ def main():
     check = parser.parse_args().check
     page = Page()
     page.module(ROOT, (), ())
-    page.module(WIRE, (), (WIRE,))
+    for name in STREAMS:
+        page.module(name, (), (name,))
     head = INTRODUCTION.format(calls=page.calls, types=page.types)
     text = "\n".join([head.rstrip("\n"), *page.contents(), *page.lines, *page.words(), ""])
     write(PAGE, re.sub(r"\n{3,}", "\n\n", text), check, Path(__file__).name)

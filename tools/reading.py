@@ -5,10 +5,12 @@
     tools/reading.py --check   fails where the page differs from the sources
 
 NOTIONS are the definitions that the page explains, and THEOREMS the clauses of the headline of
-docs/THEOREMS.md: a new theorem there gets a line here, and a block `<!-- NAME -->` to
-`<!-- end -->` in the page. From each the names are followed to their definitions, through all of
-`specs/`. Names of the toolchain's own library end the way, and so do the types of the code. A
+docs/THEOREMS.md: a new theorem there gets a line here, and a block `<!--NAME-->` to
+`<!--end-->` in the page. From each the names are followed to their definitions, through all of
+`specs/`. Names of the toolchain's own library and types of the code end the way. A
 definition is listed once, where it is first read; a theorem names the lists that it reads whole.
+
+It fails too where docs/THEOREMS.md names a clause that its calls don't have.
 """
 import argparse
 import re
@@ -18,6 +20,7 @@ from pathlib import Path
 from sources import TOP, chain, cited, cites, crate, resolve, specs, write
 
 PAGE = TOP / "docs" / "READING.md"
+CLAIMS = TOP / "docs" / "THEOREMS.md"
 NOTIONS = [
     ("row", ["Row.row_of"]),
     ("step", ["Step.step"]),
@@ -27,22 +30,30 @@ NOTIONS = [
     ("full surface", ["SurfaceValue.full_of"]),
     ("due", ["Log.due", "Log.next_number"]),
     ("known", ["Log.is_known", "Log.delta_limit"]),
-    ("pictures", ["Picture.screens", "Picture.full_screens", "Picture.played"]),
+    ("full pictures", ["Picture.full_screens", "Picture.played"]),
+    ("pictures", ["Picture.screens"]),
     ("measure", ["Measure.measure"]),
     ("leads", ["Following.LeadsTo", "Following.ViewerValue"]),
     ("follows", ["Following.Follows"]),
     ("need", ["Diff.need"]),
     ("printed", ["Prints.printed", "Step.replay"]),
     ("changes", ["ChangeValue.change_value"]),
-    ("repaint", ["Asking.knows", "Asking.own_repaint", "Asking.most_own_entries"]),
+    ("repaint", ["Asking.own_repaint"]),
+    ("bound", ["Asking.knows", "Asking.most_own_entries"]),
     ("stream", ["Stream.IsStream", "Stream.IsFullStream"]),
     ("answer", ["Answer.AnswerValue"]),
     ("given", ["Carried.IsGivenBy"]),
-    ("carried", ["Answer.Carries", "Showing.ShowsNamed"]),
+    ("carried", ["Answer.Carries"]),
     ("blank", ["SurfaceValue.blank_surface"]),
     ("act", ["Schedule.Acts"]),
     ("shown", ["ScreenValue.screen_value"]),
-    ("bytes", ["Answers.answer"]),
+    ("pieces", ["Pieces.runs", "Pieces.needs_pieces"]),
+    ("bytes", ["Sent.answer"]),
+    ("forms", ["Sent.IsSent"]),
+    ("decoding", ["Answers.answer_at"]),
+    ("client", ["Client.shown_by", "Client.fits"]),
+    ("taken", ["Client.taken", "Client.has_other_size"]),
+    ("source", ["Source.SourceValue", "Serving.Serves"]),
 ]
 THEOREMS = [
     ("a viewer has the screen", [("Viewer::follow", "caught_up fully_caught_up")]),
@@ -53,13 +64,18 @@ THEOREMS = [
     ("a carried answer leads", [("Surface::answer", "given given_fully carries carries_fully"),
                                 ("Viewer::accept", "shows shows_fully names names_fully")]),
     ("a run is allowed", [("view::run", ""), ("view::run_full", ""), ("many::run_many", "")]),
-    ("a client has the last screen", [("carried::receive_all", "")]),
+    ("a client shows what a source showed", [("Client::feed", "follows")]),
+    ("a client takes what is whole", [("Client::feed", "feeds")]),
+    ("a client is served", [("Source::respond", "ok serves"), ("Client::feed", "shows serves"),
+                            ("Client::reset", "ready serves")]),
+    ("more bytes", [("termwiz_wire::answers", ""), ("termwiz_wire::decided", "answer"),
+                    ("termwiz_wire::stays", "answer")]),
     ("a watcher shows what was sent", [("pipe::piped", "")]),
 ]
 
 
 def functions():
-    """Each function with a contract, by its type's or its file's name and its own."""
+    """Each function with a contract, by its type's, its file's or its crate's name and its own."""
     found = {}
     for name in chain():
         own = crate(name)
@@ -69,8 +85,26 @@ def functions():
         for module in own.modules.values():
             for item in module.items.values():
                 if item.kind == "fn":
-                    found.setdefault(f"{module.path.stem}::{item.name}", []).append((own, item))
+                    for home in {module.path.stem, name}:
+                        found.setdefault(f"{home}::{item.name}", []).append((own, item))
     return found
+
+
+def lacking(known):
+    """The clauses that a row of CLAIMS names behind calls, or types, that don't have them."""
+    clauses = {}
+    for call, found in known.items():
+        owner, name = call.split("::")
+        names = {name}.union(*({clause.name for clause in item.clauses} for _, item in found))
+        for key in (call, owner, name):
+            clauses.setdefault(key, set()).update(names)
+    wrong = []
+    for line in CLAIMS.read_text().split("\n"):
+        for calls, names in re.findall(r"([^()|]*)\(([^()]*)\)", line.rstrip("|").split("|")[-1]):
+            keys = re.findall(r"`(?:\w+::)*?((?:\w+::)?\w+)`", calls)
+            having = set().union(*(clauses.get(key, set()) for key in keys))
+            wrong += [name for name in re.findall(r"`(\w+)`", names) if keys and name not in having]
+    return wrong
 
 
 def definition(path):
@@ -161,9 +195,9 @@ def amount(items):
     return f"{count}, {sum(item.size() for item in items)} lines"
 
 
-def blocks():
+def blocks(known):
     """Each block of the page, by its name."""
-    files, known, listed, made = order(), functions(), {}, {}
+    files, listed, made = order(), {}, {}
     for name, paths in NOTIONS:
         whole = reached(map(definition, paths))
         own = whole - set().union(*listed.values())
@@ -188,11 +222,12 @@ def main():
                                      formatter_class=argparse.RawDescriptionHelpFormatter)
     parser.add_argument("--check", action="store_true", help="compare the page, and write nothing")
     check = parser.parse_args().check
-    text = PAGE.read_text()
-    for name, lines in blocks().items():
-        block = "\n".join([f"<!-- {name} -->", "", *lines, "", "<!-- end -->"])
-        text, count = re.subn(rf"<!-- {name} -->.*?<!-- end -->", lambda _: block, text,
-                              flags=re.S)
+    known, text = functions(), PAGE.read_text()
+    if wrong := lacking(known):
+        sys.exit(f"docs/THEOREMS.md names clauses that aren't there: {', '.join(wrong)}")
+    for name, lines in blocks(known).items():
+        block = "\n".join([f"<!--{name}-->", "", *lines, "", "<!--end-->"])
+        text, count = re.subn(rf"<!--{name}-->.*?<!--end-->", lambda _: block, text, flags=re.S)
         if count != 1:
             sys.exit(f"docs/READING.md has {count} blocks for {name}")
     write(PAGE, text, check, Path(__file__).name)

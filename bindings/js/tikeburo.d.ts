@@ -123,7 +123,10 @@ export interface ClientOptions {
     bytes?: number;
     /** Called after each answer that was taken. */
     onanswer?: ((client: Client) => void) | null;
-    /** Called for each that came late or twice, or whose base was lost; it changed nothing. */
+    /**
+     * Called for each delta that doesn't lead on from what is shown: it came late or twice, is
+     * another surface's, or one before it was lost. It changed nothing.
+     */
     onstale?: ((fault: Fault, client: Client) => void) | null;
 }
 

@@ -5,7 +5,7 @@ use Rattle.std.specs.Prelude.{◌==◌, bytes_eq, encode_utf8}
 use Rattle.termwiz_text.specs.Letter.{is_letter}
 use Rattle.termwiz_text.proofs.LetterRuns.{letter_bytes, alone_letter}
 use Rattle.termwiz_cell.specs.Attributes.{Attributes}
-use Rattle.termwiz_cell.specs.CellValue.{clean, measured}
+use Rattle.termwiz_cell.specs.CellValue.{clean}
 use Rattle.termwiz_cell.proofs.Graphemes.{single_same}
 use Rattle.termwiz_storage.specs.Letters.{letter_cell}
 use Rattle.termwiz_screen.specs.declared.print.Piece.TheVariants.{Cell}

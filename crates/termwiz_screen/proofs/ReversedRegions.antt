@@ -1,5 +1,5 @@
 -- Lists of which a region is reversed, and how three such steps turn it.
-use Rattle.std.proofs.Common.{◌≡◌, ℕ, ◌+◌, ◌-◌, ◌≤◌, List, [], ◌∷◌, ◌++◌, length, take, drop, get_or, set, reverse, refl, sym, ◌∙◌, ap, ap₂, arith, append_assoc, length-append, length-take, length-drop}
+use Rattle.std.proofs.Common.{◌≡◌, ℕ, ◌+◌, ◌≤◌, List, [], ◌∷◌, ◌++◌, length, take, drop, get_or, set, reverse, refl, sym, ◌∙◌, ap, ap₂, arith, append_assoc, length-append, length-take, length-drop}
 use Rattle.std.specs.List.{swap}
 use Rattle.std.proofs.lemmas.List.{take-append-drop, take_at, drop_at, drop-drop, drop_more, get_or_at, set_at, length_push, reverse-append, reverse-reverse, length-reverse}
 use Rattle.std.proofs.lemmas.List.Edits.{swap_is}

@@ -1,12 +1,10 @@
 -- What a text that scrolls makes of the rows and of their attributes.
-use Rattle.std.proofs.Common.{◌≡◌, ℕ, zero, suc, ◌+◌, ◌-◌, ◌<◌, ◌≤◌, min, Bool, true, false, inl, inr, List, [], ◌∷◌, ◌++◌, length, take, drop, get_or, set, map, replicate, refl, sym, ◌∙◌, ap, ap₂, subst, fold, arith, append_assoc, length-append, length-drop}
+use Rattle.std.proofs.Common.{◌≡◌, ℕ, zero, suc, ◌+◌, ◌-◌, ◌<◌, ◌≤◌, min, Bool, true, false, List, [], ◌∷◌, ◌++◌, length, drop, map, replicate, refl, sym, ◌∙◌, ap, ap₂, subst, fold, arith, append_assoc, length-append, length-drop}
 use Rattle.std.specs.Prelude.{if◌then◌else◌}
-use Rattle.std.proofs.lemmas.List.{drop-append-le, drop-drop, length-replicate, length-set, get_or_append_left, get_or-drop, get_or-set_other, replicate-append-replicate, drop-replicate, append-nil, map-append, drop-map, length-map}
+use Rattle.std.proofs.lemmas.List.{drop-drop, length-replicate, length-set, get_or_append_left, get_or-drop, get_or-set_other, replicate-append-replicate, drop-replicate, append-nil, map-append, drop-map}
 use Rattle.std.proofs.lemmas.Bool.{ltb-true}
 use Rattle.unicode_segmentation.specs.Grapheme.{graphemes}
-use Rattle.termwiz_cell.specs.CellValue.{CellValue, blank, columns}
-use Rattle.termwiz_cell.specs.ChangeValue as change
-use Rattle.termwiz_cell.specs.declared.change.LineAttribute.{LineAttribute}
+use Rattle.termwiz_cell.specs.CellValue.{CellValue, blank}
 use Rattle.termwiz_cell.specs.declared.change.LineAttribute.TheVariants.{SingleWidthLine}
 use Rattle.termwiz_line.specs.LineFlags.{LineFlags, no_flags}
 use Rattle.termwiz_line.specs.Row.{paint}

@@ -30,6 +30,8 @@ pub use termwiz_line::{cellcluster, line};
 pub use termwiz_storage::line::cellref::{CellRef, VisibleCellIter};
 pub use termwiz_storage::line::vecstorage::VecStorage;
 pub use termwiz_surface_core::surface;
-pub use termwiz_surface_core::surface::{Answer, FullScreen, Screen, Surface, SurfaceError};
+pub use termwiz_surface_core::surface::{
+    Answer, FullScreen, NewSurfaceError, Screen, Surface, SurfaceError,
+};
 pub use termwiz_text::{split_letter_run, split_plain_run};
 pub use view::{AcceptError, Event, Outcome, Viewer};

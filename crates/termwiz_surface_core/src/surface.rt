@@ -14,9 +14,11 @@ mod lines;
 mod print;
 mod readings;
 mod resizing;
+mod sized;
 mod steps;
 
 pub use answer::Answer;
+pub use sized::NewSurfaceError;
 use std::alloc::{AllocError, Global};
 use std::collections::VecDeque;
 use std::marker::Model;

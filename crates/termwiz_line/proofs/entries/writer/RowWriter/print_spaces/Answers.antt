@@ -1,4 +1,4 @@
-use Rattle.std.proofs.Common.{◌≡◌, ◌<◌, ap, ◌∙◌, subst}
+use Rattle.std.proofs.Common.{◌<◌, ap, ◌∙◌, subst}
 use Rattle.termwiz_line.specs.Writing.{Writing, and_cells, spaces_of}
 use Rattle.termwiz_line.proofs.WrittenRows.{one_space}
 use Rattle.termwiz_line.proofs.entries.writer.RowWriter.print_spaces.Goals as goal

@@ -1,4 +1,4 @@
-use Rattle.std.proofs.Common.{◌≡◌, length, replicate, ◌∙◌, ap, arith}
+use Rattle.std.proofs.Common.{length, replicate, ◌∙◌, ap, arith}
 use Rattle.termwiz_storage.specs.Stored.{put_run}
 use Rattle.termwiz_storage.proofs.Owned.{marked_copied}
 use Rattle.termwiz_storage.proofs.Runs.{length-copies}

@@ -1,4 +1,4 @@
-use Rattle.std.proofs.Common.{◌≡◌, ◌-◌, ◌<◌, length, ap, arith}
+use Rattle.std.proofs.Common.{◌-◌, ◌<◌, length, ap, arith}
 use Rattle.termwiz_storage.proofs.Owned.{marked_halved}
 use Rattle.termwiz_storage.proofs.line.vecstorage.VecStorage.tear.Goals as goal
 

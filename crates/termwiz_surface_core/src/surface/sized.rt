@@ -1,0 +1,58 @@
+//! Surfaces of a size that is checked.
+ghost use Rattle.std.specs.Prelude.{◌≡◌, ◌↔◌, IfErr, IfOk, IsTrue};
+ghost use Rattle.termwiz_surface_core.specs.{IsSurfaceSize, blank_surface, false};
+ghost use Rattle.termwiz_surface_core.specs.declared.surface.sized.NewSurfaceError.TheVariants.{Memory, Size};
+
+use super::Surface;
+use std::alloc::{AllocError, Global};
+use termwiz_cell::emoji::Widths;
+use thiserror::Error;
+
+/// Why no surface was made.
+#[derive(Debug, Drop, Clone, Copy, PartialEq, Eq, Error)]
+pub enum NewSurfaceError {
+    /// A surface has 1 to 2^32 - 1 columns, and as many rows.
+    #[error("no surface has {width} columns and {height} rows")]
+    Size { width: usize, height: usize },
+    /// Memory was refused.
+    #[error("out of memory")]
+    Memory,
+}
+
+impl From<AllocError> for NewSurfaceError {
+    ghost from_gives = { λ _ error. error ≡ Memory };
+
+    fn from(_error: AllocError) -> NewSurfaceError {
+        NewSurfaceError::Memory
+    }
+}
+
+impl<W: Widths> Surface<W> {
+    /// A surface as `new` makes it, of a width in columns and a height in rows that are checked. It
+    /// fails with `Size` where no surface may have this size.
+    pub fn with_size(
+        alloc: Global,
+        width: usize,
+        height: usize,
+        widths: W,
+    ) -> Result<Surface<W>, NewSurfaceError>
+        ensures blank { IfOk result (λ s. s ≡ blank_surface widths width height false) }
+        ensures size { IfOk result (λ _. IsSurfaceSize width height) }
+        ensures refused { IfErr result (λ error.
+            (error ≡ Size width height) ↔ (IsSurfaceSize width height → ⊥)) }
+    {
+        if !is_surface_size(width, height) {
+            return Err(NewSurfaceError::Size { width, height });
+        }
+        let surface = Surface::new(alloc, width, height, widths)?;
+        Ok(surface)
+    }
+}
+
+// Whether a surface may have this size.
+fn is_surface_size(width: usize, height: usize) -> bool
+    ensures { IsTrue result ↔ IsSurfaceSize width height }
+{
+    const MOST: usize = 4294967295;
+    (width > 0 && height > 0) && (width <= MOST && height <= MOST)
+}

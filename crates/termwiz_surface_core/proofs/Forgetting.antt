@@ -2,7 +2,7 @@
 use Rattle.std.proofs.Common.{◌≡◌, ℕ, ◌+◌, ◌-◌, ◌≤◌, ◌<◌, true, false, inl, inr, length, refl, sym, ◌∙◌, arith, length-drop}
 use Rattle.std.proofs.lemmas.Bool.{cases_Bool, cases_lt, true≢false, le-leb}
 use Rattle.std.proofs.lemmas.Bool.Decides.{nat_tests}
-use Rattle.termwiz_screen.specs.Log.{LogValue, due, reaches, is_known, next_number, flushed}
+use Rattle.termwiz_screen.specs.Log.{LogValue, due, reaches, is_known, next_number}
 use Rattle.termwiz_screen.proofs.Logs.{reached, flushed_alike}
 use Rattle.termwiz_surface_core.specs.Asking.{forgotten}
 use Rattle.termwiz_surface_core.proofs.Following.{known_tells}

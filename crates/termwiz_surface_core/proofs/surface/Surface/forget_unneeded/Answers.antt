@@ -1,4 +1,4 @@
-use Rattle.std.proofs.Common.{◌≡◌, ℕ, ◌-◌, ap, sym, ◌∙◌, arith}
+use Rattle.std.proofs.Common.{◌≡◌, ◌-◌, ap, ◌∙◌, arith}
 use Rattle.termwiz_screen.specs.Log.{next_number, delta_limit, flushed}
 use Rattle.termwiz_surface_core.specs.Adding.{with_log}
 use Rattle.termwiz_surface_core.specs.SurfaceValue.{SurfaceValue}

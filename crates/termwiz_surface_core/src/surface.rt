@@ -4,6 +4,7 @@ ghost use Rattle.termwiz_surface_core.specs.{IsSurfaceSize, KeepsViewers, SameFr
 ghost use Rattle.termwiz_surface_core.specs.{change_value, next_number, region_fits, regions_fit};
 ghost use Rattle.termwiz_surface_core.specs.{IsSound, KeepsNames, Makes, Refuses, false, measure};
 ghost use Rattle.termwiz_surface_core.specs.{Adds, IsOk, OnOk, map, true};
+ghost use Rattle.termwiz_surface_core.specs.declared.surface.NewSurfaceError.TheVariants as errors;
 
 mod answer;
 mod answers;
@@ -18,7 +19,6 @@ mod sized;
 mod steps;
 
 pub use answer::Answer;
-pub use sized::NewSurfaceError;
 use std::alloc::{AllocError, Global};
 use std::collections::VecDeque;
 use std::marker::Model;
@@ -64,6 +64,25 @@ impl From<AllocError> for SurfaceError {
 
     fn from(_error: AllocError) -> SurfaceError {
         SurfaceError::Memory
+    }
+}
+
+/// Why no surface was made.
+#[derive(Debug, Drop, Clone, Copy, PartialEq, Eq, Error)]
+pub enum NewSurfaceError {
+    /// A surface has 1 to 2^32 - 1 columns, and as many rows.
+    #[error("no surface has {width} columns and {height} rows")]
+    Size { width: usize, height: usize },
+    /// Memory was refused.
+    #[error("out of memory")]
+    Memory,
+}
+
+impl From<AllocError> for NewSurfaceError {
+    ghost from_gives = { λ _ error. error ≡ errors.Memory };
+
+    fn from(_error: AllocError) -> NewSurfaceError {
+        NewSurfaceError::Memory
     }
 }
 

@@ -1,31 +1,11 @@
 //! Surfaces of a size that is checked.
 ghost use Rattle.std.specs.Prelude.{◌≡◌, ◌↔◌, IfErr, IfOk, IsTrue};
 ghost use Rattle.termwiz_surface_core.specs.{IsSurfaceSize, blank_surface, false};
-ghost use Rattle.termwiz_surface_core.specs.declared.surface.sized.NewSurfaceError.TheVariants.{Memory, Size};
+ghost use Rattle.termwiz_surface_core.specs.declared.surface.NewSurfaceError.TheVariants as errors;
 
-use super::Surface;
-use std::alloc::{AllocError, Global};
+use super::{NewSurfaceError, Surface};
+use std::alloc::Global;
 use termwiz_cell::emoji::Widths;
-use thiserror::Error;
-
-/// Why no surface was made.
-#[derive(Debug, Drop, Clone, Copy, PartialEq, Eq, Error)]
-pub enum NewSurfaceError {
-    /// A surface has 1 to 2^32 - 1 columns, and as many rows.
-    #[error("no surface has {width} columns and {height} rows")]
-    Size { width: usize, height: usize },
-    /// Memory was refused.
-    #[error("out of memory")]
-    Memory,
-}
-
-impl From<AllocError> for NewSurfaceError {
-    ghost from_gives = { λ _ error. error ≡ Memory };
-
-    fn from(_error: AllocError) -> NewSurfaceError {
-        NewSurfaceError::Memory
-    }
-}
 
 impl<W: Widths> Surface<W> {
     /// A surface as `new` makes it, of a width in columns and a height in rows that are checked. It
@@ -39,7 +19,7 @@ impl<W: Widths> Surface<W> {
         ensures blank { IfOk result (λ s. s ≡ blank_surface widths width height false) }
         ensures size { IfOk result (λ _. IsSurfaceSize width height) }
         ensures refused { IfErr result (λ error.
-            (error ≡ Size width height) ↔ (IsSurfaceSize width height → ⊥)) }
+            (error ≡ errors.Size width height) ↔ (IsSurfaceSize width height → ⊥)) }
     {
         if !is_surface_size(width, height) {
             return Err(NewSurfaceError::Size { width, height });

@@ -1,13 +1,13 @@
 //! Edits of a line's cells.
 ghost use Rattle.std.specs.Prelude.{◌≡◌, ◌<◌, ◌≤◌, ◌-◌, ◌↔◌, ◌++◌, [], IsTrue, length, replicate};
+ghost use Rattle.termwiz_cell.specs.CellValue.{plain_cell};
 ghost use Rattle.termwiz_line.specs.{AppendsCells, EditsElsewhere, IsPartlyFilled, columns_between};
 ghost use Rattle.termwiz_line.specs.{IsTakenFrom, IsUnchanged, MakesVector, cell_of, erased_within};
 ghost use Rattle.termwiz_line.specs.{AppendsAt, AreLetters, IsEditedAt, set_letters, with_halves};
 ghost use Rattle.termwiz_line.specs.{HasCells, IsEdited, IsFilled, IsPruned, LendsLine, needs_box};
 ghost use Rattle.termwiz_line.specs.{blank_of, inserted, is_plain, list_all, no_flags, set_cell};
-ghost use Rattle.termwiz_line.specs.{IfSome, IsSome};
-ghost use Rattle.termwiz_cell.specs.CellValue.{plain_cell};
-ghost use Rattle.termwiz_line.specs.{Fills, IfOk, OnErr, Prunes, erased, removed, set_run, visible};
+ghost use Rattle.termwiz_line.specs.{Fills, IfOk, IfSome, IsSome, OnErr, Prunes, erased, removed};
+ghost use Rattle.termwiz_line.specs.{set_run, visible};
 ghost use Rattle.termwiz_line.specs.{IsOk, OnOk, blank, chars, drop, false, max, sem, take, true};
 
 use crate::line::line::Line;

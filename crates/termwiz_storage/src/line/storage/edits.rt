@@ -1,5 +1,6 @@
 //! Edits that move the stored cells.
-ghost use Rattle.std.specs.Prelude.{◌≡◌, ◌≤◌, ◌-◌, ◌++◌, IfOk, IsOk, OnErr, OnOk, drop, replicate, take};
+ghost use Rattle.std.specs.Prelude.{◌≡◌, ◌≤◌, ◌-◌, ◌++◌, IfOk, IsOk, OnErr, OnOk, drop, take};
+ghost use Rattle.std.specs.Prelude.{replicate};
 ghost use Rattle.termwiz_storage.specs.{blank_of, cells_in, columns_between, erased, erased_within};
 ghost use Rattle.termwiz_storage.specs.{false, fill, is_plain, needs_box, plain_cell};
 ghost use Rattle.termwiz_storage.specs.{inserted, is_vector, removed, true, visible, with_halves};

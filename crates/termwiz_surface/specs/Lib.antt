@@ -57,6 +57,8 @@ pub use Rattle.termwiz_surface_core.specs.Asking.{knows, own_repaint, most_own_e
 pub use Rattle.termwiz_surface_core.specs.Diffs.{MeasureAlike, screen_after, HasDrawn, HasCopied, region_at, cut_to, PrintsRegion, GivesRegion, region_diff, rows_of, top_rows, one_row, PrintsRows, HaveTopRows, HaveRow}
 pub use Rattle.termwiz_surface_core.specs.Answer.{AnswerValue, IsGiven, Carries}
 pub use Rattle.termwiz_surface_core.specs.Carried.{IsPastOf, IsGivenBy, CarriesTo}
+pub use Rattle.termwiz_surface_core.specs.declared.surface.SurfaceError.TheVariants.{ScrollRegion}
+pub use Rattle.termwiz_storage.specs.Clustered.{IsWhole}
 pub use Rattle.termwiz_surface.specs.Accepting.{Takes}
 pub use Rattle.termwiz_surface.specs.Showing.{HasCaughtUp, ShowsNamed, KeepsShowing, ShowsCarried, StaysNamed}
 pub use Rattle.termwiz_surface.specs.Schedule.{IsSchedule, IsFullSchedule}

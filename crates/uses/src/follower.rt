@@ -1,6 +1,7 @@
 //! A follower of one's own, which is sent what changed since it asked last.
 ghost use Rattle.std.specs.Prelude.{◌≡◌, ◌∷◌, [], IfOk, OnErr, OnOk};
-ghost use Rattle.uses.specs.{Follows, ViewerValue, change_value, measure, screen_after, screen_of};
+ghost use Rattle.uses.specs.{Follows, ViewerValue, change_value, measure, next_number};
+ghost use Rattle.uses.specs.{screen_after, screen_of};
 
 use std::alloc::{AllocError, Global};
 use std::marker::Model;
@@ -58,6 +59,7 @@ impl<W: Widths> Follower<W> {
         requires same_height { self.old.surface.height ≡ surface.now.height }
         requires follows { Follows (measure W.width_of) self.old surface.now }
         ensures shown { OnOk result (screen_of self.new.surface ≡ screen_of surface.now) }
+        ensures numbered { OnOk result (self.new.last ≡ next_number surface.now.log) }
         // It can catch up again, after an error too.
         ensures follows { Follows (measure W.width_of) self.new surface.now }
         ensures failed { OnErr result (self.new.last ≡ 0) }

@@ -1,13 +1,13 @@
 //! A relay: a viewer whose own surface another viewer follows.
-ghost use Rattle.std.specs.Prelude.{◌≡◌, OnOk, true};
-ghost use Rattle.uses.specs.{Follows, full_of, measure, screen_of};
+ghost use Rattle.std.specs.Prelude.{◌≡◌, Err, OnOk, true};
+ghost use Rattle.uses.specs.{Follows, ScrollRegion, full_of, measure, screen_of};
 
 use termwiz_surface::{Surface, SurfaceError, Viewer, Widths};
 
 /// Shows a surface on a far viewer by way of a near one: the near viewer follows the surface, and
 /// the far one follows the near one's own surface.
-/// After an error either may show anything, and the next call that succeeds shows the surface on
-/// both.
+/// After an error, which is `Numbers` or `Memory`, either may show anything, and the next call that
+/// succeeds shows the surface on both.
 pub fn relay<W: Widths>(
     surface: &Surface<W>,
     near: &mut Viewer<W>,
@@ -23,6 +23,7 @@ pub fn relay<W: Widths>(
     // The next call can rely on it again, after an error too.
     ensures near { Follows (measure W.width_of) near.new surface.now }
     ensures far { Follows (measure W.width_of) far.new near.new.surface }
+    ensures no_scroll { result ≡ Err ScrollRegion → ⊥ }
     ensures kind { near.new.surface.full ≡ near.old.surface.full }
 {
     near.follow(surface)?;

@@ -1,8 +1,8 @@
 //! A remote terminal, to which a session's title and its headings of double width go as its rows
 //! do.
-ghost use Rattle.std.specs.Prelude.{◌≡◌, IfOk, OnOk, map, slice_index_or, true};
-ghost use Rattle.uses.specs.{DoubleWidthLine, Follows, SingleWidthLine, change_value, full_of};
-ghost use Rattle.uses.specs.{heading_changes, measure};
+ghost use Rattle.std.specs.Prelude.{◌≡◌, Err, IfOk, OnOk, map, slice_index_or, true};
+ghost use Rattle.uses.specs.{DoubleWidthLine, Follows, ScrollRegion, SingleWidthLine};
+ghost use Rattle.uses.specs.{change_value, full_of, heading_changes, measure};
 
 use std::alloc::{AllocError, Global};
 use termwiz_surface::change::LineAttribute;
@@ -10,7 +10,8 @@ use termwiz_surface::{Change, Surface, SurfaceError, Viewer, Widths};
 
 /// Prints a heading on a full surface, in a row that is shown twice as wide, makes it the title
 /// too, and shows all of it on the remote terminal.
-/// After an error the session may have the heading or not, and the next call shows it as it is.
+/// After an error, which is `Numbers` or `Memory`, the session may have the heading or not, and the
+/// next call shows it as it is.
 pub fn show_heading<W: Widths>(
     alloc: Global,
     session: &mut Surface<W>,
@@ -27,6 +28,7 @@ pub fn show_heading<W: Widths>(
     ensures title { OnOk result (remote.new.surface.title ≡ heading.now) }
     ensures wide { OnOk result (let shown = full_of remote.new.surface in
         slice_index_or shown.lines shown.screen.y SingleWidthLine ≡ DoubleWidthLine) }
+    ensures no_scroll { result ≡ Err ScrollRegion → ⊥ }
     // The next call can rely on it again, after an error too.
     ensures follows { Follows (measure W.width_of) remote.new session.new }
     ensures full { session.new.full ≡ true }

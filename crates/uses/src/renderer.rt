@@ -1,21 +1,25 @@
 //! A renderer: what it does in each turn of its loop.
-ghost use Rattle.std.specs.Prelude.{◌≡◌, [], OnOk};
-ghost use Rattle.uses.specs.{All, Follows, flushed, measure, next_number, screen_of};
+ghost use Rattle.std.specs.Prelude.{◌≡◌, [], Err, OnErr, OnOk};
+ghost use Rattle.uses.specs.{All, Follows, ScrollRegion, flushed, measure, next_number, screen_of};
 
 use termwiz_surface::{Surface, SurfaceError, Viewer, Widths};
 
 /// Shows on its one viewer what the surface shows, and lets both forget the changes that they have
 /// in common.
-/// After an error the viewer may show anything, and the next turn that succeeds shows the screen.
+/// After an error, which is `Numbers` or `Memory`, the surface is as before. The viewer may show
+/// anything, and the next turn that succeeds shows the screen.
 pub fn refresh<W: Widths>(
     surface: &mut Surface<W>,
     viewer: &mut Viewer<W>,
 ) -> Result<(), SurfaceError>
     requires { Follows (measure W.width_of) viewer.old surface.old }
     ensures shown { OnOk result (screen_of viewer.new.surface ≡ screen_of surface.new) }
+    ensures numbered { OnOk result (viewer.new.last ≡ next_number surface.old.log) }
     ensures forgets { OnOk result (surface.new.log ≡ flushed surface.old.log viewer.new.last) }
     ensures viewer_forgets { OnOk result (viewer.new.surface.log.changes ≡ []) }
     ensures unchanged { screen_of surface.new ≡ screen_of surface.old }
+    ensures kept { OnErr result (surface.new ≡ surface.old) }
+    ensures no_scroll { result ≡ Err ScrollRegion → ⊥ }
     // The next turn can rely on it again, after an error too.
     ensures follows { Follows (measure W.width_of) viewer.new surface.new }
 {
@@ -27,8 +31,8 @@ pub fn refresh<W: Widths>(
 
 /// Shows on all its viewers what the surface shows, and lets the surface forget its changes then,
 /// since each viewer has them.
-/// After an error the viewers may show anything, and a turn that succeeds shows the screen on all
-/// of them.
+/// After an error, which is `Numbers` or `Memory`, the surface is as before. The viewers may show
+/// anything, and a turn that succeeds shows the screen on all of them.
 pub fn refresh_all<W: Widths>(
     surface: &mut Surface<W>,
     viewers: &mut [Viewer<W>],
@@ -41,6 +45,8 @@ pub fn refresh_all<W: Widths>(
     ensures forgets { OnOk result (
         surface.new.log ≡ flushed surface.old.log (next_number surface.old.log)) }
     ensures unchanged { screen_of surface.new ≡ screen_of surface.old }
+    ensures kept { OnErr result (surface.new ≡ surface.old) }
+    ensures no_scroll { result ≡ Err ScrollRegion → ⊥ }
     // The next turn can rely on it again, after an error too.
     ensures follows { All (λ v. Follows (measure W.width_of) v surface.new) viewers.new }
 {

@@ -1,15 +1,17 @@
 //! A scrollback: lines that have left the screen, each stored as one text where that can be.
-ghost use Rattle.std.specs.Prelude.{◌≡◌, IfOk, List, false, map, true};
-ghost use Rattle.uses.specs.{IsWrapped, LineValue, line_contents, line_eq, visible};
+ghost use Rattle.std.specs.Prelude.{◌≡◌, ◌↔◌, IfOk, List, OnErr, OnOk, false, map, true};
+ghost use Rattle.uses.specs.{IsWhole, IsWrapped, LineValue, line_contents, line_eq, visible};
 
 use std::alloc::AllocError;
 use termwiz_surface::laws::{cut_laws, edit_laws, storage_laws};
 use termwiz_surface::{Line, SEQ_ZERO, SequenceNo};
 
 /// Stores a line that leaves the screen, as one text where that can be. It is equal to what it was,
-/// also after an error.
+/// also after an error, which leaves it as it was stored.
 pub fn store(line: &mut Line) -> Result<(), AllocError>
-    ensures { line_eq line.new line.old ≡ true }
+    ensures same { line_eq line.new line.old ≡ true }
+    ensures text { OnOk result (line.new.is_vector ≡ false ↔ IsWhole line.old.cells) }
+    ensures kept { OnErr result (line.new ≡ line.old) }
 {
     // Equality is that of cells, number and flags, whichever form stores them.
     storage_laws();

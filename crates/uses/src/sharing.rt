@@ -3,15 +3,16 @@
 ghost use Rattle.std.specs.Prelude.{◌≡◌, ◌<◌, ◌≤◌, [], IfOk, OnOk, false, map, true, vec_len, ℕ};
 ghost use Rattle.uses.specs.{AddsOne, All, Any, Follows, FullScreen, IsOneBehind, IsPastOf, Screen};
 ghost use Rattle.uses.specs.{IsServed, KeepsNames, MeasureAlike, ShowsNamed, ViewerValue, flushed};
-ghost use Rattle.uses.specs.{change_value, full_of, full_screens, is_known, measure, next_number};
+ghost use Rattle.uses.specs.{blank_viewer, change_value, full_of, full_screens, is_known, measure, next_number};
 ghost use Rattle.uses.specs.{screen_of, screens};
 
 use std::alloc::{AllocError, Global};
 use termwiz_surface::laws::{full_history_laws, history_laws};
 use termwiz_surface::{AcceptError, Change, SequenceNo, Surface, SurfaceError, Viewer, Widths};
 
-/// A new viewer, which is served by answers.
+/// A new viewer, blank and of the surface's size, which is served by answers.
 pub fn join<W: Widths>(alloc: Global, surface: &Surface<W>) -> Result<Viewer<W>, AllocError>
+    ensures blank { IfOk result (λ viewer. viewer ≡ blank_viewer surface.now) }
     // Of a surface that nothing has changed yet,
     ensures first { surface.now.log ≡ record { first = 0; changes = [] } → IfOk result (λ viewer.
         IsServed screens (measure W.width_of) viewer surface.now) }

@@ -4,11 +4,11 @@
     tools/reading.py           writes the lists, and leaves the words around them
     tools/reading.py --check   fails where the page differs from the sources
 
-NOTIONS are the definitions that the page explains, and THEOREMS the clauses of the headline of
+NOTIONS are the lists of each part of the page, and THEOREMS the clauses of the headline of
 docs/THEOREMS.md: a new theorem there gets a line here, and a block `<!--NAME-->` to
 `<!--end-->` in the page. From each the names are followed to their definitions, through all of
-`specs/`. Names of the toolchain's own library and types of the code end the way. A
-definition is listed once, where it is first read; a theorem names the lists that it reads whole.
+`specs/`. Names of the toolchain's own library and types of the code end the way. A definition is
+in one list, where it is first read; a list and a theorem name the last lists that they read whole.
 
 It fails too where docs/THEOREMS.md names a clause that its calls don't have.
 """
@@ -21,56 +21,67 @@ from sources import TOP, chain, cited, cites, crate, resolve, specs, write
 
 PAGE = TOP / "docs" / "READING.md"
 CLAIMS = TOP / "docs" / "THEOREMS.md"
-NOTIONS = [
-    ("row", ["Row.row_of"]),
-    ("step", ["Step.step"]),
-    ("surface", ["SurfaceValue.screen_of"]),
-    ("equal cells", ["CellValue.cell_eq"]),
-    ("full step", ["FullScreen.full_step"]),
-    ("full surface", ["SurfaceValue.full_of"]),
-    ("due", ["Log.due", "Log.next_number"]),
-    ("known", ["Log.is_known", "Log.delta_limit"]),
-    ("full pictures", ["Picture.full_screens", "Picture.played"]),
-    ("pictures", ["Picture.screens"]),
-    ("measure", ["Measure.measure"]),
-    ("leads", ["Following.LeadsTo", "Following.ViewerValue"]),
-    ("follows", ["Following.Follows"]),
-    ("need", ["Diff.need"]),
-    ("printed", ["Prints.printed", "Step.replay"]),
-    ("changes", ["ChangeValue.change_value"]),
-    ("repaint", ["Asking.own_repaint"]),
-    ("bound", ["Asking.knows", "Asking.most_own_entries"]),
-    ("stream", ["Stream.IsStream", "Stream.IsFullStream"]),
-    ("answer", ["Answer.AnswerValue"]),
-    ("given", ["Carried.IsGivenBy"]),
-    ("carried", ["Answer.Carries"]),
-    ("blank", ["SurfaceValue.blank_surface"]),
-    ("act", ["Schedule.Acts"]),
-    ("shown", ["ScreenValue.screen_value"]),
-    ("pieces", ["Pieces.runs", "Pieces.needs_pieces"]),
-    ("bytes", ["Sent.answer"]),
-    ("forms", ["Sent.IsSent"]),
-    ("decoding", ["Answers.answer_at"]),
-    ("client", ["Client.shown_by", "Client.fits"]),
-    ("taken", ["Client.taken", "Client.has_other_size"]),
-    ("source", ["Source.SourceValue", "Serving.Serves"]),
-]
+NOTIONS = {
+    "row": [("row", ["Row.row_of"])],
+    "step": [
+        ("step", ["Step.step"]),
+        ("equality", ["CellValue.cell_eq"]),
+        ("full step", ["FullScreen.full_step"]),
+    ],
+    "due": [
+        ("log", ["Log.LogValue"]),
+        ("due", ["Log.due", "Log.next_number"]),
+        ("known", ["Log.is_known", "Log.delta_limit"]),
+    ],
+    "follows": [
+        ("surface", ["SurfaceValue.screen_of"]),
+        ("full surface", ["SurfaceValue.full_of"]),
+        ("pictures", ["Picture.full_screens", "Picture.played"]),
+        ("screens", ["Picture.screens"]),
+        ("measure", ["Measure.measure"]),
+        ("leads", ["Following.LeadsTo", "Following.ViewerValue"]),
+        ("follows", ["Following.Follows"]),
+    ],
+    "need": [("need", ["Diff.need"])],
+    "further": [
+        ("replay", ["Step.replay"]),
+        ("regions", ["Step.regions_fit"]),
+        ("printed", ["Prints.printed"]),
+        ("changes", ["ChangeValue.change_value"]),
+        ("repaint", ["Asking.own_repaint"]),
+        ("bound", ["Asking.knows", "Asking.most_own_entries"]),
+        ("stream", ["Stream.IsStream", "Stream.IsFullStream"]),
+        ("answer", ["Answer.AnswerValue"]),
+        ("given", ["Carried.IsGivenBy"]),
+        ("carried", ["Answer.Carries"]),
+        ("blank", ["SurfaceValue.blank_surface"]),
+        ("act", ["Schedule.Acts"]),
+        ("shown", ["ScreenValue.screen_value"]),
+        ("pieces", ["Pieces.runs", "Pieces.needs_pieces"]),
+        ("bytes", ["Sent.answer"]),
+        ("forms", ["Sent.IsSent"]),
+        ("decoding", ["Answers.answer_at"]),
+        ("client", ["Client.shown_by", "Client.fits"]),
+        ("taken", ["Client.taken", "Client.has_other_size"]),
+        ("source", ["Source.SourceValue", "Serving.Serves"]),
+    ],
+}
 THEOREMS = [
-    ("a viewer has the screen", [("Viewer::follow", "caught_up fully_caught_up")]),
-    ("it goes on to follow", [("Viewer::new", "follows"), ("Viewer::follow", "follows"),
-                              ("Surface::add_changes", "followed")]),
-    ("a repaint gives the screen", [("Surface::get_changes", "repaint full")]),
-    ("a diff prints what is not shown", [("Surface::diff_screens", "rows prints")]),
-    ("a carried answer leads", [("Surface::answer", "given given_fully carries carries_fully"),
-                                ("Viewer::accept", "shows shows_fully names names_fully")]),
-    ("a run is allowed", [("view::run", ""), ("view::run_full", ""), ("many::run_many", "")]),
-    ("a client shows what a source showed", [("Client::feed", "follows")]),
-    ("a client takes what is whole", [("Client::feed", "feeds")]),
-    ("a client is served", [("Source::respond", "ok serves"), ("Client::feed", "shows serves"),
-                            ("Client::reset", "ready serves")]),
-    ("more bytes", [("termwiz_wire::answers", ""), ("termwiz_wire::decided", "answer"),
-                    ("termwiz_wire::stays", "answer")]),
-    ("a watcher shows what was sent", [("pipe::piped", "")]),
+    ("viewer", [("Viewer::follow", "caught_up fully_caught_up")]),
+    ("goes-on", [("Viewer::new", "follows"), ("Viewer::follow", "follows"),
+                 ("Surface::add_changes", "followed")]),
+    ("repaints", [("Surface::get_changes", "repaint full")]),
+    ("diff", [("Surface::diff_screens", "rows prints")]),
+    ("accept", [("Surface::answer", "given given_fully carries carries_fully"),
+                ("Viewer::accept", "shows shows_fully names names_fully")]),
+    ("run", [("view::run", ""), ("view::run_full", ""), ("many::run_many", "")]),
+    ("shows", [("Client::feed", "follows")]),
+    ("takes", [("Client::feed", "feeds")]),
+    ("served", [("Source::respond", "ok serves"), ("Client::feed", "shows serves"),
+                ("Client::reset", "ready serves")]),
+    ("more", [("termwiz_wire::answers", ""), ("termwiz_wire::decided", "answer"),
+              ("termwiz_wire::stays", "answer")]),
+    ("watcher", [("pipe::piped", "")]),
 ]
 
 
@@ -175,15 +186,14 @@ def order():
 
 
 def table(items, files):
-    """Definitions file by file, each a link to its lines, in the order in which to read them."""
-    lines = []
+    """Definitions crate by crate, each a link to its lines, in the order in which to read them."""
+    crates = {}
     for file in files:
         own = [item for item in file.definitions.values() if item in items]
         if own:
             links = ", ".join(f"[`{item.name}`](../{item.place()})" for item in own)
-            lines.append(f"- `{file.path.relative_to(TOP / 'crates').parts[0]}/"
-                         f"{file.path.stem}`: {links}")
-    return lines
+            crates.setdefault(file.path.relative_to(TOP / "crates").parts[0], []).append(links)
+    return [f"- `{name}`: {'; '.join(links)}" for name, links in crates.items()]
 
 
 def anchor(name):
@@ -195,25 +205,47 @@ def amount(items):
     return f"{count}, {sum(item.size() for item in items)} lines"
 
 
+class Lists:
+    """The lists of the page: what each has, and which others it comes after."""
+
+    def __init__(self):
+        self.own, self.before = {}, {}
+
+    def add(self, name, whole):
+        """Lists what no list has; returns it."""
+        self.own[name] = whole - set().union(*self.own.values())
+        self.before[name] = self.within(whole) - {name}
+        return self.own[name]
+
+    def within(self, whole):
+        """The lists that are read whole."""
+        return {name for name, items in self.own.items() if items and items <= whole}
+
+    def links(self, names):
+        """Links to the last ones of these lists, which come after all others."""
+        last = [name for name in self.own
+                if name in names and not any(name in self.before[other] for other in names)]
+        return ", ".join(f"[{name}](#{anchor(name)})" for name in last)
+
+
 def blocks(known):
     """Each block of the page, by its name."""
-    files, listed, made = order(), {}, {}
-    for name, paths in NOTIONS:
-        whole = reached(map(definition, paths))
-        own = whole - set().union(*listed.values())
-        listed[name] = own
-        made[name] = [f'<a id="{anchor(name)}"></a>**{name}**: {amount(own)}.', "",
-                      *table(own, files)]
+    files, lists, made = order(), Lists(), {}
+    for block, notions in NOTIONS.items():
+        lines = []
+        for name, paths in notions:
+            own = lists.add(name, reached(map(definition, paths)))
+            after = lists.links(lists.before[name])
+            lines += ["", f'<a id="{anchor(name)}"></a>**{name}**: {amount(own)}'
+                      f'{", after " if after else ""}{after}.', "", *table(own, files)]
+        made[block] = lines[1:]
     for name, calls in THEOREMS:
         starts, shown = roots(calls, known)
         whole = reached(starts)
-        read = [other for other, items in listed.items() if items and items <= whole]
-        own = whole - set().union(*(listed[other] for other in read))
-        listed[name] = own
-        links = ", ".join(f"[{other}](#{anchor(other)})" for other in read)
-        rest = "and these:" if own else "and no more."
-        made[name] = [f'<a id="{anchor(name)}"></a>{", ".join(shown)}: {amount(whole)}. '
-                      f"Read {links}, {rest}", *([""] if own else []), *table(own, files)]
+        read = lists.within(whole)
+        own = whole - set().union(*(lists.own[other] for other in read))
+        made[name] = [f'{", ".join(shown)}: {amount(whole)}, of {lists.links(read)}'
+                      f'{", and:" if own else "."}', *([""] if own else []), *table(own, files)]
     return made
 
 

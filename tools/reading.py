@@ -201,8 +201,7 @@ def anchor(name):
 
 
 def amount(items):
-    count = f"{len(items)} definition{'' if len(items) == 1 else 's'}"
-    return f"{count}, {sum(item.size() for item in items)} lines"
+    return f"{len(items)} definitions, {sum(item.size() for item in items)} lines"
 
 
 class Lists:
@@ -236,8 +235,8 @@ def blocks(known):
         for name, paths in notions:
             own = lists.add(name, reached(map(definition, paths)))
             after = lists.links(lists.before[name])
-            lines += ["", f'<a id="{anchor(name)}"></a>**{name}**: {amount(own)}'
-                      f'{", after " if after else ""}{after}.', "", *table(own, files)]
+            lines += ["", f'<a id="{anchor(name)}"></a>**{name}**'
+                      f'{", after " if after else ""}{after}:', "", *table(own, files)]
         made[block] = lines[1:]
     for name, calls in THEOREMS:
         starts, shown = roots(calls, known)

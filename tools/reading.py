@@ -8,7 +8,8 @@ NOTIONS are the lists of each part of the page, and THEOREMS the clauses of the 
 docs/THEOREMS.md: a new theorem there gets a line here, and a block `<!--NAME-->` to
 `<!--end-->` in the page. From each the names are followed to their definitions, through all of
 `specs/`. Names of the toolchain's own library and types of the code end the way. A definition is
-in one list, where it is first read; a list and a theorem name the last lists that they read whole.
+in the list where it is first read. A list and a theorem name the last lists that they read whole; a
+theorem adds all else that it reads.
 
 It fails too where docs/THEOREMS.md names a clause that its calls don't have.
 """

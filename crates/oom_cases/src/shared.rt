@@ -10,7 +10,7 @@ use termwiz_surface::surface::FullScreen;
 use termwiz_wire::{Ask, Limits, decode_ask};
 
 // What buffers have before a call appends to them.
-const BEFORE: [u8; 2] = [130, 246];
+const BEFORE: [u8; 8] = [246; 8];
 
 #[derive(Drop)]
 struct Ends {
@@ -53,7 +53,7 @@ fn print(change: Change, ends: &mut Ends) -> Result<(), Stop> {
 fn serve(ends: &mut Ends) -> Result<(), Stop> {
     let ask = asked(ends)?;
     let response = responded(ask, ends)?;
-    feed(&response[BEFORE.len()..], ends)
+    feed(appended(response.as_slice()), ends)
 }
 
 fn buffer(alloc: Global) -> Result<Vec<u8>, AllocError> {
@@ -62,13 +62,18 @@ fn buffer(alloc: Global) -> Result<Vec<u8>, AllocError> {
     Ok(bytes)
 }
 
+// What a call has appended.
+fn appended(bytes: &[u8]) -> &[u8] {
+    bytes.get(BEFORE.len()..).unwrap_or(&[])
+}
+
 // What the client asks by, from its bytes.
 fn asked(ends: &mut Ends) -> Result<Ask, Stop> {
     let mut bytes = buffer(ends.alloc)?;
     if ends.client.encode_ask(&mut bytes).is_err() {
         return refused("encode_ask", bytes.starts_with(&BEFORE) && is_served(ends));
     }
-    match decode_ask(&bytes[BEFORE.len()..]) {
+    match decode_ask(appended(bytes.as_slice())) {
         Ok((ask, _)) if ask == ends.client.ask() => Ok(ask),
         _ => Err(Stop::Wrong("encode_ask")),
     }

@@ -7,11 +7,16 @@
 //!   change where each text has one column. A text is shown without its pieces.
 //! - `damaged`: how many inputs differ in one byte from those of the lines before, or are their
 //!   beginnings. Each of them was decoded, and its value encoded again.
+//! - `client HEX HEX`: the same of a repaint and of a delta that leads on from it, as a source gives
+//!   them. A client that had taken the repaint was fed each of them. Of those that are no answer it
+//!   showed what it had shown, and then, by one response to its ask, what the source showed.
 //!
 //! Where a value's encoding differs from the bytes that it was decoded from, another line says so.
 #![tactic(auto)]
 
 mod damaged;
+mod decoded;
+mod followed;
 mod hex;
 mod shown;
 mod stage;

@@ -1,5 +1,7 @@
 //! Lines of bytes, and their answers.
-use crate::damaged::{Kind, count_damaged};
+use crate::damaged::count_damaged;
+use crate::decoded::{Decoder, Kind};
+use crate::followed::Followed;
 use crate::hex::bytes_of;
 use crate::shown::{answer_text, change_text};
 use cases_words::fault::Fault;
@@ -54,7 +56,11 @@ impl Stage {
     }
 
     fn damage(&mut self, kind: Kind, bytes: &[u8]) -> Result<(), Fault> {
-        let count = count_damaged(self.alloc, kind, bytes)?;
+        let mut decoder = Decoder {
+            alloc: self.alloc,
+            kind,
+        };
+        let count = count_damaged(self.alloc, &mut decoder, bytes)?;
         self.damaged = self.damaged.wrapping_add(count);
         Ok(())
     }
@@ -97,6 +103,17 @@ impl Stage {
         }
     }
 
+    // How many inputs there are of a repaint and of a delta. A client met each of them as it has to.
+    fn followed(&self, words: &str) -> Result<String, Fault> {
+        let (repaint, delta) = words.split_once(' ').ok_or(Fault::Bad)?;
+        let repaint = bytes_of(self.alloc, repaint)?;
+        let delta = bytes_of(self.alloc, delta)?;
+        let mut followed = Followed::new(self.alloc, repaint.clone()?, delta.as_slice())?;
+        let repaints = count_damaged(self.alloc, &mut followed, repaint.as_slice())?;
+        let deltas = count_damaged(self.alloc, &mut followed, delta.as_slice())?;
+        Ok(format!(in self.alloc; "{} inputs\n", repaints.wrapping_add(deltas))?)
+    }
+
     fn fault(&self, error: WireError, lines: &mut String) -> Result<(), Fault> {
         push(lines, format!(in self.alloc; "{error}")?.as_str())
     }
@@ -108,6 +125,7 @@ impl Play for Stage {
         match kind {
             "case" => Ok(String::new(self.alloc)),
             "damaged" => self.count(),
+            "client" => self.followed(word),
             _ => self.decoded(kind, word),
         }
     }

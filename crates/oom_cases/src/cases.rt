@@ -4,12 +4,13 @@ use crate::form::Form;
 use crate::scene::Kind;
 use crate::stop::Stop;
 use crate::{
-    answers, edits, made_lines, reads, sent, sequences, setters, surface_reads, turns, values,
+    answers, edits, made_lines, reads, sent, sequences, setters, shared, surface_reads, turns,
+    values,
 };
 use std::alloc::Global;
 
 /// The names of all cases.
-pub const CASES: [&str; 22] = [
+pub const CASES: [&str; 23] = [
     "values",
     "setters",
     "sequences",
@@ -32,6 +33,7 @@ pub const CASES: [&str; 22] = [
     "rich-answers",
     "full-answers",
     "sent-answers",
+    "shared-screens",
 ];
 
 /// Makes the calls of a case until one is refused, or goes on behind that where the case is about
@@ -78,6 +80,7 @@ fn play_readings(alloc: Global, name: &str) -> Result<(), Stop> {
         "rich-answers" => answers::play(alloc, Kind::Rich),
         "full-answers" => answers::play(alloc, Kind::Full),
         "sent-answers" => sent::play(alloc),
+        "shared-screens" => shared::play(alloc),
         _ => Err(Stop::Wrong("the name of a case, which no case has")),
     }
 }

@@ -18,6 +18,7 @@ mod scene;
 mod sent;
 mod sequences;
 mod setters;
+mod shared;
 mod stop;
 mod surface_reads;
 mod turns;

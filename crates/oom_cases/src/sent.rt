@@ -18,7 +18,10 @@ pub fn play(alloc: Global) -> Result<(), Stop> {
 fn delivered(alloc: Global, scene: &mut Scene) -> Result<(), Stop> {
     let answer = made("answer", scene.surface.answer(scene.viewer.last()))?;
     let mut bytes = Vec::new(alloc);
-    made("encode_answer", encode_answer(&mut bytes, &UnicodeWidths, 1, &answer))?;
+    made(
+        "encode_answer",
+        encode_answer(&mut bytes, &UnicodeWidths, 1, &answer),
+    )?;
     received(alloc, bytes.as_slice(), scene)
 }
 

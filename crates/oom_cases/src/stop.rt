@@ -36,7 +36,7 @@ pub fn holds(call: &'static str, held: bool) -> Result<(), Stop> {
 }
 
 /// Ends the case at a refused call, where what stands is as the rules name it or not.
-pub fn refused(call: &'static str, stood: bool) -> Result<(), Stop> {
+pub fn refused<T>(call: &'static str, stood: bool) -> Result<T, Stop> {
     if stood {
         Err(Stop::Refused(call))
     } else {

@@ -2,7 +2,7 @@
 use std::alloc::Global;
 use std::process::Abort;
 use termwiz_cell::cell::CellAttributes;
-use termwiz_cell::change::{Change, ChangeSequence, LineAttribute};
+use termwiz_cell::change::{Change, ChangeSequence, LineAttribute, SequenceNo};
 use termwiz_cell::color::ColorAttribute;
 use termwiz_cell::emoji::UnicodeWidths;
 use termwiz_surface::surface::Surface;

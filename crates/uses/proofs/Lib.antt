@@ -2,4 +2,4 @@ mod ClearedRow
 mod Followed
 mod HeadingRow
 mod RowsOfForm
-mod Serving
+mod Served

@@ -1,6 +1,6 @@
 //! An answer that is carried off as bytes.
 ghost use Rattle.std.specs.Prelude.{◌≡◌, ◌<◌, IfErr, IfOk};
-ghost use Rattle.uses.specs.{Memory, measure};
+ghost use Rattle.uses.specs.{Memory};
 
 use std::alloc::Global;
 use termwiz_surface::{Answer, Widths};

@@ -1,7 +1,7 @@
 //! A screen that is shared with three clients: each asks, is answered, and shows what it is sent.
-ghost use Rattle.std.specs.Prelude.{◌≡◌, ◌<◌, [], IfOk, OnOk};
-ghost use Rattle.uses.specs.{IsReady, IsSurfaceSize, KeepsClients, Serves, full_of, measure};
-ghost use Rattle.uses.specs.{ShowsAll};
+ghost use Rattle.std.specs.Prelude.{◌≡◌, ◌<◌, OnOk};
+ghost use Rattle.uses.specs.{IsReady, IsSurfaceSize, KeepsClients, Serves, ShowsAll, full_of};
+ghost use Rattle.uses.specs.{measure};
 
 use std::alloc::{AllocError, Global};
 use std::marker::Model;

@@ -1,14 +1,13 @@
 //! Viewers that are served by answers: they join, reconnect, and let a surface forget what they
 //! have. `serving.rt` has both ends of a stream of answers.
-ghost use Rattle.std.specs.Prelude.{◌≡◌, ◌<◌, ◌≤◌, [], IfOk, OnOk, false, map, true, vec_len, ℕ};
-ghost use Rattle.uses.specs.{AddsOne, All, Any, Follows, FullScreen, IsOneBehind, IsPastOf, Screen};
-ghost use Rattle.uses.specs.{IsServed, KeepsNames, MeasureAlike, ShowsNamed, ViewerValue, flushed};
-ghost use Rattle.uses.specs.{blank_viewer, change_value, full_of, full_screens, is_known, measure, next_number};
-ghost use Rattle.uses.specs.{screen_of, screens};
+ghost use Rattle.std.specs.Prelude.{◌≡◌, ◌<◌, ◌≤◌, [], IfOk, OnOk, false, true, ℕ};
+ghost use Rattle.uses.specs.{All, Any, Follows, FullScreen, IsPastOf, Screen, blank_viewer};
+ghost use Rattle.uses.specs.{IsServed, KeepsNames, ShowsNamed, ViewerValue, flushed, full_of};
+ghost use Rattle.uses.specs.{full_screens, is_known, measure, screen_of, screens};
 
 use std::alloc::{AllocError, Global};
 use termwiz_surface::laws::{full_history_laws, history_laws};
-use termwiz_surface::{AcceptError, Change, SequenceNo, Surface, SurfaceError, Viewer, Widths};
+use termwiz_surface::{SequenceNo, Surface, SurfaceError, Viewer, Widths};
 
 /// A new viewer, blank and of the surface's size, which is served by answers.
 pub fn join<W: Widths>(alloc: Global, surface: &Surface<W>) -> Result<Viewer<W>, AllocError>

@@ -1,5 +1,5 @@
 use Rattle.termwiz_surface.specs.{full_screens, measure, screens}
-use Rattle.uses.proofs.Serving.{IsServed-followed, served_follows}
+use Rattle.uses.proofs.Served.{IsServed-followed, served_follows}
 use Rattle.uses.proofs.sharing.reconnect_fully.Goals as goal
 
 pub returns-clause-served : goal.returns-clause-served

@@ -1,5 +1,8 @@
+mod Asking
 mod Chains
+mod Coming
 mod Leading
+mod Printed
 mod Sent
 mod Taking
 mod Watched

@@ -12,7 +12,6 @@
 #![tactic(auto)]
 
 mod damaged;
-mod hex;
 mod shown;
 mod stage;
 

@@ -1,8 +1,8 @@
 //! Lines of bytes, and their answers.
 use crate::damaged::{Kind, count_damaged};
-use crate::hex::bytes_of;
 use crate::shown::{answer_text, change_text};
 use cases_words::fault::Fault;
+use cases_words::hex::bytes_of;
 use cases_words::play::Play;
 use std::alloc::Global;
 use termwiz_cell::emoji::{OneColumn, UnicodeWidths, Widths};

@@ -1,6 +1,7 @@
 mod Asking
 mod Chains
 mod Coming
+mod Deciding
 mod Leading
 mod Printed
 mod Sent

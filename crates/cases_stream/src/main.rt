@@ -6,7 +6,6 @@
 //!   `-` stands for no bytes.
 #![tactic(auto)]
 
-mod hex;
 mod stage;
 
 use cases_words::fault::Fault;

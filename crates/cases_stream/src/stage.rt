@@ -1,6 +1,6 @@
 //! Streams as lines of hex digits, and what is printed of them.
-use crate::hex::bytes_of;
 use cases_words::fault::Fault;
+use cases_words::hex::bytes_of;
 use cases_words::play::Play;
 use std::alloc::Global;
 use stream_session::watch_session::watch_session;

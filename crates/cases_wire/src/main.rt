@@ -17,7 +17,6 @@
 mod damaged;
 mod decoded;
 mod followed;
-mod hex;
 mod shown;
 mod stage;
 

@@ -2,9 +2,9 @@
 use crate::damaged::count_damaged;
 use crate::decoded::{Decoder, Kind};
 use crate::followed::Followed;
-use crate::hex::bytes_of;
 use crate::shown::{answer_text, change_text};
 use cases_words::fault::Fault;
+use cases_words::hex::bytes_of;
 use cases_words::play::Play;
 use std::alloc::Global;
 use termwiz_cell::emoji::{OneColumn, UnicodeWidths, Widths};

@@ -5,6 +5,7 @@
 pub mod attributes;
 pub mod escapes;
 pub mod fault;
+pub mod hex;
 pub mod pens;
 pub mod places;
 pub mod play;

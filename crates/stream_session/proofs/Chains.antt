@@ -20,7 +20,7 @@ use Rattle.stream_session.specs.Watching.{shown_of, shown_with, kept, Takes, Wat
 use Rattle.stream_session.specs.declared.viewing.AnswerFault.{AnswerFault}
 use Rattle.stream_session.specs.declared.viewing.AnswerFault.TheVariants.{Bytes, Stale, Size}
 use Rattle.stream_session.specs.declared.watching.Watched.{Watched}
-use Rattle.stream_session.proofs.Wire.{again, found}
+use Rattle.stream_session.proofs.Wire.{again, none_found}
 
 -- an answer has some bytes
 answer-some : (s : SentAnswer) (rest : List ℕ) → answer unicode_columns s ++ rest ≡ [] → ⊥
@@ -70,7 +70,9 @@ module _ (limits : Limits) where
   pub shows_each : (frames : List Frame) (v u : Viewing) (bytes rest : List ℕ) (shown : List Viewing) (n : ℕ) (fault : Option (ℕ × AnswerFault)) → LeadOn v frames → All (IsWithin limits) frames → bytes ≡ encoded frames
       → Watches limits v bytes shown u rest → Ends limits u rest n fault → (map shown_of shown ≡ map shown_with frames) × (fault ≡ None)
   shows_each [] v u bytes rest shown n fault leads within is (Ended _ _) ends = (refl, ended_whole v bytes n fault is ends)
-  shows_each [] v u bytes rest shown n fault leads within is (Taken _ w _ _ left _ more takes watches) ends = absurd (answer-some takes.sent left (sym (found limits bytes takes.sent left takes.decoded) ∙ is))
+  shows_each [] v u bytes rest shown n fault leads within is (Taken _ w _ _ left _ more takes watches) ends =
+      let none = none_found limits takes.sent left (subst (λ (b : List ℕ). answer_at unicode_columns limits b ≡ Ok (takes.sent, left)) is takes.decoded) in
+      absurd (answer-some none.0 none.1 (sym none.2))
   shows_each (f ∷ frames) v u bytes rest shown n fault leads within is (Ended _ _) ends = absurd (ended_not f v bytes (encoded frames) n fault leads.0 (All-head (IsWithin limits) f frames within) is ends)
   shows_each (f ∷ frames) v u bytes rest shown n fault leads within is (Taken _ w _ _ left _ more takes watches) ends =
       let found_as = taken_as f v w bytes (encoded frames) left leads.0 (All-head (IsWithin limits) f frames within) is takes in

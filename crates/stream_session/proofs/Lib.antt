@@ -1,5 +1,9 @@
+mod Asking
 mod Chains
+mod Coming
+mod Deciding
 mod Leading
+mod Printed
 mod Sent
 mod Taking
 mod Watched

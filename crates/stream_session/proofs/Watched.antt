@@ -1,16 +1,19 @@
 -- What a viewer shows of a stream.
 use Rattle.std.proofs.Common.{◌≡◌, ℕ, ◌+◌, ◌-◌, ◌∙◌, Bool, true, false, List, [], ◌∷◌, ◌++◌, length, map, drop, refl, sym, ap, subst, append-nil, append_assoc, arith, inl, inr}
 use Rattle.std.specs.List.{All}
-use Rattle.std.specs.Prelude.{Option, None, Some, Ok, Err, if◌then◌else◌}
+use Rattle.std.specs.Prelude.{Option, None, Some, IfSome, Result, Ok, Err, if◌then◌else◌}
 use Rattle.std.proofs.lemmas.List.{length-append, map-append}
 use Rattle.std.proofs.lemmas.List.Elements.{All-nil, All-push}
 use Rattle.std.proofs.Math.Seq.{drop-append_seam}
 use Rattle.termwiz_surface.specs.Schedule.{HasUnmarkedRows}
 use Rattle.termwiz_wire.specs.declared.fault.Limits.{Limits}
-use Rattle.stream_session.specs.Taking.{IsShown}
+use Rattle.stream_session.specs.Taking.{IsShown, Shows, WatcherValue, coming}
 use Rattle.stream_session.specs.Viewing.{Viewing, first_viewing}
 use Rattle.stream_session.specs.Watching.{Shown, shown_by, shown_of, kept, Takes, Watches, Ended, Taken, Fails, Ends, IsWatched}
+use Rattle.stream_session.specs.declared.viewing.AnswerFault.{AnswerFault}
 use Rattle.stream_session.specs.declared.viewing.View.{View}
+use Rattle.stream_session.specs.declared.viewing.WatchError.{WatchError}
+use Rattle.stream_session.specs.declared.viewing.WatchError.TheVariants.{Fault}
 use Rattle.stream_session.specs.declared.watching.Watched.{Watched}
 
 -- the last one alone
@@ -64,14 +67,100 @@ module _ (limits : Limits) (each : Bool) (bytes : List ℕ) where
     unmarked = unmarked-push each views view w.unmarked is.unmarked;
   }
 
-  -- no more is
-  pub ended : (w : Watched) (v : Viewing) (left : List ℕ) (count : ℕ) → HasWatched w.views.items v left count → Ends limits v left count w.fault → IsWatched limits bytes each w
-  ended w v left count h ends = record {
+  -- no more is, for this reason
+  pub record HasEnded (views : List View) (fault : Option (ℕ × AnswerFault)) : Type 0 where
+    pub shown : List Viewing
+    pub last : Viewing
+    pub rest : List ℕ
+    pub watches : Watches limits first_viewing bytes shown last rest
+    pub ends : Ends limits last rest (length shown) fault
+    pub views_are : map shown_by views ≡ kept each (map shown_of shown)
+    pub unmarked : All IsUnmarked views
+
+  pub ended : (views : List View) (fault : Option (ℕ × AnswerFault)) (v : Viewing) (left : List ℕ) (count : ℕ) → HasWatched views v left count → Ends limits v left count fault → HasEnded views fault
+  ended views fault v left count h ends = record {
     shown = h.shown;
     last = v;
     rest = left;
     watches = subst (λ (shown : List Viewing). Watches limits first_viewing bytes shown v left) (append-nil h.shown) (h.watches [] v left (Ended v left));
-    ends = subst (λ (n : ℕ). Ends limits v left n w.fault) h.counted ends;
+    ends = subst (λ (n : ℕ). Ends limits v left n fault) h.counted ends;
+    views_are = h.views_are;
+    unmarked = h.unmarked;
+  }
+
+  pub watched : (w : Watched) → HasEnded w.views.items w.fault → IsWatched limits bytes each w
+  watched w h = record {
+    shown = h.shown;
+    last = h.last;
+    rest = h.rest;
+    watches = h.watches;
+    ends = h.ends;
     views = h.views_are;
     unmarked = h.unmarked;
   }
+
+-- ---- a watcher
+
+abbrev Bytes : Type 0
+Bytes = List ℕ
+
+-- these views are kept of so many answers, and these bytes are still to come
+pub record IsLeft (limits : Limits) (each : Bool) (bytes : Bytes) (views : List View) (count : ℕ) (v : Viewing) (coming : Option Bytes) : Type 0 where
+  pub left : Bytes
+  pub known : coming ≡ Some left
+  pub has : HasWatched limits each bytes views v left count
+
+pub record IsOn (limits : Limits) (each : Bool) (known : Option Bytes) (views : List View) (count : ℕ) (now : WatcherValue) (later : Option Bytes) : Type 0 where
+  pub limits_are : now.limits ≡ limits
+  pub left : IfSome known (λ bytes. IsLeft limits each bytes views count now.viewing (coming now later))
+
+-- what a call of `next` says
+abbrev pub NextShows : WatcherValue → Option Bytes → Result (Option View) WatchError → WatcherValue → Option Bytes → Type 0
+NextShows now later result new after = IfSome (coming now later) (λ bytes. Shows now.limits now.viewing bytes result new.viewing (coming new after))
+
+-- where something is known
+pub if_some : (known : Option Bytes) (P Q : Bytes → Type 0) → ((bytes : Bytes) → P bytes → Q bytes) → IfSome known P → IfSome known Q
+if_some None P Q law h = tt
+if_some (Some bytes) P Q law h = law bytes h
+
+module _ (limits : Limits) (each : Bool) where
+  pub on_first : (views : List View) (now : WatcherValue) (known : Option Bytes) → views ≡ [] → now ≡ record { limits = limits; viewing = first_viewing; pending = [] } → IsOn limits each known views 0 now known
+  on_first views now None none is = record { limits_are = ap (λ (w : WatcherValue). w.limits) is; left = tt }
+  on_first views now (Some bytes) none is =
+      let P : WatcherValue → Type 0 = λ w. IsLeft limits each bytes views 0 w.viewing (coming w (Some bytes)) in
+      record {
+        limits_are = ap (λ (w : WatcherValue). w.limits) is;
+        left = subst P (sym is) (record { left = bytes; known = refl; has = first_watched limits each bytes views none });
+      }
+
+  module _ (known : Option Bytes) (views : List View) (count : ℕ) (now new : WatcherValue) (later after : Option Bytes) (on : IsOn limits each known views count now later) where
+    -- what the call shows of the bytes that are left
+    shows_left : (bytes : Bytes) (result : Result (Option View) WatchError) (l : IsLeft limits each bytes views count now.viewing (coming now later)) → NextShows now later result new after → Shows limits now.viewing l.left result new.viewing (coming new after)
+    shows_left bytes result l shows =
+        let P : Option Bytes → Type 0 = λ o. IfSome o (λ left. Shows now.limits now.viewing left result new.viewing (coming new after)) in
+        subst (λ (m : Limits). Shows m now.viewing l.left result new.viewing (coming new after)) on.limits_are (subst P l.known shows)
+
+    -- an answer more is taken
+    pub on_taken : (result : Result (Option View) WatchError) (view : View) → result ≡ Ok (Some view) → NextShows now later result new after → new.limits ≡ now.limits → IsOn limits each known ((if each then views else []) ++ view ∷ []) (count + 1) new after
+    on_taken result view is shows same = record {
+      limits_are = same ∙ on.limits_are;
+      left = if_some known (λ bytes. IsLeft limits each bytes views count now.viewing (coming now later))
+          (λ bytes. IsLeft limits each bytes ((if each then views else []) ++ view ∷ []) (count + 1) new.viewing (coming new after))
+          (λ bytes l.
+            let s = shows_left bytes (Ok (Some view)) l (subst (λ (r : Result (Option View) WatchError). NextShows now later r new after) is shows) in
+            record { left = s.0; known = s.1; has = next_watched limits each bytes views now.viewing new.viewing l.left s.0 count view l.has s.2 s.3 }) on.left;
+    }
+
+    -- the stream ends
+    pub on_ended : (result : Result (Option View) WatchError) → result ≡ Ok None → NextShows now later result new after → IfSome known (λ bytes. HasEnded limits each bytes views None)
+    on_ended result is shows = if_some known (λ bytes. IsLeft limits each bytes views count now.viewing (coming now later)) (λ bytes. HasEnded limits each bytes views None)
+        (λ bytes l.
+          let s = shows_left bytes (Ok None) l (subst (λ (r : Result (Option View) WatchError). NextShows now later r new after) is shows) in
+          ended limits each bytes views None now.viewing l.left count l.has s) on.left
+
+    -- an answer isn't taken
+    pub on_fault : (result : Result (Option View) WatchError) (why : AnswerFault) → result ≡ Err (Fault why) → NextShows now later result new after → IfSome known (λ bytes. HasEnded limits each bytes views (Some (count + 1, why)))
+    on_fault result why is shows = if_some known (λ bytes. IsLeft limits each bytes views count now.viewing (coming now later)) (λ bytes. HasEnded limits each bytes views (Some (count + 1, why)))
+        (λ bytes l.
+          let s = shows_left bytes (Err (Fault why)) l (subst (λ (r : Result (Option View) WatchError). NextShows now later r new after) is shows) in
+          ended limits each bytes views (Some (count + 1, why)) now.viewing l.left count l.has (s.0, refl, s.1)) on.left

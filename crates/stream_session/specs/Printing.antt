@@ -4,11 +4,14 @@ use Rattle.std.specs.Io.KnownBytes.{Appends}
 use Rattle.std.specs.List.{flat_map}
 use Rattle.std.specs.Prelude.{◌≡◌, ℕ, List, [], map, length, codes, String, Option, Some, None, Result, Ok, Err}
 use Rattle.surfview_session.specs.Printed.{viewed_lines}
+use Rattle.surfview_session.specs.declared.session.SessionError.TheVariants as session
 use Rattle.stream_session.specs.Viewing.{Viewing, first_viewing}
 use Rattle.stream_session.specs.Watching.{Ends, Shown, Watches, kept, shown_by, shown_of}
 use Rattle.stream_session.specs.Words.{AskFor, first_options}
 use Rattle.stream_session.specs.declared.viewing.AnswerFault.{AnswerFault}
 use Rattle.stream_session.specs.declared.viewing.View.{View}
+use Rattle.stream_session.specs.declared.viewing.WatchError.{WatchError}
+use Rattle.stream_session.specs.declared.viewing.WatchError.TheVariants as watching
 use Rattle.stream_session.specs.declared.watch_session.WatchEnd.{WatchEnd}
 use Rattle.stream_session.specs.declared.watch_session.WatchEnd.TheVariants.{Fault, Session}
 use Rattle.stream_session.specs.declared.words.WatchOptions.{WatchOptions}
@@ -23,6 +26,12 @@ view_lines view = shown_lines (shown_by view)
 abbrev pub last_lines : Option View → List ℕ
 last_lines None = []
 last_lines (Some view) = view_lines view
+
+-- how a session ends where the answer of this number isn't shown
+abbrev pub end_by : ℕ → WatchError → WatchEnd
+end_by number (watching.Fault why) = Fault number why
+end_by number watching.Unreadable = Session session.Unreadable
+end_by number watching.Memory = Session session.Memory
 
 -- of these bytes each answer is taken until this end, and what is shown then is printed, or the last of it
 pub record PrintsUpTo (o : WatchOptions) (bytes : List ℕ) (fault : Option (ℕ × AnswerFault)) (old new : Option (List ℕ)) : Type 0 where

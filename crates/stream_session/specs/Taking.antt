@@ -1,6 +1,6 @@
 -- What one call makes of a viewer of a stream.
 use Rattle.std.specs.Bool.{⊤}
-use Rattle.std.specs.Prelude.{◌≡◌, ◌≤◌, ℕ, Bool, true, false, List, [], ◌++◌, drop, length, Option, Some, None, Result, Ok, Err}
+use Rattle.std.specs.Prelude.{◌≡◌, ◌≤◌, ℕ, Bool, true, false, ◌||◌, if◌then◌else◌, List, [], ◌++◌, drop, length, Option, Some, None, Result, Ok, Err}
 use Rattle.std.specs.Io.KnownBytes.{Keeps, prepend_known}
 use Rattle.cbor.specs.declared.error.FaultKind.{FaultKind}
 use Rattle.cbor.specs.declared.error.FaultKind.TheVariants.{Truncated}
@@ -38,6 +38,11 @@ is_truncated _ = false
 abbrev pub is_cut : AnswerFault → Bool
 is_cut (Bytes fault) = is_truncated fault.kind
 is_cut _ = false
+
+-- the fault of bytes that more of them may make an answer of: of no bytes at all too
+abbrev pub cut_by : Bool → WatchError → Result AnswerFault WatchError
+cut_by none (Fault why) = if is_cut why || none then Ok why else Err (Fault why)
+cut_by none error = Err error
 
 -- no fault of the bytes
 abbrev pub IsNoFault : WatchError → Type 0

@@ -1,15 +1,18 @@
 //! A viewer of the answers of any source.
-ghost use Rattle.std.specs.Prelude.{◌≡◌, IfOk, OnOk};
-ghost use Rattle.termwiz_surface.specs.{screen_of};
+ghost use Rattle.std.specs.Prelude.{◌≡◌, IfOk, OnOk, map};
+ghost use Rattle.termwiz_cell.specs.ChangeValue.{change_value};
+ghost use Rattle.termwiz_cell.specs.Width.{unicode_columns};
+ghost use Rattle.termwiz_screen.specs.Step.{replay};
+ghost use Rattle.termwiz_surface.specs.{IsSurfaceSize};
 ghost use Rattle.stream_session.specs.Taking.{IsTaken, ShowsNext, is_cut};
-ghost use Rattle.stream_session.specs.Viewing.{first_viewing, made_on, refusal};
+ghost use Rattle.stream_session.specs.Viewing.{blank_screen, first_viewing, made_on, refusal};
 
 use cbor::unsigned_len;
 use std::alloc::{AllocError, Global};
 use std::fmt;
 use std::fmt::{Display, Formatter};
 use std::marker::Model;
-use termwiz_surface::{Answer, Screen, SequenceNo, Surface, UnicodeWidths};
+use termwiz_surface::{Answer, Change, Screen, SequenceNo, Surface, UnicodeWidths};
 use termwiz_wire::{
     Fault, FaultKind, Limits, SentAnswer, SourceNo, WireError, decode_answer,
 };
@@ -187,21 +190,40 @@ impl StreamViewer {
         }
     }
 
-    // Makes the changes of an answer: a repaint's on a blank screen. Nobody follows the viewer, so
-    // it forgets them.
+    // Makes the changes of an answer: a repaint's on a blank screen.
     fn make(&mut self, alloc: Global, answer: &Answer) -> Result<(), AllocError>
         ensures { OnOk result (self.new
             ≡ record self.old { screen = made_on self.old.screen answer.now }) }
     {
         if answer.is_repaint() {
-            let (width, height) = answer.size();
-            self.surface = Surface::new_full(alloc, width, height, UnicodeWidths)?;
+            self.start_over(alloc, answer.size())?;
         }
-        if self.surface.add_lent_changes(answer.changes()).is_err() {
-            return Err(AllocError);
-        }
-        let all = self.surface.current_seqno();
-        self.surface.flush_changes_older_than(all);
+        self.add(answer.changes())
+    }
+
+    // Shows a blank screen of this size.
+    fn start_over(&mut self, alloc: Global, size: (usize, usize)) -> Result<(), AllocError>
+        requires { IsSurfaceSize size.0 size.1 }
+        ensures { OnOk result (self.new
+            ≡ record self.old { screen = blank_screen size.0 size.1 }) }
+    {
+        let (width, height) = size;
+        self.surface = Surface::new_full(alloc, width, height, UnicodeWidths)?;
         Ok(())
+    }
+
+    // Makes the changes. Nobody follows the viewer, so it forgets them.
+    fn add(&mut self, changes: &[Change]) -> Result<(), AllocError>
+        ensures { OnOk result (self.new ≡ record self.old { screen =
+            replay unicode_columns self.old.screen (map change_value changes.now) }) }
+    {
+        match self.surface.add_lent_changes(changes) {
+            Ok(_) => {
+                let all = self.surface.current_seqno();
+                self.surface.flush_changes_older_than(all);
+                Ok(())
+            }
+            Err(_) => Err(AllocError),
+        }
     }
 }

@@ -1,10 +1,9 @@
 //! One run of `surfwatch`: from its words and its input to what it prints and its exit status.
-ghost use Rattle.std.specs.Prelude.{◌≡◌, ◌⊎◌, IfErr, IfSome, IsErr, OnOk};
+ghost use Rattle.std.specs.Prelude.{◌≡◌, ◌⊎◌, [], IfSome, IsErr, OnOk, if◌then◌else◌};
 ghost use Rattle.std.specs.Io.KnownBytes.{Appends};
 ghost use Rattle.stream_session.specs.Printing.{Prints, PrintsAll, PrintsAsAsked, last_lines};
-ghost use Rattle.stream_session.specs.Printing.{view_lines};
+ghost use Rattle.stream_session.specs.Printing.{end_by, view_lines};
 ghost use Rattle.stream_session.specs.Words.{AreWatchWords};
-ghost use Rattle.surfview_session.specs.Status.{status_of};
 
 use crate::viewing::{AnswerFault, View, WatchError};
 use crate::watcher::Watcher;
@@ -27,12 +26,21 @@ enum WatchEnd {
 }
 
 impl From<SessionError> for WatchEnd {
+    ghost use Rattle.stream_session.specs.declared.watch_session.WatchEnd.TheVariants.{Session};
+
+    ghost from_gives = { λ error end. end ≡ Session error };
+
     fn from(error: SessionError) -> WatchEnd {
         WatchEnd::Session(error)
     }
 }
 
 impl From<AllocError> for WatchEnd {
+    ghost use Rattle.stream_session.specs.declared.watch_session.WatchEnd.TheVariants.{Session};
+    ghost use Rattle.surfview_session.specs.declared.session.SessionError.TheVariants.{Memory};
+
+    ghost from_gives = { λ _ end. end ≡ Session Memory };
+
     fn from(_: AllocError) -> WatchEnd {
         WatchEnd::Session(SessionError::Memory)
     }
@@ -40,7 +48,9 @@ impl From<AllocError> for WatchEnd {
 
 impl WatchEnd {
     // Why the answer of this number isn't shown.
-    fn of(number: usize, error: WatchError) -> WatchEnd {
+    fn of(number: usize, error: WatchError) -> WatchEnd
+        ensures { result ≡ end_by number error }
+    {
         match error {
             WatchError::Fault(fault) => WatchEnd::Fault(number, fault),
             WatchError::Unreadable => WatchEnd::Session(SessionError::Unreadable),
@@ -121,14 +131,11 @@ fn print_all<R: Read, O: Write>(
     let mut last = None;
     for count in 0..usize::MAX {
         match watcher.next(input) {
-            Ok(Some(view)) => {
-                if options.each {
-                    print(alloc, &view, out)?;
-                } else {
-                    last = Some(view);
-                }
+            Ok(Some(view)) => show(alloc, options.each, view, &mut last, out)?,
+            Ok(None) => {
+                print_last(alloc, &last, out)?;
+                return Ok(());
             }
-            Ok(None) => return print_last(alloc, &last, out),
             Err(error) => {
                 print_last(alloc, &last, out)?;
                 return Err(WatchEnd::of(count + 1, error));
@@ -138,26 +145,44 @@ fn print_all<R: Read, O: Write>(
     Err(WatchEnd::Session(SessionError::Unreadable))
 }
 
+/// Prints a view, or keeps it in place of the last one.
+fn show<O: Write>(
+    alloc: Global,
+    each: bool,
+    view: View,
+    last: &mut Option<View>,
+    out: &mut O,
+) -> Result<(), SessionError>
+    ensures printed { OnOk result (Appends (O.contents out.old) (O.contents out.new)
+        (if each then view_lines view else [])) }
+    ensures kept { OnOk result (last.new ≡ (if each then last.old else Some view)) }
+{
+    if each {
+        return print(alloc, &view, out);
+    }
+    *last = Some(view);
+    Ok(())
+}
+
 /// Prints a view, where there is one.
 fn print_last<O: Write>(
     alloc: Global,
     last: &Option<View>,
     out: &mut O,
-) -> Result<(), WatchEnd>
+) -> Result<(), SessionError>
     ensures { OnOk result (
         Appends (O.contents out.old) (O.contents out.new) (last_lines last.now)) }
 {
-    if let Some(view) = last {
-        print(alloc, view, out)?;
+    match last {
+        Some(view) => print(alloc, view, out),
+        None => Ok(()),
     }
-    Ok(())
 }
 
 /// Prints a view.
 fn print<O: Write>(alloc: Global, view: &View, out: &mut O) -> Result<(), SessionError>
-    ensures printed { OnOk result (
+    ensures { OnOk result (
         Appends (O.contents out.old) (O.contents out.new) (view_lines view.now)) }
-    ensures failed { IfErr result (λ error. status_of error ≡ 3) }
 {
     write(alloc, PrintedView(view.number, &view.screen), out)?;
     out.flush().map_err(|_| SessionError::Write)

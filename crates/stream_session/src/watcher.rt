@@ -2,7 +2,7 @@
 ghost use Rattle.std.specs.Prelude.{◌≡◌, ◌==◌, [], Err, None, false, length, if◌then◌else◌};
 ghost use Rattle.std.specs.Prelude.{IfErr, IfOk, IfSome, Ok, OnOk};
 ghost use Rattle.std.specs.Io.KnownBytes.{IsAtEnd, Keeps};
-ghost use Rattle.stream_session.specs.Taking.{IsNoFault, Shows, ShowsPending, coming};
+ghost use Rattle.stream_session.specs.Taking.{IsNoFault, Shows, ShowsPending, coming, cut_by};
 ghost use Rattle.stream_session.specs.Viewing.{first_viewing};
 
 use crate::viewing::{AnswerFault, StreamViewer, View, WatchError};
@@ -66,14 +66,13 @@ impl Watcher {
             (coming self.new (R.remaining input.new))) }
     {
         for _ in 0..u64::MAX {
-            match self.take() {
+            let error = match self.take() {
                 Ok(view) => return Ok(Some(view)),
-                Err(WatchError::Fault(fault)) if fault.is_cut() => {
-                    if !self.read(input)? {
-                        return self.end(fault);
-                    }
-                }
-                Err(error) => return Err(error),
+                Err(error) => error,
+            };
+            let fault = self.cut(error)?;
+            if !self.read(input)? {
+                return self.end(fault);
             }
         }
         Err(WatchError::Unreadable)
@@ -90,7 +89,18 @@ impl Watcher {
         Ok(view)
     }
 
-    // What comes of the stream where it has ended and the bytes that came are cut.
+    // The fault of bytes that more of them may make an answer of. Any other error stays.
+    fn cut(&self, error: WatchError) -> Result<AnswerFault, WatchError>
+        ensures { result ≡ cut_by (length self.now.pending == 0) error }
+    {
+        match error {
+            WatchError::Fault(fault) if fault.is_cut() => Ok(fault),
+            WatchError::Fault(fault) if self.start == self.bytes.len() => Ok(fault),
+            error => Err(error),
+        }
+    }
+
+    // What comes of the stream where it has ended and the bytes that came make no answer.
     fn end(&self, fault: AnswerFault) -> Result<Option<View>, WatchError>
         ensures { result ≡ (if length self.now.pending == 0 then Ok None
             else Err (WatchError.Fault fault)) }
@@ -107,7 +117,8 @@ impl Watcher {
         ensures same { (self.new.limits ≡ self.old.limits) × (self.new.viewing ≡ self.old.viewing) }
         ensures keeps { OnOk result (Keeps (coming self.old (R.remaining input.old))
             (coming self.new (R.remaining input.new))) }
-        ensures end { result ≡ Ok false → IsAtEnd (R.remaining input.new) }
+        ensures end { result ≡ Ok false →
+            IsAtEnd (R.remaining input.new) × (self.new.pending ≡ self.old.pending) }
         ensures memory { IfErr result (λ error. IsNoFault error) }
     {
         self.compact();

@@ -1,4 +1,5 @@
-//! `surfsend WIDTH HEIGHT` reads a script of changes and sends the answers of a surface as bytes.
+//! `surfsend [-s NUMBER] WIDTH HEIGHT` reads a script of changes and sends the answers of a surface
+//! as bytes.
 #![tactic(auto)]
 
 use std::process::ExitCode;

@@ -1,4 +1,5 @@
-//! `surfwatch [-a]` reads the answers of a surface and prints what its viewer shows.
+//! `surfwatch [-a] [--cells N] [--bytes N]` reads a stream of answers, and prints what a viewer
+//! shows of it.
 #![tactic(auto)]
 
 use std::process::ExitCode;

@@ -1,5 +1,5 @@
 //! Bytes by their hex digits.
-use cases_words::fault::Fault;
+use crate::fault::Fault;
 use std::alloc::Global;
 
 /// The bytes that a word writes, where `-` writes none.

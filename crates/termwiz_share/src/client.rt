@@ -16,7 +16,9 @@ use std::marker::Model;
 use termwiz_cell::change::SequenceNo;
 use termwiz_cell::emoji::Widths;
 use termwiz_surface_core::surface::Surface;
-use termwiz_wire::{Ask, FaultKind, Limits, SourceNo, WireError, answers, decode_answer, encode_ask};
+use termwiz_wire::{
+    Ask, FaultKind, Limits, SourceNo, WireError, answers, decode_answer, encode_ask,
+};
 
 /// Shows what a source showed when it gave the last answer that was taken.
 ///

@@ -1,11 +1,11 @@
 //! Sources: full surfaces whose answers name them.
-ghost use Rattle.std.specs.Prelude.{◌≡◌, ◌≢◌, ◌+◌, ◌-◌, ◌<◌, ◌^◌, ◌∷◌, ◌++◌, [], IfOk, List, OnErr};
-ghost use Rattle.std.specs.Prelude.{OnOk, ℕ, min, vec_len};
-ghost use Rattle.termwiz_share.specs.{Adds, Answers, ClientValue, IsCopied, IsDrawn, IsSurfaceSize};
-ghost use Rattle.termwiz_share.specs.{KeepsClients, MeasureAlike, Resizes, Responds, Serves};
-ghost use Rattle.termwiz_share.specs.{SourceValue};
-ghost use Rattle.termwiz_share.specs.{blank_surface, change_value, full_of, length, map, measure};
-ghost use Rattle.termwiz_share.specs.{most_bytes, next_number, trimmed, true};
+ghost use Rattle.std.specs.Prelude.{◌≡◌, ◌≢◌, ◌+◌, ◌-◌, ◌<◌, ◌^◌, ◌∷◌, ◌++◌, [], Err, IfOk, List};
+ghost use Rattle.std.specs.Prelude.{OnErr, OnOk, ℕ, min, vec_len};
+ghost use Rattle.termwiz_share.specs.{Adds, Answers, ClientValue, HasCopied, HasDrawn, IsCopied};
+ghost use Rattle.termwiz_share.specs.{IsDrawn, IsSurfaceSize, KeepsClients, KeepsViewers, Resizes};
+ghost use Rattle.termwiz_share.specs.{Responds, ScrollRegion, Serves, SourceValue, blank_surface};
+ghost use Rattle.termwiz_share.specs.{change_value, copied_region, length, map, measure};
+ghost use Rattle.termwiz_share.specs.{most_bytes, next_number, screen_of, trimmed, true};
 
 use std::alloc::{AllocError, Global};
 use std::marker::Model;
@@ -85,6 +85,8 @@ impl<W: Widths> Source<W> {
         ensures number { self.new.number ≡ self.old.number }
         // Each client that it serves it serves still, also after an error.
         ensures serves { KeepsClients (measure W.width_of) self.old self.new }
+        // Each viewer that follows the surface goes on to, also after an error.
+        ensures followed { KeepsViewers (measure W.width_of) self.old.surface self.new.surface }
     {
         self.surface.forget_unneeded();
         self.surface.add_change(change)
@@ -98,6 +100,8 @@ impl<W: Widths> Source<W> {
             result self.new.surface }
         ensures number { self.new.number ≡ self.old.number }
         ensures serves { KeepsClients (measure W.width_of) self.old self.new }
+        // Each viewer that follows the surface goes on to, also after an error.
+        ensures followed { KeepsViewers (measure W.width_of) self.old.surface self.new.surface }
     {
         self.surface.forget_unneeded();
         self.surface.add_changes(changes)
@@ -111,6 +115,8 @@ impl<W: Widths> Source<W> {
             result self.new.surface }
         ensures number { self.new.number ≡ self.old.number }
         ensures serves { KeepsClients (measure W.width_of) self.old self.new }
+        // Each viewer that follows the surface goes on to, also after an error.
+        ensures followed { KeepsViewers (measure W.width_of) self.old.surface self.new.surface }
     {
         self.surface.forget_unneeded();
         self.surface.add_lent_changes(changes)
@@ -125,8 +131,18 @@ impl<W: Widths> Source<W> {
     ) -> Result<SequenceNo, SurfaceError>
         ensures draws { IsDrawn (measure W.width_of) (trimmed self.old.surface) other.now x y
             result self.new.surface }
+        // All but the rows is as before.
+        ensures restores { OnOk result (screen_of self.new.surface
+            ≡ record (screen_of self.old.surface) { rows = (screen_of self.new.surface).rows }) }
+        // For two surfaces of one width function: the other's rows, where no wide grapheme crosses
+        // an edge.
+        ensures region { OnOk result (HasDrawn (measure W.width_of)
+            self.old.surface other.now x y (screen_of self.new.surface)) }
+        ensures no_scroll { result ≡ Err ScrollRegion → ⊥ }
         ensures number { self.new.number ≡ self.old.number }
         ensures serves { KeepsClients (measure W.width_of) self.old self.new }
+        // Each viewer that follows the surface goes on to, also after an error.
+        ensures followed { KeepsViewers (measure W.width_of) self.old.surface self.new.surface }
     {
         self.surface.forget_unneeded();
         self.surface.draw_from_screen(other, x, y)
@@ -144,8 +160,17 @@ impl<W: Widths> Source<W> {
     ) -> Result<SequenceNo, SurfaceError>
         ensures copies { IsCopied (measure W.width_of) (trimmed self.old.surface)
             src_x src_y width height dest_x dest_y result self.new.surface }
+        // What the region showed before, overlapping or not, where no wide grapheme crosses an
+        // edge.
+        ensures region { OnOk result (
+            let old = screen_of self.old.surface in
+            let r = copied_region old src_x src_y width height dest_x dest_y in
+            HasCopied self.old.surface r (screen_of self.new.surface)) }
+        ensures no_scroll { result ≡ Err ScrollRegion → ⊥ }
         ensures number { self.new.number ≡ self.old.number }
         ensures serves { KeepsClients (measure W.width_of) self.old self.new }
+        // Each viewer that follows the surface goes on to, also after an error.
+        ensures followed { KeepsViewers (measure W.width_of) self.old.surface self.new.surface }
     {
         self.surface.forget_unneeded();
         self.surface
@@ -158,6 +183,8 @@ impl<W: Widths> Source<W> {
         ensures resizes { Resizes self.old.surface width height result self.new.surface }
         ensures number { self.new.number ≡ self.old.number }
         ensures serves { KeepsClients (measure W.width_of) self.old self.new }
+        // Each viewer that follows the surface goes on to, also after an error.
+        ensures followed { KeepsViewers (measure W.width_of) self.old.surface self.new.surface }
     {
         self.surface.resize(width, height)
     }
@@ -176,6 +203,8 @@ impl<W: Widths> Source<W> {
         ensures err { OnErr result (self.new ≡ self.old) }
         ensures begins { OnErr result ((more : List ℕ) × (out.new.items ≡ out.old.items ++ more)) }
         ensures serves { KeepsClients (measure W.width_of) self.old self.new }
+        // Each viewer that follows the surface goes on to, also after an error.
+        ensures followed { KeepsViewers (measure W.width_of) self.old.surface self.new.surface }
     {
         let from = if ask.source == self.number {
             ask.number

@@ -1,5 +1,5 @@
 -- An answer or an ask that is decoded was encoded so.
-use Rattle.std.proofs.Common.{◌≡◌, ℕ, ◌+◌, ◌*◌, ◌≤◌, ◌<◌, ◌^◌, true, cond, eqb, ltb, ◌&&◌, not, List, [], ◌++◌, length, Some, None, Result, Ok, refl, ap, subst, ◌∙◌, arith}
+use Rattle.std.proofs.Common.{◌≡◌, ℕ, zero, suc, absurd, false, ◌+◌, ◌*◌, ◌≤◌, ◌<◌, ◌^◌, true, cond, eqb, ltb, ◌&&◌, not, List, [], ◌++◌, length, Some, None, Result, Ok, refl, ap, subst, ◌∙◌, arith}
 use Rattle.std.proofs.lemmas.Bool.{eqb-true, ltb-false}
 use Rattle.std.proofs.lemmas.List.{length-append}
 use Rattle.cbor.specs.declared.error.FaultKind.TheVariants as faults
@@ -43,9 +43,15 @@ opened_takes room items bytes rest fits e =
     let named = subst (λ (k : ℕ). Takes bytes (array k ++ unsigned 2) body.0) (eqb-true count.0.0 items h.0) all in
     subst (λ (y : List ℕ). Takes bytes (array items ++ unsigned 2) y) h.1 named
 
-source_takes : (room : ℕ) (bytes : List ℕ) (x : ℕ × List ℕ) → IsBytes bytes → source_at room bytes ≡ Ok x → Takes bytes (unsigned x.0) x.1
+positive : (n : ℕ) → eqb n 0 ≡ false → 0 < n
+positive zero e = absurd cc
+positive (suc n) e = omega arith
+
+source_takes : (room : ℕ) (bytes : List ℕ) (x : ℕ × List ℕ) → IsBytes bytes → source_at room bytes ≡ Ok x → Takes bytes (unsigned x.0) x.1 × (0 < x.0)
 unfolding source_at
-source_takes room bytes x fits e = (let_takes room (λ n. eqb n 0) faults.Range bytes x fits e).0
+source_takes room bytes x fits e =
+    let t = let_takes room (λ n. eqb n 0) faults.Range bytes x fits e in
+    (t.0, positive x.0 t.2)
 
 size_takes : (room : ℕ) (bytes : List ℕ) (x : ℕ × List ℕ) → IsBytes bytes → size_at room bytes ≡ Ok x → Takes bytes (unsigned x.0) x.1
 unfolding size_at
@@ -96,6 +102,7 @@ record HeadFound (cells : ℕ) (bytes : List ℕ) (x : Head × List ℕ) : Type 
   pub listed : Takes middle (array x.0.count) x.1
   pub count : x.0.count < 2 ^ 64
   pub few : x.0.width * x.0.height ≤ cells
+  pub named : 0 < x.0.source
 
 head_takes : (room cells : ℕ) (bytes : List ℕ) (x : Head × List ℕ) → IsBytes bytes → head_at room cells bytes ≡ Ok x → HeadFound cells bytes x
 unfolding head_at
@@ -109,25 +116,26 @@ head_takes room cells bytes x fits e =
     let c = bind_ok (list_at room n.0.1) (λ c. ok (record { source = s.0.0; width = w.0.0; height = h.0.0; base = b.0.0; number = n.0.0; count = c.0 }) c.1) x n.2 in
     let t0 = opened_takes room 7 bytes body.0 fits body.1 in
     let ts = source_takes room body.0 s.0 t0.rest_fits s.1 in
-    let tw = size_takes room s.0.1 w.0 ts.rest_fits w.1 in
+    let tw = size_takes room s.0.1 w.0 ts.0.rest_fits w.1 in
     let th = height_takes room cells w.0.0 w.0.1 h.0 tw.rest_fits h.1 in
     let tb = unsigned_takes room h.0.1 b.0 th.0.rest_fits b.1 in
     let tn = number_found room b.0.0 b.0.1 n.0 tb.0.rest_fits n.1 in
     let tc = list_takes room n.0.1 c.0 tn.rest_fits c.1 in
-    let s1 = Takes-then bytes (array 7 ++ unsigned 2) body.0 (unsigned s.0.0) s.0.1 t0 ts in
+    let s1 = Takes-then bytes (array 7 ++ unsigned 2) body.0 (unsigned s.0.0) s.0.1 t0 ts.0 in
     let w1 = Takes-then bytes (array 7 ++ unsigned 2 ++ unsigned s.0.0) s.0.1 (unsigned w.0.0) w.0.1 s1 tw in
     let h1 = Takes-then bytes (array 7 ++ unsigned 2 ++ unsigned s.0.0 ++ unsigned w.0.0) w.0.1 (unsigned h.0.0) h.0.1 w1 th.0 in
     let b1 = Takes-then bytes (array 7 ++ unsigned 2 ++ unsigned s.0.0 ++ unsigned w.0.0 ++ unsigned h.0.0) h.0.1 (unsigned b.0.0) b.0.1 h1 tb.0 in
     let n1 = Takes-then bytes (array 7 ++ unsigned 2 ++ unsigned s.0.0 ++ unsigned w.0.0 ++ unsigned h.0.0 ++ unsigned b.0.0) b.0.1 (unsigned n.0.0) n.0.1 b1 tn in
     let made : Head = record { source = s.0.0; width = w.0.0; height = h.0.0; base = b.0.0; number = n.0.0; count = c.0.0 } in
     subst (λ (y : Head × List ℕ). HeadFound cells bytes y) (ok_is {A = Head × List ℕ} {E = Stop} (made, c.0.1) x c.2)
-    (record { middle = n.0.1; front = n1; listed = tc.0; count = tc.1; few = th.1 })
+    (record { middle = n.0.1; front = n1; listed = tc.0; count = tc.1; few = th.1; named = ts.1 })
 
 -- ---- answers
 
 pub record AnswerFound (measure : List ℕ → ℕ) (cells : ℕ) (bytes : List ℕ) (x : SentAnswer × List ℕ) : Type 0 where
   pub taken : Takes bytes (answer measure x.0) x.1
   pub few : x.0.answer.width * x.0.answer.height ≤ cells
+  pub named : 0 < x.0.source
 
 pub answer_takes : (measure : List ℕ → ℕ) (room cells : ℕ) (bytes : List ℕ) (x : SentAnswer × List ℕ) → IsBytes bytes → answer_in measure room cells bytes ≡ Ok x → AnswerFound measure cells bytes x
 unfolding answer_in answer
@@ -138,7 +146,7 @@ answer_takes measure room cells bytes x fits e =
     let tc = listed_takes measure room (Some head.0.0.height) head.0.0.count th.middle head.0.1 cs.0 th.listed th.count cs.1 in
     let all = Takes-then bytes (head_bytes head.0.0) th.middle (changes measure cs.0.0) cs.0.1 th.front tc.0 in
     subst (λ (y : SentAnswer × List ℕ). AnswerFound measure cells bytes y) (ok_is {A = SentAnswer × List ℕ} {E = Halt} (sent_of head.0.0 cs.0.0, cs.0.1) x cs.2)
-    (record { taken = all; few = th.few })
+    (record { taken = all; few = th.few; named = th.named })
 
 -- the regions of what was decoded lie on the rows
 pub each_regions : (measure : List ℕ → ℕ) (room height n : ℕ) (bytes : List ℕ) (x : List ChangeValue × List ℕ) → IsBytes bytes → n < 2 ^ 64 → each_at measure room (Some height) [] n bytes ≡ Ok x → regions_fit height x.0 ≡ true

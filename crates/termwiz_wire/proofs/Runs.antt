@@ -40,9 +40,9 @@ pub before-alike : (r s : Run) (rs : List Run) → alike r s ≡ true → before
 before-alike r s [] h = rw h refl
 before-alike r s (t ∷ ts) h = elim (cases_Bool (alike s t)) [
   | inl y ↦
-    let z : alike r t ≡ true = alike-alike r s t h ∙ y in
-    let P : ℕ → List Run = λ n. record t { count = n } ∷ ts in
-    rw (y, z) (ap P (sym (add_assoc r.count s.count t.count)))
+      let z : alike r t ≡ true = alike-alike r s t h ∙ y in
+      let P : ℕ → List Run = λ n. record t { count = n } ∷ ts in
+      rw (y, z) (ap P (sym (add_assoc r.count s.count t.count)))
   | inr n ↦ rw (n, h) refl
 ]
 
@@ -57,9 +57,9 @@ pub before-apart : (r s : Run) (rs : List Run) → alike r s ≡ false → befor
 before-apart r s [] h = rw h refl
 before-apart r s (t ∷ ts) h = elim (cases_Bool (alike s t)) [
   | inl y ↦
-    let p = alike_is s t y in
-    let z : alike r t ≡ false = sym (ap₂ (λ a b. r.characters == a && r.columns == b) p.0 p.1) ∙ h in
-    rw (y, z) refl
+      let p = alike_is s t y in
+      let z : alike r t ≡ false = sym (ap₂ (λ a b. r.characters == a && r.columns == b) p.0 p.1) ∙ h in
+      rw (y, z) refl
   | inr n ↦ rw (n, h) refl
 ]
 
@@ -173,15 +173,16 @@ any-before : (r : Run) (rs : List Run) → needs_pieces (before r rs) ≡ (stand
 any-before r [] = refl
 any-before r (s ∷ rs) = elim (cases_Bool (alike r s)) [
   | inl y ↦
-    let p = alike_is r s y in
-    let same : stands_out r ≡ stands_out s = stands_alike r s p.0 p.1 in
-    rw (y, same) (twice (stands_out s) (needs_pieces rs))
+      let p = alike_is r s y in
+      let same : stands_out r ≡ stands_out s = stands_alike r s p.0 p.1 in
+      rw (y, same) (twice (stands_out s) (needs_pieces rs))
   | inr n ↦ rw n refl
 ]
   where
     twice : (a b : Bool) → (a || b) ≡ (a || (a || b))
     twice true b = refl
     twice false b = refl
+
     stands_alike : (r s : Run) → r.characters ≡ s.characters → r.columns ≡ s.columns → stands_out r ≡ stands_out s
     stands_alike r s e h = ap₂ (λ a b. stands_out (many a b 1)) e h
 

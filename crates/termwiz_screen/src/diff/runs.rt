@@ -1,7 +1,8 @@
 //! Runs of cells, which need fewer tests than cells alone.
 ghost use Rattle.std.specs.Prelude.{◌≡◌, ◌+◌, ◌-◌, ◌<◌, ◌≤◌, ◌↔◌, IfOk, IfSome, IsTrue, false};
 ghost use Rattle.termwiz_screen.specs.{IsPrintedTo, cell_eq, ended_at, ends_printable, is_plain, ℕ};
-ghost use Rattle.termwiz_screen.specs.{PrintedOut, is_wide, last_is, length, plain_cell, stored, true};
+ghost use Rattle.termwiz_screen.specs.{PrintedOut, is_wide, last_is, length, plain_cell, stored};
+ghost use Rattle.termwiz_screen.specs.{true};
 
 use std::alloc::AllocError;
 use termwiz_cell::cell::{Cell, CellAttributes};

@@ -1,9 +1,11 @@
 //! Answers that can be carried off, and accepted by viewers later.
-ghost use Rattle.std.specs.Prelude.{◌≡◌, ◌≤◌, ◌&&◌, if◌then◌else◌, IfOk, None, false, length, nat_le};
+ghost use Rattle.std.specs.Prelude.{◌≡◌, ◌≤◌, ◌&&◌, if◌then◌else◌, IfOk, None, false, length};
+ghost use Rattle.std.specs.Prelude.{nat_le};
 ghost use Rattle.termwiz_surface_core.specs.{IsBorrowedSlice, IsSurfaceSize, map, most_own_entries};
 ghost use Rattle.termwiz_surface_core.specs.{IsOwnedSlice, change_value, full_screens, own_repaint};
 ghost use Rattle.termwiz_surface_core.specs.{CarriesTo, FullScreen, IsGivenBy, Screen, regions_fit};
-ghost use Rattle.termwiz_surface_core.specs.{IsPastOf, Some, ℕ, is_repaint, knows, measure, screens, true};
+ghost use Rattle.termwiz_surface_core.specs.{IsPastOf, Some, ℕ, is_repaint, knows, measure};
+ghost use Rattle.termwiz_surface_core.specs.{screens, true};
 
 use super::Surface;
 use std::alloc::AllocError;

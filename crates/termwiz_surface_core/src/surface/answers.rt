@@ -4,7 +4,8 @@ ghost use Rattle.termwiz_surface_core.specs.{IsOwnedSlice, KeepsNames, KeepsView
 ghost use Rattle.termwiz_surface_core.specs.{Repaints, StreamsFrom, StreamsFullyFrom, change_value};
 ghost use Rattle.termwiz_surface_core.specs.{flushed, full_of, full_repaint, is_known, knows, not};
 ghost use Rattle.termwiz_surface_core.specs.{measure, most_own_entries, next_number, own_repaint};
-ghost use Rattle.termwiz_surface_core.specs.{delta_limit, forgotten, regions_fit, repaint, screen_of, stream_of, with_log};
+ghost use Rattle.termwiz_surface_core.specs.{delta_limit, forgotten, regions_fit, repaint};
+ghost use Rattle.termwiz_surface_core.specs.{screen_of, stream_of, with_log};
 
 use super::Surface;
 use std::alloc::AllocError;

@@ -43,6 +43,8 @@ pub fn decode_answer<W: Widths>(
     ensures found { IfOk result (λ x.
         (bytes.now ≡ answer (measure W.width_of widths.now) x.0 ++ drop x.1 bytes.now)
         × (x.1 ≤ length bytes.now)) }
+    // It names its source.
+    ensures named { IfOk result (λ x. 0 < x.0.source) }
     // It is within the limits.
     ensures limited { IfOk result (λ x.
         (x.0.answer.width * x.0.answer.height ≤ limits.cells) × (x.1 ≤ limits.bytes)) }

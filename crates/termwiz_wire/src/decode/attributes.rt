@@ -6,7 +6,9 @@ ghost use Rattle.termwiz_cell.specs.Link.{linked};
 ghost use Rattle.termwiz_wire.specs.Decoding.{attribute_change_at, attributes_at};
 
 use super::links::optional_link_of;
-use super::small::{blink_from, color_of, intensity_from, style_of, styled, underline_from, which_of};
+use super::small::{
+    blink_from, color_of, intensity_from, style_of, styled, underline_from, which_of,
+};
 use cbor::{ReadError, Reader};
 use std::alloc::{AllocError, Global};
 use std::rc::Rc;
@@ -20,7 +22,9 @@ pub(super) fn attributes_of(
     alloc: Global,
     reader: &mut Reader<'_>,
 ) -> Result<CellAttributes, ReadError>
-    ensures value { Gives (allowed reader.new.room reader.new.bytes.now) (λ x. (x, reader.new.bytes.now)) result (attributes_at reader.old.room reader.old.bytes.now) }
+    ensures value { Gives (allowed reader.new.room reader.new.bytes.now)
+        (λ x. (x, reader.new.bytes.now)) result
+        (attributes_at reader.old.room reader.old.bytes.now) }
     ensures room { reader.new.room ≡ reader.old.room }
 {
     reader.array_of(5)?;
@@ -68,7 +72,8 @@ pub(super) fn attribute_change_of(
     alloc: Global,
     reader: &mut Reader<'_>,
 ) -> Result<AttributeChange, ReadError>
-    ensures value { Gives (allowed reader.new.room reader.new.bytes.now) (λ x. (attribute_change_value x, reader.new.bytes.now)) result
+    ensures value { Gives (allowed reader.new.room reader.new.bytes.now)
+        (λ x. (attribute_change_value x, reader.new.bytes.now)) result
         (attribute_change_at reader.old.room reader.old.bytes.now) }
     ensures room { reader.new.room ≡ reader.old.room }
 {

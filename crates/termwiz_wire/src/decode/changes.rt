@@ -1,5 +1,6 @@
 //! Changes.
-ghost use Rattle.std.specs.Prelude.{◌≡◌, ◌++◌, ◌+◌, ◌-◌, ◌≤◌, [], IfOk, List, None, ℕ, drop, length};
+ghost use Rattle.std.specs.Prelude.{◌≡◌, ◌++◌, ◌+◌, ◌-◌, ◌≤◌, [], IfOk, List, None, ℕ};
+ghost use Rattle.std.specs.Prelude.{drop, length};
 ghost use Rattle.std.specs.Prelude.{map, true};
 ghost use Rattle.cbor.specs.Decoding.{Gives, allowed, ok};
 ghost use Rattle.termwiz_cell.specs.ChangeValue as changed;
@@ -43,7 +44,8 @@ pub fn decode_change<W: Widths>(
         Decodes (λ x. (change_value x.0, drop x.1 bytes.now)) result (ok c rest) }
     // What is decoded was encoded so, in so many bytes.
     ensures found { IfOk result (λ x.
-        (bytes.now ≡ change (measure W.width_of widths.now) (change_value x.0) ++ drop x.1 bytes.now)
+        (bytes.now ≡ change (measure W.width_of widths.now) (change_value x.0)
+        ++ drop x.1 bytes.now)
         × (x.1 ≤ length bytes.now)) }
     // It is this value, or this fault.
     ensures exact { Decodes (λ x. (change_value x.0, drop x.1 bytes.now)) result
@@ -71,7 +73,8 @@ pub fn decode_changes<W: Widths>(
         Decodes (λ x. (map change_value x.0.items, drop x.1 bytes.now)) result (ok cs rest) }
     // What is decoded was encoded so, in so many bytes.
     ensures found { IfOk result (λ x.
-        (bytes.now ≡ changes (measure W.width_of widths.now) (map change_value x.0.items) ++ drop x.1 bytes.now)
+        (bytes.now ≡ changes (measure W.width_of widths.now) (map change_value x.0.items)
+        ++ drop x.1 bytes.now)
         × (x.1 ≤ length bytes.now)) }
     // There are no more of them than bytes that they take.
     ensures bounded { IfOk result (λ x. length x.0.items ≤ x.1) }
@@ -94,7 +97,8 @@ fn one_change_of<W: Widths>(
 ) -> Result<Change, Halted>
     ensures value { Halts (allowed reader.new.room reader.new.bytes.now)
         (λ x. (change_value x, reader.new.bytes.now)) result
-        (halted None (change_at (measure W.width_of widths.now) reader.old.room None reader.old.bytes.now)) }
+        (halted None (change_at (measure W.width_of widths.now)
+        reader.old.room None reader.old.bytes.now)) }
     ensures room { reader.new.room ≡ reader.old.room }
 {
     match change_of(alloc, widths, None, reader) {
@@ -139,7 +143,8 @@ pub(super) fn each_of<W: Widths>(
 ) -> Result<Vec<Change>, Halted>
     ensures value { Halts (allowed reader.new.room reader.new.bytes.now)
         (λ x. (map change_value x.items, reader.new.bytes.now)) result
-        (each_at (measure W.width_of widths.now) reader.old.room rows [] count reader.old.bytes.now) }
+        (each_at (measure W.width_of widths.now)
+        reader.old.room rows [] count reader.old.bytes.now) }
     ensures room { reader.new.room ≡ reader.old.room }
 {
     let mut changes = Vec::new(alloc);
@@ -231,7 +236,8 @@ fn values_of<W: Widths>(
 ) -> Result<Change, ReadError>
     ensures value { Gives (allowed reader.new.room reader.new.bytes.now)
         (λ x. (change_value x, reader.new.bytes.now)) result
-        (change_by (measure W.width_of widths.now) reader.old.room rows count kind reader.old.bytes.now) }
+        (change_by (measure W.width_of widths.now)
+        reader.old.room rows count kind reader.old.bytes.now) }
     ensures room { reader.new.room ≡ reader.old.room }
 {
     let change = match kind {

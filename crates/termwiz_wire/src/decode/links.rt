@@ -19,7 +19,8 @@ pub(super) fn optional_link_of(
     alloc: Global,
     reader: &mut Reader<'_>,
 ) -> Result<Option<Rc<Hyperlink>>, ReadError>
-    ensures value { Gives (allowed reader.new.room reader.new.bytes.now) (λ x. (linked x, reader.new.bytes.now)) result
+    ensures value { Gives (allowed reader.new.room reader.new.bytes.now)
+        (λ x. (linked x, reader.new.bytes.now)) result
         (optional_link_at reader.old.room reader.old.bytes.now) }
     ensures room { reader.new.room ≡ reader.old.room }
 {
@@ -39,7 +40,8 @@ pub(super) fn optional_link_of(
 // A link. It stands apart, so that the way of no link is short.
 #[inline(never)]
 fn some_link_of(alloc: Global, reader: &mut Reader<'_>) -> Result<Rc<Hyperlink>, ReadError>
-    ensures value { Gives (allowed reader.new.room reader.new.bytes.now) (λ x. (x.value, reader.new.bytes.now)) result
+    ensures value { Gives (allowed reader.new.room reader.new.bytes.now)
+        (λ x. (x.value, reader.new.bytes.now)) result
         (link_at reader.old.room reader.old.bytes.now) }
     ensures room { reader.new.room ≡ reader.old.room }
 {
@@ -50,7 +52,9 @@ fn some_link_of(alloc: Global, reader: &mut Reader<'_>) -> Result<Rc<Hyperlink>,
 
 #[tactic(auto, unfolding(crate::specs::Decoding::link_at))]
 fn link_of(alloc: Global, reader: &mut Reader<'_>) -> Result<Hyperlink, ReadError>
-    ensures value { Gives (allowed reader.new.room reader.new.bytes.now) (λ x. (x, reader.new.bytes.now)) result (link_at reader.old.room reader.old.bytes.now) }
+    ensures value { Gives (allowed reader.new.room reader.new.bytes.now)
+        (λ x. (x, reader.new.bytes.now)) result
+        (link_at reader.old.room reader.old.bytes.now) }
     ensures room { reader.new.room ≡ reader.old.room }
 {
     reader.array_of(3)?;
@@ -63,7 +67,8 @@ fn link_of(alloc: Global, reader: &mut Reader<'_>) -> Result<Hyperlink, ReadErro
 
 /// Decodes a text of its own.
 pub(super) fn owned_of(alloc: Global, reader: &mut Reader<'_>) -> Result<String, ReadError>
-    ensures value { Gives (allowed reader.new.room reader.new.bytes.now) (λ x. (string_bytes x, reader.new.bytes.now)) result
+    ensures value { Gives (allowed reader.new.room reader.new.bytes.now)
+        (λ x. (string_bytes x, reader.new.bytes.now)) result
         (text_at reader.old.room reader.old.bytes.now) }
     ensures room { reader.new.room ≡ reader.old.room }
 {
@@ -77,7 +82,8 @@ fn params_of(
     count: usize,
     reader: &mut Reader<'_>,
 ) -> Result<BTreeMap<String, String>, ReadError>
-    ensures value { Gives (allowed reader.new.room reader.new.bytes.now) (λ x. (map param_bytes x.entries, reader.new.bytes.now)) result
+    ensures value { Gives (allowed reader.new.room reader.new.bytes.now)
+        (λ x. (map param_bytes x.entries, reader.new.bytes.now)) result
         (params_at reader.old.room [] count reader.old.bytes.now) }
     ensures room { reader.new.room ≡ reader.old.room }
 {
@@ -96,7 +102,8 @@ fn param_of(
     before: &BTreeMap<String, String>,
     reader: &mut Reader<'_>,
 ) -> Result<(String, String), ReadError>
-    ensures value { Gives (allowed reader.new.room reader.new.bytes.now) (λ x. ((string_bytes x.0, string_bytes x.1), reader.new.bytes.now)) result
+    ensures value { Gives (allowed reader.new.room reader.new.bytes.now)
+        (λ x. ((string_bytes x.0, string_bytes x.1), reader.new.bytes.now)) result
         (param_at reader.old.room (map param_bytes before.now.entries) reader.old.bytes.now) }
     ensures above { IfOk result (λ x.
         ascends (map param_bytes before.now.entries) (string_bytes x.0) ≡ true) }

@@ -122,7 +122,9 @@ fn has_small_fields(number: usize) -> bool
 /// The small attributes as one number.
 #[tactic(auto, unfolding(crate::specs::Decoding::style_at))]
 pub(super) fn style_of(reader: &mut Reader<'_>) -> Result<usize, ReadError>
-    ensures value { Gives (allowed reader.new.room reader.new.bytes.now) (λ x. (x, reader.new.bytes.now)) result (style_at reader.old.room reader.old.bytes.now) }
+    ensures value { Gives (allowed reader.new.room reader.new.bytes.now)
+        (λ x. (x, reader.new.bytes.now)) result
+        (style_at reader.old.room reader.old.bytes.now) }
     ensures room { reader.new.room ≡ reader.old.room }
 {
     let start = reader.bytes;
@@ -166,7 +168,9 @@ pub(super) fn styled(number: usize) -> CellAttributes
 
 #[tactic(auto, unfolding(crate::specs::Decoding::palette_at))]
 fn palette_of(reader: &mut Reader<'_>) -> Result<ColorAttribute, ReadError>
-    ensures value { Gives (allowed reader.new.room reader.new.bytes.now) (λ x. (x, reader.new.bytes.now)) result (palette_at reader.old.room reader.old.bytes.now) }
+    ensures value { Gives (allowed reader.new.room reader.new.bytes.now)
+        (λ x. (x, reader.new.bytes.now)) result
+        (palette_at reader.old.room reader.old.bytes.now) }
     ensures room { reader.new.room ≡ reader.old.room }
 {
     let index = reader.below(256)?;
@@ -175,7 +179,9 @@ fn palette_of(reader: &mut Reader<'_>) -> Result<ColorAttribute, ReadError>
 
 #[tactic(auto, unfolding(crate::specs::Decoding::rgb_at))]
 fn rgb_of(reader: &mut Reader<'_>) -> Result<ColorAttribute, ReadError>
-    ensures value { Gives (allowed reader.new.room reader.new.bytes.now) (λ x. (x, reader.new.bytes.now)) result (rgb_at reader.old.room reader.old.bytes.now) }
+    ensures value { Gives (allowed reader.new.room reader.new.bytes.now)
+        (λ x. (x, reader.new.bytes.now)) result
+        (rgb_at reader.old.room reader.old.bytes.now) }
     ensures room { reader.new.room ≡ reader.old.room }
 {
     let red = reader.below(256)?;
@@ -187,7 +193,8 @@ fn rgb_of(reader: &mut Reader<'_>) -> Result<ColorAttribute, ReadError>
 
 #[tactic(auto, unfolding(crate::specs::Decoding::rgb_palette_at))]
 fn rgb_palette_of(reader: &mut Reader<'_>) -> Result<ColorAttribute, ReadError>
-    ensures value { Gives (allowed reader.new.room reader.new.bytes.now) (λ x. (x, reader.new.bytes.now)) result
+    ensures value { Gives (allowed reader.new.room reader.new.bytes.now)
+        (λ x. (x, reader.new.bytes.now)) result
         (rgb_palette_at reader.old.room reader.old.bytes.now) }
     ensures room { reader.new.room ≡ reader.old.room }
 {
@@ -250,7 +257,9 @@ pub(super) fn which_of(reader: &mut Reader<'_>, limit: usize) -> Result<usize, R
 /// Decodes a column or a row.
 #[tactic(auto, unfolding(crate::specs::Decoding::position_at))]
 pub(super) fn position_of(reader: &mut Reader<'_>) -> Result<Position, ReadError>
-    ensures value { Gives (allowed reader.new.room reader.new.bytes.now) (λ x. (x, reader.new.bytes.now)) result (position_at reader.old.room reader.old.bytes.now) }
+    ensures value { Gives (allowed reader.new.room reader.new.bytes.now)
+        (λ x. (x, reader.new.bytes.now)) result
+        (position_at reader.old.room reader.old.bytes.now) }
     ensures room { reader.new.room ≡ reader.old.room }
 {
     reader.array_of(2)?;

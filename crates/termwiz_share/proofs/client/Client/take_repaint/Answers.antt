@@ -16,6 +16,6 @@ returns g c =
     let same : c.in_ok-surface.surface.widths ≡ c.self.inside.surface.widths = ap (λ (s : SurfaceValue _). s.widths) c.in_ok-surface.ensures ∙ c.widths.ensures in
     let blank : full_of c.in_ok-surface.surface ≡ blank_screen c.args.answer.width c.args.answer.height = rw (c.in_ok-surface.ensures, c.size-width.ensures.width, c.size-width.ensures.height) refl in
     let is : full_of c.add_changes.new.self ≡ played full_screens m (blank_screen c.args.answer.width c.args.answer.height) c.args.answer.changes =
-        made.0 ∙ ap (λ w. played full_screens (measure width_of w) (full_of c.in_ok-surface.surface) c.args.answer.changes) same ∙ ap (λ (p : FullScreen). played full_screens m p c.args.answer.changes) blank in
+    made.0 ∙ ap (λ w. played full_screens (measure width_of w) (full_of c.in_ok-surface.surface) c.args.answer.changes) same ∙ ap (λ (p : FullScreen). played full_screens m p c.args.answer.changes) blank in
     let both = repaint_taken m _ c.args.source c.args.answer (full_of c.add_changes.new.self) c.requires.repaint is in
     rw (← c.self.view_is, c.flush_changes_older_than.ensures.flushes, c.number-number.ensures.value) (both.0, both.1, refl, record { widths = made.1 ∙ same; limits = refl; stopped = refl })

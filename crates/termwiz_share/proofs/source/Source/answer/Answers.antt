@@ -11,11 +11,11 @@ returns-then-is_repaint g c =
     let given = h.given_fully c.self.invariant.0 in
     let sized = c.dimensions-width.ensures.fully_sized in
     elim c.then-is_repaint.branch [
-    | then-is_repaint-via-then-is_repaint w ↦ rw (← c.self.view_is) (answers_repaint f (record { surface = c.self.inside.surface; number = c.self.inside.number }) c.args.from c.in_ok-answer.answer given sized h.entries (sym c.is_repaint.ensures ∙ w.if-is_repaint.true))
-    | then-is_repaint-via-else-is_repaint+then-bytes-most_bytes w ↦
-        let len = rw c.widths.ensures at c.encoded_len-bytes.ensures in
-        let most = rw (c.dimensions-width.ensures.width, c.dimensions-width.ensures.height) at w.most_bytes.ensures in
-        rw (← c.self.view_is) (answers_short f (record { surface = c.self.inside.surface; number = c.self.inside.number }) c.args.from c.in_ok-answer.answer given sized (rw (← len, ← most) w.if-bytes-most_bytes.true))
+      | then-is_repaint-via-then-is_repaint w ↦ rw (← c.self.view_is) (answers_repaint f (record { surface = c.self.inside.surface; number = c.self.inside.number }) c.args.from c.in_ok-answer.answer given sized h.entries (sym c.is_repaint.ensures ∙ w.if-is_repaint.true))
+      | then-is_repaint-via-else-is_repaint+then-bytes-most_bytes w ↦
+          let len = rw c.widths.ensures at c.encoded_len-bytes.ensures in
+          let most = rw (c.dimensions-width.ensures.width, c.dimensions-width.ensures.height) at w.most_bytes.ensures in
+          rw (← c.self.view_is) (answers_short f (record { surface = c.self.inside.surface; number = c.self.inside.number }) c.args.from c.in_ok-answer.answer given sized (rw (← len, ← most) w.if-bytes-most_bytes.true))
     ]
 
 pub returns : goal.returns

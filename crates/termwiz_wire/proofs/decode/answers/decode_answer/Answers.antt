@@ -69,3 +69,8 @@ pub returns-in-Ok-clause-bounded : goal.returns-in-Ok-clause-bounded
 returns-in-Ok-clause-bounded g c =
     let found = returns-in-Ok-clause-found g c in
     bounded (measure g.W.Widths.width_of c.args.widths.now) c.in-Ok.sent c.args.bytes.now c.saturating_sub.result found.0 found.1
+
+pub returns-in-Ok-clause-named : goal.returns-in-Ok-clause-named
+returns-in-Ok-clause-named g c =
+    let fits : IsBytes c.with_limit-reader.result.bytes.now = subst (λ (b : List ℕ). IsBytes b) c.rest-len.ensures.value c.rest-len.ensures.bytes in
+    (answer_takes (measure g.W.Widths.width_of c.args.widths.now) c.with_limit-reader.result.room c.args.limits.cells c.with_limit-reader.result.bytes.now (c.in-Ok.sent, c.answer_of.new.reader.bytes.now) fits c.in-Ok.ensures.value).named

@@ -47,7 +47,7 @@ enum {
     TK_DONE = 0,       /* done */
     TK_MEMORY = 1,     /* memory was refused */
     TK_UNREADABLE = 2, /* a text is no UTF-8, or bytes are no encoding of what is wanted */
-    TK_TRUNCATED = 3,  /* bytes are the beginning of what is wanted: more have to come */
+    TK_TRUNCATED = 3,  /* bytes end before what is wanted does: more would have to come */
     TK_REGION = 4,     /* the region of a scroll goes past the last row */
     TK_NUMBERS = 5,    /* the numbers of changes are used up */
     TK_NO_HANDLE = 6,  /* a handle has no value */

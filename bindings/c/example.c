@@ -68,7 +68,7 @@ static tk_status deliver(tk_handle *surface, tk_handle *client, buffer *bytes) {
     tk_fault fault;
     TRY(tk_client_ask(client, ask, sizeof ask, &ask_len));
     tk_status status = tk_respond(surface, ask, ask_len, bytes->at, bytes->room, &bytes->len);
-    if (status == TK_SHORT) {
+    while (status == TK_SHORT) {
         TRY(grow(bytes, bytes->len));
         status = tk_respond(surface, ask, ask_len, bytes->at, bytes->room, &bytes->len);
     }

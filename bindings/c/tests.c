@@ -495,6 +495,11 @@ static void test_clients(void) {
     tk_handle surface = made(6, 2), client = TK_NONE, viewer = TK_NONE, none = TK_NONE;
     tk_fault fault = {.kind = 99};
     CHECK(tk_client_new(&client, 2, 100, 100) == TK_RANGE && !client.is_live);
+    CHECK(tk_client_new(&client, TK_WIDTHS_UNICODE, 100, 0) == TK_RANGE && !client.is_live);
+    CHECK(tk_client_new(&client, TK_WIDTHS_UNICODE, 0, 1) == TK_DONE); /* it takes no answer */
+    CHECK(tk_client_feed(&client, (const uint8_t *)"\x87\2", 2, &fault) == TK_UNREADABLE);
+    CHECK(fault.kind == TK_FAULT_LIMIT);
+    CHECK(tk_client_new(&client, TK_WIDTHS_UNICODE, 0, 0) == TK_RANGE && client.is_live);
     CHECK(tk_client_new(&client, TK_WIDTHS_UNICODE, 11, TK_USUAL_BYTES) == TK_DONE);
     CHECK(title_is(&client, "") && cursor_is(&client, 0, 0));
     CHECK(tk_viewer_new(&viewer, &surface) == TK_DONE);

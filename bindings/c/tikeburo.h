@@ -47,7 +47,7 @@ enum {
     TK_DONE = 0,       /* done */
     TK_MEMORY = 1,     /* memory was refused */
     TK_UNREADABLE = 2, /* a text is no UTF-8, or bytes are no encoding of what is wanted */
-    TK_TRUNCATED = 3,  /* bytes are the beginning of what is wanted: more have to come */
+    TK_TRUNCATED = 3,  /* bytes end before what is wanted does: more would have to come */
     TK_REGION = 4,     /* the region of a scroll goes past the last row */
     TK_NUMBERS = 5,    /* the numbers of changes are used up */
     TK_NO_HANDLE = 6,  /* a handle has no value */
@@ -175,9 +175,10 @@ tk_status tk_link_at(tk_handle *handle, size_t column, size_t row, char *uri, si
 /* ---- Changes of a surface ----
  *
  * Each takes a surface, and is logged with a number, one above the one before. What no answer can
- * need is forgotten by itself. TK_WRONG_KIND: the handle has another kind. TK_NUMBERS: there is no number left. TK_MEMORY: either there was none
- * for the change itself, and nothing has changed, or it may have been made in part: the surface
- * keeps its size, and its log is empty under a new number. */
+ * need is forgotten by itself, also where the call fails. TK_WRONG_KIND: the handle has another
+ * kind. TK_NUMBERS: there is no number left. TK_MEMORY: either there was none for the change
+ * itself, and nothing has changed, or the surface may show anything in its size, and its log is
+ * empty. */
 
 /* Prints a text at the cursor with the pen. CR goes to the first column, LF to the next row, and
  * other control characters of ASCII are spaces. TK_UNREADABLE. */
@@ -185,7 +186,8 @@ tk_status tk_print(tk_handle *surface, const char *text, size_t len);
 
 /* Makes a list of changes, which these bytes encode: the array `[* change]` of docs/stream.cddl
  * and nothing behind it. A text in it has the pieces that the surface cuts and measures: where they
- * aren't known, tk_print prints it. TK_UNREADABLE, TK_TRUNCATED, TK_REGION: nothing has changed. */
+ * aren't known, tk_print prints it. TK_TRUNCATED: the bytes end before the list does.
+ * TK_UNREADABLE: they are wrong at a byte, or more come behind the list. TK_REGION. */
 tk_status tk_add_changes(tk_handle *surface, const uint8_t *bytes, size_t len);
 
 /* Moves the cursor to this column and row; past the last ones is at the last ones. */
@@ -267,22 +269,23 @@ tk_status tk_viewer_new(tk_handle *viewer, tk_handle *source);
 
 /* The viewer shows what the source shows: its size too. It makes the changes since it followed
  * last, where that was the same surface and those are known, and else all anew; of a viewer or a
- * client always all. TK_WRONG_KIND: the first handle has no viewer. TK_NUMBERS, TK_MEMORY: the
- * viewer may show anything, and gets all anew the next time. */
+ * client always all. TK_WRONG_KIND: the first handle has no viewer. TK_NUMBERS, TK_MEMORY: either
+ * nothing has changed, or the viewer may show anything, and gets all anew the next time. */
 tk_status tk_follow(tk_handle *viewer, tk_handle *source);
 
 /* ---- Clients: by bytes, as docs/VIEWER.md and docs/stream.cddl describe them ---- */
 
-/* Writes the answer to what a client asks: the changes since the number that it shows, where it
- * shows this surface and those are known, and else all that the surface keeps. The ask is that of
- * tk_client_ask and nothing behind it. TK_TRUNCATED: it is a beginning of one. TK_UNREADABLE: it is
- * none. TK_WRONG_KIND. TK_SHORT: the next call for the same ask has the same answer. */
+/* Writes the answer to what a client asks: all that the surface keeps, or the changes since the
+ * number that the client shows, where it shows this surface. The ask is that of tk_client_ask, and
+ * nothing behind it. What no answer can need is forgotten. TK_TRUNCATED: the bytes end before the
+ * ask does. TK_UNREADABLE: they are wrong at a byte, or more come behind the ask. TK_WRONG_KIND.
+ * TK_SHORT: the answer is not kept, and the next call makes it anew. */
 tk_status tk_respond(tk_handle *surface, const uint8_t *ask, size_t ask_len, uint8_t *bytes,
                      size_t room, size_t *len);
 
 /* Makes a client that shows nothing yet: a blank of one column and one row. It measures by these
  * widths, and takes no answer of more cells (width times height) or bytes. What the handle had is
- * freed. TK_RANGE: widths. */
+ * freed. TK_RANGE: widths, or 0 bytes. */
 tk_status tk_client_new(tk_handle *client, uint8_t widths, size_t cells, size_t bytes);
 #define TK_USUAL_CELLS 1048576
 #define TK_USUAL_BYTES 16777216
@@ -309,9 +312,11 @@ enum {
  * the surface showed when it gave it. An answer that is late, comes twice, or leads on from what
  * another surface showed changes nothing, and is no error.
  *
- * After an error the stream can't go on: tk_client_reset begins another one. TK_UNREADABLE: *fault
- * says what is wrong, and that answer has changed nothing. TK_NUMBERS, TK_MEMORY: the client may
- * show anything, and asks for all. After any other outcome *fault is as it was. TK_WRONG_KIND. */
+ * After an error tk_client_reset begins another stream. The answers before the error are taken.
+ * TK_UNREADABLE: *fault says what is wrong, and that answer has changed nothing. TK_NUMBERS: the
+ * client shows what it showed, and asks for all. TK_MEMORY: either that answer has changed nothing,
+ * or the client may show anything, and asks for all. After any other outcome *fault is as it was.
+ * TK_WRONG_KIND. */
 tk_status tk_client_feed(tk_handle *client, const uint8_t *bytes, size_t len, tk_fault *fault);
 
 /* Writes what to ask for the next answer, 20 bytes at most. TK_WRONG_KIND, TK_SHORT. */

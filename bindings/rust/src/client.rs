@@ -44,7 +44,7 @@ impl From<&[u8]> for Ask {
 pub struct Limits {
     /// The screen's width times its height.
     pub cells: usize,
-    /// The answer's bytes.
+    /// The answer's bytes, from 1 on.
     pub bytes: usize,
 }
 
@@ -88,6 +88,7 @@ impl Client {
 
     /// A client that shows nothing yet. An answer of a surface that measures in another way is the
     /// fault [`Measure`](crate::FaultKind::Measure), where the answer's texts show it.
+    /// [`Error::Range`]: a limit of no bytes.
     pub fn with_limits(widths: Widths, limits: Limits) -> Result<Client, Error> {
         let widths = widths as u8;
         // Safety: the handle is all zero before.
@@ -102,9 +103,10 @@ impl Client {
     /// is whole it shows what the surface showed when it gave it. An answer that is late, comes
     /// twice, or leads on from what another surface showed changes nothing, and is no error.
     ///
-    /// After an error the stream can't go on: see [`Client::reset`]. [`Error::Fault`]: the answer
-    /// of these bytes has changed nothing. [`Error::Numbers`] and [`Error::Memory`]: the client may
-    /// show anything, and asks for the whole screen.
+    /// After an error [`Client::reset`] begins another stream. The answers before the error are
+    /// taken. [`Error::Fault`]: the answer that has it has changed nothing. [`Error::Numbers`]: the
+    /// client shows what it showed, and asks for the whole screen. [`Error::Memory`]: either that
+    /// answer has changed nothing, or the client may show anything, and asks for the whole screen.
     pub fn feed(&mut self, bytes: &[u8]) -> Result<(), Error> {
         let handle = self.screen.handle.get();
         let mut fault = tk_fault::default();
@@ -117,7 +119,8 @@ impl Client {
         }
     }
 
-    /// What to ask for the next answer: what changed since the last one, or all where there is none.
+    /// What to ask for the next answer: what changed since the last one, or all where there is
+    /// none.
     pub fn ask(&self) -> Result<Ask, Error> {
         let handle = self.screen.handle.get();
         // Safety: the handle is live, and the buffer has the room that is named.

@@ -12,7 +12,7 @@ pub enum Error {
     Memory,
     /// Bytes are no encoding of what is wanted.
     Unreadable,
-    /// Bytes are the beginning of an ask: more have to come.
+    /// Bytes end before the ask does: more would have to come.
     Truncated,
     /// Bytes that a client was fed make no answer that it can take.
     Fault(Fault),
@@ -20,7 +20,7 @@ pub enum Error {
     ScrollRegion,
     /// The numbers of changes are used up.
     Numbers,
-    /// A row, a column, or a size is outside of its range.
+    /// A row, a column, a size or a limit is outside of its range.
     Range,
     /// The library returned a number that this crate has no name for.
     Unknown(i32),
@@ -47,11 +47,13 @@ impl fmt::Display for Error {
         match self {
             Error::Memory => f.write_str("memory was refused"),
             Error::Unreadable => f.write_str("the bytes can't be read"),
-            Error::Truncated => f.write_str("the bytes are the beginning of an ask"),
+            Error::Truncated => f.write_str("the bytes end before the ask does"),
             Error::Fault(fault) => write!(f, "the answer can't be taken: {fault}"),
             Error::ScrollRegion => f.write_str("the region of a scroll goes past the last row"),
             Error::Numbers => f.write_str("the numbers of changes are used up"),
-            Error::Range => f.write_str("a row, a column, or a size is outside of its range"),
+            Error::Range => {
+                f.write_str("a row, a column, a size or a limit is outside of its range")
+            }
             Error::Unknown(status) => write!(f, "unknown status {status}"),
         }
     }

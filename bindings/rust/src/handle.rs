@@ -58,19 +58,25 @@ impl Drop for Handle {
 }
 
 /// The bytes that a call writes: to this front where they fit, and else to as much room as the call
-/// says that they need. The call is passed a buffer, its room, and where it writes their length.
+/// says that they need, which another call may say anew. The call is passed a buffer, its room, and
+/// where it writes their length.
 pub(crate) fn bytes(
     front: &mut [u8],
     mut write: impl FnMut(*mut u8, usize, *mut usize) -> i32,
 ) -> Result<Vec<u8>, Error> {
     let mut len = 0;
-    let status = write(front.as_mut_ptr(), front.len(), &mut len);
+    let mut status = write(front.as_mut_ptr(), front.len(), &mut len);
     if status != ffi::SHORT {
         Error::check(status)?;
         return Ok(front[..len].to_vec());
     }
-    let mut bytes = vec![0; len];
-    Error::check(write(bytes.as_mut_ptr(), bytes.len(), &mut len))?;
+    let mut bytes = Vec::new();
+    while status == ffi::SHORT {
+        bytes.resize(len, 0);
+        status = write(bytes.as_mut_ptr(), bytes.len(), &mut len);
+    }
+    Error::check(status)?;
+    bytes.truncate(len);
     Ok(bytes)
 }
 

@@ -69,7 +69,7 @@ impl Surface {
     /// Makes a change, and returns its number.
     ///
     /// [`Error::ScrollRegion`] and [`Error::Numbers`]: nothing has changed. [`Error::Memory`]: the
-    /// change may have been made in part; the size stays.
+    /// surface may show anything in its size.
     pub fn add_change(&mut self, change: impl Into<Change>) -> Result<SequenceNo, Error> {
         let number = self.current_seqno();
         self.add(&[change.into()])?;
@@ -78,7 +78,8 @@ impl Surface {
 
     /// Makes changes in order, and returns the number of the last, as termwiz counts it: the number
     /// before, less one unless it is 0, plus how many they are. A list with a scroll whose region
-    /// goes past the last row is refused as a whole.
+    /// goes past the last row is refused as a whole; after another error the first of them may have
+    /// been made.
     ///
     /// ```
     /// use tikeburo::{Change, Error, Surface};
@@ -165,10 +166,11 @@ impl Surface {
     }
 
     /// The answer to what a client asks, as bytes for [`Client::feed`](crate::Client::feed): the
-    /// changes since it was answered last, or the whole screen where that is less, or is all that
-    /// is known.
+    /// whole screen, or the changes since the one that the client shows, where it shows this
+    /// surface's.
     ///
-    /// [`Error::Truncated`]: the ask is a beginning of one. [`Error::Unreadable`]: it is none.
+    /// [`Error::Truncated`]: the bytes end before the ask does. [`Error::Unreadable`]: they are
+    /// wrong at a byte, or more come behind the ask.
     pub fn respond(&mut self, ask: &Ask) -> Result<Vec<u8>, Error> {
         let handle = self.handle.get();
         let ask = ask.as_bytes();

@@ -33,9 +33,9 @@ impl Viewer {
         Ok(Viewer { screen })
     }
 
-    /// Shows what the source shows: its size too. It makes the changes since it followed last, where
-    /// that was the same surface and those are known, and else all anew; of a viewer or a client
-    /// always all. After an error it may show anything, and follows as ever at the next call.
+    /// Shows what the source shows: its size too. It makes the changes since it followed last,
+    /// where that was the same surface and those are known, and else all anew; of a viewer or a
+    /// client always all. After an error it may show anything, and the next call follows as ever.
     pub fn follow(&mut self, source: &Screen) -> Result<(), Error> {
         // Safety: both handles are live, and they are two, since one is borrowed alone.
         Error::check(unsafe { ffi::tk_follow(self.screen.handle.get(), source.handle.get()) })

@@ -141,6 +141,12 @@ fn limits_are_kept() {
             Err(error) => panic!("{error}"),
         }
     }
+    let limits = Limits {
+        cells: 36,
+        bytes: 0,
+    };
+    let refused = Client::with_limits(Widths::Unicode, limits);
+    assert_eq!(refused.unwrap_err(), Error::Range);
 }
 
 #[test]

@@ -315,6 +315,6 @@ fn surfaces_and_errors_are_displayed() {
     let error: Box<dyn std::error::Error> = Box::new(Error::Range);
     assert_eq!(
         error.to_string(),
-        "a row, a column, or a size is outside of its range"
+        "a row, a column, a size or a limit is outside of its range"
     );
 }

@@ -97,8 +97,7 @@ asked None old new refused = absurd cc
 
 pub serves_answered : (bytes : List ℕ) (surface client new : Option Kept) (old_room new_room : Buffer) (outcome : Outcome) → ServesIn surface client → AnswersIn bytes (surface, old_room) outcome (new, new_room) → ServesIn new client
 serves_answered bytes (Some (Surface s)) (Some (Client c)) (Some (Surface t)) old_room new_room outcome serves answers = elim answers.others [
-  | inl (inl unreadable) ↦ subst (λ (u : SourceValue ChosenWidths). Serves columns_by u c) (sym (ap (λ (p : SourceValue ChosenWidths × Buffer). p.0) unreadable.1)) serves
-  | inl (inr truncated) ↦ subst (λ (u : SourceValue ChosenWidths). Serves columns_by u c) (sym (ap (λ (p : SourceValue ChosenWidths × Buffer). p.0) truncated.1)) serves
+  | inl unread ↦ subst (λ (u : SourceValue ChosenWidths). Serves columns_by u c) (sym (ap (λ (p : SourceValue ChosenWidths × Buffer). p.0) unread.1)) serves
   | inr (inl refused) ↦ subst (λ (u : SourceValue ChosenWidths). Serves columns_by u c) (sym (ap (λ (p : SourceValue ChosenWidths × Buffer). p.0) refused.1)) serves
   | inr (inr answered) ↦ answered.2.goes_on.serves c serves
 ]

@@ -10,14 +10,15 @@ use Rattle.termwiz_share.specs.Source.{SourceValue, trimmed}
 use Rattle.termwiz_surface_core.specs.Adding.{Adds}
 use Rattle.termwiz_surface_core.specs.Following.{KeepsViewers}
 use Rattle.termwiz_surface_core.specs.declared.surface.SurfaceError.{SurfaceError}
+use Rattle.termwiz_wire.specs.Answers.{changes_at}
 use Rattle.termwiz_wire.specs.Encoding.{changes}
 use Rattle.termwiz_wire.specs.Forms.{AreChanges}
 use Rattle.tikeburo_c.specs.Handles.{kept_of}
-use Rattle.tikeburo_c.specs.Outcomes.{Outcome, Reports, status_of, outcome_of, changing_failure}
-use Rattle.tikeburo_c.specs.Results.{NotRead, OnSurface, OrNoMemory}
+use Rattle.tikeburo_c.specs.Outcomes.{Outcome, Reports, status_of, outcome_of, changing_failure, unread_as}
+use Rattle.tikeburo_c.specs.Results.{OnSurface, OrNoMemory, Refused}
 use Rattle.tikeburo_c.specs.Widths.{columns_by}
 use Rattle.tikeburo_c.specs.declared.failure.Failure.{Failure}
-use Rattle.tikeburo_c.specs.declared.failure.Failure.TheVariants.{Memory, Range, Truncated, Unreadable}
+use Rattle.tikeburo_c.specs.declared.failure.Failure.TheVariants.{Memory, Range}
 use Rattle.tikeburo_c.specs.declared.handle.Handle.{Handle}
 use Rattle.tikeburo_c.specs.declared.widths.ChosenWidths.{ChosenWidths}
 
@@ -39,7 +40,7 @@ AddsOne change = AddsList (change ∷ [])
 -- the one list that the bytes encode, with nothing behind it
 abbrev pub IsOnlyList : (List ℕ → ℕ) → List ℕ → Result (Vec Change Global) Failure → Type 0
 IsOnlyList measure bytes (Ok x) = (bytes ≡ changes measure (map change_value x.items)) × ((cs : List ChangeValue) → AreChanges measure cs → bytes ≡ changes measure cs → map change_value x.items ≡ cs)
-IsOnlyList measure bytes (Err failure) = (failure ≡ Memory) ⊎ (((failure ≡ Unreadable) ⊎ (failure ≡ Truncated)) × ((cs : List ChangeValue) → AreChanges measure cs → bytes ≡ changes measure cs → ⊥))
+IsOnlyList measure bytes (Err failure) = (failure ≡ Memory) ⊎ ((failure ≡ unread_as (changes_at measure bytes)) × ((cs : List ChangeValue) → AreChanges measure cs → bytes ≡ changes measure cs → ⊥))
 
 -- some list of changes that the bytes encode is added
 abbrev pub AddsEncoded : List ℕ → SourceValue ChosenWidths → Outcome → SourceValue ChosenWidths → Type 0
@@ -48,8 +49,8 @@ AddsEncoded bytes old outcome new = (cs : List ChangeValue) × (bytes ≡ change
 -- the one list of changes that the bytes encode, by how the surface measures, is added, unless memory for it was refused
 pub record AddsBytes (bytes : List ℕ) (old : SourceValue ChosenWidths) (outcome : Outcome) (new : SourceValue ChosenWidths) : Type 0 where
   pub adds : (cs : List ChangeValue) → AreChanges (columns_by old.surface.widths) cs → bytes ≡ changes (columns_by old.surface.widths) cs → OrNoMemory (AddsList cs) old outcome new
-  -- whatever the bytes are, nothing has changed, or they encode a list that is added
-  pub others : NotRead old outcome new ⊎ OrNoMemory (AddsEncoded bytes) old outcome new
+  -- whatever the bytes are, they are refused by what is wrong with them, or encode a list that is added
+  pub others : Refused (unread_as (changes_at (columns_by old.surface.widths) bytes)) old outcome new ⊎ OrNoMemory (AddsEncoded bytes) old outcome new
 
 -- the call adds this change to the surface of the handle
 abbrev pub Makes : ChangeValue → Handle → ℤ → Handle → Type 0

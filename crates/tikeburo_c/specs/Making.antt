@@ -43,6 +43,10 @@ ResizesIn width height old outcome new = MatchBool (is_size width height) (OnSur
 abbrev pub blank_client : ChosenWidths → Limits → ClientValue ChosenWidths
 blank_client widths limits = record { surface = blank_surface widths 1 1 true; source = 0; number = 0; kept = []; limits = limits; stopped = None }
 
+-- the choice of widths, where there is one, and an answer may have so many bytes, and not 0
+abbrev pub widths_within : ℕ → ℕ → Option ChosenWidths
+widths_within bytes number = if nat_lt 0 bytes then widths_at number else None
+
 -- such a client is made, in the place of what the handle had
 abbrev pub MakesClient : Option ChosenWidths → Limits → Option Kept → Outcome → Option Kept → Type 0
 MakesClient (Some widths) limits = OrNoMemory (Returns (Some (Client (blank_client widths limits))))

@@ -1,9 +1,10 @@
 -- What a call returns: the number of its outcome.
-use Rattle.std.specs.Prelude.{◌≡◌, ℤ, pos, Result, Ok, Err}
+use Rattle.std.specs.Prelude.{◌≡◌, ℕ, ℤ, pos, List, Result, Ok, Err}
 use Rattle.cbor.specs.declared.error.FaultKind.{FaultKind}
 use Rattle.cbor.specs.declared.error.FaultKind.TheVariants as faults
 use Rattle.termwiz_surface_core.specs.declared.surface.SurfaceError.{SurfaceError}
 use Rattle.termwiz_surface_core.specs.declared.surface.SurfaceError.TheVariants as changing
+use Rattle.termwiz_wire.specs.declared.fault.Fault.{Fault}
 use Rattle.termwiz_wire.specs.declared.fault.WireError.{WireError}
 use Rattle.termwiz_wire.specs.declared.fault.WireError.TheVariants as decoding
 use Rattle.tikeburo_c.specs.declared.failure.Failure.{Failure}
@@ -39,6 +40,11 @@ changing_failure changing.Memory = Memory
 abbrev pub unread_by : FaultKind → Failure
 unread_by faults.Truncated = Truncated
 unread_by _ = Unreadable
+
+-- why bytes are no whole value, of which this is decoded: the fault, or bytes behind the value
+abbrev pub unread_as : {A : Type 0} → Result (A × List ℕ) Fault → Failure
+unread_as (Ok x) = Unreadable
+unread_as (Err f) = unread_by f.kind
 
 abbrev pub decoding_failure : WireError → Failure
 decoding_failure decoding.Memory = Memory

@@ -6,7 +6,7 @@ use Rattle.termwiz_surface_core.specs.SurfaceValue.{SurfaceValue}
 use Rattle.tikeburo_c.specs.Kept.{shown_of}
 use Rattle.tikeburo_c.specs.Outcomes.{Outcome}
 use Rattle.tikeburo_c.specs.declared.failure.Failure.{Failure}
-use Rattle.tikeburo_c.specs.declared.failure.Failure.TheVariants.{Memory, NoHandle, WrongKind, Short, Truncated, Unreadable}
+use Rattle.tikeburo_c.specs.declared.failure.Failure.TheVariants.{Memory, NoHandle, WrongKind, Short}
 use Rattle.tikeburo_c.specs.declared.followers.Follower.{Follower}
 use Rattle.tikeburo_c.specs.declared.kept.Kept.{Kept}
 use Rattle.tikeburo_c.specs.declared.kept.Kept.TheVariants.{Surface, Viewer, Client}
@@ -19,10 +19,6 @@ Refused failure old outcome new = (outcome ≡ Err failure) × (new ≡ old)
 -- this, unless memory was refused first, and nothing has changed
 abbrev pub OrNoMemory : {A : Type 0} → (A → Outcome → A → Type 0) → A → Outcome → A → Type 0
 OrNoMemory P old outcome new = Refused Memory old outcome new ⊎ P old outcome new
-
--- the bytes were not what is wanted, or the beginning of it, and nothing has changed
-abbrev pub NotRead : {A : Type 0} → A → Outcome → A → Type 0
-NotRead old outcome new = Refused Unreadable old outcome new ⊎ Refused Truncated old outcome new
 
 -- the call did this to the surface that the handle has
 abbrev pub OnSurface : (SourceValue ChosenWidths → Outcome → SourceValue ChosenWidths → Type 0) → Option Kept → Outcome → Option Kept → Type 0

@@ -10,16 +10,17 @@ use Rattle.termwiz_share.specs.Source.{IsResponse, SourceValue, trimmed}
 use Rattle.termwiz_share.specs.declared.error.ClientError.{ClientError}
 use Rattle.termwiz_share.specs.declared.error.ClientError.TheVariants as errors
 use Rattle.termwiz_screen.specs.FullScreen.{FullScreen}
+use Rattle.termwiz_wire.specs.Answers.{ask_at}
 use Rattle.termwiz_wire.specs.Sent.{IsAsk, ask}
 use Rattle.termwiz_wire.specs.declared.fault.Fault.{Fault}
 use Rattle.termwiz_wire.specs.declared.sent.Ask.{Ask}
 use Rattle.tikeburo_c.specs.Changes.{GoesOn}
-use Rattle.tikeburo_c.specs.Outcomes.{Outcome}
-use Rattle.tikeburo_c.specs.Results.{Buffer, Gives, NotRead, OrNoMemory, Refused}
+use Rattle.tikeburo_c.specs.Outcomes.{Outcome, unread_as}
+use Rattle.tikeburo_c.specs.Results.{Buffer, Gives, OrNoMemory, Refused}
 use Rattle.tikeburo_c.specs.Widths.{columns_by}
 use Rattle.tikeburo_c.specs.declared.clients.FaultFields.{FaultFields}
 use Rattle.tikeburo_c.specs.declared.failure.Failure.{Failure}
-use Rattle.tikeburo_c.specs.declared.failure.Failure.TheVariants.{Memory, NoHandle, Numbers, Truncated, Unreadable, WrongKind}
+use Rattle.tikeburo_c.specs.declared.failure.Failure.TheVariants.{Memory, NoHandle, Numbers, Unreadable, WrongKind}
 use Rattle.tikeburo_c.specs.declared.kept.Kept.{Kept}
 use Rattle.tikeburo_c.specs.declared.kept.Kept.TheVariants.{Surface, Viewer, Client}
 use Rattle.tikeburo_c.specs.declared.widths.ChosenWidths.{ChosenWidths}
@@ -29,7 +30,7 @@ use Rattle.tikeburo_c.specs.declared.widths.ChosenWidths.{ChosenWidths}
 -- the one ask that the bytes encode, with nothing behind it
 abbrev pub IsOnlyAsk : List ℕ → Result Ask Failure → Type 0
 IsOnlyAsk bytes (Ok a) = (bytes ≡ ask a) × ((b : Ask) → IsAsk b → bytes ≡ ask b → a ≡ b)
-IsOnlyAsk bytes (Err failure) = (failure ≡ Memory) ⊎ (((failure ≡ Unreadable) ⊎ (failure ≡ Truncated)) × ((a : Ask) → IsAsk a → bytes ≡ ask a → ⊥))
+IsOnlyAsk bytes (Err failure) = (failure ≡ Memory) ⊎ ((failure ≡ unread_as (ask_at bytes)) × ((a : Ask) → IsAsk a → bytes ≡ ask a → ⊥))
 
 -- a surface, and a caller's buffer
 abbrev pub Answering : Type 0
@@ -50,8 +51,8 @@ AnswersEncoded bytes old outcome new = (a : Ask) × (bytes ≡ ask a) × Answers
 -- the one ask that the bytes encode is answered, unless memory was refused
 pub record AnswersBytes (bytes : List ℕ) (old : Answering) (outcome : Outcome) (new : Answering) : Type 0 where
   pub answers : (a : Ask) → IsAsk a → bytes ≡ ask a → OrNoMemory (AnswersAsk a) old outcome new
-  -- whatever the bytes are, nothing has changed, or they encode an ask that is answered
-  pub others : NotRead old outcome new ⊎ OrNoMemory (AnswersEncoded bytes) old outcome new
+  -- whatever the bytes are, they are refused by what is wrong with them, or encode an ask that is answered
+  pub others : Refused (unread_as (ask_at bytes)) old outcome new ⊎ OrNoMemory (AnswersEncoded bytes) old outcome new
 
 -- by the surface that the handle has
 abbrev pub AnswersIn : List ℕ → Option Kept × Buffer → Outcome → Option Kept × Buffer → Type 0

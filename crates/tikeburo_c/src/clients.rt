@@ -1,13 +1,12 @@
 //! Clients: how they are made, ask, and are fed.
-ghost use Rattle.std.specs.Prelude.{◌≡◌, IfErr, IfOk};
+ghost use Rattle.std.specs.Prelude.{◌≡◌, ◌<◌, IfErr, IfOk};
 ghost use Rattle.tikeburo_c.specs.Handles.{kept_of};
-ghost use Rattle.tikeburo_c.specs.Making.{MakesClient, blank_client};
+ghost use Rattle.tikeburo_c.specs.Making.{MakesClient, blank_client, widths_within};
 ghost use Rattle.tikeburo_c.specs.Outcomes.{Reports};
 ghost use Rattle.tikeburo_c.specs.Results.{OnClient, OrNoMemory};
 ghost use Rattle.tikeburo_c.specs.Streams.{FeedsBytes, FeedsIn, GivesAsk, GivesOne, Reaches};
 ghost use Rattle.tikeburo_c.specs.Streams.{Resets};
 ghost use Rattle.tikeburo_c.specs.Streams.{fault_number, fields_at, named_ask};
-ghost use Rattle.tikeburo_c.specs.Widths.{widths_at};
 ghost use Rattle.tikeburo_c.specs.declared.failure.Failure.TheVariants.{Memory};
 ghost use Rattle.tikeburo_c.specs.declared.kept.Kept.TheVariants as kinds;
 ghost use Rattle.termwiz_share.specs.Client.{ask_of};
@@ -37,6 +36,7 @@ fn blank_client(
     widths: ChosenWidths,
     limits: Limits,
 ) -> Result<Box<Kept>, Failure>
+    requires some { 0 < limits.bytes }
     ensures made { IfOk result (λ kept. kept.value ≡ kinds.Client (blank_client widths limits)) }
     ensures memory { IfErr result (λ failure. failure ≡ Memory) }
 {
@@ -51,9 +51,12 @@ fn make_client(
     widths: u8,
     limits: Limits,
 ) -> Result<(), Failure>
-    ensures { MakesClient (widths_at widths) limits
+    ensures { MakesClient (widths_within limits.bytes widths) limits
         (kept_of handle.old) result (kept_of handle.new) }
 {
+    if limits.bytes == 0 {
+        return Err(Failure::Range);
+    }
     let Some(widths) = ChosenWidths::at(widths) else {
         return Err(Failure::Range);
     };
@@ -63,7 +66,7 @@ fn make_client(
 }
 
 /// Makes a client that shows nothing yet, measures by the chosen widths, and takes no answer of
-/// more cells or bytes.
+/// more cells or bytes: a limit of no bytes is out of its range.
 #[unsafe(no_mangle)]
 pub extern "C" fn tk_client_new(
     alloc: Global,
@@ -72,7 +75,7 @@ pub extern "C" fn tk_client_new(
     cells: usize,
     bytes: usize,
 ) -> i32
-    ensures { Reports result (λ outcome. MakesClient (widths_at widths)
+    ensures { Reports result (λ outcome. MakesClient (widths_within bytes widths)
         (record { cells = cells; bytes = bytes })
         (kept_of handle.old) outcome (kept_of handle.new)) }
 {

@@ -36,12 +36,13 @@ pub fn read_request(input: &mut impl BufRead) -> io::Result<Option<Request>> {
             _ => {}
         }
     }
-    let length = length.unwrap_or(0);
-    let mut words = first.split(' ');
-    let (Some(method), Some(path), true) = (words.next(), words.next(), length <= LONGEST_BODY)
-    else {
-        return Err(ErrorKind::InvalidData.into());
+    let (invalid, length) = (ErrorKind::InvalidData, length.unwrap_or(0));
+    let &[method, path, "HTTP/1.1"] = &*first.split(' ').collect::<Vec<_>>() else {
+        return Err(invalid.into());
     };
+    if length > LONGEST_BODY {
+        return Err(invalid.into());
+    }
     let mut request = Request { method: method.into(), path: path.into(), body: vec![0; length] };
     input.read_exact(&mut request.body)?;
     Ok(Some(request))

@@ -30,7 +30,7 @@ const USAGE: &str = "usage: share [--port N] [--record FILE] [--] PROGRAM [WORD.
 const SIZE: (usize, usize) = (80, 24); // where there is no window
 const FRAME: Duration = Duration::from_millis(16); // no answers come faster
 const LOOK: Duration = Duration::from_millis(100); // how often the window's size is looked at
-const LAST: Duration = Duration::from_secs(1); // how long viewers have to get the last screen
+const LAST: Duration = Duration::from_secs(2); // how long viewers have to get the last screen
 
 /// Why the program ends early.
 pub enum Failure {
@@ -127,10 +127,10 @@ fn follow(source: &mut Source, pty: &File, events: &Receiver<Event>) -> Result<(
 }
 
 /// Shows the last screen to those who have not seen it.
-fn finish(source: &mut Source, events: &Receiver<Event>) -> Result<(), Failure> {
+fn finish(source: &mut Source, server: &Server, events: &Receiver<Event>) -> Result<(), Failure> {
     let began = Instant::now();
     source.end()?;
-    while began.elapsed() < LAST {
+    while server.is_watched() && began.elapsed() < LAST {
         if let Ok(Event::Asked(question)) = events.recv_timeout(FRAME) {
             source.wait(question);
             source.answer_all()?;
@@ -147,8 +147,9 @@ fn share(options: &Options) -> Result<ExitCode, Failure> {
     let recording = recording.map_err(Failure::system("making the recording"))?;
     let mut source = Source::new(Terminal::new(size.0, size.1)?, recording)?;
     let (sender, events) = mpsc::sync_channel(64);
-    let address = Server::start(options.port, sender.clone(), Client::new()?.ask()?);
-    eprintln!("{}", address.map_err(Failure::system("listening"))?);
+    let server = Server::start(options.port, sender.clone(), Client::new()?.ask()?);
+    let server = server.map_err(Failure::system("listening"))?;
+    eprintln!("{}", server.address);
 
     let is_window = io::stdin().is_terminal();
     if is_window {
@@ -165,7 +166,7 @@ fn share(options: &Options) -> Result<ExitCode, Failure> {
         thread::spawn(move || io::copy(&mut io::stdin(), &mut input));
     }
     follow(&mut source, &pty, &events)?;
-    finish(&mut source, &events)?;
+    finish(&mut source, &server, &events)?;
     drop(window);
     if IS_STOPPED.load(Ordering::Relaxed) {
         return Ok(ExitCode::FAILURE);

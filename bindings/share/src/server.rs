@@ -2,7 +2,7 @@
 
 use crate::http::{read_request, respond, write_chunk, Request};
 use crate::source::{Answer, Event, Question};
-use std::net::{Ipv4Addr, TcpListener, TcpStream};
+use std::net::{Ipv4Addr, Shutdown, TcpListener, TcpStream};
 use std::sync::{mpsc, mpsc::SyncSender, Arc};
 use std::{fs::File, hint::black_box, io, io::ErrorKind, io::Read, thread, time::Duration};
 use tikeburo::Ask;
@@ -45,29 +45,43 @@ fn is_same(one: &[u8], other: &[u8]) -> bool {
     one.len() == other.len() && one.iter().zip(other).fold(0, differ) == 0
 }
 
+/// Serves by threads of its own: one that listens, and one for each connection.
 pub struct Server {
-    token: String,
-    events: SyncSender<Event>,
-    nothing: Ask, // of a viewer that has nothing
+    pub address: String,
+    site: Arc<Site>,
 }
 
 impl Server {
-    /// Serves from now on, by threads of its own, and returns the page's address.
-    pub fn start(port: u16, events: SyncSender<Event>, nothing: Ask) -> io::Result<String> {
+    /// `nothing` is the ask of a viewer that shows nothing yet.
+    pub fn start(port: u16, events: SyncSender<Event>, nothing: Ask) -> io::Result<Server> {
         let listener = TcpListener::bind((Ipv4Addr::LOCALHOST, port))?;
-        let server = Server { token: random_token()?, events, nothing };
-        let address = format!("http://{}/{}/?pull", listener.local_addr()?, server.token);
-        thread::spawn(move || Arc::new(server).listen(&listener));
-        Ok(address)
+        let site = Arc::new(Site { token: random_token()?, events, nothing });
+        let address = format!("http://{}/{}/?pull", listener.local_addr()?, site.token);
+        let server = Server { address, site: Arc::clone(&site) };
+        thread::spawn(move || site.listen(&listener));
+        Ok(server)
     }
 
-    fn listen(self: Arc<Server>, listener: &TcpListener) {
+    /// Whether a connection is open.
+    pub fn is_watched(&self) -> bool {
+        Arc::strong_count(&self.site) > 2
+    }
+}
+
+struct Site {
+    token: String,
+    events: SyncSender<Event>,
+    nothing: Ask,
+}
+
+impl Site {
+    fn listen(self: Arc<Site>, listener: &TcpListener) {
         loop {
-            let server = Arc::clone(&self);
             match listener.accept() {
                 // A connection that is lost, or that there is no thread for, is its viewer's matter.
                 Ok((stream, _)) if Arc::strong_count(&self) <= MOST_CONNECTIONS => {
-                    let _ = thread::Builder::new().spawn(move || server.talk(&stream));
+                    let site = Arc::clone(&self);
+                    let _ = thread::Builder::new().spawn(move || site.talk(&stream));
                 }
                 Ok(_) => {}
                 Err(_) => thread::sleep(Duration::from_millis(100)),
@@ -106,7 +120,10 @@ impl Server {
             ("POST", None) if name == "stream" => match self.ask(Ask::from(request.body)) {
                 Some(Ok(answer)) => respond(stream, "200 OK", SEQUENCE, Some(&answer.bytes)),
                 Some(Err(_)) => respond(stream, "400 Bad Request", TEXT, Some(b"")),
-                None => respond(stream, "410 Gone", TEXT, Some(b"")),
+                None => {
+                    respond(stream, "410 Gone", TEXT, Some(b""))?;
+                    stream.shutdown(Shutdown::Both)
+                }
             },
             _ => respond(stream, "404 Not Found", TEXT, Some(b"")),
         }
@@ -127,6 +144,7 @@ impl Server {
             write_chunk(stream, &answer.bytes)?;
             ask = answer.next;
         }
-        write_chunk(stream, b"")
+        write_chunk(stream, b"")?;
+        stream.shutdown(Shutdown::Both)
     }
 }

@@ -1,0 +1,266 @@
+// The program `share`, as it is used: `SHARE=PROGRAM node --test share.mjs`. It runs in a window of
+// `script`, whose size is set by `stty`.
+import assert from 'node:assert/strict';
+import { execFileSync, spawn } from 'node:child_process';
+import { once } from 'node:events';
+import { mkdtempSync, readFileSync, rmSync } from 'node:fs';
+import { Agent, request } from 'node:http';
+import { connect } from 'node:net';
+import { tmpdir } from 'node:os';
+import { join } from 'node:path';
+import test, { after, before } from 'node:test';
+import { fileURLToPath } from 'node:url';
+import { Chromium, findChromium } from '../../js/test/chromium.mjs';
+import { randomFrom } from '../../js/test/random.mjs';
+import { Player, readRecording } from '../../js/recording.mjs';
+import { Client, styleOf } from '../../js/tikeburo.mjs';
+import { contentsOf, follow } from './follow.mjs';
+
+const CLIENTS = 200;
+const here = name => fileURLToPath(new URL(name, import.meta.url));
+const folder = mkdtempSync(join(tmpdir(), 'share-'));
+const program = findChromium();
+const pause = milliseconds => new Promise(done => setTimeout(done, milliseconds));
+
+async function until(holds, what) {
+    for (let left = 500; !await holds(); left--) {
+        assert.ok(left, `still not: ${what}`);
+        await pause(20);
+    }
+}
+
+/** `share` in a window. What is sent to it are its user's keys. */
+class Shared {
+    output = '';
+
+    constructor(...words) {
+        const [tty, record] = [join(folder, 'tty'), join(folder, 'record')];
+        Object.assign(this, { tty, record });
+        const command = [process.env.SHARE, '--record', record, ...words].join(' ');
+        const line = `stty cols 80 rows 24; tty >${tty}; exec ${command}`;
+        this.process = spawn('script', ['-qefc', line, '/dev/null']);
+        this.process.stdout.on('data', data => this.output += data);
+        this.ended = once(this.process, 'exit');
+    }
+
+    async start() {
+        await until(() => this.output.includes('Press Enter'), 'an address');
+        const [, address] = /(http:\S+)\?pull/.exec(this.output);
+        this.address = address;
+        this.stream = `${address}stream`;
+        this.port = Number(new URL(address).port);
+        this.press('\r');
+    }
+
+    press(keys) {
+        this.process.stdin.write(keys);
+    }
+
+    resize(width, height) {
+        const tty = readFileSync(this.tty, 'utf8').trim();
+        execFileSync('stty', ['-F', tty, 'cols', String(width), 'rows', String(height)]);
+    }
+}
+
+const shared = new Shared('--', process.execPath, here('painter.mjs'));
+const early = new Client(), streamed = new Client();
+let stream = null, browser = null, page = null, stopped = null;
+
+/** Another process that follows, and what it prints at the end. */
+function followElsewhere() {
+    const follower = spawn(process.execPath, [here('follow.mjs'), shared.stream]);
+    Object.assign(follower, { told: '', output: '' });
+    follower.stderr.on('data', data => follower.told += data);
+    follower.stdout.on('data', data => follower.output += data);
+    follower.last = once(follower, 'close').then(() => JSON.parse(follower.output));
+    return follower;
+}
+
+/** The stream of a `GET`, whose answers nobody asks for. */
+async function followStream() {
+    const response = await fetch(shared.stream);
+    for await (const chunk of response.body) streamed.feed(chunk);
+    assert.equal(streamed.end(), null);
+}
+
+/** Whether a client has all that the painter paints in this size. */
+const hasSize = (width, height) => ({ screen }) => screen.title === `${width} by ${height}`
+    && screen.height === height && screen.text(height - 1).startsWith('か');
+
+before(async () => {
+    await shared.start();
+    if (program) browser = new Chromium(program);
+});
+after(async () => {
+    await browser?.close();
+    shared.process.kill();
+    rmSync(folder, { recursive: true });
+});
+
+// What a terminal of 50 columns and 14 rows shows of what the painter writes.
+const ROWS = [
+    'size 50 14',
+    'bold red wave palette',
+    'か漢字 and ﾊﾝ, wide',
+    '🙂👩‍🚀🇩🇪 e\u0301 ☂️|',
+    '',
+    'a link ┌─┐',
+    'line in  42',
+    '',
+    '',
+    'ne 43',
+    'line 44',
+    'line 45',
+    `line 46${' '.repeat(39)}wrap`,
+    'かne 47',
+];
+const attributesAt = (screen, column, y) =>
+    [...screen.cells(y)].find(([x]) => x === column)[1].attributes;
+
+function judge(screen) {
+    assert.deepEqual(ROWS.map((_, y) => screen.text(y).trimEnd()), ROWS);
+    assert.deepEqual([screen.width, screen.height, screen.title], [50, 14, '50 by 14']);
+    assert.deepEqual(screen.cursor, { x: 4, y: 1, visible: true, shape: 5, color: null });
+    const red = attributesAt(screen, 0, 1), wave = attributesAt(screen, 9, 1);
+    assert.deepEqual([red.foreground, styleOf(red.style).intensity], [1, 1]);
+    assert.deepEqual([wave.underlineColor, styleOf(wave.style).underline], [[1, 2, 3], 3]);
+    const palette = attributesAt(screen, 14, 1);
+    assert.deepEqual([palette.foreground, styleOf(palette.style).reverse], [200, true]);
+    assert.deepEqual(attributesAt(screen, 49, 4).background, [10, 20, 30]);
+    assert.equal(attributesAt(screen, 0, 5).link.uri, 'https://example.org/');
+    const columns = Array.from(screen.cells(3)).slice(0, 8).map(([, cell]) => cell.columns);
+    assert.deepEqual(columns, [2, 2, 2, 1, 1, 1, 2, 1]);
+}
+
+test('colours, wide texts and emoji, in three sizes', { timeout: 20000 }, async () => {
+    stream = followStream();
+    await follow(early, shared.stream, hasSize(80, 24));
+    stopped = followElsewhere();
+    page = await browser?.open(shared.address + '?pull', 900, 600);
+    shared.resize(100, 30);
+    await follow(early, shared.stream, hasSize(100, 30));
+    await until(() => stopped.told.includes('size 100 30'), 'another size');
+    stopped.kill('SIGSTOP');
+    shared.resize(50, 14);
+    await follow(early, shared.stream, hasSize(50, 14));
+    judge(early.screen);
+});
+
+/** What comes back for these bytes until the connection ends, or after a while. */
+function sendRaw(...parts) {
+    return new Promise(done => {
+        const socket = connect(shared.port, '127.0.0.1'), texts = [];
+        const end = () => {
+            socket.destroy();
+            done(Buffer.concat(texts).toString('latin1'));
+        };
+        socket.on('data', data => texts.push(data)).on('error', end).on('close', end);
+        parts.forEach(part => socket.write(part));
+        setTimeout(end, 2000);
+    });
+}
+
+const statusOf = response => Number(/^HTTP\/1.1 (\d+) /.exec(response)?.[1]);
+const post = (path, length) => `POST ${path} HTTP/1.1\r\nhost: a\r\ncontent-length: ${length}\r\n\r\n`;
+
+test('what others send changes nothing', { timeout: 20000 }, async () => {
+    const { pathname } = new URL(shared.stream), random = randomFrom(58);
+    const bytes = Buffer.from(Array.from({ length: 1 << 17 }, () => random(256)));
+    const noise = length => bytes.subarray(random(1 << 16)).subarray(0, length);
+    const wrong = pathname.replace(/[0-9a-f]/, digit => (digit === '0' ? '1' : '0'));
+    const statuses = async (wanted, ...parts) =>
+        assert.equal(statusOf(await sendRaw(...parts)), wanted, `${parts[0]}`.slice(0, 60));
+    const ends = ' HTTP/1.1\r\nconnection: close\r\n\r\n';
+    await Promise.all([
+        statuses(404, `GET /${ends}`),
+        statuses(404, `GET /stream${ends}`),
+        statuses(404, `GET ${wrong}${ends}`),
+        statuses(404, `GET ${pathname.slice(0, -8)}/stream${ends}`),
+        statuses(404, post(wrong, early.ask().length), early.ask()),
+        statuses(404, `PUT ${pathname}${ends}`),
+        statuses(404, `GET ${pathname}/../../etc/passwd${ends}`),
+        statuses(400, post(pathname, 20), noise(20)),
+        statuses(400, post(pathname, 0)),
+        statuses(400, post(pathname, 3), early.ask().subarray(0, 3)),
+        statuses(400, post(pathname, 1e9)),
+        statuses(400, post(pathname, 'x')),
+        statuses(400, `POST ${pathname} HTTP/1.1\r\ntransfer-encoding: chunked\r\n\r\n`),
+        statuses(400, 'a line and no more\r\n\r\n'),
+        ...Array.from({ length: 50 }, () => sendRaw(noise(1 + random(5000)))),
+        ...Array.from({ length: 50 }, () => sendRaw(post(pathname, 1 << 20), noise(1 << 16))),
+        ...Array.from({ length: 50 }, () => sendRaw(post(pathname, 20))),
+        ...Array.from({ length: 50 }, async () => connect(shared.port, '127.0.0.1').destroy()),
+    ]);
+    const late = new Client();
+    await follow(late, shared.stream, hasSize(50, 14));
+    assert.deepEqual(contentsOf(late.screen), contentsOf(early.screen));
+});
+
+test(`${CLIENTS} clients at once`, { timeout: 30000 }, async () => {
+    const isLast = ({ screen }) => screen.width && screen.text(0).includes('frame 100');
+    const agent = new Agent({ keepAlive: true, maxSockets: CLIENTS });
+    const exchange = body => new Promise((done, fail) => {
+        const asked = request(shared.stream, { method: 'POST', agent }, async response => {
+            const parts = [];
+            for await (const part of response) parts.push(part);
+            done(Buffer.concat(parts));
+        });
+        asked.on('error', fail).end(body);
+    });
+    const clients = Array.from({ length: CLIENTS }, () => ({ client: new Client(), bytes: 0 }));
+    const step = async each => {
+        const answer = await exchange(each.client.ask());
+        each.bytes += answer.length;
+        each.client.feed(answer);
+    };
+    await Promise.all(clients.map(step));
+    const began = performance.now();
+    shared.press('r');
+    await Promise.all(clients.map(async each => {
+        while (!isLast(each.client)) await step(each);
+        each.time = performance.now() - began;
+    }));
+    agent.destroy();
+    const all = key => clients.map(each => (key === 'answers' ? each.client.answers : each[key]));
+    const mean = key => Math.round(all(key).reduce((sum, n) => sum + n) / CLIENTS);
+    const [bytes, answers, time] = ['bytes', 'answers', 'time'].map(mean);
+    console.log(`${CLIENTS} clients: ${answers} answers and ${bytes} bytes each, `
+        + `the last after ${time} ms, and after ${Math.round(Math.max(...all('time')))} at most`);
+    await follow(early, shared.stream, isLast);
+    const last = JSON.stringify(contentsOf(early.screen));
+    for (const { client } of clients) assert.equal(JSON.stringify(contentsOf(client.screen)), last);
+});
+
+test('a page shows the screen', { skip: !program && 'chromium is not there' }, async () => {
+    const element = "document.querySelector('tikeburo-screen')";
+    await page.until(`${element}.screen.text(0).includes('frame 100')`);
+    const rows = `[...${element}.shadowRoot.querySelectorAll('.row')].map(e => e.textContent)`;
+    await page.until(`${rows}[0].includes('frame 100')`);
+    const { screen } = early;
+    assert.deepEqual(await page.evaluate(rows), screen.rows.map((_, y) => screen.text(y)));
+    assert.equal(await page.evaluate('document.title'), screen.title);
+});
+
+test('all show the last screen at the end', { timeout: 20000 }, async () => {
+    const late = followElsewhere();
+    stopped.kill('SIGCONT');
+    for (const follower of [late, stopped]) {
+        await until(() => follower.told.includes('frame 100'), 'the last frame');
+    }
+    shared.press('q');
+    await follow(early, shared.stream);
+    const last = JSON.parse(JSON.stringify(contentsOf(early.screen)));
+    assert.deepEqual(await late.last, last);
+    assert.deepEqual(await stopped.last, last);
+    await stream;
+    assert.deepEqual(JSON.parse(JSON.stringify(contentsOf(streamed.screen))), last);
+    assert.deepEqual(await shared.ended, [7, null]);
+    const { entries, fault } = readRecording(readFileSync(shared.record));
+    assert.equal(fault, null);
+    const player = new Player(entries);
+    player.seek(player.duration);
+    assert.deepEqual(JSON.parse(JSON.stringify(contentsOf(player.client.screen))), last);
+    if (page) {
+        await page.until("document.querySelector('tikeburo-screen').state === 'ended'");
+    }
+});

@@ -142,7 +142,6 @@ fn finish(source: &mut Source, server: &Server, events: &Receiver<Event>) -> Res
 /// Runs the program, and returns its status.
 fn share(options: &Options) -> Result<ExitCode, Failure> {
     let size = pty::window_size().unwrap_or(SIZE);
-
     let recording = options.record.as_deref().map(Recording::create).transpose();
     let recording = recording.map_err(Failure::system("making the recording"))?;
     let mut source = Source::new(Terminal::new(size.0, size.1)?, recording)?;

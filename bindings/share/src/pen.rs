@@ -61,7 +61,7 @@ fn set_color(color: &mut ColorAttribute, param: &[u16], rest: &mut ParamsIter) {
         let more = if values == [2] { 3 } else { 1 };
         values.extend(rest.take(more).map(|value| value[0]));
     }
-    let values: Vec<u8> = values.iter().map(|value| *value as u8).collect();
+    let values: Vec<u8> = values.iter().map(|value| *value.min(&255) as u8).collect();
     *color = match values[..] {
         [5, index] => ColorAttribute::PaletteIndex(index),
         [2, red, green, blue] | [2, _, red, green, blue, ..] => {

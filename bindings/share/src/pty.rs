@@ -10,6 +10,8 @@ use std::{env, ffi::OsString, fs::File, io, mem, ptr};
 /// Whether a signal has asked this program to end.
 pub static IS_STOPPED: AtomicBool = AtomicBool::new(false);
 
+const LONGEST: u16 = 1000; // as wide or as high as viewers take
+
 extern "C" fn stop(_signal: c_int) {
     IS_STOPPED.store(true, Ordering::Relaxed);
 }
@@ -26,8 +28,8 @@ pub fn window_size() -> Option<(usize, usize)> {
     let mut size = winsize { ws_row: 0, ws_col: 0, ws_xpixel: 0, ws_ypixel: 0 };
     // Safety: the call writes the size alone.
     check(unsafe { libc::ioctl(STDOUT_FILENO, libc::TIOCGWINSZ, &mut size) }).ok()?;
-    let is_some = size.ws_col > 0 && size.ws_row > 0;
-    is_some.then(|| (size.ws_col.into(), size.ws_row.into()))
+    let within = |length: u16| (1..=LONGEST).contains(&length).then_some(usize::from(length));
+    Some((within(size.ws_col)?, within(size.ws_row)?))
 }
 
 /// While it is there, keys go to the program as they are typed.

@@ -158,6 +158,9 @@ impl Terminal {
     fn scroll(&mut self, rows: Range<usize>, count: usize, up: bool) {
         let (first_row, region_size) = (rows.start, rows.len());
         let scroll_count = count.min(region_size);
+        if scroll_count == 0 {
+            return;
+        }
         let (change, new) = if up {
             let new = rows.end - scroll_count..rows.end;
             (Change::ScrollRegionUp { first_row, region_size, scroll_count }, new)
@@ -172,23 +175,34 @@ impl Terminal {
     }
 
     fn put(&mut self, c: char) -> Result<(), Error> {
-        let Grapheme { text: before, columns, y } = &self.last;
-        let (mut text, mut start) = (String::from(c), self.cursor.x);
-        if !(before.is_ascii() && c.is_ascii()) && (columns.end, *y) == (start, self.cursor.y) {
-            let joined = format!("{before}{c}");
-            if self.ruler.columns(&joined)?.is_some() {
-                (text, start) = (joined, columns.start);
-            }
-        }
-        if text.len() <= LONGEST_GRAPHEME {
-            self.cursor.x = start;
-            self.put_grapheme(text)?;
+        if c.is_ascii() && self.last.text.is_ascii() {
+            self.put_grapheme(c.encode_utf8(&mut [0; 4]), 1);
+        } else if !self.join(c)? {
+            let text = String::from(c);
+            let columns = self.ruler.columns(&text)?.unwrap_or(1);
+            self.put_grapheme(&text, columns);
         }
         Ok(())
     }
 
-    fn put_grapheme(&mut self, text: String) -> Result<(), Error> {
-        let columns = if text.is_ascii() { 1 } else { self.ruler.columns(&text)?.unwrap_or(1) };
+    /// Whether the character joins the one before the cursor, which is printed anew with it.
+    fn join(&mut self, c: char) -> Result<bool, Error> {
+        let Grapheme { text, columns, y } = &self.last;
+        let (joined, start) = (format!("{text}{c}"), columns.start);
+        if (columns.end, *y) != (self.cursor.x, self.cursor.y) {
+            return Ok(false);
+        }
+        let Some(columns) = self.ruler.columns(&joined)? else {
+            return Ok(false);
+        };
+        if joined.len() <= LONGEST_GRAPHEME {
+            self.cursor.x = start;
+            self.put_grapheme(&joined, columns);
+        }
+        Ok(true)
+    }
+
+    fn put_grapheme(&mut self, text: &str, columns: usize) {
         if self.cursor.x + columns > self.width {
             if self.wraps {
                 self.cursor.x = 0;
@@ -197,9 +211,19 @@ impl Terminal {
                 self.cursor.x = self.width.saturating_sub(columns);
             }
         }
-        let start = self.cursor.x;
-        self.write(&text, columns);
-        self.last = Grapheme { text, columns: start..self.cursor.x, y: self.cursor.y };
+        (self.last.columns.start, self.last.y) = (self.cursor.x, self.cursor.y);
+        self.write(text, columns);
+        self.last.columns.end = self.cursor.x;
+        self.last.text.clear();
+        self.last.text.push_str(text);
+    }
+
+    /// Prints the last grapheme again.
+    fn repeat(&mut self, count: usize) -> Result<(), Error> {
+        let text = self.last.text.clone();
+        if let Some(columns) = self.ruler.columns(&text)? {
+            (0..count).for_each(|_| self.put_grapheme(&text, columns));
+        }
         Ok(())
     }
 
@@ -300,7 +324,7 @@ impl Terminal {
         let number = |index| params.iter().nth(index).map_or(0, |it: &[u16]| usize::from(it[0]));
         let (first, count) = (number(0), number(0).max(1));
         let (x, y) = (self.column(), self.cursor.y);
-        let below = y..self.region.end.max(y);
+        let below = if self.region.contains(&y) { y..self.region.end } else { y..y };
         match (between, last) {
             (b"", '@') => self.shift(count, true)?,
             (b"", 'A') => self.move_to(x, y.saturating_sub(count)),
@@ -326,10 +350,7 @@ impl Terminal {
             (b"", 'S') => self.scroll(self.region.clone(), count, true),
             (b"", 'T') => self.scroll(self.region.clone(), count, false),
             (b"", 'X') => self.write_blanks(x, count.min(self.width - x)),
-            (b"", 'b') => {
-                let text = self.last.text.clone();
-                (0..count).try_for_each(|_| self.put_grapheme(text.clone()))?;
-            }
+            (b"", 'b') => self.repeat(count)?,
             (b"", 'd') => self.move_to(x, count - 1),
             (b"?", 'h' | 'l') => {
                 params.iter().try_for_each(|mode| self.set_mode(mode[0], last == 'h'))?;
@@ -370,7 +391,9 @@ impl Perform for Terminal {
             true => DRAWINGS.chars().nth(place),
             false => None,
         };
-        self.attempt(|terminal| terminal.put(drawing.unwrap_or(c)));
+        if !c.is_control() {
+            self.attempt(|terminal| terminal.put(drawing.unwrap_or(c)));
+        }
     }
 
     fn execute(&mut self, byte: u8) {
@@ -389,8 +412,10 @@ impl Perform for Terminal {
         }
     }
 
-    fn csi_dispatch(&mut self, params: &Params, between: &[u8], _is_cut: bool, last: char) {
-        self.attempt(|terminal| terminal.control(params, between, last));
+    fn csi_dispatch(&mut self, params: &Params, between: &[u8], is_cut: bool, last: char) {
+        if !is_cut {
+            self.attempt(|terminal| terminal.control(params, between, last));
+        }
     }
 
     fn esc_dispatch(&mut self, between: &[u8], _is_cut: bool, last: u8) {

@@ -324,15 +324,18 @@ impl Terminal {
         let number = |index| params.iter().nth(index).map_or(0, |it: &[u16]| usize::from(it[0]));
         let (first, count) = (number(0), number(0).max(1));
         let (x, y) = (self.column(), self.cursor.y);
-        let below = if self.region.contains(&y) { y..self.region.end } else { y..y };
+        let Range { start, end } = self.region;
+        let first_row = if y < start { 0 } else { start };
+        let last_row = if y < end { end - 1 } else { self.height - 1 };
+        let below = if self.region.contains(&y) { y..end } else { y..y };
         match (between, last) {
             (b"", '@') => self.shift(count, true)?,
-            (b"", 'A') => self.move_to(x, y.saturating_sub(count)),
-            (b"", 'B' | 'e') => self.move_to(x, y + count),
+            (b"", 'A') => self.move_to(x, first_row.max(y.saturating_sub(count))),
+            (b"", 'B' | 'e') => self.move_to(x, last_row.min(y + count)),
             (b"", 'C' | 'a') => self.move_to(x + count, y),
             (b"", 'D') => self.move_to(x.saturating_sub(count), y),
-            (b"", 'E') => self.move_to(0, y + count),
-            (b"", 'F') => self.move_to(0, y.saturating_sub(count)),
+            (b"", 'E') => self.move_to(0, last_row.min(y + count)),
+            (b"", 'F') => self.move_to(0, first_row.max(y.saturating_sub(count))),
             (b"", 'G' | '`') => self.move_to(count - 1, y),
             (b"", 'H' | 'f') => self.move_to(number(1).max(1) - 1, count - 1),
             (b"", 'J') if first == 0 => self.clear(x, y, Change::ClearToEndOfScreen),

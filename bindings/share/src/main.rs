@@ -2,10 +2,8 @@
 //! `share [--port N] [--record FILE] [--] PROGRAM [WORD..]`
 
 mod http;
-mod pen;
 mod pty;
 mod recording;
-mod ruler;
 mod server;
 mod source;
 mod terminal;

@@ -4,7 +4,8 @@ use crate::http::{read_request, respond, write_chunk, Request};
 use crate::source::{Answer, Event, Question};
 use std::net::{Ipv4Addr, Shutdown, TcpListener, TcpStream};
 use std::sync::{mpsc, mpsc::SyncSender, Arc};
-use std::{fs::File, hint::black_box, io, io::ErrorKind, io::Read, thread, time::Duration};
+use std::time::{Duration, Instant};
+use std::{fs::File, hint::black_box, io, io::ErrorKind, io::Read, thread};
 use tikeburo::Ask;
 
 const MOST_CONNECTIONS: usize = 900;
@@ -132,7 +133,8 @@ impl Site {
     /// The answer, once there is one, or nothing at the end.
     fn ask(&self, ask: Ask) -> Option<Result<Answer, tikeburo::Error>> {
         let (reply, answer) = mpsc::channel();
-        self.events.send(Event::Asked(Question::new(ask, reply))).ok()?;
+        let since = Instant::now();
+        self.events.send(Event::Asked(Question { ask, reply, since })).ok()?;
         answer.recv().ok()
     }
 

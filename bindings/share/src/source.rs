@@ -11,22 +11,18 @@ use tikeburo::{Ask, Client, Error};
 /// After so long a viewer gets an answer without changes, so that a lost one is found.
 const PATIENCE: Duration = Duration::from_secs(20);
 
+/// What comes to the thread that has the source.
 pub enum Event {
     Output(Vec<u8>),
     Asked(Question),
     Ended,
 }
 
+/// An ask, and where the answer goes.
 pub struct Question {
-    ask: Ask,
-    reply: Sender<Result<Answer, Error>>,
-    since: Instant,
-}
-
-impl Question {
-    pub fn new(ask: Ask, reply: Sender<Result<Answer, Error>>) -> Question {
-        Question { ask, reply, since: Instant::now() }
-    }
+    pub ask: Ask,
+    pub reply: Sender<Result<Answer, Error>>,
+    pub since: Instant,
 }
 
 /// An answer's bytes, and what to ask behind it.
@@ -77,11 +73,10 @@ impl Source {
     pub fn answer_all(&mut self) -> Result<(), Failure> {
         let newest = self.newest.ask()?;
         for question in mem::take(&mut self.waiting) {
-            if question.ask == newest && self.is_over {
-                continue;
-            }
             if question.ask == newest && question.since.elapsed() < PATIENCE {
-                self.waiting.push(question);
+                if !self.is_over {
+                    self.waiting.push(question);
+                }
                 continue;
             }
             let answer = match self.answer(question.ask) {

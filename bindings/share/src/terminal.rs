@@ -1,6 +1,9 @@
 //! A terminal: escape sequences become changes of a surface.
 
-use crate::{pen, ruler::Ruler};
+mod pen;
+mod ruler;
+
+use ruler::Ruler;
 use std::{mem, ops::Range};
 use tikeburo::{Attributes, Change, ColorAttribute, CursorShape, CursorVisibility, Error};
 use tikeburo::{Hyperlink, Position, Surface};

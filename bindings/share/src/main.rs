@@ -15,6 +15,7 @@ use source::{Event, Source};
 use std::ffi::OsString;
 use std::fs::File;
 use std::io::{self, IsTerminal, Read, Write};
+use std::os::unix::process::ExitStatusExt;
 use std::path::PathBuf;
 use std::process::ExitCode;
 use std::sync::atomic::Ordering;
@@ -169,7 +170,8 @@ fn share(options: &Options) -> Result<ExitCode, Failure> {
         return Ok(ExitCode::FAILURE);
     }
     let status = child.wait().map_err(Failure::system("waiting for the program"))?;
-    Ok(ExitCode::from(status.code().unwrap_or(1) as u8))
+    let code = status.code().or_else(|| Some(128 + status.signal()?));
+    Ok(ExitCode::from(code.unwrap_or(1) as u8))
 }
 
 fn main() -> ExitCode {

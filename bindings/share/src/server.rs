@@ -79,7 +79,7 @@ impl Site {
     fn listen(self: Arc<Site>, listener: &TcpListener) {
         loop {
             match listener.accept() {
-                // A connection that is lost, or that there is no thread for, is its viewer's matter.
+                // A connection that is lost, or finds no thread, is its viewer's matter.
                 Ok((stream, _)) if Arc::strong_count(&self) <= MOST_CONNECTIONS => {
                     let site = Arc::clone(&self);
                     let _ = thread::Builder::new().spawn(move || site.talk(&stream));

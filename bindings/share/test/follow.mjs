@@ -1,5 +1,5 @@
-// `node follow.mjs ADDRESS` follows a shared terminal by asks, and prints its last screen, and on its
-// second output the first row of each.
+// `node follow.mjs ADDRESS` follows a shared terminal by asks. It prints the last screen, and on
+// its second output the first row of each.
 import { fileURLToPath } from 'node:url';
 import { Client } from '../../js/tikeburo.mjs';
 

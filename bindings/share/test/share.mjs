@@ -4,7 +4,6 @@ import assert from 'node:assert/strict';
 import { execFileSync, spawn } from 'node:child_process';
 import { once } from 'node:events';
 import { mkdtempSync, readFileSync, rmSync } from 'node:fs';
-import { Agent, request } from 'node:http';
 import { connect } from 'node:net';
 import { tmpdir } from 'node:os';
 import { join } from 'node:path';
@@ -146,22 +145,27 @@ test('colours, wide texts and emoji, in three sizes', { timeout: 20000 }, async 
     judge(early.screen);
 });
 
-/** What comes back for these bytes until the connection ends, or after a while. */
-function sendRaw(...parts) {
+/** The head that comes back for these bytes, or nothing after a while. */
+function sendRaw(milliseconds, ...parts) {
     return new Promise(done => {
-        const socket = connect(shared.port, '127.0.0.1'), texts = [];
+        const socket = connect(shared.port, '127.0.0.1');
+        let text = '';
         const end = () => {
             socket.destroy();
-            done(Buffer.concat(texts).toString('latin1'));
+            done(text);
         };
-        socket.on('data', data => texts.push(data)).on('error', end).on('close', end);
+        socket.on('error', end).on('close', end).setEncoding('latin1').on('data', data => {
+            text += data;
+            if (text.includes('\r\n\r\n')) end();
+        });
         parts.forEach(part => socket.write(part));
-        setTimeout(end, 2000);
+        setTimeout(end, milliseconds).unref();
     });
 }
 
 const statusOf = response => Number(/^HTTP\/1.1 (\d+) /.exec(response)?.[1]);
-const post = (path, length) => `POST ${path} HTTP/1.1\r\nhost: a\r\ncontent-length: ${length}\r\n\r\n`;
+const post = (path, length) =>
+    `POST ${path} HTTP/1.1\r\nhost: a\r\ncontent-length: ${length}\r\n\r\n`;
 
 test('what others send changes nothing', { timeout: 20000 }, async () => {
     const { pathname } = new URL(shared.stream), random = randomFrom(58);
@@ -169,7 +173,7 @@ test('what others send changes nothing', { timeout: 20000 }, async () => {
     const noise = length => bytes.subarray(random(1 << 16)).subarray(0, length);
     const wrong = pathname.replace(/[0-9a-f]/, digit => (digit === '0' ? '1' : '0'));
     const statuses = async (wanted, ...parts) =>
-        assert.equal(statusOf(await sendRaw(...parts)), wanted, `${parts[0]}`.slice(0, 60));
+        assert.equal(statusOf(await sendRaw(10000, ...parts)), wanted, `${parts[0]}`.slice(0, 60));
     const ends = ' HTTP/1.1\r\nconnection: close\r\n\r\n';
     await Promise.all([
         statuses(404, `GET /${ends}`),
@@ -186,9 +190,9 @@ test('what others send changes nothing', { timeout: 20000 }, async () => {
         statuses(400, post(pathname, 'x')),
         statuses(400, `POST ${pathname} HTTP/1.1\r\ntransfer-encoding: chunked\r\n\r\n`),
         statuses(400, 'a line and no more\r\n\r\n'),
-        ...Array.from({ length: 50 }, () => sendRaw(noise(1 + random(5000)))),
-        ...Array.from({ length: 50 }, () => sendRaw(post(pathname, 1 << 20), noise(1 << 16))),
-        ...Array.from({ length: 50 }, () => sendRaw(post(pathname, 20))),
+        ...Array.from({ length: 50 }, () => sendRaw(1000, noise(1 + random(5000)))),
+        ...Array.from({ length: 50 }, () => sendRaw(1000, post(pathname, 1 << 20), noise(1 << 16))),
+        ...Array.from({ length: 50 }, () => sendRaw(1000, post(pathname, 20))),
         ...Array.from({ length: 50 }, async () => connect(shared.port, '127.0.0.1').destroy()),
     ]);
     const late = new Client();
@@ -196,39 +200,58 @@ test('what others send changes nothing', { timeout: 20000 }, async () => {
     assert.deepEqual(contentsOf(late.screen), contentsOf(early.screen));
 });
 
+/** A client over a connection of its own, which asks until it shows the last frame. */
+class Asker {
+    client = new Client();
+    bytes = 0;
+    #rest = Buffer.alloc(0);
+
+    constructor() {
+        this.socket = connect(shared.port, '127.0.0.1').setNoDelay();
+        this.socket.on('data', data => this.#read(data));
+        this.first = new Promise(done => this.onfirst = done);
+        this.last = new Promise(done => this.onlast = done);
+        this.#ask();
+    }
+
+    #ask() {
+        const ask = this.client.ask(), head = post(new URL(shared.stream).pathname, ask.length);
+        this.socket.write(Buffer.concat([Buffer.from(head), ask]));
+    }
+
+    #read(data) {
+        this.#rest = Buffer.concat([this.#rest, data]);
+        const start = this.#rest.indexOf('\r\n\r\n') + 4;
+        const head = this.#rest.toString('latin1', 0, start);
+        const end = start + Number(/content-length: (\d+)/.exec(head)?.[1]);
+        if (start < 4 || this.#rest.length < end) return;
+        this.client.feed(this.#rest.subarray(start, end));
+        this.bytes += end - start;
+        this.#rest = this.#rest.subarray(end);
+        this.onfirst();
+        if (isLast(this.client)) this.onlast(performance.now());
+        else this.#ask();
+    }
+}
+
+const isLast = ({ screen }) => screen.width > 0 && screen.text(0).includes('frame 100');
+
 test(`${CLIENTS} clients at once`, { timeout: 30000 }, async () => {
-    const isLast = ({ screen }) => screen.width && screen.text(0).includes('frame 100');
-    const agent = new Agent({ keepAlive: true, maxSockets: CLIENTS });
-    const exchange = body => new Promise((done, fail) => {
-        const asked = request(shared.stream, { method: 'POST', agent }, async response => {
-            const parts = [];
-            for await (const part of response) parts.push(part);
-            done(Buffer.concat(parts));
-        });
-        asked.on('error', fail).end(body);
-    });
-    const clients = Array.from({ length: CLIENTS }, () => ({ client: new Client(), bytes: 0 }));
-    const step = async each => {
-        const answer = await exchange(each.client.ask());
-        each.bytes += answer.length;
-        each.client.feed(answer);
-    };
-    await Promise.all(clients.map(step));
+    const askers = Array.from({ length: CLIENTS }, () => new Asker());
+    await Promise.all(askers.map(asker => asker.first));
     const began = performance.now();
     shared.press('r');
-    await Promise.all(clients.map(async each => {
-        while (!isLast(each.client)) await step(each);
-        each.time = performance.now() - began;
-    }));
-    agent.destroy();
-    const all = key => clients.map(each => (key === 'answers' ? each.client.answers : each[key]));
-    const mean = key => Math.round(all(key).reduce((sum, n) => sum + n) / CLIENTS);
-    const [bytes, answers, time] = ['bytes', 'answers', 'time'].map(mean);
-    console.log(`${CLIENTS} clients: ${answers} answers and ${bytes} bytes each, `
-        + `the last after ${time} ms, and after ${Math.round(Math.max(...all('time')))} at most`);
+    const times = await Promise.all(askers.map(async asker => await asker.last - began));
+    const mean = values => Math.round(values.reduce((sum, value) => sum + value) / CLIENTS);
+    console.log(`${CLIENTS} clients: ${mean(askers.map(({ client }) => client.answers))} answers and `
+        + `${mean(askers.map(({ bytes }) => bytes))} bytes each, the last after ${mean(times)} ms, `
+        + `and after ${Math.round(Math.max(...times))} at most`);
     await follow(early, shared.stream, isLast);
     const last = JSON.stringify(contentsOf(early.screen));
-    for (const { client } of clients) assert.equal(JSON.stringify(contentsOf(client.screen)), last);
+    for (const { client, socket } of askers) {
+        assert.equal(JSON.stringify(contentsOf(client.screen)), last);
+        socket.destroy();
+    }
 });
 
 test('a page shows the screen', { skip: !program && 'chromium is not there' }, async () => {

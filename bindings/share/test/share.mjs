@@ -31,6 +31,7 @@ async function until(holds, what) {
 /** `share` in a window. What is sent to it are its user's keys. */
 class Shared {
     output = '';
+    requests = 0; // of the page, since it is hidden
 
     constructor(...words) {
         const [tty, record] = [join(folder, 'tty'), join(folder, 'record')];
@@ -234,9 +235,18 @@ class Asker {
     }
 }
 
+/** Lets the page sleep behind another one, and counts what it asks from now on. */
+async function hidePage() {
+    await browser.send('Target.createTarget', { url: 'about:blank' });
+    await page.until("document.visibilityState === 'hidden'");
+    await page.send('Network.enable');
+    browser.on('Network.requestWillBeSent', () => shared.requests++);
+}
+
 const isLast = ({ screen }) => screen.width > 0 && screen.text(0).includes('frame 100');
 
 test(`${CLIENTS} clients at once`, { timeout: 30000 }, async () => {
+    if (page) await hidePage();
     const askers = Array.from({ length: CLIENTS }, () => new Asker());
     await Promise.all(askers.map(asker => asker.first));
     const began = performance.now();
@@ -254,7 +264,9 @@ test(`${CLIENTS} clients at once`, { timeout: 30000 }, async () => {
     }
 });
 
-test('a page shows the screen', { skip: !program && 'chromium is not there' }, async () => {
+test('a page that slept shows the screen', { skip: !program && 'chromium is not there' }, async () => {
+    assert.ok(shared.requests <= 1, `${shared.requests} requests while it slept`);
+    await page.send('Page.bringToFront');
     const element = "document.querySelector('tikeburo-screen')";
     await page.until(`${element}.screen.text(0).includes('frame 100')`);
     const rows = `[...${element}.shadowRoot.querySelectorAll('.row')].map(e => e.textContent)`;

@@ -40,11 +40,7 @@ fn add_to(surface: &mut Source<ChosenWidths>, change: Change) -> Result<(), Fail
 }
 
 // The list of changes that the bytes encode, with nothing behind it.
-fn only_changes(
-    alloc: Global,
-    widths: ChosenWidths,
-    bytes: &[u8],
-) -> Result<Vec<Change>, Failure>
+fn only_changes(alloc: Global, widths: ChosenWidths, bytes: &[u8]) -> Result<Vec<Change>, Failure>
     ensures { IsOnlyList (columns_by widths) bytes.now result }
 {
     let (changes, taken) = decode_changes(alloc, &widths, bytes)?;
@@ -61,11 +57,7 @@ fn add_list(surface: &mut Source<ChosenWidths>, changes: Vec<Change>) -> Result<
     Ok(())
 }
 
-fn add_bytes(
-    alloc: Global,
-    surface: &mut Source<ChosenWidths>,
-    bytes: &[u8],
-) -> Result<(), Failure>
+fn add_bytes(alloc: Global, surface: &mut Source<ChosenWidths>, bytes: &[u8]) -> Result<(), Failure>
     ensures { AddsBytes bytes.now surface.old result surface.new }
 {
     let changes = only_changes(alloc, surface.surface().widths(), bytes)?;

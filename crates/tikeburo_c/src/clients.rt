@@ -31,11 +31,7 @@ pub struct FaultFields {
     pub change: usize,
 }
 
-fn blank_client(
-    alloc: Global,
-    widths: ChosenWidths,
-    limits: Limits,
-) -> Result<Box<Kept>, Failure>
+fn blank_client(alloc: Global, widths: ChosenWidths, limits: Limits) -> Result<Box<Kept>, Failure>
     requires some { 0 < limits.bytes }
     ensures made { IfOk result (λ kept. kept.value ≡ kinds.Client (blank_client widths limits)) }
     ensures memory { IfErr result (λ failure. failure ≡ Memory) }

@@ -4,8 +4,8 @@ ghost use Rattle.tikeburo_c.specs.Outcomes.{changing_failure, decoding_failure, 
 ghost use Rattle.tikeburo_c.specs.Outcomes.{unread_by};
 ghost use Rattle.tikeburo_c.specs.declared.failure.Failure.TheVariants.{Memory};
 
-use std::alloc::{AllocError, AllocFailed};
 use cbor::FaultKind;
+use std::alloc::{AllocError, AllocFailed};
 use termwiz_surface::SurfaceError;
 use termwiz_wire::WireError;
 

@@ -13,7 +13,7 @@ returns-in_err-ask c =
     let e = c.in_err-ask.ensures in
     let wrong = c.in_err-ask.field-0.0 in
     failed_by (IsOnlyAsk bytes) c.from_residual.result (decoding_failure wrong) c.from_residual.ensures.1
-        (not_decoded IsAsk ask bytes (λ (x : Ask × ℕ). (x.0, drop x.1 bytes)) wrong (ask_at bytes) e.exact e.again)
+    (not_decoded IsAsk ask bytes (λ (x : Ask × ℕ). (x.0, drop x.1 bytes)) wrong (ask_at bytes) e.exact e.again)
 
 pub returns-then-taken-bytes : goal.returns-then-taken-bytes
 returns-then-taken-bytes c =

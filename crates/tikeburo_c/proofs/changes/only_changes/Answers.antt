@@ -19,7 +19,7 @@ returns-in_err-changes c =
     let e = c.in_err-changes.ensures in
     let wrong = c.in_err-changes.field-0.0 in
     failed_by (IsOnlyList m bytes) c.from_residual.result (decoding_failure wrong) c.from_residual.ensures.1
-        (not_decoded (AreChanges m) (changes m) bytes (λ (x : Vec Change Global × ℕ). (map change_value x.0.items, drop x.1 bytes)) wrong (changes_at m bytes) e.exact e.again)
+    (not_decoded (AreChanges m) (changes m) bytes (λ (x : Vec Change Global × ℕ). (map change_value x.0.items, drop x.1 bytes)) wrong (changes_at m bytes) e.exact e.again)
 
 pub returns-then-taken-bytes : goal.returns-then-taken-bytes
 returns-then-taken-bytes c =

@@ -1,12 +1,13 @@
 //! A screen that is shared with three clients: each asks, is answered, and shows what it is sent.
-ghost use Rattle.std.specs.Prelude.{◌≡◌, ◌<◌, OnOk};
-ghost use Rattle.uses.specs.{IsReady, IsSurfaceSize, KeepsClients, Serves, ShowsAll, full_of};
-ghost use Rattle.uses.specs.{measure};
+ghost use Rattle.std.specs.Prelude.{◌≡◌, ◌<◌, ◌∷◌, [], IfOk, OnOk};
+ghost use Rattle.uses.specs.{Adds, IsReady, IsSurfaceSize, KeepsClients, Serves, ShowsAll};
+ghost use Rattle.uses.specs.{blank_surface, change_value, full_of, measure, next_number, trimmed};
+ghost use Rattle.uses.specs.{true};
 
 use std::alloc::{AllocError, Global};
 use std::marker::Model;
 use termwiz_share::{Client, ClientError, Source};
-use termwiz_surface::{Change, Widths};
+use termwiz_surface::{Change, SequenceNo, SurfaceError, Widths};
 use termwiz_wire::{Limits, SourceNo};
 
 /// A screen, and three clients of it. Whatever happens, each client can be served.
@@ -45,6 +46,10 @@ impl<W: Widths> Room<W> {
     ) -> Result<Room<W>, AllocError>
         requires some { 0 < number }
         requires size { IsSurfaceSize size.0 size.1 }
+        ensures { IfOk result (λ room. room.source ≡ record {
+          surface = blank_surface widths size.0 size.1 true;
+          number = number;
+        }) }
     {
         let limits = Limits::default();
         let first = Client::new(alloc, widths, limits)?;
@@ -79,25 +84,38 @@ impl<W: Widths> Room<W> {
         &self.third
     }
 
-    /// Makes the changes, and serves each client after each of them: so all of them show the screen
-    /// in the end. A client that can't be served for want of memory is served after the next one.
-    pub fn share(&mut self, changes: Vec<Change>) -> Result<(), ClientError>
-        ensures { OnOk result (ShowsAll self.new) }
+    /// Makes one change on the screen, as `Source::add_change` does. The clients stay as they are.
+    pub fn make(&mut self, change: Change) -> Result<SequenceNo, SurfaceError>
+        ensures adds { Adds (measure W.width_of self.old.source.surface.widths)
+            (trimmed self.old.source.surface) (change_value change ∷ [])
+            (next_number (trimmed self.old.source.surface).log) result self.new.source.surface }
+        ensures clients { self.new ≡ record self.old { source = self.new.source } }
     {
-        for change in changes {
-            let _ = self.source.add_change(change);
-            let _ = self.serve_all();
-        }
-        self.serve_all()
+        self.source.add_change(change)
     }
 
-    // Serves each client.
-    fn serve_all(&mut self) -> Result<(), ClientError>
-        ensures { OnOk result (ShowsAll self.new) }
+    /// Serves each client: all of them show the screen then. After an error some may show another
+    /// one, and the next call serves them anew. The screen stays.
+    pub fn serve_all(&mut self) -> Result<(), ClientError>
+        ensures shows { OnOk result (ShowsAll self.new) }
+        ensures same { full_of self.new.source.surface ≡ full_of self.old.source.surface }
     {
         serve(self.alloc, &mut self.source, &mut self.first)?;
         serve(self.alloc, &mut self.source, &mut self.second)?;
         serve(self.alloc, &mut self.source, &mut self.third)
+    }
+
+    /// Makes the changes, and serves each client after each of them: so all of them show the screen
+    /// in the end. What can't be made or served for want of memory is passed over, and the next
+    /// change is served whole.
+    pub fn share(&mut self, changes: Vec<Change>) -> Result<(), ClientError>
+        ensures { OnOk result (ShowsAll self.new) }
+    {
+        for change in changes {
+            let _ = self.make(change);
+            let _ = self.serve_all();
+        }
+        self.serve_all()
     }
 }
 

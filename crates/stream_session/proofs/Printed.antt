@@ -5,7 +5,7 @@ use Rattle.std.specs.List.{flat_map}
 use Rattle.std.specs.Prelude.{Option, None, Some, IfSome, Result, Ok, Err, if◌then◌else◌}
 use Rattle.std.proofs.lemmas.Bool.{true≢false}
 use Rattle.std.proofs.lemmas.List.Concat.{flat_map-append}
-use Rattle.termwiz_wire.specs.declared.fault.Limits.{Limits}
+use Rattle.surfview_session.specs.declared.session.SessionError.{SessionError}
 use Rattle.stream_session.specs.Printing.{Prints, PrintsUpTo, end_by, last_lines, shown_lines, view_lines}
 use Rattle.stream_session.specs.Taking.{WatcherValue}
 use Rattle.stream_session.specs.Viewing.{first_viewing}
@@ -15,6 +15,7 @@ use Rattle.stream_session.specs.declared.viewing.View.{View}
 use Rattle.stream_session.specs.declared.viewing.WatchError.{WatchError}
 use Rattle.stream_session.specs.declared.viewing.WatchError.TheVariants.{Fault, Unreadable, Memory}
 use Rattle.stream_session.specs.declared.watch_session.WatchEnd.{WatchEnd}
+use Rattle.stream_session.specs.declared.watch_session.WatchEnd.TheVariants.{Session}
 use Rattle.stream_session.specs.declared.words.WatchOptions.{WatchOptions}
 use Rattle.stream_session.proofs.Coming.{if_known}
 use Rattle.stream_session.proofs.Watched.{HasEnded, IsOn, NextShows, if_some, on_first, on_taken, on_ended, on_fault}
@@ -124,3 +125,9 @@ module _ (o : WatchOptions) (known : Option Bytes) where
         (on_fault o.limits o.each known at.views count now new later after at.on result why is shows))
     prints_fault result Unreadable end more is ends shows prints = subst (λ (e : WatchEnd). IfSome known (λ bytes. Prints o bytes (Err e) old more)) (sym ends) (if_known known (λ bytes. Unit {0}) (λ bytes is. tt))
     prints_fault result Memory end more is ends shows prints = subst (λ (e : WatchEnd). IfSome known (λ bytes. Prints o bytes (Err e) old more)) (sym ends) (if_known known (λ bytes. Unit {0}) (λ bytes is. tt))
+
+  -- what failed is not the stream
+  pub prints_refused : (error : SessionError) (result : Result (Unit {0}) WatchEnd) (old more : Option Bytes) → result ≡ Err (Session error) → IfSome known (λ bytes. Prints o bytes result old more)
+  prints_refused error result old more is =
+      let P : Result (Unit {0}) WatchEnd → Type 0 = λ r. IfSome known (λ bytes. Prints o bytes r old more) in
+      subst P (sym is) (if_known known (λ bytes. Unit {0}) (λ bytes k. tt))

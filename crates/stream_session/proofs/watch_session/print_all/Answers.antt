@@ -1,8 +1,10 @@
 use Rattle.std.proofs.Common.{◌≡◌, rules}
 use Rattle.std.specs.Prelude.{Option, None, Some, Result, Ok, Err}
 use Rattle.stream_session.specs.declared.viewing.View.{View}
+use Rattle.stream_session.specs.declared.watch_session.WatchEnd.{WatchEnd}
+use Rattle.stream_session.specs.declared.watch_session.WatchEnd.TheVariants.{Session}
 use Rattle.stream_session.specs.declared.viewing.WatchError.{WatchError}
-use Rattle.stream_session.proofs.Printed.{so_far_first, so_far_on, prints_all, prints_fault}
+use Rattle.stream_session.proofs.Printed.{so_far_first, so_far_on, prints_all, prints_fault, prints_refused}
 use Rattle.stream_session.proofs.watch_session.print_all.Goals as goal
 
 pub loop-count-init : goal.loop-count-init
@@ -29,3 +31,10 @@ returns-in-Err g c =
     let is : c.next.result ≡ Err c.in-Err.error = search rules in
     prints_fault c.args.options (g.R.Read.remaining c.args.input.now) at.watcher c.next.new.self (g.R.Read.remaining at.input) (g.R.Read.remaining c.next.new.input) at.count at.last (g.O.Write.contents c.args.out.now) (g.O.Write.contents at.out) at.invariant
     c.next.result c.in-Err.error c.of.result (g.O.Write.contents c.print_last-in-Err.new.out) is c.of.ensures c.next.ensures.shows c.in_ok-print_last-in-Err.ensures
+
+pub returns-in_err-show-in-Ok-Some : goal.returns-in_err-show-in-Ok-Some
+returns-in_err-show-in-Ok-Some g c =
+    let error = c.in_err-show-in-Ok-Some.field-0.0 in
+    let failed = c.from_residual-in_err-show-in-Ok-Some in
+    let is : failed.result ≡ Err (Session error) = search rules in
+    prints_refused c.args.options (g.R.Read.remaining c.args.input.now) error failed.result (g.O.Write.contents c.args.out.now) (g.O.Write.contents c.show.new.out) is

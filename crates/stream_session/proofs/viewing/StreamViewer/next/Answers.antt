@@ -11,5 +11,5 @@ returns-in_err-sent c =
 
 pub returns-in_err-view : goal.returns-in_err-view
 returns-in_err-view c =
-    let is : c.from_residual-view.result ≡ Err c.in_err-view.field-0.0 = search rules in
-    not_taken c.args.limits c.args.self.now c.take.new.self c.args.bytes.now (drop c.in_ok-sent.count c.args.bytes.now) c.in_ok-sent.sent c.in_err-view.field-0.0 c.from_residual-view.result c.in_ok-sent.ensures.exact c.in_err-view.ensures is
+    let is : c.from_residual-in_err-view.result ≡ Err c.in_err-view.field-0.0 = search rules in
+    not_taken c.args.limits c.args.self.now c.take.new.self c.args.bytes.now (drop c.in_ok-sent.count c.args.bytes.now) c.in_ok-sent.sent c.in_err-view.field-0.0 c.from_residual-in_err-view.result c.in_ok-sent.ensures.exact c.in_err-view.ensures is

@@ -1,13 +1,11 @@
 -- An answer or an ask that is encoded is decoded again, whatever follows it.
-use Rattle.std.proofs.Common.{◌≡◌, ℕ, ◌+◌, ◌*◌, ◌^◌, ◌<◌, ◌≤◌, Bool, true, false, eqb, ltb, ◌&&◌, List, [], ◌++◌, length, Option, Some, None, Ok, refl, sym, ap, ◌∙◌, append_assoc, arith, inl, inr}
+use Rattle.std.proofs.Common.{◌≡◌, ℕ, ◌*◌, ◌^◌, ◌<◌, ◌≤◌, true, false, eqb, List, [], ◌++◌, length, Some, Ok, refl, ap, ◌∙◌, append_assoc, arith, inl, inr}
 use Rattle.std.specs.List.{flat_map}
 use Rattle.std.proofs.lemmas.Bool.{ne_eqb, eq-eqb, le-ltb, cases_lt}
 use Rattle.cbor.specs.Encoding.{unsigned, array}
-use Rattle.cbor.specs.Decoding.{Stop, allowed}
 use Rattle.cbor.proofs.Items.{unsigned_again, below_again, array_again, list_again}
-use Rattle.termwiz_cell.specs.ChangeValue.{ChangeValue}
 use Rattle.termwiz_wire.specs.Encoding.{change, changes}
-use Rattle.termwiz_wire.specs.Answers.{Halt, version_at, body_at, opened_at, source_at, size_at, height_at, number_at, head_at, halted, each_at, sent_of, answer_in, asked_at, ask_in}
+use Rattle.termwiz_wire.specs.Answers.{version_at, body_at, opened_at, source_at, size_at, height_at, number_at, head_at, answer_in, asked_at, ask_in}
 use Rattle.termwiz_wire.specs.Sent.{IsSent, IsAsk, answer, ask}
 use Rattle.termwiz_wire.specs.declared.sent.SentAnswer.{SentAnswer}
 use Rattle.termwiz_wire.specs.declared.sent.Ask.{Ask}

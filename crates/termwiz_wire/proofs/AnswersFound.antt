@@ -1,5 +1,5 @@
 -- An answer or an ask that is decoded was encoded so.
-use Rattle.std.proofs.Common.{◌≡◌, ℕ, zero, suc, absurd, false, ◌+◌, ◌*◌, ◌≤◌, ◌<◌, ◌^◌, true, cond, eqb, ltb, ◌&&◌, not, List, [], ◌++◌, length, Some, None, Result, Ok, refl, ap, subst, ◌∙◌, arith}
+use Rattle.std.proofs.Common.{◌≡◌, ℕ, zero, suc, false, ◌+◌, ◌*◌, ◌≤◌, ◌<◌, ◌^◌, true, cond, eqb, ltb, ◌&&◌, not, List, [], ◌++◌, length, Some, None, Result, Ok, refl, ap, subst, ◌∙◌, arith}
 use Rattle.std.proofs.lemmas.Bool.{eqb-true, ltb-false}
 use Rattle.std.proofs.lemmas.List.{length-append}
 use Rattle.cbor.specs.declared.error.FaultKind.TheVariants as faults

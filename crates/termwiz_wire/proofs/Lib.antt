@@ -10,6 +10,7 @@ pub mod Rows
 pub mod Bounded
 pub mod Again
 pub mod Found
+pub mod Loops
 pub mod Each
 pub mod AnswersAgain
 pub mod AnswersFound

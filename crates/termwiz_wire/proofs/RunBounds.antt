@@ -1,6 +1,5 @@
 -- The numbers of a text's runs are no more than its bytes.
-use Rattle.std.proofs.Common.{◌≡◌, ℕ, zero, suc, ◌+◌, ◌-◌, ◌*◌, ◌^◌, ◌<◌, ◌≤◌, Bool, true, false, cond, List, [], ◌∷◌, ◌++◌, length, map, refl, sym, ap, subst, ◌∙◌, arith}
-use Rattle.std.specs.Prelude.{IsUtf8}
+use Rattle.std.proofs.Common.{◌≡◌, ℕ, zero, suc, ◌+◌, ◌-◌, ◌*◌, ◌^◌, ◌<◌, ◌≤◌, true, false, cond, List, [], ◌∷◌, length, map, refl, ap, ◌∙◌, arith}
 use Rattle.std.specs.List.{AllByRecursion, concat}
 use Rattle.std.proofs.lemmas.List.{length-append}
 use Rattle.core.specs.Str.{chars, chars_after, continuation_len, lead_bits}
@@ -8,7 +7,6 @@ use Rattle.unicode_segmentation.specs.Grapheme.{graphemes, is_grapheme_break}
 use Rattle.unicode_segmentation.proofs.SegmentsLemmas.{concat-segments, length-segments}
 use Rattle.cbor.specs.Encoding.{IsText}
 use Rattle.termwiz_cell.specs.Attributes.{default_attributes}
-use Rattle.termwiz_cell.specs.CellValue.{CellValue, columns}
 use Rattle.termwiz_screen.specs.Print.{piece_of}
 use Rattle.termwiz_screen.specs.declared.print.Piece.{Piece}
 use Rattle.termwiz_screen.specs.declared.print.Piece.TheVariants.{CarriageReturn, LineFeed, CarriageReturnLineFeed, Cell}

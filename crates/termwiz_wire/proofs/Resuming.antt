@@ -1,9 +1,9 @@
 -- The decoding of an answer goes on from what is begun of it.
-use Rattle.std.proofs.Common.{◌≡◌, ◌≢◌, ℕ, zero, suc, ◌+◌, ◌-◌, ◌*◌, ◌<◌, ◌≤◌, ◌^◌, true, List, [], ◌∷◌, ◌++◌, length, take, drop, Option, Some, None, Result, Ok, Err, refl, sym, ap, subst, ◌∙◌, append_assoc, append-nil, arith}
+use Rattle.std.proofs.Common.{◌≡◌, ◌≢◌, ℕ, zero, suc, ◌+◌, ◌-◌, ◌*◌, ◌<◌, ◌≤◌, ◌^◌, Bool, true, false, List, [], ◌∷◌, ◌++◌, length, take, drop, Option, Some, None, Result, Ok, Err, refl, sym, ap, subst, ◌∙◌, append_assoc, append-nil, arith}
+use Rattle.std.specs.Option.{ForSome}
 use Rattle.std.specs.Prelude.{map, IfSome, Vec}
 use Rattle.std.specs.declared.alloc.Global.{Global}
-use Rattle.std.proofs.Math.Seq.{take-append-add}
-use Rattle.std.proofs.lemmas.List.{length-append, length-drop, take-append-drop, drop-append-le, drop_at}
+use Rattle.std.proofs.lemmas.List.{length-append, length-drop, take-append-drop, take_all, drop-append-le, drop_at}
 use Rattle.cbor.specs.declared.error.FaultKind.{FaultKind}
 use Rattle.cbor.specs.declared.error.FaultKind.TheVariants.{Truncated}
 use Rattle.cbor.specs.declared.error.FaultKind.TheVariants as faults
@@ -17,10 +17,11 @@ use Rattle.termwiz_cell.specs.declared.change.Change.{Change}
 use Rattle.termwiz_wire.specs.Answers.{Decodes, Halt, answer_at, answer_in, each_at, error_of, fault_at, halted, head_at, located, sent_of}
 use Rattle.termwiz_wire.specs.Decoding.{change_at}
 use Rattle.termwiz_wire.specs.Encoding.{change}
-use Rattle.termwiz_wire.specs.Resuming.{HasGoneOn, IsUnfinished, LeadsOn, Resumes, left_at, rest_at, resumed_in}
+use Rattle.termwiz_wire.specs.Resuming.{GoesOn, HasGoneOn, IsUnfinished, LeadsOn, Resumes, left_at, rest_at, resumed_in}
 use Rattle.termwiz_wire.specs.Sent.{answer}
 use Rattle.termwiz_wire.specs.declared.decode.begun.Begun.{Begun}
 use Rattle.termwiz_wire.specs.declared.decode.begun.NoAnswer.TheVariants as no_answers
+use Rattle.termwiz_wire.specs.declared.decode.halted.Halted.{Halted}
 use Rattle.termwiz_wire.specs.declared.decode.heads.Head.{Head}
 use Rattle.termwiz_wire.specs.declared.fault.Fault.{Fault}
 use Rattle.termwiz_wire.specs.declared.fault.Limits.{Limits}
@@ -32,8 +33,8 @@ use Rattle.termwiz_wire.proofs.Loops.{each_go_on, each_end, each_done}
 use Rattle.termwiz_wire.proofs.Prefixes.{change_reads, head_reads}
 use Rattle.termwiz_wire.proofs.Within.{Stopped, Took, if_some, stopped_at, took}
 
-abbrev failed : {Z E : Type 0} → E → Result Z E
-failed e = Err e
+abbrev some : {A : Type 0} → A → Option A
+some x = Some x
 
 -- ---- a value that was decoded is there still, with the bytes that come behind
 
@@ -96,6 +97,20 @@ behind_front front hand rest near n parts is =
     let n_is : length front ≡ n = omega (arith, lens, is) in
     (omega (arith, is), ap (λ (h : List ℕ). drop n (h ++ near)) parts ∙ ap (drop n) (append_assoc front rest near) ∙ drop_at front (rest ++ near) n n_is)
 
+-- what is begun, if anything is
+for_some : {A : Type 0} (P : A → Type 0) (x : A) → P x → ForSome (Some x) P
+for_some {A = A} P x is = λ y e. let same : x ≡ y = some_is {A = A} x y e in subst P same is
+  where
+    some_is : {A : Type 0} (x y : A) → some x ≡ some y → x ≡ y
+    some_is x y e = cc
+
+pub for_none : {A : Type 0} (P : A → Type 0) → ForSome None P
+for_none P = λ y e. absurd cc
+
+-- all bytes from one on
+pub slice_from : (bytes : List ℕ) (start : ℕ) → take (length bytes - start) (drop start bytes) ≡ drop start bytes
+slice_from bytes start = take_all (length bytes - start) (drop start bytes) (omega (arith, length-drop start bytes))
+
 abbrev sent_behind : Head → List ChangeValue × List ℕ → Result (SentAnswer × List ℕ) Halt
 sent_behind head changes = ok (sent_of head changes.0) changes.1
 
@@ -130,6 +145,49 @@ module _ (measure : List ℕ → ℕ) (limits : Limits) (bytes : List ℕ) where
   pub leads_here : (begun : Begun) → LeadsOn measure limits begun bytes → answer_in measure room limits.cells hand ≡ resumed_in measure room begun hand
   leads_here begun leads =
       ap (answer_in measure room limits.cells) (sym (append-nil hand)) ∙ leads.same [] room (omega arith) ∙ ap (resumed_in measure room begun) (append-nil hand)
+
+  -- a head that has no value
+  pub head_stopped : (e : ReadError) (at : ℕ) → Stops at e (head_at room limits.cells hand) → Stopped e None at (answer_in measure room limits.cells hand)
+  unfolding answer_in
+  head_stopped e at stops = if_some (fault_of e) _ _ (λ f is. ap (λ (r : Result (Head × List ℕ) Stop). halted None r >>= λ h. each_at measure room (Some h.0.height) [] h.0.count h.1 >>= sent_behind h.0) is) stops
+
+  -- ---- what a call returns
+
+  abbrev pub reading : ℕ → List ℕ → Result (SentAnswer × List ℕ) Halt
+  reading room bytes = answer_in measure room limits.cells bytes
+
+  -- an answer
+  pub answer_took : (s : SentAnswer) (rest : List ℕ) (n : ℕ) → IsBytes hand → answer_in measure room limits.cells hand ≡ Ok (s, rest) → n ≡ length hand - length rest → Took reading limits.bytes (answer measure s) bytes n s
+  answer_took s rest n fits e is = took reading limits.bytes (answer measure s) bytes hand rest room n s refl refl (answer_takes measure room limits.cells hand (s, rest) fits e).taken.parts e is
+
+  pub resumes_whole : (s : SentAnswer) (n : ℕ) → Took reading limits.bytes (answer measure s) bytes n s → Resumes measure limits bytes (Ok (s, n))
+  unfolding answer_at
+  resumes_whole s n t = t.exact
+
+  -- more bytes may make it
+  pub is_unfinished : (h : Halt) → answer_in measure room limits.cells hand ≡ Err h → h.stop.fault ≡ Truncated → IsUnfinished measure limits bytes
+  unfolding answer_at
+  is_unfinished h is cut = record { fault = fault_at (allowed room hand) h; is = ap (located (allowed room hand) (drop limits.bytes bytes)) is; cut = cut }
+
+  failed_as : (e : ReadError) (n : ℕ) (change : Option ℕ) → e ≢ read_errors.Truncated → Decodes (λ (x : SentAnswer × List ℕ). x) (Err (error_of e n change)) (answer_at measure limits bytes) → Resumes measure limits bytes (Err (no_answers.Failed (error_of e n change)))
+  failed_as read_errors.Truncated n change other d = absurd (other refl)
+  failed_as read_errors.Version n change other d = (d, λ is. cc)
+  failed_as read_errors.Type n change other d = (d, λ is. cc)
+  failed_as read_errors.Utf8 n change other d = (d, λ is. cc)
+  failed_as read_errors.Range n change other d = (d, λ is. cc)
+  failed_as read_errors.Region n change other d = (d, λ is. cc)
+  failed_as read_errors.Limit n change other d = (d, λ is. cc)
+  failed_as read_errors.Measure n change other d = (d, λ is. cc)
+  failed_as read_errors.Memory n change other d = tt
+
+  -- a fault, or want of memory
+  pub resumes_failed : (e : ReadError) (change : Option ℕ) (rest : List ℕ) (later n : ℕ) (result : WireError) → e ≢ read_errors.Truncated → later ≡ room → Stopped e change (allowed later rest) (answer_in measure room limits.cells hand) → n ≡ length hand - length rest → result ≡ error_of e n change → Resumes measure limits bytes (Err (no_answers.Failed result))
+  unfolding answer_at
+  resumes_failed e change rest later n result other kept stops n_is result_is =
+      let d : Decodes (λ (x : SentAnswer × List ℕ). x) (Err (error_of e n change)) (answer_at measure limits bytes) = stopped_at (λ (x : SentAnswer × List ℕ). x) reading limits.bytes bytes hand rest room later n e change (error_of e n change) refl refl kept stops n_is refl in
+      subst (λ (w : WireError). Resumes measure limits bytes (Err (no_answers.Failed w))) (sym result_is) (failed_as e n change other d)
+
+  -- ---- from what is begun
 
   module _ (begun : Begun) (leads : LeadsOn measure limits begun bytes) where
     abbrev Left : List ChangeValue → List ℕ → Type 0
@@ -167,43 +225,30 @@ module _ (measure : List ℕ → ℕ) (limits : Limits) (bytes : List ℕ) where
     pub leads_stopped : (e : ReadError) (at : ℕ) (change : Option ℕ) → IfSome (fault_of e) (λ f. left_of ≡ Err (record { stop = record { fault = f; left = at }; change = change })) → Stopped e change at (answer_in measure room limits.cells hand)
     leads_stopped e at change stops = if_some (fault_of e) _ _ (λ f is. leads_halted (record { stop = record { fault = f; left = at }; change = change }) is) stops
 
-  -- a head that has no value
-  pub head_stopped : (e : ReadError) (at : ℕ) → Stops at e (head_at room limits.cells hand) → Stopped e None at (answer_in measure room limits.cells hand)
-  unfolding answer_in
-  head_stopped e at stops = if_some (fault_of e) _ _ (λ f is. ap (λ (r : Result (Head × List ℕ) Stop). halted None r >>= λ h. each_at measure room (Some h.0.height) [] h.0.count h.1 >>= sent_behind h.0) is) stops
+    module _ (r : ℕ) (start : List ℕ) (changes : Vec Change Global) (later : ℕ) (rest : List ℕ) (r_is : r ≡ room) (start_is : start ≡ drop begun.taken hand) where
+      abbrev Goes : Result Bool Halted → Type 0
+      Goes result = GoesOn measure r begun.head (map change_value begun.changes.items) start result (map change_value changes.items) (allowed later rest) rest
 
-  -- ---- what a call returns
+      abbrev GoesHere : Result Bool Halted → Type 0
+      GoesHere result = GoesOn measure room begun.head (map change_value begun.changes.items) (drop begun.taken hand) result (map change_value changes.items) (allowed later rest) rest
 
-  abbrev reading : ℕ → List ℕ → Result (SentAnswer × List ℕ) Halt
-  reading room bytes = answer_in measure room limits.cells bytes
+      goes_here : (result : Result Bool Halted) → Goes result → GoesHere result
+      goes_here result goes =
+          subst (λ (t : List ℕ). GoesOn measure room begun.head (map change_value begun.changes.items) t result (map change_value changes.items) (allowed later rest) rest) start_is
+          (subst (λ (n : ℕ). GoesOn measure n begun.head (map change_value begun.changes.items) start result (map change_value changes.items) (allowed later rest) rest) r_is goes)
 
-  -- an answer
-  pub answer_took : (s : SentAnswer) (rest : List ℕ) (n : ℕ) → IsBytes hand → answer_in measure room limits.cells hand ≡ Ok (s, rest) → n ≡ length hand - length rest → Took reading limits.bytes (answer measure s) bytes n s
-  answer_took s rest n fits e is = took reading limits.bytes (answer measure s) bytes hand rest room n s refl refl (answer_takes measure room limits.cells hand (s, rest) fits e).taken.parts e is
+      -- all changes are there
+      pub goes_whole : (all : Bool) → all ≡ true → Goes (Ok all) → answer_in measure room limits.cells hand ≡ Ok (sent_of begun.head (map change_value changes.items), rest)
+      goes_whole all is goes = leads_whole (map change_value changes.items) rest (goes_here (Ok true) (subst (λ (b : Bool). Goes (Ok b)) is goes)).1
 
-  pub resumes_whole : (s : SentAnswer) (n : ℕ) → Took reading limits.bytes (answer measure s) bytes n s → Resumes measure limits bytes (Ok (s, n))
-  unfolding answer_at
-  resumes_whole s n t = t.exact
+      -- one is cut
+      pub goes_cut : (all : Bool) (n : ℕ) → all ≡ false → Goes (Ok all) → n ≡ length hand - length rest → Resumes measure limits bytes (Err (no_answers.Cut (Some (record { head = begun.head; changes = changes; taken = n }))))
+      goes_cut all n is goes n_is =
+          let g = goes_here (Ok false) (subst (λ (b : Bool). Goes (Ok b)) is goes) in
+          (is_unfinished g.1 (leads_halted g.1 g.2) g.3, for_some (λ (b : Begun). LeadsOn measure limits b bytes) (record { head = begun.head; changes = changes; taken = n }) (leads_more changes rest n g.0 n_is))
 
-  -- more bytes may make it
-  pub is_unfinished : (h : Halt) → answer_in measure room limits.cells hand ≡ Err h → h.stop.fault ≡ Truncated → IsUnfinished measure limits bytes
-  unfolding answer_at
-  is_unfinished h is cut = record { fault = fault_at (allowed room hand) h; is = ap (located (allowed room hand) (drop limits.bytes bytes)) is; cut = cut }
-
-  failed_as : (e : ReadError) (n : ℕ) (change : Option ℕ) → e ≢ read_errors.Truncated → Decodes (λ (x : SentAnswer × List ℕ). x) (Err (error_of e n change)) (answer_at measure limits bytes) → Resumes measure limits bytes (Err (no_answers.Failed (error_of e n change)))
-  failed_as read_errors.Truncated n change other d = absurd (other refl)
-  failed_as read_errors.Version n change other d = (d, λ is. cc)
-  failed_as read_errors.Type n change other d = (d, λ is. cc)
-  failed_as read_errors.Utf8 n change other d = (d, λ is. cc)
-  failed_as read_errors.Range n change other d = (d, λ is. cc)
-  failed_as read_errors.Region n change other d = (d, λ is. cc)
-  failed_as read_errors.Limit n change other d = (d, λ is. cc)
-  failed_as read_errors.Measure n change other d = (d, λ is. cc)
-  failed_as read_errors.Memory n change other d = tt
-
-  -- a fault, or want of memory
-  pub resumes_failed : (e : ReadError) (change : Option ℕ) (rest : List ℕ) (later n : ℕ) (result : WireError) → e ≢ read_errors.Truncated → later ≡ room → Stopped e change (allowed later rest) (answer_in measure room limits.cells hand) → n ≡ length hand - length rest → result ≡ error_of e n change → Resumes measure limits bytes (Err (no_answers.Failed result))
-  unfolding answer_at
-  resumes_failed e change rest later n result other kept stops n_is result_is =
-      let d : Decodes (λ (x : SentAnswer × List ℕ). x) (Err (error_of e n change)) (answer_at measure limits bytes) = stopped_at (λ (x : SentAnswer × List ℕ). x) reading limits.bytes bytes hand rest room later n e change (error_of e n change) refl refl kept stops n_is refl in
-      subst (λ (w : WireError). Resumes measure limits bytes (Err (no_answers.Failed w))) (sym result_is) (failed_as e n change other d)
+      -- it fails
+      pub goes_failed : (h : Halted) (n : ℕ) (result : WireError) → later ≡ room → Goes (Err h) → n ≡ length hand - length rest → result ≡ error_of h.error n h.change → Resumes measure limits bytes (Err (no_answers.Failed result))
+      goes_failed h n result kept goes n_is result_is =
+          let g = goes_here (Err h) goes in
+          resumes_failed h.error h.change rest later n result g.0 kept (leads_stopped h.error (allowed later rest) h.change g.1) n_is result_is

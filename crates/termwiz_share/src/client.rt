@@ -41,8 +41,7 @@ pub struct Client<W: Widths> {
 }
 
 impl<W: Widths> Model for Client<W> {
-    ghost use Rattle.std.specs.Option.{ForSome};
-    ghost use Rattle.std.specs.Prelude.{◌≡◌, ◌<◌, ◌≤◌, [], drop, length, true};
+    ghost use Rattle.std.specs.Prelude.{◌≡◌, ◌<◌, ◌≤◌, [], IfSome, drop, length, true};
     ghost use Rattle.termwiz_cell.specs.Measure.{measure};
     ghost use Rattle.termwiz_wire.specs.Resuming.{LeadsOn};
     ghost use Rattle.termwiz_share.specs.Client.{ClientValue};
@@ -61,7 +60,7 @@ impl<W: Widths> Model for Client<W> {
     ghost invariant = { λ c. (c.start ≤ length c.bytes.items)
         × (c.surface.full ≡ true) × (c.surface.log.changes ≡ [])
         × (0 < c.limits.bytes) × (c.source ≡ 0 → c.number ≡ 0)
-        × ForSome c.begun (λ b. LeadsOn (measure W.width_of c.surface.widths) c.limits b
+        × IfSome c.begun (λ b. LeadsOn (measure W.width_of c.surface.widths) c.limits b
         (drop c.start c.bytes.items)) };
 }
 
@@ -226,6 +225,7 @@ impl<W: Widths> Client<W> {
         match decode_more(self.alloc, &widths, self.limits, begun, bytes) {
             Ok((sent, taken)) => {
                 self.take(sent)?;
+                self.begun = None;
                 self.start += taken;
                 Ok(true)
             }

@@ -1,10 +1,11 @@
 -- What a client began to decode leads on, when more bytes come.
-use Rattle.std.proofs.Common.{◌≡◌, ℕ, ◌+◌, ◌-◌, ◌<◌, ◌≤◌, List, [], ◌++◌, refl, length, take, drop, Option, Some, None, sym, ap, subst, ◌∙◌, append_assoc, append-nil, arith, inl, inr}
+use Rattle.std.proofs.Common.{◌≡◌, ℕ, ◌+◌, ◌-◌, ◌<◌, ◌≤◌, List, [], ◌++◌, refl, length, take, drop, Option, Some, None, Result, Ok, Err, true, false, sym, ap, subst, ◌∙◌, append_assoc, append-nil, arith, inl, inr}
 use Rattle.std.proofs.Math.Seq.{take-append-add}
-use Rattle.std.proofs.lemmas.Bool.{cases_lt}
+use Rattle.std.proofs.lemmas.Bool.{cases_lt, true≢false}
 use Rattle.std.proofs.lemmas.List.{length-append, length-drop, take-append-drop, take-append-le, take_all}
 use Rattle.std.specs.Option.{ForSome}
-use Rattle.std.specs.Prelude.{IfSome}
+use Rattle.std.specs.Prelude.{IfSome, OnOk}
+use Rattle.std.specs.Result.{is_err}
 use Rattle.termwiz_wire.specs.Answers.{answer_in}
 use Rattle.termwiz_wire.specs.Resuming.{LeadsOn, resumed_in}
 use Rattle.termwiz_wire.specs.declared.decode.begun.Begun.{Begun}
@@ -24,6 +25,11 @@ for_if {A = A} P (Some y) is = λ x e. let same : y ≡ x = some_is {A = A} y x 
 pub if_for : {A : Type 0} (P : A → Type 0) (o : Option A) → ForSome o P → IfSome o P
 if_for P None is = tt
 if_for P (Some y) is = is y refl
+
+-- what holds of a call that succeeded
+pub on_ok : {A E : Type 0} (P : Type 0) (r : Result A E) → is_err r ≡ false → OnOk r P → P
+on_ok P (Ok x) e is = is
+on_ok P (Err x) e is = absurd (true≢false e)
 
 module _ (measure : List ℕ → ℕ) (limits : Limits) (kept piece : List ℕ) where
   -- the bytes that come within the limit

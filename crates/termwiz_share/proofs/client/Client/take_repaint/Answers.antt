@@ -1,5 +1,8 @@
-use Rattle.std.proofs.Common.{◌≡◌, List, ℕ, true, false, sym, ap, refl, ◌∙◌, arith}
+use Rattle.std.proofs.Common.{◌≡◌, ◌+◌, ◌-◌, List, ℕ, true, false, sym, ap, refl, ◌∙◌, arith}
+use Rattle.std.specs.Prelude.{map, vec_len}
+use Rattle.termwiz_cell.specs.ChangeValue.{change_value}
 use Rattle.termwiz_cell.specs.Measure.{measure}
+use Rattle.termwiz_screen.specs.Log.{next_number}
 use Rattle.termwiz_surface_core.specs.SurfaceValue.{SurfaceValue, full_of}
 use Rattle.termwiz_share.specs.Client.{ClientValue, shown_by}
 use Rattle.termwiz_screen.specs.FullScreen.{FullScreen}
@@ -23,5 +26,5 @@ returns g c =
 pub invariant_of-self : goal.invariant_of-self
 invariant_of-self g c =
     let m : List ℕ → ℕ = measure g.W.Widths.width_of c.in_ok-surface.surface.widths in
-    let full : c.add_changes.new.self.full ≡ true = adds_full m c.in_ok-surface.surface c.add_changes.new.self _ _ c.add_changes.result (sym c.is_err.ensures.value ∙ c.if-is_err.false) c.add_changes.ensures.adds ∙ ap (λ (s : SurfaceValue _). s.full) c.in_ok-surface.ensures in
+    let full : c.add_changes.new.self.full ≡ true = adds_full m c.in_ok-surface.surface c.add_changes.new.self (map change_value c.into_changes.result.items) (next_number c.in_ok-surface.surface.log - 1 + vec_len c.into_changes.result) c.add_changes.result (sym c.is_err.ensures.value ∙ c.if-is_err.false) c.add_changes.ensures.adds ∙ ap (λ (s : SurfaceValue _). s.full) c.in_ok-surface.ensures in
     (c.self.invariant.0, ap (λ (s : SurfaceValue _). s.full) c.flush_changes_older_than.ensures.flushes ∙ full, c.flush_changes_older_than.ensures.emptied c.current_seqno.ensures.value, c.self.invariant.3, (λ e. absurd (omega (arith, e, c.requires.some))), tt)

@@ -1,18 +1,18 @@
 -- What a source answers, from what its surface gives.
-use Rattle.std.proofs.Common.{◌≡◌, ◌⊎◌, ℕ, ◌+◌, ◌*◌, ◌-◌, ◌^◌, ◌<◌, ◌≤◌, Bool, true, false, List, [], ◌++◌, length, length-append, Result, Ok, Err, refl, sym, ap, subst, ◌∙◌, arith, inl, inr}
-use Rattle.std.specs.Prelude.{◌==◌, ◌&&◌, not, IfOk, OnErr, min, max}
+use Rattle.std.proofs.Common.{◌≡◌, ◌⊎◌, ℕ, ◌-◌, ◌^◌, ◌<◌, ◌≤◌, true, false, List, [], ◌++◌, length, length-append, Result, Ok, Err, refl, sym, ap, subst, ◌∙◌, arith, inl, inr}
+use Rattle.std.specs.Prelude.{IfOk, OnErr, min, max}
 use Rattle.std.proofs.lemmas.List.{append-nil}
 use Rattle.cbor.specs.Encoding.{Extends}
 use Rattle.std.proofs.Math.Nat.{le-max_left, le-max_right}
 use Rattle.std.proofs.lemmas.Bool.{cases_Bool, eqb-true, eq-eqb, true≢false}
 use Rattle.termwiz_cell.specs.ChangeValue.{ChangeValue}
-use Rattle.termwiz_screen.specs.FullScreen.{FullScreen, HasFullSize}
-use Rattle.termwiz_screen.specs.Log.{delta_limit, due, is_known, next_number}
+use Rattle.termwiz_screen.specs.FullScreen.{HasFullSize}
+use Rattle.termwiz_screen.specs.Log.{delta_limit, due, next_number}
 use Rattle.termwiz_screen.specs.Picture.{full_screens}
 use Rattle.termwiz_screen.proofs.Logs.{flushed_number}
 use Rattle.termwiz_surface_core.specs.Answer.{AnswerValue, is_repaint}
 use Rattle.termwiz_surface_core.specs.Asking.{knows, own_repaint}
-use Rattle.termwiz_surface_core.specs.Carried.{CarriesTo, IsGivenBy, IsPastOf}
+use Rattle.termwiz_surface_core.specs.Carried.{IsGivenBy}
 use Rattle.termwiz_surface_core.specs.SurfaceValue.{SurfaceValue, full_of}
 use Rattle.termwiz_surface_core.proofs.Remembering.{given-carries}
 use Rattle.termwiz_wire.specs.Lengths.{capped}

@@ -1,10 +1,10 @@
 -- What a client shows of a stream of answers: what the last one that fits was given for.
-use Rattle.std.proofs.Common.{◌≡◌, ◌≢◌, ◌⊎◌, ℕ, ◌+◌, ◌*◌, ◌<◌, ◌≤◌, Bool, true, false, List, [], ◌∷◌, ◌++◌, length, Result, Ok, Err, refl, sym, ap, subst, ◌∙◌, append_assoc, arith, inl, inr}
-use Rattle.std.specs.Prelude.{map, not, ◌&&◌, ◌||◌, ◌==◌, fold, None, Some, if◌then◌else◌}
-use Rattle.std.specs.List.{AllByRecursion, flat_map}
+use Rattle.std.proofs.Common.{◌≡◌, ℕ, ◌<◌, true, false, List, [], ◌∷◌, ◌++◌, length, Result, Ok, Err, refl, sym, ap, subst, ◌∙◌, append_assoc, arith, inl, inr}
+use Rattle.std.specs.Prelude.{map, ◌==◌, fold, None, Some, if◌then◌else◌}
+use Rattle.std.specs.List.{AllByRecursion}
 use Rattle.std.proofs.lemmas.Bool.{cases_Bool, eqb-true, eq-eqb, true≢false}
-use Rattle.std.proofs.lemmas.List.{append-nil, get_or-map, length-map, length-replicate}
-use Rattle.cbor.specs.declared.error.FaultKind.TheVariants.{Limit, Truncated}
+use Rattle.std.proofs.lemmas.List.{get_or-map, length-map, length-replicate}
+use Rattle.cbor.specs.declared.error.FaultKind.TheVariants.{Truncated}
 use Rattle.std.proofs.Common.{replicate}
 use Rattle.termwiz_cell.specs.CellValue.{CellValue, blank}
 use Rattle.termwiz_cell.specs.ChangeValue.{ChangeValue}
@@ -15,20 +15,19 @@ use Rattle.termwiz_screen.specs.FullScreen.{FullScreen, HasFullSize, full_step, 
 use Rattle.termwiz_screen.specs.Screen.{row_at}
 use Rattle.termwiz_surface_core.proofs.Remembering.{full_screens_keep}
 use Rattle.termwiz_screen.specs.Picture.{full_screens, played}
-use Rattle.termwiz_surface_core.specs.Answer.{AnswerValue, Carries, is_repaint, suits}
-use Rattle.termwiz_surface_core.specs.History.{Names}
+use Rattle.termwiz_surface_core.specs.Answer.{AnswerValue, suits}
 use Rattle.termwiz_wire.specs.Answers.{answer_at}
-use Rattle.termwiz_wire.specs.Sent.{IsSent, answer}
+use Rattle.termwiz_wire.specs.Sent.{answer}
 use Rattle.termwiz_wire.specs.declared.fault.Fault.{Fault}
 use Rattle.termwiz_wire.specs.declared.fault.Limits.{Limits}
 use Rattle.termwiz_wire.specs.declared.sent.SentAnswer.{SentAnswer}
 use Rattle.termwiz_share.specs.declared.error.ClientError.{ClientError}
 use Rattle.termwiz_share.specs.declared.error.ClientError.TheVariants as errors
-use Rattle.termwiz_share.specs.Client.{ClientValue, SameSettings, Shown, blank_screen, fits, has_other_size, shown_by, start, taken}
-use Rattle.termwiz_share.specs.Feeding.{AreCut, Ends, Feeds, HasForgotten, HasTaken, Reads, Steps, TakesAll, with_bytes}
+use Rattle.termwiz_share.specs.Client.{ClientValue, Shown, blank_screen, fits, has_other_size, shown_by, taken}
+use Rattle.termwiz_share.specs.Feeding.{AreCut, Ends, Feeds, HasTaken, TakesAll, with_bytes}
 use Rattle.termwiz_wire.specs.MoreBytes.{IsCut, Laws}
 use Rattle.termwiz_share.specs.Histories.{Follows, FollowsTo, Given, HasFollowed, HasMore, HasStopped, IsGenuine, IsNamed, after, after_all, stream}
-use Rattle.termwiz_share.proofs.Streams.{AreAgain, Decodes, HasOthers, no_fault, none_whole, others_of}
+use Rattle.termwiz_share.proofs.Streams.{AreAgain, Decodes, no_fault, none_whole, others_of}
 
 -- one more answer at the end
 pub TakesAll-push : (m : List ℕ → ℕ) (limits : Limits) (s : Shown) (bytes : List ℕ) (given : List SentAnswer) (t : Shown) (rest : List ℕ) (a : SentAnswer) (next : List ℕ) → TakesAll m limits s bytes given t rest → answer_at m limits rest ≡ Ok (a, next) → has_other_size t a ≡ false → TakesAll m limits s bytes (given ++ a ∷ []) (taken m t a) next

@@ -1,14 +1,13 @@
 -- A source goes on to serve its clients, whatever happens to either.
-use Rattle.std.proofs.Common.{◌≡◌, ◌⊎◌, ℕ, ◌+◌, ◌*◌, ◌<◌, ◌≤◌, Bool, true, false, List, [], ◌∷◌, ◌++◌, length, Result, Ok, Err, refl, sym, ap, subst, ◌∙◌, arith, inl, inr}
-use Rattle.std.specs.Prelude.{◌==◌, ◌&&◌, ◌||◌, None, Some, OnOk, if◌then◌else◌}
-use Rattle.std.proofs.lemmas.Bool.{cases_Bool, cases_lt, eqb-true, eq-eqb, true≢false}
+use Rattle.std.proofs.Common.{◌≡◌, ◌⊎◌, ℕ, ◌*◌, ◌<◌, ◌≤◌, true, List, [], ◌∷◌, ◌++◌, length, Result, Ok, Err, refl, sym, ap, subst, ◌∙◌, arith, inl, inr}
+use Rattle.std.specs.Prelude.{◌==◌, None, Some, OnOk, if◌then◌else◌}
+use Rattle.std.proofs.lemmas.Bool.{cases_Bool, cases_lt, eqb-true, eq-eqb}
 use Rattle.std.proofs.lemmas.List.{append-nil}
 use Rattle.cbor.specs.declared.error.FaultKind.TheVariants.{Limit, Truncated}
-use Rattle.termwiz_screen.specs.FullScreen.{FullScreen, HasFullSize}
+use Rattle.termwiz_screen.specs.FullScreen.{FullScreen}
 use Rattle.termwiz_screen.specs.Log.{next_number}
 use Rattle.termwiz_screen.specs.Picture.{full_screens}
 use Rattle.termwiz_surface_core.specs.Answer.{AnswerValue, Carries}
-use Rattle.termwiz_surface_core.specs.Carried.{IsPastOf}
 use Rattle.termwiz_surface_core.specs.Following.{KeepsViewers}
 use Rattle.termwiz_surface_core.specs.History.{KeepsNames, Names}
 use Rattle.termwiz_surface_core.specs.SurfaceValue.{SurfaceValue, full_of}
@@ -16,14 +15,13 @@ use Rattle.termwiz_surface_core.proofs.Remembering.{past-first}
 use Rattle.termwiz_surface_core.specs.Following as following
 use Rattle.termwiz_surface_core.specs.Following.{ViewerValue}
 use Rattle.termwiz_wire.specs.Answers.{answer_at}
-use Rattle.termwiz_wire.specs.Sent.{IsSent, answer}
+use Rattle.termwiz_wire.specs.Sent.{answer}
 use Rattle.termwiz_wire.specs.declared.fault.Fault.{Fault}
-use Rattle.termwiz_wire.specs.declared.fault.Limits.{Limits}
 use Rattle.termwiz_wire.specs.declared.sent.SentAnswer.{SentAnswer}
 use Rattle.termwiz_share.specs.declared.error.ClientError.{ClientError}
 use Rattle.termwiz_share.specs.declared.error.ClientError.TheVariants as errors
 use Rattle.termwiz_share.specs.Client.{ClientValue, IsReady, SameSettings, Shown, ask_of, fits, shown_by}
-use Rattle.termwiz_share.specs.Feeding.{AreCut, Ends, Feeds, HasTaken, TakesAll, with_bytes}
+use Rattle.termwiz_share.specs.Feeding.{Ends, Feeds, TakesAll, with_bytes}
 use Rattle.termwiz_share.specs.Histories.{Follows, FollowsTo, Given, HasFollowed, HasMore, HasStopped, IsGenuine, IsNamed, after, after_all, stream}
 use Rattle.termwiz_share.specs.Serving.{KeepsClients, Serves, Shows}
 use Rattle.termwiz_share.specs.Source.{IsResponse, SourceValue, sent_by}

@@ -1,10 +1,10 @@
 -- What is decoded of a stream's bytes, wherever they are cut, is its answers.
-use Rattle.std.proofs.Common.{◌≡◌, ◌≢◌, ◌⊎◌, ℕ, ◌+◌, ◌<◌, ◌≤◌, List, [], ◌∷◌, ◌++◌, length, take, drop, Option, Some, None, Result, Ok, Err, refl, sym, ap, subst, ◌∙◌, append_assoc, arith, inl, inr}
+use Rattle.std.proofs.Common.{◌≡◌, ℕ, ◌<◌, List, [], ◌∷◌, ◌++◌, length, take, drop, Result, Ok, Err, refl, sym, ap, subst, ◌∙◌, inl, inr}
 use Rattle.std.specs.List.{flat_map}
 use Rattle.std.specs.Prelude.{map}
 use Rattle.std.proofs.lemmas.Bool.{cases_lt}
 use Rattle.termwiz_wire.specs.MoreBytes.{Goes}
-use Rattle.std.proofs.lemmas.List.{append-nil, take-append-drop, take-append-le, take_at, length-append}
+use Rattle.std.proofs.lemmas.List.{take-append-drop, take-append-le, take_at}
 
 abbrev value : {A E : Type 0} → A → Result A E
 value x = Ok x

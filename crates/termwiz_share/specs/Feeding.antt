@@ -1,5 +1,5 @@
 -- What a client makes of the bytes that it is fed.
-use Rattle.std.specs.Prelude.{◌≡◌, ◌≢◌, ◌⊎◌, ℕ, ◌+◌, ◌≤◌, ◌^◌, Bool, true, false, Option, Some, None, List, [], ◌∷◌, ◌++◌, length, Result, Ok, Err}
+use Rattle.std.specs.Prelude.{◌≡◌, ◌≢◌, ◌⊎◌, ℕ, ◌+◌, ◌≤◌, ◌^◌, Bool, true, false, Some, None, List, [], ◌∷◌, ◌++◌, length, Result, Ok, Err}
 use Rattle.cbor.specs.declared.error.FaultKind.TheVariants.{Truncated}
 use Rattle.termwiz_screen.specs.Log.{next_number}
 use Rattle.termwiz_surface_core.specs.Answer.{is_repaint}

@@ -1,4 +1,4 @@
-use Rattle.std.proofs.Common.{◌≡◌, ◌∙◌, Err, ap, drop, subst, sym}
+use Rattle.std.proofs.Common.{◌≡◌, ◌∙◌, Err, ap, drop, subst}
 use Rattle.std.proofs.lemmas.List.{drop-drop}
 use Rattle.std.proofs.lemmas.Result.{err_from_is_err_and}
 use Rattle.termwiz_cell.specs.Measure.{measure}

@@ -1,12 +1,11 @@
 -- The decoding of an answer goes on from what is begun of it.
-use Rattle.std.proofs.Common.{◌≡◌, ◌≢◌, ℕ, zero, suc, ◌+◌, ◌-◌, ◌*◌, ◌<◌, ◌≤◌, ◌^◌, Bool, true, false, List, [], ◌∷◌, ◌++◌, length, take, drop, Option, Some, None, Result, Ok, Err, refl, sym, ap, subst, ◌∙◌, append_assoc, append-nil, arith}
+use Rattle.std.proofs.Common.{◌≡◌, ◌≢◌, ℕ, ◌+◌, ◌-◌, ◌<◌, ◌≤◌, ◌^◌, Bool, true, false, List, [], ◌∷◌, ◌++◌, length, take, drop, Option, Some, None, Result, Ok, Err, refl, sym, ap, subst, ◌∙◌, append_assoc, append-nil, arith}
 use Rattle.std.specs.Option.{ForSome}
 use Rattle.std.specs.Prelude.{map, IfSome, Vec}
 use Rattle.std.specs.declared.alloc.Global.{Global}
 use Rattle.std.proofs.lemmas.List.{length-append, length-drop, take-append-drop, take_all, drop-append-le, drop_at}
 use Rattle.cbor.specs.declared.error.FaultKind.{FaultKind}
 use Rattle.cbor.specs.declared.error.FaultKind.TheVariants.{Truncated}
-use Rattle.cbor.specs.declared.error.FaultKind.TheVariants as faults
 use Rattle.cbor.specs.declared.error.ReadError.{ReadError}
 use Rattle.cbor.specs.declared.error.ReadError.TheVariants as read_errors
 use Rattle.cbor.specs.Decoding.{◌>>=◌, Stop, Stops, IsBytes, allowed, ok, fault_of}
@@ -23,7 +22,6 @@ use Rattle.termwiz_wire.specs.declared.decode.begun.Begun.{Begun}
 use Rattle.termwiz_wire.specs.declared.decode.begun.NoAnswer.TheVariants as no_answers
 use Rattle.termwiz_wire.specs.declared.decode.halted.Halted.{Halted}
 use Rattle.termwiz_wire.specs.declared.decode.heads.Head.{Head}
-use Rattle.termwiz_wire.specs.declared.fault.Fault.{Fault}
 use Rattle.termwiz_wire.specs.declared.fault.Limits.{Limits}
 use Rattle.termwiz_wire.specs.declared.fault.WireError.{WireError}
 use Rattle.termwiz_wire.specs.declared.sent.SentAnswer.{SentAnswer}

@@ -13,7 +13,6 @@ use Rattle.termwiz_wire.specs.declared.decode.halted.Halted.{Halted}
 use Rattle.termwiz_wire.specs.declared.decode.heads.Head.{Head}
 use Rattle.termwiz_wire.specs.declared.fault.Fault.{Fault}
 use Rattle.termwiz_wire.specs.declared.fault.Limits.{Limits}
-use Rattle.termwiz_wire.specs.declared.fault.WireError.{WireError}
 use Rattle.termwiz_wire.specs.declared.fault.WireError.TheVariants as errors
 use Rattle.termwiz_wire.specs.declared.sent.SentAnswer.{SentAnswer}
 

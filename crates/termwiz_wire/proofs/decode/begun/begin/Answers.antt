@@ -1,5 +1,5 @@
 use Rattle.std.proofs.Common.{◌≡◌, ℕ, ◌-◌, List, length, take, None, refl, subst, ◌∙◌}
-use Rattle.cbor.specs.Decoding.{IsBytes, Stops, allowed, fault_of}
+use Rattle.cbor.specs.Decoding.{IsBytes, Stops, allowed}
 use Rattle.cbor.specs.declared.error.FaultKind.TheVariants.{Truncated}
 use Rattle.cbor.specs.declared.error.ReadError.TheVariants as read_errors
 use Rattle.termwiz_cell.specs.Measure.{measure}

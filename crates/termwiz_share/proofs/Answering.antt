@@ -130,3 +130,7 @@ response_of f s t ask n given same alike from a before after whole fits sent =
 pub begins : {A E : Type 0} (r : Result A E) (old new : List ℕ) → Extends old new → OnErr r ((more : List ℕ) × (new ≡ old ++ more))
 begins (Ok x) old new kept = tt
 begins (Err e) old new kept = let b = kept old (record { rest = []; whole = sym (append-nil old) }) in (b.rest, b.whole)
+
+-- a response behind nothing stands alone
+pub alone_of : {W : Type 0} (f : W → List ℕ → ℕ) (s : SourceValue W) (ask : Ask) (before after : List ℕ) → Responds f s ask before after → before ≡ [] → IsResponse f s ask after
+alone_of f s ask before after r empty = subst (λ (b : List ℕ). IsResponse f s ask b) (sym (r.appended ∙ ap (λ (b : List ℕ). b ++ r.bytes) empty)) r.response

@@ -1,5 +1,6 @@
 pub mod Streams
 pub mod Fed
 pub mod Taking
+pub mod Resumed
 pub mod Served
 pub mod Answering

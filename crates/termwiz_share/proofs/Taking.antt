@@ -75,6 +75,11 @@ pub made_of : {W : Type 0} (m : List ℕ → ℕ) (s t : SurfaceValue W) (made c
 made_of m s t made changes n (Ok k) e same a = (full-made m s t made a.3 ∙ ap (λ (cs : List ChangeValue). played full_screens m (full_of s) cs) same, a.3.widths)
 made_of m s t made changes n (Err x) e same a = absurd (true≢false e)
 
+-- and the surface is of the kind that it was
+pub adds_full : {W : Type 0} (m : List ℕ → ℕ) (s t : SurfaceValue W) (made : List ChangeValue) (n : ℕ) (result : Result ℕ SurfaceError) → is_err result ≡ false → Adds m s made n result t → t.full ≡ s.full
+adds_full m s t made n (Ok k) e a = a.3.full
+adds_full m s t made n (Err x) e a = absurd (true≢false e)
+
 -- all bytes from one on
 pub slice_is : (bytes : List ℕ) (start : ℕ) → take (length bytes - start) (drop start bytes) ≡ drop start bytes
 slice_is bytes start = take_all (length bytes - start) (drop start bytes) (omega (arith, length-drop start bytes))

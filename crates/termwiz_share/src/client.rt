@@ -17,7 +17,7 @@ use termwiz_cell::change::SequenceNo;
 use termwiz_cell::emoji::Widths;
 use termwiz_surface_core::surface::Surface;
 use termwiz_wire::{
-    Ask, FaultKind, Limits, SourceNo, WireError, answers, decode_answer, encode_ask,
+    Ask, Begun, Limits, NoAnswer, SourceNo, WireError, answers, decode_more, encode_ask,
 };
 
 /// Shows what a source showed when it gave the last answer that was taken.
@@ -35,11 +35,15 @@ pub struct Client<W: Widths> {
     bytes: Vec<u8>,
     // How many of them are used.
     start: usize,
+    // What was decoded of the answer that the others begin.
+    begun: Option<Begun>,
     stopped: Option<ClientError>,
 }
 
 impl<W: Widths> Model for Client<W> {
-    ghost use Rattle.std.specs.Prelude.{◌≡◌, ◌<◌, ◌≤◌, [], drop, length, true};
+    ghost use Rattle.std.specs.Prelude.{◌≡◌, ◌<◌, ◌≤◌, [], IfSome, drop, length, true};
+    ghost use Rattle.termwiz_cell.specs.Measure.{measure};
+    ghost use Rattle.termwiz_wire.specs.Resuming.{LeadsOn};
     ghost use Rattle.termwiz_share.specs.Client.{ClientValue};
 
     ghost Value = { ClientValue W };
@@ -55,7 +59,9 @@ impl<W: Widths> Model for Client<W> {
 
     ghost invariant = { λ c. (c.start ≤ length c.bytes.items)
         × (c.surface.full ≡ true) × (c.surface.log.changes ≡ [])
-        × (0 < c.limits.bytes) × (c.source ≡ 0 → c.number ≡ 0) };
+        × (0 < c.limits.bytes) × (c.source ≡ 0 → c.number ≡ 0)
+        × IfSome c.begun (λ b. LeadsOn (measure W.width_of c.surface.widths) c.limits b
+        (drop c.start c.bytes.items)) };
 }
 
 impl<W: Widths> Client<W> {
@@ -86,6 +92,7 @@ impl<W: Widths> Client<W> {
             number: 0,
             bytes: Vec::new(alloc),
             start: 0,
+            begun: None,
             stopped: None,
         })
     }
@@ -150,6 +157,7 @@ impl<W: Widths> Client<W> {
     {
         self.bytes.clear();
         self.start = 0;
+        self.begun = None;
         self.stopped = None;
     }
 
@@ -212,17 +220,23 @@ impl<W: Widths> Client<W> {
             length self.new.kept < length self.old.kept) }
     {
         let widths = self.surface.widths();
-        match decode_answer(self.alloc, &widths, self.limits, &self.bytes[self.start..]) {
+        let begun = self.begun.take();
+        let bytes = &self.bytes[self.start..];
+        match decode_more(self.alloc, &widths, self.limits, begun, bytes) {
             Ok((sent, taken)) => {
                 self.take(sent)?;
+                self.begun = None;
                 self.start += taken;
                 Ok(true)
             }
-            Err(WireError::Memory) => Err(ClientError::Memory),
-            Err(WireError::Fault(fault)) => match fault.kind {
-                FaultKind::Truncated => Ok(false),
-                _ => Err(self.stop(ClientError::Fault(fault))),
-            },
+            Err(NoAnswer::Cut(begun)) => {
+                self.begun = begun;
+                Ok(false)
+            }
+            Err(NoAnswer::Failed(WireError::Memory)) => Err(ClientError::Memory),
+            Err(NoAnswer::Failed(WireError::Fault(fault))) => {
+                Err(self.stop(ClientError::Fault(fault)))
+            }
         }
     }
 

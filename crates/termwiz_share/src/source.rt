@@ -2,8 +2,9 @@
 ghost use Rattle.std.specs.Prelude.{◌≡◌, ◌≢◌, ◌+◌, ◌-◌, ◌<◌, ◌^◌, ◌∷◌, ◌++◌, [], Err, IfOk, List};
 ghost use Rattle.std.specs.Prelude.{OnErr, OnOk, ℕ, min, vec_len};
 ghost use Rattle.termwiz_share.specs.{Adds, Answers, ClientValue, HasCopied, HasDrawn, IsCopied};
-ghost use Rattle.termwiz_share.specs.{IsDrawn, IsSurfaceSize, KeepsClients, KeepsViewers, Resizes};
-ghost use Rattle.termwiz_share.specs.{Responds, ScrollRegion, Serves, SourceValue, blank_surface};
+ghost use Rattle.termwiz_share.specs.{IsDrawn, IsResponse, IsSurfaceSize, KeepsClients};
+ghost use Rattle.termwiz_share.specs.{KeepsViewers, Resizes, Responds, ScrollRegion, Serves};
+ghost use Rattle.termwiz_share.specs.{SourceValue, blank_surface};
 ghost use Rattle.termwiz_share.specs.{change_value, copied_region, length, map, measure};
 ghost use Rattle.termwiz_share.specs.{most_bytes, next_number, screen_of, trimmed, true};
 
@@ -198,6 +199,9 @@ impl<W: Widths> Source<W> {
     pub fn respond(&mut self, ask: Ask, out: &mut Vec<u8>) -> Result<(), AllocError>
         ensures ok { OnOk result (
             Responds (measure W.width_of) self.new ask out.old.items out.new.items) }
+        // Into an empty buffer it is the response alone.
+        ensures alone { out.old.items ≡ [] → OnOk result (
+            IsResponse (measure W.width_of) self.new ask out.new.items) }
         ensures trims { OnOk result (
             self.new ≡ record self.old { surface = trimmed self.old.surface }) }
         ensures err { OnErr result (self.new ≡ self.old) }

@@ -92,10 +92,10 @@ abbrev from_source : ℕ → ℕ → ℕ × List ℕ → Read
 from_source room cells s = size_at room s.1 >>= λ w. from_width room cells s.0 w
 
 -- the bytes of a head, but for the number of changes
-abbrev head_bytes : Head → List ℕ
+abbrev pub head_bytes : Head → List ℕ
 head_bytes x = array 7 ++ unsigned 2 ++ unsigned x.source ++ unsigned x.width ++ unsigned x.height ++ unsigned x.base ++ unsigned x.number
 
-record HeadFound (cells : ℕ) (bytes : List ℕ) (x : Head × List ℕ) : Type 0 where
+pub record HeadFound (cells : ℕ) (bytes : List ℕ) (x : Head × List ℕ) : Type 0 where
   -- before the number of changes
   pub middle : List ℕ
   pub front : Takes bytes (head_bytes x.0) middle
@@ -104,7 +104,7 @@ record HeadFound (cells : ℕ) (bytes : List ℕ) (x : Head × List ℕ) : Type 
   pub few : x.0.width * x.0.height ≤ cells
   pub named : 0 < x.0.source
 
-head_takes : (room cells : ℕ) (bytes : List ℕ) (x : Head × List ℕ) → IsBytes bytes → head_at room cells bytes ≡ Ok x → HeadFound cells bytes x
+pub head_takes : (room cells : ℕ) (bytes : List ℕ) (x : Head × List ℕ) → IsBytes bytes → head_at room cells bytes ≡ Ok x → HeadFound cells bytes x
 unfolding head_at
 head_takes room cells bytes x fits e =
     let body = bind_ok (opened_at room 7 bytes) (λ body. source_at room body >>= λ s. from_source room cells s) x e in
@@ -153,6 +153,16 @@ pub each_regions : (measure : List ℕ → ℕ) (room height n : ℕ) (bytes : L
 each_regions measure room height n bytes x fits lt e =
     let start : Takes (array n ++ bytes) (array n) bytes = record { parts = refl; rest_fits = fits } in
     regions_of height x.0 (listed_takes measure room (Some height) n (array n ++ bytes) bytes x start lt e).2
+
+-- so do those of an answer
+pub answer_regions : (measure : List ℕ → ℕ) (room cells : ℕ) (bytes : List ℕ) (x : SentAnswer × List ℕ) → IsBytes bytes → answer_in measure room cells bytes ≡ Ok x → regions_fit x.0.answer.height x.0.answer.changes ≡ true
+unfolding answer_in
+answer_regions measure room cells bytes x fits e =
+    let head = bind_ok (halted None (head_at room cells bytes)) (λ head. each_at measure room (Some head.0.height) [] head.0.count head.1 >>= λ changes. ok (sent_of head.0 changes.0) changes.1) x e in
+    let cs = bind_ok (each_at measure room (Some head.0.0.height) [] head.0.0.count head.0.1) (λ changes. ok (sent_of head.0.0 changes.0) changes.1) x head.2 in
+    let th = head_takes room cells bytes head.0 fits (halted_ok None (head_at room cells bytes) head.0 head.1) in
+    let tc = listed_takes measure room (Some head.0.0.height) head.0.0.count th.middle head.0.1 cs.0 th.listed th.count cs.1 in
+    subst (λ (y : SentAnswer × List ℕ). regions_fit y.0.answer.height y.0.answer.changes ≡ true) (ok_is {A = SentAnswer × List ℕ} {E = Halt} (sent_of head.0.0 cs.0.0, cs.0.1) x cs.2) (regions_of head.0.0.height cs.0.0 tc.2)
 
 -- its changes are no more than the bytes that it took
 pub answer-some : (measure : List ℕ → ℕ) (s : SentAnswer) (bytes rest : List ℕ) → bytes ≡ answer measure s ++ rest → length s.answer.changes + length rest ≤ length bytes

@@ -19,4 +19,5 @@ pub mod CutLoops
 pub mod Prefixes
 pub mod Widening
 pub mod MoreBytes
+pub mod Resuming
 pub mod PastLimits

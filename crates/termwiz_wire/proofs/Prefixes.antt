@@ -300,7 +300,7 @@ pub ask_reads : Reads fault left ask_in
 unfolding ask_in
 ask_reads = bind_rest _ (opened_reads 3) (bind _ unsigned_reads (λ source. bind _ (asked_reads source) (λ number. done)))
 
-head_reads : (cells : ℕ) → Reads fault left (λ room bytes. head_at room cells bytes)
+pub head_reads : (cells : ℕ) → Reads fault left (λ room bytes. head_at room cells bytes)
 unfolding head_at
 head_reads cells = bind_rest _ (opened_reads 7) (bind _ source_reads (λ s. bind _ size_reads (λ w. bind _ (height_reads cells w) (λ h. bind _ unsigned_reads (λ b. bind _ (number_reads b) (λ n. bind _ list_reads (λ c. done)))))))
 

@@ -44,7 +44,7 @@ decodes_none : {X Y : Type 0} (view : X → Y) (o : Option FaultKind) (error : R
 decodes_none view None error at change read is h = rw is tt
 decodes_none view (Some f) error at change read is h = rw is h
 
-if_some : {A : Type 0} (o : Option A) (P Q : A → Type 0) → ((x : A) → P x → Q x) → IfSome o P → IfSome o Q
+pub if_some : {A : Type 0} (o : Option A) (P Q : A → Type 0) → ((x : A) → P x → Q x) → IfSome o P → IfSome o Q
 if_some None P Q law is = tt
 if_some (Some x) P Q law is = law x is
 
@@ -96,7 +96,7 @@ took {A = A} read limit encoded bytes hand rest room n x same left parts e is =
       exact = within_ok read limit bytes encoded rest x cut here ∙ ap (λ (k : ℕ). ok {E = Fault} x (drop k bytes)) n_is;
     }
 
-abbrev Stopped : {A : Type 0} → ReadError → Option ℕ → ℕ → Result (A × List ℕ) Halt → Type 0
+abbrev pub Stopped : {A : Type 0} → ReadError → Option ℕ → ℕ → Result (A × List ℕ) Halt → Type 0
 Stopped error change left r = IfSome (fault_of error) (λ f. r ≡ Err (record { stop = record { fault = f; left = left }; change = change }))
 
 -- a call fails where decoding halts

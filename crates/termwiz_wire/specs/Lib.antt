@@ -8,4 +8,5 @@ pub mod Forms
 pub mod Sent
 pub mod Answers
 pub mod MoreBytes
+pub mod Resuming
 pub mod Lengths

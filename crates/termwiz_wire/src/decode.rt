@@ -2,6 +2,7 @@
 mod answers;
 mod asks;
 mod attributes;
+mod begun;
 mod changes;
 mod cuts;
 mod halted;
@@ -11,4 +12,5 @@ mod small;
 
 pub use answers::decode_answer;
 pub use asks::decode_ask;
+pub use begun::{Begun, NoAnswer, decode_more};
 pub use changes::{decode_change, decode_changes};

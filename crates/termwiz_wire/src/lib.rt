@@ -15,7 +15,9 @@ mod pieces;
 mod sent;
 
 pub use cbor::FaultKind;
-pub use decode::{decode_answer, decode_ask, decode_change, decode_changes};
+pub use decode::{
+    Begun, NoAnswer, decode_answer, decode_ask, decode_change, decode_changes, decode_more,
+};
 pub use encode::{encode_answer, encode_ask, encode_change, encode_changes};
 pub use fault::{Fault, Limits, WireError};
 pub use len::encoded_len;

@@ -1,8 +1,7 @@
 //! A screen that is shared with three clients: each asks, is answered, and shows what it is sent.
-ghost use Rattle.std.specs.Prelude.{◌≡◌, ◌<◌, ◌∷◌, [], IfOk, OnOk};
+ghost use Rattle.std.specs.Prelude.{◌≡◌, ◌<◌, ◌∷◌, [], IfOk, OnOk, true};
 ghost use Rattle.uses.specs.{Adds, IsReady, IsSurfaceSize, KeepsClients, Serves, ShowsAll};
 ghost use Rattle.uses.specs.{blank_surface, change_value, full_of, measure, next_number, trimmed};
-ghost use Rattle.uses.specs.{true};
 
 use std::alloc::{AllocError, Global};
 use std::marker::Model;

@@ -45,6 +45,7 @@ impl<W: Widths> Client<W> {
         }
         surface.flush_changes_older_than(surface.current_seqno());
         self.surface = surface;
+        self.begun = None;
         self.source = source;
         self.number = number;
         Ok(())
@@ -59,6 +60,7 @@ impl<W: Widths> Client<W> {
         ensures { Takes (measure W.width_of) self.old (sent_by source answer) result self.new }
     {
         let number = answer.number();
+        self.begun = None;
         if answer.changes().len() > usize::MAX - self.surface.current_seqno() {
             self.forget();
             return Err(ClientError::Numbers);

@@ -89,7 +89,7 @@ fn answer_of<W: Widths>(
     Ok(sent_from(head, changes))
 }
 
-fn sent_from(head: Head, changes: Vec<Change>) -> SentAnswer
+pub(super) fn sent_from(head: Head, changes: Vec<Change>) -> SentAnswer
     requires width { (0 < head.width) × (head.width < 2 ^ 32) }
     requires height { (0 < head.height) × (head.height < 2 ^ 32) }
     requires numbers { head.base ≤ head.number }

@@ -164,7 +164,7 @@ pub(super) fn each_of<W: Widths>(
 }
 
 #[tactic(auto, unfolding(crate::specs::Decoding::change_at))]
-fn change_of<W: Widths>(
+pub(super) fn change_of<W: Widths>(
     alloc: Global,
     widths: &W,
     rows: Option<usize>,

@@ -9,7 +9,7 @@ use cbor::{ReadError, Reader};
 use termwiz_cell::change::SequenceNo;
 
 /// What an answer has before its changes.
-#[derive(Clone, Copy)]
+#[derive(Clone, Copy, Debug)]
 pub(super) struct Head {
     pub source: SourceNo,
     pub width: usize,

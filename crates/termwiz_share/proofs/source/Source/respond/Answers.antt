@@ -2,7 +2,7 @@ use Rattle.std.proofs.Common.{◌≡◌, ◌⊎◌, ◌<◌, arith, inl, inr, le
 use Rattle.std.specs.Prelude.{◌^◌}
 use Rattle.termwiz_cell.specs.Measure.{measure}
 use Rattle.termwiz_share.specs.Source.{SourceValue}
-use Rattle.termwiz_share.proofs.Answering.{begins, response_of}
+use Rattle.termwiz_share.proofs.Answering.{alone_of, begins, response_of}
 use Rattle.termwiz_share.proofs.Served.{keeps_clients}
 use Rattle.termwiz_share.proofs.source.Source.respond.Goals as goal
 use Rattle.termwiz_share.proofs.source.Source.respond.Goals.{then-ask-self, else-ask-self}
@@ -24,3 +24,6 @@ pub returns-clause-serves : goal.returns-clause-serves
 returns-clause-serves g c =
     rw (← c.self.view_is)
     (keeps_clients (measure g.W.Widths.width_of) (record { surface = c.self.inside.surface; number = c.self.inside.number }) (record { surface = c.forget_unneeded.new.self; number = c.self.inside.number }) refl c.forget_unneeded.ensures.followed c.forget_unneeded.ensures.remembered)
+
+pub returns-clause-alone : goal.returns-clause-alone
+returns-clause-alone g c = λ empty. alone_of (measure g.W.Widths.width_of) _ c.args.ask _ _ (returns-clause-ok g c) empty

@@ -70,9 +70,8 @@ module _ (limits : Limits) (v : Viewing) (known : Option Bytes) (now : WatcherVa
   shows_taken new view shows = if_known known (λ bytes. Shows limits v bytes (Ok (Some view)) new.viewing (coming new later)) (λ bytes is.
       let rest = all_of bytes is in
       let here : Takes limits v now.pending new.viewing new.pending =
-          subst (λ (l : Limits). Takes l v now.pending new.viewing new.pending) there.limits_are
-          (subst (λ (u : Viewing). Takes now.limits u now.pending new.viewing new.pending) there.viewing_is shows.0) in
-      (
+      subst (λ (l : Limits). Takes l v now.pending new.viewing new.pending) there.limits_are
+      (subst (λ (u : Viewing). Takes now.limits u now.pending new.viewing new.pending) there.viewing_is shows.0) in (
         new.pending ++ rest.rest,
         ap (prepend_known new.pending) rest.known,
         subst (λ (b : Bytes). Takes limits v b new.viewing (new.pending ++ rest.rest)) (sym rest.all) (takes_more limits v new.viewing now.pending new.pending rest.rest here),
@@ -84,8 +83,8 @@ module _ (limits : Limits) (v : Viewing) (known : Option Bytes) (now : WatcherVa
   fails_here new why bytes is whole shows =
       let rest = all_of bytes is in
       let here : Fails limits v now.pending why =
-          subst (λ (l : Limits). Fails l v now.pending why) there.limits_are
-          (subst (λ (u : Viewing). Fails now.limits u now.pending why) there.viewing_is shows.0) in
+      subst (λ (l : Limits). Fails l v now.pending why) there.limits_are
+      (subst (λ (u : Viewing). Fails now.limits u now.pending why) there.viewing_is shows.0) in
       subst (λ (b : Bytes). Fails limits v b why) (sym rest.all) (fails_more limits v now.pending rest.rest why whole here)
 
   some_here : (new : WatcherValue) (bytes : Bytes) → known ≡ Some bytes → new ≡ now → eqb (length new.pending) 0 ≡ false → bytes ≡ [] → ⊥
@@ -107,7 +106,7 @@ module _ (limits : Limits) (v : Viewing) (known : Option Bytes) (now : WatcherVa
             let e : Fault why ≡ stays = cc (rw whole at is) in
             subst (λ (error : WatchError). Failed new error) e
             (if_known known (λ bytes. Shows limits v bytes (Err (Fault why)) new.viewing (coming new later)) (λ bytes is.
-              (some_here new bytes is shows.1 (or_right (is_cut why) (eqb (length new.pending) 0) whole), fails_here new why bytes is (or_left (is_cut why) (eqb (length new.pending) 0) whole) shows)))
+            (some_here new bytes is shows.1 (or_right (is_cut why) (eqb (length new.pending) 0) whole), fails_here new why bytes is (or_left (is_cut why) (eqb (length new.pending) 0) whole) shows)))
       ]
   shows_failed new Unreadable stays shows is = absurd shows
   shows_failed new Memory stays shows is =

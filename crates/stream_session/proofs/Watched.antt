@@ -147,20 +147,20 @@ module _ (limits : Limits) (each : Bool) where
       left = if_some known (λ bytes. IsLeft limits each bytes views count now.viewing (coming now later))
           (λ bytes. IsLeft limits each bytes ((if each then views else []) ++ view ∷ []) (count + 1) new.viewing (coming new after))
           (λ bytes l.
-            let s = shows_left bytes (Ok (Some view)) l (subst (λ (r : Result (Option View) WatchError). NextShows now later r new after) is shows) in
-            record { left = s.0; known = s.1; has = next_watched limits each bytes views now.viewing new.viewing l.left s.0 count view l.has s.2 s.3 }) on.left;
+          let s = shows_left bytes (Ok (Some view)) l (subst (λ (r : Result (Option View) WatchError). NextShows now later r new after) is shows) in
+          record { left = s.0; known = s.1; has = next_watched limits each bytes views now.viewing new.viewing l.left s.0 count view l.has s.2 s.3 }) on.left;
     }
 
     -- the stream ends
     pub on_ended : (result : Result (Option View) WatchError) → result ≡ Ok None → NextShows now later result new after → IfSome known (λ bytes. HasEnded limits each bytes views None)
     on_ended result is shows = if_some known (λ bytes. IsLeft limits each bytes views count now.viewing (coming now later)) (λ bytes. HasEnded limits each bytes views None)
         (λ bytes l.
-          let s = shows_left bytes (Ok None) l (subst (λ (r : Result (Option View) WatchError). NextShows now later r new after) is shows) in
-          ended limits each bytes views None now.viewing l.left count l.has s) on.left
+        let s = shows_left bytes (Ok None) l (subst (λ (r : Result (Option View) WatchError). NextShows now later r new after) is shows) in
+        ended limits each bytes views None now.viewing l.left count l.has s) on.left
 
     -- an answer isn't taken
     pub on_fault : (result : Result (Option View) WatchError) (why : AnswerFault) → result ≡ Err (Fault why) → NextShows now later result new after → IfSome known (λ bytes. HasEnded limits each bytes views (Some (count + 1, why)))
     on_fault result why is shows = if_some known (λ bytes. IsLeft limits each bytes views count now.viewing (coming now later)) (λ bytes. HasEnded limits each bytes views (Some (count + 1, why)))
         (λ bytes l.
-          let s = shows_left bytes (Err (Fault why)) l (subst (λ (r : Result (Option View) WatchError). NextShows now later r new after) is shows) in
-          ended limits each bytes views (Some (count + 1, why)) now.viewing l.left count l.has (s.0, refl, s.1)) on.left
+        let s = shows_left bytes (Err (Fault why)) l (subst (λ (r : Result (Option View) WatchError). NextShows now later r new after) is shows) in
+        ended limits each bytes views (Some (count + 1, why)) now.viewing l.left count l.has (s.0, refl, s.1)) on.left

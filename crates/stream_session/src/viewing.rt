@@ -13,9 +13,7 @@ use std::fmt;
 use std::fmt::{Display, Formatter};
 use std::marker::Model;
 use termwiz_surface::{Answer, Change, Screen, SequenceNo, Surface, UnicodeWidths};
-use termwiz_wire::{
-    Fault, FaultKind, Limits, SentAnswer, SourceNo, WireError, decode_answer,
-};
+use termwiz_wire::{Fault, FaultKind, Limits, SentAnswer, SourceNo, WireError, decode_answer};
 
 /// What a viewer shows that has taken an answer.
 #[derive(Drop, Debug)]
@@ -214,8 +212,10 @@ impl StreamViewer {
 
     // Makes the changes. Nobody follows the viewer, so it forgets them.
     fn add(&mut self, changes: &[Change]) -> Result<(), AllocError>
-        ensures { OnOk result (self.new ≡ record self.old { screen =
-            replay unicode_columns self.old.screen (map change_value changes.now) }) }
+        ensures { OnOk result (self.new ≡ record self.old {
+          screen =
+              replay unicode_columns self.old.screen (map change_value changes.now);
+        }) }
     {
         match self.surface.add_lent_changes(changes) {
             Ok(_) => {

@@ -165,11 +165,7 @@ fn show<O: Write>(
 }
 
 /// Prints a view, where there is one.
-fn print_last<O: Write>(
-    alloc: Global,
-    last: &Option<View>,
-    out: &mut O,
-) -> Result<(), SessionError>
+fn print_last<O: Write>(alloc: Global, last: &Option<View>, out: &mut O) -> Result<(), SessionError>
     ensures { OnOk result (
         Appends (O.contents out.old) (O.contents out.new) (last_lines last.now)) }
 {

@@ -1,7 +1,6 @@
 //! Proved callers of surfaces and lines: each file is one that a reader may begin with.
 #![tactic(auto)]
 
-pub mod carried;
 pub mod damage;
 pub mod follower;
 pub mod last_row;

@@ -1,8 +1,4 @@
-<<<<<<< HEAD
-use Rattle.std.proofs.Common.{◌≡◌, ◌∙◌, ap, drop}
-=======
 use Rattle.std.proofs.Common.{◌≡◌, ◌∙◌, Err, ap, drop, subst}
->>>>>>> h-resume
 use Rattle.std.proofs.lemmas.List.{drop-drop}
 use Rattle.std.proofs.lemmas.Result.{err_from_is_err_and}
 use Rattle.termwiz_cell.specs.Measure.{measure}

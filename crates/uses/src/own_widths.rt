@@ -1,7 +1,6 @@
 //! A width value of one's own: the widths of the Unicode tables, but for one character.
-ghost use Rattle.std.specs.Prelude.{◌≡◌, IfOk};
-ghost use Rattle.uses.specs.{IsSurfaceSize, blank_surface, false};
-ghost use Rattle.uses.specs.declared.own_widths.WideEllipsis.{WideEllipsis};
+ghost use Rattle.std.specs.Prelude.{◌≡◌, IfOk, false};
+ghost use Rattle.uses.specs.{IsSurfaceSize, blank_surface};
 
 use std::alloc::{AllocError, Global};
 use termwiz_surface::emoji::{Presentation, UnicodeVersion};
@@ -54,7 +53,8 @@ pub fn surface_with_wide_ellipses(
     height: usize,
 ) -> Result<Surface<WideEllipsis>, AllocError>
     requires size { IsSurfaceSize width height }
-    ensures { IfOk result (λ surface. surface ≡ blank_surface WideEllipsis width height false) }
+    ensures { IfOk result (λ surface.
+        surface ≡ blank_surface surface.widths width height false) }
 {
     Surface::new(alloc, width, height, WideEllipsis)
 }

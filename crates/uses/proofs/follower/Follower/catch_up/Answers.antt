@@ -1,5 +1,5 @@
-use Rattle.std.proofs.Common.{◌≡◌, ℕ, true, List, refl, sym, ap, ◌∙◌, subst, arith}
-use Rattle.termwiz_surface.specs.{Follows, HasFullSize, HasSize, IsFullStream, IsStream, SurfaceValue, ViewerValue, full_of, full_replay, full_screen, kept_of, measure, replay, screen_of, stream_of}
+use Rattle.std.proofs.Common.{◌≡◌, true, refl, sym, ap, ◌∙◌, subst}
+use Rattle.termwiz_surface.specs.{HasFullSize, HasSize, IsFullStream, IsStream, SurfaceValue, ViewerValue, full_of, full_replay, full_screen, kept_of, measure, replay, screen_of, stream_of}
 use Rattle.uses.proofs.Followed.{unnumbered}
 use Rattle.uses.proofs.follower.Follower.catch_up.Goals as goal
 

@@ -6,6 +6,9 @@
 In a block of the section "Examples" a command stands on the left, and what it prints from column 22
 on. A block with `send` goes through `surfsend` and `surfwatch -a`, any other through `surfview`, as
 they were built last: `rt run` in the crate of each.
+
+Each row of bytes in docs/VIEWER.md has to be a case that another encoder made, in the vectors of
+bindings/js/test, or a part of one.
 """
 import argparse
 import re
@@ -15,6 +18,8 @@ from pathlib import Path
 
 TOP = Path(__file__).resolve().parent.parent
 PAGE = TOP / "docs" / "SCRIPT.md"
+VIEWER = TOP / "docs" / "VIEWER.md"
+VECTORS = TOP / "bindings" / "js" / "test" / "vectors.txt"
 SIZE = ("6", "2")
 LEFT = 22
 
@@ -35,6 +40,13 @@ def run(name, words, text):
     return subprocess.run([program, *words], input=text, capture_output=True, check=False).stdout
 
 
+def strange_bytes():
+    """How many rows of bytes VIEWER.md has, and those of them that no vector has."""
+    rows = re.findall(r"`((?:[0-9a-f]{2} )+[0-9a-f]{2})`", VIEWER.read_text())
+    vectors = VECTORS.read_text()
+    return len(rows), [row for row in rows if row.replace(" ", "") not in vectors]
+
+
 def main():
     argparse.ArgumentParser(description=__doc__,
                             formatter_class=argparse.RawDescriptionHelpFormatter).parse_args()
@@ -51,6 +63,9 @@ def main():
             print(f"docs/SCRIPT.md: {script[0]} .. prints\n{printed.decode()}", end="")
     if failed or not count:
         sys.exit(f"docs/SCRIPT.md: {failed} of {count} examples differ")
+    count, strange = strange_bytes()
+    if strange or not count:
+        sys.exit(f"docs/VIEWER.md: no vector has {' or '.join(strange) or 'its examples'}")
 
 
 main()

@@ -322,8 +322,8 @@ tk_status tk_client_feed(tk_handle *client, const uint8_t *bytes, size_t len, tk
 /* Writes what to ask for the next answer, 20 bytes at most. TK_WRONG_KIND, TK_SHORT. */
 tk_status tk_client_ask(tk_handle *client, uint8_t *bytes, size_t room, size_t *len);
 
-/* Begins a new stream: drops the bytes that make no whole answer yet. What the client shows stays,
- * and so does what it asks for. TK_WRONG_KIND. */
+/* Begins a new stream: drops the bytes that make no whole answer yet. The client shows and
+ * asks for what it did before. TK_WRONG_KIND. */
 tk_status tk_client_reset(tk_handle *client);
 
 #ifdef __cplusplus

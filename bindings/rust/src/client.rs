@@ -130,8 +130,8 @@ impl Client {
         Ok(Ask::from(bytes))
     }
 
-    /// Begins a new stream: drops the bytes that make no whole answer yet. What the client shows
-    /// stays, and so does what it asks for.
+    /// Begins a new stream: drops the bytes that make no whole answer yet. The client shows
+    /// and asks for what it did before.
     pub fn reset(&mut self) {
         // Safety: the handle is live, and then the call doesn't fail.
         unsafe { ffi::tk_client_reset(self.screen.handle.get()) };

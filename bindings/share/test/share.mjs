@@ -69,8 +69,8 @@ let stream = null, browser = null, page = null, stopped = null;
 /** Another process that follows, and what it prints at the end. */
 function followElsewhere() {
     const follower = spawn(process.execPath, [here('follow.mjs'), shared.stream]);
-    Object.assign(follower, { told: '', output: '' });
-    follower.stderr.on('data', data => follower.told += data);
+    Object.assign(follower, { errors: '', output: '' });
+    follower.stderr.on('data', data => follower.errors += data);
     follower.stdout.on('data', data => follower.output += data);
     follower.last = once(follower, 'close').then(() => JSON.parse(follower.output));
     return follower;
@@ -139,7 +139,7 @@ test('colours, wide texts and emoji, in three sizes', { timeout: 20000 }, async 
     page = await browser?.open(shared.address + '?pull', 900, 600);
     shared.resize(100, 30);
     await follow(early, shared.stream, hasSize(100, 30));
-    await until(() => stopped.told.includes('size 100 30'), 'another size');
+    await until(() => stopped.errors.includes('size 100 30'), 'another size');
     stopped.kill('SIGSTOP');
     shared.resize(50, 14);
     await follow(early, shared.stream, hasSize(50, 14));
@@ -280,7 +280,7 @@ test('all show the last screen at the end', { timeout: 20000 }, async () => {
     const late = followElsewhere();
     stopped.kill('SIGCONT');
     for (const follower of [late, stopped]) {
-        await until(() => follower.told.includes('frame 100'), 'the last frame');
+        await until(() => follower.errors.includes('frame 100'), 'the last frame');
     }
     shared.press('q');
     await follow(early, shared.stream);

@@ -1,4 +1,5 @@
 pub mod Style
+pub mod Numbered
 pub mod StyleWord
 pub mod Link
 pub mod LinkLayout
@@ -49,8 +50,9 @@ pub use Rattle.termwiz_cell.specs.LinkPairs.{are_pairs, has_equals, pair_of, par
 pub use Rattle.termwiz_cell.specs.LinkParse.{AreEmpty, ArePrinted, AreTexts, HasPairs, ReadsLink, SpellsOnly, part}
 pub use Rattle.termwiz_cell.specs.LinkText.{AreInOrder, IsReadable, link_text, params_text}
 pub use Rattle.termwiz_cell.specs.Measure.{measure}
+pub use Rattle.termwiz_cell.specs.Numbered.{IsNumbered}
 pub use Rattle.termwiz_cell.specs.Sequence.{AddsAll, AddsOne, DistancesFit, IsSequence, MovesTo, RowFits, SequenceValue, aim, cell_place, grapheme_place, move_by, place_after, position_place, printed_columns, text_place}
-pub use Rattle.termwiz_cell.specs.Shapes.{is_blinking_shape, line_attribute_eq, shape_eq}
+pub use Rattle.termwiz_cell.specs.Shapes.{is_blinking_shape, line_at, line_attribute_eq, line_number, shape_at, shape_eq, shape_number}
 pub use Rattle.termwiz_cell.specs.Style.{blink_at, blink_eq, blink_number, flag_number, intensity_at, intensity_eq, intensity_number, is_blinking, is_underlined, semantic_at, semantic_number, underline_at, underline_eq, underline_number, vertical_at, vertical_number}
 pub use Rattle.termwiz_cell.specs.StyleLending.{LendsStyle}
 pub use Rattle.termwiz_cell.specs.StyleWord.{FitsWord, IsRgb, bits_at, color_at, color_number, rgb_at, rgb_number, style_at, style_sgr_only, word_part}

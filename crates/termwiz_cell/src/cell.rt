@@ -20,7 +20,7 @@ pub use attribute_change::AttributeChange;
 pub use attributes::CellAttributes;
 use std::alloc::{AllocError, Global};
 use std::marker::Model;
-pub use style::{Blink, Intensity, SemanticType, Underline, VerticalAlign};
+pub use style::{Blink, Intensity, SemanticType, Underline, UnknownNumber, VerticalAlign};
 use text::{CellText, cleaned};
 
 /// One cell of a screen: a text, which takes one or two columns, and its attributes.

@@ -1,14 +1,15 @@
-//! The changes of a surface, and how places and changes are numbered.
-ghost use Rattle.std.specs.Prelude.{◌≡◌, ◌↔◌, IfOk, IsTrue, false, string_bytes};
+//! The changes of a surface, and how places and changes are IsNumbered.
+ghost use Rattle.std.specs.Prelude.{◌≡◌, ◌<◌, ◌↔◌, IfOk, IsTrue, false, string_bytes};
 ghost use Rattle.termwiz_cell.specs.{Attribute, LineAttribute, Text, attribute_change_value};
 ghost use Rattle.termwiz_cell.specs.{change_eq, change_eq-Decides, change_value, copy_takes_memory};
 ghost use Rattle.termwiz_cell.specs.{decided, is_blinking_shape, is_text, line_attribute_eq};
-ghost use Rattle.termwiz_cell.specs.{on_equiv, on_per, partial_equiv_from_equiv, position_eq};
-ghost use Rattle.termwiz_cell.specs.{scroll_eq, shape_eq, visibility_eq};
+ghost use Rattle.termwiz_cell.specs.{line_at, line_number, IsNumbered, on_equiv, on_per};
+ghost use Rattle.termwiz_cell.specs.{partial_equiv_from_equiv, position_eq, scroll_eq, shape_at};
+ghost use Rattle.termwiz_cell.specs.{shape_eq, shape_number, visibility_eq};
 
 mod sequence;
 
-use crate::cell::{AttributeChange, CellAttributes};
+use crate::cell::{AttributeChange, CellAttributes, UnknownNumber};
 use crate::color::{ColorAttribute, is_same_color};
 pub use sequence::{ChangeSequence, SequenceError};
 use std::alloc::{AllocError, Global};
@@ -61,6 +62,34 @@ impl CursorShape {
             CursorShape::BlinkingBlock | CursorShape::BlinkingUnderline | CursorShape::BlinkingBar
         )
     }
+
+    /// Its number: the variants have those from 0 on, in their order.
+    pub fn number(self) -> u8
+        ensures value { result ≡ shape_number self }
+        ensures bound { result < 7 }
+    {
+        self as u8
+    }
+}
+
+/// The variant of a number, and a fault for the number of none.
+impl TryFrom<u8> for CursorShape {
+    type Error = UnknownNumber;
+
+    ghost try_from_gives = { IsNumbered 7 shape_at };
+
+    fn try_from(number: u8) -> Result<CursorShape, UnknownNumber> {
+        match number {
+            0 => Ok(CursorShape::Default),
+            1 => Ok(CursorShape::BlinkingBlock),
+            2 => Ok(CursorShape::SteadyBlock),
+            3 => Ok(CursorShape::BlinkingUnderline),
+            4 => Ok(CursorShape::SteadyUnderline),
+            5 => Ok(CursorShape::BlinkingBar),
+            6 => Ok(CursorShape::SteadyBar),
+            _ => Err(UnknownNumber(number)),
+        }
+    }
 }
 
 /// How large the cells of a line are shown. The cells stay as they are.
@@ -74,6 +103,33 @@ pub enum LineAttribute {
     DoubleWidthLine,
     /// As large as on any line.
     SingleWidthLine,
+}
+
+impl LineAttribute {
+    /// Its number: the variants have those from 0 on, in their order.
+    pub fn number(self) -> u8
+        ensures value { result ≡ line_number self }
+        ensures bound { result < 4 }
+    {
+        self as u8
+    }
+}
+
+/// The variant of a number, and a fault for the number of none.
+impl TryFrom<u8> for LineAttribute {
+    type Error = UnknownNumber;
+
+    ghost try_from_gives = { IsNumbered 4 line_at };
+
+    fn try_from(number: u8) -> Result<LineAttribute, UnknownNumber> {
+        match number {
+            0 => Ok(LineAttribute::DoubleHeightTopHalfLine),
+            1 => Ok(LineAttribute::DoubleHeightBottomHalfLine),
+            2 => Ok(LineAttribute::DoubleWidthLine),
+            3 => Ok(LineAttribute::SingleWidthLine),
+            _ => Err(UnknownNumber(number)),
+        }
+    }
 }
 
 /// The number of a change of a surface: each change has the next one after the change before it.

@@ -1,8 +1,16 @@
 //! The small attributes, and their numbers.
 ghost use Rattle.std.specs.Prelude.{◌≡◌, ◌<◌};
 ghost use Rattle.termwiz_cell.specs.{blink_at, blink_number, intensity_at, intensity_number};
-ghost use Rattle.termwiz_cell.specs.{semantic_at, semantic_number, underline_at, underline_number};
-ghost use Rattle.termwiz_cell.specs.{is_blinking, is_underlined, vertical_at, vertical_number};
+ghost use Rattle.termwiz_cell.specs.{is_blinking, is_underlined, IsNumbered, semantic_at};
+ghost use Rattle.termwiz_cell.specs.{semantic_number, underline_at, underline_number};
+ghost use Rattle.termwiz_cell.specs.{vertical_at, vertical_number};
+
+use thiserror::Error;
+
+/// A number that no variant has.
+#[derive(Error, Drop, Clone, Copy, PartialEq, Eq, Debug)]
+#[error("{0} is the number of no variant")]
+pub struct UnknownNumber(pub u8);
 
 /// How strong a text is drawn: as others are, bold, or dim.
 #[derive(Clone, Copy, PartialEq, Eq, Debug, Default)]
@@ -69,132 +77,134 @@ pub enum VerticalAlign {
 }
 
 impl Intensity {
-    pub(super) fn number(self) -> u64
+    /// Its number: the variants have those from 0 on, in their order.
+    pub fn number(self) -> u8
         ensures value { result ≡ intensity_number self }
         ensures bound { result < 3 }
     {
-        match self {
-            Intensity::Normal => 0,
-            Intensity::Bold => 1,
-            Intensity::Half => 2,
-        }
+        self as u8
     }
+}
 
-    pub(super) fn from_number(number: u64) -> Intensity
-        requires { number < 3 }
-        ensures { result ≡ intensity_at number }
-    {
+/// The variant of a number, and a fault for the number of none.
+impl TryFrom<u8> for Intensity {
+    type Error = UnknownNumber;
+
+    ghost try_from_gives = { IsNumbered 3 intensity_at };
+
+    fn try_from(number: u8) -> Result<Intensity, UnknownNumber> {
         match number {
-            0 => Intensity::Normal,
-            1 => Intensity::Bold,
-            2 => Intensity::Half,
-            _ => unreachable!(),
+            0 => Ok(Intensity::Normal),
+            1 => Ok(Intensity::Bold),
+            2 => Ok(Intensity::Half),
+            _ => Err(UnknownNumber(number)),
         }
     }
 }
 
 impl Underline {
-    pub(super) fn number(self) -> u64
+    /// Its number: the variants have those from 0 on, in their order.
+    pub fn number(self) -> u8
         ensures value { result ≡ underline_number self }
         ensures bound { result < 6 }
     {
-        match self {
-            Underline::None => 0,
-            Underline::Single => 1,
-            Underline::Double => 2,
-            Underline::Curly => 3,
-            Underline::Dotted => 4,
-            Underline::Dashed => 5,
-        }
+        self as u8
     }
+}
 
-    pub(super) fn from_number(number: u64) -> Underline
-        requires { number < 6 }
-        ensures { result ≡ underline_at number }
-    {
+/// The variant of a number, and a fault for the number of none.
+impl TryFrom<u8> for Underline {
+    type Error = UnknownNumber;
+
+    ghost try_from_gives = { IsNumbered 6 underline_at };
+
+    fn try_from(number: u8) -> Result<Underline, UnknownNumber> {
         match number {
-            0 => Underline::None,
-            1 => Underline::Single,
-            2 => Underline::Double,
-            3 => Underline::Curly,
-            4 => Underline::Dotted,
-            5 => Underline::Dashed,
-            _ => unreachable!(),
+            0 => Ok(Underline::None),
+            1 => Ok(Underline::Single),
+            2 => Ok(Underline::Double),
+            3 => Ok(Underline::Curly),
+            4 => Ok(Underline::Dotted),
+            5 => Ok(Underline::Dashed),
+            _ => Err(UnknownNumber(number)),
         }
     }
 }
 
 impl Blink {
-    pub(super) fn number(self) -> u64
+    /// Its number: the variants have those from 0 on, in their order.
+    pub fn number(self) -> u8
         ensures value { result ≡ blink_number self }
         ensures bound { result < 3 }
     {
-        match self {
-            Blink::None => 0,
-            Blink::Slow => 1,
-            Blink::Rapid => 2,
-        }
+        self as u8
     }
+}
 
-    pub(super) fn from_number(number: u64) -> Blink
-        requires { number < 3 }
-        ensures { result ≡ blink_at number }
-    {
+/// The variant of a number, and a fault for the number of none.
+impl TryFrom<u8> for Blink {
+    type Error = UnknownNumber;
+
+    ghost try_from_gives = { IsNumbered 3 blink_at };
+
+    fn try_from(number: u8) -> Result<Blink, UnknownNumber> {
         match number {
-            0 => Blink::None,
-            1 => Blink::Slow,
-            2 => Blink::Rapid,
-            _ => unreachable!(),
+            0 => Ok(Blink::None),
+            1 => Ok(Blink::Slow),
+            2 => Ok(Blink::Rapid),
+            _ => Err(UnknownNumber(number)),
         }
     }
 }
 
 impl SemanticType {
-    pub(super) fn number(self) -> u64
+    /// Its number: the variants have those from 0 on, in their order.
+    pub fn number(self) -> u8
         ensures value { result ≡ semantic_number self }
         ensures bound { result < 3 }
     {
-        match self {
-            SemanticType::Output => 0,
-            SemanticType::Input => 1,
-            SemanticType::Prompt => 2,
-        }
+        self as u8
     }
+}
 
-    pub(super) fn from_number(number: u64) -> SemanticType
-        requires { number < 3 }
-        ensures { result ≡ semantic_at number }
-    {
+/// The variant of a number, and a fault for the number of none.
+impl TryFrom<u8> for SemanticType {
+    type Error = UnknownNumber;
+
+    ghost try_from_gives = { IsNumbered 3 semantic_at };
+
+    fn try_from(number: u8) -> Result<SemanticType, UnknownNumber> {
         match number {
-            0 => SemanticType::Output,
-            1 => SemanticType::Input,
-            2 => SemanticType::Prompt,
-            _ => unreachable!(),
+            0 => Ok(SemanticType::Output),
+            1 => Ok(SemanticType::Input),
+            2 => Ok(SemanticType::Prompt),
+            _ => Err(UnknownNumber(number)),
         }
     }
 }
 
 impl VerticalAlign {
-    pub(super) fn number(self) -> u64
+    /// Its number: the variants have those from 0 on, in their order.
+    pub fn number(self) -> u8
         ensures value { result ≡ vertical_number self }
         ensures bound { result < 3 }
     {
-        match self {
-            VerticalAlign::BaseLine => 0,
-            VerticalAlign::SuperScript => 1,
-            VerticalAlign::SubScript => 2,
-        }
+        self as u8
     }
+}
 
-    pub(super) fn from_number(number: u64) -> VerticalAlign
-        requires { number < 3 }
-        ensures { result ≡ vertical_at number }
-    {
+/// The variant of a number, and a fault for the number of none.
+impl TryFrom<u8> for VerticalAlign {
+    type Error = UnknownNumber;
+
+    ghost try_from_gives = { IsNumbered 3 vertical_at };
+
+    fn try_from(number: u8) -> Result<VerticalAlign, UnknownNumber> {
         match number {
-            0 => VerticalAlign::BaseLine,
-            1 => VerticalAlign::SuperScript,
-            2 => VerticalAlign::SubScript,
-            _ => unreachable!(),
+            0 => Ok(VerticalAlign::BaseLine),
+            1 => Ok(VerticalAlign::SuperScript),
+            2 => Ok(VerticalAlign::SubScript),
+            _ => Err(UnknownNumber(number)),
         }
     }
 }

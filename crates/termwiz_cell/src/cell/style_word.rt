@@ -179,42 +179,42 @@ impl StyleWord {
     pub(super) fn intensity(&self) -> Intensity
         ensures { result ≡ self.now.intensity }
     {
-        Intensity::from_number(self.word % 4)
+        Intensity::try_from((self.word % 4) as u8).unwrap()
     }
 
     #[tactic(auto, using(crate::proofs::StyleSetters::intensity))]
     pub(super) fn set_intensity(&mut self, value: Intensity)
         ensures { self.new ≡ record self.old { intensity = value } }
     {
-        let word = with_digit(self.word, INTENSITY, 4, value.number());
+        let word = with_digit(self.word, INTENSITY, 4, value.number() as u64);
         *self = StyleWord { word };
     }
 
     pub(super) fn underline(&self) -> Underline
         ensures { result ≡ self.now.underline }
     {
-        Underline::from_number(self.word / UNDERLINE % 8)
+        Underline::try_from((self.word / UNDERLINE % 8) as u8).unwrap()
     }
 
     #[tactic(auto, using(crate::proofs::StyleSetters::underline))]
     pub(super) fn set_underline(&mut self, value: Underline)
         ensures { self.new ≡ record self.old { underline = value } }
     {
-        let word = with_digit(self.word, UNDERLINE, 8, value.number());
+        let word = with_digit(self.word, UNDERLINE, 8, value.number() as u64);
         *self = StyleWord { word };
     }
 
     pub(super) fn blink(&self) -> Blink
         ensures { result ≡ self.now.blink }
     {
-        Blink::from_number(self.word / BLINK % 3)
+        Blink::try_from((self.word / BLINK % 3) as u8).unwrap()
     }
 
     #[tactic(auto, using(crate::proofs::StyleSetters::blink))]
     pub(super) fn set_blink(&mut self, value: Blink)
         ensures { self.new ≡ record self.old { blink = value } }
     {
-        let word = with_digit(self.word, BLINK, 3, value.number());
+        let word = with_digit(self.word, BLINK, 3, value.number() as u64);
         *self = StyleWord { word };
     }
 
@@ -305,28 +305,28 @@ impl StyleWord {
     pub(super) fn semantic_type(&self) -> SemanticType
         ensures { result ≡ self.now.semantic_type }
     {
-        SemanticType::from_number(self.word / SEMANTIC_TYPE % 3)
+        SemanticType::try_from((self.word / SEMANTIC_TYPE % 3) as u8).unwrap()
     }
 
     #[tactic(auto, using(crate::proofs::StyleSetters::semantic_type))]
     pub(super) fn set_semantic_type(&mut self, value: SemanticType)
         ensures { self.new ≡ record self.old { semantic_type = value } }
     {
-        let word = with_digit(self.word, SEMANTIC_TYPE, 3, value.number());
+        let word = with_digit(self.word, SEMANTIC_TYPE, 3, value.number() as u64);
         *self = StyleWord { word };
     }
 
     pub(super) fn vertical_align(&self) -> VerticalAlign
         ensures { result ≡ self.now.vertical_align }
     {
-        VerticalAlign::from_number(self.word / VERTICAL_ALIGN % 3)
+        VerticalAlign::try_from((self.word / VERTICAL_ALIGN % 3) as u8).unwrap()
     }
 
     #[tactic(auto, using(crate::proofs::StyleSetters::vertical_align))]
     pub(super) fn set_vertical_align(&mut self, value: VerticalAlign)
         ensures { self.new ≡ record self.old { vertical_align = value } }
     {
-        let word = with_digit(self.word, VERTICAL_ALIGN, 3, value.number());
+        let word = with_digit(self.word, VERTICAL_ALIGN, 3, value.number() as u64);
         *self = StyleWord { word };
     }
 

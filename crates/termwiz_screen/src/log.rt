@@ -194,7 +194,11 @@ fn drop_first(changes: &mut Vec<Change>, count: usize)
     requires { count ≤ vec_len changes.old }
     ensures { changes.new.items ≡ drop count changes.old.items }
 {
-    let _ = changes.drain(..count);
+    if count == changes.len() {
+        changes.clear();
+    } else {
+        let _ = changes.drain(..count);
+    }
 }
 
 /// How many changes are worth sending where a screen of this size could be repainted, or the

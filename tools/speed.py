@@ -103,7 +103,7 @@ def short(name):
 def page(rows, text):
     """The page with each block between its marks made anew."""
     beside = [row for row in rows if row["peer"] or row["termwiz"]]
-    others = [row for row in rows if row not in beside or row["size"]]
+    others = [row for row in rows if row["here"] and (row not in beside or row["size"])]
     for name, lines in (("peers", peers(rows)), ("compared", compared(beside)),
                         ("spent", spent(beside)), ("alone", alone(others))):
         block = "\n".join([f"<!-- {name}, by speed.py -->", "", *lines, "", "<!-- end -->"])
@@ -120,9 +120,9 @@ def below(rows, other):
 
 
 def functions(own):
-    """How many functions the crates have whose names fit."""
+    """How many functions the crates have whose names fit; a crate's tests go by `tests`."""
     return sum(len(FUNCTION.findall(path.read_text())) for path in TOP.glob("crates/*/src/**/*.rt")
-               if own(path.relative_to(TOP).parts[1]))
+               if own("tests" if path.stem == "tests" else path.relative_to(TOP).parts[1]))
 
 
 def proved(text):

@@ -214,9 +214,17 @@ class Page:
 
 
 def equation(definition):
-    """A short definition itself, where it has no comment."""
-    last = definition.file.lines[definition.last - 1].strip()
-    return f"`{last}`" if definition.size() <= 2 and " = " in last and len(last) <= 120 else ""
+    """A definition that has no comment: its parts, its equations if they are short, or its type."""
+    head, *lines = definition.file.lines[definition.first - 1:definition.last]
+    if definition.kind:
+        parts = re.findall(r"^ *(?:pub )?(\S+) :", "\n".join(lines), re.M)
+        return ", ".join(f"`{part}`" for part in parts)
+    left = " " * indent_of(head) + definition.name
+    text = " ".join("; " * line.startswith(left) + line.strip() for line in lines)
+    text = text.removeprefix("; ").replace(" ; ", "; ")
+    if len(text) > 180 or "←" in text:
+        text = head.split(" : ", 1)[1]
+    return f"`{text}`" if text != "Type 0" else ""
 
 
 def place_of(module):

@@ -6,9 +6,9 @@
     tools/api.py --check   fails where the page differs from the sources
 
 A type is listed with its variants or public fields and its traits, a call with its signature, what
-it requires, its whole documentation and, folded, all that it ensures. Each is a link to its line, and
-so is a trait that an `impl` gives, whose ghost members are what it promises. The definitions that
-clauses cite are listed at the end. What is hidden from documentation is left out.
+it requires, its whole documentation and, folded, all that it ensures. Each is a link to its line,
+and so is a trait that an `impl` gives, whose ghost members are what it promises. The definitions
+that clauses cite are listed at the end. What is hidden from documentation is left out.
 """
 import argparse
 import re

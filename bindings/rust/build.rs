@@ -1,4 +1,4 @@
-//! Says where the library is, and the two of the kit that it stands on.
+//! Says where the library is, and the two of the kit that it needs.
 //!
 //! `TIKEBURO_LIB` names a folder that has all three. Without it they are looked for where
 //! `rt lib` writes the library in the checkout that this crate lies in, and in the kit of the

@@ -72,7 +72,7 @@ impl<'a> Row<'a> {
         })
     }
 
-    /// Its visible cells from the left, up to the screen's width: behind a wide cell comes the one
+    /// Its visible cells from the left, up to the screen's width: after a wide cell comes the one
     /// that is two columns further. The last item is the first error, if there is one.
     pub fn cells(&self) -> Cells<'a> {
         let (width, _) = self.screen.dimensions();
@@ -82,7 +82,7 @@ impl<'a> Row<'a> {
         }
     }
 
-    /// The cell at this column. At the second column of a wide cell stands a blank one.
+    /// The cell at this column. At the second column of a wide cell it is a blank.
     pub fn cell(&self, column: usize) -> Result<Cell, Error> {
         let handle = self.screen.handle.get();
         let mut read = tk_cell::default();

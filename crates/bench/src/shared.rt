@@ -1,6 +1,7 @@
 //! Workloads of a screen that is shared: a source, and a client that takes its answers.
 use crate::drawn::coloured;
 use std::alloc::{AllocError, Global};
+use std::slice;
 use termwiz_cell::change::{Change, Position};
 use termwiz_cell::emoji::UnicodeWidths;
 use termwiz_share::{Client, Source};
@@ -26,6 +27,20 @@ pub fn fed_repaints(alloc: Global, count: u32) -> Result<usize, SurfaceError> {
     source.respond(client.ask(), &mut bytes)?;
     for _ in 0..count {
         feed(&mut client, bytes.as_slice())?;
+    }
+    Ok(client.number())
+}
+
+/// Feeds repaints byte by byte.
+pub fn fed_bytes(alloc: Global, count: u32) -> Result<usize, SurfaceError> {
+    let mut source = coloured_source(alloc)?;
+    let mut client = client(alloc)?;
+    let mut bytes = Vec::new(alloc);
+    source.respond(client.ask(), &mut bytes)?;
+    for _ in 0..count {
+        for byte in bytes.as_slice() {
+            feed(&mut client, slice::from_ref(byte))?;
+        }
     }
     Ok(client.number())
 }

@@ -80,6 +80,8 @@ pub enum Workload {
     DeliverDelta,
     /// A client that is fed the bytes of a repaint of a coloured 80x24, and shows it.
     FeedRepaint,
+    /// The same, byte by byte.
+    FeedBytes,
     /// A character on a coloured 80x24 that is a source, which responds, and a client is fed that.
     TypeAndFeed,
     /// A 200x60 that is made an 80x24 and a 200x60 again.
@@ -118,7 +120,7 @@ pub enum Workload {
     Equality,
 }
 
-static NAMES: [(&str, Workload); 63] = [
+static NAMES: [(&str, Workload); 64] = [
     ("plain", Workload::Plain),
     ("colours", Workload::Colours(Pens::Ten)),
     ("true-line", Workload::Colours(Pens::TenTrue)),
@@ -164,6 +166,7 @@ static NAMES: [(&str, Workload); 63] = [
     ("decode-repaint", Workload::DecodeRepaint),
     ("deliver-delta", Workload::DeliverDelta),
     ("feed-repaint", Workload::FeedRepaint),
+    ("feed-bytes", Workload::FeedBytes),
     ("type-and-feed", Workload::TypeAndFeed),
     ("resize", Workload::Resize),
     ("resize-one-row", Workload::ResizeOneRow),
@@ -246,6 +249,7 @@ pub fn run(
         Workload::DecodeRepaint => sent::decoded(alloc, count),
         Workload::DeliverDelta => sent::delivered(alloc, count),
         Workload::FeedRepaint => shared::fed_repaints(alloc, count),
+        Workload::FeedBytes => shared::fed_bytes(alloc, count),
         Workload::TypeAndFeed => shared::typed(alloc, count),
         Workload::Resize => sizes::resized(alloc, count),
         Workload::ResizeOneRow => sizes::resized_by_a_row(alloc, count),

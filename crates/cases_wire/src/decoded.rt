@@ -4,7 +4,7 @@ use cases_words::fault::Fault;
 use std::alloc::Global;
 use termwiz_cell::emoji::UnicodeWidths;
 use termwiz_wire::{
-    Ask, Limits, WireError, decode_answer, decode_ask, decode_change, encode_answer, encode_ask,
+    Limits, WireError, decode_answer, decode_ask, decode_change, encode_answer, encode_ask,
     encode_change,
 };
 
@@ -61,7 +61,7 @@ impl Decoder {
             },
             Kind::Ask => match decode_ask(bytes) {
                 Ok((ask, taken)) => {
-                    put_ask(again, ask)?;
+                    encode_ask(again, ask)?;
                     Ok(taken)
                 }
                 Err(error) => Err(error),
@@ -69,13 +69,4 @@ impl Decoder {
         };
         Ok(decoded)
     }
-}
-
-/// Encodes an ask that was decoded. One that names no source has no number.
-pub fn put_ask(out: &mut Vec<u8>, ask: Ask) -> Result<(), Fault> {
-    if ask.source == 0 && ask.number != 0 {
-        return Err(Fault::Differs);
-    }
-    encode_ask(out, ask)?;
-    Ok(())
 }

@@ -1,6 +1,6 @@
 //! Lines of bytes, and their answers.
 use crate::damaged::count_damaged;
-use crate::decoded::{Decoder, Kind, put_ask};
+use crate::decoded::{Decoder, Kind};
 use crate::followed::Followed;
 use crate::shown::{answer_text, change_text};
 use cases_words::fault::Fault;
@@ -9,7 +9,8 @@ use cases_words::play::Play;
 use std::alloc::Global;
 use termwiz_cell::emoji::{OneColumn, UnicodeWidths, Widths};
 use termwiz_wire::{
-    Limits, WireError, decode_answer, decode_ask, decode_change, encode_answer, encode_change,
+    Limits, WireError, decode_answer, decode_ask, decode_change, encode_answer, encode_ask,
+    encode_change,
 };
 
 /// What decodes the bytes of lines.
@@ -95,7 +96,7 @@ impl Stage {
                 let text = format!(in self.alloc; "[2, {}, {}]", ask.source, ask.number)?;
                 push(lines, text.as_str())?;
                 let mut again = Vec::new(self.alloc);
-                put_ask(&mut again, ask)?;
+                encode_ask(&mut again, ask)?;
                 compare(again.as_slice(), bytes, taken, lines)
             }
             Err(error) => self.fault(error, lines),

@@ -20,6 +20,8 @@ pub fn decode_ask(bytes: &[u8]) -> Result<(Ask, usize), WireError>
     // What is decoded was encoded so, in so many bytes.
     ensures found { IfOk result (λ x.
         (bytes.now ≡ ask x.0 ++ drop x.1 bytes.now) × (x.1 ≤ length bytes.now)) }
+    // It asks for a number of a source, or for none of none.
+    ensures named { IfOk result (λ x. x.0.source ≡ 0 → x.0.number ≡ 0) }
     // It is this value, or this fault.
     ensures exact { Decodes (λ x. (x.0, drop x.1 bytes.now)) result (ask_at bytes.now) }
 {
@@ -42,6 +44,7 @@ fn ask_of(reader: &mut Reader<'_>) -> Result<Ask, ReadError>
     ensures value { Gives (allowed reader.new.room reader.new.bytes.now)
         (λ x. (x, reader.new.bytes.now)) result
         (ask_in reader.old.room reader.old.bytes.now) }
+    ensures named { IfOk result (λ ask. ask.source ≡ 0 → ask.number ≡ 0) }
     ensures room { reader.new.room ≡ reader.old.room }
 {
     opened_of(reader, 3)?;
@@ -56,6 +59,7 @@ fn asked_of(reader: &mut Reader<'_>, source: SourceNo) -> Result<SequenceNo, Rea
     ensures value { Gives (allowed reader.new.room reader.new.bytes.now)
         (λ x. (x, reader.new.bytes.now)) result
         (asked_at reader.old.room source reader.old.bytes.now) }
+    ensures named { IfOk result (λ number. source ≡ 0 → number ≡ 0) }
     ensures room { reader.new.room ≡ reader.old.room }
 {
     let start = reader.bytes;

@@ -1,18 +1,18 @@
 //! Attributes, and changes of one attribute.
-ghost use Rattle.std.specs.Prelude.{◌≡◌, IfOk};
+ghost use Rattle.std.specs.Prelude.{◌≡◌, IfOk, true};
 ghost use Rattle.cbor.specs.Decoding.{Gives, allowed};
 ghost use Rattle.termwiz_cell.specs.AttributeChangeValue.{attribute_change_value};
 ghost use Rattle.termwiz_cell.specs.Link.{linked};
-ghost use Rattle.termwiz_wire.specs.Decoding.{attribute_change_at, attributes_at};
+ghost use Rattle.termwiz_wire.specs.Decoding.{are_small, attribute_change_at, attributes_at};
+ghost use Rattle.termwiz_wire.specs.Decoding.{split, styled};
+ghost use Rattle.termwiz_wire.specs.Encoding.{fields};
 
 use super::links::optional_link_of;
-use super::small::{
-    blink_from, color_of, intensity_from, style_of, styled, underline_from, which_of,
-};
+use super::small::{color_of, style_of, styled, which_of};
 use cbor::{ReadError, Reader};
 use std::alloc::{AllocError, Global};
 use std::rc::Rc;
-use termwiz_cell::cell::{AttributeChange, CellAttributes};
+use termwiz_cell::cell::{AttributeChange, Blink, CellAttributes, Intensity, Underline};
 use termwiz_cell::color::ColorAttribute;
 use termwiz_cell::hyperlink::Hyperlink;
 
@@ -33,36 +33,41 @@ pub(super) fn attributes_of(
     let background = color_of(reader)?;
     let underline = color_of(reader)?;
     let link = optional_link_of(alloc, reader)?;
-    let attrs = colored(
-        alloc,
-        styled(number),
-        foreground,
-        background,
-        underline,
-        link,
-    )?;
+    let attrs = colored(alloc, number, foreground, background, underline, link)?;
     Ok(attrs)
 }
 
+// The attributes with the small ones of this number, these colours and this link. Most pens have
+// one colour or none: what is default isn't set.
 fn colored(
     alloc: Global,
-    mut attrs: CellAttributes,
+    number: usize,
     foreground: ColorAttribute,
     background: ColorAttribute,
     underline: ColorAttribute,
     link: Option<Rc<Hyperlink>>,
 ) -> Result<CellAttributes, AllocError>
-    ensures { IfOk result (λ made. made ≡ record attrs {
+    requires { are_small (split fields number) ≡ true }
+    ensures { IfOk result (λ made. made ≡ record (styled number) {
       foreground = foreground;
       background = background;
       underline_color = underline;
       hyperlink = linked link;
     }) }
 {
-    attrs.change_foreground(alloc, foreground)?;
-    attrs.change_background(alloc, background)?;
-    attrs.change_underline_color(alloc, underline)?;
-    attrs.change_hyperlink(alloc, link)?;
+    let mut attrs = styled(number);
+    if !matches!(foreground, ColorAttribute::Default) {
+        attrs.change_foreground(alloc, foreground)?;
+    }
+    if !matches!(background, ColorAttribute::Default) {
+        attrs.change_background(alloc, background)?;
+    }
+    if !matches!(underline, ColorAttribute::Default) {
+        attrs.change_underline_color(alloc, underline)?;
+    }
+    if link.is_some() {
+        attrs.change_hyperlink(alloc, link)?;
+    }
     Ok(attrs)
 }
 
@@ -79,10 +84,10 @@ pub(super) fn attribute_change_of(
 {
     reader.array_of(2)?;
     let change = match which_of(reader, 10)? {
-        0 => AttributeChange::Intensity(intensity_from(reader.below(3)?)),
-        1 => AttributeChange::Underline(underline_from(reader.below(6)?)),
+        0 => AttributeChange::Intensity(Intensity::try_from(reader.below(3)? as u8).unwrap()),
+        1 => AttributeChange::Underline(Underline::try_from(reader.below(6)? as u8).unwrap()),
         2 => AttributeChange::Italic(reader.boolean()?),
-        3 => AttributeChange::Blink(blink_from(reader.below(3)?)),
+        3 => AttributeChange::Blink(Blink::try_from(reader.below(3)? as u8).unwrap()),
         4 => AttributeChange::Reverse(reader.boolean()?),
         5 => AttributeChange::StrikeThrough(reader.boolean()?),
         6 => AttributeChange::Invisible(reader.boolean()?),

@@ -21,13 +21,13 @@ use super::attributes::{attribute_change_of, attributes_of};
 use super::cuts::{are_same, cut_of};
 use super::halted::Halted;
 use super::links::owned_of;
-use super::small::{color_of, line_from, position_of, shape_from, visibility_of};
+use super::small::{color_of, position_of, visibility_of};
 use crate::encode::change_count;
 use crate::fault::WireError;
 use crate::pieces::needed_runs;
 use cbor::{ReadError, Reader};
 use std::alloc::Global;
-use termwiz_cell::change::Change;
+use termwiz_cell::change::{Change, CursorShape, LineAttribute};
 use termwiz_cell::emoji::Widths;
 
 /// Decodes the change at the front of the bytes, and returns how many bytes it takes. The region of
@@ -249,12 +249,12 @@ fn values_of<W: Widths>(
         5 => Change::ClearToEndOfScreen(color_of(reader)?),
         6 => place_of(reader)?,
         7 => Change::CursorColor(color_of(reader)?),
-        8 => Change::CursorShape(shape_from(reader.below(7)?)),
+        8 => Change::CursorShape(CursorShape::try_from(reader.below(7)? as u8).unwrap()),
         9 => Change::CursorVisibility(visibility_of(reader.boolean()?)),
         10 => scroll_up_of(reader, rows)?,
         11 => scroll_down_of(reader, rows)?,
         12 => Change::Title(owned_of(alloc, reader)?),
-        13 => Change::LineAttribute(line_from(reader.below(4)?)),
+        13 => Change::LineAttribute(LineAttribute::try_from(reader.below(4)? as u8).unwrap()),
         _ => return Err(ReadError::Type),
     };
     Ok(change)

@@ -1,9 +1,6 @@
 //! Small attributes, colours and positions.
-ghost use Rattle.std.specs.Prelude.{◌≡◌};
+ghost use Rattle.std.specs.Prelude.{◌≡◌, IfOk, true};
 ghost use Rattle.cbor.specs.Decoding.{Gives, allowed};
-ghost use Rattle.termwiz_cell.specs.Shapes.{line_at, shape_at};
-ghost use Rattle.termwiz_cell.specs.Style.{blink_at, intensity_at, semantic_at, underline_at};
-ghost use Rattle.termwiz_cell.specs.Style.{vertical_at};
 ghost use Rattle.termwiz_wire.specs.Decoding.{are_small, color_at, palette_at, position_at};
 ghost use Rattle.termwiz_wire.specs.Decoding.{rgb_at, rgb_palette_at, split, style_at, styled};
 ghost use Rattle.termwiz_wire.specs.Decoding.{visibility_of, which_at};
@@ -13,86 +10,8 @@ use cbor::{Kind, ReadError, Reader};
 use termwiz_cell::cell::{
     Blink, CellAttributes, Intensity, SemanticType, Underline, VerticalAlign,
 };
-use termwiz_cell::change::{CursorShape, CursorVisibility, LineAttribute, Position};
+use termwiz_cell::change::{CursorVisibility, Position};
 use termwiz_cell::color::{ColorAttribute, RgbColor};
-
-pub(super) fn intensity_from(number: usize) -> Intensity
-    ensures { result ≡ intensity_at number }
-{
-    match number {
-        0 => Intensity::Normal,
-        1 => Intensity::Bold,
-        _ => Intensity::Half,
-    }
-}
-
-pub(super) fn underline_from(number: usize) -> Underline
-    ensures { result ≡ underline_at number }
-{
-    match number {
-        0 => Underline::None,
-        1 => Underline::Single,
-        2 => Underline::Double,
-        3 => Underline::Curly,
-        4 => Underline::Dotted,
-        _ => Underline::Dashed,
-    }
-}
-
-pub(super) fn blink_from(number: usize) -> Blink
-    ensures { result ≡ blink_at number }
-{
-    match number {
-        0 => Blink::None,
-        1 => Blink::Slow,
-        _ => Blink::Rapid,
-    }
-}
-
-fn semantic_from(number: usize) -> SemanticType
-    ensures { result ≡ semantic_at number }
-{
-    match number {
-        0 => SemanticType::Output,
-        1 => SemanticType::Input,
-        _ => SemanticType::Prompt,
-    }
-}
-
-fn vertical_from(number: usize) -> VerticalAlign
-    ensures { result ≡ vertical_at number }
-{
-    match number {
-        0 => VerticalAlign::BaseLine,
-        1 => VerticalAlign::SuperScript,
-        _ => VerticalAlign::SubScript,
-    }
-}
-
-pub(super) fn shape_from(number: usize) -> CursorShape
-    ensures { result ≡ shape_at number }
-{
-    match number {
-        0 => CursorShape::Default,
-        1 => CursorShape::BlinkingBlock,
-        2 => CursorShape::SteadyBlock,
-        3 => CursorShape::BlinkingUnderline,
-        4 => CursorShape::SteadyUnderline,
-        5 => CursorShape::BlinkingBar,
-        _ => CursorShape::SteadyBar,
-    }
-}
-
-pub(super) fn line_from(number: usize) -> LineAttribute
-    ensures { result ≡ line_at number }
-{
-    match number {
-        0 => LineAttribute::DoubleHeightTopHalfLine,
-        1 => LineAttribute::DoubleHeightBottomHalfLine,
-        2 => LineAttribute::DoubleWidthLine,
-        _ => LineAttribute::SingleWidthLine,
-    }
-}
 
 pub(super) fn visibility_of(on: bool) -> CursorVisibility
     ensures { result ≡ visibility_of on }
@@ -125,6 +44,7 @@ pub(super) fn style_of(reader: &mut Reader<'_>) -> Result<usize, ReadError>
     ensures value { Gives (allowed reader.new.room reader.new.bytes.now)
         (λ x. (x, reader.new.bytes.now)) result
         (style_at reader.old.room reader.old.bytes.now) }
+    ensures small { IfOk result (λ number. are_small (split fields number) ≡ true) }
     ensures room { reader.new.room ≡ reader.old.room }
 {
     let start = reader.bytes;
@@ -139,14 +59,18 @@ pub(super) fn style_of(reader: &mut Reader<'_>) -> Result<usize, ReadError>
 
 /// Default attributes with the small ones of this number.
 pub(super) fn styled(number: usize) -> CellAttributes
+    requires { are_small (split fields number) ≡ true }
     ensures { result ≡ styled number }
 {
     let mut attrs = CellAttributes::blank();
-    attrs.set_intensity(intensity_from(number % 4));
+    if number == 0 {
+        return attrs;
+    }
+    attrs.set_intensity(Intensity::try_from((number % 4) as u8).unwrap());
     let number = number / 4;
-    attrs.set_underline(underline_from(number % 8));
+    attrs.set_underline(Underline::try_from((number % 8) as u8).unwrap());
     let number = number / 8;
-    attrs.set_blink(blink_from(number % 4));
+    attrs.set_blink(Blink::try_from((number % 4) as u8).unwrap());
     let number = number / 4;
     attrs.set_italic(number % 2 == 1);
     let number = number / 2;
@@ -160,9 +84,9 @@ pub(super) fn styled(number: usize) -> CellAttributes
     let number = number / 2;
     attrs.set_overline(number % 2 == 1);
     let number = number / 2;
-    attrs.set_semantic_type(semantic_from(number % 4));
+    attrs.set_semantic_type(SemanticType::try_from((number % 4) as u8).unwrap());
     let number = number / 4;
-    attrs.set_vertical_align(vertical_from(number % 4));
+    attrs.set_vertical_align(VerticalAlign::try_from((number % 4) as u8).unwrap());
     attrs
 }
 

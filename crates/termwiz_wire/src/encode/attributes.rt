@@ -80,10 +80,10 @@ fn put_attribute_value(out: &mut Vec<u8>, value: &AttributeChange) -> Result<(),
     ensures form { OnOk result (IsAttributeChange (attribute_change_value value.now)) }
 {
     match value {
-        AttributeChange::Intensity(value) => put_unsigned(out, *value as usize),
-        AttributeChange::Underline(value) => put_unsigned(out, *value as usize),
+        AttributeChange::Intensity(value) => put_unsigned(out, value.number() as usize),
+        AttributeChange::Underline(value) => put_unsigned(out, value.number() as usize),
         AttributeChange::Italic(on) => put_bool(out, *on),
-        AttributeChange::Blink(value) => put_unsigned(out, *value as usize),
+        AttributeChange::Blink(value) => put_unsigned(out, value.number() as usize),
         AttributeChange::Reverse(on) => put_bool(out, *on),
         AttributeChange::StrikeThrough(on) => put_bool(out, *on),
         AttributeChange::Invisible(on) => put_bool(out, *on),

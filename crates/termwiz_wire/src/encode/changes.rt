@@ -43,7 +43,7 @@ pub fn encode_change<W: Widths>(
         Change::ClearToEndOfScreen(color) => put_colored(out, 5, *color),
         Change::CursorPosition { x, y } => put_place(out, *x, *y),
         Change::CursorColor(color) => put_colored(out, 7, *color),
-        Change::CursorShape(shape) => put_number(out, 8, *shape as usize),
+        Change::CursorShape(shape) => put_number(out, 8, shape.number() as usize),
         Change::CursorVisibility(visibility) => put_visible(out, is_visible(*visibility)),
         Change::ScrollRegionUp {
             first_row,
@@ -56,7 +56,7 @@ pub fn encode_change<W: Widths>(
             scroll_count,
         } => put_scroll(out, 11, *first_row, *region_size, *scroll_count),
         Change::Title(title) => put_title(out, title.as_str()),
-        Change::LineAttribute(line) => put_number(out, 13, *line as usize),
+        Change::LineAttribute(line) => put_number(out, 13, line.number() as usize),
     }
 }
 

@@ -1,16 +1,13 @@
 //! Small attributes, colours and positions.
 ghost use Rattle.std.specs.Prelude.{◌≡◌, ◌<◌, ◌++◌, OnOk};
 ghost use Rattle.cbor.specs.Encoding.{Extends, array, unsigned};
-ghost use Rattle.termwiz_cell.specs.Style.{blink_number, flag_number, intensity_number};
-ghost use Rattle.termwiz_cell.specs.Style.{semantic_number, underline_number, vertical_number};
+ghost use Rattle.termwiz_cell.specs.Style.{flag_number};
 ghost use Rattle.termwiz_wire.specs.Encoding.{color, is_visible, position, style_number};
 ghost use Rattle.termwiz_wire.specs.Forms.{IsColor, IsPosition, IsRgb};
 
 use cbor::{put_array, put_null, put_signed, put_unsigned};
 use std::alloc::AllocError;
-use termwiz_cell::cell::{
-    Blink, CellAttributes, Intensity, SemanticType, Underline, VerticalAlign,
-};
+use termwiz_cell::cell::CellAttributes;
 use termwiz_cell::change::{CursorVisibility, Position};
 use termwiz_cell::color::{ColorAttribute, RgbColor};
 
@@ -21,41 +18,6 @@ pub(super) fn is_visible(value: CursorVisibility) -> bool
         CursorVisibility::Hidden => false,
         CursorVisibility::Visible => true,
     }
-}
-
-fn intensity_number(value: Intensity) -> usize
-    ensures value { result ≡ intensity_number value }
-    ensures small { result < 3 }
-{
-    value as usize
-}
-
-fn underline_number(value: Underline) -> usize
-    ensures value { result ≡ underline_number value }
-    ensures small { result < 6 }
-{
-    value as usize
-}
-
-fn blink_number(value: Blink) -> usize
-    ensures value { result ≡ blink_number value }
-    ensures small { result < 3 }
-{
-    value as usize
-}
-
-fn semantic_number(value: SemanticType) -> usize
-    ensures value { result ≡ semantic_number value }
-    ensures small { result < 3 }
-{
-    value as usize
-}
-
-fn vertical_number(value: VerticalAlign) -> usize
-    ensures value { result ≡ vertical_number value }
-    ensures small { result < 3 }
-{
-    value as usize
 }
 
 fn flag_number(on: bool) -> usize
@@ -80,17 +42,17 @@ pub(crate) fn style_number(attrs: &CellAttributes) -> usize
 fn joined_fields(attrs: &CellAttributes) -> usize
     ensures { result ≡ style_number attrs.now }
 {
-    let vertical = vertical_number(attrs.vertical_align());
-    let semantic = semantic_number(attrs.semantic_type()) + 4 * vertical;
+    let vertical = attrs.vertical_align().number() as usize;
+    let semantic = attrs.semantic_type().number() as usize + 4 * vertical;
     let overline = flag_number(attrs.overline()) + 2 * semantic;
     let wrapped = flag_number(attrs.wrapped()) + 2 * overline;
     let invisible = flag_number(attrs.invisible()) + 2 * wrapped;
     let struck = flag_number(attrs.strikethrough()) + 2 * invisible;
     let reverse = flag_number(attrs.reverse()) + 2 * struck;
     let italic = flag_number(attrs.italic()) + 2 * reverse;
-    let blink = blink_number(attrs.blink()) + 4 * italic;
-    let underline = underline_number(attrs.underline()) + 8 * blink;
-    intensity_number(attrs.intensity()) + 4 * underline
+    let blink = attrs.blink().number() as usize + 4 * italic;
+    let underline = attrs.underline().number() as usize + 8 * blink;
+    attrs.intensity().number() as usize + 4 * underline
 }
 
 /// Appends a kind and the head of the array that it shares with one value, which is to follow.

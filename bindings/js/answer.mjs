@@ -1,5 +1,5 @@
 // Answers and asks by docs/stream.cddl. What is read here keeps every rule of docs/VIEWER.md.
-import { ARRAY, FALSE, MAX_64, NEGATIVE, NULL, Reader, TRUE, UINT } from './reader.mjs';
+import { ARRAY, FALSE, NEGATIVE, NULL, Reader, TRUE, UINT } from './reader.mjs';
 import { isBreak } from './screen.mjs';
 
 const VERSION = 2;
@@ -54,8 +54,8 @@ function readAttributes(reader) {
     const style = reader.uint(0, (1 << 17) - 1);
     const isPast = ([shift, mask, most]) => (style >> shift & mask) > most;
     if (Object.values(FIELDS).some(isPast)) reader.fail('range', `a style of ${style}`);
-    const [foreground, background, underlineColor] = [0, 1, 2].map(() => readColor(reader));
-    const link = readLink(reader);
+    const foreground = readColor(reader), background = readColor(reader);
+    const underlineColor = readColor(reader), link = readLink(reader);
     return Object.freeze({ style, foreground, background, underlineColor, link });
 }
 
@@ -93,7 +93,9 @@ function readRuns(reader, [text]) {
         const left = characters.length - at;
         const count = reader.uint(1, left), size = reader.uint(1, Math.floor(left / count));
         const cut = () => characters.slice(at, at += size).join('');
-        const pieces = Array.from({ length: count }, cut), next = characters[at];
+        const pieces = size === 1 ? characters.slice(at, at += count)
+            : Array.from({ length: count }, cut);
+        const next = characters[at];
         const isCutWrong = pieces.some((piece, k) => isWrong(piece, pieces[k + 1] ?? next));
         if (isCutWrong) reader.fail('range', 'CR LF or a control character that is cut wrongly');
         const breaks = pieces.filter(isBreak).length;
@@ -111,23 +113,23 @@ const readText = reader => reader.text();
 const upTo = most => reader => reader.uint(0, most);
 const goHome = ({ cursor }) => Object.assign(cursor, { x: 0, y: 0 });
 const readSize = (reader, [first], height) => reader.uint(0, height - Number(first), 'region');
-const region = [upTo(MAX_64), readSize, upTo(MAX_64)];
+const region = [upTo(Infinity), readSize, upTo(Infinity)];
 // By a change's kind, what reads its items, and what these do to a screen.
 const CHANGES = [
-    [[readAttribute], (screen, change) => Object.assign(screen, { pen: change(screen.pen) })],
-    [[readAttributes], (screen, pen) => Object.assign(screen, { pen })],
+    [[readAttribute], (screen, change) => { screen.pen = change(screen.pen); }],
+    [[readAttributes], (screen, pen) => { screen.pen = pen; }],
     [[readText, readRuns], (screen, text, runs) => screen.print(text, runs)],
     [[readColor], (screen, color) => screen.clear(color, goHome(screen), screen.height)],
     [[readColor], (screen, color) => screen.clear(color, screen.cursor, screen.cursor.y + 1)],
     [[readColor], (screen, color) => screen.clear(color, screen.cursor, screen.height)],
     [[readPosition, readPosition], (screen, x, y) => screen.move(x, y)],
-    [[readColor], ({ cursor }, color) => Object.assign(cursor, { color })],
-    [[upTo(6)], ({ cursor }, shape) => Object.assign(cursor, { shape })],
-    [[readBool], ({ cursor }, visible) => Object.assign(cursor, { visible })],
+    [[readColor], ({ cursor }, color) => { cursor.color = color; }],
+    [[upTo(6)], ({ cursor }, shape) => { cursor.shape = shape; }],
+    [[readBool], ({ cursor }, visible) => { cursor.visible = visible; }],
     [region, (screen, ...values) => screen.scroll(true, ...values)],
     [region, (screen, ...values) => screen.scroll(false, ...values)],
-    [[readText], (screen, title) => Object.assign(screen, { title })],
-    [[upTo(3)], ({ rows, cursor }, attribute) => Object.assign(rows[cursor.y], { attribute })],
+    [[readText], (screen, title) => { screen.title = title; }],
+    [[upTo(3)], ({ rows, cursor }, attribute) => { rows[cursor.y].attribute = attribute; }],
 ];
 
 /** What a change does, and the values that it does it with. */
@@ -141,7 +143,7 @@ function readChange(reader, height) {
 }
 
 function readVersion(reader, count) {
-    const items = reader.array(1, MAX_64);
+    const items = reader.array(1, Infinity);
     if (reader.uint() !== VERSION) reader.fail('version', 'another version');
     if (items !== count) reader.fail('type', `${items} items`, 0);
 }
@@ -189,6 +191,6 @@ export function encodeHead(type, argument) {
 export function decodeAsk(bytes) {
     const reader = new Reader(bytes, Infinity);
     readVersion(reader, 3);
-    const surface = BigInt(reader.uint()), number = BigInt(reader.uint(0, surface ? MAX_64 : 0));
+    const surface = BigInt(reader.uint()), number = BigInt(reader.uint(0, surface ? Infinity : 0));
     return { surface, number };
 }

@@ -4,7 +4,6 @@
 // The types of items. The bools and null are known by their first byte.
 export const UINT = 0, NEGATIVE = 1, BYTES = 2, TEXT = 3, ARRAY = 4;
 export const FALSE = 0xf4, TRUE = 0xf5, NULL = 0xf6;
-export const MAX_64 = (1n << 64n) - 1n;
 // By its bytes behind the first one: what reads an argument, and the least that wants so many.
 const GETTERS = { 1: 'getUint8', 2: 'getUint16', 4: 'getUint32', 8: 'getBigUint64' };
 const LEAST = { 1: 24, 2: 256, 4: 65536, 8: 4294967296 };
@@ -55,7 +54,7 @@ export class Reader {
         return [type, value];
     }
 
-    uint(least = 0, most = MAX_64, kind = 'range', type = UINT) {
+    uint(least = 0, most = Infinity, kind = 'range', type = UINT) {
         const value = this.head(type)[1];
         if (value < least || value > most) this.fail(kind, `${value}, not ${least} to ${most}`);
         return value;
@@ -68,7 +67,7 @@ export class Reader {
 
     /** The count of a list, whose items come by `each`. */
     count(each = 1) {
-        const count = this.array(0, MAX_64);
+        const count = this.array(0, Infinity);
         if (BigInt(count) % BigInt(each)) this.fail('type', `${count} items, and not by ${each}`);
         if (count > this.limit - this.next) this.fail('limit', `a list of ${count}`);
         return Number(count);

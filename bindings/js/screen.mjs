@@ -4,13 +4,12 @@ export const DEFAULT_ATTRIBUTES = Object.freeze({
     style: 0, foreground: null, background: null, underlineColor: null, link: null,
 });
 const SINGLE_WIDTH = 3;
-const BREAKS = ['\r', '\n', '\r\n'];
 
-export const isBreak = piece => BREAKS.includes(piece);
+export const isBreak = piece => piece === '\n' || piece === '\r' || piece === '\r\n';
 const blank = attributes => Object.freeze({ text: ' ', columns: 1, attributes });
 const DEFAULT_BLANK = blank(DEFAULT_ATTRIBUTES);
-const newRows = (count, width) => Array.from({ length: count }, () =>
-    ({ cells: Array(width).fill(DEFAULT_BLANK), attribute: SINGLE_WIDTH }));
+const newRow = width => ({ cells: Array(width).fill(DEFAULT_BLANK), attribute: SINGLE_WIDTH });
+const newRows = (count, width) => Array.from({ length: count }, () => newRow(width));
 
 /** Of a cell of two columns before `x`, only a blank is left. */
 function halve(cells, x) {
@@ -87,18 +86,22 @@ export class Screen {
     }
 
     #break(piece) {
-        const { cursor, height } = this;
+        const { cursor, rows, width } = this;
         if (piece !== '\n') cursor.x = 0;
         if (piece === '\r') return;
-        if (cursor.y + 1 < height) cursor.y++;
-        else this.scroll(true, 0, height, 1);
+        if (cursor.y + 1 < rows.length) {
+            cursor.y++;
+        } else {
+            rows.shift();
+            rows.push(newRow(width));
+        }
     }
 
     #print(piece, columns) {
-        if (isBreak(piece)) return this.#break(piece);
+        const first = piece.charCodeAt(0), isControl = first < 32 || first === 127;
+        if (isControl && isBreak(piece)) return this.#break(piece);
         if (this.cursor.x >= this.width) this.#break('\r\n');
-        const { x, y } = this.cursor, { cells } = this.rows[y];
-        const text = piece < ' ' || piece === '\x7f' ? ' ' : piece; // a control character is alone
+        const { x, y } = this.cursor, { cells } = this.rows[y], text = isControl ? ' ' : piece;
         halve(cells, x);
         cells[x] = Object.freeze({ text, columns, attributes: this.pen });
         if (columns === 2 && x + 1 < this.width) cells[x + 1] = blank(this.pen);

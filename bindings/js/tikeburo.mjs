@@ -98,12 +98,12 @@ export class Client {
         return this.onstale?.(fault, this);
     }
 
-    #take({ places, changes, ...answer }) {
-        const { screen } = this, { surface, number, base, width, height } = answer;
-        const shown = { ...screen, base: screen.number };
-        const other = Object.keys(SHARED).find(name => answer[name] !== shown[name]);
+    #take(answer) {
+        const { screen } = this, { surface, number, base, width, height, changes } = answer;
         if (base === 0n) screen.reset(width, height);
-        else if (other) throw new Fault(SHARED[other], places[other], null, `another ${other}`);
+        const shown = name => (name === 'base' ? screen.number : screen[name]);
+        const other = base && Object.keys(SHARED).find(name => answer[name] !== shown(name));
+        if (other) throw new Fault(SHARED[other], answer.places[other], null, `another ${other}`);
         for (const { apply, values } of changes) apply(screen, ...values);
         Object.assign(screen, { surface, number });
     }

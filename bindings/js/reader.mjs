@@ -1,11 +1,13 @@
 // CBOR items, read from left to right as docs/VIEWER.md wants them. Each check stands in the order
 // of that page's section "Faults", so that the first one that fails is the fault.
 
-const utf8 = new TextDecoder('utf-8', { fatal: true, ignoreBOM: true }); // U+FEFF stays
-export const MAX_64 = (1n << 64n) - 1n;
-const MAX_DISTANCE = (1n << 63n) - 1n;
-// The least argument that wants 1, 2, 4 or 8 bytes behind the first one.
+// The types of items. The bools and null are known by their first byte.
+export const UINT = 0, NEGATIVE = 1, BYTES = 2, TEXT = 3, ARRAY = 4;
+export const FALSE = 0xf4, TRUE = 0xf5, NULL = 0xf6;
+// By its bytes behind the first one: what reads an argument, and the least that wants so many.
+const GETTERS = { 1: 'getUint8', 2: 'getUint16', 4: 'getUint32', 8: 'getBigUint64' };
 const LEAST = { 1: 24, 2: 256, 4: 65536, 8: 4294967296 };
+const utf8 = new TextDecoder('utf-8', { fatal: true, ignoreBOM: true }); // U+FEFF stays
 
 /** Why an answer can't be taken, and where in its bytes that shows. */
 export class Fault extends Error {
@@ -15,22 +17,15 @@ export class Fault extends Error {
     }
 }
 
-/** The argument of `size` bytes: a Number up to 2^53 - 1, and a BigInt above. */
-function argument(bytes, at, size) {
-    let value = 0;
-    for (let k = 0; k < size; k++) value = value * 256 + bytes[at + k];
-    if (value <= Number.MAX_SAFE_INTEGER) return value;
-    return new DataView(bytes.buffer, bytes.byteOffset + at).getBigUint64(0);
-}
-
 export class Reader {
+    change = null; // the index of the change that is being read
+    following = 0; // bytes that follow the item at least, by a list's length
+    wanted = 1; // after `truncated`, as many bytes as have to be there at least
+
     /** Reads `bytes`, which begin where the answer begins, from place `next` on. */
-    constructor(bytes, next, limit) {
-        Object.assign(this, { bytes, next, limit });
-        this.at = next; // where the item begins that was read last: the place of its faults
-        this.change = null; // the index of the change that is being read
-        this.following = 0; // bytes that follow the item at least, by a list's length
-        this.wanted = 1; // after `truncated`, as many bytes as have to be there at least
+    constructor(bytes, limit, next = 0) {
+        Object.assign(this, { bytes, limit, next, at: next }); // `at` is the place of faults
+        this.view = new DataView(bytes.buffer, bytes.byteOffset, bytes.length);
     }
 
     fail(kind, why, at = this.at) {
@@ -45,81 +40,58 @@ export class Reader {
         this.fail('truncated', 'the bytes end');
     }
 
-    firstByte() {
-        this.at = this.next;
-        this.need(this.next + 1);
-        return this.bytes[this.next];
-    }
-
-    /** An item's major type and argument. */
-    head(what, ...majors) {
-        const first = this.firstByte(), major = first >> 5, info = first & 31;
-        if (!majors.includes(major) || info > 27) this.fail('type', `no ${what}`);
-        const size = info < 24 ? 0 : 1 << (info - 24);
-        this.need(this.next + 1 + size);
-        const value = size ? argument(this.bytes, this.next + 1, size) : info;
+    /** An item's type, which is one of these, and its argument: from 2^32 on it is a BigInt. */
+    head(...types) {
+        const begin = this.at = this.next;
+        this.need(begin + 1);
+        const first = this.bytes[begin], type = first < 0xe0 ? first >> 5 : first;
+        const info = first & 31, size = info < 24 ? 0 : 1 << (info - 24);
+        if (!types.includes(type) || info > 27) this.fail('type', `a first byte of ${first}`);
+        this.next = begin + 1 + size;
+        this.need(this.next);
+        const value = size ? this.view[GETTERS[size]](begin + 1) : info;
         if (value < LEAST[size]) this.fail('range', "a head that isn't the shortest");
-        this.next += 1 + size;
-        return [major, value];
+        return [type, value];
     }
 
-    uint(max = MAX_64, kind = 'range') {
-        const value = this.head('number', 0)[1];
-        if (value > max) this.fail(kind, `${value}, which is above ${max}`);
+    uint(least = 0, most = Infinity, kind = 'range', type = UINT) {
+        const value = this.head(type)[1];
+        if (value < least || value > most) this.fail(kind, `${value}, not ${least} to ${most}`);
         return value;
     }
 
-    /** A signed number, as a BigInt. */
-    distance() {
-        const [major, value] = this.head('distance', 0, 1);
-        if (value > MAX_DISTANCE) this.fail('range', 'a distance of more than 63 bits');
-        return major ? -1n - BigInt(value) : BigInt(value);
+    /** The count of an array, in this range. */
+    array(least, most = least) {
+        return this.uint(least, most, 'type', ARRAY);
     }
 
-    bool() {
-        const first = this.firstByte();
-        if (first !== 0xf4 && first !== 0xf5) this.fail('type', 'no bool');
-        this.next++;
-        return first === 0xf5;
-    }
-
-    /** Whether null comes next. Nothing is read where it doesn't. */
-    isNull() {
-        const found = this.firstByte() === 0xf6;
-        if (found) this.next++;
-        return found;
-    }
-
-    /** Reads the head of an array that has to have one of these counts. */
-    array(...counts) {
-        const count = this.head('array', 4)[1];
-        if (!counts.includes(count)) this.fail('type', `an array of ${count}`);
-        return count;
-    }
-
-    /** Reads the head of a list, whose items come by `each`. */
-    list(each = 1) {
-        const count = this.head('list', 4)[1];
+    /** The count of a list, whose items come by `each`. */
+    count(each = 1) {
+        const count = this.array(0, Infinity);
         if (BigInt(count) % BigInt(each)) this.fail('type', `${count} items, and not by ${each}`);
         if (count > this.limit - this.next) this.fail('limit', `a list of ${count}`);
-        return count;
+        return Number(count);
     }
 
-    /** A text's bytes, and the text. */
-    rawText() {
-        const length = this.head('text', 3)[1];
-        if (length > this.limit - this.next) this.fail('limit', `a text of ${length} bytes`);
-        this.need(this.next + length);
-        const bytes = this.bytes.subarray(this.next, this.next + length);
-        this.next += length;
-        try {
-            return [bytes, utf8.decode(bytes)];
-        } catch {
-            return this.fail('utf-8', 'a text that is no UTF-8');
+    /** Reads a list by calls of `read(last)`, each of which takes `each` items. */
+    list(each, read) {
+        const values = [];
+        for (let left = this.count(each); left > 0; left -= each) {
+            this.following = left - each;
+            values.push(read(values.at(-1)));
         }
+        return values;
     }
 
     text() {
-        return this.rawText()[1];
+        const end = Number(this.head(TEXT)[1]) + this.next;
+        this.need(end);
+        const bytes = this.bytes.subarray(this.next, end);
+        this.next = end;
+        try {
+            return utf8.decode(bytes);
+        } catch {
+            return this.fail('utf-8', 'a text that is no UTF-8');
+        }
     }
 }

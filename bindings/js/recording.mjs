@@ -5,25 +5,17 @@
 // whose times count from the beginning and never descend, and whose bytes, one behind another, are
 // a stream of answers, cut anywhere. An answer is an array of seven, so a stream that was kept
 // without times is known by its first byte.
-import { readChanges, readHead } from './answer.mjs';
-import { Fault, Reader } from './reader.mjs';
+import { encodeHead, readChanges, readHead } from './answer.mjs';
+import { BYTES, Fault, Reader, UINT } from './reader.mjs';
 import { Client } from './tikeburo.mjs';
 
 const ENTRY = 0x82; // an array of two
 const APART = 100; // milliseconds between answers that have no times
-
-/** A head of major type `major`, in the shortest form. */
-function head(major, argument) {
-    if (argument < 24) return [major << 5 | argument];
-    const log = argument < 256 ? 0 : argument < 65536 ? 1 : argument < 4294967296 ? 2 : 3;
-    const bytes = [];
-    for (let k = (1 << log) - 1; k >= 0; k--) bytes.push(Math.floor(argument / 256 ** k) % 256);
-    return [major << 5 | 24 + log, ...bytes];
-}
+const UNLIMITED = Number.MAX_SAFE_INTEGER; // bytes: a longer list is damage
 
 /** An entry's bytes. */
 export function encodeEntry(milliseconds, bytes) {
-    const before = [ENTRY, ...head(0, milliseconds), ...head(2, bytes.length)];
+    const before = [ENTRY, ...encodeHead(UINT, milliseconds), ...encodeHead(BYTES, bytes.length)];
     const entry = new Uint8Array(before.length + bytes.length);
     entry.set(before);
     entry.set(bytes, before.length);
@@ -32,7 +24,7 @@ export function encodeEntry(milliseconds, bytes) {
 
 function readEntry(reader) {
     reader.array(2);
-    const time = Number(reader.uint()), length = reader.head('bytes', 2)[1];
+    const time = Number(reader.uint()), length = reader.head(BYTES)[1];
     reader.need(reader.next + Number(length));
     reader.next += Number(length);
     return { time, bytes: reader.bytes.subarray(reader.next - Number(length), reader.next) };
@@ -40,7 +32,7 @@ function readEntry(reader) {
 
 /** A whole answer's bytes, after those that came before. */
 function readAnswer(reader, entries) {
-    const begin = reader.next, own = new Reader(reader.bytes.subarray(begin), 0, Infinity);
+    const begin = reader.next, own = new Reader(reader.bytes.subarray(begin), UNLIMITED);
     readChanges(own, readHead(own, Infinity));
     reader.next += own.next;
     return { time: APART * entries.length, bytes: reader.bytes.subarray(begin, reader.next) };
@@ -51,7 +43,7 @@ function readAnswer(reader, entries) {
  * before; `fault` is why, and of a stream the rest is an entry too, for the client to judge.
  */
 export function readRecording(bytes) {
-    const reader = new Reader(bytes, 0, Infinity), entries = [];
+    const reader = new Reader(bytes, UNLIMITED), entries = [];
     const timed = bytes[0] === ENTRY;
     try {
         while (reader.next < bytes.length) {
@@ -71,7 +63,7 @@ export function readRecording(bytes) {
 /** Whether what begins here is a repaint. */
 export function isRepaint(bytes) {
     try {
-        return readHead(new Reader(bytes, 0, Infinity), Infinity).base === 0n;
+        return readHead(new Reader(bytes, Infinity), Infinity).base === 0n;
     } catch {
         return false;
     }

@@ -1,53 +1,27 @@
-// What a viewer keeps, and what each change does to it.
-import { DEFAULT_ATTRIBUTES, eachPiece, isControl } from './answer.mjs';
+// What a viewer keeps, and what the changes of docs/VIEWER.md do to it.
 
+export const DEFAULT_ATTRIBUTES = Object.freeze({
+    style: 0, foreground: null, background: null, underlineColor: null, link: null,
+});
 const SINGLE_WIDTH = 3;
 
+export const isBreak = piece => piece === '\n' || piece === '\r' || piece === '\r\n';
 const blank = attributes => Object.freeze({ text: ' ', columns: 1, attributes });
 const DEFAULT_BLANK = blank(DEFAULT_ATTRIBUTES);
+const newRow = width => ({ cells: Array(width).fill(DEFAULT_BLANK), attribute: SINGLE_WIDTH });
+const newRows = (count, width) => Array.from({ length: count }, () => newRow(width));
 
-/** A row has cells up to some column. Those behind them are all its `rest`. */
-class Row {
-    cells = [];
-    rest = DEFAULT_BLANK;
-    attribute = SINGLE_WIDTH;
-
-    /** Cells of their own for all columns before `x`. */
-    fill(x) {
-        while (this.cells.length < x) this.cells.push(this.rest);
-    }
-
-    /** Of a cell of two columns before `x`, only a blank is left. */
-    halve(x) {
-        const cell = this.cells[x - 1];
-        if (cell?.columns === 2) this.cells[x - 1] = blank(cell.attributes);
-    }
-
-    clearFrom(x, rest) {
-        this.fill(x);
-        this.cells.length = x;
-        this.rest = rest;
-        this.halve(x);
-    }
-
-    write(x, cell, width) {
-        const end = Math.min(x + cell.columns, width);
-        this.fill(end);
-        this.halve(x);
-        this.cells[x] = cell;
-        if (end > x + 1) this.cells[x + 1] = blank(cell.attributes);
-    }
+/** Of a cell of two columns before `x`, only a blank is left. */
+function halve(cells, x) {
+    const cell = cells[x - 1];
+    if (cell?.columns === 2) cells[x - 1] = blank(cell.attributes);
 }
-
-const newRows = count => Array.from({ length: count }, () => new Row());
 
 /** Where a move leads from `at`. What is past `last` becomes the last place before `size`. */
 function moved(at, [which, value], size, last) {
-    let to = value;
-    if (which === 0) to = BigInt(at) + value;
-    if (which === 2) to = BigInt(size) - value;
-    if (to < 0n) return 0;
-    return to > (which === 0 ? size - 1 : last) ? size - 1 : Number(to);
+    const to = [at + value, value, size - value][which];
+    if (to < 0) return 0;
+    return to > (which === 0 ? size - 1 : last) ? size - 1 : to;
 }
 
 export class Screen {
@@ -60,19 +34,15 @@ export class Screen {
 
     /** All as new, in this size. */
     reset(width, height) {
-        Object.assign(this, { width, height, rows: newRows(height) });
-        Object.assign(this, { pen: DEFAULT_ATTRIBUTES, title: '' });
-        this.cursor = { x: 0, y: 0, visible: true, shape: 0, color: null };
+        const cursor = { x: 0, y: 0, visible: true, shape: 0, color: null };
+        const rows = newRows(height, width), pen = DEFAULT_ATTRIBUTES;
+        Object.assign(this, { width, height, rows, cursor, pen, title: '' });
     }
 
     /** What a row shows: `[column, cell]`, without the cells that one of two columns hides. */
     *cells(y) {
-        const { cells, rest } = this.rows[y];
-        for (let x = 0; x < this.width;) {
-            const cell = cells[x] ?? rest;
-            yield [x, cell];
-            x += cell.columns;
-        }
+        const { cells } = this.rows[y];
+        for (let x = 0; x < this.width; x += cells[x].columns) yield [x, cells[x]];
     }
 
     /** A row's text, with its blanks. */
@@ -86,67 +56,55 @@ export class Screen {
         return `viewer ${this.number}\n${rows}cursor ${this.cursor.x} ${this.cursor.y}\n`;
     }
 
-    apply([kind, ...values]) {
-        const { cursor } = this, [value] = values;
-        switch (kind) {
-            case 0: this.pen = value(this.pen); break;
-            case 1: this.pen = value; break;
-            case 2: eachPiece(...values, (piece, columns) => this.#print(piece, columns)); break;
-            case 3: case 4: case 5: this.#clear(kind, value); break;
-            case 6: this.#move(...values); break;
-            case 7: cursor.color = value; break;
-            case 8: cursor.shape = value; break;
-            case 9: cursor.visible = value; break;
-            case 10: case 11: this.#scroll(kind === 10, ...values); break;
-            case 12: this.title = value; break;
-            case 13: this.rows[cursor.y].attribute = value; break;
-        }
-    }
-
-    #clear(kind, background) {
-        const { cursor } = this;
+    /** Clears row `y` from column `x` on, and the rows below it that are before row `end`. */
+    clear(background, { x, y }, end) {
         this.pen = Object.freeze({ ...DEFAULT_ATTRIBUTES, background });
-        if (kind === 3) cursor.x = cursor.y = 0;
-        const rest = blank(this.pen), end = kind === 4 ? cursor.y + 1 : this.height;
-        if (cursor.x < this.width) this.rows[cursor.y].clearFrom(cursor.x, rest);
-        for (let y = cursor.y + 1; y < end; y++) this.rows[y].clearFrom(0, rest);
+        const { cells } = this.rows[y], rest = blank(this.pen);
+        if (x < this.width) halve(cells, x);
+        cells.fill(rest, x);
+        for (const row of this.rows.slice(y + 1, end)) row.cells.fill(rest);
     }
 
-    #move(x, y) {
+    move(x, y) {
         this.cursor.x = moved(this.cursor.x, x, this.width, this.width);
         this.cursor.y = moved(this.cursor.y, y, this.height, this.height - 1);
     }
 
-    #scroll(up, first, size, count) {
-        const end = first + size, fresh = newRows(count);
-        const kept = this.rows.slice(up ? first + count : first, up ? end : end - count);
-        const region = up ? kept.concat(fresh) : fresh.concat(kept);
-        this.rows = this.rows.slice(0, first).concat(region, this.rows.slice(end));
+    /** Scrolls `size` rows from row `first` on. */
+    scroll(isUp, first, size, count) {
+        const { rows, width } = this, by = count < size ? count : size, end = first + size;
+        const kept = rows.slice(isUp ? first + by : first, isUp ? end : end - by);
+        const fresh = newRows(by, width), region = isUp ? [kept, fresh] : [fresh, kept];
+        this.rows = rows.slice(0, first).concat(...region, rows.slice(end));
     }
 
-    #down() {
-        if (this.cursor.y + 1 < this.height) {
-            this.cursor.y++;
+    /** Prints runs of pieces. Without these each character is a piece of one column. */
+    print(text, runs = [{ pieces: text, columns: 1 }]) {
+        for (const { pieces, columns } of runs) {
+            for (const piece of pieces) this.#print(piece, columns);
+        }
+    }
+
+    #break(piece) {
+        const { cursor, rows, width } = this;
+        if (piece !== '\n') cursor.x = 0;
+        if (piece === '\r') return;
+        if (cursor.y + 1 < rows.length) {
+            cursor.y++;
         } else {
-            this.rows.shift();
-            this.rows.push(new Row());
+            rows.shift();
+            rows.push(newRow(width));
         }
     }
 
     #print(piece, columns) {
-        const { cursor } = this;
-        if (columns === 0) {
-            if (piece !== '\n') cursor.x = 0;
-            if (piece !== '\r') this.#down();
-            return;
-        }
-        if (cursor.x >= this.width) {
-            cursor.x = 0;
-            this.#down();
-        }
-        const text = piece.length === 1 && isControl(piece.charCodeAt(0)) ? ' ' : piece;
-        const cell = Object.freeze({ text, columns, attributes: this.pen });
-        this.rows[cursor.y].write(cursor.x, cell, this.width);
-        cursor.x = Math.min(cursor.x + columns, this.width);
+        const first = piece.charCodeAt(0), isControl = first < 32 || first === 127;
+        if (isControl && isBreak(piece)) return this.#break(piece);
+        if (this.cursor.x >= this.width) this.#break('\r\n');
+        const { x, y } = this.cursor, { cells } = this.rows[y], text = isControl ? ' ' : piece;
+        halve(cells, x);
+        cells[x] = Object.freeze({ text, columns, attributes: this.pen });
+        if (columns === 2 && x + 1 < this.width) cells[x + 1] = blank(this.pen);
+        this.cursor.x = Math.min(x + columns, this.width);
     }
 }

@@ -4,21 +4,21 @@ import { encodeAsk, readChanges, readHead } from './answer.mjs';
 import { Fault, Reader } from './reader.mjs';
 import { Screen } from './screen.mjs';
 
-export { DEFAULT_ATTRIBUTES, decodeAsk, encodeAsk, styleOf } from './answer.mjs';
+export { decodeAsk, encodeAsk, styleOf } from './answer.mjs';
 export { Fault } from './reader.mjs';
-export { Screen } from './screen.mjs';
+export { DEFAULT_ATTRIBUTES, Screen } from './screen.mjs';
 
 const AT_ONCE = 65536; // what is buffered stays near the limit, however much comes in one piece
+// The numbers that a delta shares with the screen, and the fault where one is another.
+const SHARED = { surface: 'stale', base: 'stale', width: 'size', height: 'size' };
 
 export class Client {
     screen = new Screen();
     answers = 0;
     fault = null;
-    #buffer = new Uint8Array(1024);
-    #start = 0; // of the answer that is read
-    #end = 0;
-    #part = null; // the answer whose beginning is read
-    #wanted = 1; // no answer ends before so many bytes
+    #bytes = new Uint8Array(); // of the coming answer
+    #answer = null; // what is read of it
+    #wanted = 1; // it doesn't end before so many bytes
 
     constructor({ cells = 1 << 20, bytes = 1 << 24, onanswer = null, onstale = null } = {}) {
         Object.assign(this, { limits: { cells, bytes }, onanswer, onstale });
@@ -26,7 +26,7 @@ export class Client {
 
     /** How many bytes of the coming answer are there. */
     get pending() {
-        return this.#end - this.#start;
+        return this.#bytes.length;
     }
 
     /** The bytes that ask for what the screen lacks. */
@@ -36,12 +36,10 @@ export class Client {
 
     /** Begins with a new connection. After a damaged stream the next ask is for a repaint. */
     restart() {
-        if (this.fault && this.fault.kind !== 'truncated') {
-            this.screen.surface = this.screen.number = 0n;
-        }
-        this.#start = this.#end = this.answers = 0;
-        this.#begin();
-        this.fault = null;
+        const isDamaged = this.fault && this.fault.kind !== 'truncated';
+        if (isDamaged) Object.assign(this.screen, { surface: 0n, number: 0n });
+        Object.assign(this, { answers: 0, fault: null });
+        this.#begin(this.pending);
     }
 
     /** Takes the stream's next bytes, cut anywhere. */
@@ -58,78 +56,55 @@ export class Client {
         return this.fault;
     }
 
+    /** Puts bytes behind those that are there, in a greater buffer where this one is full. */
     #append(bytes) {
-        const length = this.pending + bytes.length;
-        if (this.#end + bytes.length > this.#buffer.length) {
-            const rest = this.#buffer.subarray(this.#start, this.#end);
-            if (2 * length > this.#buffer.length) this.#buffer = new Uint8Array(2 * length);
-            this.#buffer.set(rest);
-            this.#start = 0;
-            this.#end = rest.length;
-        }
-        this.#buffer.set(bytes, this.#end);
-        this.#end += bytes.length;
+        const { buffer, byteOffset, length } = this.#bytes, end = length + bytes.length;
+        const isFull = byteOffset + end > buffer.byteLength;
+        const room = isFull ? new Uint8Array(2 * end + AT_ONCE)
+            : new Uint8Array(buffer, byteOffset);
+        if (isFull) room.set(this.#bytes);
+        room.set(bytes, length);
+        this.#bytes = room.subarray(0, end);
     }
 
-    #begin() {
-        this.#part = null;
+    /** Drops so many bytes: the next answer begins behind them. */
+    #begin(length) {
+        this.#bytes = this.#bytes.subarray(length);
+        this.#answer = null;
         this.#wanted = 1;
     }
 
-    /** The answer at hand, or nothing where it isn't whole or has a fault. */
-    #whole(atEnd) {
-        const bytes = this.#buffer.subarray(this.#start, this.#end);
-        const reader = new Reader(bytes, this.#part?.next ?? 0, this.limits.bytes);
+    /** Reads on from what is read, and takes the answer where it is whole. */
+    #read(isEnd) {
+        const reader = new Reader(this.#bytes, this.limits.bytes, this.#answer?.next);
         try {
-            const answer = this.#part ??= readHead(reader, this.limits.cells);
+            const answer = this.#answer ??= readHead(reader, this.limits.cells);
             readChanges(reader, answer);
-            this.#start += reader.next;
-            this.#begin();
-            return answer;
+            this.#begin(reader.next);
+            this.#take(answer);
         } catch (fault) {
             if (!(fault instanceof Fault)) throw fault;
             this.#wanted = reader.wanted;
-            if (fault.kind !== 'truncated' || atEnd) this.fault = this.#numbered(fault);
-            return null;
+            return fault.kind === 'truncated' && !isEnd ? null : this.#judge(fault);
         }
+        this.answers++;
+        return this.onanswer?.(this);
     }
 
-    #numbered(fault) {
+    #judge(fault) {
         fault.answer = this.answers + 1;
-        return fault;
+        if (fault.kind !== 'stale') return this.fault = fault;
+        this.answers++;
+        return this.onstale?.(fault, this);
     }
 
-    #read(atEnd) {
-        const answer = this.#whole(atEnd);
-        if (!answer) return;
-        const misfit = misfitOf(answer, this.screen);
-        if (misfit?.kind === 'size') {
-            this.fault = this.#numbered(misfit);
-        } else if (misfit) {
-            this.#numbered(misfit);
-            this.answers++;
-            this.onstale?.(misfit, this);
-        } else {
-            this.#take(answer);
-            this.answers++;
-            this.onanswer?.(this);
-        }
-    }
-
-    #take({ surface, number, base, width, height, changes }) {
-        const { screen } = this;
+    #take(answer) {
+        const { screen } = this, { surface, number, base, width, height, changes } = answer;
         if (base === 0n) screen.reset(width, height);
-        for (const change of changes) screen.apply(change);
+        const shown = name => (name === 'base' ? screen.number : screen[name]);
+        const other = base && Object.keys(SHARED).find(name => answer[name] !== shown(name));
+        if (other) throw new Fault(SHARED[other], answer.places[other], null, `another ${other}`);
+        for (const { apply, values } of changes) apply(screen, ...values);
         Object.assign(screen, { surface, number });
     }
-}
-
-/** Why a delta doesn't fit the screen. */
-function misfitOf(answer, screen) {
-    if (answer.base === 0n) return null;
-    const shown = { ...screen, base: screen.number };
-    const name = ['surface', 'base', 'width', 'height'].find(key => answer[key] !== shown[key]);
-    if (!name) return null;
-    const kind = name === 'surface' || name === 'base' ? 'stale' : 'size';
-    return new Fault(kind, answer.places[name], null, `${name} ${answer[name]}`);
 }

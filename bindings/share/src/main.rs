@@ -6,7 +6,7 @@ mod server;
 mod terminal;
 
 use server::Server;
-use std::io::{self, IsTerminal, Read, Write};
+use std::io::{self, Read, Write};
 use std::os::unix::process::ExitStatusExt;
 use std::process::{Command, ExitCode};
 use std::sync::mpsc::{self, Receiver, Sender};
@@ -88,12 +88,8 @@ fn keep(mut file: &File, time: Duration, answer: &[u8]) -> io::Result<()> {
 fn share(port: u16, record: Option<File>, command: Command) -> Outcome<ExitCode> {
     let (sender, events) = mpsc::sync_channel(64);
     let (server, address) = Server::start(port, sender.clone())?;
-    eprintln!("{address}");
-    let is_window = io::stdin().is_terminal();
-    if is_window {
-        eprintln!("Press Enter to start.");
-        io::stdin().read_line(&mut String::new())?;
-    }
+    eprintln!("{address}\nPress Enter to start.");
+    io::stdin().read_line(&mut String::new())?;
     let name = command.get_program().to_owned();
     let (pty, mut child) = pty::spawn(command).map_err(|error| format!("{name:?}: {error}"))?;
     let (mut output, mut keys) = (pty.try_clone()?, pty.try_clone()?);
@@ -106,12 +102,8 @@ fn share(port: u16, record: Option<File>, command: Command) -> Outcome<ExitCode>
         }
         sender.send(Event::Output(Vec::new()))
     });
-    pty::with_raw_window(|| {
-        if is_window {
-            thread::spawn(move || io::copy(&mut io::stdin(), &mut keys));
-        }
-        show(pty, events, server, record)
-    })?;
+    thread::spawn(move || io::copy(&mut io::stdin(), &mut keys));
+    pty::with_raw_window(|| show(pty, events, server, record))?;
     let status = child.wait()?;
     let code = status.code().or_else(|| Some(128 + status.signal()?));
     Ok(ExitCode::from(code.unwrap_or(1) as u8))

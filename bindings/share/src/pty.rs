@@ -31,17 +31,14 @@ pub fn resize(pty: &File, (width, height): (usize, usize)) -> io::Result<()> {
 /// Does this while keys come as they are typed. Where there is no window the calls fail.
 pub fn with_raw_window<T>(act: impl FnOnce() -> T) -> T {
     // Safety: all zero is a value of the struct, which the calls read and write alone.
-    let (before, raw) = unsafe {
-        let mut before: termios = mem::zeroed();
-        libc::tcgetattr(STDIN_FILENO, &mut before);
-        let mut raw = before;
-        libc::cfmakeraw(&mut raw);
-        (before, raw)
-    };
-    // Safety: the calls only read the structs.
-    unsafe { libc::tcsetattr(STDIN_FILENO, TCSANOW, &raw) };
+    let set = |settings: &termios| unsafe { libc::tcsetattr(STDIN_FILENO, TCSANOW, settings) };
+    let mut before = unsafe { mem::zeroed() };
+    unsafe { libc::tcgetattr(STDIN_FILENO, &mut before) };
+    let mut raw = before;
+    unsafe { libc::cfmakeraw(&mut raw) };
+    set(&raw);
     let result = act();
-    unsafe { libc::tcsetattr(STDIN_FILENO, TCSANOW, &before) };
+    set(&before);
     result
 }
 

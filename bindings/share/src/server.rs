@@ -28,28 +28,22 @@ const FILES: [(&str, &str, &str); 11] = [
     ("tikeburo.mjs", MODULE, include_str!("../../js/tikeburo.mjs")),
 ];
 
-/// Reads a request's head and body, or nothing where there is none, or they are too long.
-fn read_request(input: &mut impl BufRead) -> io::Result<Option<(String, Vec<u8>)>> {
+/// Reads a request's head and body. There is none where it ends too early, or is too long.
+fn read_request(input: &mut impl BufRead) -> io::Result<(String, Vec<u8>)> {
     let (mut head, mut lines) = (String::new(), input.by_ref().take(LONGEST_HEAD));
     while !head.ends_with("\r\n\r\n") {
         if lines.read_line(&mut head)? == 0 {
-            return Ok(None);
+            return Ok(Default::default());
         }
     }
     let fields = head.to_ascii_lowercase();
     let length = fields.lines().find_map(|line| line.strip_prefix("content-length:"));
     let Ok(length @ 0..=LONGEST_BODY) = length.map_or(Ok(0), |length| length.trim().parse()) else {
-        return Ok(None);
+        return Ok(Default::default());
     };
     let mut body = vec![0; length];
     input.read_exact(&mut body)?;
-    Ok(Some((head, body)))
-}
-
-/// Whether two texts are the same, in a time that doesn't say where they differ.
-fn is_same(one: &str, other: &str) -> bool {
-    let differ = |sum, (a, b)| black_box(sum | (a ^ b));
-    one.len() == other.len() && one.bytes().zip(other.bytes()).fold(0, differ) == 0
+    Ok((head, body))
 }
 
 /// What all connections share.
@@ -87,12 +81,7 @@ impl Server {
         stream.set_nodelay(true)?;
         stream.set_read_timeout(Some(PATIENCE))?;
         let mut input = BufReader::new(stream);
-        loop {
-            let (status, kind, body) = match self.find(read_request(&mut input)?) {
-                Ok(Some((kind, body))) => ("200 OK", kind, body),
-                Ok(None) => return self.send_stream(stream),
-                Err(status) => (status, "text/plain", Vec::new()),
-            };
+        while let Some((status, kind, body)) = self.respond(read_request(&mut input)?) {
             let size = format!("content-type: {kind}\r\ncontent-length: {}", body.len());
             let head = format!("HTTP/1.1 {status}\r\n{HEADERS}{size}\r\n\r\n");
             stream.write_all(&[head.as_bytes(), &body].concat())?;
@@ -100,25 +89,30 @@ impl Server {
                 return Ok(());
             }
         }
+        self.send_stream(stream)
     }
 
-    /// The kind and the bytes of what is asked for, nothing where that is the stream, or the status
-    /// of a refusal.
-    fn find(&self, request: Option<(String, Vec<u8>)>) -> Result<Option<(&str, Vec<u8>)>, &str> {
-        let (head, body) = request.ok_or("400 Bad Request")?;
+    /// The status, kind and body of a response, or nothing where the stream is asked for.
+    fn respond(&self, (head, body): (String, Vec<u8>)) -> Option<(&str, &str, Vec<u8>)> {
+        let refuse = |status| Some((status, "text/plain", Vec::new()));
         let first: Vec<_> = head.lines().next().unwrap_or_default().split(' ').collect();
-        let &[method, path, "HTTP/1.1"] = &*first else { return Err("400 Bad Request") };
+        let &[method, path, "HTTP/1.1"] = &*first else { return refuse("400 Bad Request") };
         let path = path.split('?').next().unwrap_or_default();
         let (token, name) = path.trim_start_matches('/').split_once('/').unwrap_or_default();
+        // The tokens are compared in a time that doesn't say where they differ.
+        let pairs = token.bytes().chain([0; 32]).zip(self.token.bytes());
+        let differ =
+            pairs.fold(token.len() ^ 32, |sum, (a, b)| black_box(sum | usize::from(a ^ b)));
         match (method, name, FILES.iter().find(|file| file.0 == name)) {
-            _ if !is_same(token, &self.token) => Err("404 Not Found"),
-            ("GET", _, Some((_, kind, text))) => Ok(Some((kind, text.as_bytes().to_vec()))),
-            ("GET", "stream", None) => Ok(None),
-            ("POST", "stream", None) => {
-                let answer = self.ask(body.into()).ok_or("410 Gone")?;
-                Ok(Some((SEQUENCE, answer.map_err(|_| "400 Bad Request")?)))
-            }
-            _ => Err("404 Not Found"),
+            _ if differ != 0 => refuse("404 Not Found"),
+            ("GET", _, Some((_, kind, text))) => Some(("200 OK", kind, text.as_bytes().to_vec())),
+            ("GET", "stream", None) => None,
+            ("POST", "stream", None) => match self.ask(body.into()) {
+                Some(Ok(answer)) => Some(("200 OK", SEQUENCE, answer)),
+                Some(Err(_)) => refuse("400 Bad Request"),
+                None => refuse("410 Gone"),
+            },
+            _ => refuse("404 Not Found"),
         }
     }
 

@@ -79,7 +79,10 @@ impl Terminal {
         self.surface.resize(width, height)?;
         self.hidden.resize(width, height)?;
         (self.width, self.height, self.region) = (width, height, 0..height);
-        self.move_to(self.cursor.x, self.cursor.y - above);
+        self.cursor.y -= above;
+        for cursor in [&mut self.cursor, &mut self.saved].into_iter().chain(&mut self.behind) {
+            (cursor.x, cursor.y) = (cursor.x.min(width - 1), cursor.y.min(height - 1));
+        }
         self.make()
     }
 
@@ -170,16 +173,11 @@ impl Terminal {
         self.move_to(self.cursor.x, self.cursor.y + usize::from(!is_last));
     }
 
-    fn restore(&mut self, cursor: Cursor) {
-        self.cursor = cursor;
-        self.move_to(self.cursor.x, self.cursor.y);
-    }
-
     /// Shows the alternate screen, or what is behind it.
     fn change_screen(&mut self) {
         self.outcome = self.make();
         let drawn = if let Some(cursor) = self.behind.take() {
-            self.restore(cursor);
+            self.cursor = cursor;
             self.surface.draw_from_screen(&self.hidden, 0, 0)
         } else {
             self.behind = Some(self.cursor.clone());
@@ -278,23 +276,22 @@ impl Perform for Terminal {
                 self.move_to(0, 0);
             }
             (b"", 's') => self.saved = self.cursor.clone(),
-            (b"", 'u') => self.restore(self.saved.clone()),
+            (b"", 'u') => self.cursor = self.saved.clone(),
             _ => {}
         }
     }
 
     fn esc_dispatch(&mut self, between: &[u8], _is_cut: bool, last: u8) {
         self.last = Default::default();
-        let (width, height, y, region) =
-            (self.width, self.height, self.cursor.y, self.region.clone());
+        let (y, Range { start, end }) = (self.cursor.y, self.region.clone());
         match (between, last) {
             (b"", b'7') => self.saved = self.cursor.clone(),
-            (b"", b'8') => self.restore(self.saved.clone()),
+            (b"", b'8') => self.cursor = self.saved.clone(),
             (b"", b'D') => self.feed_line(),
             (b"", b'E') => b"\r\n".iter().for_each(|byte| self.execute(*byte)),
-            (b"", b'M') if y == region.start => self.scroll(region, 1, false),
+            (b"", b'M') if y == start => self.scroll(start..end, 1, false),
             (b"", b'M') => self.cursor.y = y.saturating_sub(1),
-            (b"", b'c') => self.outcome = Terminal::new(width, height).map(|new| *self = new),
+            (b"", b'c') => self.outcome = Terminal::new(self.width, self.height).map(|t| *self = t),
             (b"(", set) => self.cursor.draws[0] = set == b'0',
             (b")", set) => self.cursor.draws[1] = set == b'0',
             _ => {}

@@ -40,7 +40,7 @@ pub struct Terminal {
     wraps: bool,
     last: (String, usize), // the grapheme that was printed just now, and its columns
     ruler: Surface,        // where graphemes are measured
-    hidden: Surface,       // what is behind the alternate screen,
+    hidden: Surface,       // what is behind the alternate screen
     behind: Option<Cursor>, // and the cursor there
     changes: Vec<Change>,  // which are still to be made
     outcome: Result<(), Error>, // of those before
@@ -303,10 +303,8 @@ impl Perform for Terminal {
         let text = |words: &[&[u8]]| String::from_utf8_lossy(&words.join(&b';')).into_owned();
         match words {
             [b"0" | b"2", title @ ..] => self.changes.push(Change::Title(text(title))),
-            [b"8", _, uri @ ..] => {
-                let uri = Some(text(uri)).filter(|uri| !uri.is_empty());
-                self.cursor.pen.hyperlink = uri.map(Hyperlink::new);
-            }
+            [b"8", _, b""] => self.cursor.pen.hyperlink = None,
+            [b"8", _, uri @ ..] => self.cursor.pen.hyperlink = Some(Hyperlink::new(text(uri))),
             _ => {}
         }
     }

@@ -36,13 +36,13 @@ pub struct Terminal {
     height: usize,
     cursor: Cursor,
     saved: Cursor,
-    region: Range<usize>, // the rows that scroll
     wraps: bool,
-    last: (String, usize), // the grapheme that was printed just now, and its columns
-    ruler: Surface,        // where graphemes are measured
-    hidden: Surface,       // what is behind the alternate screen
-    behind: Option<Cursor>, // and the cursor there
-    changes: Vec<Change>,  // which are still to be made
+    region: Range<usize>,       // the rows that scroll
+    last: (String, usize),      // the grapheme that was printed just now, and its columns
+    ruler: Surface,             // where graphemes are measured
+    hidden: Surface,            // what is behind the alternate screen
+    behind: Option<Cursor>,     // and the cursor there
+    changes: Vec<Change>,       // which are still to be made
     outcome: Result<(), Error>, // of those before
 }
 
@@ -54,8 +54,8 @@ impl Terminal {
             height,
             cursor: Cursor::default(),
             saved: Cursor::default(),
-            region: 0..height,
             wraps: true,
+            region: 0..height,
             last: Default::default(),
             ruler: Surface::new(8, 1)?,
             hidden: Surface::new(width, height)?,
@@ -152,7 +152,7 @@ impl Terminal {
         self.last = (text, columns);
     }
 
-    /// Moves the cells of the cursor's row that are behind these columns, or in them.
+    /// Inserts blanks in these columns of the cursor's row, or deletes the cells there.
     fn shift(&mut self, Range { start, end }: Range<usize>, inserts: bool) {
         let (y, moved) = (self.cursor.y, self.width - end);
         let (from, to) = if inserts { (start, end) } else { (end, start) };
@@ -210,9 +210,8 @@ impl Terminal {
 impl Perform for Terminal {
     /// Prints a character, which may join the grapheme before it: then that is printed anew.
     fn print(&mut self, c: char) {
-        let place = (c as usize).wrapping_sub('`' as usize);
-        let draws = self.cursor.draws[self.cursor.set];
-        let c = draws.then(|| DRAWINGS.chars().nth(place)).flatten().unwrap_or(c);
+        let drawing = DRAWINGS.chars().nth((c as usize).wrapping_sub('`' as usize));
+        let c = drawing.filter(|_| self.cursor.draws[self.cursor.set]).unwrap_or(c);
         let joined = format!("{}{c}", self.last.0);
         match self.measure(&joined) {
             _ if c.is_control() => {}
@@ -272,8 +271,7 @@ impl Perform for Terminal {
             (b"", 'm') => set_pen(&mut self.cursor.pen, params),
             (b" ", 'q') if count < 7 => self.changes.push(Change::CursorShape(SHAPES[count - 1])),
             (b"", 'r') if count < bottom => {
-                self.region = count - 1..bottom;
-                self.move_to(0, 0);
+                (self.region, self.cursor.x, self.cursor.y) = (count - 1..bottom, 0, 0);
             }
             (b"", 's') => self.saved = self.cursor.clone(),
             (b"", 'u') => self.cursor = self.saved.clone(),

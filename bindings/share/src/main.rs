@@ -1,186 +1,132 @@
 //! Runs a program in a terminal, and shows that in any number of browsers:
 //! `share [--port N] [--record FILE] [--] PROGRAM [WORD..]`
 
-mod http;
 mod pty;
-mod recording;
 mod server;
-mod source;
 mod terminal;
 
-use pty::{RawWindow, IS_STOPPED};
-use recording::Recording;
 use server::Server;
-use source::{Event, Source};
-use std::ffi::OsString;
-use std::fs::File;
-use std::io::{self, IsTerminal, Read, Write};
+use std::io::{self, Read, Write};
 use std::os::unix::process::ExitStatusExt;
-use std::path::PathBuf;
-use std::process::ExitCode;
-use std::sync::atomic::Ordering;
-use std::sync::mpsc::{self, Receiver, RecvTimeoutError, SyncSender};
+use std::process::{Command, ExitCode};
+use std::sync::mpsc::{self, Receiver, Sender};
 use std::time::{Duration, Instant};
-use std::{fmt, thread};
+use std::{collections::HashMap, env, error, fs::File, sync::Arc, thread};
 use terminal::Terminal;
-use tikeburo::Client;
+use tikeburo::{Ask, Client, Error};
 
 const USAGE: &str = "usage: share [--port N] [--record FILE] [--] PROGRAM [WORD..]";
-const SIZE: (usize, usize) = (80, 24); // where there is no window
 const FRAME: Duration = Duration::from_millis(16); // no answers come faster
 const LOOK: Duration = Duration::from_millis(100); // how often the window's size is looked at
 const LAST: Duration = Duration::from_secs(2); // how long viewers have to get the last screen
 
-/// Why the program ends early.
-pub enum Failure {
-    Usage,
-    Surface(tikeburo::Error),
-    System(&'static str, io::Error),
+pub type Outcome<T = ()> = Result<T, Box<dyn error::Error + Send + Sync>>;
+
+/// What comes to the thread that has the surface.
+pub enum Event {
+    Output(Vec<u8>),                            // of the program: nothing at its end
+    Asked(Ask, Sender<Result<Vec<u8>, Error>>), // by a viewer, and where the answer goes
 }
 
-impl Failure {
-    fn system(doing: &'static str) -> impl FnOnce(io::Error) -> Failure {
-        move |error| Failure::System(doing, error)
-    }
-}
-
-impl From<tikeburo::Error> for Failure {
-    fn from(error: tikeburo::Error) -> Failure {
-        Failure::Surface(error)
-    }
-}
-
-impl fmt::Display for Failure {
-    fn fmt(&self, f: &mut fmt::Formatter<'_>) -> fmt::Result {
-        match self {
-            Failure::Usage => f.write_str(USAGE),
-            Failure::Surface(error) => write!(f, "share: the surface: {error}"),
-            Failure::System(doing, error) => write!(f, "share: {doing}: {error}"),
+/// Shows what the program writes, until it has ended and viewers have the last screen.
+fn show(pty: File, events: Receiver<Event>, server: Arc<Server>, record: Option<File>) -> Outcome {
+    let (mut terminal, mut parser) = (Terminal::new(1, 1)?, vte::Parser::new());
+    let (mut newest, began, mut ended) = (Client::new()?, Instant::now(), None::<Instant>);
+    let mut waiting = HashMap::<Ask, Vec<_>>::new();
+    // A connection has the server too.
+    while ended.map_or(true, |end| end.elapsed() < LAST && Arc::strong_count(&server) > 2) {
+        let size = pty::window_size();
+        if terminal.surface.dimensions() != size {
+            pty::resize(&pty, size)?;
+            terminal.resize(size)?;
         }
-    }
-}
-
-#[derive(Default)]
-struct Options {
-    port: u16,
-    record: Option<PathBuf>,
-    words: Vec<OsString>,
-}
-
-fn read_options(words: impl Iterator<Item = OsString>) -> Option<Options> {
-    let (mut options, mut words) = (Options::default(), words.peekable());
-    while let Some(word) = words.next_if(|word| word.as_encoded_bytes().starts_with(b"--")) {
-        match word.to_str()? {
-            "--" => break,
-            "--port" => options.port = words.next()?.to_str()?.parse().ok()?,
-            "--record" => options.record = Some(words.next()?.into()),
-            _ => return None,
-        }
-    }
-    options.words = words.collect();
-    (!options.words.is_empty()).then_some(options)
-}
-
-/// Passes on what the program writes, to its end.
-fn read_output(mut pty: File, events: &SyncSender<Event>) {
-    let (mut room, mut window) = ([0; 1 << 16], io::stdout());
-    let copies = window.is_terminal();
-    while let Ok(length @ 1..) = pty.read(&mut room) {
-        let output = &room[..length];
-        let is_shown = !copies || window.write_all(output).and_then(|()| window.flush()).is_ok();
-        if !is_shown || events.send(Event::Output(output.to_vec())).is_err() {
-            break;
-        }
-    }
-    let _ = events.send(Event::Ended); // which nobody waits for after a failure
-}
-
-/// Takes what comes until the program ends.
-fn follow(source: &mut Source, pty: &File, events: &Receiver<Event>) -> Result<(), Failure> {
-    let mut parser = vte::Parser::new();
-    let (mut is_new, mut shown) = (true, Instant::now());
-    while !IS_STOPPED.load(Ordering::Relaxed) {
-        match events.recv_timeout(if is_new { FRAME } else { LOOK }) {
-            Ok(Event::Output(bytes)) => {
-                source.terminal.feed(&mut parser, &bytes)?;
-                is_new = true;
+        let first = events.recv_timeout(LOOK);
+        for event in first.into_iter().chain(events.try_iter().take(64)) {
+            match event {
+                Event::Output(bytes) if bytes.is_empty() => ended = Some(Instant::now()),
+                Event::Output(bytes) => terminal.feed(&mut parser, &bytes)?,
+                Event::Asked(ask, reply) => waiting.entry(ask).or_default().push(reply),
             }
-            Ok(Event::Asked(question)) => source.wait(question),
-            Ok(Event::Ended) | Err(RecvTimeoutError::Disconnected) => break,
-            Err(RecvTimeoutError::Timeout) => {}
         }
-        let (width, height) = pty::window_size().unwrap_or(SIZE);
-        if (width, height) != source.terminal.size() {
-            pty::resize(pty, (width, height)).map_err(Failure::system("resizing the terminal"))?;
-            source.terminal.resize(width, height)?;
-            is_new = true;
+        let before = newest.ask()?;
+        let answer = terminal.surface.respond(&before)?;
+        newest.feed(&answer)?;
+        let now = newest.ask()?;
+        if let Some(file) = record.as_ref().filter(|_| now != before) {
+            keep(file, began.elapsed(), &answer)?;
         }
-        if !is_new {
-            source.answer_all()?;
-        } else if shown.elapsed() >= FRAME {
-            source.publish()?;
-            (is_new, shown) = (false, Instant::now());
+        // Who has it all waits on, or is told the end.
+        let same = waiting.remove_entry(&now).filter(|_| ended.is_none());
+        for (ask, replies) in waiting.drain() {
+            let answer = terminal.surface.respond(&ask);
+            replies.iter().for_each(|reply| drop(reply.send(answer.clone())));
         }
+        waiting.extend(same);
+        thread::sleep(FRAME);
     }
     Ok(())
 }
 
-/// Shows the last screen to those who have not seen it.
-fn finish(source: &mut Source, server: &Server, events: &Receiver<Event>) -> Result<(), Failure> {
-    let began = Instant::now();
-    source.end()?;
-    while server.is_watched() && began.elapsed() < LAST {
-        if let Ok(Event::Asked(question)) = events.recv_timeout(FRAME) {
-            source.wait(question);
-            source.answer_all()?;
-        }
+/// Keeps `[milliseconds, answer]`, as CBOR: heads have their shortest form.
+fn keep(mut file: &File, time: Duration, answer: &[u8]) -> io::Result<()> {
+    let mut entry = vec![0x82];
+    for (kind, value) in [(0x00, time.as_millis() as u64), (0x40, answer.len() as u64)] {
+        let (info, size) = match value {
+            0..=23 => (value as u8, 0),
+            24..=0xff => (24, 1),
+            0x100..=0xffff => (25, 2),
+            0x1_0000..=0xffff_ffff => (26, 4),
+            _ => (27, 8),
+        };
+        entry.push(kind | info);
+        entry.extend_from_slice(&value.to_be_bytes()[8 - size..]);
     }
-    Ok(())
+    file.write_all(&[&entry, answer].concat())
 }
 
 /// Runs the program, and returns its status.
-fn share(options: &Options) -> Result<ExitCode, Failure> {
-    let size = pty::window_size().unwrap_or(SIZE);
-    let recording = options.record.as_deref().map(Recording::create).transpose();
-    let recording = recording.map_err(Failure::system("making the recording"))?;
-    let mut source = Source::new(Terminal::new(size.0, size.1)?, recording)?;
+fn share(port: u16, record: Option<File>, command: Command) -> Outcome<ExitCode> {
     let (sender, events) = mpsc::sync_channel(64);
-    let server = Server::start(options.port, sender.clone(), Client::new()?.ask()?);
-    let server = server.map_err(Failure::system("listening"))?;
-    eprintln!("{}", server.address);
-
-    let is_window = io::stdin().is_terminal();
-    if is_window {
-        eprintln!("Press Enter to start.");
-        io::stdin().read_line(&mut String::new()).map_err(Failure::system("reading"))?;
-    }
-    let (pty, mut child) = pty::spawn(&options.words, size).map_err(Failure::system("starting"))?;
-    let window = is_window.then(RawWindow::new).transpose();
-    let window = window.map_err(Failure::system("setting the window"))?;
-    let copies = pty.try_clone().and_then(|output| Ok((output, pty.try_clone()?)));
-    let (output, mut input) = copies.map_err(Failure::system("opening the terminal"))?;
-    thread::spawn(move || read_output(output, &sender));
-    if is_window {
-        thread::spawn(move || io::copy(&mut io::stdin(), &mut input));
-    }
-    follow(&mut source, &pty, &events)?;
-    finish(&mut source, &server, &events)?;
-    drop(window);
-    if IS_STOPPED.load(Ordering::Relaxed) {
-        return Ok(ExitCode::FAILURE);
-    }
-    let status = child.wait().map_err(Failure::system("waiting for the program"))?;
+    let (server, address) = Server::start(port, sender.clone())?;
+    eprintln!("{address}\nPress Enter to start.");
+    io::stdin().read_line(&mut String::new())?;
+    let name = command.get_program().to_owned();
+    let (pty, mut child) = pty::spawn(command).map_err(|error| format!("{name:?}: {error}"))?;
+    let (mut output, mut keys) = (pty.try_clone()?, pty.try_clone()?);
+    thread::spawn(move || {
+        let (mut room, mut window) = ([0; 1 << 16], io::stdout());
+        while let Ok(length @ 1..) = output.read(&mut room) {
+            let bytes = &room[..length];
+            let _ = window.write_all(bytes).and_then(|()| window.flush()); // it may be gone
+            let _ = sender.send(Event::Output(bytes.to_vec()));
+        }
+        sender.send(Event::Output(Vec::new()))
+    });
+    thread::spawn(move || io::copy(&mut io::stdin(), &mut keys));
+    pty::with_raw_window(|| show(pty, events, server, record))?;
+    let status = child.wait()?;
     let code = status.code().or_else(|| Some(128 + status.signal()?));
     Ok(ExitCode::from(code.unwrap_or(1) as u8))
 }
 
-fn main() -> ExitCode {
-    let options = read_options(std::env::args_os().skip(1)).ok_or(Failure::Usage);
-    match options.and_then(|options| share(&options)) {
-        Ok(code) => code,
-        Err(failure) => {
-            eprintln!("{failure}");
-            ExitCode::from(2)
+fn run() -> Outcome<ExitCode> {
+    let (mut port, mut record, mut words) = (0, None, env::args_os().skip(1).peekable());
+    while let Some(word) = words.next_if(|word| word.as_encoded_bytes().starts_with(b"--")) {
+        match word.to_str() {
+            Some("--") => break,
+            Some("--port") => port = words.next().ok_or(USAGE)?.to_str().ok_or(USAGE)?.parse()?,
+            Some("--record") => record = Some(File::create(words.next().ok_or(USAGE)?)?),
+            _ => return Err(USAGE.into()),
         }
     }
+    let mut command = Command::new(words.next().ok_or(USAGE)?);
+    command.args(words);
+    share(port, record, command)
+}
+
+fn main() -> ExitCode {
+    run().unwrap_or_else(|error| {
+        eprintln!("share: {error}");
+        ExitCode::from(2)
+    })
 }

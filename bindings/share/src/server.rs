@@ -1,152 +1,138 @@
-//! The server: a page and a stream, for whoever has the address.
+//! The server: a page and a stream over HTTP, for whoever has the address.
 
-use crate::http::{read_request, respond, write_chunk, Request};
-use crate::source::{Answer, Event, Question};
-use std::net::{Ipv4Addr, Shutdown, TcpListener, TcpStream};
+use crate::{Event, Outcome};
+use std::io::{self, BufRead, BufReader, Read, Write};
+use std::net::{Ipv4Addr, TcpListener, TcpStream};
 use std::sync::{mpsc, mpsc::SyncSender, Arc};
-use std::time::{Duration, Instant};
-use std::{fs::File, hint::black_box, io, io::ErrorKind, io::Read, thread};
-use tikeburo::Ask;
+use std::{fs::File, hint::black_box, thread, time::Duration};
+use tikeburo::{Ask, Client, Error};
 
-const MOST_CONNECTIONS: usize = 900;
 const PATIENCE: Duration = Duration::from_secs(60);
+const LONGEST_HEAD: u64 = 8192;
+const LONGEST_BODY: usize = 64; // an ask has 20 bytes at most
+const HEADERS: &str = "cache-control: no-store\r\nreferrer-policy: no-referrer\r\n\
+    content-security-policy: default-src 'self'; frame-ancestors 'none'\r\n";
 const SEQUENCE: &str = "application/cbor-seq";
-const TEXT: &str = "text/plain";
-const FILES: [(&str, &str); 11] = [
-    ("index.html", include_str!("../../js/index.html")),
-    ("page.css", include_str!("../../js/page.css")),
-    ("page.mjs", include_str!("../../js/page.mjs")),
-    ("answer.mjs", include_str!("../../js/answer.mjs")),
-    ("element.mjs", include_str!("../../js/element.mjs")),
-    ("grid.mjs", include_str!("../../js/grid.mjs")),
-    ("look.mjs", include_str!("../../js/look.mjs")),
-    ("reader.mjs", include_str!("../../js/reader.mjs")),
-    ("recording.mjs", include_str!("../../js/recording.mjs")),
-    ("screen.mjs", include_str!("../../js/screen.mjs")),
-    ("tikeburo.mjs", include_str!("../../js/tikeburo.mjs")),
+const MODULE: &str = "text/javascript";
+const FILES: [(&str, &str, &str); 11] = [
+    ("", "text/html; charset=utf-8", include_str!("../../js/index.html")),
+    ("page.css", "text/css", include_str!("../../js/page.css")),
+    ("page.mjs", MODULE, include_str!("../../js/page.mjs")),
+    ("answer.mjs", MODULE, include_str!("../../js/answer.mjs")),
+    ("element.mjs", MODULE, include_str!("../../js/element.mjs")),
+    ("grid.mjs", MODULE, include_str!("../../js/grid.mjs")),
+    ("look.mjs", MODULE, include_str!("../../js/look.mjs")),
+    ("reader.mjs", MODULE, include_str!("../../js/reader.mjs")),
+    ("recording.mjs", MODULE, include_str!("../../js/recording.mjs")),
+    ("screen.mjs", MODULE, include_str!("../../js/screen.mjs")),
+    ("tikeburo.mjs", MODULE, include_str!("../../js/tikeburo.mjs")),
 ];
 
-fn kind_of(name: &str) -> &'static str {
-    match name.rsplit('.').next() {
-        Some("html") => "text/html; charset=utf-8",
-        Some("css") => "text/css",
-        _ => "text/javascript",
+/// Reads a request's head and body. There is none where it ends too early, or is too long.
+fn read_request(input: &mut impl BufRead) -> io::Result<(String, Vec<u8>)> {
+    let (mut head, mut lines) = (String::new(), input.by_ref().take(LONGEST_HEAD));
+    while !head.ends_with("\r\n\r\n") {
+        if lines.read_line(&mut head)? == 0 {
+            return Ok(Default::default());
+        }
     }
+    let fields = head.to_ascii_lowercase();
+    let length = fields.lines().find_map(|line| line.strip_prefix("content-length:"));
+    let Ok(length @ 0..=LONGEST_BODY) = length.map_or(Ok(0), |length| length.trim().parse()) else {
+        return Ok(Default::default());
+    };
+    let mut body = vec![0; length];
+    input.read_exact(&mut body)?;
+    Ok((head, body))
 }
 
-fn random_token() -> io::Result<String> {
-    let mut bytes = [0; 16];
-    File::open("/dev/urandom")?.read_exact(&mut bytes)?;
-    Ok(bytes.iter().map(|byte| format!("{byte:02x}")).collect())
-}
-
-/// Whether two texts are the same, in a time that doesn't say where they differ.
-fn is_same(one: &[u8], other: &[u8]) -> bool {
-    let differ = |sum, (a, b): (&u8, &u8)| black_box(sum | (a ^ b));
-    one.len() == other.len() && one.iter().zip(other).fold(0, differ) == 0
-}
-
-/// Serves by threads of its own: one that listens, and one for each connection.
+/// What all connections share.
 pub struct Server {
-    pub address: String,
-    site: Arc<Site>,
+    token: String,
+    events: SyncSender<Event>,
 }
 
 impl Server {
-    /// `nothing` is the ask of a viewer that shows nothing yet.
-    pub fn start(port: u16, events: SyncSender<Event>, nothing: Ask) -> io::Result<Server> {
+    /// Listens, and returns the address too. The thread that listens has the server, and so has
+    /// that of each connection, while it is open.
+    pub fn start(port: u16, events: SyncSender<Event>) -> Outcome<(Arc<Server>, String)> {
+        let mut random = [0; 16];
+        File::open("/dev/urandom")?.read_exact(&mut random)?;
+        let token = format!("{:032x}", u128::from_ne_bytes(random));
         let listener = TcpListener::bind((Ipv4Addr::LOCALHOST, port))?;
-        let site = Arc::new(Site { token: random_token()?, events, nothing });
-        let address = format!("http://{}/{}/?pull", listener.local_addr()?, site.token);
-        let server = Server { address, site: Arc::clone(&site) };
-        thread::spawn(move || site.listen(&listener));
-        Ok(server)
-    }
-
-    /// Whether a connection is open.
-    pub fn is_watched(&self) -> bool {
-        Arc::strong_count(&self.site) > 2
-    }
-}
-
-struct Site {
-    token: String,
-    events: SyncSender<Event>,
-    nothing: Ask,
-}
-
-impl Site {
-    fn listen(self: Arc<Site>, listener: &TcpListener) {
-        loop {
-            match listener.accept() {
+        let address = format!("http://{}/{token}/?pull", listener.local_addr()?);
+        let server = Arc::new(Server { token, events });
+        let shared = Arc::clone(&server);
+        thread::spawn(move || {
+            for stream in listener.incoming() {
+                let server = Arc::clone(&shared);
+                let talk = |stream| thread::Builder::new().spawn(move || server.talk(&stream));
                 // A connection that is lost, or finds no thread, is its viewer's matter.
-                Ok((stream, _)) if Arc::strong_count(&self) <= MOST_CONNECTIONS => {
-                    let site = Arc::clone(&self);
-                    let _ = thread::Builder::new().spawn(move || site.talk(&stream));
+                if stream.and_then(talk).is_err() {
+                    thread::sleep(Duration::from_millis(100));
                 }
-                Ok(_) => {}
-                Err(_) => thread::sleep(Duration::from_millis(100)),
             }
-        }
+        });
+        Ok((server, address))
     }
 
-    fn talk(&self, stream: &TcpStream) -> io::Result<()> {
+    /// Answers one request after another, until one is refused.
+    fn talk(&self, mut stream: &TcpStream) -> Outcome {
         stream.set_nodelay(true)?;
         stream.set_read_timeout(Some(PATIENCE))?;
-        stream.set_write_timeout(Some(PATIENCE))?;
-        let mut input = io::BufReader::new(stream);
-        loop {
-            match read_request(&mut input) {
-                Ok(Some(request)) => self.answer(request, stream)?,
-                Err(error) if error.kind() == ErrorKind::InvalidData => {
-                    return respond(stream, "400 Bad Request", TEXT, Some(b""));
-                }
-                other => return other.map(|_| ()),
+        let mut input = BufReader::new(stream);
+        while let Some((status, kind, body)) = self.respond(read_request(&mut input)?) {
+            let size = format!("content-type: {kind}\r\ncontent-length: {}", body.len());
+            let head = format!("HTTP/1.1 {status}\r\n{HEADERS}{size}\r\n\r\n");
+            stream.write_all(&[head.as_bytes(), &body].concat())?;
+            if status != "200 OK" {
+                return Ok(());
             }
         }
+        self.send_stream(stream)
     }
 
-    fn answer(&self, request: Request, stream: &TcpStream) -> io::Result<()> {
-        let path = request.path.split('?').next().unwrap_or_default();
-        let (token, name) = path.get(1..).and_then(|it| it.split_once('/')).unwrap_or_default();
-        let name = if name.is_empty() { "index.html" } else { name };
-        let file = FILES.iter().find(|file| file.0 == name);
-        let is_known = is_same(token.as_bytes(), self.token.as_bytes());
-        match (&*request.method, file) {
-            _ if !is_known => respond(stream, "404 Not Found", TEXT, Some(b"")),
-            ("GET", Some((_, text))) => {
-                respond(stream, "200 OK", kind_of(name), Some(text.as_bytes()))
-            }
-            ("GET", None) if name == "stream" => self.send_stream(stream),
-            ("POST", None) if name == "stream" => match self.ask(Ask::from(request.body)) {
-                Some(Ok(answer)) => respond(stream, "200 OK", SEQUENCE, Some(&answer.bytes)),
-                Some(Err(_)) => respond(stream, "400 Bad Request", TEXT, Some(b"")),
-                None => {
-                    respond(stream, "410 Gone", TEXT, Some(b""))?;
-                    stream.shutdown(Shutdown::Both)
-                }
+    /// The status, kind and body of a response, or nothing where the stream is asked for.
+    fn respond(&self, (head, body): (String, Vec<u8>)) -> Option<(&str, &str, Vec<u8>)> {
+        let refuse = |status| Some((status, "text/plain", Vec::new()));
+        let first: Vec<_> = head.lines().next().unwrap_or_default().split(' ').collect();
+        let &[method, path, "HTTP/1.1"] = &*first else { return refuse("400 Bad Request") };
+        let path = path.split('?').next().unwrap_or_default();
+        let (token, name) = path.trim_start_matches('/').split_once('/').unwrap_or_default();
+        // The tokens are compared in a time that doesn't say where they differ.
+        let pairs = token.bytes().chain([0; 32]).zip(self.token.bytes());
+        let differ = |sum, (a, b): (u8, u8)| black_box(sum | usize::from(a ^ b));
+        match (method, name, FILES.iter().find(|file| file.0 == name)) {
+            _ if pairs.fold(token.len() ^ 32, differ) != 0 => refuse("404 Not Found"),
+            ("GET", _, Some((_, kind, text))) => Some(("200 OK", kind, text.as_bytes().to_vec())),
+            ("GET", "stream", None) => None,
+            ("POST", "stream", None) => match self.ask(body.into()) {
+                Some(Ok(answer)) => Some(("200 OK", SEQUENCE, answer)),
+                Some(Err(_)) => refuse("400 Bad Request"),
+                None => refuse("410 Gone"),
             },
-            _ => respond(stream, "404 Not Found", TEXT, Some(b"")),
+            _ => refuse("404 Not Found"),
         }
     }
 
     /// The answer, once there is one, or nothing at the end.
-    fn ask(&self, ask: Ask) -> Option<Result<Answer, tikeburo::Error>> {
+    fn ask(&self, ask: Ask) -> Option<Result<Vec<u8>, Error>> {
         let (reply, answer) = mpsc::channel();
-        let since = Instant::now();
-        self.events.send(Event::Asked(Question { ask, reply, since })).ok()?;
+        self.events.send(Event::Asked(ask, reply)).ok()?;
         answer.recv().ok()
     }
 
-    /// Asks for a viewer that doesn't. What comes while it is sent is in the next answer.
-    fn send_stream(&self, stream: &TcpStream) -> io::Result<()> {
-        respond(stream, "200 OK", SEQUENCE, None)?;
-        let mut ask = self.nothing.clone();
-        while let Some(Ok(answer)) = self.ask(ask) {
-            write_chunk(stream, &answer.bytes)?;
-            ask = answer.next;
+    /// Asks for a viewer that doesn't. What comes while an answer is sent is in the next one.
+    fn send_stream(&self, mut stream: &TcpStream) -> Outcome {
+        let mut client = Client::new()?;
+        let kind = format!("content-type: {SEQUENCE}\r\ntransfer-encoding: chunked");
+        stream.write_all(format!("HTTP/1.1 200 OK\r\n{HEADERS}{kind}\r\n\r\n").as_bytes())?;
+        while let Some(answer) = self.ask(client.ask()?) {
+            let answer = answer?;
+            client.feed(&answer)?;
+            let size = format!("{:x}\r\n", answer.len());
+            stream.write_all(&[size.as_bytes(), &answer, b"\r\n"].concat())?;
         }
-        write_chunk(stream, b"")?;
-        stream.shutdown(Shutdown::Both)
+        Ok(stream.write_all(b"0\r\n\r\n")?)
     }
 }

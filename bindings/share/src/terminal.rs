@@ -1,17 +1,23 @@
 //! A terminal: escape sequences become changes of a surface.
 
-mod pen;
-mod ruler;
-
-use ruler::Ruler;
 use std::{mem, ops::Range};
-use tikeburo::{Attributes, Change, ColorAttribute, CursorShape, CursorVisibility, Error};
-use tikeburo::{Hyperlink, Position, Surface};
-use vte::{Params, Parser, Perform};
+use tikeburo::{Attributes, Blink, Change, ColorAttribute, CursorShape, CursorVisibility, Error};
+use tikeburo::{Hyperlink, Intensity, Position, RgbColor, Surface, Underline};
+use vte::{Params, ParamsIter, Parser, Perform};
 
 const LONGEST_GRAPHEME: usize = 128; // bytes; what joins it behind them is left out
 /// What the set of characters for drawings has for '`' to '~'.
 const DRAWINGS: &str = "◆▒␉␌␍␊°±␤␋┘┐┌└┼⎺⎻─⎼⎽├┤┴┬│≤≥π≠£·";
+/// The cursor's shapes by their numbers from 1 on.
+const SHAPES: [CursorShape; 6] = {
+    use CursorShape::*;
+    [BlinkingBlock, SteadyBlock, BlinkingUnderline, SteadyUnderline, BlinkingBar, SteadyBar]
+};
+/// The kinds of `CSI 4:KIND m`.
+const UNDERLINES: [Underline; 6] = {
+    use Underline::*;
+    [None, Single, Double, Curly, Dotted, Dashed]
+};
 
 /// Where and how coming texts are printed. The column is the width where a wrap is pending.
 #[derive(Clone, Default)]
@@ -23,228 +29,135 @@ struct Cursor {
     set: usize,
 }
 
-/// The grapheme that was printed last, and its columns and row.
-#[derive(Default)]
-struct Grapheme {
-    text: String,
-    columns: Range<usize>,
-    y: usize,
-}
-
 /// A surface that shows what a terminal would.
 pub struct Terminal {
-    surface: Surface,
-    ruler: Ruler,
+    pub surface: Surface,
     width: usize,
     height: usize,
     cursor: Cursor,
     saved: Cursor,
-    region: Range<usize>, // the rows that scroll
     wraps: bool,
-    last: Grapheme,
-    hidden: Option<(Surface, Cursor)>, // behind the alternate screen
-    changes: Vec<Change>,              // which are still to be made
-    at: (usize, usize),                // the surface's cursor behind them
-    drawn: Attributes,                 // and its pen
-    outcome: Result<(), Error>,        // of what the parser called
+    region: Range<usize>,       // the rows that scroll
+    last: (String, usize),      // the grapheme that was printed just now, and its columns
+    ruler: Surface,             // where graphemes are measured
+    hidden: Surface,            // what is behind the alternate screen
+    behind: Option<Cursor>,     // and the cursor there
+    changes: Vec<Change>,       // which are still to be made
+    outcome: Result<(), Error>, // of those before
 }
 
 impl Terminal {
     pub fn new(width: usize, height: usize) -> Result<Terminal, Error> {
         Ok(Terminal {
             surface: Surface::new(width, height)?,
-            ruler: Ruler::new()?,
             width,
             height,
             cursor: Cursor::default(),
             saved: Cursor::default(),
-            region: 0..height,
             wraps: true,
-            last: Grapheme::default(),
-            hidden: None,
+            region: 0..height,
+            last: Default::default(),
+            ruler: Surface::new(8, 1)?,
+            hidden: Surface::new(width, height)?,
+            behind: None,
             changes: Vec::new(),
-            at: (0, 0),
-            drawn: Attributes::default(),
             outcome: Ok(()),
         })
-    }
-
-    pub fn surface(&mut self) -> &mut Surface {
-        &mut self.surface
-    }
-
-    pub fn size(&self) -> (usize, usize) {
-        (self.width, self.height)
     }
 
     /// Takes the bytes that a program writes, cut anywhere.
     pub fn feed(&mut self, parser: &mut Parser, bytes: &[u8]) -> Result<(), Error> {
         bytes.iter().for_each(|byte| parser.advance(self, *byte));
-        mem::replace(&mut self.outcome, Ok(()))?;
-        self.go_to(self.cursor.x, self.cursor.y);
         self.make()
     }
 
     /// Takes another size. Rows are cut at the bottom, but for the cursor's.
-    pub fn resize(&mut self, width: usize, height: usize) -> Result<(), Error> {
+    pub fn resize(&mut self, (width, height): (usize, usize)) -> Result<(), Error> {
         let above = (self.cursor.y + 1).saturating_sub(height);
         self.scroll(0..self.height, above, true);
         self.make()?;
         self.surface.resize(width, height)?;
-        if let Some((surface, _)) = &mut self.hidden {
-            surface.resize(width, height)?;
-        }
+        self.hidden.resize(width, height)?;
         (self.width, self.height, self.region) = (width, height, 0..height);
-        self.at = self.surface.cursor_position();
-        self.move_to(self.cursor.x, self.cursor.y - above);
-        self.go_to(self.cursor.x, self.cursor.y);
+        self.cursor.y -= above;
+        for cursor in [&mut self.cursor, &mut self.saved].into_iter().chain(&mut self.behind) {
+            (cursor.x, cursor.y) = (cursor.x.min(width - 1), cursor.y.min(height - 1));
+        }
         self.make()
     }
 
+    /// Makes the changes, and goes to the cursor.
     fn make(&mut self) -> Result<(), Error> {
-        self.surface.add_changes(&self.changes)?;
-        self.changes.clear();
-        Ok(())
+        let (x, y) = (Position::Absolute(self.cursor.x), Position::Absolute(self.cursor.y));
+        self.changes.push(Change::CursorPosition { x, y });
+        let made = self.surface.add_changes(&mem::take(&mut self.changes));
+        self.outcome.and(made.map(|_| ()))
     }
 
-    fn attempt(&mut self, act: impl FnOnce(&mut Terminal) -> Result<(), Error>) {
-        let outcome = act(self);
-        self.outcome = self.outcome.and(outcome);
+    /// Draws from here on, by this pen.
+    fn draw(&mut self, x: usize, y: usize, pen: Attributes, change: Change) {
+        let (x, y) = (Position::Absolute(x), Position::Absolute(y));
+        self.changes.extend([Change::CursorPosition { x, y }, Change::AllAttributes(pen), change]);
     }
 
-    fn go_to(&mut self, x: usize, y: usize) {
-        if self.at != (x, y) {
-            self.at = (x, y);
-            let (x, y) = (Position::Absolute(x), Position::Absolute(y));
-            self.changes.push(Change::CursorPosition { x, y });
-        }
-    }
-
-    /// Writes a text of one row at the cursor.
-    fn write(&mut self, text: &str, columns: usize) {
-        self.go_to(self.cursor.x, self.cursor.y);
-        if self.drawn != self.cursor.pen {
-            self.drawn = self.cursor.pen.clone();
-            self.changes.push(Change::AllAttributes(self.drawn.clone()));
-        }
-        match self.changes.last_mut() {
-            Some(Change::Text(before)) => before.push_str(text),
-            _ => self.changes.push(text.into()),
-        }
-        self.cursor.x = self.width.min(self.cursor.x + columns);
-        self.at.0 = self.cursor.x;
-    }
-
-    fn blank_pen(&self) -> Attributes {
-        Attributes { background: self.cursor.pen.background, ..Attributes::default() }
-    }
-
-    /// Writes blanks from this column of the cursor's row on. The cursor stays.
-    fn write_blanks(&mut self, x: usize, count: usize) {
-        let (x, pen) = (mem::replace(&mut self.cursor.x, x), self.blank_pen());
-        let pen = mem::replace(&mut self.cursor.pen, pen);
-        self.write(&" ".repeat(count), count);
-        (self.cursor.x, self.cursor.pen) = (x, pen);
-    }
-
-    /// Clears from here on, as far as this change does.
-    fn clear(&mut self, x: usize, y: usize, change: fn(ColorAttribute) -> Change) {
-        self.go_to(x, y);
-        self.drawn = self.blank_pen();
-        self.changes.push(change(self.drawn.background));
-    }
-
-    fn clear_rows(&mut self, rows: Range<usize>) {
-        rows.for_each(|y| self.clear(0, y, Change::ClearToEndOfLine));
+    /// Clears these columns of a row.
+    fn erase(&mut self, y: usize, columns: Range<usize>) {
+        let background = self.cursor.pen.background;
+        let change = match columns.end == self.width {
+            true => Change::ClearToEndOfLine(background),
+            false => " ".repeat(columns.len()).into(),
+        };
+        self.draw(columns.start, y, Attributes { background, ..Attributes::default() }, change);
     }
 
     fn scroll(&mut self, rows: Range<usize>, count: usize, up: bool) {
         let (first_row, region_size) = (rows.start, rows.len());
         let scroll_count = count.min(region_size);
-        if scroll_count == 0 {
-            return;
-        }
-        let (change, new) = if up {
-            let new = rows.end - scroll_count..rows.end;
-            (Change::ScrollRegionUp { first_row, region_size, scroll_count }, new)
-        } else {
-            let new = first_row..first_row + scroll_count;
-            (Change::ScrollRegionDown { first_row, region_size, scroll_count }, new)
-        };
-        self.changes.push(change);
+        self.changes.push(match up {
+            true => Change::ScrollRegionUp { first_row, region_size, scroll_count },
+            false => Change::ScrollRegionDown { first_row, region_size, scroll_count },
+        });
+        let new = if up { rows.end - scroll_count } else { first_row };
         if self.cursor.pen.background != ColorAttribute::Default {
-            self.clear_rows(new);
+            (new..new + scroll_count).for_each(|y| self.erase(y, 0..self.width));
         }
     }
 
-    fn put(&mut self, c: char) -> Result<(), Error> {
-        if c.is_ascii() && self.last.text.is_ascii() {
-            self.put_grapheme(c.encode_utf8(&mut [0; 4]), 1);
-        } else if !self.join(c)? {
-            let text = String::from(c);
-            let columns = self.ruler.columns(&text)?.unwrap_or(1);
-            self.put_grapheme(&text, columns);
+    /// The columns of a text that is one grapheme, and of another nothing.
+    fn measure(&mut self, text: &str) -> Option<usize> {
+        if text.is_ascii() {
+            return (text.len() == 1).then_some(1);
         }
-        Ok(())
+        let clear = Change::ClearScreen(ColorAttribute::Default);
+        self.ruler.add_changes(&[clear, text.into()]).ok()?;
+        let cell = self.ruler.row(0).cell(0).ok()?;
+        (cell.str() == text).then(|| cell.width())
     }
 
-    /// Whether the character joins the one before the cursor, which is printed anew with it.
-    fn join(&mut self, c: char) -> Result<bool, Error> {
-        let Grapheme { text, columns, y } = &self.last;
-        let (joined, start) = (format!("{text}{c}"), columns.start);
-        if (columns.end, *y) != (self.cursor.x, self.cursor.y) {
-            return Ok(false);
+    /// Prints a grapheme of so many columns, on the next row where this one has no room.
+    fn write(&mut self, (text, columns): (String, usize)) {
+        let has_room = self.cursor.x + columns <= self.width;
+        if !has_room && self.wraps {
+            self.cursor.x = 0;
+            self.feed_line();
+        } else if !has_room {
+            self.cursor.x = self.width.saturating_sub(columns);
         }
-        let Some(columns) = self.ruler.columns(&joined)? else {
-            return Ok(false);
-        };
-        if joined.len() <= LONGEST_GRAPHEME {
-            self.cursor.x = start;
-            self.put_grapheme(&joined, columns);
+        let Cursor { x, y, .. } = self.cursor;
+        match self.changes.last_mut() {
+            Some(Change::Text(run)) if has_room && self.last.1 > 0 => run.push_str(&text),
+            _ => self.draw(x, y, self.cursor.pen.clone(), text.as_str().into()),
         }
-        Ok(true)
+        self.cursor.x = self.width.min(x + columns);
+        self.last = (text, columns);
     }
 
-    fn put_grapheme(&mut self, text: &str, columns: usize) {
-        if self.cursor.x + columns > self.width {
-            if self.wraps {
-                self.cursor.x = 0;
-                self.feed_line();
-            } else {
-                self.cursor.x = self.width.saturating_sub(columns);
-            }
-        }
-        (self.last.columns.start, self.last.y) = (self.cursor.x, self.cursor.y);
-        self.write(text, columns);
-        self.last.columns.end = self.cursor.x;
-        self.last.text.clear();
-        self.last.text.push_str(text);
-    }
-
-    /// Prints the last grapheme again.
-    fn repeat(&mut self, count: usize) -> Result<(), Error> {
-        let text = self.last.text.clone();
-        if let Some(columns) = self.ruler.columns(&text)? {
-            (0..count).for_each(|_| self.put_grapheme(&text, columns));
-        }
-        Ok(())
-    }
-
-    /// Inserts blanks at the cursor, or deletes cells there.
-    fn shift(&mut self, count: usize, inserts: bool) -> Result<(), Error> {
-        let (x, y) = (self.column(), self.cursor.y);
-        let count = count.min(self.width - x);
-        let moved = self.width - x - count;
-        let (from, to) = if inserts { (x, x + count) } else { (x + count, x) };
-        self.make()?;
-        self.surface.copy_region(from, y, moved, 1, to, y)?;
-        self.write_blanks(if inserts { x } else { x + moved }, count);
-        Ok(())
-    }
-
-    /// The cursor's column, where no wrap is pending.
-    fn column(&self) -> usize {
-        self.cursor.x.min(self.width - 1)
+    /// Inserts blanks in these columns of the cursor's row, or deletes the cells there.
+    fn shift(&mut self, Range { start, end }: Range<usize>, inserts: bool) {
+        let (y, moved) = (self.cursor.y, self.width - end);
+        let (from, to) = if inserts { (start, end) } else { (end, start) };
+        self.outcome = self.make().and(self.surface.copy_region(from, y, moved, 1, to, y));
+        self.erase(y, if inserts { start..end } else { start + moved..self.width });
     }
 
     fn move_to(&mut self, x: usize, y: usize) {
@@ -253,190 +166,197 @@ impl Terminal {
     }
 
     fn feed_line(&mut self) {
-        if self.cursor.y + 1 == self.region.end {
+        let is_last = self.cursor.y + 1 == self.region.end;
+        if is_last {
             self.scroll(self.region.clone(), 1, true);
+        }
+        self.move_to(self.cursor.x, self.cursor.y + usize::from(!is_last));
+    }
+
+    /// Shows the alternate screen, or what is behind it.
+    fn change_screen(&mut self) {
+        self.outcome = self.make();
+        let drawn = if let Some(cursor) = self.behind.take() {
+            self.cursor = cursor;
+            self.surface.draw_from_screen(&self.hidden, 0, 0)
         } else {
-            self.cursor.y = self.height.min(self.cursor.y + 2) - 1;
-        }
+            self.behind = Some(self.cursor.clone());
+            self.clear(2, false);
+            self.hidden.draw_from_screen(&self.surface, 0, 0)
+        };
+        self.outcome = self.outcome.and(drawn);
     }
 
-    fn feed_line_back(&mut self) {
-        if self.cursor.y == self.region.start {
-            self.scroll(self.region.clone(), 1, false);
-        } else {
-            self.cursor.y = self.cursor.y.saturating_sub(1);
-        }
-    }
-
-    fn set_region(&mut self, top: usize, bottom: usize) {
-        let end = if bottom == 0 { self.height } else { bottom.min(self.height) };
-        if top + 1 < end {
-            self.region = top..end;
-            self.move_to(0, 0);
-        }
-    }
-
-    fn restore(&mut self, cursor: Cursor) {
-        let (x, y) = (cursor.x, cursor.y);
-        self.cursor = cursor;
-        self.move_to(x, y);
-    }
-
-    fn show_alternate(&mut self, shows: bool) -> Result<(), Error> {
-        self.make()?;
-        match self.hidden.take() {
-            None if shows => {
-                let mut surface = Surface::new(self.width, self.height)?;
-                surface.draw_from_screen(&self.surface, 0, 0)?;
-                self.hidden = Some((surface, self.cursor.clone()));
-                self.clear(0, 0, Change::ClearToEndOfScreen);
-            }
-            Some((surface, cursor)) if !shows => {
-                self.surface.draw_from_screen(&surface, 0, 0)?;
-                self.restore(cursor);
-            }
-            same => self.hidden = same,
-        }
-        Ok(())
-    }
-
-    fn set_mode(&mut self, mode: u16, is_on: bool) -> Result<(), Error> {
+    fn set_mode(&mut self, mode: u16, is_on: bool) {
         let visibility = if is_on { CursorVisibility::Visible } else { CursorVisibility::Hidden };
         match mode {
             7 => self.wraps = is_on,
             25 => self.changes.push(Change::CursorVisibility(visibility)),
-            47 | 1047 | 1049 => self.show_alternate(is_on)?,
+            47 | 1047 | 1049 if is_on != self.behind.is_some() => self.change_screen(),
             _ => {}
         }
-        Ok(())
     }
 
-    fn set_shape(&mut self, number: usize) {
-        self.changes.push(Change::CursorShape(match number {
-            0 | 1 => CursorShape::BlinkingBlock,
-            2 => CursorShape::SteadyBlock,
-            3 => CursorShape::BlinkingUnderline,
-            4 => CursorShape::SteadyUnderline,
-            5 => CursorShape::BlinkingBar,
-            6 => CursorShape::SteadyBar,
-            _ => CursorShape::Default,
-        }));
-    }
-
-    fn control(&mut self, params: &Params, between: &[u8], last: char) -> Result<(), Error> {
-        let number = |index| params.iter().nth(index).map_or(0, |it: &[u16]| usize::from(it[0]));
-        let (first, count) = (number(0), number(0).max(1));
-        let (x, y) = (self.column(), self.cursor.y);
-        let Range { start, end } = self.region;
-        let first_row = if y < start { 0 } else { start };
-        let last_row = if y < end { end - 1 } else { self.height - 1 };
-        let below = if self.region.contains(&y) { y..end } else { y..y };
-        match (between, last) {
-            (b"", '@') => self.shift(count, true)?,
-            (b"", 'A') => self.move_to(x, first_row.max(y.saturating_sub(count))),
-            (b"", 'B' | 'e') => self.move_to(x, last_row.min(y + count)),
-            (b"", 'C' | 'a') => self.move_to(x + count, y),
-            (b"", 'D') => self.move_to(x.saturating_sub(count), y),
-            (b"", 'E') => self.move_to(0, last_row.min(y + count)),
-            (b"", 'F') => self.move_to(0, first_row.max(y.saturating_sub(count))),
-            (b"", 'G' | '`') => self.move_to(count - 1, y),
-            (b"", 'H' | 'f') => self.move_to(number(1).max(1) - 1, count - 1),
-            (b"", 'J') if first == 0 => self.clear(x, y, Change::ClearToEndOfScreen),
-            (b"", 'J') if first == 2 => self.clear(0, 0, Change::ClearToEndOfScreen),
-            (b"", 'J') if first == 1 => {
-                self.clear_rows(0..y);
-                self.write_blanks(0, x + 1);
-            }
-            (b"", 'K') if first == 0 => self.clear(x, y, Change::ClearToEndOfLine),
-            (b"", 'K') if first == 1 => self.write_blanks(0, x + 1),
-            (b"", 'K') => self.clear(0, y, Change::ClearToEndOfLine),
-            (b"", 'L') => self.scroll(below, count, false),
-            (b"", 'M') => self.scroll(below, count, true),
-            (b"", 'P') => self.shift(count, false)?,
-            (b"", 'S') => self.scroll(self.region.clone(), count, true),
-            (b"", 'T') => self.scroll(self.region.clone(), count, false),
-            (b"", 'X') => self.write_blanks(x, count.min(self.width - x)),
-            (b"", 'b') => self.repeat(count)?,
-            (b"", 'd') => self.move_to(x, count - 1),
-            (b"?", 'h' | 'l') => {
-                params.iter().try_for_each(|mode| self.set_mode(mode[0], last == 'h'))?;
-            }
-            (b"", 'm') => pen::set(&mut self.cursor.pen, params),
-            (b" ", 'q') => self.set_shape(first),
-            (b"", 'r') => self.set_region(count - 1, number(1)),
-            (b"", 's') => self.saved = self.cursor.clone(),
-            (b"", 'u') => self.restore(self.saved.clone()),
-            _ => {}
-        }
-        Ok(())
-    }
-
-    fn escape(&mut self, between: &[u8], last: u8) -> Result<(), Error> {
-        match (between, last) {
-            (b"", b'7') => self.saved = self.cursor.clone(),
-            (b"", b'8') => self.restore(self.saved.clone()),
-            (b"", b'D') => self.feed_line(),
-            (b"", b'E') => {
-                self.cursor.x = 0;
-                self.feed_line();
-            }
-            (b"", b'M') => self.feed_line_back(),
-            (b"", b'c') => *self = Terminal::new(self.width, self.height)?,
-            (b"(", set) => self.cursor.draws[0] = set == b'0',
-            (b")", set) => self.cursor.draws[1] = set == b'0',
-            _ => {}
-        }
-        Ok(())
+    /// Clears from the cursor on, up to it, or all: of its row, or of the screen.
+    fn clear(&mut self, part: usize, is_row: bool) {
+        let (y, width, height) = (self.cursor.y, self.width, self.height);
+        let x = self.cursor.x.min(width - 1);
+        let rows = [y + 1..height, 0..y, 0..height][part].clone();
+        self.erase(y, [x..width, 0..x + 1, 0..width][part].clone());
+        rows.filter(|_| !is_row).for_each(|y| self.erase(y, 0..width));
     }
 }
 
 impl Perform for Terminal {
+    /// Prints a character, which may join the grapheme before it: then that is printed anew.
     fn print(&mut self, c: char) {
-        let place = (c as usize).wrapping_sub('`' as usize);
-        let drawing = match self.cursor.draws[self.cursor.set] {
-            true => DRAWINGS.chars().nth(place),
-            false => None,
-        };
-        if !c.is_control() {
-            self.attempt(|terminal| terminal.put(drawing.unwrap_or(c)));
+        let drawing = DRAWINGS.chars().nth((c as usize).wrapping_sub('`' as usize));
+        let c = drawing.filter(|_| self.cursor.draws[self.cursor.set]).unwrap_or(c);
+        let joined = format!("{}{c}", self.last.0);
+        match self.measure(&joined) {
+            _ if c.is_control() => {}
+            Some(_) if joined.len() > LONGEST_GRAPHEME => {}
+            Some(columns) => {
+                self.cursor.x = self.cursor.x.saturating_sub(mem::take(&mut self.last).1);
+                self.write((joined, columns));
+            }
+            None => {
+                let columns = self.measure(c.encode_utf8(&mut [0; 4])).unwrap_or(1);
+                self.write((c.into(), columns));
+            }
         }
     }
 
     fn execute(&mut self, byte: u8) {
-        let x = self.column();
+        self.last = Default::default();
+        let x = self.cursor.x.min(self.width - 1);
         match byte {
             0x08 => self.cursor.x = x.saturating_sub(1),
-            0x09 => self.move_to((x / 8 + 1) * 8, self.cursor.y),
-            0x0a..=0x0c => {
-                self.cursor.x = x;
-                self.feed_line();
-            }
-            0x0d => self.cursor.x = 0,
-            0x0e => self.cursor.set = 1,
-            0x0f => self.cursor.set = 0,
+            b'\t' => self.move_to((x / 8 + 1) * 8, self.cursor.y),
+            b'\n'..=0x0c => self.feed_line(),
+            b'\r' => self.cursor.x = 0,
+            0x0e | 0x0f => self.cursor.set = usize::from(0x0f - byte),
             _ => {}
         }
     }
 
     fn csi_dispatch(&mut self, params: &Params, between: &[u8], is_cut: bool, last: char) {
-        if !is_cut {
-            self.attempt(|terminal| terminal.control(params, between, last));
+        let before = mem::take(&mut self.last);
+        let number = |index| params.iter().nth(index).map_or(0, |it: &[u16]| usize::from(it[0]));
+        let (first, count) = (number(0), number(0).max(1));
+        let (x, y) = (self.cursor.x.min(self.width - 1), self.cursor.y);
+        let Range { start, end } = self.region;
+        let right = self.width.min(x + count);
+        let up = y.saturating_sub(count).max(if y < start { 0 } else { start });
+        let down = (y + count).min(if y < end { end - 1 } else { self.height - 1 });
+        let bottom = if number(1) == 0 { self.height } else { self.height.min(number(1)) };
+        match (between, last) {
+            _ if is_cut => {}
+            (b"", '@' | 'P') => self.shift(x..right, last == '@'),
+            (b"", 'A') => self.move_to(x, up),
+            (b"", 'B' | 'e') => self.move_to(x, down),
+            (b"", 'C' | 'a') => self.move_to(x + count, y),
+            (b"", 'D') => self.move_to(x.saturating_sub(count), y),
+            (b"", 'E') => self.move_to(0, down),
+            (b"", 'F') => self.move_to(0, up),
+            (b"", 'G' | '`') => self.move_to(count - 1, y),
+            (b"", 'H' | 'f') => self.move_to(number(1).max(1) - 1, count - 1),
+            (b"", 'J' | 'K') if first < 3 => self.clear(first, last == 'K'),
+            (b"", 'L' | 'M') if self.region.contains(&y) => self.scroll(y..end, count, last == 'M'),
+            (b"", 'S' | 'T') => self.scroll(start..end, count, last == 'S'),
+            (b"", 'X') => self.erase(y, x..right),
+            (b"", 'b') if before.1 > 0 => (0..count).for_each(|_| self.write(before.clone())),
+            (b"", 'd') => self.move_to(x, count - 1),
+            (b"?", 'h' | 'l') => params.iter().for_each(|mode| self.set_mode(mode[0], last == 'h')),
+            (b"", 'm') => set_pen(&mut self.cursor.pen, params),
+            (b" ", 'q') if count < 7 => self.changes.push(Change::CursorShape(SHAPES[count - 1])),
+            (b"", 'r') if count < bottom => {
+                (self.region, self.cursor.x, self.cursor.y) = (count - 1..bottom, 0, 0);
+            }
+            (b"", 's') => self.saved = self.cursor.clone(),
+            (b"", 'u') => self.cursor = self.saved.clone(),
+            _ => {}
         }
     }
 
     fn esc_dispatch(&mut self, between: &[u8], _is_cut: bool, last: u8) {
-        self.attempt(|terminal| terminal.escape(between, last));
-    }
-
-    fn osc_dispatch(&mut self, words: &[&[u8]], _is_bell: bool) {
-        let text = |words: &[&[u8]]| String::from_utf8_lossy(&words.join(&b';')).into_owned();
-        match words {
-            [b"0" | b"2", title @ ..] => self.changes.push(Change::Title(text(title))),
-            [b"8", _, uri @ ..] => {
-                let uri = Some(text(uri)).filter(|uri| !uri.is_empty());
-                self.cursor.pen.hyperlink = uri.map(Hyperlink::new);
-            }
+        self.last = Default::default();
+        let (y, Range { start, end }) = (self.cursor.y, self.region.clone());
+        match (between, last) {
+            (b"", b'7') => self.saved = self.cursor.clone(),
+            (b"", b'8') => self.cursor = self.saved.clone(),
+            (b"", b'D') => self.feed_line(),
+            (b"", b'E') => b"\r\n".iter().for_each(|byte| self.execute(*byte)),
+            (b"", b'M') if y == start => self.scroll(start..end, 1, false),
+            (b"", b'M') => self.cursor.y = y.saturating_sub(1),
+            (b"", b'c') => self.outcome = Terminal::new(self.width, self.height).map(|t| *self = t),
+            (b"(", set) => self.cursor.draws[0] = set == b'0',
+            (b")", set) => self.cursor.draws[1] = set == b'0',
             _ => {}
         }
     }
+
+    fn osc_dispatch(&mut self, words: &[&[u8]], _is_bell: bool) {
+        self.last = Default::default();
+        let text = |words: &[&[u8]]| String::from_utf8_lossy(&words.join(&b';')).into_owned();
+        match words {
+            [b"0" | b"2", title @ ..] => self.changes.push(Change::Title(text(title))),
+            [b"8", _, b""] => self.cursor.pen.hyperlink = None,
+            [b"8", _, uri @ ..] => self.cursor.pen.hyperlink = Some(Hyperlink::new(text(uri))),
+            _ => {}
+        }
+    }
+}
+
+/// Sets what the parameters of `CSI .. m` say. Links stay.
+fn set_pen(pen: &mut Attributes, params: &Params) {
+    let mut params = params.iter();
+    while let Some(param) = params.next() {
+        let number = param[0];
+        match number {
+            0 => *pen = Attributes { hyperlink: pen.hyperlink.take(), ..Attributes::default() },
+            1 => pen.intensity = Intensity::Bold,
+            2 => pen.intensity = Intensity::Half,
+            22 => pen.intensity = Intensity::Normal,
+            3 | 23 => pen.italic = number == 3,
+            4 => pen.underline = UNDERLINES[usize::from(*param.get(1).unwrap_or(&1)).min(5)],
+            21 => pen.underline = Underline::Double,
+            24 => pen.underline = Underline::None,
+            5 => pen.blink = Blink::Slow,
+            6 => pen.blink = Blink::Rapid,
+            25 => pen.blink = Blink::None,
+            7 | 27 => pen.reverse = number == 7,
+            8 | 28 => pen.invisible = number == 8,
+            9 | 29 => pen.strikethrough = number == 9,
+            53 | 55 => pen.overline = number == 53,
+            30..=39 | 90..=97 => set_color(&mut pen.foreground, param, &mut params),
+            40..=49 | 100..=107 => set_color(&mut pen.background, param, &mut params),
+            58 | 59 => set_color(&mut pen.underline_color, param, &mut params),
+            _ => {}
+        }
+    }
+}
+
+/// Sets a colour by the last digit: 0 to 7 are the palette's, which has the bright ones from 8 on,
+/// 8 is that of `38:5:N`, `38:2:R:G:B` or `38:2::R:G:B`, or of the same with semicolons.
+fn set_color(color: &mut ColorAttribute, param: &[u16], rest: &mut ParamsIter) {
+    let mut values = match param[0] % 10 {
+        8 => param[1..].to_vec(),
+        9 => return *color = ColorAttribute::Default,
+        digit => vec![5, digit + if param[0] < 90 { 0 } else { 8 }],
+    };
+    if values.is_empty() {
+        values.extend(rest.next().map(|kind| kind[0]));
+        let count = if values == [2] { 3 } else { 1 };
+        values.extend(rest.take(count).map(|value| value[0]));
+    }
+    let byte = |value: u16| value.min(255) as u8;
+    *color = match values[..] {
+        [5, index] => ColorAttribute::PaletteIndex(byte(index)),
+        [2, red, green, blue] | [2, _, red, green, blue, ..] => {
+            let rgb = RgbColor::new_8bpc(byte(red), byte(green), byte(blue));
+            ColorAttribute::TrueColorWithDefaultFallback(rgb)
+        }
+        _ => return,
+    };
 }

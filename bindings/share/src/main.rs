@@ -34,7 +34,8 @@ fn show(pty: File, events: Receiver<Event>, server: Arc<Server>, record: Option<
     let (mut newest, began, mut ended) = (Client::new()?, Instant::now(), None::<Instant>);
     let mut waiting = HashMap::<Ask, Vec<_>>::new();
     // A connection has the server too.
-    while ended.map_or(true, |end| end.elapsed() < LAST && Arc::strong_count(&server) > 2) {
+    let is_seen = |end: Instant| end.elapsed() < LAST && Arc::strong_count(&server) > 2;
+    while !pty::is_stopped() && ended.map_or(true, is_seen) {
         let size = pty::window_size();
         if terminal.surface.dimensions() != size {
             pty::resize(&pty, size)?;
@@ -104,6 +105,9 @@ fn share(port: u16, record: Option<File>, command: Command) -> Outcome<ExitCode>
     });
     thread::spawn(move || io::copy(&mut io::stdin(), &mut keys));
     pty::with_raw_window(|| show(pty, events, server, record))?;
+    if pty::is_stopped() {
+        child.kill()?;
+    }
     let status = child.wait()?;
     let code = status.code().or_else(|| Some(128 + status.signal()?));
     Ok(ExitCode::from(code.unwrap_or(1) as u8))

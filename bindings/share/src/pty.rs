@@ -4,7 +4,19 @@ use libc::{c_int, termios, winsize, STDIN_FILENO, STDOUT_FILENO, TCSANOW};
 use std::os::fd::{AsRawFd, FromRawFd, OwnedFd};
 use std::os::unix::process::CommandExt;
 use std::process::{Child, Command};
+use std::sync::atomic::{AtomicBool, Ordering};
 use std::{fs::File, io, mem, ptr};
+
+static IS_STOPPED: AtomicBool = AtomicBool::new(false);
+
+extern "C" fn stop(_signal: c_int) {
+    IS_STOPPED.store(true, Ordering::Relaxed);
+}
+
+/// Whether a signal has come that ends the program.
+pub fn is_stopped() -> bool {
+    IS_STOPPED.load(Ordering::Relaxed)
+}
 
 fn check(status: c_int) -> io::Result<()> {
     (status == 0).then_some(()).ok_or_else(io::Error::last_os_error)
@@ -28,7 +40,8 @@ pub fn resize(pty: &File, (width, height): (usize, usize)) -> io::Result<()> {
     check(unsafe { libc::ioctl(pty.as_raw_fd(), libc::TIOCSWINSZ, &size) })
 }
 
-/// Does this while keys come as they are typed. Where there is no window the calls fail.
+/// Does this while keys come as they are typed, and signals are only noted, so that the window gets
+/// its settings again. Where there is no window the calls fail.
 pub fn with_raw_window<T>(act: impl FnOnce() -> T) -> T {
     // Safety: all zero is a value of the struct, which the calls read and write alone.
     let set = |settings: &termios| unsafe { libc::tcsetattr(STDIN_FILENO, TCSANOW, settings) };
@@ -37,6 +50,10 @@ pub fn with_raw_window<T>(act: impl FnOnce() -> T) -> T {
     let mut raw = before;
     unsafe { libc::cfmakeraw(&mut raw) };
     set(&raw);
+    for signal in [libc::SIGHUP, libc::SIGINT, libc::SIGTERM] {
+        // Safety: the handler stores a flag alone.
+        unsafe { libc::signal(signal, stop as extern "C" fn(c_int) as usize) };
+    }
     let result = act();
     set(&before);
     result

@@ -80,6 +80,7 @@ impl Server {
     fn talk(&self, mut stream: &TcpStream) -> Outcome {
         stream.set_nodelay(true)?;
         stream.set_read_timeout(Some(PATIENCE))?;
+        stream.set_write_timeout(Some(PATIENCE))?;
         let mut input = BufReader::new(stream);
         while let Some((status, kind, body)) = self.respond(read_request(&mut input)?) {
             let size = format!("content-type: {kind}\r\ncontent-length: {}", body.len());

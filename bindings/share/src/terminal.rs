@@ -42,6 +42,7 @@ pub struct Terminal {
     ruler: Surface,             // where graphemes are measured
     hidden: Surface,            // what is behind the alternate screen
     behind: Option<Cursor>,     // and the cursor there
+    drawn: Option<Attributes>,  // the surface's pen after them, where that is known
     changes: Vec<Change>,       // which are still to be made
     outcome: Result<(), Error>, // of those before
 }
@@ -60,6 +61,7 @@ impl Terminal {
             ruler: Surface::new(8, 1)?,
             hidden: Surface::new(width, height)?,
             behind: None,
+            drawn: None,
             changes: Vec::new(),
             outcome: Ok(()),
         })
@@ -97,7 +99,12 @@ impl Terminal {
     /// Draws from here on, by this pen.
     fn draw(&mut self, x: usize, y: usize, pen: Attributes, change: Change) {
         let (x, y) = (Position::Absolute(x), Position::Absolute(y));
-        self.changes.extend([Change::CursorPosition { x, y }, Change::AllAttributes(pen), change]);
+        self.changes.push(Change::CursorPosition { x, y });
+        if self.drawn.as_ref() != Some(&pen) {
+            self.changes.push(Change::AllAttributes(pen.clone()));
+            self.drawn = Some(pen);
+        }
+        self.changes.push(change);
     }
 
     /// Clears these columns of a row.
@@ -157,6 +164,7 @@ impl Terminal {
         let (y, moved) = (self.cursor.y, self.width - end);
         let (from, to) = if inserts { (start, end) } else { (end, start) };
         self.outcome = self.make().and(self.surface.copy_region(from, y, moved, 1, to, y));
+        self.drawn = None;
         self.erase(y, if inserts { start..end } else { start + moved..self.width });
     }
 
@@ -185,6 +193,7 @@ impl Terminal {
             self.hidden.draw_from_screen(&self.surface, 0, 0)
         };
         self.outcome = self.outcome.and(drawn);
+        self.drawn = None;
     }
 
     fn set_mode(&mut self, mode: u16, is_on: bool) {

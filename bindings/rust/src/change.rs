@@ -63,6 +63,7 @@ pub enum LineAttribute {
 /// A change of a surface. It acts at the cursor and with the pen, which is the attributes of coming
 /// texts, that the changes before it left.
 #[derive(Clone, PartialEq, Eq, Hash, Debug)]
+#[non_exhaustive]
 pub enum Change {
     /// Sets one attribute of the pen.
     Attribute(AttributeChange),

@@ -6,6 +6,7 @@ use crate::encode;
 use crate::error::Error;
 use crate::ffi;
 use crate::handle::{self, Handle};
+use crate::rows::{Row, Rows};
 use crate::screen::Screen;
 use std::collections::hash_map::RandomState;
 use std::fmt;
@@ -23,10 +24,33 @@ pub enum Widths {
 }
 
 /// What a surface is made with.
+///
+/// ```
+/// use tikeburo::{Error, Options, Surface, Widths};
+///
+/// let options = Options::new().widths(Widths::OneColumn);
+/// let mut surface = Surface::with_options(8, 1, options)?;
+/// surface.add_change("か")?;
+/// assert_eq!(surface.cursor_position(), (1, 0));
+/// # Ok::<(), Error>(())
+/// ```
 #[derive(Clone, Copy, PartialEq, Eq, Hash, Debug, Default)]
 pub struct Options {
-    /// How it measures texts.
-    pub widths: Widths,
+    widths: Widths,
+}
+
+impl Options {
+    /// The usual ones: texts are measured by Unicode.
+    #[must_use]
+    pub fn new() -> Options {
+        Options::default()
+    }
+
+    /// How the surface measures texts.
+    #[must_use]
+    pub fn widths(self, widths: Widths) -> Options {
+        Options { widths }
+    }
 }
 
 /// What a terminal's screen shows, with no terminal behind it: a [`Screen`], the pen, which is the
@@ -49,12 +73,20 @@ pub struct Surface {
 
 impl Surface {
     /// A blank surface of this width in columns and height in rows, each from 1 to 2^32 - 1, that
-    /// measures texts by Unicode. [`Error::Range`]: the size.
+    /// measures texts by Unicode.
+    ///
+    /// # Errors
+    ///
+    /// [`Error::Range`]: the size. [`Error::Memory`].
     pub fn new(width: usize, height: usize) -> Result<Surface, Error> {
         Surface::with_options(width, height, Options::default())
     }
 
     /// A blank surface of this size.
+    ///
+    /// # Errors
+    ///
+    /// Those of [`Surface::new`].
     pub fn with_options(width: usize, height: usize, options: Options) -> Result<Surface, Error> {
         let widths = options.widths as u8;
         let source = source_number();
@@ -68,6 +100,8 @@ impl Surface {
 
     /// Makes a change, and returns its number.
     ///
+    /// # Errors
+    ///
     /// [`Error::ScrollRegion`] and [`Error::Numbers`]: nothing has changed. [`Error::Memory`]: the
     /// surface may show anything in its size.
     pub fn add_change(&mut self, change: impl Into<Change>) -> Result<SequenceNo, Error> {
@@ -77,9 +111,13 @@ impl Surface {
     }
 
     /// Makes changes in order, and returns the number of the last, as termwiz counts it: the number
-    /// before, less one unless it is 0, plus how many they are. A list with a scroll whose region
-    /// goes past the last row is refused as a whole; after another error the first of them may have
-    /// been made.
+    /// before, less one unless it is 0, plus how many they are.
+    ///
+    /// # Errors
+    ///
+    /// [`Error::ScrollRegion`]: the region of a scroll goes past the last row, and nothing has
+    /// changed. [`Error::Numbers`] and [`Error::Memory`], as of [`Surface::add_change`]: the first
+    /// changes may have been made too.
     ///
     /// ```
     /// use tikeburo::{Change, Error, Surface};
@@ -132,6 +170,10 @@ impl Surface {
 
     /// Draws what another surface shows, a viewer or a client, from column `x` and row `y` on. What
     /// doesn't fit is left out. Cursor and pen are as before.
+    ///
+    /// # Errors
+    ///
+    /// [`Error::Numbers`] and [`Error::Memory`], as of [`Surface::add_change`].
     pub fn draw_from_screen(&mut self, other: &Screen, x: usize, y: usize) -> Result<(), Error> {
         // Safety: both handles are live, and they are two, since one is borrowed alone.
         Error::check(unsafe { ffi::tk_draw(self.handle.get(), other.handle.get(), x, y) })
@@ -139,6 +181,10 @@ impl Surface {
 
     /// Copies what the region of this column, row, width and height shows to the region of this
     /// size at another column and row. Both are cut to what fits.
+    ///
+    /// # Errors
+    ///
+    /// [`Error::Numbers`] and [`Error::Memory`], as of [`Surface::add_change`].
     pub fn copy_region(
         &mut self,
         src_x: usize,
@@ -155,12 +201,17 @@ impl Surface {
 
     /// Takes another size, as [`Surface::new`] has it: rows are cut or filled with blanks, and the
     /// cursor stays inside.
+    ///
+    /// # Errors
+    ///
+    /// [`Error::Range`]: the size. [`Error::Numbers`]. [`Error::Memory`].
     pub fn resize(&mut self, width: usize, height: usize) -> Result<(), Error> {
         // Safety: the handle is live.
         Error::check(unsafe { ffi::tk_resize(self.handle.get(), width, height) })
     }
 
     /// The number of the coming change.
+    #[must_use]
     pub fn current_seqno(&self) -> SequenceNo {
         self.handle.number(ffi::tk_number).unwrap_or_default()
     }
@@ -168,6 +219,8 @@ impl Surface {
     /// The answer to what a client asks, as bytes for [`Client::feed`](crate::Client::feed): the
     /// whole screen, or the changes since the one that the client shows, where it shows this
     /// surface's.
+    ///
+    /// # Errors
     ///
     /// [`Error::Truncated`]: the bytes end before the ask does. [`Error::Unreadable`]: they are
     /// wrong at a byte, or more come behind the ask.
@@ -198,6 +251,16 @@ impl Deref for Surface {
 
     fn deref(&self) -> &Screen {
         &self.screen
+    }
+}
+
+/// The rows, from the top.
+impl<'a> IntoIterator for &'a Surface {
+    type Item = Row<'a>;
+    type IntoIter = Rows<'a>;
+
+    fn into_iter(self) -> Rows<'a> {
+        self.rows()
     }
 }
 

@@ -48,6 +48,7 @@
 
 mod attributes;
 mod change;
+mod changes;
 mod client;
 mod color;
 mod encode;
@@ -66,6 +67,7 @@ pub use attributes::{
     VerticalAlign,
 };
 pub use change::{Change, CursorShape, CursorVisibility, LineAttribute, Position, SequenceNo};
+pub use changes::Changes;
 pub use client::{Ask, Client, Limits};
 pub use color::{ColorAttribute, PaletteIndex, RgbColor};
 pub use error::Error;

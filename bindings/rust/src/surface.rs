@@ -1,6 +1,7 @@
 //! Surfaces.
 
 use crate::change::{Change, SequenceNo};
+use crate::changes::{Changes, Run};
 use crate::client::Ask;
 use crate::encode;
 use crate::error::Error;
@@ -106,7 +107,7 @@ impl Surface {
     /// surface may show anything in its size.
     pub fn add_change(&mut self, change: impl Into<Change>) -> Result<SequenceNo, Error> {
         let number = self.current_seqno();
-        self.add(&[change.into()])?;
+        self.make(&[change.into()])?;
         Ok(number)
     }
 
@@ -131,22 +132,53 @@ impl Surface {
     /// ```
     pub fn add_changes(&mut self, changes: &[Change]) -> Result<SequenceNo, Error> {
         let (_, height) = self.dimensions();
-        if !changes.iter().all(|change| change.fits(height)) {
+        if changes.iter().any(|change| change.rows() > height) {
             return Err(Error::ScrollRegion);
         }
         let number = self.current_seqno();
-        self.add(changes)?;
+        self.make(changes)?;
+        Ok(number.saturating_sub(1) + changes.len())
+    }
+
+    /// Makes the changes of a list, as [`Surface::add_changes`] makes those of a slice.
+    ///
+    /// # Errors
+    ///
+    /// Those of [`Surface::add_changes`].
+    ///
+    /// ```
+    /// use tikeburo::{Changes, Error, Surface};
+    ///
+    /// let mut surface = Surface::new(12, 2)?;
+    /// let mut changes = Changes::new();
+    /// changes.title("notes").move_to(2, 1).text("hello か");
+    /// assert_eq!(surface.add(&changes)?, 3);
+    /// assert_eq!(surface.row(1).text()?.trim_end(), "  hello か");
+    /// # Ok::<(), Error>(())
+    /// ```
+    pub fn add(&mut self, changes: &Changes) -> Result<SequenceNo, Error> {
+        let (_, height) = self.dimensions();
+        if changes.rows() > height {
+            return Err(Error::ScrollRegion);
+        }
+        let number = self.current_seqno();
+        for run in changes.runs() {
+            match run {
+                Run::Text(text) => self.print(text)?,
+                Run::List(bytes) => self.add_bytes(bytes)?,
+            }
+        }
         Ok(number.saturating_sub(1) + changes.len())
     }
 
     /// Prints the texts, and adds the changes between them as bytes: bytes of a text say how it is
     /// cut and measured, which this crate has no tables for.
-    fn add(&mut self, changes: &[Change]) -> Result<(), Error> {
+    fn make(&mut self, changes: &[Change]) -> Result<(), Error> {
         for part in changes.split_inclusive(|change| matches!(change, Change::Text(_))) {
             match part {
                 [others @ .., Change::Text(text)] => {
                     self.add_encoded(others)?;
-                    self.print(text)?;
+                    self.print(text.as_bytes())?;
                 }
                 others => self.add_encoded(others)?,
             }
@@ -158,12 +190,15 @@ impl Surface {
         if changes.is_empty() {
             return Ok(());
         }
-        let bytes = encode::changes(changes);
+        self.add_bytes(&encode::changes(changes))
+    }
+
+    fn add_bytes(&mut self, bytes: &[u8]) -> Result<(), Error> {
         // Safety: the handle is live, and the bytes are only read.
         Error::check(unsafe { ffi::tk_add_changes(self.handle.get(), bytes.as_ptr(), bytes.len()) })
     }
 
-    fn print(&mut self, text: &str) -> Result<(), Error> {
+    fn print(&mut self, text: &[u8]) -> Result<(), Error> {
         // Safety: the handle is live, and the text is only read.
         Error::check(unsafe { ffi::tk_print(self.handle.get(), text.as_ptr(), text.len()) })
     }

@@ -120,6 +120,8 @@ impl Surface {
     /// changed. [`Error::Numbers`] and [`Error::Memory`], as of [`Surface::add_change`]: the first
     /// changes may have been made too.
     ///
+    /// # Examples
+    ///
     /// ```
     /// use tikeburo::{Change, Error, Surface};
     ///
@@ -145,6 +147,8 @@ impl Surface {
     /// # Errors
     ///
     /// Those of [`Surface::add_changes`].
+    ///
+    /// # Examples
     ///
     /// ```
     /// use tikeburo::{Changes, Error, Surface};

@@ -39,9 +39,9 @@
 //! # Threads
 //!
 //! A [`Surface`], a [`Viewer`] and a [`Client`] stay on the thread that made them: they are neither
-//! `Send` nor `Sync`. Cells with one link share it, by a count that isn't atomic, and so do those of
-//! another surface that this one was drawn on, and those of its viewers. On another thread a
-//! surface might count a link just when the others do.
+//! `Send` nor `Sync`. Cells that have one link share it, also with those of another surface that
+//! this one was drawn on, and of its viewers. How many do is counted by a number that isn't atomic,
+//! which two threads might change at once.
 //!
 //! ```compile_fail,E0277
 //! fn send<T: Send>(_: T) {}

@@ -5,8 +5,9 @@
     tools/api.py           writes the page
     tools/api.py --check   fails where the page differs from the sources
 
-A type is listed with its variants or public fields, a call with its signature, what it requires, its
-whole documentation and, folded, all that it ensures. Each is a link to its line. The definitions
+A type is listed with its variants or public fields and its traits, a call with its signature, what
+it requires, its whole documentation and, folded, all that it ensures. Each is a link to its line,
+and so is a trait that an `impl` gives, whose ghost members are what it promises. The definitions
 that clauses cite are listed at the end. What is hidden from documentation is left out.
 """
 import argparse
@@ -22,7 +23,7 @@ ORDER = "surface view line cellcluster cell change color hyperlink emoji laws".s
 KINDS = ("struct", "enum", "trait")
 INTRODUCTION = """# Calls
 
-All that `termwiz_surface`, `termwiz_wire` and `termwiz_share` name, by module: {calls} calls and {types} types. A type is listed with its variants or public fields; a call with its signature, what its caller must keep (`requires`), its documentation and, folded, what it promises (`ensures`). Each name is a link to its line. `tools/api.py` makes the page from the sources; what is hidden from documentation, for the crates above, is left out.
+All that `termwiz_surface`, `termwiz_wire` and `termwiz_share` name, by module: {calls} calls and {types} types. A type is listed with its variants or public fields and its traits; a call with its signature, what its caller must keep (`requires`), its documentation and, folded, what it promises (`ensures`). Each name is a link to its line; a trait without a link is derived, and the `impl` of any other says by its ghost members what it promises. `tools/api.py` makes the page from the sources; what is hidden from documentation, for the crates above, is left out.
 
 How to read a clause:
 
@@ -66,7 +67,7 @@ def shown(lines):
         if struct and not line.strip().startswith("pub "):
             private = True
         elif not hidden:
-            out += [one for one in part if not one.strip().startswith(("// ", "#[default]"))]
+            out += [one for one in part if not one.strip().startswith("// ")]
         part = []
     out += part
     if private:
@@ -122,9 +123,8 @@ class Page:
         if item.kind == "trait":
             out += ["", "An `impl` defines these ghost members, the laws by their proofs, and the "
                     "calls below. One that documents a default answer may be left out."]
-        traits = [trait.removeprefix("fmt::") for trait in traits]
         if traits:
-            out += ["", "Traits: " + ", ".join(f"`{trait}`" for trait in traits) + "."]
+            out += ["", f"Traits: {', '.join(traits)}."]
         if len(methods) > 5:
             links = (f"[`{m.name}`](#{slug(f'{name}::{m.name}')})" for m in methods)
             out += ["", "Calls: " + ", ".join(links) + "."]
@@ -182,8 +182,10 @@ class Page:
         methods = [m for m in crate(name).methods.get(item.name, []) if m.public]
         for method in methods:
             self.note(module_of(name, method), method)
-        traits = item.traits + [t for t in crate(name).traits.get(item.name, [])
-                                if t not in ("Model", *item.traits)]
+        own = {own.name: own for own in crate(name).traits.get(item.name, [])}
+        traits = [f"`{trait}`" for trait in item.traits if trait not in own]
+        traits += [link(f"`{trait.removeprefix('fmt::')}`", own[trait])
+                   for trait in own if trait != "Model"]
         return self.type(alias, item, methods, traits)
 
     def contents(self):
@@ -212,9 +214,17 @@ class Page:
 
 
 def equation(definition):
-    """A short definition itself, where it has no comment."""
-    last = definition.file.lines[definition.last - 1].strip()
-    return f"`{last}`" if definition.size() <= 2 and " = " in last and len(last) <= 120 else ""
+    """A definition that has no comment: its parts, its equations if they are short, or its type."""
+    head, *lines = definition.file.lines[definition.first - 1:definition.last]
+    if definition.kind:
+        parts = re.findall(r"^ *(?:pub )?(\S+) :", "\n".join(lines), re.M)
+        return ", ".join(f"`{part}`" for part in parts)
+    left = " " * indent_of(head) + definition.name
+    text = " ".join("; " * line.startswith(left) + line.strip() for line in lines)
+    text = text.removeprefix("; ").replace(" ; ", "; ")
+    if len(text) > 180 or "←" in text:
+        text = head.split(" : ", 1)[1]
+    return f"`{text}`" if text != "Type 0" else ""
 
 
 def place_of(module):

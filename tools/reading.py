@@ -11,7 +11,8 @@ docs/THEOREMS.md: a new theorem there gets a line here, and a block `<!--NAME-->
 in the list where it is first read. A list and a theorem name the last lists that they read whole; a
 theorem adds all else that it reads.
 
-It fails too where docs/THEOREMS.md names a clause that its calls don't have.
+It fails too where docs/THEOREMS.md names a clause that its calls don't have, and where its headline
+names one that no list here is made from.
 """
 import argparse
 import re
@@ -74,7 +75,8 @@ THEOREMS = [
     ("repaints", [("Surface::get_changes", "repaint full")]),
     ("diff", [("Surface::diff_screens", "rows prints")]),
     ("accept", [("Surface::answer", "given given_fully carries carries_fully"),
-                ("Viewer::accept", "shows shows_fully names names_fully")]),
+                ("Viewer::accept", "shows shows_fully names names_fully"),
+                ("Viewer::accept_owned", "shows shows_fully names names_fully")]),
     ("run", [("view::run", ""), ("view::run_full", ""), ("many::run_many", "")]),
     ("shows", [("Client::feed", "follows")]),
     ("takes", [("Client::feed", "feeds")]),
@@ -117,6 +119,24 @@ def lacking(known):
             having = set().union(*(clauses.get(key, set()) for key in keys))
             wrong += [name for name in re.findall(r"`(\w+)`", names) if keys and name not in having]
     return wrong
+
+
+def unread():
+    """The calls of the headline of CLAIMS with a clause from which no list is made."""
+    headline = CLAIMS.read_text().split("## The headline")[1].split("\n## ")[0]
+    made = [(call, set(names.split())) for _, calls in THEOREMS for call, names in calls]
+    missing = []
+    for line in headline.split("\n"):
+        for part in line.rstrip("|").split("|")[-1].split("; "):
+            named = re.findall(r"([^()]*)\(([^()]*)\)", part)
+            if re.fullmatch(r"(`[\w:]+`(, )?)+", part):
+                named = [(part, "")]
+            for calls, names in named:
+                wanted = set(re.findall(r"`(\w+)`", names))
+                missing += [call for call in re.findall(r"`([\w:]+)`", calls)
+                            if not any(f"::{own}".endswith(f"::{call}") and
+                                       (wanted <= got or not got) for own, got in made)]
+    return missing
 
 
 def definition(path):
@@ -257,6 +277,8 @@ def main():
     known, text = functions(), PAGE.read_text()
     if wrong := lacking(known):
         sys.exit(f"docs/THEOREMS.md names clauses that aren't there: {', '.join(wrong)}")
+    if wrong := unread():
+        sys.exit(f"tools/reading.py makes no list of the headline's {', '.join(wrong)}")
     for name, lines in blocks(known).items():
         block = "\n".join([f"<!--{name}-->", "", *lines, "", "<!--end-->"])
         text, count = re.subn(rf"<!--{name}-->.*?<!--end-->", lambda _: block, text, flags=re.S)

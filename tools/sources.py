@@ -125,6 +125,11 @@ def read_ghosts(lines, start, item):
             member = not line.endswith(";")
 
 
+def with_type(trait, given):
+    """A trait with one of its types given, after those that it has between its brackets."""
+    return f"{trait[:-1]}, {given}>" if trait.endswith(">") else f"{trait}<{given}>"
+
+
 def read_use(use, module):
     """Notes what a `pub use` passes on."""
     match = re.match(r"(.*?)(?:::)?\{(.*)\}$", use)
@@ -162,8 +167,8 @@ def read_module(path):
             match = IMPL.match(text)
             owner = implemented = None
             if match and match.group(1):
-                implemented = module.traits.setdefault(match.group(2), [])
-                implemented.append(match.group(1))
+                implemented = Item("impl", match.group(1), path, k + 1, doc, True)
+                module.traits.setdefault(match.group(2), []).append(implemented)
                 if match.group(1) == "Model":
                     module.models[match.group(2)] = k + 1
             elif match:
@@ -171,7 +176,7 @@ def read_module(path):
         elif text.startswith("}") and indent == 0:
             owner = implemented = None
         elif implemented and (match := re.match(r"type (\w+ = .*);", text)):
-            implemented[-1] += f"<{match.group(1)}>"
+            implemented.name = with_type(implemented.name, match.group(1))
         elif indent == 0 and (match := re.match(r"(pub )?mod (\w+);", text)):
             module.modules[match.group(2)] = bool(match.group(1)) and not hidden
         elif indent == 0 and text.startswith("pub use "):

@@ -103,7 +103,7 @@ def short(name):
 def page(rows, text):
     """The page with each block between its marks made anew."""
     beside = [row for row in rows if row["peer"] or row["termwiz"]]
-    others = [row for row in rows if row not in beside or row["size"]]
+    others = [row for row in rows if row["here"] and (row not in beside or row["size"])]
     for name, lines in (("peers", peers(rows)), ("compared", compared(beside)),
                         ("spent", spent(beside)), ("alone", alone(others))):
         block = "\n".join([f"<!-- {name}, by speed.py -->", "", *lines, "", "<!-- end -->"])
@@ -120,9 +120,9 @@ def below(rows, other):
 
 
 def functions(own):
-    """How many functions the crates have whose names fit."""
+    """How many functions the crates have whose names fit; a crate's tests go by `tests`."""
     return sum(len(FUNCTION.findall(path.read_text())) for path in TOP.glob("crates/*/src/**/*.rt")
-               if own(path.relative_to(TOP).parts[1]))
+               if own("tests" if path.stem == "tests" else path.relative_to(TOP).parts[1]))
 
 
 def proved(text):
@@ -157,6 +157,7 @@ STYLE = """.ground { fill: #ffffff }
 text { font: 13px sans-serif; fill: #24292f }
 .title { font-weight: bold }
 .faint { fill: #57606a }
+.tick { font-size: 11px }
 .value { font-size: 12px; paint-order: stroke; stroke: #ffffff; stroke-width: 3px }
 line { stroke: #d0d7de }
 .one { stroke: #24292f; stroke-width: 2 }
@@ -176,16 +177,20 @@ WIDTH, LEFT, RIGHT, BAR = 420, 116, 44, 13
 
 
 class Chart:
-    """Bars of ratios from 0 to the greatest, with a line where both are equal."""
+    """Bars of ratios on a logarithmic axis, from the line where both are equal, to a tick past the
+    greatest."""
 
     def __init__(self, rows):
-        most = max(ratio(row, name) for row in rows for name, _ in OTHERS if row[name])
-        self.tick = 0.5 if most <= 3 else math.ceil(most / 6)
-        self.most = max(1, math.ceil(most / self.tick)) * self.tick
+        ratios = [ratio(row, name) for row in rows for name, _ in OTHERS if row[name]]
+        ticks = [step * 10 ** power for power in range(-3, 4) for step in (1, 2, 5)]
+        self.high = max(1, next(tick for tick in ticks if tick >= max(ratios)))
+        self.low = min(0.5, min(ratios) * 0.95)
+        self.ticks = [tick for tick in ticks if self.low <= tick <= self.high]
         self.out, self.y = [], 0
 
     def place(self, number):
-        return LEFT + number / self.most * (WIDTH - LEFT - RIGHT)
+        part = math.log(number / self.low) / math.log(self.high / self.low)
+        return LEFT + part * (WIDTH - LEFT - RIGHT)
 
     def text(self, x, words, name="", anchor="start"):
         self.out.append(f'<text class="{name}" x="{x:.1f}" y="{self.y}" text-anchor="{anchor}">'
@@ -202,34 +207,35 @@ class Chart:
                             f'height="10"/>')
             self.text(x + 15, f"{whose}'s", "faint")
             x += 130
+        self.text(WIDTH - 8, "left of 1: fewer here", "faint", "end")
 
     def group(self, rows):
         """A bar for each known ratio of each row, over an axis."""
         self.y += 22
-        first, ticks = self.y + 6, math.floor(self.most / self.tick + 0.5)
+        first = self.y + 6
         heights = [BAR * sum(bool(row[name]) for name, _ in OTHERS) + 9 for row in rows]
         last = first + sum(heights)
-        for tick in (k * self.tick for k in range(ticks + 1)):
+        for tick in self.ticks:
             x = f"{self.place(tick):.1f}"
-            self.text(self.place(tick), f"{tick:g}", "faint", "middle")
-            self.out.append(f'<line class="{"one" if tick == 1 else "tick"}" x1="{x}" '
+            self.text(self.place(tick), f"{tick:g}", "faint tick", "middle")
+            self.out.append(f'<line class="{"one" if tick == 1 else "other"}" x1="{x}" '
                             f'y1="{first}" x2="{x}" y2="{last}"/>')
         self.y = first
         for row, height in zip(rows, heights):
             self.bars(row, height)
 
     def bars(self, row, height):
-        top = self.y + 5
+        top, one = self.y + 5, self.place(1)
         self.y += height // 2 + 5
         self.text(LEFT - 8, row["workload"], anchor="end")
         self.y += height - height // 2 - 5
         for name, _ in OTHERS:
             if row[name]:
                 number = ratio(row, name)
-                end = self.place(number)
-                self.out.append(f'<rect class="{name}" x="{LEFT}" y="{top}" '
-                                f'width="{end - LEFT:.1f}" height="{BAR - 1}"/>')
-                self.out.append(f'<text class="faint value" x="{end + 4:.1f}" y="{top + 10}">'
+                first, last = sorted((one, self.place(number)))
+                self.out.append(f'<rect class="{name}" x="{first:.1f}" y="{top}" '
+                                f'width="{last - first:.1f}" height="{BAR - 1}"/>')
+                self.out.append(f'<text class="faint value" x="{last + 4:.1f}" y="{top + 10}">'
                                 f"{number:.2f}</text>")
                 top += BAR
 

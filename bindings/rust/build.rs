@@ -2,7 +2,7 @@
 //!
 //! `TIKEBURO_LIB` names a folder that has either `libtikeburo.a`, as `make install` in
 //! `bindings/c` installs it, or the library that `rt lib` writes and the two of the kit that it
-//! stands on. Without it they are looked for where `rt lib` writes the library in the checkout that
+//! needs. Without it they are looked for where `rt lib` writes the library in the checkout that
 //! this crate lies in, and in the kit of the `rt` that is on the path; and else where `pkg-config`
 //! knows of a `tikeburo`.
 //!

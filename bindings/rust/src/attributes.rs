@@ -84,7 +84,7 @@ impl SemanticType {
     ];
 }
 
-/// Where a text stands on its line.
+/// Where a text is placed on its line.
 #[derive(Clone, Copy, PartialEq, Eq, Hash, Debug, Default)]
 pub enum VerticalAlign {
     /// On the base line.
@@ -126,7 +126,7 @@ pub struct Attributes {
     pub blink: Blink,
     /// What it is to a shell.
     pub semantic_type: SemanticType,
-    /// Where it stands on its line.
+    /// Where it is placed on its line.
     pub vertical_align: VerticalAlign,
     /// Whether it is slanted.
     pub italic: bool,
@@ -136,9 +136,9 @@ pub struct Attributes {
     pub strikethrough: bool,
     /// Whether it is hidden.
     pub invisible: bool,
-    /// Whether the row was wrapped behind this cell.
+    /// Whether the row was wrapped after this cell.
     pub wrapped: bool,
-    /// Whether a line stands above it.
+    /// Whether there is a line above it.
     pub overline: bool,
     /// The text's colour.
     pub foreground: ColorAttribute,

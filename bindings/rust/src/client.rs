@@ -109,7 +109,7 @@ impl Default for Limits {
 ///     surface.add_change(text)?;
 ///     let answer = surface.respond(&client.ask()?)?;
 ///     for byte in answer {
-///         client.feed(&[byte])?; // in any pieces
+///         client.feed(&[byte])?; // in any chunks
 ///     }
 /// }
 /// assert_eq!(client.screen().row(0).text()?.trim_end(), "one two");
@@ -146,7 +146,7 @@ impl Client {
         Ok(Client { screen })
     }
 
-    /// Takes the next bytes of a stream of answers, in whatever pieces they come. Of an answer that
+    /// Takes the next bytes of a stream of answers, in whatever chunks they come. Of an answer that
     /// is whole it shows what the surface showed when it gave it. An answer that is late, comes
     /// twice, or leads on from what another surface showed changes nothing, and is no error.
     ///

@@ -27,7 +27,7 @@ impl RgbColor {
     }
 }
 
-/// A cell's colour. A true one says what stands for it where true colours are not shown.
+/// A cell's colour. A true one says what replaces it where true colours are not shown.
 #[derive(Clone, Copy, PartialEq, Eq, Hash, Debug, Default)]
 pub enum ColorAttribute {
     /// This colour, or else the palette's at this index.

@@ -54,7 +54,7 @@ impl Encoder {
         self.0.push(0xf6);
     }
 
-    /// The head of an array of a kind and so many values behind it.
+    /// The head of an array of a kind and so many values after it.
     fn kind(&mut self, kind: usize, values: usize) {
         self.array(1 + values);
         self.number(kind);

@@ -21,7 +21,7 @@ pub struct Fault {
 pub enum FaultKind {
     /// They are of another version of the form.
     Version,
-    /// An item has a type that doesn't stand here.
+    /// An item has a type that isn't allowed here.
     Type,
     /// A text is no UTF-8.
     Utf8,

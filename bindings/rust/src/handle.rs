@@ -52,7 +52,7 @@ impl Handle {
 
 impl Drop for Handle {
     fn drop(&mut self) {
-        // Safety: the handle is freed here alone, and no call comes behind it.
+        // Safety: the handle is freed here alone, and no call comes after it.
         unsafe { ffi::tk_free(self.get()) }
     }
 }

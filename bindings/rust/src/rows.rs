@@ -78,7 +78,7 @@ impl<'a> Row<'a> {
         })
     }
 
-    /// Its visible cells from the left, up to the screen's width: behind a wide cell comes the one
+    /// Its visible cells from the left, up to the screen's width: after a wide cell comes the one
     /// that is two columns further. The last item is the first error, if there is one.
     pub fn cells(&self) -> Cells<'a> {
         let (width, _) = self.screen.dimensions();
@@ -88,7 +88,7 @@ impl<'a> Row<'a> {
         }
     }
 
-    /// The cell at this column. At the second column of a wide cell stands a blank one.
+    /// The cell at this column. At the second column of a wide cell it is a blank.
     ///
     /// # Errors
     ///

@@ -63,7 +63,7 @@ impl Screen {
         handle::text(|text, room, len| unsafe { ffi::tk_title(handle, text, room, len) })
     }
 
-    /// The texts of all rows, with a line feed behind each. Blanks at a row's end may be left out.
+    /// The texts of all rows, with a line feed after each. Blanks at a row's end may be left out.
     ///
     /// # Errors
     ///
@@ -116,7 +116,7 @@ impl fmt::Debug for Screen {
     }
 }
 
-/// The rows, with a line feed behind each, and nothing where memory is refused.
+/// The rows, with a line feed after each, and nothing where memory is refused.
 impl fmt::Display for Screen {
     fn fmt(&self, f: &mut fmt::Formatter<'_>) -> fmt::Result {
         let text = self.screen_chars_to_string().unwrap_or_default();

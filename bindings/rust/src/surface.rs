@@ -262,7 +262,7 @@ impl Surface {
     /// # Errors
     ///
     /// [`Error::Truncated`]: the bytes end before the ask does. [`Error::Unreadable`]: they are
-    /// wrong at a byte, or more come behind the ask.
+    /// wrong at a byte, or more follow the ask.
     pub fn respond(&mut self, ask: &Ask) -> Result<Vec<u8>, Error> {
         let handle = self.handle.get();
         let ask = ask.as_bytes();
@@ -313,7 +313,7 @@ impl fmt::Debug for Surface {
     }
 }
 
-/// The rows, with a line feed behind each, and nothing where memory is refused.
+/// The rows, with a line feed after each, and nothing where memory is refused.
 impl fmt::Display for Surface {
     fn fmt(&self, f: &mut fmt::Formatter<'_>) -> fmt::Result {
         fmt::Display::fmt(&self.screen, f)

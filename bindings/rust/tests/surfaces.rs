@@ -71,7 +71,7 @@ fn rows_and_cells_are_iterated() {
     assert_eq!(surface.row(3).text(), Err(Error::Range));
     assert_eq!(surface.row(3).cells().last(), Some(Err(Error::Range)));
     assert_eq!(surface.row(0).cell(5), Err(Error::Range));
-    assert_eq!(surface.row(0).cell(2).unwrap().str(), " "); // behind a wide one
+    assert_eq!(surface.row(0).cell(2).unwrap().str(), " "); // after a wide one
 }
 
 #[test]

@@ -22,7 +22,7 @@ use termwiz_wire::{
 
 /// Shows what a source showed when it gave the last answer that was taken.
 ///
-/// It takes the bytes of a stream in whatever pieces they come. An answer is read whole before
+/// It takes the bytes of a stream in whatever chunks they come. An answer is read whole before
 /// anything changes; one that is late, comes again, or is of another source than the one shown
 /// changes nothing, unless it is a repaint. Of its own surface it keeps no changes.
 #[derive(Drop, Debug)]
@@ -161,10 +161,10 @@ impl<W: Widths> Client<W> {
         self.stopped = None;
     }
 
-    /// Takes the next bytes of the stream, in whatever pieces they come, and the answers that are
+    /// Takes the next bytes of the stream, in whatever chunks they come, and the answers that are
     /// whole then.
     ///
-    /// What stands after an error is said at each of the errors.
+    /// Each of the errors says what it leaves.
     pub fn feed(&mut self, piece: &[u8]) -> Result<(), ClientError>
         // Whatever the bytes are.
         ensures feeds { Feeds (measure W.width_of) self.old piece.now result self.new }
@@ -192,7 +192,7 @@ impl<W: Widths> Client<W> {
         self.take_all()
     }
 
-    // Keeps the bytes behind those that are kept.
+    // Keeps the bytes after those that are kept.
     fn keep(&mut self, piece: &[u8]) -> Result<(), ClientError>
         ensures ok { OnOk result (self.new ≡ with_bytes self.old piece.now) }
         ensures err { IfErr result (λ error.

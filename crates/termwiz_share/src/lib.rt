@@ -3,7 +3,7 @@
 //!
 //! - A `Source` is a full surface with a number of its own. It answers what clients ask, and keeps
 //!   no changes that no answer needs.
-//! - A `Client` shows what a source showed. It takes the bytes of answers in whatever pieces they
+//! - A `Client` shows what a source showed. It takes the bytes of answers in whatever chunks they
 //!   come, of many sources, late, repeated or in any order, and asks by what it shows.
 //!
 //! `specs/Histories.antt` says what a client shows of a stream, wherever that is cut, and

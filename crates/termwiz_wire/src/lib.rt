@@ -1,5 +1,5 @@
 //! Answers and asks as bytes, and back: CBOR in core deterministic encoding, in the form that
-//! `docs/stream.cddl` describes. A stream is one answer behind another.
+//! `docs/stream.cddl` describes. A stream is one answer after another.
 //!
 //! What is encoded is decoded again, whatever follows it, and what is decoded was encoded so. An
 //! error is the first fault from left to right, with its place, or want of memory. After

@@ -1,4 +1,4 @@
-//! What bytes decide, when more may come behind them.
+//! What bytes decide, when more may follow them.
 ghost use Rattle.std.specs.Prelude.{ℕ, ◌*◌, ◌<◌, ◌≤◌, ◌++◌, List, Option, length, take};
 ghost use Rattle.cbor.specs.Prefixes.{FailsBy, Reads, Stays, fault, left};
 ghost use Rattle.cbor.specs.declared.error.FaultKind.TheVariants.{Truncated};
@@ -10,7 +10,7 @@ ghost use Rattle.termwiz_wire.specs.Sent.{IsSent, answer};
 ghost use Rattle.termwiz_wire.specs.declared.fault.Limits.{Limits};
 ghost use Rattle.termwiz_wire.specs.declared.sent.SentAnswer.{SentAnswer};
 
-/// A value or a fault stays as it is, whatever bytes come behind within the limit, and at the limit
+/// A value or a fault stays as it is, whatever bytes follow within the limit, and at the limit
 /// there is one: so a value is `Truncated` exactly where its bytes don't decide.
 pub fn decided()
     ensures change { (measure : List ℕ → ℕ) (rows : Option ℕ) →
@@ -23,7 +23,7 @@ pub fn decided()
 {}
 
 /// What is decoded, and a fault but for `Truncated`, stays as it is at its place, whatever bytes
-/// come behind.
+/// follow.
 pub fn stays()
     ensures change { (measure : List ℕ → ℕ) (bytes more : List ℕ) →
         Stays kind left more (one_change_at measure bytes)
@@ -38,7 +38,7 @@ pub fn stays()
 {}
 
 /// How answers of a stream are decoded within limits: what is decoded, and a fault but for
-/// `Truncated`, stays as it is with more bytes behind. What is encoded within the limits is decoded
+/// `Truncated`, stays as it is if more bytes follow. What is encoded within the limits is decoded
 /// again, and each beginning of it that is not all of it is `Truncated`; what is past them is
 /// `Limit`.
 pub fn answers()

@@ -14,7 +14,7 @@ use std::alloc::Global;
 use termwiz_share::Source;
 use termwiz_wire::{Ask, decode_ask};
 
-// The one ask that the bytes encode, with nothing behind it.
+// The one ask that the bytes encode, with nothing after it.
 fn only_ask(bytes: &[u8]) -> Result<Ask, Failure>
     ensures { IsOnlyAsk bytes.now result }
 {

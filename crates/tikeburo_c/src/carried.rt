@@ -1,4 +1,4 @@
-//! The calls for streams, one behind another: a proved caller.
+//! The calls for streams, one after another: a proved caller.
 ghost use Rattle.std.specs.Prelude.{pos, ◌≡◌};
 ghost use Rattle.tikeburo_c.specs.Handles.{kept_of};
 ghost use Rattle.tikeburo_c.specs.Streams.{ServesIn, ShowsIn};

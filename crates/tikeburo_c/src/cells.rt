@@ -87,7 +87,7 @@ fn give_cell(
     Ok(())
 }
 
-// The cell at a column of a row, or the blank one behind the stored cells.
+// The cell at a column of a row, or the blank one after the stored cells.
 fn cell_at<'a>(
     surface: &'a Surface<ChosenWidths>,
     column: usize,

@@ -39,7 +39,7 @@ fn add_to(surface: &mut Source<ChosenWidths>, change: Change) -> Result<(), Fail
     Ok(())
 }
 
-// The list of changes that the bytes encode, with nothing behind it.
+// The list of changes that the bytes encode, with nothing after it.
 fn only_changes(alloc: Global, widths: ChosenWidths, bytes: &[u8]) -> Result<Vec<Change>, Failure>
     ensures { IsOnlyList (columns_by widths) bytes.now result }
 {

@@ -9,7 +9,7 @@ use crate::kept::Kept;
 use crate::loose::Loose;
 use std::alloc::Global;
 
-/// A handle on a value, or on none. The flag stands beside the owner and not in it, so that it is
+/// A handle on a value, or on none. The flag is kept beside the owner and not in it, so that it is
 /// read and tested as any field is.
 #[repr(C)]
 pub struct Handle {

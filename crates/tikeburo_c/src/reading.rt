@@ -142,7 +142,7 @@ fn give_text(
     give(text.as_bytes(), room, len)
 }
 
-/// The texts of all rows' visible cells within their stored lengths, with a line feed behind each
+/// The texts of all rows' visible cells within their stored lengths, with a line feed after each
 /// row.
 #[unsafe(no_mangle)]
 pub extern "C" fn tk_screen_text(

@@ -1,4 +1,4 @@
-//! Answers whose bytes come in pieces.
+//! Answers whose bytes come in chunks.
 ghost use Rattle.std.specs.Option.{ForSome};
 ghost use Rattle.std.specs.Prelude.{◌≡◌, ◌++◌, ◌<◌, ◌≤◌, IfOk, drop, length, map};
 ghost use Rattle.cbor.specs.Decoding.{IsBytes, allowed};

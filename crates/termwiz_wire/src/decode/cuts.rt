@@ -151,7 +151,7 @@ fn all_runs(reader: &mut Reader<'_>, characters: &[char], count: usize) -> Resul
     Ok(needed && left.is_empty())
 }
 
-// The characters behind a run.
+// The characters after a run.
 fn behind(run: Run, left: &[char]) -> &[char]
     requires { run.count * run.characters ≤ length left.now }
     ensures { result.now ≡ drop (run.count * run.characters) left.now }
@@ -159,7 +159,7 @@ fn behind(run: Run, left: &[char]) -> &[char]
     &left[run.count * run.characters..]
 }
 
-// A run of the characters that are left, behind the last one.
+// A run of the characters that are left, after the last one.
 #[tactic(auto, unfolding(crate::specs::Cuts::run_at))]
 fn run_of(reader: &mut Reader<'_>, last: Run, left: &[char]) -> Result<Run, ReadError>
     ensures value { Gives (allowed reader.new.room reader.new.bytes.now)

@@ -37,7 +37,7 @@ pub(super) fn optional_link_of(
     }
 }
 
-// A link. It stands apart, so that the way of no link is short.
+// A link. It is a function of its own, so that the path without a link is short.
 #[inline(never)]
 fn some_link_of(alloc: Global, reader: &mut Reader<'_>) -> Result<Rc<Hyperlink>, ReadError>
     ensures value { Gives (allowed reader.new.room reader.new.bytes.now)

@@ -15,7 +15,7 @@ use termwiz_surface_core::surface::Answer;
 const VERSION: usize = 2;
 
 /// Appends an answer of this source to the bytes, its texts cut and measured by this width value.
-/// It fails where memory is refused, and then some of the answer may stand behind what the bytes
+/// It fails where memory is refused, and then some of the answer may follow what the bytes
 /// began with.
 #[tactic(auto, unfolding(crate::specs::Sent::answer))]
 pub fn encode_answer<W: Widths>(
@@ -47,7 +47,7 @@ pub fn encode_answer<W: Widths>(
 }
 
 /// Appends what a viewer asks by to the bytes. It fails where memory is refused, and then some of
-/// it may stand behind what the bytes began with.
+/// it may follow what the bytes began with.
 #[tactic(auto, unfolding(crate::specs::Sent::ask))]
 pub fn encode_ask(out: &mut Vec<u8>, value: Ask) -> Result<(), AllocError>
     requires { value.source ≡ 0 → value.number ≡ 0 }

@@ -20,7 +20,7 @@ use termwiz_cell::color::ColorAttribute;
 use termwiz_cell::emoji::Widths;
 
 /// Appends a change to the bytes, its text cut and measured by this width value. It fails where
-/// memory is refused, and then some of the change may stand behind what the bytes began with.
+/// memory is refused, and then some of the change may follow what the bytes began with.
 #[tactic(auto, unfolding(crate::specs::Encoding::change_values))]
 pub fn encode_change<W: Widths>(
     out: &mut Vec<u8>,
@@ -173,7 +173,7 @@ pub(crate) fn change_count(kind: usize) -> usize
 }
 
 /// Appends a list of changes to the bytes, their texts cut and measured by this width value. It
-/// fails where memory is refused, and then some of the list may stand behind what the bytes began
+/// fails where memory is refused, and then some of the list may follow what the bytes began
 /// with.
 #[tactic(auto, unfolding(crate::specs::Encoding::changes))]
 pub fn encode_changes<W: Widths>(

@@ -1,6 +1,6 @@
 #!/usr/bin/env python3
 """Writes the declarations of `bindings/c/tikeburo.h` and `bindings/rust/src/ffi.rs` from what
-`crates/tikeburo_c` exports.
+`crates/tikeburo_c` exports, and the header's version from `bindings/rust/Cargo.toml`.
 
     tools/abi.py           writes them
     tools/abi.py --check   fails where one differs from the exports
@@ -8,6 +8,7 @@
 The words of the header are its own, and so are the names of parameters, the order, and whether
 bytes are `char` or `uint8_t`; types, fields and numbers are those of the exports. A new export is
 declared at the header's end, with its documentation: put it where it belongs, and write its words.
+`tk_strerror` has to have a text for each status, which is written by hand.
 `ffi.rs` has the functions and statuses that the crate around it names.
 """
 import argparse
@@ -18,6 +19,7 @@ from pathlib import Path
 from sources import TOP, crate, write
 
 HEADER = TOP / "bindings" / "c" / "tikeburo.h"
+MANIFEST = TOP / "bindings" / "rust" / "Cargo.toml"
 RUST = TOP / "bindings" / "rust" / "src"
 FFI = RUST / "ffi.rs"
 STRUCTS = {"Handle": "tk_handle", "ColorFields": "tk_color", "AttributeFields": "tk_attributes",
@@ -209,6 +211,28 @@ def numbered(header, known):
     return header
 
 
+def versioned(header):
+    """The header with the version of the Rust crate."""
+    version = re.search(r'^version = "(.*)"$', MANIFEST.read_text(), re.M).group(1)
+    words = [f'VERSION "{version}"', *(f"VERSION_{part} {number}" for part, number in zip(
+        ("MAJOR", "MINOR", "PATCH"), version.split(".")))]
+    for word in words:
+        name = word.split()[0]
+        header, count = re.subn(rf"(?m)^#define TK_{name} .*$", f"#define TK_{word}", header)
+        if count != 1:
+            sys.exit(f"tools/abi.py: tikeburo.h defines TK_{name} {count} times")
+    return header
+
+
+def check_texts(header):
+    """Sees that `tk_strerror` has a text for each status."""
+    statuses = re.search(r"typedef int32_t tk_status;\nenum \{\n(.*?)\n\};", header, re.S).group(1)
+    texts = re.search(r"tk_strerror\(tk_status status\) \{\n(.*?)\n\}\n", header, re.S).group(1)
+    for name in re.findall(r"^ *(TK_\w+) = ", statuses, re.M):
+        if f"case {name}:" not in texts:
+            sys.exit(f"tools/abi.py: tk_strerror has no text for {name}")
+
+
 def in_rust(kind):
     """A type of C as Rust has it."""
     to = kind.removeprefix("const ").removesuffix("*").strip()
@@ -253,7 +277,9 @@ def main():
     known = numbers()
     header, made = functions(HEADER.read_text(), exports)
     header = structs(header, r"(typedef struct {name} {{\n)(.*?)(}} {name};)", c_fields)
-    write(HEADER, numbered(header, known), check, Path(__file__).name)
+    header = versioned(numbered(header, known))
+    check_texts(header)
+    write(HEADER, header, check, Path(__file__).name)
     write(FFI, ffi(FFI.read_text(), made, known), check, Path(__file__).name)
 
 

@@ -1,6 +1,6 @@
 /* Carries a screen to a client as bytes, and prints the rows that the client shows.
  *
- *     cc example.c libtikeburo_c.a liblibc_c.a libos_c.a -o example && ./example
+ *     cc example.c $(pkg-config --cflags --libs tikeburo) -o example && ./example
  *
  * It ends with status 0, with 3 where memory was refused, and with 1 after any other error. */
 #include "tikeburo.h"
@@ -117,7 +117,7 @@ int main(void) {
         return 3;
     }
     if (status != TK_DONE) {
-        fprintf(stderr, "example: error %d\n", (int)status);
+        fprintf(stderr, "example: %s\n", tk_strerror(status));
         return 1;
     }
     return 0;

@@ -46,10 +46,14 @@ static void test_surfaces(void) {
     CHECK(size_is(&surface, 6, 1)); /* what it had is freed */
     CHECK(print(&surface, "かx") == TK_DONE);
     CHECK(cursor_is(&surface, 2, 0)); /* one column each */
-    tk_free(&surface);
-    CHECK(!surface.is_live);
-    tk_free(&surface);
-    CHECK(tk_size(&surface, &(size_t){0}, &(size_t){0}) == TK_NO_HANDLE);
+    tk_handle moved;
+    memcpy(&moved, &surface, sizeof moved);
+    memset(&surface, 0xee, sizeof surface);
+    CHECK(print(&moved, "y") == TK_DONE && row_is(&moved, 0, "かxy"));
+    tk_free(&moved);
+    CHECK(!moved.is_live);
+    tk_free(&moved);
+    CHECK(tk_size(&moved, &(size_t){0}, &(size_t){0}) == TK_NO_HANDLE);
 }
 
 static void test_sizes(void) {

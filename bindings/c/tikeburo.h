@@ -10,9 +10,10 @@
  *
  * - No viewer and no client comes to know two surfaces of one number, of this process or another:
  *   64 random bits for each will do (tk_surface_new).
- * - A handle is all zero before its first call. It is never copied, and never written by the
- *   caller afterwards. tk_free frees what it has, and may be called again; the handle may then be
- *   used for another value.
+ * - A handle is all zero before its first call, and never written by the caller afterwards. It may
+ *   be moved, as by memcpy or realloc, and not used twice: a call takes it at its new place alone.
+ *   tk_free frees what it has, and may be called again; the handle may then be used for another
+ *   value.
  * - One call at a time has a handle. A handle stays on its thread.
  * - Where a call takes two handles, they are two.
  * - A pointer is never NULL, also where the length behind it is 0. A length is not above what lies
@@ -28,9 +29,17 @@
  * the length that is needed: where the room is too short, the call returns TK_SHORT and has written
  * nothing but `*len`. After any other error `*len` is as it was too.
  *
- * Link with libtikeburo_c.a, liblibc_c.a and libos_c.a, in this order. */
+ * Link with libtikeburo, as `make install` beside this file makes it: `pkg-config --cflags --libs
+ * tikeburo` has the words. What it is made of does too: libtikeburo_c.a, liblibc_c.a and libos_c.a,
+ * in this order. */
 #ifndef TIKEBURO_H
 #define TIKEBURO_H
+
+/* The version of this header, and of the library that it comes with. */
+#define TK_VERSION "0.9.0"
+#define TK_VERSION_MAJOR 0
+#define TK_VERSION_MINOR 9
+#define TK_VERSION_PATCH 0
 
 #include <stdbool.h>
 #include <stddef.h>
@@ -55,6 +64,37 @@ enum {
     TK_RANGE = 8,      /* a row, a column, a size or another number is outside of its range */
     TK_SHORT = 9       /* the buffer is too short: *len is the length that is needed */
 };
+
+/* What a status says, in English, with no full stop. The text is never NULL, and stays as it is. */
+static inline const char *tk_strerror(tk_status status) {
+    switch (status) {
+    case TK_DONE:
+        return "done";
+    case TK_MEMORY:
+        return "memory was refused";
+    case TK_UNREADABLE:
+        return "the text is no UTF-8, or the bytes can't be read";
+    case TK_TRUNCATED:
+        return "the bytes end too early";
+    case TK_REGION:
+        return "the region of a scroll goes past the last row";
+    case TK_NUMBERS:
+        return "the numbers of changes are used up";
+    case TK_NO_HANDLE:
+        return "the handle has no value";
+    case TK_WRONG_KIND:
+        return "the handle has a value of another kind";
+    case TK_RANGE:
+        return "a row, a column, a size or another number is outside of its range";
+    case TK_SHORT:
+        return "the buffer is too short";
+    default:
+        return "unknown status";
+    }
+}
+
+/* TK_VERSION, of the header that a program is compiled with: a shared library may be another. */
+static inline const char *tk_version(void) { return TK_VERSION; }
 
 /* A handle on a surface, a viewer or a client, or on none. */
 typedef struct tk_handle {

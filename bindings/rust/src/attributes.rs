@@ -186,11 +186,13 @@ pub struct Hyperlink {
 
 impl Hyperlink {
     /// A link to this uri.
+    #[must_use]
     pub fn new(uri: impl Into<String>) -> Hyperlink {
         Hyperlink { uri: uri.into() }
     }
 
     /// What it links to.
+    #[must_use]
     pub fn uri(&self) -> &str {
         &self.uri
     }
@@ -198,6 +200,7 @@ impl Hyperlink {
 
 /// A change of one attribute.
 #[derive(Clone, PartialEq, Eq, Hash, Debug)]
+#[non_exhaustive]
 pub enum AttributeChange {
     /// How bold texts are.
     Intensity(Intensity),

@@ -63,6 +63,7 @@ pub enum LineAttribute {
 /// A change of a surface. It acts at the cursor and with the pen, which is the attributes of coming
 /// texts, that the changes before it left.
 #[derive(Clone, PartialEq, Eq, Hash, Debug)]
+#[non_exhaustive]
 pub enum Change {
     /// Sets one attribute of the pen.
     Attribute(AttributeChange),
@@ -116,8 +117,8 @@ pub enum Change {
 }
 
 impl Change {
-    /// Whether it is no scroll whose region goes past the last row of a surface of this height.
-    pub(crate) fn fits(&self, height: usize) -> bool {
+    /// How many rows a surface has at least that can make it: a scroll's region ends there.
+    pub(crate) fn rows(&self) -> usize {
         match self {
             Change::ScrollRegionUp {
                 first_row,
@@ -128,8 +129,8 @@ impl Change {
                 first_row,
                 region_size,
                 ..
-            } => *first_row <= height && *region_size <= height - first_row,
-            _ => true,
+            } => first_row.saturating_add(*region_size),
+            _ => 0,
         }
     }
 }

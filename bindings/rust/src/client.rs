@@ -16,11 +16,13 @@ pub struct Ask {
 
 impl Ask {
     /// Its bytes: one ask of `docs/stream.cddl`, 20 at most.
+    #[must_use]
     pub fn as_bytes(&self) -> &[u8] {
         &self.bytes
     }
 
     /// Its bytes.
+    #[must_use]
     pub fn into_bytes(self) -> Vec<u8> {
         self.bytes
     }
@@ -39,22 +41,60 @@ impl From<&[u8]> for Ask {
     }
 }
 
-/// The most that an answer may have, which a client checks before it takes memory.
-#[derive(Clone, Copy, PartialEq, Eq, Hash, Debug)]
-pub struct Limits {
-    /// The screen's width times its height.
-    pub cells: usize,
-    /// The answer's bytes, from 1 on.
-    pub bytes: usize,
+impl AsRef<[u8]> for Ask {
+    fn as_ref(&self) -> &[u8] {
+        self.as_bytes()
+    }
 }
 
-/// 1,048,576 cells and 16,777,216 bytes.
-impl Default for Limits {
-    fn default() -> Limits {
+impl From<Ask> for Vec<u8> {
+    fn from(ask: Ask) -> Vec<u8> {
+        ask.into_bytes()
+    }
+}
+
+/// The most that an answer may have, which a client checks before it takes memory.
+///
+/// ```
+/// use tikeburo::{Client, Error, Limits, Widths};
+///
+/// let limits = Limits::new().cells(500 * 200);
+/// let client = Client::with_limits(Widths::Unicode, limits)?;
+/// # Ok::<(), Error>(())
+/// ```
+#[derive(Clone, Copy, PartialEq, Eq, Hash, Debug)]
+pub struct Limits {
+    cells: usize,
+    bytes: usize,
+}
+
+impl Limits {
+    /// The usual ones: 1,048,576 cells and 16,777,216 bytes.
+    #[must_use]
+    pub fn new() -> Limits {
         Limits {
             cells: 1 << 20,
             bytes: 1 << 24,
         }
+    }
+
+    /// The screen's width times its height.
+    #[must_use]
+    pub fn cells(self, cells: usize) -> Limits {
+        Limits { cells, ..self }
+    }
+
+    /// The answer's bytes, from 1 on.
+    #[must_use]
+    pub fn bytes(self, bytes: usize) -> Limits {
+        Limits { bytes, ..self }
+    }
+}
+
+/// As [`Limits::new`].
+impl Default for Limits {
+    fn default() -> Limits {
+        Limits::new()
     }
 }
 
@@ -82,13 +122,20 @@ pub struct Client {
 
 impl Client {
     /// A client that shows nothing yet, measures texts by Unicode, and has the usual limits.
+    ///
+    /// # Errors
+    ///
+    /// [`Error::Memory`].
     pub fn new() -> Result<Client, Error> {
         Client::with_limits(Widths::default(), Limits::default())
     }
 
     /// A client that shows nothing yet. An answer of a surface that measures in another way is the
     /// fault [`Measure`](crate::FaultKind::Measure), where the answer's texts show it.
-    /// [`Error::Range`]: a limit of no bytes.
+    ///
+    /// # Errors
+    ///
+    /// [`Error::Range`]: a limit of no bytes. [`Error::Memory`].
     pub fn with_limits(widths: Widths, limits: Limits) -> Result<Client, Error> {
         let widths = widths as u8;
         // Safety: the handle is all zero before.
@@ -102,6 +149,8 @@ impl Client {
     /// Takes the next bytes of a stream of answers, in whatever chunks they come. Of an answer that
     /// is whole it shows what the surface showed when it gave it. An answer that is late, comes
     /// twice, or leads on from what another surface showed changes nothing, and is no error.
+    ///
+    /// # Errors
     ///
     /// After an error [`Client::reset`] begins another stream. The answers before the error are
     /// taken. [`Error::Fault`]: the answer that has it has changed nothing. [`Error::Numbers`]: the
@@ -121,6 +170,10 @@ impl Client {
 
     /// What to ask for the next answer: what changed since the last one, or all where there is
     /// none.
+    ///
+    /// # Errors
+    ///
+    /// [`Error::Memory`].
     pub fn ask(&self) -> Result<Ask, Error> {
         let handle = self.screen.handle.get();
         // Safety: the handle is live, and the buffer has the room that is named.
@@ -138,6 +191,7 @@ impl Client {
     }
 
     /// What it shows.
+    #[must_use]
     pub fn screen(&self) -> &Screen {
         &self.screen
     }

@@ -15,11 +15,13 @@ pub struct RgbColor {
 
 impl RgbColor {
     /// The colour of this red, green and blue.
+    #[must_use]
     pub const fn new_8bpc(red: u8, green: u8, blue: u8) -> RgbColor {
         RgbColor { red, green, blue }
     }
 
     /// Red, green and blue.
+    #[must_use]
     pub const fn to_tuple_rgb8(self) -> (u8, u8, u8) {
         (self.red, self.green, self.blue)
     }

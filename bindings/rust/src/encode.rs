@@ -16,7 +16,9 @@ pub(crate) fn changes(changes: &[Change]) -> Vec<u8> {
     out.0
 }
 
-struct Encoder(Vec<u8>);
+/// Appends items to bytes.
+#[derive(Clone, PartialEq, Eq, Default)]
+pub(crate) struct Encoder(pub(crate) Vec<u8>);
 
 impl Encoder {
     fn head(&mut self, major: u8, value: u64) {
@@ -58,11 +60,11 @@ impl Encoder {
         self.number(kind);
     }
 
-    fn change(&mut self, change: &Change) {
+    pub(crate) fn change(&mut self, change: &Change) {
         match change {
             Change::Attribute(change) => self.attribute_change(change),
             Change::AllAttributes(attributes) => self.attributes_change(attributes),
-            Change::Text(text) => self.text_change(2, text),
+            Change::Text(text) => self.print(text),
             Change::ClearScreen(color) => self.color_change(3, color),
             Change::ClearToEndOfLine(color) => self.color_change(4, color),
             Change::ClearToEndOfScreen(color) => self.color_change(5, color),
@@ -90,9 +92,18 @@ impl Encoder {
             } => {
                 self.scroll(11, [*first_row, *region_size, *scroll_count]);
             }
-            Change::Title(title) => self.text_change(12, title),
+            Change::Title(title) => self.title(title),
             Change::LineAttribute(attribute) => self.number_change(13, *attribute as usize),
         }
+    }
+
+    /// A text of characters of one column.
+    pub(crate) fn print(&mut self, text: &str) {
+        self.text_change(2, text);
+    }
+
+    pub(crate) fn title(&mut self, title: &str) {
+        self.text_change(12, title);
     }
 
     fn text_change(&mut self, kind: usize, text: &str) {
@@ -131,7 +142,7 @@ impl Encoder {
         }
     }
 
-    fn attribute_change(&mut self, change: &AttributeChange) {
+    pub(crate) fn attribute_change(&mut self, change: &AttributeChange) {
         self.kind(0, 1);
         match change {
             AttributeChange::Intensity(value) => self.number_change(0, *value as usize),
@@ -143,21 +154,29 @@ impl Encoder {
             AttributeChange::Invisible(value) => self.bool_change(6, *value),
             AttributeChange::Foreground(color) => self.color_change(7, color),
             AttributeChange::Background(color) => self.color_change(8, color),
-            AttributeChange::Hyperlink(link) => {
-                self.kind(9, 1);
-                self.link(link.as_ref());
-            }
+            AttributeChange::Hyperlink(link) => self.link_value(link.as_ref().map(Hyperlink::uri)),
         }
     }
 
-    fn attributes_change(&mut self, attributes: &Attributes) {
+    /// Gives the pen a link to this uri, or none.
+    pub(crate) fn link_change(&mut self, uri: Option<&str>) {
+        self.kind(0, 1);
+        self.link_value(uri);
+    }
+
+    fn link_value(&mut self, uri: Option<&str>) {
+        self.kind(9, 1);
+        self.link(uri);
+    }
+
+    pub(crate) fn attributes_change(&mut self, attributes: &Attributes) {
         self.kind(1, 1);
         self.array(5);
         self.number(style(attributes));
         self.color(&attributes.foreground);
         self.color(&attributes.background);
         self.color(&attributes.underline_color);
-        self.link(attributes.hyperlink.as_ref());
+        self.link(attributes.hyperlink.as_ref().map(Hyperlink::uri));
     }
 
     fn color(&mut self, color: &ColorAttribute) {
@@ -181,12 +200,12 @@ impl Encoder {
     }
 
     /// A link, which is not implicit and has no params.
-    fn link(&mut self, link: Option<&Hyperlink>) {
-        let Some(link) = link else {
+    fn link(&mut self, uri: Option<&str>) {
+        let Some(uri) = uri else {
             return self.null();
         };
         self.array(3);
-        self.text(link.uri());
+        self.text(uri);
         self.bool(false);
         self.array(0);
     }

@@ -5,6 +5,7 @@ use std::fmt;
 
 /// What is wrong with the bytes of an answer, and where.
 #[derive(Clone, Copy, PartialEq, Eq, Hash, Debug)]
+#[non_exhaustive]
 pub struct Fault {
     /// What is wrong.
     pub kind: FaultKind,

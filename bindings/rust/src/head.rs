@@ -5,8 +5,19 @@ pub(crate) const NEGATIVE: u8 = 1;
 pub(crate) const TEXT: u8 = 3;
 pub(crate) const ARRAY: u8 = 4;
 
+/// How many bytes the longest head has.
+pub(crate) const ROOM: usize = 9;
+
 /// Appends the head of an item of this major type.
 pub(crate) fn put(out: &mut Vec<u8>, major: u8, value: u64) {
+    let mut room = [0; ROOM];
+    let begin = put_last(&mut room, major, value);
+    out.extend_from_slice(&room[begin..]);
+}
+
+/// Writes the head of an item of this major type at the end of `ROOM` bytes, and returns where in
+/// them it begins.
+pub(crate) fn put_last(room: &mut [u8], major: u8, value: u64) -> usize {
     let (short, count) = match value {
         0..=23 => (value as u8, 0),
         24..=0xff => (24, 1),
@@ -14,8 +25,10 @@ pub(crate) fn put(out: &mut Vec<u8>, major: u8, value: u64) {
         0x1_0000..=0xffff_ffff => (26, 4),
         _ => (27, 8),
     };
-    out.push(major << 5 | short);
-    out.extend_from_slice(&value.to_be_bytes()[8 - count..]);
+    let begin = ROOM - 1 - count;
+    room[1..].copy_from_slice(&value.to_be_bytes());
+    room[begin] = major << 5 | short;
+    begin
 }
 
 #[cfg(test)]

@@ -18,8 +18,11 @@
 //! # Ok::<(), tikeburo::Error>(())
 //! ```
 //!
-//! The names are those of `termwiz`. What does the work is `libtikeburo_c.a`, which is proved; this
-//! crate calls it, and is tested.
+//! The names are those of `termwiz`. What does the work is a library for C, which is proved; this
+//! crate calls it, and is tested. It looks for the library in the folder that `TIKEBURO_LIB` names,
+//! in its own checkout, and by `pkg-config`.
+//!
+//! [`Changes`] is a list of changes that is made in place: for those who make many.
 //!
 //! # Any number of surfaces
 //!
@@ -35,18 +38,29 @@
 //!
 //! # Threads
 //!
-//! Asks and answers may go to any thread. A [`Surface`], a [`Viewer`] and a [`Client`] stay on
-//! theirs, since surfaces share links with what they were drawn from or follow.
+//! A [`Surface`], a [`Viewer`] and a [`Client`] stay on the thread that made them: they are neither
+//! `Send` nor `Sync`. Cells that have one link share it, also with those of another surface that
+//! this one was drawn on, and of its viewers. How many do is counted by a number that isn't atomic,
+//! which two threads might change at once.
 //!
 //! ```compile_fail,E0277
 //! fn send<T: Send>(_: T) {}
 //! send(tikeburo::Surface::new(80, 24));
 //! ```
+//!
+//! Texts, changes, asks and answers go anywhere. So one thread makes a surface and owns it, and
+//! others send it what they want; this is `examples/owner.rs`:
+//!
+//! ```
+#![doc = include_str!("../examples/owner.rs")]
+//! ```
 #![deny(missing_docs)]
 #![deny(unsafe_op_in_unsafe_fn)]
+#![warn(clippy::missing_errors_doc, clippy::must_use_candidate)]
 
 mod attributes;
 mod change;
+mod changes;
 mod client;
 mod color;
 mod encode;
@@ -60,11 +74,17 @@ mod screen;
 mod surface;
 mod viewer;
 
+/// Tests the programs of the crate's page.
+#[cfg(doctest)]
+#[doc = include_str!("../README.md")]
+struct Readme;
+
 pub use attributes::{
     AttributeChange, Attributes, Blink, Hyperlink, Intensity, SemanticType, Underline,
     VerticalAlign,
 };
 pub use change::{Change, CursorShape, CursorVisibility, LineAttribute, Position, SequenceNo};
+pub use changes::Changes;
 pub use client::{Ask, Client, Limits};
 pub use color::{ColorAttribute, PaletteIndex, RgbColor};
 pub use error::Error;

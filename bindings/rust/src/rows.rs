@@ -10,6 +10,7 @@ use std::ops::Range;
 
 /// The rows of a screen, from the top.
 #[derive(Clone, Debug)]
+#[must_use = "iterators are lazy and do nothing unless consumed"]
 pub struct Rows<'a> {
     screen: &'a Screen,
     rows: Range<usize>,
@@ -59,11 +60,16 @@ impl<'a> Row<'a> {
     }
 
     /// Its number, from 0 at the top.
+    #[must_use]
     pub fn number(&self) -> usize {
         self.number
     }
 
     /// The texts of its cells. Blanks at its end may be left out.
+    ///
+    /// # Errors
+    ///
+    /// [`Error::Range`]: the screen has no such row. [`Error::Memory`].
     pub fn text(&self) -> Result<String, Error> {
         let handle = self.screen.handle.get();
         // Safety: the handle is live, and the buffer has the room that is named.
@@ -83,6 +89,10 @@ impl<'a> Row<'a> {
     }
 
     /// The cell at this column. At the second column of a wide cell it is a blank.
+    ///
+    /// # Errors
+    ///
+    /// [`Error::Range`]: the screen has no such row or column. [`Error::Memory`].
     pub fn cell(&self, column: usize) -> Result<Cell, Error> {
         let handle = self.screen.handle.get();
         let mut read = tk_cell::default();
@@ -113,8 +123,29 @@ impl<'a> Row<'a> {
     }
 }
 
+/// The visible cells, from the left.
+impl<'a> IntoIterator for Row<'a> {
+    type Item = Result<Cell, Error>;
+    type IntoIter = Cells<'a>;
+
+    fn into_iter(self) -> Cells<'a> {
+        self.cells()
+    }
+}
+
+/// The visible cells, from the left.
+impl<'a> IntoIterator for &Row<'a> {
+    type Item = Result<Cell, Error>;
+    type IntoIter = Cells<'a>;
+
+    fn into_iter(self) -> Cells<'a> {
+        self.cells()
+    }
+}
+
 /// The visible cells of a row, from the left.
 #[derive(Clone, Debug)]
+#[must_use = "iterators are lazy and do nothing unless consumed"]
 pub struct Cells<'a> {
     row: Row<'a>,
     columns: Range<usize>,
@@ -146,16 +177,19 @@ pub struct Cell {
 
 impl Cell {
     /// Its text.
+    #[must_use]
     pub fn str(&self) -> &str {
         &self.text
     }
 
     /// How many columns it takes, 1 or 2.
+    #[must_use]
     pub fn width(&self) -> usize {
         self.width
     }
 
     /// Its attributes.
+    #[must_use]
     pub fn attrs(&self) -> &Attributes {
         &self.attributes
     }

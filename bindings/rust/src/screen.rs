@@ -28,16 +28,19 @@ pub struct Screen {
 
 impl Screen {
     /// The width in columns and the height in rows.
+    #[must_use]
     pub fn dimensions(&self) -> (usize, usize) {
         self.handle.numbers(ffi::tk_size).unwrap_or_default()
     }
 
     /// The cursor's column and row. The column is the width where a wrap is pending.
+    #[must_use]
     pub fn cursor_position(&self) -> (usize, usize) {
         self.handle.numbers(ffi::tk_cursor).unwrap_or_default()
     }
 
     /// Whether the cursor is shown.
+    #[must_use]
     pub fn cursor_visibility(&self) -> CursorVisibility {
         let mut is_visible = true;
         // Safety: the handle is live, and then the call doesn't fail.
@@ -50,6 +53,10 @@ impl Screen {
     }
 
     /// The title, which is empty at first.
+    ///
+    /// # Errors
+    ///
+    /// [`Error::Memory`].
     pub fn title(&self) -> Result<String, Error> {
         let handle = self.handle.get();
         // Safety: the handle is live, and the buffer has the room that is named.
@@ -57,6 +64,10 @@ impl Screen {
     }
 
     /// The texts of all rows, with a line feed after each. Blanks at a row's end may be left out.
+    ///
+    /// # Errors
+    ///
+    /// [`Error::Memory`].
     pub fn screen_chars_to_string(&self) -> Result<String, Error> {
         let handle = self.handle.get();
         // Safety: the handle is live, and the buffer has the room that is named.
@@ -80,8 +91,19 @@ impl Screen {
     }
 
     /// A row by its number from 0. Its calls fail with [`Error::Range`] where there is none.
+    #[must_use]
     pub fn row(&self, number: usize) -> Row<'_> {
         Row::new(self, number)
+    }
+}
+
+/// The rows, from the top.
+impl<'a> IntoIterator for &'a Screen {
+    type Item = Row<'a>;
+    type IntoIter = Rows<'a>;
+
+    fn into_iter(self) -> Rows<'a> {
+        self.rows()
     }
 }
 

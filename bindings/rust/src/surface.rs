@@ -1,11 +1,13 @@
 //! Surfaces.
 
 use crate::change::{Change, SequenceNo};
+use crate::changes::{Changes, Run};
 use crate::client::Ask;
 use crate::encode;
 use crate::error::Error;
 use crate::ffi;
 use crate::handle::{self, Handle};
+use crate::rows::{Row, Rows};
 use crate::screen::Screen;
 use std::collections::hash_map::RandomState;
 use std::fmt;
@@ -23,10 +25,33 @@ pub enum Widths {
 }
 
 /// What a surface is made with.
+///
+/// ```
+/// use tikeburo::{Error, Options, Surface, Widths};
+///
+/// let options = Options::new().widths(Widths::OneColumn);
+/// let mut surface = Surface::with_options(8, 1, options)?;
+/// surface.add_change("か")?;
+/// assert_eq!(surface.cursor_position(), (1, 0));
+/// # Ok::<(), Error>(())
+/// ```
 #[derive(Clone, Copy, PartialEq, Eq, Hash, Debug, Default)]
 pub struct Options {
-    /// How it measures texts.
-    pub widths: Widths,
+    widths: Widths,
+}
+
+impl Options {
+    /// The usual ones: texts are measured by Unicode.
+    #[must_use]
+    pub fn new() -> Options {
+        Options::default()
+    }
+
+    /// How the surface measures texts.
+    #[must_use]
+    pub fn widths(self, widths: Widths) -> Options {
+        Options { widths }
+    }
 }
 
 /// What a terminal's screen shows, with no terminal behind it: a [`Screen`], the pen, which is the
@@ -49,12 +74,20 @@ pub struct Surface {
 
 impl Surface {
     /// A blank surface of this width in columns and height in rows, each from 1 to 2^32 - 1, that
-    /// measures texts by Unicode. [`Error::Range`]: the size.
+    /// measures texts by Unicode.
+    ///
+    /// # Errors
+    ///
+    /// [`Error::Range`]: the size. [`Error::Memory`].
     pub fn new(width: usize, height: usize) -> Result<Surface, Error> {
         Surface::with_options(width, height, Options::default())
     }
 
     /// A blank surface of this size.
+    ///
+    /// # Errors
+    ///
+    /// Those of [`Surface::new`].
     pub fn with_options(width: usize, height: usize, options: Options) -> Result<Surface, Error> {
         let widths = options.widths as u8;
         let source = source_number();
@@ -68,18 +101,26 @@ impl Surface {
 
     /// Makes a change, and returns its number.
     ///
+    /// # Errors
+    ///
     /// [`Error::ScrollRegion`] and [`Error::Numbers`]: nothing has changed. [`Error::Memory`]: the
     /// surface may show anything in its size.
     pub fn add_change(&mut self, change: impl Into<Change>) -> Result<SequenceNo, Error> {
         let number = self.current_seqno();
-        self.add(&[change.into()])?;
+        self.make(&[change.into()])?;
         Ok(number)
     }
 
     /// Makes changes in order, and returns the number of the last, as termwiz counts it: the number
-    /// before, less one unless it is 0, plus how many they are. A list with a scroll whose region
-    /// goes past the last row is refused as a whole; after another error the first of them may have
-    /// been made.
+    /// before, less one unless it is 0, plus how many they are.
+    ///
+    /// # Errors
+    ///
+    /// [`Error::ScrollRegion`]: the region of a scroll goes past the last row, and nothing has
+    /// changed. [`Error::Numbers`] and [`Error::Memory`], as of [`Surface::add_change`]: the first
+    /// changes may have been made too.
+    ///
+    /// # Examples
     ///
     /// ```
     /// use tikeburo::{Change, Error, Surface};
@@ -93,22 +134,55 @@ impl Surface {
     /// ```
     pub fn add_changes(&mut self, changes: &[Change]) -> Result<SequenceNo, Error> {
         let (_, height) = self.dimensions();
-        if !changes.iter().all(|change| change.fits(height)) {
+        if changes.iter().any(|change| change.rows() > height) {
             return Err(Error::ScrollRegion);
         }
         let number = self.current_seqno();
-        self.add(changes)?;
+        self.make(changes)?;
+        Ok(number.saturating_sub(1) + changes.len())
+    }
+
+    /// Makes the changes of a list, as [`Surface::add_changes`] makes those of a slice.
+    ///
+    /// # Errors
+    ///
+    /// Those of [`Surface::add_changes`].
+    ///
+    /// # Examples
+    ///
+    /// ```
+    /// use tikeburo::{Changes, Error, Surface};
+    ///
+    /// let mut surface = Surface::new(12, 2)?;
+    /// let mut changes = Changes::new();
+    /// changes.title("notes").move_to(2, 1).text("hello か");
+    /// assert_eq!(surface.add(&changes)?, 3);
+    /// assert_eq!(surface.row(1).text()?.trim_end(), "  hello か");
+    /// # Ok::<(), Error>(())
+    /// ```
+    pub fn add(&mut self, changes: &Changes) -> Result<SequenceNo, Error> {
+        let (_, height) = self.dimensions();
+        if changes.rows() > height {
+            return Err(Error::ScrollRegion);
+        }
+        let number = self.current_seqno();
+        for run in changes.runs() {
+            match run {
+                Run::Text(text) => self.print(text)?,
+                Run::List(bytes) => self.add_bytes(bytes)?,
+            }
+        }
         Ok(number.saturating_sub(1) + changes.len())
     }
 
     /// Prints the texts, and adds the changes between them as bytes: bytes of a text say how it is
     /// cut and measured, which this crate has no tables for.
-    fn add(&mut self, changes: &[Change]) -> Result<(), Error> {
+    fn make(&mut self, changes: &[Change]) -> Result<(), Error> {
         for part in changes.split_inclusive(|change| matches!(change, Change::Text(_))) {
             match part {
                 [others @ .., Change::Text(text)] => {
                     self.add_encoded(others)?;
-                    self.print(text)?;
+                    self.print(text.as_bytes())?;
                 }
                 others => self.add_encoded(others)?,
             }
@@ -120,18 +194,25 @@ impl Surface {
         if changes.is_empty() {
             return Ok(());
         }
-        let bytes = encode::changes(changes);
+        self.add_bytes(&encode::changes(changes))
+    }
+
+    fn add_bytes(&mut self, bytes: &[u8]) -> Result<(), Error> {
         // Safety: the handle is live, and the bytes are only read.
         Error::check(unsafe { ffi::tk_add_changes(self.handle.get(), bytes.as_ptr(), bytes.len()) })
     }
 
-    fn print(&mut self, text: &str) -> Result<(), Error> {
+    fn print(&mut self, text: &[u8]) -> Result<(), Error> {
         // Safety: the handle is live, and the text is only read.
         Error::check(unsafe { ffi::tk_print(self.handle.get(), text.as_ptr(), text.len()) })
     }
 
     /// Draws what another surface shows, a viewer or a client, from column `x` and row `y` on. What
     /// doesn't fit is left out. Cursor and pen are as before.
+    ///
+    /// # Errors
+    ///
+    /// [`Error::Numbers`] and [`Error::Memory`], as of [`Surface::add_change`].
     pub fn draw_from_screen(&mut self, other: &Screen, x: usize, y: usize) -> Result<(), Error> {
         // Safety: both handles are live, and they are two, since one is borrowed alone.
         Error::check(unsafe { ffi::tk_draw(self.handle.get(), other.handle.get(), x, y) })
@@ -139,6 +220,10 @@ impl Surface {
 
     /// Copies what the region of this column, row, width and height shows to the region of this
     /// size at another column and row. Both are cut to what fits.
+    ///
+    /// # Errors
+    ///
+    /// [`Error::Numbers`] and [`Error::Memory`], as of [`Surface::add_change`].
     pub fn copy_region(
         &mut self,
         src_x: usize,
@@ -155,12 +240,17 @@ impl Surface {
 
     /// Takes another size, as [`Surface::new`] has it: rows are cut or filled with blanks, and the
     /// cursor stays inside.
+    ///
+    /// # Errors
+    ///
+    /// [`Error::Range`]: the size. [`Error::Numbers`]. [`Error::Memory`].
     pub fn resize(&mut self, width: usize, height: usize) -> Result<(), Error> {
         // Safety: the handle is live.
         Error::check(unsafe { ffi::tk_resize(self.handle.get(), width, height) })
     }
 
     /// The number of the coming change.
+    #[must_use]
     pub fn current_seqno(&self) -> SequenceNo {
         self.handle.number(ffi::tk_number).unwrap_or_default()
     }
@@ -168,6 +258,8 @@ impl Surface {
     /// The answer to what a client asks, as bytes for [`Client::feed`](crate::Client::feed): the
     /// whole screen, or the changes since the one that the client shows, where it shows this
     /// surface's.
+    ///
+    /// # Errors
     ///
     /// [`Error::Truncated`]: the bytes end before the ask does. [`Error::Unreadable`]: they are
     /// wrong at a byte, or more follow the ask.
@@ -198,6 +290,16 @@ impl Deref for Surface {
 
     fn deref(&self) -> &Screen {
         &self.screen
+    }
+}
+
+/// The rows, from the top.
+impl<'a> IntoIterator for &'a Surface {
+    type Item = Row<'a>;
+    type IntoIter = Rows<'a>;
+
+    fn into_iter(self) -> Rows<'a> {
+        self.rows()
     }
 }
 

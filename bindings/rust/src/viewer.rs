@@ -25,6 +25,10 @@ pub struct Viewer {
 
 impl Viewer {
     /// A viewer for a surface, which shows nothing yet.
+    ///
+    /// # Errors
+    ///
+    /// [`Error::Memory`].
     pub fn new(source: &Screen) -> Result<Viewer, Error> {
         // Safety: the first handle is all zero before, the second is live, and they are two.
         let handle =
@@ -35,13 +39,19 @@ impl Viewer {
 
     /// Shows what the source shows: its size too. It makes the changes since it followed last,
     /// where that was the same surface and those are known, and else all anew; of a viewer or a
-    /// client always all. After an error it may show anything, and the next call follows as ever.
+    /// client always all.
+    ///
+    /// # Errors
+    ///
+    /// [`Error::Memory`] and [`Error::Numbers`]: it may show anything, and the next call follows as
+    /// ever.
     pub fn follow(&mut self, source: &Screen) -> Result<(), Error> {
         // Safety: both handles are live, and they are two, since one is borrowed alone.
         Error::check(unsafe { ffi::tk_follow(self.screen.handle.get(), source.handle.get()) })
     }
 
     /// What it shows.
+    #[must_use]
     pub fn screen(&self) -> &Screen {
         &self.screen
     }

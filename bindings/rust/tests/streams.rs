@@ -1,7 +1,7 @@
 //! Clients show what surfaces showed, by way of bytes, and viewers without.
 
 use std::thread;
-use tikeburo::{Ask, Cell, Change, Client, Error, Fault, FaultKind, Limits, Options};
+use tikeburo::{Ask, Cell, Change, Client, Error, FaultKind, Limits, Options};
 use tikeburo::{Screen, Surface, Viewer, Widths};
 
 /// All that is seen of a screen.
@@ -33,8 +33,12 @@ fn answer(surface: &mut Surface, client: &Client) -> Vec<u8> {
     surface.respond(&client.ask().unwrap()).unwrap()
 }
 
-fn fault(kind: FaultKind, at: usize, change: Option<usize>) -> Result<(), Error> {
-    Err(Error::Fault(Fault { kind, at, change }))
+/// The fault of bytes that a client is fed: its kind, its place and its change.
+fn fault(outcome: Result<(), Error>) -> (FaultKind, usize, Option<usize>) {
+    match outcome {
+        Err(Error::Fault(fault)) => (fault.kind, fault.at, fault.change),
+        other => panic!("{other:?}"),
+    }
 }
 
 #[test]
@@ -102,13 +106,16 @@ fn faults_have_their_places() {
     let repaint = answer(&mut surface, &client);
     let mut wrong = repaint.clone();
     wrong[1] = 1;
-    assert_eq!(client.feed(&wrong), fault(FaultKind::Version, 1, None));
+    let found = fault(client.feed(&wrong));
+    assert_eq!(found, (FaultKind::Version, 1, None));
     client.reset();
     assert_eq!(client.feed(&repaint), Ok(()));
-    assert_eq!(client.feed(&[0x80]), fault(FaultKind::Type, 0, None));
+    let found = fault(client.feed(&[0x80]));
+    assert_eq!(found, (FaultKind::Type, 0, None));
     client.reset();
     let change = [0x87, 2, 1, 1, 1, 0, 0, 0x82, 0x82, 9, 0xf5, 0x82, 9, 0];
-    assert_eq!(client.feed(&change), fault(FaultKind::Type, 13, Some(1)));
+    let found = fault(client.feed(&change));
+    assert_eq!(found, (FaultKind::Type, 13, Some(1)));
     assert_eq!(seen(client.screen()), seen(&surface));
     let shown = client.feed(&change).unwrap_err().to_string();
     assert!(shown.ends_with("type at 13 in change 1"), "{shown}");
@@ -133,7 +140,7 @@ fn limits_are_kept() {
         (35, repaint.len(), false),
         (36, repaint.len() - 1, false),
     ] {
-        let limits = Limits { cells, bytes };
+        let limits = Limits::new().cells(cells).bytes(bytes);
         client = Client::with_limits(Widths::Unicode, limits).unwrap();
         match client.feed(&repaint) {
             Ok(()) => assert!(is_taken),
@@ -141,10 +148,7 @@ fn limits_are_kept() {
             Err(error) => panic!("{error}"),
         }
     }
-    let limits = Limits {
-        cells: 36,
-        bytes: 0,
-    };
+    let limits = Limits::new().bytes(0);
     let refused = Client::with_limits(Widths::Unicode, limits);
     assert_eq!(refused.unwrap_err(), Error::Range);
 }
@@ -153,13 +157,9 @@ fn limits_are_kept() {
 fn clients_that_measure_otherwise_find_it() {
     let (mut surface, _) = pair();
     let mut client = Client::with_limits(Widths::OneColumn, Limits::default()).unwrap();
-    match client.feed(&answer(&mut surface, &client)) {
-        Err(Error::Fault(fault)) => assert_eq!(fault.kind, FaultKind::Measure),
-        other => panic!("{other:?}"),
-    }
-    let options = Options {
-        widths: Widths::OneColumn,
-    };
+    let (kind, _, _) = fault(client.feed(&answer(&mut surface, &client)));
+    assert_eq!(kind, FaultKind::Measure);
+    let options = Options::new().widths(Widths::OneColumn);
     surface = Surface::with_options(12, 3, options).unwrap();
     surface.add_change("hello か").unwrap();
     client.reset();

@@ -52,9 +52,7 @@ fn sizes_are_from_1_to_2_to_the_32_less_1() {
 fn widths_are_those_that_are_chosen() {
     let surface = printed(8, 1, "か");
     assert_eq!(surface.cursor_position(), (2, 0));
-    let options = Options {
-        widths: Widths::OneColumn,
-    };
+    let options = Options::new().widths(Widths::OneColumn);
     let mut narrow = Surface::with_options(8, 1, options).unwrap();
     narrow.add_change("か").unwrap();
     assert_eq!(narrow.cursor_position(), (1, 0));

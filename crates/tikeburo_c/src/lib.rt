@@ -17,7 +17,6 @@ mod handle;
 mod kept;
 mod looks;
 mod loose;
-mod numbers;
 mod pens;
 mod reading;
 mod surfaces;

@@ -174,9 +174,9 @@ def c_fields(found, was):
 def numbers():
     """The numbers of enums, by the names of the header."""
     found = {"DONE": 0}
-    for module in crate("tikeburo_c").modules.values():
+    for module in (*crate("termwiz_cell").modules.values(), *crate("tikeburo_c").modules.values()):
         text = module.path.read_text()
-        arms = re.findall(r"(\d+) => Some\((\w+)::(\w+)", text) + [
+        arms = re.findall(r"(\d+) => (?:Some|Ok)\((\w+)::(\w+)", text) + [
             (number, "Failure", name)
             for name, number in re.findall(r"Err\(Failure::(\w+)\) => (\d+),", text)]
         for number, enum, variant in arms:

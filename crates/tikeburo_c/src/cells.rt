@@ -9,6 +9,7 @@ ghost use Rattle.tikeburo_c.specs.Outcomes.{Reports};
 ghost use Rattle.tikeburo_c.specs.Results.{Gives, OrNoMemory, Reads};
 ghost use Rattle.tikeburo_c.specs.declared.failure.Failure.TheVariants.{Memory, Range};
 
+use crate::access::fill;
 use crate::buffers::give;
 use crate::failure::{Failure, status};
 use crate::fields::{CellFields, cell_fields};
@@ -62,14 +63,9 @@ pub extern "C" fn tk_row_text(
         (kept_of handle.old) (room.old, len.old) outcome (room.new, len.new)) }
     ensures same { kept_of handle.new ≡ kept_of handle.old }
 {
-    let outcome = match handle.take(alloc) {
-        Some(kept) => {
-            let outcome = give_row(kept.shown(), row, room, len);
-            handle.put(alloc, kept);
-            outcome
-        }
-        None => Err(Failure::NoHandle),
-    };
+    let outcome = fill(alloc, handle, room, len, |surface, room, len| {
+        give_row(surface, row, room, len)
+    });
     status(outcome)
 }
 
@@ -195,13 +191,8 @@ pub extern "C" fn tk_link_at(
         (kept_of handle.old) (room.old, len.old) outcome (room.new, len.new)) }
     ensures same { kept_of handle.new ≡ kept_of handle.old }
 {
-    let outcome = match handle.take(alloc) {
-        Some(kept) => {
-            let outcome = read_link(kept.shown(), column, row, room, len);
-            handle.put(alloc, kept);
-            outcome
-        }
-        None => Err(Failure::NoHandle),
-    };
+    let outcome = fill(alloc, handle, room, len, |surface, room, len| {
+        read_link(surface, column, row, room, len)
+    });
     status(outcome)
 }

@@ -7,9 +7,9 @@ ghost use Rattle.tikeburo_c.specs.Handles.{kept_of};
 ghost use Rattle.tikeburo_c.specs.Results.{OnSurface};
 ghost use Rattle.tikeburo_c.specs.Widths.{columns_by};
 
+use crate::access::on_surface;
 use crate::failure::{Failure, status};
 use crate::handle::Handle;
-use crate::kept::Kept;
 use crate::widths::ChosenWidths;
 use std::alloc::Global;
 use termwiz_share::Source;
@@ -21,15 +21,7 @@ pub(crate) fn add(alloc: Global, handle: &mut Handle, change: Change) -> Result<
     ensures { OnSurface (AddsOne (change_value change))
         (kept_of handle.old) result (kept_of handle.new) }
 {
-    let Some(mut kept) = handle.take(alloc) else {
-        return Err(Failure::NoHandle);
-    };
-    let outcome = match &mut *kept {
-        Kept::Surface(surface) => add_to(surface, change),
-        Kept::Viewer(_) | Kept::Client(_) => Err(Failure::WrongKind),
-    };
-    handle.put(alloc, kept);
-    outcome
+    on_surface(alloc, handle, |surface| add_to(surface, change))
 }
 
 fn add_to(surface: &mut Source<ChosenWidths>, change: Change) -> Result<(), Failure>
@@ -70,16 +62,6 @@ pub extern "C" fn tk_add_changes(alloc: Global, handle: &mut Handle, bytes: &[u8
     ensures { Reports result (λ outcome. OnSurface (AddsBytes bytes.now)
         (kept_of handle.old) outcome (kept_of handle.new)) }
 {
-    let outcome = match handle.take(alloc) {
-        Some(mut kept) => {
-            let outcome = match &mut *kept {
-                Kept::Surface(surface) => add_bytes(alloc, surface, bytes),
-                Kept::Viewer(_) | Kept::Client(_) => Err(Failure::WrongKind),
-            };
-            handle.put(alloc, kept);
-            outcome
-        }
-        None => Err(Failure::NoHandle),
-    };
+    let outcome = on_surface(alloc, handle, |surface| add_bytes(alloc, surface, bytes));
     status(outcome)
 }

@@ -5,9 +5,9 @@ ghost use Rattle.tikeburo_c.specs.Handles.{kept_of};
 ghost use Rattle.tikeburo_c.specs.Outcomes.{Reports};
 ghost use Rattle.tikeburo_c.specs.Results.{OnSurface};
 
+use crate::access::on_surface;
 use crate::failure::{Failure, status};
 use crate::handle::Handle;
-use crate::kept::Kept;
 use crate::widths::ChosenWidths;
 use std::alloc::Global;
 use termwiz_share::Source;
@@ -25,27 +25,6 @@ fn draw_on(
     Ok(())
 }
 
-fn draw(
-    alloc: Global,
-    handle: &mut Handle,
-    source: &Surface<ChosenWidths>,
-    column: usize,
-    row: usize,
-) -> Result<(), Failure>
-    ensures { OnSurface (Draws source.now column row)
-        (kept_of handle.old) result (kept_of handle.new) }
-{
-    let Some(mut kept) = handle.take(alloc) else {
-        return Err(Failure::NoHandle);
-    };
-    let outcome = match &mut *kept {
-        Kept::Surface(surface) => draw_on(surface, source, column, row),
-        Kept::Viewer(_) | Kept::Client(_) => Err(Failure::WrongKind),
-    };
-    handle.put(alloc, kept);
-    outcome
-}
-
 /// Draws what the source shows from this column and row on.
 #[unsafe(no_mangle)]
 pub extern "C" fn tk_draw(
@@ -61,7 +40,10 @@ pub extern "C" fn tk_draw(
 {
     let outcome = match source.take(alloc) {
         Some(kept) => {
-            let outcome = draw(alloc, handle, kept.shown(), column, row);
+            let shown = kept.shown();
+            let outcome = on_surface(alloc, handle, |surface| {
+                draw_on(surface, shown, column, row)
+            });
             source.put(alloc, kept);
             outcome
         }
@@ -101,18 +83,8 @@ pub extern "C" fn tk_copy(
         OnSurface (Copies column row width height to_column to_row)
         (kept_of handle.old) outcome (kept_of handle.new)) }
 {
-    let outcome = match handle.take(alloc) {
-        Some(mut kept) => {
-            let outcome = match &mut *kept {
-                Kept::Surface(surface) => {
-                    copy_within(surface, column, row, width, height, to_column, to_row)
-                }
-                Kept::Viewer(_) | Kept::Client(_) => Err(Failure::WrongKind),
-            };
-            handle.put(alloc, kept);
-            outcome
-        }
-        None => Err(Failure::NoHandle),
-    };
+    let outcome = on_surface(alloc, handle, |surface| {
+        copy_within(surface, column, row, width, height, to_column, to_row)
+    });
     status(outcome)
 }

@@ -2,11 +2,12 @@
 ghost use Rattle.std.specs.Prelude.{◌≡◌};
 ghost use Rattle.tikeburo_c.specs.Outcomes.{changing_failure, decoding_failure, status_of};
 ghost use Rattle.tikeburo_c.specs.Outcomes.{unread_by};
-ghost use Rattle.tikeburo_c.specs.declared.failure.Failure.TheVariants.{Memory};
+ghost use Rattle.tikeburo_c.specs.declared.failure.Failure.TheVariants.{Memory, Range};
 
 use cbor::FaultKind;
 use std::alloc::{AllocError, AllocFailed};
 use termwiz_surface::SurfaceError;
+use termwiz_surface::cell::UnknownNumber;
 use termwiz_wire::WireError;
 
 /// Why a call failed.
@@ -86,5 +87,13 @@ impl<T: Drop> From<AllocFailed<T>> for Failure {
 
     fn from(_refused: AllocFailed<T>) -> Failure {
         Failure::Memory
+    }
+}
+
+impl From<UnknownNumber> for Failure {
+    ghost from_gives = { λ _ failure. failure ≡ Range };
+
+    fn from(_unknown: UnknownNumber) -> Failure {
+        Failure::Range
     }
 }

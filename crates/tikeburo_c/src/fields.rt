@@ -6,11 +6,8 @@ ghost use Rattle.tikeburo_c.specs.declared.failure.Failure.TheVariants.{Memory, 
 ghost use Rattle.tikeburo_c.specs.Fields as specs_of;
 
 use crate::failure::Failure;
-use crate::numbers::{
-    align_in, align_number, blink_in, blink_number, intensity_in, intensity_number, semantic_in,
-    semantic_number, underline_in, underline_number,
-};
 use std::alloc::Global;
+use termwiz_surface::cell::{Blink, Intensity, SemanticType, Underline, VerticalAlign};
 use termwiz_surface::{Cell, CellAttributes, ColorAttribute, RgbColor};
 
 /// A colour. What its kind doesn't name is 0 where a call writes it, and isn't read.
@@ -105,11 +102,11 @@ fn attribute_fields(attrs: &CellAttributes) -> AttributeFields
     ensures { result ≡ specs_of.attribute_fields attrs.now }
 {
     AttributeFields {
-        intensity: intensity_number(attrs.intensity()),
-        underline: underline_number(attrs.underline()),
-        blink: blink_number(attrs.blink()),
-        semantic_type: semantic_number(attrs.semantic_type()),
-        vertical_align: align_number(attrs.vertical_align()),
+        intensity: attrs.intensity().number(),
+        underline: attrs.underline().number(),
+        blink: attrs.blink().number(),
+        semantic_type: attrs.semantic_type().number(),
+        vertical_align: attrs.vertical_align().number(),
         italic: attrs.italic(),
         reverse: attrs.reverse(),
         strikethrough: attrs.strikethrough(),
@@ -149,11 +146,11 @@ fn styled(fields: &AttributeFields) -> Result<CellAttributes, Failure>
     ensures missing { IfErr result (λ failure. (failure ≡ Range)
         × ((a : Attributes) → HasFields fields.now a → ⊥)) }
 {
-    let intensity = in_range(intensity_in(fields.intensity))?;
-    let underline = in_range(underline_in(fields.underline))?;
-    let blink = in_range(blink_in(fields.blink))?;
-    let semantic_type = in_range(semantic_in(fields.semantic_type))?;
-    let vertical_align = in_range(align_in(fields.vertical_align))?;
+    let intensity = Intensity::try_from(fields.intensity)?;
+    let underline = Underline::try_from(fields.underline)?;
+    let blink = Blink::try_from(fields.blink)?;
+    let semantic_type = SemanticType::try_from(fields.semantic_type)?;
+    let vertical_align = VerticalAlign::try_from(fields.vertical_align)?;
     let mut attrs = CellAttributes::blank();
     attrs.set_intensity(intensity);
     attrs.set_underline(underline);

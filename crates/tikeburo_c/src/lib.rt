@@ -1,6 +1,7 @@
 //! A static library with which C keeps surfaces, viewers and clients, by handles.
 #![tactic(auto)]
 
+mod access;
 mod answers;
 mod buffers;
 mod carried;
@@ -17,7 +18,6 @@ mod handle;
 mod kept;
 mod looks;
 mod loose;
-mod numbers;
 mod pens;
 mod reading;
 mod surfaces;

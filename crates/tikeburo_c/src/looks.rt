@@ -11,9 +11,9 @@ use crate::changes::add;
 use crate::failure::{Failure, status};
 use crate::fields::{ColorFields, color_in};
 use crate::handle::Handle;
-use crate::numbers::{line_in, shape_in};
 use std::alloc::Global;
-use termwiz_surface::{Change, CursorVisibility};
+use termwiz_surface::change::LineAttribute;
+use termwiz_surface::{Change, CursorShape, CursorVisibility};
 
 /// Shows the cursor, or hides it.
 #[unsafe(no_mangle)]
@@ -35,9 +35,9 @@ pub extern "C" fn tk_set_cursor_shape(alloc: Global, handle: &mut Handle, shape:
     ensures { MakesIfSome (option_map changes.CursorShape (numbers.shape_in shape))
         handle.old result handle.new }
 {
-    match shape_in(shape) {
-        Some(shape) => status(add(alloc, handle, Change::CursorShape(shape))),
-        None => status(Err(Failure::Range)),
+    match CursorShape::try_from(shape) {
+        Ok(shape) => status(add(alloc, handle, Change::CursorShape(shape))),
+        Err(_) => status(Err(Failure::Range)),
     }
 }
 
@@ -63,8 +63,8 @@ pub extern "C" fn tk_set_line_attribute(alloc: Global, handle: &mut Handle, attr
     ensures { MakesIfSome (option_map changes.LineAttribute (numbers.line_in attribute))
         handle.old result handle.new }
 {
-    match line_in(attribute) {
-        Some(line) => status(add(alloc, handle, Change::LineAttribute(line))),
-        None => status(Err(Failure::Range)),
+    match LineAttribute::try_from(attribute) {
+        Ok(attribute) => status(add(alloc, handle, Change::LineAttribute(attribute))),
+        Err(_) => status(Err(Failure::Range)),
     }
 }

@@ -18,8 +18,8 @@ use crate::changes::add;
 use crate::failure::{Failure, status};
 use crate::fields::{AttributeFields, ColorFields, attributes_in, color_in};
 use crate::handle::Handle;
-use crate::numbers::{blink_in, intensity_in, underline_in};
 use std::alloc::Global;
+use termwiz_surface::cell::{Blink, Intensity, Underline};
 use termwiz_surface::{AttributeChange, Change};
 
 fn set_pen(alloc: Global, handle: &mut Handle, attributes: &AttributeFields) -> Result<(), Failure>
@@ -64,9 +64,9 @@ pub extern "C" fn tk_set_intensity(alloc: Global, handle: &mut Handle, intensity
     ensures { MakesIfSome (option_map (λ value. changes.Attribute (values.Intensity value))
         (numbers.intensity_in intensity)) handle.old result handle.new }
 {
-    match intensity_in(intensity) {
-        Some(value) => set(alloc, handle, AttributeChange::Intensity(value)),
-        None => status(Err(Failure::Range)),
+    match Intensity::try_from(intensity) {
+        Ok(value) => set(alloc, handle, AttributeChange::Intensity(value)),
+        Err(_) => status(Err(Failure::Range)),
     }
 }
 
@@ -76,9 +76,9 @@ pub extern "C" fn tk_set_underline(alloc: Global, handle: &mut Handle, underline
     ensures { MakesIfSome (option_map (λ value. changes.Attribute (values.Underline value))
         (numbers.underline_in underline)) handle.old result handle.new }
 {
-    match underline_in(underline) {
-        Some(value) => set(alloc, handle, AttributeChange::Underline(value)),
-        None => status(Err(Failure::Range)),
+    match Underline::try_from(underline) {
+        Ok(value) => set(alloc, handle, AttributeChange::Underline(value)),
+        Err(_) => status(Err(Failure::Range)),
     }
 }
 
@@ -88,9 +88,9 @@ pub extern "C" fn tk_set_blink(alloc: Global, handle: &mut Handle, blink: u8) ->
     ensures { MakesIfSome (option_map (λ value. changes.Attribute (values.Blink value))
         (numbers.blink_in blink)) handle.old result handle.new }
 {
-    match blink_in(blink) {
-        Some(value) => set(alloc, handle, AttributeChange::Blink(value)),
-        None => status(Err(Failure::Range)),
+    match Blink::try_from(blink) {
+        Ok(value) => set(alloc, handle, AttributeChange::Blink(value)),
+        Err(_) => status(Err(Failure::Range)),
     }
 }
 

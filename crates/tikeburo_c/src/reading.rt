@@ -6,6 +6,7 @@ ghost use Rattle.tikeburo_c.specs.Outcomes.{Reports};
 ghost use Rattle.tikeburo_c.specs.Reading.{ReadsValue, is_visible, text_of};
 ghost use Rattle.tikeburo_c.specs.Results.{Gives, OrNoMemory, Reads};
 
+use crate::access::{fill, read};
 use crate::buffers::give;
 use crate::failure::{Failure, status};
 use crate::handle::Handle;
@@ -25,14 +26,9 @@ pub extern "C" fn tk_size(
         handle.old (width.old, height.old) result (width.new, height.new) }
     ensures same { kept_of handle.new ≡ kept_of handle.old }
 {
-    let outcome = match handle.take(alloc) {
-        Some(kept) => {
-            (*width, *height) = kept.shown().dimensions();
-            handle.put(alloc, kept);
-            Ok(())
-        }
-        None => Err(Failure::NoHandle),
-    };
+    let mut size = (*width, *height);
+    let outcome = read(alloc, handle, &mut size, |surface| surface.dimensions());
+    (*width, *height) = size;
     status(outcome)
 }
 
@@ -48,14 +44,9 @@ pub extern "C" fn tk_cursor(
         handle.old (column.old, row.old) result (column.new, row.new) }
     ensures same { kept_of handle.new ≡ kept_of handle.old }
 {
-    let outcome = match handle.take(alloc) {
-        Some(kept) => {
-            (*column, *row) = kept.shown().cursor_position();
-            handle.put(alloc, kept);
-            Ok(())
-        }
-        None => Err(Failure::NoHandle),
-    };
+    let mut at = (*column, *row);
+    let outcome = read(alloc, handle, &mut at, |surface| surface.cursor_position());
+    (*column, *row) = at;
     status(outcome)
 }
 
@@ -70,14 +61,9 @@ pub extern "C" fn tk_cursor_is_visible(
         handle.old visible.old result visible.new }
     ensures same { kept_of handle.new ≡ kept_of handle.old }
 {
-    let outcome = match handle.take(alloc) {
-        Some(kept) => {
-            *visible = is_visible(kept.shown().cursor_visibility());
-            handle.put(alloc, kept);
-            Ok(())
-        }
-        None => Err(Failure::NoHandle),
-    };
+    let outcome = read(alloc, handle, visible, |surface| {
+        is_visible(surface.cursor_visibility())
+    });
     status(outcome)
 }
 
@@ -96,14 +82,7 @@ pub extern "C" fn tk_number(alloc: Global, handle: &mut Handle, number: &mut usi
     ensures read { ReadsValue (λ s. next_number s.log) handle.old number.old result number.new }
     ensures same { kept_of handle.new ≡ kept_of handle.old }
 {
-    let outcome = match handle.take(alloc) {
-        Some(kept) => {
-            *number = kept.shown().current_seqno();
-            handle.put(alloc, kept);
-            Ok(())
-        }
-        None => Err(Failure::NoHandle),
-    };
+    let outcome = read(alloc, handle, number, |surface| surface.current_seqno());
     status(outcome)
 }
 
@@ -119,14 +98,9 @@ pub extern "C" fn tk_title(
         (kept_of handle.old) (room.old, len.old) outcome (room.new, len.new)) }
     ensures same { kept_of handle.new ≡ kept_of handle.old }
 {
-    let outcome = match handle.take(alloc) {
-        Some(kept) => {
-            let outcome = give(kept.shown().title().as_bytes(), room, len);
-            handle.put(alloc, kept);
-            outcome
-        }
-        None => Err(Failure::NoHandle),
-    };
+    let outcome = fill(alloc, handle, room, len, |surface, room, len| {
+        give(surface.title().as_bytes(), room, len)
+    });
     status(outcome)
 }
 
@@ -155,13 +129,8 @@ pub extern "C" fn tk_screen_text(
         (kept_of handle.old) (room.old, len.old) outcome (room.new, len.new)) }
     ensures same { kept_of handle.new ≡ kept_of handle.old }
 {
-    let outcome = match handle.take(alloc) {
-        Some(kept) => {
-            let outcome = give_text(kept.shown(), room, len);
-            handle.put(alloc, kept);
-            outcome
-        }
-        None => Err(Failure::NoHandle),
-    };
+    let outcome = fill(alloc, handle, room, len, |surface, room, len| {
+        give_text(surface, room, len)
+    });
     status(outcome)
 }

@@ -8,6 +8,7 @@ ghost use Rattle.tikeburo_c.specs.Outcomes.{Reports};
 ghost use Rattle.tikeburo_c.specs.declared.failure.Failure.TheVariants.{Memory};
 ghost use Rattle.tikeburo_c.specs.declared.kept.Kept.TheVariants as kinds;
 
+use crate::access::on_surface;
 use crate::failure::{Failure, status};
 use crate::handle::Handle;
 use crate::kept::Kept;
@@ -108,15 +109,7 @@ fn resize(alloc: Global, handle: &mut Handle, width: usize, height: usize) -> Re
     if !is_size(width, height) {
         return Err(Failure::Range);
     }
-    let Some(mut kept) = handle.take(alloc) else {
-        return Err(Failure::NoHandle);
-    };
-    let outcome = match &mut *kept {
-        Kept::Surface(surface) => resize_one(surface, width, height),
-        Kept::Viewer(_) | Kept::Client(_) => Err(Failure::WrongKind),
-    };
-    handle.put(alloc, kept);
-    outcome
+    on_surface(alloc, handle, |surface| resize_one(surface, width, height))
 }
 
 /// Takes another size.

@@ -1,0 +1,111 @@
+//! What calls do with what a handle has: it is taken out, used, and put back.
+ghost use Rattle.std.specs.Prelude.{◌≡◌};
+ghost use Rattle.std.specs.Fn.{FnOnceReturnsAt, FnOnceReturnsAtMut};
+ghost use Rattle.tikeburo_c.specs.Access.{Computes, FillsBy};
+ghost use Rattle.tikeburo_c.specs.Handles.{kept_of};
+ghost use Rattle.tikeburo_c.specs.Results.{OnSurface, Reads};
+
+use crate::failure::Failure;
+use crate::handle::Handle;
+use crate::kept::Kept;
+use crate::widths::ChosenWidths;
+use std::alloc::Global;
+use termwiz_share::Source;
+use termwiz_surface::Surface;
+
+/// Does this to the surface that the handle has.
+pub(crate) fn on_surface<F: FnOnce(&mut Source<ChosenWidths>) -> Result<(), Failure> + Drop>(
+    alloc: Global,
+    handle: &mut Handle,
+    action: F,
+) -> Result<(), Failure>
+    requires { F.IsAlwaysCallable action }
+    ensures { OnSurface (λ old outcome new. FnOnceReturnsAtMut F.FnOnce action old outcome new)
+        (kept_of handle.old) result (kept_of handle.new) }
+{
+    let Some(mut kept) = handle.take(alloc) else {
+        return Err(Failure::NoHandle);
+    };
+    let outcome = match &mut *kept {
+        Kept::Surface(surface) => act_on(surface, action),
+        Kept::Viewer(_) | Kept::Client(_) => Err(Failure::WrongKind),
+    };
+    handle.put(alloc, kept);
+    outcome
+}
+
+fn act_on<F: FnOnce(&mut Source<ChosenWidths>) -> Result<(), Failure>>(
+    surface: &mut Source<ChosenWidths>,
+    action: F,
+) -> Result<(), Failure>
+    requires { F.IsAlwaysCallable action }
+    ensures { FnOnceReturnsAtMut F.FnOnce action surface.old result surface.new }
+{
+    action(surface)
+}
+
+/// Reads a value of the surface that the handle has, or that its viewer or client shows.
+pub(crate) fn read<T: Copy, F: FnOnce(&Surface<ChosenWidths>) -> T + Drop>(
+    alloc: Global,
+    handle: &mut Handle,
+    value: &mut T,
+    action: F,
+) -> Result<(), Failure>
+    requires { F.IsAlwaysCallable action }
+    ensures read { Reads (Computes (λ s x. FnOnceReturnsAt F.FnOnce action s x))
+        (kept_of handle.old) value.old result value.new }
+    ensures same { kept_of handle.new ≡ kept_of handle.old }
+{
+    let Some(kept) = handle.take(alloc) else {
+        return Err(Failure::NoHandle);
+    };
+    *value = read_from(kept.shown(), action);
+    handle.put(alloc, kept);
+    Ok(())
+}
+
+fn read_from<T, F: FnOnce(&Surface<ChosenWidths>) -> T>(
+    surface: &Surface<ChosenWidths>,
+    action: F,
+) -> T
+    requires { F.IsAlwaysCallable action }
+    ensures { FnOnceReturnsAt F.FnOnce action surface.now result }
+{
+    action(surface)
+}
+
+/// Writes bytes of the surface that the handle has, or that its viewer or client shows, into a
+/// buffer of the caller's.
+pub(crate) fn fill<
+    F: FnOnce(&Surface<ChosenWidths>, &mut [u8], &mut usize) -> Result<(), Failure> + Drop,
+>(
+    alloc: Global,
+    handle: &mut Handle,
+    room: &mut [u8],
+    len: &mut usize,
+    action: F,
+) -> Result<(), Failure>
+    requires { F.IsAlwaysCallable action }
+    ensures read { Reads (λ s old outcome new. FillsBy F.FnOnce action s old outcome new)
+        (kept_of handle.old) (room.old, len.old) result (room.new, len.new) }
+    ensures same { kept_of handle.new ≡ kept_of handle.old }
+{
+    let Some(kept) = handle.take(alloc) else {
+        return Err(Failure::NoHandle);
+    };
+    let outcome = fill_from(kept.shown(), room, len, action);
+    handle.put(alloc, kept);
+    outcome
+}
+
+fn fill_from<F: FnOnce(&Surface<ChosenWidths>, &mut [u8], &mut usize) -> Result<(), Failure>>(
+    surface: &Surface<ChosenWidths>,
+    room: &mut [u8],
+    len: &mut usize,
+    action: F,
+) -> Result<(), Failure>
+    requires { F.IsAlwaysCallable action }
+    ensures { FillsBy F.FnOnce action surface.now (room.old, len.old) result (room.new, len.new) }
+{
+    action(surface, room, len)
+}

@@ -1,9 +1,10 @@
 -- What is answered of the lines of an input, so far and to its end.
 use Rattle.std.proofs.Common.{◌≡◌, ℕ, ◌<◌, ◌∙◌, true, false, List, [], ◌∷◌, ◌++◌, length, inl, inr, refl, sym, ap, subst, append_assoc, append-nil}
-use Rattle.std.specs.Prelude.{Option, None, Some, Result, Ok, Err, IfOk, IfSome, IsErrAnd, MatchOption, MatchResult, Vec}
+use Rattle.std.specs.Prelude.{Option, None, Some, Result, Ok, Err, IfOk, IfSome, MatchOption, is_ok, MatchResult, Vec}
 use Rattle.std.specs.declared.alloc.Global.{Global}
 use Rattle.std.specs.Io.KnownBytes.{Appends, IsAtEnd}
 use Rattle.std.specs.Io.BufRead.{drop_through, first_piece, DropsThrough}
+use Rattle.std.proofs.lemmas.Bool.{true≢false}
 use Rattle.std.proofs.lemmas.List.Concat.{flat_map-append}
 use Rattle.surfview_session.specs.Lines.{LineSays, Say, LastLine}
 use Rattle.termwiz_cell.specs.Width.{unicode_columns}
@@ -20,7 +21,7 @@ use Rattle.stream_session.specs.declared.sending.Request.{Request}
 use Rattle.stream_session.specs.declared.sending.SendOutcome.{SendOutcome}
 use Rattle.stream_session.proofs.Lines.{line_says}
 
-abbrev Known : Type 0
+abbrev pub Known : Type 0
 Known = Option (List ℕ)
 
 abbrev Surfaces : Type 0
@@ -44,9 +45,12 @@ has_come {E} byte piece line old new newline is fact =
     record { front = both.0; left = both.1 }
 
 -- a piece that was read without an error
-pub is_read : {X E D : Type 0} {P : E → D → Type 0} (piece : Result X E) (result : Result X D) (line : X) → MatchResult piece (λ x. result ≡ Ok x) (λ e. IsErrAnd result (P e)) → result ≡ Ok line → piece ≡ Ok line
-is_read {X} {E} {D} {P} (Ok x) result line is was = sym is ∙ was
-is_read {X} {E} {D} {P} (Err e) result line is was = absurd (subst (λ (r : Result X D). IsErrAnd r (P e)) was is)
+pub is_read : {X E D : Type 0} (Q : E → Type 0) (piece : Result X E) (result : Result X D) (line : X) → MatchResult piece (λ x. result ≡ Ok x) Q → is_ok result ≡ is_ok piece → result ≡ Ok line → piece ≡ Ok line
+is_read {X} Q (Ok x) result line is variant was =
+    let both = sym is ∙ was in
+    let same : x ≡ line = cc in
+    ap (λ (y : X). Ok y) same
+is_read {X} {E} {D} Q (Err e) result line is variant was = absurd (true≢false (sym (ap (λ (r : Result X D). is_ok r) was) ∙ variant))
 
 says_more : (line : List ℕ) (old new : Known) (requests more : List Request) → HasCome line old new → LineSays SaysRequest line requests → SayAll new more → SayAll old (requests ++ more)
 says_more line None new requests more come said later = tt

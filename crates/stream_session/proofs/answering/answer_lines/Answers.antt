@@ -1,6 +1,7 @@
 use Rattle.std.proofs.Common.{◌≡◌, ℕ, List, sym, ap, subst, refl, ◌∙◌, rules}
 use Rattle.std.specs.Prelude.{Option, Ok}
 use Rattle.std.specs.Io.Iter.{split_byte, split_known_bytes}
+use Rattle.stream_session.specs.Requests.{MaySay}
 use Rattle.stream_session.proofs.Answered.{HasCome, IsSoFar, Known, has_come, is_read, so_far_ended, so_far_first, so_far_on}
 use Rattle.stream_session.proofs.answering.answer_lines.Goals as goal
 
@@ -26,12 +27,12 @@ loop-piece-preserved g c =
     let left = split_known_bytes g.B.Read.remaining c.next.new.self in
     let steps = c.in-Some.ensures.steps in
     let line = c.in_ok-line.line in
-    let read : c.in-Some.piece ≡ Ok line = is_read c.in-Some.piece c.map_err.result line c.map_err.ensures.cases c.in_ok-line.was in
+    let read : c.in-Some.piece ≡ Ok line = is_read _ c.in-Some.piece c.map_err.result line c.map_err.ensures.cases c.map_err.ensures.variant c.in_ok-line.was in
     let come : HasCome line.items rest left = has_come (split_byte at.piece-iterator) c.in-Some.piece line rest left at.invariant.newline read steps.2 in
     record {
       newline = steps.1 ∙ at.invariant.newline;
       so_far = so_far_on o.source o.width o.height input (g.O.Write.contents c.args.out.now) rest left line.items at.surface c.outcome.new.surface at.last c.outcome.new.last (g.O.Write.contents at.out) (g.O.Write.contents c.send_each.new.out)
-          c.in_ok-request.request c.in_ok-outcome.outcome c.as_slice-2.result.now at.invariant.so_far come c.in_ok-request.ensures.said c.in_ok-outcome.ensures c.as_slice-2.ensures c.in_ok-send_each.ensures.sent;
+          c.in_ok-request.request c.in_ok-outcome.outcome c.as_slice-in-loop-piece.result.now at.invariant.so_far come (subst (λ (l : List ℕ). MaySay l c.in_ok-request.request) c.as_slice.ensures.value c.in_ok-request.ensures.said) c.in_ok-outcome.ensures c.as_slice-in-loop-piece.ensures c.in_ok-send_each.ensures.sent;
     }
 
 pub returns : goal.returns

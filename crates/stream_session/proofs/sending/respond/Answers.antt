@@ -12,4 +12,4 @@ returns c =
     let s = c.args.surface.now in
     let (a, given, form, is, last) = c.in_ok-bytes.ensures in
     let P : ℕ → Type 0 = λ n. IsGivenBy screens columns s n a in
-    (a.number, answered_by source s (asked_number source c.args.ask) c.in_ok-bytes.bytes a.number a (subst P c.asked_number.ensures given) is refl)
+    (a.number, answered_by source s (asked_number source c.args.ask) c.in_ok-bytes.bytes a.number a (subst P c.asked_number-number.ensures given) is refl)

@@ -4,8 +4,9 @@
     tools/examples.py      says which differ, and fails where one does
 
 In a block of the section "Examples" a command stands on the left, and what it prints from column 22
-on. A block with `send` goes through `surfsend` and `surfwatch -a`, any other through `surfview`, as
-they were built last: `rt run` in the crate of each.
+on. A block with `send` goes through `surfsend` and `surfwatch -a`, one with `ask SOURCE NUMBER`
+through `surfsend -i` and `surfwatch -a`, and any other through `surfview`, as they were built last:
+`rt run` in the crate of each.
 
 Each row of bytes in docs/VIEWER.md has to be a case that another encoder made, in the vectors of
 bindings/js/test, or a part of one.
@@ -53,7 +54,9 @@ def main():
     failed = count = 0
     for script, wanted in blocks():
         text = "".join(f"{line}\n" for line in script).encode()
-        if "send" in script:
+        if any(re.fullmatch(r"ask \d+ \d+", line) for line in script):
+            printed = run("surfwatch", ["-a"], run("surfsend", ["-i", *SIZE], text))
+        elif "send" in script:
             printed = run("surfwatch", ["-a"], run("surfsend", SIZE, text))
         else:
             printed = run("surfview", SIZE, text)

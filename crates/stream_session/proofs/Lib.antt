@@ -1,9 +1,13 @@
+mod Answered
 mod Asking
 mod Chains
 mod Coming
 mod Deciding
+mod Fresh
 mod Leading
+mod Lines
 mod Printed
+mod Requested
 mod Sent
 mod Taking
 mod Watched

@@ -1,7 +1,9 @@
+pub mod Answering
 pub mod Faults
 pub mod Frames
 pub mod Pipe
 pub mod Printing
+pub mod Requests
 pub mod Saying
 pub mod SendRun
 pub mod SendSteps

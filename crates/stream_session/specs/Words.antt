@@ -1,5 +1,5 @@
 -- The words of the two programs.
-use Rattle.std.specs.Prelude.{◌≡◌, ◌<◌, ◌^◌, ℕ, true, false, List, [], ◌∷◌, String, string_bytes, codes}
+use Rattle.std.specs.Prelude.{◌≡◌, ◌⊎◌, ◌<◌, ◌^◌, ℕ, true, false, List, [], ◌∷◌, drop, String, string_bytes, codes}
 use Rattle.std.specs.Str.Parse.{IsNumeral}
 use Rattle.surfview_session.specs.Number.{value_of}
 use Rattle.surfview_session.specs.Size.{AreSizes, GiveSizes}
@@ -24,6 +24,15 @@ module _ {A : Type 0} where
   abbrev pub GiveSending : List (String A) → ℕ → ℕ → ℕ → Type 0
   GiveSending (option ∷ number ∷ width ∷ height ∷ []) source w h = (string_bytes option ≡ codes "-s") × IsSourceNo (string_bytes number) × (source ≡ value_of (string_bytes number)) × GiveSizes (width ∷ height ∷ []) w h
   GiveSending words source w h = (source ≡ 1) × GiveSizes words w h
+
+  -- the first word is `-i`
+  abbrev pub IsInteractive : List (String A) → Type 0
+  IsInteractive [] = ⊥
+  IsInteractive (option ∷ words) = string_bytes option ≡ codes "-i"
+
+  -- the same words, which may stand behind `-i`
+  abbrev pub AreRunWords : List (String A) → Type 0
+  AreRunWords words = AreSendWords words ⊎ (IsInteractive words × AreSendWords (drop 1 words))
 
   -- the words ask for p, where o is asked for without them
   pub data AskFor : WatchOptions → List (String A) → WatchOptions → Type 0 where

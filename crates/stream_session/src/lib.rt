@@ -1,6 +1,7 @@
 //! Streams of answers: `surfsend` sends a surface's, and `surfwatch` shows them.
 #![tactic(auto)]
 
+mod answering;
 pub mod pipe;
 pub mod script;
 pub mod send_session;

@@ -1,14 +1,17 @@
-//! Scripts of what is sent: one command a line, each of which is an event.
-ghost use Rattle.std.specs.Prelude.{IfOk};
+//! Scripts of what is sent: one command a line, each of which is an event or an ask.
+ghost use Rattle.std.specs.Prelude.{IfOk, IfSome};
 ghost use Rattle.std.specs.List.{All};
+ghost use Rattle.stream_session.specs.Requests.{AreAskWords, IsRequestInRange, SaysRequest};
 ghost use Rattle.stream_session.specs.Saying.{SaysSend};
 ghost use Rattle.stream_session.specs.Sending.{IsInRange};
 ghost use Rattle.surfview_session.specs.Lines.{Say};
 
-use crate::sending::SendEvent;
+use crate::sending::{Request, SendEvent};
+use crate::words::whole;
 use std::alloc::Global;
 use surfview_session::script::{Command, LineError, ScriptError, commands, event};
 use termwiz_surface::Event;
+use termwiz_wire::Ask;
 
 impl Command for SendEvent {
     ghost is_in_range = { IsInRange };
@@ -26,6 +29,31 @@ impl Command for SendEvent {
             _ => Err(LineError::BadCommand),
         }
     }
+}
+
+impl Command for Request {
+    ghost is_in_range = { IsRequestInRange };
+
+    ghost says = { SaysRequest };
+
+    fn of_line(alloc: Global, line: &str) -> Result<Request, LineError> {
+        if let Some(words) = line.strip_prefix("ask ") {
+            let ask = ask(words).ok_or(LineError::BadCommand)?;
+            return Ok(Request::Ask(ask));
+        }
+        let event = SendEvent::of_line(alloc, line)?;
+        Ok(Request::Event(event))
+    }
+}
+
+// The ask of two words: a source, and the number that is shown of it.
+fn ask(words: &str) -> Option<Ask>
+    ensures { IfSome result (λ ask. AreAskWords words.now ask) }
+{
+    let (first, second) = words.split_once(' ')?;
+    let source = whole(first)?;
+    let number = whole(second)?;
+    Some(Ask { source, number })
 }
 
 /// Reads the events of a script: `send`, and the commands of `surfview` that change the surface.

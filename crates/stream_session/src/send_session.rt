@@ -1,33 +1,62 @@
 //! One run of `surfsend`: from its words and its input to what it sends and its exit status.
-ghost use Rattle.std.specs.Prelude.{◌≡◌, ◌⊎◌, IfErr, IfOk, IfSome, IsErr, OnOk};
+ghost use Rattle.std.specs.Prelude.{◌≡◌, ◌⊎◌, IfErr, IfOk, IfSome, IsErr, OnOk, drop};
 ghost use Rattle.std.specs.Io.KnownBytes.{Appends};
 ghost use Rattle.std.specs.List.{All};
+ghost use Rattle.stream_session.specs.Answering.{AnswersAsAsked};
 ghost use Rattle.stream_session.specs.Sending.{IsInRange, stream_of};
 ghost use Rattle.stream_session.specs.Saying.{SaysSend};
 ghost use Rattle.stream_session.specs.SendRun.{IsSendRun, WritesRun};
-ghost use Rattle.stream_session.specs.Words.{AreSendWords};
+ghost use Rattle.stream_session.specs.Words.{AreRunWords, AreSendWords, IsInteractive};
 ghost use Rattle.surfview_session.specs.Lines.{Say};
 ghost use Rattle.surfview_session.specs.Status.{status_of};
 
+use crate::answering::answer_lines;
 use crate::script::read;
 use crate::sending::{SendEvent, SendOutcome, sent};
-use crate::words::send_options;
+use crate::words::{interactive_words, send_options};
 use std::alloc::Global;
-use std::io::{Read, Write};
+use std::io::{BufReader, Read, Write};
 use surfview_session::printed::Printed;
 use surfview_session::session::{SessionError, bytes, write};
 
 /// The program's name and the words that it takes.
-pub const USAGE: &str = "surfsend [-s NUMBER] WIDTH HEIGHT";
+pub const USAGE: &str = "surfsend [-i] [-s NUMBER] WIDTH HEIGHT";
 
 /// Runs the script that `input` holds on a surface of the size that `args` give, in columns and
 /// rows, and sends its answers to `out`, as those of the source that the number behind `-s` names,
-/// or of source 1. What is refused goes to `err`.
+/// or of source 1. What is refused goes to `err`. With `-i` each line is done as soon as it has
+/// come, and may be an ask, whose answer is sent.
 ///
 /// The result is the exit status: 0 where all is done, 2 for words that are no size, an input that
 /// can't be read or a bad command, and 3 for refused memory or a failed write. The line that says
-/// which goes to `err`, and a failed write has none. With status 2 nothing is written to `out`.
+/// which goes to `err`, and a failed write has none. With status 2 nothing is written to `out`, or
+/// with `-i` what the lines before ask for.
 pub fn send_session<R: Read, O: Write, E: Write>(
+    alloc: Global,
+    args: &[String],
+    input: &mut R,
+    out: &mut O,
+    err: &mut E,
+) -> u8
+    ensures statuses { (result ≡ 0) ⊎ (result ≡ 2) ⊎ (result ≡ 3) }
+    ensures done { result ≡ 0 → AreRunWords args.now }
+    ensures refused { result ≡ 2 → IsInteractive args.now ⊎ (out.new ≡ out.old) }
+    ensures usage { AreRunWords args.now ⊎ ((input.new ≡ input.old) × (out.new ≡ out.old)) }
+    // Where the input and the output are known: what the script's lines send is written.
+    ensures sent { result ≡ 0 → IsInteractive args.now ⊎ WritesRun args.now
+        (R.remaining input.old) (O.contents out.old) (O.contents out.new) }
+    // And so are the answers that the lines ask for.
+    ensures answered { result ≡ 0 → IsInteractive args.now → AnswersAsAsked (drop 1 args.now)
+        (R.remaining input.old) (O.contents out.old) (O.contents out.new) }
+{
+    match interactive_words(args) {
+        Some(words) => answer_session(alloc, words, input, out, err),
+        None => script_session(alloc, args, input, out, err),
+    }
+}
+
+/// Sends the answers of the script that `input` holds, once it is read.
+fn script_session<R: Read, O: Write, E: Write>(
     alloc: Global,
     args: &[String],
     input: &mut R,
@@ -38,7 +67,6 @@ pub fn send_session<R: Read, O: Write, E: Write>(
     ensures done { result ≡ 0 → AreSendWords args.now }
     ensures refused { result ≡ 2 → out.new ≡ out.old }
     ensures usage { AreSendWords args.now ⊎ ((input.new ≡ input.old) × (out.new ≡ out.old)) }
-    // Where the input and the output are known: what the script's lines send is written.
     ensures sent { result ≡ 0 → WritesRun args.now (R.remaining input.old)
         (O.contents out.old) (O.contents out.new) }
 {
@@ -49,6 +77,45 @@ pub fn send_session<R: Read, O: Write, E: Write>(
         },
         Err(error) => error.report(USAGE, err),
     }
+}
+
+/// Sends the answers that the lines of `input` ask for, as they come.
+fn answer_session<R: Read, O: Write, E: Write>(
+    alloc: Global,
+    words: &[String],
+    input: &mut R,
+    out: &mut O,
+    err: &mut E,
+) -> u8
+    ensures statuses { (result ≡ 0) ⊎ (result ≡ 2) ⊎ (result ≡ 3) }
+    ensures done { result ≡ 0 → AreSendWords words.now }
+    ensures usage { AreSendWords words.now ⊎ ((input.new ≡ input.old) × (out.new ≡ out.old)) }
+    ensures answered { result ≡ 0 → AnswersAsAsked words.now
+        (R.remaining input.old) (O.contents out.old) (O.contents out.new) }
+{
+    match answer(alloc, words, input, out, err) {
+        Ok(()) => 0,
+        Err(error) => error.report(USAGE, err),
+    }
+}
+
+/// Sends the answers that the lines of `input` ask for, on a surface of the width and the height
+/// that the words give.
+fn answer<R: Read, O: Write, E: Write>(
+    alloc: Global,
+    words: &[String],
+    input: &mut R,
+    out: &mut O,
+    err: &mut E,
+) -> Result<(), SessionError>
+    ensures usage { AreSendWords words.now
+        ⊎ (IsErr result × (input.new ≡ input.old) × (out.new ≡ out.old)) }
+    ensures answered { OnOk result (AnswersAsAsked words.now
+        (R.remaining input.old) (O.contents out.old) (O.contents out.new)) }
+{
+    let options = send_options(words).ok_or(SessionError::Usage)?;
+    let lines = BufReader::new(alloc, input).map_err(|_| SessionError::Memory)?;
+    answer_lines(alloc, options, lines, out, err)
 }
 
 /// What comes of the script that `input` holds, on a surface of the width and the height that the
@@ -81,7 +148,7 @@ fn events<R: Read>(alloc: Global, input: &mut R) -> Result<Vec<SendEvent>, Sessi
 }
 
 /// Sends each answer, and reports what was refused.
-fn send_each<O: Write, E: Write>(
+pub(crate) fn send_each<O: Write, E: Write>(
     alloc: Global,
     outcomes: &[SendOutcome],
     out: &mut O,

@@ -1,5 +1,5 @@
 //! What is sent of a surface: its answers as bytes, each for a viewer that accepted all before it.
-ghost use Rattle.std.specs.Prelude.{◌≡◌, ◌<◌, IfOk, List};
+ghost use Rattle.std.specs.Prelude.{◌≡◌, ◌<◌, IfOk, List, ℕ};
 ghost use Rattle.std.specs.List.{All};
 ghost use Rattle.termwiz_surface.specs.Schedule.{Acts};
 ghost use Rattle.termwiz_surface.specs.declared.view.Event.TheVariants as event;
@@ -7,7 +7,9 @@ ghost use Rattle.termwiz_surface.specs.{IsGivenBy, IsSurfaceSize, KeepsNames, sc
 ghost use Rattle.termwiz_cell.specs.Width.{unicode_columns};
 ghost use Rattle.termwiz_wire.specs.Sent.{IsSent, answer};
 ghost use Rattle.termwiz_surface_core.specs.Answer.{AnswerValue};
+ghost use Rattle.stream_session.specs.Answering.{Answers, Does, IsAnswered, asked_number};
 ghost use Rattle.stream_session.specs.Frames.{Frame, IsChain};
+ghost use Rattle.stream_session.specs.Requests.{IsRequestInRange};
 ghost use Rattle.stream_session.specs.SendSteps.{HasNamed, Steps};
 ghost use Rattle.stream_session.specs.Sending.{AreSent, IsInRange, columns};
 ghost use Rattle.stream_session.specs.Viewing.{Viewing};
@@ -15,7 +17,7 @@ ghost use Rattle.stream_session.specs.Viewing.{Viewing};
 use std::alloc::{AllocError, Global};
 use termwiz_surface::view::Outcome;
 use termwiz_surface::{Change, SEQ_ZERO, SequenceNo, Surface, SurfaceError, UnicodeWidths};
-use termwiz_wire::{SourceNo, encode_answer};
+use termwiz_wire::{Ask, SourceNo, encode_answer};
 
 /// What happens to a surface whose answers are sent.
 #[derive(Drop, Debug)]
@@ -28,6 +30,15 @@ pub enum SendEvent {
     Resize(usize, usize),
     /// An answer is sent, for the number of the last one that was sent, or for 0.
     Send,
+}
+
+/// What is asked of a surface that answers.
+#[derive(Drop, Debug)]
+pub enum Request {
+    /// The event is done.
+    Event(SendEvent),
+    /// A viewer that shows what this names asks for an answer.
+    Ask(Ask),
 }
 
 /// What came of such an event.
@@ -68,6 +79,29 @@ pub fn sent(
     Ok(outcomes)
 }
 
+/// Does what is asked of a surface that is the source of this number. The number of the last
+/// answer that was sent is `last`.
+pub(crate) fn answered(
+    alloc: Global,
+    source: SourceNo,
+    surface: &mut Surface<UnicodeWidths>,
+    last: &mut SequenceNo,
+    request: Request,
+) -> Result<SendOutcome, AllocError>
+    requires source { 0 < source }
+    requires in_range { IsRequestInRange request }
+    ensures { IfOk result (λ outcome.
+        Answers source surface.old last.old request outcome surface.new last.new) }
+{
+    match request {
+        Request::Event(event) => serve(alloc, source, surface, last, event),
+        Request::Ask(ask) => {
+            let bytes = respond(alloc, source, surface, ask)?;
+            Ok(SendOutcome::Sent(bytes))
+        }
+    }
+}
+
 // Does one event. The number of the last answer that was sent is `last`.
 fn serve(
     alloc: Global,
@@ -78,8 +112,10 @@ fn serve(
 ) -> Result<SendOutcome, AllocError>
     requires source { 0 < source }
     requires in_range { IsInRange event }
-    ensures { IfOk result (λ outcome. (v : Viewing) → HasNamed source surface.old last.old v →
+    ensures steps { IfOk result (λ outcome. (v : Viewing) → HasNamed source surface.old last.old v →
         Steps source surface.old last.old v event outcome surface.new last.new) }
+    ensures does { IfOk result (λ outcome.
+        Does source surface.old last.old event outcome surface.new last.new) }
 {
     match event {
         SendEvent::Changes(changes) => Ok(SendOutcome::Of(added(surface, changes))),
@@ -137,4 +173,31 @@ fn send(
     encode_answer(&mut bytes, &UnicodeWidths, source, &answer)?;
     *last = answer.number();
     Ok(bytes)
+}
+
+// The bytes of the answer for an ask.
+fn respond(
+    alloc: Global,
+    source: SourceNo,
+    surface: &Surface<UnicodeWidths>,
+    ask: Ask,
+) -> Result<Vec<u8>, AllocError>
+    requires { 0 < source }
+    ensures { IfOk result (λ bytes. (number : ℕ)
+        × IsAnswered source surface.now (asked_number source ask) bytes number) }
+{
+    let mut number = asked_number(source, ask);
+    let bytes = send(alloc, source, surface, &mut number)?;
+    Ok(bytes)
+}
+
+// The number that an ask is answered for: 0, for a repaint, where it names another source.
+fn asked_number(source: SourceNo, ask: Ask) -> SequenceNo
+    ensures { result ≡ asked_number source ask }
+{
+    if ask.source == source {
+        ask.number
+    } else {
+        SEQ_ZERO
+    }
 }

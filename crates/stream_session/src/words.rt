@@ -1,9 +1,9 @@
 //! The words of the two programs.
-ghost use Rattle.std.specs.Prelude.{◌≡◌, ◌<◌, ◌↔◌, length, IfSome, IsSome};
+ghost use Rattle.std.specs.Prelude.{◌≡◌, ◌<◌, ◌↔◌, drop, length, IfSome, IsSome, MatchOption};
 ghost use Rattle.std.specs.Option.{SomeIff};
 ghost use Rattle.surfview_session.specs.Number.{value_of};
-ghost use Rattle.stream_session.specs.Words.{AreSendWords, AskFor, GiveSending, IsSourceNo};
-ghost use Rattle.stream_session.specs.Words.{IsWhole, first_options};
+ghost use Rattle.stream_session.specs.Words.{AreSendWords, AskFor, GiveSending, IsInteractive};
+ghost use Rattle.stream_session.specs.Words.{IsSourceNo, IsWhole, first_options};
 ghost use Rattle.stream_session.specs.declared.words.WatchOptions.{WatchOptions};
 
 use surfview_session::script::size;
@@ -31,7 +31,7 @@ pub struct WatchOptions {
 }
 
 /// The number that a word of decimal digits writes, which is at most 2^64 - 1.
-fn whole(word: &str) -> Option<usize>
+pub(crate) fn whole(word: &str) -> Option<usize>
     ensures { SomeIff result (IsWhole word.now) (value_of word.now) }
 {
     if word.starts_with('+') {
@@ -46,6 +46,17 @@ fn source_number(word: &str) -> Option<SourceNo>
 {
     let number = whole(word)?;
     if number == 0 { None } else { Some(number) }
+}
+
+/// The words behind `-i`, where that is the first one.
+pub fn interactive_words(args: &[String]) -> Option<&[String]>
+    ensures { MatchOption result (IsInteractive args.now → ⊥)
+        (λ words. IsInteractive args.now × (words.now ≡ drop 1 args.now)) }
+{
+    match args.split_first() {
+        Some((option, words)) if option.as_str() == "-i" => Some(words),
+        _ => None,
+    }
 }
 
 /// What the words of `surfsend` ask for: a width and a height, and in front of them a source's

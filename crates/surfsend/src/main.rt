@@ -1,5 +1,5 @@
-//! `surfsend [-s NUMBER] WIDTH HEIGHT` reads a script of changes and sends the answers of a surface
-//! as bytes.
+//! `surfsend [-i] [-s NUMBER] WIDTH HEIGHT` reads a script of changes and sends the answers of a
+//! surface as bytes. With `-i` it answers asks that come on its input.
 #![tactic(auto)]
 
 use std::process::ExitCode;

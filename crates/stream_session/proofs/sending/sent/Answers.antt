@@ -31,7 +31,7 @@ loop-event-preserved c =
     record {
       run = subst Q (sym c.in_ok-push.ensures.items)
           (next_run c.args.source c.args.width c.args.height c.args.events.items left at.outcomes.items at.surface c.serve.new.surface at.last c.serve.new.last c.in-Some.event c.in_ok-outcome.outcome run
-          (c.in_ok-outcome.ensures run.viewing run.named) (All-tail IsInRange c.in-Some.event left run.in_range));
+          (c.in_ok-outcome.ensures.steps run.viewing run.named) (All-tail IsInRange c.in-Some.event left run.in_range));
       count = omega (arith, c.in-Some.ensures.steps.1, at.invariant.count, short);
     }
 

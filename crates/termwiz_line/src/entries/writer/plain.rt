@@ -1,6 +1,7 @@
 //! Rows of cells that are stored one by one, most of which are one character of printable ASCII in
 //! the pen that stands.
-ghost use Rattle.std.specs.Prelude.{◌≡◌, ◌++◌, ◌∷◌, ◌≤◌, ◌&&◌, ◌==◌, [], List, OnOk, length, true};
+ghost use Rattle.std.specs.Prelude.{◌≡◌, ◌++◌, ◌∷◌, ◌≤◌, ◌&&◌, ◌==◌, [], IfOk, List, OnOk};
+ghost use Rattle.std.specs.Prelude.{length, true};
 ghost use Rattle.termwiz_line.specs.{IsInText, IsUnderWay, IsWritten, Penned, VisibleCell};
 ghost use Rattle.termwiz_line.specs.{and_cells, ends_printable, is_plain, last_is, spaces_of};
 
@@ -20,42 +21,46 @@ impl<'a> RowWriter<'a> {
         let mut left = cells;
         while let Some(cell) = left.next() {
             self.cell(cell.str(), cell.attrs())?;
-            self.plain_cells(&mut left)?;
+            left = self.plain_cells(left)?;
         }
         Ok(())
     }
 
     // The plain cells that come next in the pen that stands are written, where the text grows
-    // behind printable ASCII.
+    // behind printable ASCII. The cells that are left come back.
     #[inline(always)]
-    fn plain_cells(&mut self, left: &mut VecStorageIter<'a>) -> Result<(), AllocError>
-        ensures written { OnOk result (
-            (from : Penned) (all : List VisibleCell) →
-            IsUnderWay from all left.old self.old → IsUnderWay from all left.new self.new) }
-        ensures shorter { length left.new ≤ length left.old }
+    fn plain_cells(
+        &mut self,
+        mut left: VecStorageIter<'a>,
+    ) -> Result<VecStorageIter<'a>, AllocError>
+        ensures written { IfOk result (λ rest. (from : Penned) (all : List VisibleCell) →
+            IsUnderWay from all left.entry self.old → IsUnderWay from all rest self.new) }
+        ensures shorter { IfOk result (λ rest. length rest ≤ length left.entry) }
     {
         if !self.is_in_text() {
-            return Ok(());
+            return Ok(left);
         }
         // A pen in a place of its own is compared without a look behind a reference.
         match self.pen.unboxed_copy() {
-            Some(pen) => self.plain_run(left, &pen),
-            None => self.boxed_run(left),
+            Some(pen) => self.plain_run(&mut left, &pen)?,
+            None => return self.boxed_run(left),
         }
+        Ok(left)
     }
 
-    // The same for a pen in a box. It stands apart, so that the way of the others is short.
+    // The same for a pen in a box. It stands apart, and is given the cells, so that the way of the
+    // others is short, and keeps them in registers.
     #[inline(never)]
-    fn boxed_run(&mut self, left: &mut VecStorageIter<'a>) -> Result<(), AllocError>
+    fn boxed_run(&mut self, mut left: VecStorageIter<'a>) -> Result<VecStorageIter<'a>, AllocError>
         requires spaces { self.old.spaces ≡ 0 }
         requires text { last_is ends_printable self.old.printed.entries ≡ true }
-        ensures written { OnOk result (
-            (from : Penned) (all : List VisibleCell) →
-            IsUnderWay from all left.old self.old → IsUnderWay from all left.new self.new) }
-        ensures shorter { length left.new ≤ length left.old }
+        ensures written { IfOk result (λ rest. (from : Penned) (all : List VisibleCell) →
+            IsUnderWay from all left.entry self.old → IsUnderWay from all rest self.new) }
+        ensures shorter { IfOk result (λ rest. length rest ≤ length left.entry) }
     {
         let pen = self.pen;
-        self.plain_run(left, pen)
+        self.plain_run(&mut left, pen)?;
+        Ok(left)
     }
 
     // Writes the plain cells that come next in a pen that is equal to the one that stands.

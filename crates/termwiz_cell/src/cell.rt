@@ -52,7 +52,8 @@ impl Model for Cell {
 }
 
 impl Cell {
-    /// The cell of a character, as wide as the width value says. It never fails.
+    /// The cell of a character, of the width that the width value gives the cell's text. It never
+    /// fails.
     #[tactic(auto, using(crate::proofs::Cleaned::length_clean))]
     pub fn new<W: Widths>(
         alloc: Global,

@@ -133,8 +133,9 @@ impl TryFrom<u8> for LineAttribute {
     }
 }
 
-/// The number of a change of a surface. It grows by one with each change, and, unless it is 0, with
-/// a resize and with a list of changes for which memory was refused. Lines have such numbers too.
+/// The number of a change of a surface: the surface's number before it. That grows by one with each
+/// change, and, unless it is 0, with a resize and with a list of changes for which memory was
+/// refused. Lines have numbers too.
 pub type SequenceNo = usize;
 
 /// The number of a surface before any change, and of its first change.

@@ -137,7 +137,7 @@ impl Hyperlink {
         ensures params { map param_bytes result.now.entries ≡ self.now.params }
         ensures ordered { AreInOrder self.now.params }
     {
-        // The length of a map says that its keys ascend.
+        // `len` promises that the keys of a map ascend.
         prove!(self.params.len() < usize::MAX);
         &self.params
     }

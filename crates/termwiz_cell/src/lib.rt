@@ -1,5 +1,4 @@
-//! Cells of a screen: their texts, widths, colours, attributes and links, and the changes that are
-//! made with them.
+//! Cells of a screen: their texts, widths, colours, attributes and links, and changes.
 //!
 //! - **A cell** is a text, whether it takes two columns, and attributes (`specs/CellValue.antt`). A
 //!   text of at most seven bytes is stored in its cell, a longer one on the heap (`cell/text.rt`,

@@ -32,7 +32,7 @@ pub struct CellCluster {
     pub width: usize,
     /// The form in which the cells are shown, text or emoji.
     pub presentation: Presentation,
-    /// The direction in which the text is laid out: always from left to right.
+    /// The direction in which the text is laid out: always left to right.
     pub direction: Direction,
     /// The column at which the first cell begins.
     pub first_cell_idx: usize,

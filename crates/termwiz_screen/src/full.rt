@@ -16,7 +16,7 @@ use termwiz_line::line::line::Line;
 /// are equal where all of this is.
 #[derive(Drop, Debug)]
 pub struct FullScreen {
-    /// The rows, the cursor, whether it is shown, and the pen.
+    /// The rows, the cursor, its visibility, and the pen.
     pub screen: Screen,
     pub title: String,
     /// The cursor's shape, or the default one where none was set.

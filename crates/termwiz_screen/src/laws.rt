@@ -14,7 +14,7 @@ pub fn repaint_laws()
     ensures line { LineEntriesGiveRow }
 {}
 
-/// What full screens changes lead to, and what a full repaint does when it is replayed.
+/// Which full screens changes lead to, and what a full repaint does when it is replayed.
 pub fn full_repaint_laws()
     ensures step { FullStepsAreSo }
     ensures scrolled { TextsScrollRows }

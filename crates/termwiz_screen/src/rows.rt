@@ -227,7 +227,7 @@ fn turn_by_reversals(rows: &mut VecDeque<Line>, first: usize, size: usize, count
     reverse_region(rows, first, size);
 }
 
-// Does so for any region, and faster where the region is all rows.
+// Moves the first rows of a region after its others, and faster where the region is all rows.
 fn turn_region(rows: &mut VecDeque<Line>, first: usize, size: usize, count: usize)
     requires inside { first + size ≤ deque_len rows.old }
     requires within { count ≤ size }

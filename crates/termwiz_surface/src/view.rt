@@ -31,7 +31,7 @@ pub enum Event<W: Widths> {
     Flush(SequenceNo),
     /// Resizes the surface to this width in columns and this height in rows.
     Resize(usize, usize),
-    /// The viewer follows the surface.
+    /// Calls `follow` on the viewer.
     Follow,
     /// Asks for the texts and the cursor.
     Show,
@@ -54,7 +54,8 @@ pub enum Outcome {
     FollowedFull(SequenceNo, Vec<Change>, FullScreen),
     /// The texts of the stored rows, each with a line feed, and the cursor's column and row.
     Shown(String, (usize, usize)),
-    /// The surface's number, and what a viewer that was last given the asked number has to apply.
+    /// The surface's number, and the changes that a viewer that was last given the requested number
+    /// has to apply.
     Asked(SequenceNo, Vec<Change>),
 }
 

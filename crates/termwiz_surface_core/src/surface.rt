@@ -44,10 +44,11 @@ pub enum SurfaceError {
     #[error("a scroll region goes past the last row")]
     ScrollRegion,
     /// Error 2: the numbers of the changes would pass the greatest `usize`. The surface is
-    /// unchanged. For `Viewer::follow` see there.
+    /// unchanged. After `Viewer::follow` the viewer may show anything, and has no number.
     #[error("the numbers of changes are used up")]
     Numbers,
-    /// Error 3: memory was refused. For `Viewer::follow` see there.
+    /// Error 3: memory was refused. After `Viewer::follow` the viewer may show anything, and has no
+    /// number.
     ///
     /// - After a list of changes, that of a draw or a copy too, the surface is valid and has its
     ///   old size, its log is empty, and its number is greater by one, or still 0.
@@ -67,10 +68,10 @@ impl From<AllocError> for SurfaceError {
     }
 }
 
-/// Why no surface was made.
+/// Why no surface was created.
 #[derive(Debug, Drop, Clone, Copy, PartialEq, Eq, Error)]
 pub enum NewSurfaceError {
-    /// The size is not 1 to 2^32 - 1 columns and 1 to 2^32 - 1 rows.
+    /// The size is out of range: columns and rows are 1 to 2^32 - 1 each.
     #[error("no surface has {width} columns and {height} rows")]
     Size { width: usize, height: usize },
     /// Memory was refused.
@@ -101,10 +102,12 @@ impl From<AllocError> for NewSurfaceError {
 ///
 /// `flush_changes_older_than` forgets the changes that all viewers have, and `forget_unneeded`
 /// those that no answer needs: without them the log grows with each change. `screen` copies what
-/// the surface shows, and `full_screen` the rest that it keeps too.
+/// the surface shows, and `full_screen` also the title, the cursor's shape and colour, and how
+/// large each line is shown.
 ///
-/// `new_full` returns a full surface: its repaints also set the rest, so that its viewers have it
-/// whatever they missed. The repaints of other surfaces set the screen, and part of the rest.
+/// `new_full` returns a full surface: its repaints also set all of these, so that its viewers have
+/// them whatever they missed. Those of other surfaces set only the screen, the title unless it is
+/// empty, and the shape of a visible cursor, if one was set.
 ///
 /// A viewer applies these changes: to a terminal, at the other end of a connection, or to a second
 /// surface. It must measure texts as this surface does, by the same width value.

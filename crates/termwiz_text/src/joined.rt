@@ -12,7 +12,7 @@ use std::marker::Model;
 #[derive(Drop)]
 pub struct JoinedText {
     text: String,
-    // the byte at which the text that was joined last begins
+    // the byte at which the text that was appended last begins
     last: usize,
     // whether the last byte is known to be printable ASCII
     ends_plain: bool,
@@ -31,7 +31,7 @@ impl Model for JoinedText {
         × (joined.ends_plain ≡ true → is_plain_last (string_bytes joined.text) ≡ true) };
 }
 
-// The only byte of a text that is printable ASCII.
+// The byte of a text that is one character of printable ASCII, or `None` for another text.
 #[inline(always)]
 fn only_plain(text: &str) -> Option<u8>
     ensures plain { IfSome result (λ byte. is_plain byte ≡ true) }

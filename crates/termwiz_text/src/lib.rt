@@ -36,7 +36,7 @@ pub fn is_one_plain(text: &str) -> bool
     }
 }
 
-/// What follows the CR LF that the text begins with, which is a grapheme.
+/// The text after a leading CR LF, which is one grapheme, or `None` where it begins otherwise.
 #[inline]
 pub fn after_line_end(text: &str) -> Option<&str>
     ensures { MatchOption result (letter.begins_line_end text.now ≡ false) (λ rest.
@@ -60,14 +60,14 @@ fn begins_line_end(text: &str) -> bool
 }
 
 /// Whether the character is a letter of hiragana (U+3041 to U+3096) or katakana (U+30A1 to U+30FA),
-/// or an ideograph from U+4E00 to U+9FFF. No other letter counts.
+/// or an ideograph from U+4E00 to U+9FFF. Other letters don't count.
 pub fn is_letter(c: char) -> bool
     ensures { result ≡ letter.is_letter c }
 {
     is_letter_number(u32::from(c))
 }
 
-// Whether the character of this number is such a letter.
+// Whether `is_letter` holds for the character of this number.
 fn is_letter_number(number: u32) -> bool
     ensures { result ≡ letter.is_letter number }
 {
@@ -108,7 +108,7 @@ fn begins_ascii(text: &str) -> bool
     }
 }
 
-// The first grapheme and the rest, where they begin with simple characters, which need no table.
+// The first grapheme and the rest, if both begin with simple characters, which need no table.
 fn split_first_simple(text: &str) -> Option<(&str, &str)>
     ensures { IfSome result (λ (first, rest). IsFirst text.now first.now rest.now) }
 {
@@ -126,8 +126,8 @@ fn split_first_simple(text: &str) -> Option<(&str, &str)>
     Some((front, rest))
 }
 
-/// The first grapheme of a text, and the rest, which is cut as a text of its own. The empty text
-/// has none.
+/// The first grapheme of a text, and the rest, which is cut as a text of its own, or `None` for the
+/// empty text.
 pub fn split_first_grapheme(text: &str) -> Option<(&str, &str)>
     ensures { MatchOption result (graphemes true text.now ≡ []) (λ (first, rest).
         IsFirst text.now first.now rest.now) }

@@ -126,7 +126,7 @@ impl Full {
 }
 
 impl Form {
-    /// The small attributes.
+    /// The word's attributes.
     pub(super) fn style(&self) -> &StyleWord
         ensures { result.now ≡ spec.style_in self.now }
     {
@@ -136,7 +136,7 @@ impl Form {
         }
     }
 
-    /// The small attributes, for writing.
+    /// The word's attributes, for writing.
     pub(super) fn style_mut(&mut self) -> &mut StyleWord
         ensures* writes_back { sem 𝓛 (LendsStyle self.entry result) }
         ensures value { result.now ≡ spec.style_in self.old }
@@ -160,7 +160,7 @@ impl Form {
         }
     }
 
-    /// The rare foreground.
+    /// The box's foreground, or the default where there is no box.
     pub(super) fn foreground(&self) -> ColorAttribute
         ensures { result ≡ (spec.rare_in self.now).foreground }
     {
@@ -170,7 +170,7 @@ impl Form {
         }
     }
 
-    /// The rare background.
+    /// The box's background, or the default where there is no box.
     pub(super) fn background(&self) -> ColorAttribute
         ensures { result ≡ (spec.rare_in self.now).background }
     {
@@ -180,7 +180,7 @@ impl Form {
         }
     }
 
-    /// The underline colour.
+    /// The underline colour, or the default where there is no box.
     pub(super) fn underline_color(&self) -> ColorAttribute
         ensures { result ≡ (spec.rare_in self.now).underline_color }
     {
@@ -190,7 +190,7 @@ impl Form {
         }
     }
 
-    /// The link.
+    /// The link, or `None` where there is no box.
     pub(super) fn hyperlink(&self) -> Option<&Rc<Hyperlink>>
         ensures { option_map (λ rc. rc.now.value) result ≡ (spec.rare_in self.now).hyperlink }
     {

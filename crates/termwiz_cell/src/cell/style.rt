@@ -18,6 +18,7 @@ pub enum Intensity {
     #[default]
     Normal,
     Bold,
+    /// Dim.
     Half,
 }
 

@@ -13,7 +13,9 @@ pub enum Direction {
 /// the line's text, with the named direction for a text that has none.
 #[derive(Debug, Clone, Copy, PartialEq, Eq)]
 pub enum ParagraphDirectionHint {
+    /// Left to right, whatever the text.
     LeftToRight,
+    /// Right to left, whatever the text.
     RightToLeft,
     /// The direction of the line's text, or left to right where it has none.
     AutoLeftToRight,

@@ -53,7 +53,8 @@ use zones::drop_zones;
 ///   `set_last_cell_was_wrapped` marks the last cell.
 /// - Any other edit that changes cells, and `cells_mut`, makes a text a vector. An edit that
 ///   changes none, or fails, may do so.
-/// - `compress_for_scrollback` makes a text of a vector.
+/// - `compress_for_scrollback` makes a vector a text, where each visible wide cell is followed by
+///   its half.
 ///
 /// `visible_cells` iterates over the visible cells, and `changes` returns the changes that print
 /// them.

@@ -335,8 +335,8 @@ fn is_shown(own: &[Cell], padding: &Cell, column: usize, cell: &CellRef<'_>) -> 
     }
 }
 
-// Does so for a column after the stored cells, where the padding is shown. It is kept out of line,
-// so that the path of stored cells is short.
+// As `is_shown`, for a column after the stored cells, where the padding is shown. It is kept out of
+// line, so that the path of stored cells is short.
 #[inline(never)]
 fn is_shown_past_end(own: &[Cell], padding: &Cell, column: usize, cell: &CellRef<'_>) -> bool
     requires padding { padding.now ≡ blank }
@@ -346,7 +346,7 @@ fn is_shown_past_end(own: &[Cell], padding: &Cell, column: usize, cell: &CellRef
     is_equal(padding, cell) && !is_half(own, column)
 }
 
-// Whether the column holds the second half of a wide cell.
+// Whether a wide cell hides the cell at the column.
 #[inline(always)]
 fn is_half(cells: &[Cell], column: usize) -> bool
     ensures { result ≡ is_hidden cells.now column }

@@ -14,7 +14,7 @@ use termwiz_cell::emoji::{Presentation, Widths};
 /// columns and its attributes. A value that a caller constructs may have any width and any text.
 #[derive(Clone, Copy, Debug)]
 pub enum CellRef<'a> {
-    /// A cell that is stored as one.
+    /// A cell that is stored by itself.
     CellRef {
         cell_index: usize,
         cell: &'a Cell,
@@ -79,8 +79,8 @@ impl<'a> CellRef<'a> {
         variation.unwrap_or(presentation)
     }
 
-    /// A cell of this text, width and attributes, as `Cell::new_grapheme_with_width` makes it. The
-    /// width must be at most 2.
+    /// A cell of this text, width and attributes, as `Cell::new_grapheme_with_width` returns it.
+    /// The width must be at most 2.
     pub fn as_cell(&self, alloc: Global) -> Result<Cell, AllocError>
         requires { ref_width self.now ≤ 2 }
         ensures { IfOk result (λ cell.

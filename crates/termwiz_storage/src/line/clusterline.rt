@@ -108,7 +108,7 @@ impl ClusteredLine {
         Some(&run.attrs)
     }
 
-    /// How many cells are left without the visible default blanks that end the list.
+    /// The number of cells without the visible default blanks that end the list.
     pub(super) fn kept_len(&self) -> usize
         ensures { IsKept self.now result }
     {

@@ -230,8 +230,8 @@ impl VecStorage {
     }
 
     /// Sets the cell of each character of a run of printable ASCII, in order from a column on, with
-    /// attributes that take no memory. It takes memory only where the list grows. It also fails at
-    /// a column past the greatest `usize`. An error leaves the list unchanged.
+    /// attributes that take no memory. It also fails at a column past the greatest `usize`. An
+    /// error leaves the list unchanged.
     pub(crate) fn set_run(
         &mut self,
         i: usize,
@@ -263,8 +263,8 @@ impl VecStorage {
     }
 
     /// Sets the cell of each letter of a run, of two columns, and its half, in order from a column
-    /// on, with attributes that take no memory. It takes memory only where the list grows. It also
-    /// fails at a column past the greatest `usize`. An error leaves the list unchanged.
+    /// on, with attributes that take no memory. It also fails at a column past the greatest
+    /// `usize`. An error leaves the list unchanged.
     pub(crate) fn set_letters(
         &mut self,
         i: usize,

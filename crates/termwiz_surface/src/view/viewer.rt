@@ -45,10 +45,9 @@ impl From<AllocError> for AcceptError {
 }
 
 /// A surface that follows another one, its source: it shows what the source showed at the last
-/// `follow`.
+/// `follow` that succeeded.
 ///
-/// `follow` gets from the source the changes since the number that it last returned, and applies
-/// them.
+/// `follow` gets the changes since the viewer's number from the source, and applies them.
 ///
 /// - A viewer gets the changes that it lacks, or a repaint where the source no longer has them or
 ///   they are too many.
@@ -260,7 +259,8 @@ impl<W: Widths> Viewer<W> {
         Ok(())
     }
 
-    // Does so for an owned answer, whose changes are moved.
+    // Applies the changes of an owned answer that fits, which are moved, and sets the viewer's
+    // number to its number.
     fn take_owned(&mut self, answer: Answer) -> Result<(), AllocError>
         requires may { MayTake self.old answer }
         requires numbers { next_number self.old.surface.log + length answer.changes < 2 ^ 64 }
@@ -282,9 +282,9 @@ impl<W: Widths> Viewer<W> {
         Ok(())
     }
 
-    /// Applies the changes of an answer, and returns its number, which becomes the viewer's: the
-    /// viewer then shows what the surface showed when it returned the answer, whatever happened to
-    /// both since.
+    /// Applies the changes of an answer, and returns its number, which becomes the viewer's. A
+    /// viewer that showed what its number names then shows what the surface showed when it returned
+    /// the answer, whatever happened to both since.
     ///
     /// - `Size`: the answer is for another size. `Stale`: it isn't a repaint, and its base isn't
     ///   the viewer's number. Both leave the viewer unchanged.
@@ -399,7 +399,8 @@ impl<W: Widths> Viewer<W> {
         self.surface.flush_changes_older_than(seq);
     }
 
-    /// Makes the viewer show what the source shows now, and returns the source's number.
+    /// Makes a viewer that follows the source show what the source shows now, and returns the
+    /// source's number.
     ///
     /// - `Numbers`: the numbers of the viewer's own surface are used up. `Memory`: memory was
     ///   refused. After both the viewer may show anything, and has no number. Its width value is

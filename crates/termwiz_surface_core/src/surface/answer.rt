@@ -87,7 +87,7 @@ impl Answer {
     pub fn size(&self) -> (usize, usize)
         ensures width { result.0 ≡ self.now.width }
         ensures height { result.1 ≡ self.now.height }
-        // It is a size that a surface may have.
+        // It is a size that a surface can have.
         ensures valid { IsSurfaceSize self.now.width self.now.height }
     {
         (self.width, self.height)

@@ -35,8 +35,8 @@ impl<W: Widths> Surface<W> {
         // All parts of the screen but the rows are unchanged.
         ensures restores { OnOk result (
             screen_of self.new ≡ record (screen_of self.old) { rows = (screen_of self.new).rows }) }
-        // For two surfaces of one width function: the other's rows, where no wide grapheme crosses
-        // an edge.
+        // For two surfaces of one width function: the region shows the other's, where no wide
+        // grapheme crosses an edge.
         ensures region { OnOk result (
             HasDrawn (measure W.width_of) self.old other.now x y (screen_of self.new)) }
         ensures no_scroll { result ≡ Err ScrollRegion → ⊥ }

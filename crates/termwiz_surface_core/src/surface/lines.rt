@@ -1,4 +1,4 @@
-//! The rows of a surface, lent as lines or as cells.
+//! The rows of a surface, borrowed as lines or as cells.
 ghost use Rattle.std.specs.Prelude.{◌≡◌, IfOk, map, option_map, slice_get};
 ghost use Rattle.termwiz_surface_core.specs.{AreVectors, cells_of, row_flags};
 

@@ -120,7 +120,7 @@ impl<W: Widths> Surface<W> {
         Ok(())
     }
 
-    // Prints a run of ASCII, after a pending wrap.
+    // Prints a run of ASCII, and first wraps where a wrap is pending.
     fn print_run(&mut self, run: &str) -> Result<(), AllocError>
         requires some { 0 < length run.now }
         requires plain { list_all is_plain run.now ≡ true }
@@ -151,7 +151,7 @@ impl<W: Widths> Surface<W> {
         Ok(())
     }
 
-    // Prints a run of letters, after a pending wrap.
+    // Prints a run of letters, and first wraps where a wrap is pending.
     fn print_letters(&mut self, run: &str) -> Result<(), AllocError>
         requires some { 0 < length (chars run.now) }
         requires letters { AreLetters run.now }

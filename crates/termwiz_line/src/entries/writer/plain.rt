@@ -44,7 +44,8 @@ impl<'a> RowWriter<'a> {
         }
     }
 
-    // Does so for a pen in a box. It is kept out of line, so that the path of other pens is short.
+    // Writes the next plain cells in a pen that has a box. It is kept out of line, so that the path
+    // of other pens is short.
     #[inline(never)]
     fn boxed_run(&mut self, left: &mut VecStorageIter<'a>) -> Result<(), AllocError>
         requires spaces { self.old.spaces ≡ 0 }

@@ -18,16 +18,16 @@ pub enum DoubleClickRange {
 }
 
 impl Line {
-    /// The columns of the word at which a double click at a column is. A word cell is a visible one
-    /// whose text `is_word` accepts.
+    /// The columns of the word that a double click at a column selects. A word cell is a visible
+    /// one whose text `is_word` accepts.
     ///
     /// - The start is the column of the first cell of the longest run of word cells that ends with
     ///   the last visible cell at the column or before it.
     /// - The end is one past the column at which the last cell begins, of the longest run of word
     ///   cells that starts with the first visible cell at the column or after it. So the second
     ///   column of a wide cell at the end of a word is excluded.
-    /// - Where the run on a side has no cell, the start or end is the column itself. Both are where
-    ///   the column is past the end of the line.
+    /// - Where the run on a side has no cell, the start or end is the column itself. Where the
+    ///   column is past the end of the line, both are the column.
     ///
     /// ```text
     /// |foo bar|  at column 1:  0..3      at column 3, the space:  3..3      at column 5:  4..7

@@ -18,8 +18,8 @@ impl Line {
         self.seqno
     }
 
-    /// Whether the line's number is greater than this one. A line with the number 0 always counts
-    /// as changed.
+    /// Whether the line has changed since this number: whether its own is greater. A line with the
+    /// number 0 always counts as changed.
     pub fn changed_since(&self, seqno: SequenceNo) -> bool
         ensures { IsTrue result ↔ ((self.now.seqno ≡ 0) ⊎ (seqno < self.now.seqno)) }
     {

@@ -22,7 +22,7 @@ impl Line {
     /// - Each line has as many cells as fit, and at least one, so a wide cell has a line of 2
     ///   columns where the width is less. The half of a wide cell follows it.
     /// - A line of spaces alone, or of no cells, is returned unchanged.
-    /// - On an error the line is dropped.
+    /// - An error drops the line.
     pub fn wrap(self, width: usize, seqno: SequenceNo) -> Result<Vec<Line>, AllocError>
         ensures ok { IfOk result (λ lines. IsWrapped width seqno self lines.items) }
         ensures fits { 2 ≤ width → IfOk result (λ lines. FitsWidth width self lines.items) }

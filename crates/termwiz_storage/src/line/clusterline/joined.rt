@@ -30,8 +30,7 @@ impl ClusteredLine {
         Ok(())
     }
 
-    /// Appends the cells of another text. It takes memory only where the text or its lists of runs
-    /// grow. An error leaves the line unchanged.
+    /// Appends the cells of another text. An error leaves the line unchanged.
     pub(crate) fn append_text(&mut self, more: ClusteredLine) -> Result<(), AllocError>
         ensures ok { OnOk result (self.new ≡ self.old ++ more) }
         ensures err { OnErr result (self.new ≡ self.old) }
@@ -39,7 +38,7 @@ impl ClusteredLine {
         if more.len > usize::MAX - self.len {
             return Err(AllocError);
         }
-        // What can fail comes first, so that an error leaves the line as it was.
+        // What can fail comes first, so that an error leaves the line unchanged.
         self.text.reserve(more.text.len())?;
         self.shapes.reserve(more.shapes.len())?;
         self.attrs.reserve(more.attrs.len())?;

@@ -97,8 +97,7 @@ impl VecStorage {
     }
 
     /// Sets the cell of a character of printable ASCII in each of the columns `from..to`, in order,
-    /// with attributes that take no memory. It takes memory only where the list grows. An error
-    /// leaves the list unchanged.
+    /// with attributes that take no memory. An error leaves the list unchanged.
     pub(crate) fn set_copies(
         &mut self,
         from: usize,

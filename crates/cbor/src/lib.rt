@@ -1,9 +1,9 @@
-//! CBOR (RFC 8949) in its core deterministic encoding: integers, booleans, null, texts and the
-//! heads of arrays as bytes, and back.
+//! CBOR (RFC 8949) in its core deterministic encoding: encodes and decodes integers, booleans,
+//! null, texts and the heads of arrays.
 //!
 //! An encoder appends to a `Vec<u8>`; a `Reader` decodes from the front of a slice. Each value has
-//! one encoding, with the shortest head and a definite length. What is encoded is decoded again,
-//! and what is decoded was encoded so. Byte strings, maps, tags and floats are no part of it.
+//! one encoding, with the shortest head and a definite length. Decoding returns each value that was
+//! encoded, and accepts no other encoding. Byte strings, maps, tags and floats are not supported.
 #![tactic(auto)]
 
 mod encoding;

@@ -1,11 +1,11 @@
-//! What bytes decide, when more may come behind them.
+//! What the first bytes decide, whatever bytes follow them.
 ghost use Rattle.std.specs.Prelude.{ℕ, ℤ, Bool, List, ◌<◌, ◌^◌};
 ghost use Rattle.cbor.specs.Encoding.{IsSigned, IsText, array, boolean, signed, text, unsigned};
 ghost use Rattle.cbor.specs.Decoding.{array_at, array_of_at, below_at, boolean_at, kind_at};
 ghost use Rattle.cbor.specs.Decoding.{list_at, null_at, signed_at, text_at, unsigned_at};
 ghost use Rattle.cbor.specs.Prefixes.{BeginningsOf, Reads, behind, fault, left, seen};
 
-/// Each beginning of an item's bytes that is not all of them is `Truncated`.
+/// Each proper prefix of an encoded item is `Truncated`, where the item is within the limit.
 pub fn beginnings()
     ensures unsigned { (n : ℕ) → n < 2 ^ 64 → BeginningsOf fault unsigned_at (unsigned n) }
     ensures signed { (n : ℤ) → IsSigned n → BeginningsOf fault signed_at (signed n) }
@@ -14,8 +14,8 @@ pub fn beginnings()
     ensures array { (n : ℕ) → n < 2 ^ 64 → BeginningsOf fault array_at (array n) }
 {}
 
-/// A value or a fault stays as it is, whatever bytes come behind within the limit, and at the limit
-/// there is one: so an item is `Truncated` exactly where its bytes don't decide.
+/// A value or a fault other than `Truncated` stays the same, whatever bytes follow within the
+/// limit, and no bytes that reach the limit are `Truncated`.
 pub fn decided()
     ensures unsigned { Reads fault left unsigned_at }
     ensures below { (limit : ℕ) → Reads fault left (λ room bytes. below_at room limit bytes) }

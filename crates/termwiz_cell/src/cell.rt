@@ -23,13 +23,13 @@ use std::marker::Model;
 pub use style::{Blink, Intensity, SemanticType, Underline, UnknownNumber, VerticalAlign};
 use text::{CellText, cleaned};
 
-/// One cell of a screen: a text, which takes one or two columns, and its attributes.
+/// One cell of a screen: a text of one or two columns, and its attributes.
 ///
-/// The text is meant to be one grapheme, but each text is kept whole. A text of at most seven bytes
-/// takes no memory.
+/// The text should be one grapheme, but a longer text is accepted and kept whole. A text of at most
+/// seven bytes takes no memory.
 ///
 /// - The empty text, CR LF and a text of one control character of ASCII (U+0000 to U+001F, or
-///   U+007F) become a space. U+0080 to U+009F stay, and so do controls in longer texts.
+///   U+007F) become a space. U+0080 to U+009F, and control characters in longer texts, are kept.
 /// - A width of 0 becomes 1.
 ///
 /// Two cells are equal where text, width and attributes are. A clone can only fail where the text
@@ -52,7 +52,8 @@ impl Model for Cell {
 }
 
 impl Cell {
-    /// The cell of a character, as wide as the width value says. It never fails.
+    /// The cell of a character, of the width that the width value gives the cell's text. It never
+    /// fails.
     #[tactic(auto, using(crate::proofs::Cleaned::length_clean))]
     pub fn new<W: Widths>(
         alloc: Global,
@@ -100,8 +101,8 @@ impl Cell {
         }
     }
 
-    /// The cell of a text, as wide as the width value says of the cell's text by that version of
-    /// Unicode. It can only fail where that text is longer than seven bytes.
+    /// The cell of a text. Its width is the one that the width value gives the cell's text in that
+    /// version of Unicode. It can only fail where that text is longer than seven bytes.
     #[tactic(auto, using(crate::proofs::Cleaned::clean_clean))]
     pub fn new_grapheme<W: Widths>(
         alloc: Global,
@@ -119,7 +120,7 @@ impl Cell {
         Cell::with_clean_text(alloc, text, width > 1, attrs)
     }
 
-    /// The cell of a text that was given a width of at most 2 columns, of which 0 becomes 1. It
+    /// The cell of a text with this width, which is at most 2 columns. A width of 0 becomes 1. It
     /// can only fail where the cell's text is longer than seven bytes.
     #[tactic(auto, using(crate::proofs::Cleaned::clean_clean))]
     pub fn new_grapheme_with_width(
@@ -159,8 +160,8 @@ impl Cell {
         self.text.str()
     }
 
-    /// The character of a cell that `plain` makes: one of printable ASCII, U+0020 to U+007E, which
-    /// takes one column. Any other cell has none.
+    /// The character of a cell of one column whose text is one character of printable ASCII, U+0020
+    /// to U+007E. Returns `None` for any other cell.
     #[doc(hidden)]
     #[inline(always)]
     pub fn as_plain(&self) -> Option<u8>
@@ -171,7 +172,7 @@ impl Cell {
         self.text.as_plain()
     }
 
-    /// The columns that the cell takes: 1 or 2.
+    /// The cell's width in columns: 1 or 2.
     pub fn width(&self) -> usize
         ensures value { result ≡ columns self.now }
         ensures low { 1 ≤ result }
@@ -187,7 +188,7 @@ impl Cell {
         &self.attrs
     }
 
-    /// The attributes, for writing: what is left behind the reference stands in the cell.
+    /// The attributes, for writing: what is written through the reference is the cell's.
     pub fn attrs_mut(&mut self) -> &mut CellAttributes
         ensures* writes_back { sem 𝓛 (LendsAttrs self.entry result) }
         ensures value { result.now ≡ self.old.attrs }
@@ -202,8 +203,8 @@ impl Cell {
         self.text.is_blank() && self.attrs.is_blank()
     }
 
-    /// How the text is shown: in the form that a variation selector in it asks for, or else as
-    /// the width value says.
+    /// The form in which the text is shown, as the width value gives it: the one that a variation
+    /// selector in the text asks for, or else the default one.
     pub fn presentation<W: Widths>(&self, widths: &W) -> Presentation
         ensures { let shown = W.presentation_of widths.now self.now.text in
             result ≡ unwrap_or shown.1 shown.0 }
@@ -229,7 +230,7 @@ impl Clone for Cell {
 }
 
 impl Cell {
-    /// A copy, where that takes no memory, and else `None`.
+    /// A copy, or `None` where it would take memory.
     #[doc(hidden)]
     #[inline(always)]
     pub fn short_copy(&self) -> Option<Cell>

@@ -1,4 +1,4 @@
-//! The changes of a surface, and how places and changes are IsNumbered.
+//! The changes of a surface, the positions in them, and their numbers.
 ghost use Rattle.std.specs.Prelude.{◌≡◌, ◌<◌, ◌↔◌, IfOk, IsTrue, false, string_bytes};
 ghost use Rattle.termwiz_cell.specs.{Attribute, LineAttribute, Text, attribute_change_value};
 ghost use Rattle.termwiz_cell.specs.{change_eq, change_eq-Decides, change_value, copy_takes_memory};
@@ -14,19 +14,20 @@ use crate::color::{ColorAttribute, is_same_color};
 pub use sequence::{ChangeSequence, SequenceError};
 use std::alloc::{AllocError, Global};
 
-/// A column or a row, counted from 0, to which a cursor is moved.
+/// A column or a row, numbered from 0, to which a cursor is moved.
 ///
-/// A surface keeps its cursor in one of its rows, and in a column that is at most its width. In the
-/// column that equals the width, behind the last one, the next grapheme wraps first.
+/// A surface keeps its cursor in one of its rows, and in a column from 0 to its width. In the
+/// column that equals the width, after the last one, the next grapheme wraps first.
 #[derive(Clone, Copy, PartialEq, Eq, Debug)]
 pub enum Position {
-    /// From the current place: below 0 to the left, or up. The first and the last column or row
-    /// end the move.
+    /// Relative to the current column or row: a negative value moves left, or up. On a surface the
+    /// move stops at the first and at the last column or row.
     Relative(isize),
-    /// From the first column or row, which is 0. A column past the width is the last one, and a
-    /// row past the last one is that one.
+    /// The column or row itself. On a surface a column greater than the width becomes the last
+    /// column, and a row past the last one the last row.
     Absolute(usize),
-    /// From the end: the width or height less this, at least 0. A row is at most the last one.
+    /// The width, or the height, minus this value. On a surface the result is at least 0, and a row
+    /// at most the last one.
     EndRelative(usize),
 }
 
@@ -38,10 +39,10 @@ pub enum CursorVisibility {
     Visible,
 }
 
-/// How the cursor is drawn where it is shown.
+/// How the cursor is drawn while it is visible.
 #[derive(Clone, Copy, PartialEq, Eq, Hash, Debug, Default)]
 pub enum CursorShape {
-    /// As whoever shows the surface draws it by default.
+    /// The default shape of the terminal that shows the surface.
     #[default]
     Default,
     BlinkingBlock,
@@ -53,7 +54,7 @@ pub enum CursorShape {
 }
 
 impl CursorShape {
-    /// Whether this is one of the three blinking shapes. The default is none of them.
+    /// Whether this is one of the three blinking shapes, of which the default is none.
     pub fn is_blinking(&self) -> bool
         ensures { result ≡ is_blinking_shape self.now }
     {
@@ -63,7 +64,7 @@ impl CursorShape {
         )
     }
 
-    /// Its number: the variants have those from 0 on, in their order.
+    /// The variant's number: variants are numbered from 0, in their order.
     pub fn number(self) -> u8
         ensures value { result ≡ shape_number self }
         ensures bound { result < 7 }
@@ -72,7 +73,7 @@ impl CursorShape {
     }
 }
 
-/// The variant of a number, and a fault for the number of none.
+/// The variant of a number, and `UnknownNumber` where no variant has it.
 impl TryFrom<u8> for CursorShape {
     type Error = UnknownNumber;
 
@@ -92,21 +93,21 @@ impl TryFrom<u8> for CursorShape {
     }
 }
 
-/// How large the cells of a line are shown. The cells stay as they are.
+/// How large the cells of a line are shown. It doesn't change the cells.
 #[derive(Clone, Copy, PartialEq, Eq, Debug)]
 pub enum LineAttribute {
-    /// Twice as wide and twice as high, of which this line shows the upper half.
+    /// Double width and double height; this line shows the upper half.
     DoubleHeightTopHalfLine,
-    /// Twice as wide and twice as high, of which this line shows the lower half.
+    /// Double width and double height; this line shows the lower half.
     DoubleHeightBottomHalfLine,
-    /// Twice as wide.
+    /// Double width.
     DoubleWidthLine,
-    /// As large as on any line.
+    /// The usual size.
     SingleWidthLine,
 }
 
 impl LineAttribute {
-    /// Its number: the variants have those from 0 on, in their order.
+    /// The variant's number: variants are numbered from 0, in their order.
     pub fn number(self) -> u8
         ensures value { result ≡ line_number self }
         ensures bound { result < 4 }
@@ -115,7 +116,7 @@ impl LineAttribute {
     }
 }
 
-/// The variant of a number, and a fault for the number of none.
+/// The variant of a number, and `UnknownNumber` where no variant has it.
 impl TryFrom<u8> for LineAttribute {
     type Error = UnknownNumber;
 
@@ -132,49 +133,48 @@ impl TryFrom<u8> for LineAttribute {
     }
 }
 
-/// The number of a change of a surface: each change has the next one after the change before it.
-/// Unless it is 0 still, a surface's number also grows by one for a resize, and for a list that
-/// found no memory. Lines are given such numbers too.
+/// The number of a change of a surface: the surface's number before it. That grows by one with each
+/// change, and, unless it is 0, with a resize and with a list of changes for which memory was
+/// refused. Lines have numbers too.
 pub type SequenceNo = usize;
 
-/// The number of a surface before any change, and of its first one.
+/// The number of a surface before any change, and of its first change.
 pub const SEQ_ZERO: SequenceNo = 0;
 
 /// One change of a surface: a text to print, a pen to set, a part to clear or scroll, a place for
 /// the cursor.
 ///
-/// A program makes changes and adds them to a surface, which applies each to its screen. Whoever
-/// shows the surface, a terminal say, asks it for the changes that are due and applies that list in
-/// its order: its own screen then shows the same.
+/// A program adds changes to a surface, which applies each to its screen. A viewer, a terminal for
+/// example, asks the surface for the changes that are due and applies them in order: its own screen
+/// then shows the same.
 ///
-/// So one type serves both, and what a viewer was given can be added to a second surface as it is.
+/// So the changes that a viewer gets can be added to a second surface.
 ///
-/// A change acts at the cursor and with the pen that those before it left. The pen is the
-/// attributes of coming texts. The cursor's colour and shape, the title, and how large lines are
-/// shown are kept beside the screen: setting one of them changes no cell.
+/// A change acts at the cursor and with the pen that the change before it left. The pen is the
+/// attributes of the next text. Setting the cursor's colour or shape, the title, or how large a
+/// line is shown changes no cell.
 ///
-/// Two changes are equal where they say the same: texts are compared by their bytes, and links
-/// as values, wherever they are stored. A clone can only fail at a text, a title, a link, or
-/// attributes that take memory.
+/// Two changes are equal where all their parts are: texts are compared by their bytes, and links as
+/// values. A clone can only fail at a text, a title, a link, or attributes that take memory.
 #[derive(Drop, Debug)]
 pub enum Change {
-    /// Sets one attribute of the pen, and leaves the others.
+    /// Sets one attribute of the pen, and leaves the others unchanged.
     Attribute(AttributeChange),
     /// Sets the whole pen.
     AllAttributes(CellAttributes),
-    /// Prints a text at the cursor with the pen, and goes on in the next row where a row is full.
-    /// CR goes to the first column, LF to the next row, and CR LF does both: for a new line use
-    /// both. Below the last row the rows scroll up by one. Other control characters of ASCII are
-    /// spaces.
+    /// Prints a text at the cursor with the pen, and continues in the next row where a row is full.
+    /// CR moves to the first column, LF to the next row in the same column, and CR LF does both. A
+    /// move below the last row scrolls all rows up by one. Other control characters of ASCII are
+    /// printed as spaces.
     Text(String),
-    /// Clears all rows with this background, which is then all that the pen has, and takes the
-    /// cursor to the first column of the first row.
+    /// Sets the pen to the default attributes with this background, fills all rows with blanks of
+    /// the pen, and moves the cursor to column 0 of row 0.
     ClearScreen(ColorAttribute),
-    /// Clears from the cursor to the end of its row with this background, which is then all that
-    /// the pen has. The cursor stays.
+    /// Sets the pen to the default attributes with this background, and fills the cursor's row from
+    /// the cursor to the end with blanks of the pen. The cursor doesn't move.
     ClearToEndOfLine(ColorAttribute),
-    /// Clears from the cursor to the end of its row, and all rows below, with this background,
-    /// which is then all that the pen has. The cursor stays.
+    /// Sets the pen to the default attributes with this background, and fills the cursor's row from
+    /// the cursor to the end, and all rows below, with blanks of the pen. The cursor doesn't move.
     ClearToEndOfScreen(ColorAttribute),
     /// Moves the cursor to column `x` and row `y`.
     CursorPosition {
@@ -187,19 +187,19 @@ pub enum Change {
     CursorShape(CursorShape),
     /// Shows or hides the cursor.
     CursorVisibility(CursorVisibility),
-    /// Takes `scroll_count` rows, at most all, off the top of the region of `region_size` rows
+    /// Removes `scroll_count` rows, at most all, from the top of the region of `region_size` rows
     /// that begins at `first_row`, moves the others up, and adds as many default rows at the
-    /// region's bottom. A region that goes past the last row refuses its whole list. The cursor
-    /// stays.
+    /// region's bottom. A list of changes with a region that goes past the last row is refused as a
+    /// whole. The cursor doesn't move.
     ScrollRegionUp {
         first_row: usize,
         region_size: usize,
         scroll_count: usize,
     },
-    /// Takes `scroll_count` rows, at most all, off the bottom of the region of `region_size` rows
-    /// that begins at `first_row`, moves the others down, and adds as many default rows at the
-    /// region's top. A region that goes past the last row refuses its whole list. The cursor
-    /// stays.
+    /// Removes `scroll_count` rows, at most all, from the bottom of the region of `region_size`
+    /// rows that begins at `first_row`, moves the others down, and adds as many default rows at the
+    /// region's top. A list of changes with a region that goes past the last row is refused as a
+    /// whole. The cursor doesn't move.
     ScrollRegionDown {
         first_row: usize,
         region_size: usize,
@@ -265,7 +265,7 @@ impl Clone for Change {
 }
 
 impl Change {
-    /// The change that prints a copy of this text.
+    /// A change that prints a copy of this text.
     pub fn text_from(alloc: Global, text: &str) -> Result<Change, AllocError>
         ensures { IfOk result (λ change. change_value change ≡ Text text.now) }
     {
@@ -280,7 +280,7 @@ impl Change {
         matches!(self, Change::Text(_))
     }
 
-    /// The text that this prints. It may only be asked of a change that prints one.
+    /// The text that this prints. The change must be a `Text`.
     pub fn text(&self) -> &str
         requires { IsTrue (is_text (change_value self.now)) }
         ensures { change_value self.now ≡ Text result.now }

@@ -1,4 +1,4 @@
-//! How wide texts are, and how they are shown.
+//! The widths of texts, and the form in which they are shown.
 ghost use Rattle.std.specs.Prelude.{◌≡◌, None, false, refl};
 ghost use Rattle.termwiz_cell.specs.{asked_by, at_version, chars, columns_of, is_whitespace};
 ghost use Rattle.termwiz_cell.specs.{list_all, unicode_columns, variation, version_index};
@@ -17,8 +17,8 @@ pub enum Presentation {
 }
 
 impl Presentation {
-    /// How a grapheme is shown by default, and then the form that a variation selector in it
-    /// asks for, if one does.
+    /// The form in which a grapheme is shown by default, and the form that a variation selector in
+    /// it asks for, if any.
     pub fn for_grapheme<W: Widths>(
         widths: &W,
         grapheme: &str,
@@ -28,7 +28,7 @@ impl Presentation {
         widths.presentation(grapheme)
     }
 
-    /// How a character is shown by default.
+    /// The form in which a character is shown by default.
     pub fn for_char<W: Widths>(widths: &W, c: char) -> Presentation
         ensures { result ≡ W.char_presentation_of widths.now c }
     {
@@ -36,8 +36,8 @@ impl Presentation {
     }
 }
 
-/// A version of Unicode by which a width value may be asked, and how the characters of ambiguous
-/// width are taken. `UnicodeWidths` has one set of tables, whatever is asked for.
+/// A version of Unicode to measure by, and how wide characters of ambiguous width are.
+/// `UnicodeWidths` ignores it: it has one set of tables.
 #[derive(Clone, Copy, PartialEq, Eq, Debug)]
 pub struct UnicodeVersion {
     /// The major version.
@@ -46,8 +46,7 @@ pub struct UnicodeVersion {
     pub ambiguous_are_wide: bool,
 }
 
-/// Version 14, in which characters of ambiguous width take one column. `UnicodeWidths` answers for
-/// it as for any other version.
+/// Version 14, in which characters of ambiguous width take one column. `UnicodeWidths` ignores it.
 pub const LATEST_UNICODE_VERSION: UnicodeVersion = UnicodeVersion {
     version: 14,
     ambiguous_are_wide: false,
@@ -64,9 +63,8 @@ impl UnicodeVersion {
         }
     }
 
-    /// The number of this version's kind, of four: 0 up to version 9 and 2 above it, and 1 more
-    /// where characters of ambiguous width take two columns. A width value may have a table for
-    /// each kind; `UnicodeWidths` has one for all.
+    /// The index of a width table, from 0 to 3: 0 up to version 9 and 2 above it, and 1 more where
+    /// characters of ambiguous width take two columns. `UnicodeWidths` has one table for all.
     pub fn idx(&self) -> usize
         ensures { result ≡ version_index self.now }
     {
@@ -76,10 +74,10 @@ impl UnicodeVersion {
     }
 }
 
-/// The widths of texts, and how they are shown.
+/// The widths of texts, and the form in which they are shown.
 ///
-/// A width is 0 to 2 columns, a single space has 1, and the same arguments have always the same
-/// answer.
+/// A width is 0 to 2 columns, a single space has 1, and the result of each call depends on the
+/// value and the arguments alone.
 pub trait Widths: Copy {
     ghost use Rattle.std.specs.Prelude.{◌≡◌, ◌≤◌, [], ◌∷◌, IsTrue, List, Option, ℕ};
     ghost use Rattle.termwiz_cell.specs.declared.emoji.Presentation.{Presentation};
@@ -93,23 +91,23 @@ pub trait Widths: Copy {
 
     ghost char_presentation_of: { Self → ℕ → Presentation };
 
-    /// The columns of the text, taken as one grapheme, by that version of Unicode, where one is
+    /// The columns of the text, taken as one grapheme, in that version of Unicode, where one is
     /// given.
     fn width(&self, text: &str, version: Option<UnicodeVersion>) -> usize
         ensures { result ≡ width_of self.now text.now version };
 
-    /// How the text is shown by default, and then the form that a variation selector in it asks
-    /// for, if one does.
+    /// The form in which the text is shown by default, and the form that a variation selector in it
+    /// asks for, if any.
     fn presentation(&self, text: &str) -> (Presentation, Option<Presentation>)
         ensures { result ≡ presentation_of self.now text.now };
 
-    /// How the character is shown by default.
+    /// The form in which the character is shown by default.
     fn char_presentation(&self, c: char) -> Presentation
         ensures { result ≡ char_presentation_of self.now c };
 
     /// Whether each character of printable ASCII, by itself and with no version, has one column at
-    /// most. A run of printable ASCII is then printed with none of it measured. The default answer,
-    /// `false`, promises nothing and is always right.
+    /// most. A run of printable ASCII is then printed without being measured. The default, `false`,
+    /// promises nothing and is always right.
     fn has_narrow_ascii(&self) -> bool
         ensures { IsTrue result → HasNarrowAscii (measure width_of self.now) }
     {
@@ -117,8 +115,8 @@ pub trait Widths: Copy {
     }
 
     /// Whether each letter of hiragana or katakana and each common ideograph, by itself and with no
-    /// version, has two columns. A run of such letters is then printed with none of it measured.
-    /// The default answer, `false`, promises nothing and is always right.
+    /// version, has two columns. A run of such letters is then printed without being measured. The
+    /// default, `false`, promises nothing and is always right.
     fn has_wide_letters(&self) -> bool
         ensures { IsTrue result → HasWideLetters (measure width_of self.now) }
     {
@@ -132,7 +130,7 @@ pub trait Widths: Copy {
         width_of w (32 ∷ []) version ≡ 1 };
 }
 
-/// Each text has one column, the empty one too, and is shown as text.
+/// Gives each text one column, the empty one too. Each is shown as text.
 #[derive(Clone, Copy, PartialEq, Eq, Debug)]
 pub struct OneColumn;
 
@@ -167,8 +165,8 @@ impl Widths for OneColumn {
 }
 
 /// The widths of the Unicode tables, cut at 2 columns, whatever the version. Characters of
-/// ambiguous width take one column. Texts are shown as text, unless the first variation selector in
-/// them asks for the emoji form.
+/// ambiguous width take one column. A text is shown as text, unless the first variation selector in
+/// it asks for the emoji form.
 #[derive(Clone, Copy, PartialEq, Eq, Debug)]
 pub struct UnicodeWidths;
 
@@ -185,7 +183,7 @@ impl Widths for UnicodeWidths {
 
     ghost space_has_one = { λ _ _. unicode_columns-space };
 
-    // For one character of printable ASCII, of kana, or of the common ideographs no table is read.
+    // No table is read for one character of printable ASCII, of kana, or of the common ideographs.
     #[tactic(auto, using(crate::proofs::PlainWidths::one_plain_width, crate::proofs::PlainWidths::one_letter_width))]
     fn width(&self, text: &str, _version: Option<UnicodeVersion>) -> usize {
         if is_one_plain(text) {
@@ -224,8 +222,8 @@ fn table_width(text: &str) -> usize
     text.width().min(2)
 }
 
-/// The columns of a grapheme, 0 to 2, as the width value says by that version of Unicode. A text of
-/// several graphemes is taken as one.
+/// The columns of a grapheme, 0 to 2, that the width value gives it in that version of Unicode. A
+/// text of several graphemes is measured as one.
 pub fn grapheme_column_width<W: Widths>(
     widths: &W,
     grapheme: &str,
@@ -236,7 +234,7 @@ pub fn grapheme_column_width<W: Widths>(
     widths.width(grapheme, version)
 }
 
-/// The columns of a text: those of its graphemes, added up.
+/// The columns of a text: the sum over its graphemes.
 pub fn unicode_column_width<W: Widths>(
     widths: &W,
     text: &str,
@@ -258,7 +256,7 @@ pub fn is_white_space_char(c: char) -> bool
     c.is_whitespace()
 }
 
-/// Whether all characters of the text are white space, as they are in the empty text.
+/// Whether all characters of the text are white space. The empty text has only such.
 pub fn is_white_space_grapheme(text: &str) -> bool
     ensures { result ≡ list_all is_whitespace (chars text.now) }
 {

@@ -1,4 +1,4 @@
-//! Links: a target, parameters, and the texts in which escape sequences carry them.
+//! Links: a target, params, and the text that the escape sequence OSC 8 has for them.
 mod params;
 
 ghost use Rattle.std.specs.Prelude.{◌≡◌, ◌≢◌, ◌↔◌, ◌∷◌, [], IfSome, MatchResult, map, string_bytes};
@@ -15,7 +15,7 @@ use std::fmt;
 use std::marker::Model;
 use thiserror::Error;
 
-/// A link: its target, its parameters in the order of their keys, and whether a rule made it of the
+/// A link: its target, its params in the order of their keys, and whether a rule made it of the
 /// text on a screen. Two links are equal where all three are.
 #[derive(Drop, Debug)]
 pub struct Hyperlink {
@@ -24,7 +24,7 @@ pub struct Hyperlink {
     implicit: bool,
 }
 
-/// Why a text is no link. The first fault that applies, in this order, is the one that is named.
+/// Why a text is not a link. The first error that applies, in this order, is returned.
 #[derive(Debug, Clone, Copy, PartialEq, Eq, Error)]
 pub enum LinkError {
     /// Error 1: there are not three parts.
@@ -108,8 +108,8 @@ impl Hyperlink {
         }
     }
 
-    /// A link that is put together of its parts, as one that was stored or sent has them: its
-    /// target, its parameters, and whether a rule made it of the text on a screen.
+    /// A link from its parts, as they were stored or sent: its target, its params, and whether a
+    /// rule made it of the text on a screen.
     pub fn from_parts(uri: String, params: BTreeMap<String, String>, implicit: bool) -> Hyperlink
         ensures { result
             ≡ record {
@@ -132,12 +132,12 @@ impl Hyperlink {
         self.uri.as_str()
     }
 
-    /// The link's parameters, in the order of their keys.
+    /// The link's params, in the order of their keys.
     pub fn params(&self) -> &BTreeMap<String, String>
         ensures params { map param_bytes result.now.entries ≡ self.now.params }
         ensures ordered { AreInOrder self.now.params }
     {
-        // The length of a map says that its keys ascend.
+        // `len` promises that the keys of a map ascend.
         prove!(self.params.len() < usize::MAX);
         &self.params
     }
@@ -149,14 +149,14 @@ impl Hyperlink {
         self.implicit
     }
 
-    /// Reads the three parts of a hyperlink sequence, OSC 8: one that is not looked at, the params
-    /// and the uri. Params are `key=value` with `:` between them, each cut at its first `=`; where
-    /// a key comes again, its last value stands.
+    /// Parses the three parts of an OSC 8 sequence: one that is ignored, the params and the uri.
+    /// Params are `key=value` with `:` between them, each split at its first `=`. Where a key is
+    /// repeated, its last value is kept.
     ///
-    /// Where the params and the uri are both empty there is no link, and no error. The faults are
-    /// found in the order of `LinkError`.
+    /// Returns `Ok(None)` where the params and the uri are both empty. The first error that applies
+    /// is returned, in the order of `LinkError`.
     pub fn parse(alloc: Global, osc: &[&[u8]]) -> Result<Option<Hyperlink>, LinkError>
-        // Each fault but `Memory`, and no link, comes exactly in its case.
+        // Each error but `Memory`, and `Ok(None)`, is returned exactly in its case.
         ensures count { (result ≡ Err LinkError.WrongParamCount) ↔ (length osc.now ≢ 3) }
         ensures utf8 { (result ≡ Err LinkError.NotUtf8)
             ↔ ((length osc.now ≡ 3) × ¬ (AreTexts (part osc.now 1) (part osc.now 2))) }
@@ -166,11 +166,11 @@ impl Hyperlink {
         ensures none { (result ≡ Ok None)
             ↔ ((length osc.now ≡ 3) × AreEmpty (part osc.now 1) (part osc.now 2)) }
 
-        // A link is the one that the params and the uri spell.
+        // A link that is returned is the one that the params and the uri spell.
         ensures link { IfOk result (λ found.
             IfSome found (SpellsOnly (part osc.now 1) (part osc.now 2))) }
 
-        // What a link prints is read back, if there is memory.
+        // A printed link is parsed again to the same link, unless memory is refused.
         ensures back { (link : Link) → IsReadable link → ArePrinted osc.now link
             → MatchResult result (λ found. found ≡ Some link) (λ e. e ≡ LinkError.Memory) }
     {
@@ -232,7 +232,7 @@ impl Eq for Hyperlink {
     ghost laws = { decided link_eq link_eq-Decides };
 }
 
-/// The link of a params text and a uri, if one of them is not empty.
+/// The link of these params and this uri, or `None` where both are empty.
 fn read_link(alloc: Global, params: &[u8], uri: &[u8]) -> Result<Option<Hyperlink>, LinkError>
     ensures { ReadsLink params.now uri.now result }
 {

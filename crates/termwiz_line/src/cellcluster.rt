@@ -1,4 +1,4 @@
-//! Clusters: the pieces of a line in which a shaper finds the glyphs of its text.
+//! Clusters: the pieces of a line that a text shaper is given.
 ghost use Rattle.std.specs.Prelude.{◌≡◌, ◌<◌, ◌↔◌, ◌∷◌, [], IfOk, IsTrue, length, slice_index_or};
 ghost use Rattle.termwiz_line.specs.{AreClusters, ClusterValue, IsOfCell, OnOk, cells_left};
 ghost use Rattle.termwiz_line.specs.{cluster_of, columns, indexed_cell, look_of, ref_cell};
@@ -17,22 +17,22 @@ mod shape;
 use byte_cells::ByteCells;
 use shape::Shape;
 
-/// A piece of a line that is shaped as one: visible cells of the same attributes and presentation,
-/// of which all are spaces, or at most the last one is.
+/// A piece of a line that is shaped as a unit: visible cells with the same attributes and
+/// presentation, of which all are spaces, or at most the last one is.
 ///
-/// A shaper is given the text. For each byte of it the cluster knows the cell that the byte belongs
-/// to, so the glyphs find their columns.
+/// The cluster maps each byte of its text to the column and the width of the cell that the byte
+/// belongs to, so that glyphs can be placed.
 #[derive(Debug, Drop)]
 pub struct CellCluster {
-    /// The attributes of each cell, without the mark of a line that goes on.
+    /// The attributes of the cells, without the wrapped mark.
     pub attrs: CellAttributes,
-    /// The texts of the cells, one after another.
+    /// The texts of the cells, concatenated.
     pub text: String,
-    /// The columns that the cells take.
+    /// The number of columns of the cells.
     pub width: usize,
-    /// How each cell is shown, as text or as emoji.
+    /// The form in which the cells are shown, text or emoji.
     pub presentation: Presentation,
-    /// The direction in which the text is laid out: always from left to right.
+    /// The direction in which the text is laid out: always left to right.
     pub direction: Direction,
     /// The column at which the first cell begins.
     pub first_cell_idx: usize,
@@ -61,10 +61,10 @@ impl Model for CellCluster {
 }
 
 impl CellCluster {
-    /// The clusters of visible cells, in order. The cells are cut where the attributes, but for the
-    /// mark of a line that goes on, or the presentation change. Each piece is cut from the left
-    /// into clusters that are as long as possible: spaces alone, or other cells and at most one
-    /// space behind them.
+    /// The clusters of visible cells, in order. The cells are split where the presentation or the
+    /// attributes change, except for the wrapped mark. Each piece is split from the left into
+    /// clusters that are as long as possible: spaces alone, or other cells and at most one space
+    /// after them.
     /// ```text
     /// |foo  bar|  gives  `foo `, ` ` and `bar`
     /// ```
@@ -91,7 +91,7 @@ impl CellCluster {
         self.cells.get(byte_idx).0
     }
 
-    /// The columns that the cell takes to which a byte of the text belongs.
+    /// The width in columns of the cell that a byte of the text belongs to.
     pub fn byte_to_cell_width(&self, byte_idx: usize) -> u8
         requires { byte_idx < length self.now.text }
         ensures { result ≡ (slice_index_or self.now.cells_of_bytes byte_idx (0, 0)).1 }
@@ -99,7 +99,7 @@ impl CellCluster {
         self.cells.get(byte_idx).1
     }
 
-    // The cluster of a cell alone.
+    // The cluster of a single cell.
     fn starting_at<W: Widths>(
         alloc: Global,
         widths: &W,
@@ -205,7 +205,7 @@ fn clusters_from<'a, W: Widths>(
     Ok(clusters)
 }
 
-// The columns that a cell takes.
+// The width of a cell in columns.
 fn width_of(cell: CellRef<'_>) -> u8
     requires { IsOfCell cell }
     ensures { result ≡ columns (ref_cell cell.entry) }
@@ -213,7 +213,7 @@ fn width_of(cell: CellRef<'_>) -> u8
     if cell.width() > 1 { 2 } else { 1 }
 }
 
-// A copy of the attributes without the mark.
+// A copy of the attributes without the wrapped mark.
 fn without_mark(attrs: &CellAttributes) -> Result<CellAttributes, AllocError>
     ensures { IfOk result (λ copy. copy ≡ unmarked_attributes attrs.now) }
 {
@@ -222,7 +222,7 @@ fn without_mark(attrs: &CellAttributes) -> Result<CellAttributes, AllocError>
     Ok(copy)
 }
 
-// Whether the attributes are the unmarked ones, but for the mark.
+// Whether the attributes equal `unmarked` except for the wrapped mark.
 fn has_attributes(attrs: &CellAttributes, unmarked: &CellAttributes) -> Result<bool, AllocError>
     ensures { IfOk result (λ same. IsTrue same ↔ (unmarked_attributes attrs.now ≡ unmarked.now)) }
 {

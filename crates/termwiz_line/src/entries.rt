@@ -1,4 +1,4 @@
-//! Row entries: the changes that print rows of visible cells, written cell by cell.
+//! Row entries: the changes that print rows of visible cells.
 ghost use Rattle.std.specs.Prelude.{◌≡◌, IfOk};
 ghost use Rattle.termwiz_line.specs.{cells_left, penned_value, row_entries};
 
@@ -17,11 +17,12 @@ pub use writer::RowWriter;
 pub struct Penned<'a> {
     /// The changes, in order.
     pub entries: Vec<Change>,
-    /// The attributes that the changes leave for coming text.
+    /// The pen that the changes leave.
     pub pen: &'a CellAttributes,
 }
 
-/// The changes that print a row of these visible cells from a pen on, and the pen after them.
+/// The changes that print a row of these visible cells, starting with a pen, and the pen that they
+/// leave.
 pub fn row_entries<'a>(
     alloc: Global,
     cells: VisibleCellIter<'a>,

@@ -1,5 +1,5 @@
-//! Diffs: the changes that print what other rows, a region of them, or lines show and own rows
-//! don't.
+//! Diffs: the changes that print what own rows lack of other rows, of a region of them, or of
+//! lines.
 pub mod lists;
 pub mod region;
 mod rows;

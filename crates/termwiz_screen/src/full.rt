@@ -1,4 +1,5 @@
-//! Full screens: copies of what surfaces show and of what they keep beside it.
+//! Full screens: copies of what surfaces show, with title, the cursor's colour and shape, and the
+//! size of each row.
 ghost use Rattle.std.specs.Prelude.{◌≡◌, ◌↔◌, IfOk, IsTrue, bytes_eq, map};
 ghost use Rattle.termwiz_screen.specs.{line_attribute, line_attribute_eq, partial_equiv_from_equiv};
 ghost use Rattle.termwiz_screen.specs.{color_eq, full_eq-Decides, full_value, pointwise, row_flags};
@@ -11,17 +12,18 @@ use termwiz_cell::change::{CursorShape, LineAttribute};
 use termwiz_cell::color::ColorAttribute;
 use termwiz_line::line::line::Line;
 
-/// What a surface shows, and what it keeps beside it. Two are equal where all of this is.
+/// What a surface shows, with title, the cursor's colour and shape, and the size of each row. Two
+/// are equal where all of this is.
 #[derive(Drop, Debug)]
 pub struct FullScreen {
-    /// The rows, the cursor, whether it is shown, and the pen.
+    /// The rows, the cursor, its visibility, and the pen.
     pub screen: Screen,
     pub title: String,
-    /// The cursor's shape, which is the default one where none was set.
+    /// The cursor's shape, or the default one where none was set.
     pub shape: CursorShape,
     /// The cursor's colour.
     pub color: ColorAttribute,
-    /// How each row is shown.
+    /// How large each row is shown.
     pub lines: Vec<LineAttribute>,
 }
 
@@ -86,7 +88,7 @@ fn has_same_lines(a: &[LineAttribute], b: &[LineAttribute]) -> bool
     true
 }
 
-/// How each row is shown.
+/// How large each row is shown.
 #[doc(hidden)]
 pub fn attributes_of(alloc: Global, rows: &VecDeque<Line>) -> Result<Vec<LineAttribute>, AllocError>
     ensures { IfOk result (λ lines. lines.items ≡ map line_attribute (row_flags rows.now.items)) }
@@ -98,7 +100,7 @@ pub fn attributes_of(alloc: Global, rows: &VecDeque<Line>) -> Result<Vec<LineAtt
     Ok(lines)
 }
 
-/// How a row is shown.
+/// How large a row is shown.
 #[doc(hidden)]
 pub fn attribute_of(row: &Line) -> LineAttribute
     ensures { result ≡ line_attribute row.now.flags }
@@ -114,7 +116,7 @@ pub fn attribute_of(row: &Line) -> LineAttribute
     }
 }
 
-/// The cursor's shape, which is the default one where none was set.
+/// The cursor's shape, or the default one where none was set.
 #[doc(hidden)]
 pub fn shape_or_default(shape: Option<CursorShape>) -> CursorShape
     ensures { result ≡ shape_of shape }

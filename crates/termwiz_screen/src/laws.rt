@@ -1,4 +1,4 @@
-//! Laws of the definitions that contracts cite, each on a function that does nothing.
+//! Laws of the definitions that contracts cite. Each is stated on a function that does nothing.
 ghost use Rattle.termwiz_screen.specs.{ChangesMakeFullScreens, CutIsInside, FullRepaintGivesScreen};
 ghost use Rattle.termwiz_screen.specs.{FewestNarrowPrints, FullRepaintIsShort, LineEntriesGiveRow};
 ghost use Rattle.termwiz_screen.specs.{LinesArePrintable, RepaintGivesScreen, ResizedKeepsLines};
@@ -14,7 +14,7 @@ pub fn repaint_laws()
     ensures line { LineEntriesGiveRow }
 {}
 
-/// What changes make of full screens, and what a full repaint does when it is replayed.
+/// Which full screens changes lead to, and what a full repaint does when it is replayed.
 pub fn full_repaint_laws()
     ensures step { FullStepsAreSo }
     ensures scrolled { TextsScrollRows }
@@ -24,7 +24,7 @@ pub fn full_repaint_laws()
     ensures short { FullRepaintIsShort }
 {}
 
-/// What a diff has to print: in words, and what it gives where it is painted.
+/// What a diff has to print: which cells these are, and what painting them gives.
 pub fn need_laws()
     ensures worded { NeedIs }
     ensures inside { CutIsInside }
@@ -43,16 +43,16 @@ pub fn diff_laws()
     ensures restores { DrawingRestores }
 {}
 
-/// How few paints lead from one screen to another of its size: no fewer than a third of what a diff
-/// prints, and no fewer than all of it where nothing is wide.
+/// The fewest paints that lead from one screen to another of its size: at least a third as many as
+/// a diff prints, and at least as many where no cell is wide.
 pub fn fewest_prints()
     ensures thirds { FewestPrints }
     ensures narrow { FewestNarrowPrints }
 {}
 
-/// Where a text and a move leave the cursor of a sequence: a text in the column in which it leaves
-/// a surface's, and a move by distances at its place, where that is on the screen or as many rows
-/// above it.
+/// Where a text and a move leave the cursor of a sequence: a text in the same column as on a
+/// surface, and a move by distances at the requested place, where its column is on the screen and
+/// the absolute value of its row less than the number of rows.
 pub fn sequence_laws()
     ensures texts { TextsMoveAlike }
     ensures moves { MovesLeadThere }

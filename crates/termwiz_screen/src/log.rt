@@ -1,4 +1,4 @@
-//! The log of a surface: the changes that were made, by their numbers.
+//! The log of a surface: its changes, by their numbers.
 ghost use Rattle.std.specs.Prelude.{◌≡◌, ◌+◌, ◌-◌, ◌^◌, ◌<◌, ◌≤◌, ◌∷◌, [], length, nat_lt, vec_len};
 ghost use Rattle.termwiz_screen.specs.{IfSome, IsNone, IsOk, OnErr, OnOk, appended, change_value};
 ghost use Rattle.termwiz_screen.specs.{delta_limit, drop, due, false, flushed, is_known, map, min};
@@ -8,16 +8,17 @@ use std::alloc::{AllocError, Global};
 use std::marker::Model;
 use termwiz_cell::change::{Change, SEQ_ZERO, SequenceNo};
 
-/// The changes from a first number on. The change after the last one has the coming number.
+/// The changes from a first number on, and the number of the next change.
 ///
-/// All flushes together cost a few instructions for each change that they forget, however many
-/// stay.
+/// All flushes together cost a few instructions for each change that they forget, however many are
+/// kept.
 #[derive(Drop, Debug)]
 pub struct Log {
     // The number of the first stored change.
     base: SequenceNo,
     stored: Vec<Change>,
-    // How many of the first are forgotten and still stored: none after a flush, or fewer than stay.
+    // How many of the first changes are forgotten but still stored: after a flush none, or fewer
+    // than are kept.
     gone: usize,
 }
 
@@ -36,7 +37,7 @@ impl Model for Log {
     ghost invariant = { λ l. (l.gone ≤ length l.stored.items) × (l.base + l.gone < 2 ^ 64) };
 }
 
-/// A copy has no room for the changes that are forgotten.
+/// A copy doesn't store forgotten changes.
 impl Clone for Log {
     ghost is_clone = { λ a b. b ≡ a };
 
@@ -52,7 +53,7 @@ impl Clone for Log {
 }
 
 impl Log {
-    /// An empty log under the number 0.
+    /// An empty log with the number 0.
     pub fn new(alloc: Global) -> Log
         ensures { result ≡ record { first = 0; changes = [] } }
     {
@@ -63,7 +64,7 @@ impl Log {
         }
     }
 
-    /// The number of the coming change.
+    /// The number of the next change.
     #[inline(always)]
     pub fn next_number(&self) -> SequenceNo
         requires { next_number self.now < 2 ^ 64 }
@@ -72,7 +73,7 @@ impl Log {
         self.base + self.stored.len()
     }
 
-    /// Whether there are numbers for so many more changes.
+    /// Whether there are numbers for `count` more changes.
     #[inline(always)]
     pub fn has_numbers(&self, count: usize) -> bool
         requires { next_number self.now < 2 ^ 64 }
@@ -81,7 +82,7 @@ impl Log {
         count <= usize::MAX - self.next_number()
     }
 
-    /// Makes room for so many more changes.
+    /// Reserves room for `count` more changes. For 0 it never fails.
     #[inline(always)]
     pub fn reserve(&mut self, count: usize) -> Result<(), AllocError>
         ensures unchanged { self.new ≡ self.old }
@@ -91,7 +92,7 @@ impl Log {
         Ok(())
     }
 
-    /// Logs one more change. On an error nothing has changed.
+    /// Appends a change. An error leaves the log unchanged.
     #[inline(always)]
     pub fn push(&mut self, change: Change) -> Result<(), AllocError>
         ensures ok { OnOk result (self.new ≡ appended self.old (change_value change ∷ [])) }
@@ -101,7 +102,8 @@ impl Log {
         Ok(())
     }
 
-    /// Logs more changes, which are moved in. On an error nothing has changed.
+    /// Appends changes, which are moved. An error leaves the log unchanged. An empty list never
+    /// fails.
     pub fn append(&mut self, mut changes: Vec<Change>) -> Result<(), AllocError>
         ensures ok { OnOk result (self.new ≡ appended self.old (map change_value changes.items)) }
         ensures err { OnErr result (self.new ≡ self.old) }
@@ -111,8 +113,7 @@ impl Log {
         Ok(())
     }
 
-    /// Logs clones of changes that are lent. On an error nothing has changed. An empty list asks
-    /// for no memory, so that it never fails.
+    /// Appends clones of changes. An error leaves the log unchanged. An empty list never fails.
     pub fn append_clones(&mut self, changes: &[Change]) -> Result<(), AllocError>
         ensures ok { OnOk result (self.new ≡ appended self.old (map change_value changes.now)) }
         ensures err { OnErr result (self.new ≡ self.old) }
@@ -125,7 +126,7 @@ impl Log {
         Ok(())
     }
 
-    // Whether the log has this number, or it is the coming one.
+    // Whether the log has this number, or it is that of the next change.
     #[inline(always)]
     fn reaches(&self, seq: SequenceNo) -> bool
         requires { next_number self.now < 2 ^ 64 }
@@ -134,7 +135,7 @@ impl Log {
         self.base + self.gone <= seq && seq <= self.next_number()
     }
 
-    // Takes the forgotten changes out.
+    // Removes the forgotten changes.
     fn take_out(&mut self)
         requires { next_number self.old < 2 ^ 64 }
         ensures { self.new ≡ self.old }
@@ -144,7 +145,7 @@ impl Log {
         self.gone = 0;
     }
 
-    /// The changes from a number on, where the log has them and they are at most so many.
+    /// The changes from a number on, if the log has them and they are at most `most`.
     pub fn due(&self, seq: SequenceNo, most: usize) -> Option<&[Change]>
         requires { next_number self.now < 2 ^ 64 }
         ensures some { IfSome result (λ changes. (is_known most self.now seq ≡ true)
@@ -161,7 +162,7 @@ impl Log {
         Some(due)
     }
 
-    /// Forgets the changes before a number, where the log reaches it.
+    /// Forgets the changes before a number, if the log has it or it is that of the next change.
     pub fn flush(&mut self, seq: SequenceNo)
         requires { next_number self.old < 2 ^ 64 }
         ensures { self.new ≡ flushed self.old seq }
@@ -174,7 +175,7 @@ impl Log {
         }
     }
 
-    /// Forgets all changes, and takes a new number, unless it is 0.
+    /// Forgets all changes, and adds 1 to the number of the next change, unless that is 0.
     pub fn restart(&mut self)
         requires { next_number self.old + 1 < 2 ^ 64 }
         ensures { self.new ≡ restarted self.old }
@@ -201,8 +202,8 @@ fn drop_first(changes: &mut Vec<Change>, count: usize)
     }
 }
 
-/// How many changes are worth sending where a screen of this size could be repainted, or the
-/// greatest number where that is less.
+/// The number of due changes up to which they are sent, rather than a repaint of a screen of this
+/// size. It is at most the greatest `usize`.
 pub fn delta_limit(width: usize, height: usize) -> usize
     requires width { width < 2 ^ 32 }
     requires height { height < 2 ^ 32 }

@@ -1,4 +1,4 @@
-//! Pens: the attributes of coming texts and of cleared columns.
+//! Pens: the attributes of the next texts and of cleared columns.
 ghost use Rattle.std.specs.Prelude.{◌≡◌, IfOk};
 ghost use Rattle.termwiz_screen.specs.{blank_of, with_background};
 

@@ -1,4 +1,4 @@
-//! Where positions take a cursor.
+//! Where positions move a cursor.
 ghost use Rattle.std.specs.Prelude.{◌≡◌, ◌<◌};
 ghost use Rattle.termwiz_screen.specs.{moved, place_column, place_row};
 
@@ -15,8 +15,8 @@ fn move_by(distance: isize, current: usize, count: usize) -> usize
     }
 }
 
-/// The column that a position names, from the current one. The width itself is a column: there a
-/// wrap is pending.
+/// The column that a position names, given the current one: from 0 to the width, where a wrap is
+/// pending.
 pub fn column_at(position: Position, current: usize, width: usize) -> usize
     requires { 0 < width }
     ensures { result ≡ place_column position current width }
@@ -29,7 +29,7 @@ pub fn column_at(position: Position, current: usize, width: usize) -> usize
     }
 }
 
-/// The row that a position names, from the current one.
+/// The row that a position names, given the current one.
 pub fn row_at(position: Position, current: usize, height: usize) -> usize
     requires { 0 < height }
     ensures { result ≡ place_row position current height }

@@ -1,5 +1,5 @@
-//! Texts: their graphemes, the cells that these print, and the runs of ASCII and of letters that
-//! they begin with.
+//! Texts: their graphemes, the cells that these print, and their leading runs of ASCII and of
+//! letters.
 ghost use Rattle.std.specs.Prelude.{◌≡◌, ◌≤◌, ◌∷◌, [], IfOk, length, take, true};
 ghost use Rattle.termwiz_screen.specs.{AreLetters, AreNarrow, AreWide, IsMeasured, IsMeasuredPiece};
 ghost use Rattle.termwiz_screen.specs.{IsNarrowRun, IsWideRun, chars, graphemes, is_plain, measure};
@@ -62,19 +62,20 @@ fn printed_cell<W: Widths>(
     Ok(cell)
 }
 
-/// Whether a text begins with printable ASCII. Where it does not, there is no run to look for.
+/// Whether a text begins with printable ASCII. No clause states it: it decides only whether to look
+/// for a run.
 pub fn begins_plain(text: &str) -> bool {
     matches!(text.as_bytes(), [b' '..=b'~', ..])
 }
 
-/// Whether a text begins with a letter, and goes on behind it. Where it does not, there is no run
-/// of letters to look for: a letter by itself is printed as any grapheme is.
+/// Whether a text begins with a letter and is longer. No clause states it: it decides only whether
+/// to look for a run. A single letter is printed as any grapheme is.
 #[inline]
 pub fn begins_letters(text: &str) -> bool {
     text.len() > LETTER_BYTES && begins_letter(text)
 }
 
-// How many characters of a run of ASCII, from its first one on, have at most one column each.
+// How many leading characters of a run of ASCII have at most one column each.
 fn narrow_len<W: Widths>(widths: &W, run: &str) -> usize
     requires { list_all is_plain run.now ≡ true }
     ensures within { result ≤ length run.now }
@@ -91,8 +92,8 @@ fn narrow_len<W: Widths>(widths: &W, run: &str) -> usize
     run.len()
 }
 
-/// The run of printable ASCII, each with at most one column, that the text begins with and that
-/// fits in this many columns, and what follows it.
+/// The leading run of printable ASCII, of at most one column each, that fits in this many columns,
+/// and the rest of the text.
 pub fn split_narrow_run<'a, W: Widths>(
     widths: &W,
     text: &'a str,
@@ -109,7 +110,7 @@ pub fn split_narrow_run<'a, W: Widths>(
     (run, rest)
 }
 
-// How many letters of a run, from its first one on, have two columns each.
+// How many leading letters of a run have two columns each.
 fn wide_len<W: Widths>(widths: &W, run: &str) -> usize
     requires { AreLetters run.now }
     ensures within { result ≤ length (chars run.now) }
@@ -127,8 +128,8 @@ fn wide_len<W: Widths>(widths: &W, run: &str) -> usize
     count
 }
 
-/// The run of letters, each of two columns, that the text begins with and that fits in this many
-/// columns, and what follows it.
+/// The leading run of letters, of two columns each, that fits in this many columns, and the rest of
+/// the text.
 pub fn split_wide_run<'a, W: Widths>(
     widths: &W,
     text: &'a str,

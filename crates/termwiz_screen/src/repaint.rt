@@ -1,4 +1,4 @@
-//! Repaints: the changes that bring any screen of that size to the one that rows show.
+//! Repaints: the changes that lead from any screen of this size to the one that rows show.
 ghost use Rattle.std.specs.Prelude.{◌≡◌, ◌-◌, ◌<◌, ◌≤◌, ◌++◌, ◌∷◌, ◌&&◌, if◌then◌else◌, ◌==◌, []};
 ghost use Rattle.termwiz_screen.specs.{AreApart, ArePaddable, ChangeValue, IfOk, IsBeforeRow, List};
 ghost use Rattle.termwiz_screen.specs.{IsPaddable, IsWrittenUpto, OnOk, attributes_eq, behind, map};
@@ -22,8 +22,8 @@ use termwiz_cell::color::ColorAttribute;
 use termwiz_line::entries::{Penned, RowWriter};
 use termwiz_line::line::line::Line;
 
-/// The entries of all rows, behind those that are written already. Blank rows at the bottom with
-/// one background are left to one clear to the end of the screen.
+/// The entries that are written already, followed by those of all rows. Blank rows of one
+/// background at the bottom are painted by one clear to the end of the screen.
 pub fn all_rows<'a>(
     mut writer: RowWriter<'a>,
     rows: &'a VecDeque<Line>,
@@ -62,7 +62,8 @@ fn bottom_attrs<'a>(rows: &'a VecDeque<Line>, width: usize, padding: &'a Cell) -
     last_attrs(&rows[rows.len() - 1], width, padding)
 }
 
-/// A clear of the screen with the cursor hidden, and the title, unless it is empty.
+/// A writer that begins with a hidden cursor, a clear of the screen, and the title, unless it is
+/// empty.
 pub fn started<'a>(
     alloc: Global,
     padding: &'a Cell,
@@ -81,7 +82,7 @@ pub fn started<'a>(
     Ok(writer)
 }
 
-// A clear of the screen with the cursor hidden.
+// A writer that begins with a hidden cursor and a clear of the screen.
 fn cleared<'a>(alloc: Global, padding: &'a Cell) -> Result<RowWriter<'a>, AllocError>
     requires { padding.now ≡ blank }
     ensures printed { IfOk result (λ writer.
@@ -94,7 +95,7 @@ fn cleared<'a>(alloc: Global, padding: &'a Cell) -> Result<RowWriter<'a>, AllocE
     Ok(writer)
 }
 
-// The title, unless it is empty.
+// Appends the title, unless it is empty.
 fn push_title(writer: &mut RowWriter<'_>, alloc: Global, title: &str) -> Result<(), AllocError>
     ensures printed { OnOk result (
         writer.new.printed
@@ -110,7 +111,7 @@ fn push_title(writer: &mut RowWriter<'_>, alloc: Global, title: &str) -> Result<
     Ok(())
 }
 
-// The attributes are default but for the background, which is another one.
+// Whether the attributes are default except for the background, which isn't.
 fn is_clearable(attrs: &CellAttributes) -> bool
     ensures { result ≡ (has_only_background attrs.now
         && not (attributes_eq attrs.now default_attributes)) }
@@ -118,7 +119,7 @@ fn is_clearable(attrs: &CellAttributes) -> bool
     attrs.has_only_background() && !attrs.is_blank()
 }
 
-// The entries of all rows, where the last column of the last row has these attributes.
+// The entries of all rows, given the attributes of the last column of the last row.
 fn joined_rows<'a>(
     mut writer: RowWriter<'a>,
     rows: &'a VecDeque<Line>,
@@ -154,7 +155,7 @@ fn joined_rows<'a>(
     writer.into_penned()
 }
 
-// How many rows stand above those at the bottom that show blanks with these attributes alone.
+// How many rows there are above the rows at the bottom that show only blanks with these attributes.
 fn rows_above(rows: &VecDeque<Line>, width: usize, attrs: &CellAttributes) -> usize
     requires paddable { ArePaddable width (cells_of rows.now.items) }
     requires other { attributes_eq attrs.now default_attributes ≡ false }
@@ -170,9 +171,8 @@ fn rows_above(rows: &VecDeque<Line>, width: usize, attrs: &CellAttributes) -> us
     above
 }
 
-// The row from whose end on all is cleared at once, by one `ClearToEndOfScreen`: the first of the
-// blank rows, or the row above it where its last entry clears to the end of the line with the same
-// attributes, so that the one clear serves both.
+// The row from which one `ClearToEndOfScreen` clears to the end: the first of the blank rows, or
+// the row above it where its last entry clears to the end of the line with the same background.
 fn joined_row(last: Option<&Change>, attrs: &CellAttributes, above: usize) -> usize
     requires { has_only_background attrs.now ≡ true }
     ensures { result
@@ -185,7 +185,7 @@ fn joined_row(last: Option<&Change>, attrs: &CellAttributes, above: usize) -> us
     }
 }
 
-// Whether the entry clears to the end of the line in this background.
+// Whether the entry clears to the end of the line with this background.
 fn is_clear(last: Option<&Change>, attrs: &CellAttributes) -> bool
     requires { has_only_background attrs.now ≡ true }
     ensures { result ≡ clears attrs.now (option_copied last.entry) }
@@ -212,7 +212,7 @@ fn is_color(color: ColorAttribute, other: ColorAttribute) -> bool
     color == other
 }
 
-// The last entry is a clear to the end of the line: in its place all below is cleared too.
+// Replaces the last entry, a clear to the end of the line, by a clear to the end of the screen.
 fn clear_below<'a>(
     mut drawn: Penned<'a>,
     attrs: &'a CellAttributes,
@@ -233,7 +233,7 @@ fn clear_below<'a>(
     Ok(drawn)
 }
 
-// The entries of the rows from one up to another, behind those before it.
+// Writes the entries of the rows `from..to`.
 fn write_rows<'a>(
     writer: &mut RowWriter<'a>,
     rows: &'a VecDeque<Line>,
@@ -261,7 +261,8 @@ fn write_rows<'a>(
     Ok(())
 }
 
-// Behind the first row, room for so many like it: then the list mostly grows but once.
+// After the first row, reserves room for `count` rows like it: then the list usually grows only
+// once.
 fn expect_rows(writer: &mut RowWriter<'_>, i: usize, count: usize)
     ensures { writer.new ≡ writer.old }
 {
@@ -270,7 +271,7 @@ fn expect_rows(writer: &mut RowWriter<'_>, i: usize, count: usize)
     }
 }
 
-// The entries of a row, up to the width.
+// Writes the entries of a row, up to the width.
 fn write_row<'a>(
     writer: &mut RowWriter<'a>,
     row: &'a Line,
@@ -292,7 +293,7 @@ fn write_row<'a>(
     Ok(())
 }
 
-// A move to row i, unless it is the first.
+// Appends a move to row i, unless it is the first.
 fn push_next_line(writer: &mut RowWriter<'_>, i: usize) -> Result<(), AllocError>
     ensures printed { OnOk result (
         writer.new.printed
@@ -311,8 +312,8 @@ fn push_next_line(writer: &mut RowWriter<'_>, i: usize) -> Result<(), AllocError
     Ok(())
 }
 
-/// What was drawn without its last moves, and then the cursor, the pen, the visibility and the
-/// shape of a visible cursor.
+/// What was drawn without the moves at its end, followed by the cursor, the pen, and, for a visible
+/// cursor, its visibility and shape.
 pub fn framed(
     drawn: Penned<'_>,
     x: usize,
@@ -332,7 +333,7 @@ pub fn framed(
     Ok(entries)
 }
 
-// What was drawn without its last moves, and then the cursor and the pen.
+// What was drawn without the moves at its end, followed by the cursor and the pen.
 fn placed(
     drawn: Penned<'_>,
     x: usize,
@@ -357,7 +358,7 @@ fn placed(
     Ok(entries)
 }
 
-// Whether there are no entries but the first two.
+// Whether there are only the first two entries.
 fn is_started_alone(entries: &[Change]) -> bool
     ensures { (es : List ChangeValue) → map change_value entries.now ≡ spec.started_entries ++ es →
         result ≡ spec.is_nil es }
@@ -365,7 +366,7 @@ fn is_started_alone(entries: &[Change]) -> bool
     entries.len() == 2
 }
 
-// A pen, where it is another one than before.
+// Appends a pen, unless it equals the old one.
 fn push_pen(
     entries: &mut Vec<Change>,
     old: &CellAttributes,
@@ -382,7 +383,8 @@ fn push_pen(
     Ok(())
 }
 
-// The cursor's place, unless there is nothing behind the first two entries and it is the first.
+// Appends a move to the cursor, unless nothing follows the first two entries and the cursor is at
+// column 0 of row 0.
 fn push_cursor(
     entries: &mut Vec<Change>,
     nothing: bool,
@@ -435,7 +437,7 @@ fn is_move(entry: &Change) -> bool
     matches!(entry, Change::CursorPosition { .. })
 }
 
-// A visible cursor, and then its shape.
+// Appends a visible cursor, and its shape.
 fn push_visible(
     entries: &mut Vec<Change>,
     visibility: CursorVisibility,
@@ -452,7 +454,7 @@ fn push_visible(
     Ok(())
 }
 
-// The cursor's shape, where one was set.
+// Appends the cursor's shape, if one was set.
 fn push_shape(entries: &mut Vec<Change>, shape: Option<CursorShape>) -> Result<(), AllocError>
     ensures { OnOk result (
         map change_value entries.new.items

@@ -40,7 +40,7 @@ fn push_chars(line: &Line, text: &mut String) -> Result<(), AllocError>
     Ok(())
 }
 
-/// Copies of the rows, cut or filled.
+/// Copies of the rows, each cut or padded to the width.
 pub fn resized_lines(
     alloc: Global,
     rows: &VecDeque<Line>,
@@ -56,7 +56,7 @@ pub fn resized_lines(
     Ok(lines)
 }
 
-/// The texts of the rows' visible cells, with a newline behind each row.
+/// The texts of the rows' visible cells, with a newline after each row.
 pub fn chars_of(alloc: Global, rows: &VecDeque<Line>) -> Result<String, AllocError>
     ensures { IfOk result (λ text. string_bytes text ≡ screen_chars (cells_of rows.now.items)) }
 {
@@ -67,7 +67,7 @@ pub fn chars_of(alloc: Global, rows: &VecDeque<Line>) -> Result<String, AllocErr
     Ok(text)
 }
 
-// Adds rows of default blanks behind the others.
+// Appends rows of default blanks.
 fn add_blank_rows(
     alloc: Global,
     rows: &mut VecDeque<Line>,
@@ -161,7 +161,7 @@ pub fn paint_letters(
     Ok(())
 }
 
-/// Removes row 0, and adds a row of default blanks, which it becomes.
+/// Removes row 0, and appends a row of default blanks, which reuses its memory.
 pub fn scroll_rows(rows: &mut VecDeque<Line>, width: usize) -> Result<(), AllocError>
     requires { 0 < deque_len rows.old }
     ensures ok { OnOk result (cells_of rows.new.items ≡ scrolled width (cells_of rows.old.items)) }
@@ -178,8 +178,8 @@ pub fn scroll_rows(rows: &mut VecDeque<Line>, width: usize) -> Result<(), AllocE
     Ok(())
 }
 
-// Makes this many rows, from `first` on, rows of default blanks. On an error each row is as it was,
-// or one of default blanks.
+// Replaces `count` rows, from `first` on, by rows of default blanks. After an error each row is
+// unchanged, or has default blanks.
 fn blank_some(
     rows: &mut VecDeque<Line>,
     width: usize,
@@ -205,7 +205,7 @@ fn blank_some(
     Ok(())
 }
 
-// Puts the rows of a region in the opposite order.
+// Reverses the order of the rows of a region.
 fn reverse_region(rows: &mut VecDeque<Line>, first: usize, size: usize)
     requires { first + size ≤ deque_len rows.old }
     ensures items { rows.new.items ≡ region_reversed rows.old.items first size }
@@ -216,7 +216,7 @@ fn reverse_region(rows: &mut VecDeque<Line>, first: usize, size: usize)
     }
 }
 
-// Moves the first rows of a region behind its others. No row outside the region is moved.
+// Moves the first rows of a region after its others. No row outside the region is moved.
 fn turn_by_reversals(rows: &mut VecDeque<Line>, first: usize, size: usize, count: usize)
     requires inside { first + size ≤ deque_len rows.old }
     requires within { count ≤ size }
@@ -227,13 +227,13 @@ fn turn_by_reversals(rows: &mut VecDeque<Line>, first: usize, size: usize, count
     reverse_region(rows, first, size);
 }
 
-// The same, also where the region is all rows.
+// Moves the first rows of a region after its others, and faster where the region is all rows.
 fn turn_region(rows: &mut VecDeque<Line>, first: usize, size: usize, count: usize)
     requires inside { first + size ≤ deque_len rows.old }
     requires within { count ≤ size }
     ensures { rows.new.items ≡ region_turned rows.old.items first size count }
 {
-    // All rows are turned by moving the fewer of them.
+    // All rows are rotated by moving the smaller part of them.
     if size == rows.len() {
         rows.rotate_left(count);
     } else {
@@ -241,8 +241,8 @@ fn turn_region(rows: &mut VecDeque<Line>, first: usize, size: usize, count: usiz
     }
 }
 
-/// Scrolls a region of rows up: its first `count` rows go, and as many rows of default blanks come
-/// below the others. On an error each row is as it was, or one of default blanks.
+/// Scrolls a region of rows up: removes its first `count` rows, and adds as many rows of default
+/// blanks below the others. After an error each row is unchanged, or has default blanks.
 pub fn scroll_region_up(
     rows: &mut VecDeque<Line>,
     width: usize,
@@ -269,8 +269,8 @@ pub fn scroll_region_up(
     Ok(())
 }
 
-/// Scrolls a region of rows down: its last `count` rows go, and as many rows of default blanks come
-/// above the others. On an error each row is as it was, or one of default blanks.
+/// Scrolls a region of rows down: removes its last `count` rows, and adds as many rows of default
+/// blanks above the others. After an error each row is unchanged, or has default blanks.
 pub fn scroll_region_down(
     rows: &mut VecDeque<Line>,
     width: usize,
@@ -299,7 +299,7 @@ pub fn scroll_region_down(
     Ok(())
 }
 
-/// Fills one row from a column on, and prunes it.
+/// Fills one row from a column on, and cuts the default blanks at its end.
 pub fn fill_row(
     rows: &mut VecDeque<Line>,
     width: usize,
@@ -320,7 +320,8 @@ pub fn fill_row(
     Ok(())
 }
 
-/// Fills one row from a column on, and all rows below it, and prunes them.
+/// Fills one row from a column on, and all rows below it, and cuts the default blanks at their
+/// ends.
 pub fn fill_rows(
     rows: &mut VecDeque<Line>,
     width: usize,
@@ -346,7 +347,7 @@ pub fn fill_rows(
     Ok(())
 }
 
-/// Says how a row is shown.
+/// Sets how large a row is shown.
 pub fn set_line_attribute(rows: &mut VecDeque<Line>, y: usize, attribute: LineAttribute)
     requires { y < deque_len rows.old }
     ensures cells { cells_of rows.new.items ≡ cells_of rows.old.items }

@@ -8,21 +8,21 @@ use termwiz_cell::cell::CellAttributes;
 use termwiz_cell::change::CursorVisibility;
 use termwiz_line::line::line::Line;
 
-/// What a surface shows. Two screens are equal where all of this is, whatever the numbers and flags
-/// of the rows.
+/// What a surface shows. Two screens are equal where all their parts are; of the rows only the
+/// cells are compared, not numbers and flags.
 #[derive(Drop, Debug)]
 pub struct Screen {
-    /// How many columns there are.
+    /// The number of columns.
     pub width: usize,
-    /// How many rows there are.
+    /// The number of rows.
     pub height: usize,
-    /// The rows from the top, each as long as the screen is wide.
+    /// The rows from the top. A copy of a surface has rows of `width` cells.
     pub rows: Vec<Line>,
-    /// The cursor's column and row, from 0. The column is the width where a wrap is pending.
+    /// The cursor's column and row, from 0. Where a wrap is pending, the column equals the width.
     pub cursor: (usize, usize),
     /// Whether the cursor is shown.
     pub visibility: CursorVisibility,
-    /// The attributes of coming texts.
+    /// The pen: the attributes of the next text.
     pub pen: CellAttributes,
 }
 

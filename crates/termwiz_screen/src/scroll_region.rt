@@ -1,4 +1,4 @@
-//! Whether the regions of scrolls lie on a surface.
+//! Tests whether the regions of scrolls lie on a surface.
 ghost use Rattle.std.specs.Prelude.{◌≡◌, ◌+◌, map, nat_le};
 ghost use Rattle.termwiz_screen.specs.{change_value, region_fits, regions_fit};
 

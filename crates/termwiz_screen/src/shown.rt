@@ -1,4 +1,4 @@
-//! What rows show up to the width: past the stored cells, default blanks.
+//! What rows show up to the width: their stored cells, and then default blanks.
 ghost use Rattle.std.specs.Prelude.{◌≡◌, ◌-◌, ◌<◌, false, replicate};
 ghost use Rattle.termwiz_screen.specs.{IsPaddable, attributes_eq, beq, blank, blank_of, cell_eq};
 ghost use Rattle.termwiz_screen.specs.{columns, default_attributes, is_wide, pointwise, ref_cell};
@@ -24,7 +24,7 @@ pub fn last_attrs<'a>(row: &'a Line, width: usize, padding: &'a Cell) -> &'a Cel
     attrs
 }
 
-/// Whether every column of a row shows a blank with these attributes, which are not the default
+/// Whether each column of a row shows a blank with these attributes, which must not be the default
 /// ones.
 pub fn is_blank_row(row: &Line, width: usize, attrs: &CellAttributes) -> bool
     requires paddable { IsPaddable width row.now.cells }

@@ -1,4 +1,4 @@
-//! Laws of the definitions that contracts cite, each on a function that does nothing.
+//! Laws of the definitions that contracts cite. Each is stated on a function that does nothing.
 ghost use Rattle.termwiz_surface.specs.{AnswersStay, BrokenListsLeaveForm, CarriedLead, GivenCarry};
 ghost use Rattle.termwiz_surface.specs.{ChangesGoOn, ChangesLeadOn, FlushesKeepLeading, LackMemory};
 ghost use Rattle.termwiz_surface.specs.{FlushesKeepPast, FollowedFullLeadOn, FollowedLeadOn};
@@ -15,9 +15,9 @@ pub use termwiz_screen::laws::{
     diff_laws, fewest_prints, full_repaint_laws, need_laws, repaint_laws, sequence_laws,
 };
 
-/// A viewer that follows a surface still does after whatever happens to the surface: changes,
-/// flushes, want of memory and another size; and what it is answered leads it to the surface's
-/// screen. `Follows` is made of what these laws speak of.
+/// A viewer that follows a surface still follows it whatever happens to the surface: changes,
+/// flushes, refused memory and resizes; and its answers lead it to the surface's screen. `Follows`
+/// is built from the definitions in these laws.
 pub fn following_laws()
     ensures same { LeadsWhereItIs screens }
     ensures changes { ChangesLeadOn screens }
@@ -26,8 +26,8 @@ pub fn following_laws()
     ensures restarts { RestartsKeepLeading screens }
 {}
 
-/// A viewer of a full surface goes on to follow it whatever happens to the surface, and what it is
-/// answered leads it to the surface's full screen.
+/// A viewer that follows a full surface still follows it whatever happens to the surface, and its
+/// answers lead it to the surface's full screen.
 pub fn full_following_laws()
     ensures same { LeadsWhereItIs full_screens }
     ensures changes { ChangesLeadOn full_screens }
@@ -66,9 +66,10 @@ pub fn full_history_laws()
     ensures carried { CarriedLead full_screens }
 {}
 
-/// What the steps of a schedule say: the changes of an outcome lead from what the viewer showed to
-/// the screen of the outcome, and by how much its own number grows; when it lacks numbers, or
-/// memory; and that a list that ran out of memory leaves the surface's size and form.
+/// The meaning of the steps of a schedule: the changes of an outcome lead from what the viewer
+/// showed to the screen of the outcome; by how much the viewer's own number grows; when numbers are
+/// used up, or memory is refused; and that after a list that ran out of memory the surface is valid
+/// and has its old size.
 pub fn schedule_laws<W: Widths>()
     ensures followed { FollowedLeadOn (measure W.width_of) }
     ensures followed_fully { FollowedFullLeadOn (measure W.width_of) }

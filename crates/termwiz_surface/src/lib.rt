@@ -1,17 +1,17 @@
 //! Surfaces, the viewers that follow them or accept their answers, and runs of events.
 //!
-//! This is the crate that callers name. Its root has the types that they use, and the modules of
-//! the crates below stand here too, under termwiz's names: cells, colours, links, changes, width
-//! values, lines and shaper clusters. `specs/Lib.antt` passes on the definitions that callers cite,
-//! each by its name alone.
+//! This is the crate that callers name. Its root has the types that they use, and it re-exports the
+//! modules of the crates below under termwiz's names: cells, colours, links, changes, width values,
+//! lines and shaper clusters. `specs/Lib.antt` re-exports the definitions that callers cite, each
+//! by its name alone.
 //!
-//! - A viewer takes the surface's size, asks, and makes the answer (`view/viewer.rt`), or accepts
-//!   an answer that was carried off (`specs/Accepting.antt`). `specs/Showing.antt` says what
-//!   viewers show, `specs/HistoryLaws.antt` and `specs/FollowingLaws.antt` what keeps them
-//!   following.
-//! - `specs/Schedule.antt` says which outcomes a list of events may have, on one surface with one
-//!   viewer (`view.rt`), and `specs/ManySchedule.antt` with many viewers, whose answers are kept
-//!   and delivered in any order (`view/many.rt`).
+//! - A viewer takes the surface's size, gets the changes that it lacks, and applies them
+//!   (`view/viewer.rt`), or accepts an answer that was stored or sent (`specs/Accepting.antt`).
+//!   `specs/Showing.antt` defines what viewers show, `specs/HistoryLaws.antt` and
+//!   `specs/FollowingLaws.antt` why they still follow.
+//! - `specs/Schedule.antt` defines which outcomes a list of events may have, on one surface with
+//!   one viewer (`view.rt`), and `specs/ManySchedule.antt` with many viewers, whose answers are
+//!   stored and delivered in any order (`view/many.rt`).
 #![tactic(auto)]
 
 pub mod laws;

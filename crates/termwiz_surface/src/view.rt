@@ -20,49 +20,50 @@ use waiting::Waiting;
 /// What happens to a surface.
 #[derive(Drop, Debug)]
 pub enum Event<W: Widths> {
-    /// The changes are added, as one list.
+    /// Adds the changes, as one list.
     Changes(Vec<Change>),
-    /// This surface is drawn from this column and row on, as by `draw_from_screen`.
+    /// Draws this surface from this column and row on, as `draw_from_screen` does.
     Draw(Surface<W>, usize, usize),
-    /// A region is copied, as by `copy_region`: its column, row, width and height, and the column
-    /// and the row that it comes to.
+    /// Copies a region, as `copy_region` does: its column, row, width and height, and the column
+    /// and the row of the copy.
     Copy(usize, usize, usize, usize, usize, usize),
-    /// The changes before this number are forgotten, as by `flush_changes_older_than`.
+    /// Forgets the changes before this number, as `flush_changes_older_than` does.
     Flush(SequenceNo),
-    /// The surface takes this width and height.
+    /// Resizes the surface to this width in columns and this height in rows.
     Resize(usize, usize),
-    /// The viewer follows the surface.
+    /// Calls `follow` on the viewer.
     Follow,
-    /// The texts and the cursor are shown.
+    /// Asks for the texts and the cursor.
     Show,
-    /// The changes from this number on are asked for.
+    /// Asks for the changes from this number on.
     Ask(SequenceNo),
 }
 
-/// What came of an event.
+/// The outcome of an event.
 #[derive(Drop, Debug)]
 pub enum Outcome {
-    /// The number that adding the list of changes answered, that of a drawing or a copy too.
+    /// The number that adding a list of changes returned, that of a draw or a copy too.
     Answered(SequenceNo),
     /// The log was flushed, or the surface resized.
     Done,
     /// The event was refused.
     Refused(SurfaceError),
-    /// The surface's number, the changes that the viewer made, and what it shows then.
+    /// The surface's number, the changes that the viewer applied, and its screen then.
     Followed(SequenceNo, Vec<Change>, Screen),
-    /// The number of a full surface, the changes that the viewer made, and its full screen then.
+    /// The number of a full surface, the changes that the viewer applied, and its full screen then.
     FollowedFull(SequenceNo, Vec<Change>, FullScreen),
     /// The texts of the stored rows, each with a line feed, and the cursor's column and row.
     Shown(String, (usize, usize)),
-    /// The surface's number, and what a viewer that was last given the asked number has to apply.
+    /// The surface's number, and the changes that a viewer that was last given the requested number
+    /// has to apply.
     Asked(SequenceNo, Vec<Change>),
 }
 
 /// Runs the events on one blank surface, of this width in columns and this height in rows, and its
-/// viewer, and gives one outcome for each.
+/// viewer, and returns one outcome for each.
 ///
-/// - A refused event is an outcome, and the run goes on.
-/// - It fails where there is no memory for the surface, the viewer, the list of outcomes, or the
+/// - A refused event is an outcome, and the run continues.
+/// - It fails where memory is refused for the surface, the viewer, the list of outcomes, or the
 ///   outcome of a viewer that followed.
 pub fn run<W: Widths>(
     alloc: Global,
@@ -79,8 +80,8 @@ pub fn run<W: Widths>(
     run_on(alloc, widths, width, height, false, events)
 }
 
-/// Runs the events as `run` does, on a surface whose repaints carry all that is kept beside the
-/// screen. The outcome of a viewer that followed has its full screen.
+/// Runs the events as `run` does, on a full surface. The outcome of a viewer that followed has its
+/// full screen.
 pub fn run_full<W: Widths>(
     alloc: Global,
     widths: W,

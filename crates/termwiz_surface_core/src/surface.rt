@@ -36,23 +36,24 @@ pub use termwiz_screen::screen::Screen;
 use termwiz_screen::scroll_region::regions_fit;
 use thiserror::Error;
 
-/// Why a list of changes, or another size, is refused. The first applicable error is returned, in
-/// this order.
+/// Why a list of changes, or a resize, is refused. The first applicable error is returned, in this
+/// order.
 #[derive(Debug, Drop, Clone, Copy, PartialEq, Eq, Error)]
 pub enum SurfaceError {
-    /// Error 1: the region of a scroll goes past the last row. Nothing has changed.
+    /// Error 1: the region of a scroll goes past the last row. The surface is unchanged.
     #[error("a scroll region goes past the last row")]
     ScrollRegion,
-    /// Error 2: the numbers of the changes would pass the greatest `usize`. Nothing has changed;
-    /// for a viewer that was to follow see `Viewer::follow`.
+    /// Error 2: the numbers of the changes would pass the greatest `usize`. The surface is
+    /// unchanged. After `Viewer::follow` the viewer may show anything, and has no number.
     #[error("the numbers of changes are used up")]
     Numbers,
-    /// Error 3: a growth was refused. For a viewer that was to follow see `Viewer::follow`.
+    /// Error 3: memory was refused. After `Viewer::follow` the viewer may show anything, and has no
+    /// number.
     ///
-    /// - After a list of changes, that of a draw or a copy too, the surface keeps its size and the
-    ///   form of its rows, and its log is empty under a new number, or 0 where that was 0.
-    /// - Where there was no memory for the list of a draw or a copy, or for another size, nothing
-    ///   has changed.
+    /// - After a list of changes, that of a draw or a copy too, the surface is valid and has its
+    ///   old size, its log is empty, and its number is greater by one, or still 0.
+    /// - Where memory was refused for the list of a draw or a copy, or for a resize, the surface is
+    ///   unchanged.
     #[error("out of memory")]
     Memory,
 }
@@ -67,10 +68,10 @@ impl From<AllocError> for SurfaceError {
     }
 }
 
-/// Why no surface was made.
+/// Why no surface was created.
 #[derive(Debug, Drop, Clone, Copy, PartialEq, Eq, Error)]
 pub enum NewSurfaceError {
-    /// A surface has 1 to 2^32 - 1 columns, and as many rows.
+    /// The size is out of range: columns and rows are 1 to 2^32 - 1 each.
     #[error("no surface has {width} columns and {height} rows")]
     Size { width: usize, height: usize },
     /// Memory was refused.
@@ -86,34 +87,33 @@ impl From<AllocError> for NewSurfaceError {
     }
 }
 
-/// What a terminal's screen holds, with no terminal behind it: rows of cells, a cursor, whether it
-/// is shown, and the pen, which is the attributes of coming text.
+/// The contents of a terminal's screen, without a terminal: rows of cells, a cursor, its
+/// visibility, and the pen, which is the attributes of the next text.
 ///
-/// Changes go in, one by `add_change` or several as one list by `add_changes`: texts, pens, clears,
-/// moves and scrolls. The surface makes them in order, and logs them by their numbers. Beside its
-/// screen it keeps a title, the cursor's shape and colour, and how large each line is shown;
-/// `full_screen` alone returns the colour.
+/// `add_change` adds one change, and `add_changes` a list of them: texts, pens, clears, moves and
+/// scrolls. The surface applies them in order, and logs them by their numbers. It also keeps a
+/// title, the cursor's shape and colour, and how large each line is shown; only `full_screen`
+/// returns the colour.
 ///
-/// A stream of changes comes out: `get_changes` lends a viewer the changes since the number that it
-/// was last given, and answers with a repaint, which brings any screen of this size to this one,
-/// where the log no longer has them or they are too many. `answer` gives the same as a value that
-/// can be carried off.
+/// `get_changes` returns what a viewer lacks: the changes since the number that it was last given,
+/// or, where the log no longer has them or they are too many, a repaint, which leads from any
+/// screen of this size to this one. `answer` returns the same as a value that can be stored or
+/// sent.
 ///
-/// `flush_changes_older_than` forgets the changes that all viewers have: without it the log grows
-/// with each change. `screen` copies what the surface shows, and `full_screen` what it keeps beside
-/// it too.
+/// `flush_changes_older_than` forgets the changes that all viewers have, and `forget_unneeded`
+/// those that no answer needs: without them the log grows with each change. `screen` copies what
+/// the surface shows, and `full_screen` also the title, the cursor's shape and colour, and how
+/// large each line is shown.
 ///
-/// A surface that `new_full` makes is a full one: its repaints bring all of that as well, so that
-/// its viewers have it whatever they missed. Those of another one bring the screen, and leave some
-/// of the rest.
+/// `new_full` returns a full surface: its repaints also set all of these, so that its viewers have
+/// them whatever they missed. Those of other surfaces set only the screen, the title unless it is
+/// empty, and the shape of a visible cursor, if one was set.
 ///
-/// A viewer is whoever applies that stream: one that writes to a terminal, one at the other end of
-/// a connection, or a second surface. It has to measure texts as this surface does, by the width
-/// value that it was made with.
+/// A viewer applies these changes: to a terminal, at the other end of a connection, or to a second
+/// surface. It must measure texts as this surface does, by the same width value.
 ///
-/// A program may draw the parts of a picture on surfaces of their own, each of which knows nothing
-/// of the others, and show a surface that is made of them: `draw_from_screen` draws one surface on
-/// another, and `copy_region` copies a region within one.
+/// A program may draw the parts of a screen on separate surfaces and compose them:
+/// `draw_from_screen` draws one surface on another, and `copy_region` copies a region within one.
 #[derive(Drop, Debug)]
 pub struct Surface<W: Widths> {
     widths: W,
@@ -160,7 +160,7 @@ impl<W: Widths> Model for Surface<W> {
         IsSound (measure W.width_of s.widths) (view s) × AreVectors s.rows.items };
 }
 
-/// A copy equals its original in all that can be read of it: the size, the kind (full or not), the
+/// A copy equals its original in all that can be read: the size, the kind (full or not), the
 /// screen, each row's line attribute and stored length, the title, the cursor's shape and colour,
 /// the log and the number. A viewer of one can follow the other until one of them changes.
 impl<W: Widths> Clone for Surface<W> {
@@ -191,8 +191,8 @@ impl<W: Widths> Clone for Surface<W> {
 }
 
 impl<W: Widths> Surface<W> {
-    /// A surface of this width in columns and this height in rows: default blanks, with the cursor
-    /// home and shown, default attributes as pen and the number 0.
+    /// A surface of this width in columns and this height in rows: it has default blanks, a visible
+    /// cursor at column 0 of row 0, a pen of default attributes, and the number 0.
     pub fn new(
         alloc: Global,
         width: usize,
@@ -205,9 +205,8 @@ impl<W: Widths> Surface<W> {
         Surface::blank(alloc, width, height, widths, false)
     }
 
-    /// A surface as `new` makes it, whose repaints carry all that is kept beside the screen too:
-    /// the title, the cursor's shape and colour, and how each row is shown. A viewer of it shows
-    /// all of this, and `full_screen` returns it.
+    /// A surface as `new` returns it, but a full one: its repaints also set the title, the cursor's
+    /// shape and colour, and how large each row is shown.
     pub fn new_full(
         alloc: Global,
         width: usize,
@@ -220,8 +219,7 @@ impl<W: Widths> Surface<W> {
         Surface::blank(alloc, width, height, widths, true)
     }
 
-    /// A blank surface, whose repaints are full ones or not. It is for the crate above: callers
-    /// have `new` and `new_full`.
+    /// A blank surface, full or not. It is for the crate above: callers use `new` and `new_full`.
     #[doc(hidden)]
     pub fn blank(
         alloc: Global,
@@ -252,7 +250,7 @@ impl<W: Widths> Surface<W> {
         })
     }
 
-    // Refuses a list of changes that can't be made, before any is made.
+    // Refuses a list of changes that can't be applied, before any is applied.
     fn refuse(&self, changes: &[Change]) -> Result<(), SurfaceError>
         ensures { Refuses self.now (map change_value changes.now) result }
     {
@@ -265,7 +263,7 @@ impl<W: Widths> Surface<W> {
         Ok(())
     }
 
-    // Makes a change and logs it.
+    // Applies a change and logs it.
     fn make_one(&mut self, change: Change) -> Result<(), AllocError>
         requires fits { region_fits self.old.height (change_value change) ≡ true }
         requires numbers { next_number self.old.log + 1 < 2 ^ 64 }
@@ -279,7 +277,7 @@ impl<W: Widths> Surface<W> {
         Ok(())
     }
 
-    // Makes the changes and logs them.
+    // Applies the changes and logs them.
     fn make_all(&mut self, changes: Vec<Change>) -> Result<(), AllocError>
         requires fits { regions_fit self.old.height (map change_value changes.items) ≡ true }
         requires numbers { next_number self.old.log + vec_len changes < 2 ^ 64 }
@@ -294,7 +292,7 @@ impl<W: Widths> Surface<W> {
         Ok(())
     }
 
-    // Makes the changes and logs clones of them.
+    // Applies the changes and logs clones of them.
     fn make_lent(&mut self, changes: &[Change]) -> Result<(), AllocError>
         requires fits { regions_fit self.old.height (map change_value changes.now) ≡ true }
         requires numbers { next_number self.old.log + length changes.now < 2 ^ 64 }
@@ -309,16 +307,15 @@ impl<W: Widths> Surface<W> {
         Ok(())
     }
 
-    /// Makes one change, and returns its number.
-    /// `ScrollRegion`, `Numbers`: nothing has changed. `Memory`: it may have been made in part; the
-    /// size and the form of the rows stay, the cursor is inside, and the log is empty under a
-    /// number that is greater by one, or 0 where it was 0.
+    /// Applies one change, and returns its number. `ScrollRegion`, `Numbers`: the surface is
+    /// unchanged. `Memory`: the change may be applied in part; the surface is valid and has its old
+    /// size, its log is empty, and its number is greater by one, or still 0.
     pub fn add_change(&mut self, change: Change) -> Result<SequenceNo, SurfaceError>
         ensures adds { Adds (measure W.width_of self.old.widths)
             self.old (change_value change ∷ []) (next_number self.old.log) result self.new }
-        // Each viewer that follows the surface goes on to, also after an error.
+        // Each viewer that follows the surface still follows it, even after an error.
         ensures followed { KeepsViewers (measure W.width_of) self.old self.new }
-        // What its numbers named they name still, also after an error.
+        // Its numbers still name what they named, even after an error.
         ensures remembered { KeepsNames (measure W.width_of self.old.widths) self.old self.new }
     {
         self.refuse(slice::from_ref(&change))?;
@@ -330,22 +327,21 @@ impl<W: Widths> Surface<W> {
         Ok(number)
     }
 
-    /// Makes the changes in order. Returns the number before them, less one unless it is 0, plus
-    /// how many they are: where there are some that is the number of the last, or one more
-    /// where the number before was 0.
+    /// Applies the changes in order. Returns `max(n, 1) - 1 + changes.len()`, where `n` is the
+    /// surface's number before the call: for a list that isn't empty, the number of its last
+    /// change, or one more where `n` is 0.
     ///
-    /// - `ScrollRegion`, `Numbers`: nothing has changed.
-    /// - `Memory`: some may have been made, and the last of those in part; the size and the form of
-    ///   the rows stay, the cursor is inside, and the log is empty under a number that is greater
-    ///   by one, or 0 where it was 0.
+    /// - `ScrollRegion`, `Numbers`: the surface is unchanged.
+    /// - `Memory`: some changes may be applied, the last of them in part; the surface is valid and
+    ///   has its old size, its log is empty, and its number is greater by one, or still 0.
     pub fn add_changes(&mut self, changes: Vec<Change>) -> Result<SequenceNo, SurfaceError>
         ensures adds { Adds (measure W.width_of self.old.widths)
             self.old (map change_value changes.items)
             (next_number self.old.log - 1 + vec_len changes) result self.new }
         ensures empty { vec_len changes ≡ 0 → IsOk result }
-        // Each viewer that follows the surface goes on to, also after an error.
+        // Each viewer that follows the surface still follows it, even after an error.
         ensures followed { KeepsViewers (measure W.width_of) self.old self.new }
-        // What its numbers named they name still, also after an error.
+        // Its numbers still name what they named, even after an error.
         ensures remembered { KeepsNames (measure W.width_of self.old.widths) self.old self.new }
     {
         self.refuse(changes.as_slice())?;
@@ -357,16 +353,15 @@ impl<W: Widths> Surface<W> {
         Ok(number)
     }
 
-    /// Behaves like `add_changes` on a copy of the changes: they are lent, and clones of them are
-    /// logged, so that they need no list of their own.
+    /// Behaves like `add_changes` on borrowed changes, of which it logs clones.
     pub fn add_lent_changes(&mut self, changes: &[Change]) -> Result<SequenceNo, SurfaceError>
         ensures adds { Adds (measure W.width_of self.old.widths)
             self.old (map change_value changes.now)
             (next_number self.old.log - 1 + length changes.now) result self.new }
         ensures empty { length changes.now ≡ 0 → IsOk result }
-        // Each viewer that follows the surface goes on to, also after an error.
+        // Each viewer that follows the surface still follows it, even after an error.
         ensures followed { KeepsViewers (measure W.width_of) self.old self.new }
-        // What its numbers named they name still, also after an error.
+        // Its numbers still name what they named, even after an error.
         ensures remembered { KeepsNames (measure W.width_of self.old.widths) self.old self.new }
     {
         self.refuse(changes)?;

@@ -7,12 +7,12 @@ use super::{is_last_grapheme, is_one_plain, is_plain};
 use std::alloc::{AllocError, Global};
 use std::marker::Model;
 
-/// A text that grows by one grapheme at a time: a text is only joined where it is a grapheme of the
-/// whole, and the graphemes before it stay as they were.
+/// A text that grows by one grapheme at a time: a text is only appended where it becomes the last
+/// grapheme of the whole and leaves the graphemes before it unchanged.
 #[derive(Drop)]
 pub struct JoinedText {
     text: String,
-    // the byte at which the text that was joined last begins
+    // the byte at which the text that was appended last begins
     last: usize,
     // whether the last byte is known to be printable ASCII
     ends_plain: bool,
@@ -31,7 +31,7 @@ impl Model for JoinedText {
         × (joined.ends_plain ≡ true → is_plain_last (string_bytes joined.text) ≡ true) };
 }
 
-// The only byte of a text that is printable ASCII.
+// The byte of a text that is one character of printable ASCII, or `None` for another text.
 #[inline(always)]
 fn only_plain(text: &str) -> Option<u8>
     ensures plain { IfSome result (λ byte. is_plain byte ≡ true) }
@@ -43,7 +43,7 @@ fn only_plain(text: &str) -> Option<u8>
     }
 }
 
-// Appends a text. One character of printable ASCII needs no copy by a call.
+// Appends a text. One character of printable ASCII is copied without a call.
 #[inline(always)]
 fn append(text: &mut String, more: &str) -> Result<(), AllocError>
     ensures ok { OnOk result (string_bytes text.new ≡ string_bytes text.old ++ more.now) }
@@ -56,8 +56,8 @@ fn append(text: &mut String, more: &str) -> Result<(), AllocError>
     Ok(())
 }
 
-// Appends a text, exactly where it is then the last grapheme, behind those that there were. Says
-// whether it did. What stands from `last` on is cut.
+// Appends a text if it becomes the last grapheme and leaves the others unchanged, and returns
+// whether it did. Only the bytes from `last` on are cut again.
 fn join_by_cut(text: &mut String, last: usize, more: &str) -> Result<bool, AllocError>
     requires { IsCutAt (string_bytes text.old) last }
     ensures joins { IfOk result (λ joined. IsTrue joined
@@ -91,8 +91,8 @@ impl JoinedText {
         }
     }
 
-    /// Begins anew with a copy of this text, in the memory of the one before it. On an error that
-    /// one is lost.
+    /// Replaces the text by a copy of this one, and reuses its memory. After an error it may hold
+    /// any text.
     pub fn restart(&mut self, first: &str) -> Result<(), AllocError>
         ensures { OnOk result (self.new ≡ first.now) }
     {
@@ -104,7 +104,7 @@ impl JoinedText {
         Ok(())
     }
 
-    /// A copy of this text, to which others may be joined.
+    /// A copy of this text, to which others may be appended.
     pub fn new(alloc: Global, first: &str) -> Result<JoinedText, AllocError>
         ensures { IfOk result (λ joined. joined ≡ first.now) }
     {
@@ -116,11 +116,11 @@ impl JoinedText {
         })
     }
 
-    /// Appends a text, exactly where it is then the last grapheme, and those before it are as they
-    /// were. Says whether it did: the empty text and one of several graphemes are never joined.
-    /// Where it was not joined, and on an error, the text so far stays.
+    /// Appends a text if it becomes the last grapheme and leaves the others unchanged, and returns
+    /// whether it did. The empty text and a text of several graphemes are never appended. If
+    /// nothing is appended, and after an error, the text is unchanged.
     ///
-    /// Only what was joined last, or the first text, is cut again with it, whatever stands before.
+    /// Only the text that was appended last, or the first one, is cut again with it.
     #[inline(always)]
     pub fn join(&mut self, more: &str) -> Result<bool, AllocError>
         ensures joins { IfOk result (λ joined. IsTrue joined
@@ -148,8 +148,8 @@ impl JoinedText {
         }
     }
 
-    /// Appends a character of printable ASCII behind another one, where it is always a grapheme by
-    /// itself. On an error the text so far stays.
+    /// Appends a character of printable ASCII after another one, where it is always a grapheme by
+    /// itself. An error leaves the text unchanged.
     #[inline(always)]
     pub fn push_plain(&mut self, byte: u8) -> Result<(), AllocError>
         requires plain { is_plain byte ≡ true }
@@ -167,7 +167,7 @@ impl JoinedText {
         Ok(())
     }
 
-    // Joins any text. It stands apart from `join`, so that the way of printable ASCII is short.
+    // Appends any text. It is kept out of line, so that the path of printable ASCII is short.
     #[inline(never)]
     fn join_other(&mut self, more: &str) -> Result<bool, AllocError>
         ensures joins { IfOk result (λ joined. IsTrue joined

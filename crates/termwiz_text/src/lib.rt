@@ -1,10 +1,11 @@
 //! Texts cut into graphemes, the extended grapheme clusters of UAX 29.
 //!
-//! Graphemes are those of `unicode_segmentation`. A boundary between two graphemes hides what
-//! stands before it, so that each piece of a text is one grapheme by itself, and what follows it is
-//! cut as a text of its own (`specs/First.antt`). Whether two texts join is seen at their seam
-//! (`joined`, `specs/CutAt.antt`). Printable ASCII (`specs/Plain.antt`) and letters of kana and
-//! common ideographs (`specs/Letter.antt`) need no tables: a run of either is split off at once.
+//! Graphemes are those of `unicode_segmentation`. What precedes a boundary between two graphemes
+//! doesn't change how the rest is cut, so each piece of a text is one grapheme by itself, and what
+//! follows it is cut as a text of its own (`specs/First.antt`). Whether a text can be appended as
+//! one more grapheme is decided from the last piece alone (`joined`, `specs/CutAt.antt`). Printable
+//! ASCII (`specs/Plain.antt`) and letters of kana and common ideographs (`specs/Letter.antt`) need
+//! no tables: a run of either is split off at once.
 #![tactic(auto)]
 
 ghost use Rattle.std.specs.Prelude.{◌++◌, [], IsUtf8, List, MatchOption, drop, min, slice_index_or};
@@ -35,7 +36,7 @@ pub fn is_one_plain(text: &str) -> bool
     }
 }
 
-/// What follows the CR LF that the text begins with, which is a grapheme.
+/// The text after a leading CR LF, which is one grapheme, or `None` where it begins otherwise.
 #[inline]
 pub fn after_line_end(text: &str) -> Option<&str>
     ensures { MatchOption result (letter.begins_line_end text.now ≡ false) (λ rest.
@@ -59,14 +60,14 @@ fn begins_line_end(text: &str) -> bool
 }
 
 /// Whether the character is a letter of hiragana (U+3041 to U+3096) or katakana (U+30A1 to U+30FA),
-/// or an ideograph from U+4E00 to U+9FFF. No other letter counts.
+/// or an ideograph from U+4E00 to U+9FFF. Other letters don't count.
 pub fn is_letter(c: char) -> bool
     ensures { result ≡ letter.is_letter c }
 {
     is_letter_number(u32::from(c))
 }
 
-// Whether the character of this number is such a letter.
+// Whether `is_letter` holds for the character of this number.
 fn is_letter_number(number: u32) -> bool
     ensures { result ≡ letter.is_letter number }
 {
@@ -90,14 +91,14 @@ fn is_simple(c: char) -> bool
     c.is_ascii() || is_letter(c)
 }
 
-// Whether nothing stands there, or a simple character first: no mark on what stands before.
+// Whether the text is empty or begins with a simple character, which is no mark on the one before.
 fn begins_simple(text: &str) -> bool
     ensures { result ≡ letter.begins_simple (chars text.now) }
 {
     begins_ascii(text) || begins_letter(text)
 }
 
-// Whether nothing stands there, or a character of ASCII first.
+// Whether the text is empty or begins with a character of ASCII.
 fn begins_ascii(text: &str) -> bool
     ensures { result ≡ plain.begins_ascii text.now }
 {
@@ -107,7 +108,7 @@ fn begins_ascii(text: &str) -> bool
     }
 }
 
-// The first grapheme and the rest, where they begin with simple characters, which need no table.
+// The first grapheme and the rest, if both begin with simple characters, which need no table.
 fn split_first_simple(text: &str) -> Option<(&str, &str)>
     ensures { IfSome result (λ (first, rest). IsFirst text.now first.now rest.now) }
 {
@@ -125,8 +126,8 @@ fn split_first_simple(text: &str) -> Option<(&str, &str)>
     Some((front, rest))
 }
 
-/// The first grapheme of a text, and the rest, which is cut as a text of its own. The empty text
-/// has none.
+/// The first grapheme of a text, and the rest, which is cut as a text of its own, or `None` for the
+/// empty text.
 pub fn split_first_grapheme(text: &str) -> Option<(&str, &str)>
     ensures { MatchOption result (graphemes true text.now ≡ []) (λ (first, rest).
         IsFirst text.now first.now rest.now) }
@@ -139,11 +140,11 @@ pub fn split_first_grapheme(text: &str) -> Option<(&str, &str)>
     Some((first, pieces.as_str()))
 }
 
-/// How many bytes are looked at side by side.
+/// How many bytes are compared at once.
 const BLOCK: usize = 16;
 
-// Whether all bytes are printable ASCII. The loop goes over all of them, so that those of a block
-// are looked at side by side.
+// Whether all bytes are printable ASCII. The loop doesn't stop early, so that the bytes of a block
+// are compared at once.
 #[inline(always)]
 fn are_plain(bytes: &[u8]) -> bool
     ensures { result ≡ list_all plain.is_plain bytes.now }
@@ -155,7 +156,7 @@ fn are_plain(bytes: &[u8]) -> bool
     all
 }
 
-// How many bytes of the beginning, `end` at most, are printable ASCII, as far as whole blocks are.
+// How many of the first `end` bytes are in leading blocks of printable ASCII alone.
 fn count_plain_blocks(bytes: &[u8], end: usize) -> usize
     requires { end ≤ length bytes.now }
     ensures within { result ≤ end }
@@ -169,7 +170,7 @@ fn count_plain_blocks(bytes: &[u8], end: usize) -> usize
     end / BLOCK * BLOCK
 }
 
-// How many bytes of the beginning, `limit` at most, are printable ASCII.
+// How many leading bytes, at most `limit`, are printable ASCII.
 fn count_plain(bytes: &[u8], limit: usize) -> usize
     ensures within { result ≤ min limit (length bytes.now) }
     ensures plain { list_all plain.is_plain (take result bytes.now) ≡ true }
@@ -190,8 +191,8 @@ fn count_plain(bytes: &[u8], limit: usize) -> usize
 /// own.
 ///
 /// The run may be empty. It is shorter than `limit` only where the rest is empty, begins with
-/// another character, or begins with printable ASCII right before a character that is neither ASCII
-/// nor a letter for which `is_letter` holds, which may be a mark on it.
+/// another character, or begins with printable ASCII directly before a character that may be a mark
+/// on it: one that is neither ASCII nor a letter for which `is_letter` holds.
 pub fn split_plain_run(text: &str, limit: usize) -> (&str, &str)
     ensures { plain.IsPlainRun text.now limit result.0.now result.1.now }
 {
@@ -226,7 +227,7 @@ pub fn begins_letter(text: &str) -> bool
     bytes_begin_letter(text.as_bytes())
 }
 
-// How many letters the text begins with, `limit` at most.
+// How many letters the text begins with, at most `limit`.
 fn count_letters(text: &str, limit: usize) -> usize
     ensures within { result ≤ min limit (length (chars text.now)) }
     ensures letters { list_all letter.is_letter (take result (chars text.now)) ≡ true }
@@ -247,8 +248,8 @@ fn count_letters(text: &str, limit: usize) -> usize
 /// own.
 ///
 /// The run may be empty. It has fewer letters only where the rest is empty, begins with another
-/// character, or begins with a letter right before one that is neither a letter nor ASCII, which
-/// may be a mark on it.
+/// character, or begins with a letter directly before a character that may be a mark on it: one
+/// that is neither a letter nor ASCII.
 pub fn split_letter_run(text: &str, limit: usize) -> (&str, &str)
     ensures { letter.IsLetterRun text.now limit result.0.now result.1.now }
 {
@@ -260,7 +261,7 @@ pub fn split_letter_run(text: &str, limit: usize) -> (&str, &str)
     text.split_at(3 * (count - 1))
 }
 
-/// How many letters a run of them has: each has three bytes.
+/// The number of letters in a run of letters. Each has three bytes.
 #[inline]
 pub fn letter_count(run: &str) -> usize
     requires { letter.AreLetters run.now }
@@ -279,7 +280,7 @@ pub fn letter_at(run: &str, k: usize) -> &str
     &run[3 * k..3 * k + 3]
 }
 
-// Whether the last grapheme of the whole is the text at its end.
+// Whether the text at the end of the whole is its last grapheme.
 fn is_last_grapheme(whole: &str, text: &str) -> bool
     ensures { (front : List ℕ) → whole.now ≡ front ++ text.now →
         (IsTrue result ↔ (graphemes true whole.now ≡ graphemes true front ++ text.now ∷ [])) }

@@ -11,8 +11,8 @@ use crate::hyperlink::Hyperlink;
 use std::alloc::AllocError;
 use std::rc::Rc;
 
-/// One attribute and its new value. The other attributes stay as they are. Two changes are equal
-/// where attribute and value are, links as values. A clone can only fail at a link.
+/// One attribute and its new value. The other attributes are unchanged. Two changes are equal where
+/// attribute and value are; links are compared as values. A clone can only fail at a link.
 #[derive(Drop, Debug)]
 pub enum AttributeChange {
     Intensity(Intensity),

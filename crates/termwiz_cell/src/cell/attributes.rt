@@ -17,12 +17,12 @@ use std::marker::Model;
 use std::rc::Rc;
 
 /// The attributes of a cell: how its text is drawn, whether that is output, input or a prompt,
-/// whether its row was wrapped behind it, and its link.
+/// whether its row was wrapped after it, and its link.
 ///
-/// All stand in one word but the underline colour, the link, and true colours with a palette's
-/// fallback. Those take memory, which is given back once all of them have their defaults again. A
-/// clone can only fail where it takes memory. Calls that begin with `set_` answer the attributes,
-/// and can be chained.
+/// All are stored in one word but the underline colour, the link, and true colours with a palette's
+/// fallback. Those take memory, which is freed once all of them have their defaults again. A clone
+/// can only fail where it takes memory. Calls that begin with `set_` return the attributes, and can
+/// be chained.
 #[derive(Drop)]
 pub struct CellAttributes {
     form: Form,
@@ -49,7 +49,7 @@ impl CellAttributes {
         }
     }
 
-    /// A copy, where that takes no memory, and else `None`.
+    /// A copy, or `None` where it would take memory.
     #[doc(hidden)]
     #[inline]
     pub fn unboxed_copy(&self) -> Option<CellAttributes>
@@ -187,14 +187,14 @@ impl CellAttributes {
         self
     }
 
-    /// Whether the row was wrapped behind this cell, so that the next row goes on with its text.
+    /// Whether the row was wrapped after this cell, so that the next row continues its text.
     pub fn wrapped(&self) -> bool
         ensures { result ≡ self.now.wrapped }
     {
         self.form.style().wrapped()
     }
 
-    /// Sets whether the row was wrapped behind this cell.
+    /// Sets whether the row was wrapped after this cell.
     pub fn set_wrapped(&mut self, value: bool) -> &mut Self
         ensures same_reference { result.ghost_name ≡ self.entry.ghost_name }
         ensures value { result.now ≡ record self.old { wrapped = value } }
@@ -203,14 +203,14 @@ impl CellAttributes {
         self
     }
 
-    /// Whether a line stands above the text.
+    /// Whether a line is drawn above the text.
     pub fn overline(&self) -> bool
         ensures { result ≡ self.now.overline }
     {
         self.form.style().overline()
     }
 
-    /// Sets whether a line stands above the text.
+    /// Sets whether a line is drawn above the text.
     pub fn set_overline(&mut self, value: bool) -> &mut Self
         ensures same_reference { result.ghost_name ≡ self.entry.ghost_name }
         ensures value { result.now ≡ record self.old { overline = value } }
@@ -235,14 +235,14 @@ impl CellAttributes {
         self
     }
 
-    /// Where the text stands on its line.
+    /// The vertical position of the text on its line.
     pub fn vertical_align(&self) -> VerticalAlign
         ensures { result ≡ self.now.vertical_align }
     {
         self.form.style().vertical_align()
     }
 
-    /// Sets where the text stands on its line.
+    /// Sets the vertical position of the text on its line.
     pub fn set_vertical_align(&mut self, value: VerticalAlign) -> &mut Self
         ensures same_reference { result.ghost_name ≡ self.entry.ghost_name }
         ensures value { result.now ≡ record self.old { vertical_align = value } }
@@ -258,8 +258,9 @@ impl CellAttributes {
         shown(self.form.foreground(), self.form.style().foreground())
     }
 
-    /// Sets the colour of the text. It can only fail where `change_foreground` can, which also
-    /// promises that an error leaves the attributes as they were; this contract doesn't say so.
+    /// Sets the colour of the text. It can only fail where the new attributes take memory and the
+    /// old ones took none. Only `change_foreground` promises that an error leaves the attributes
+    /// unchanged.
     pub fn set_foreground(
         &mut self,
         alloc: Global,
@@ -275,8 +276,8 @@ impl CellAttributes {
         Ok(self)
     }
 
-    /// Sets the colour of the text. It can only fail where the attributes take memory and took none
-    /// before. At an error nothing changed.
+    /// Sets the colour of the text. It can only fail where the new attributes take memory and the
+    /// old ones took none. An error leaves the attributes unchanged.
     pub fn change_foreground(
         &mut self,
         alloc: Global,
@@ -294,15 +295,16 @@ impl CellAttributes {
         Ok(())
     }
 
-    /// The colour behind the text.
+    /// The background colour.
     pub fn background(&self) -> ColorAttribute
         ensures { result ≡ self.now.background }
     {
         shown(self.form.background(), self.form.style().background())
     }
 
-    /// Sets the colour behind the text. It can only fail where `change_background` can, which also
-    /// promises that an error leaves the attributes as they were; this contract doesn't say so.
+    /// Sets the background colour. It can only fail where the new attributes take memory and the
+    /// old ones took none. Only `change_background` promises that an error leaves the attributes
+    /// unchanged.
     pub fn set_background(
         &mut self,
         alloc: Global,
@@ -318,8 +320,8 @@ impl CellAttributes {
         Ok(self)
     }
 
-    /// Sets the colour behind the text. It can only fail where the attributes take memory and took
-    /// none before. At an error nothing changed.
+    /// Sets the background colour. It can only fail where the new attributes take memory and the
+    /// old ones took none. An error leaves the attributes unchanged.
     pub fn change_background(
         &mut self,
         alloc: Global,
@@ -337,16 +339,16 @@ impl CellAttributes {
         Ok(())
     }
 
-    /// The colour of the line under the text.
+    /// The colour of the underline.
     pub fn underline_color(&self) -> ColorAttribute
         ensures { result ≡ self.now.underline_color }
     {
         self.form.underline_color()
     }
 
-    /// Sets the colour of the line under the text. It can only fail where `change_underline_color`
-    /// can, which also promises that an error leaves the attributes as they were; this contract
-    /// doesn't say so.
+    /// Sets the colour of the underline. It can only fail where the new attributes take memory and
+    /// the old ones took none. Only `change_underline_color` promises that an error leaves the
+    /// attributes unchanged.
     pub fn set_underline_color(
         &mut self,
         alloc: Global,
@@ -362,8 +364,8 @@ impl CellAttributes {
         Ok(self)
     }
 
-    /// Sets the colour of the line under the text. It can only fail where the attributes take
-    /// memory and took none before. At an error nothing changed.
+    /// Sets the colour of the underline. It can only fail where the new attributes take memory and
+    /// the old ones took none. An error leaves the attributes unchanged.
     pub fn change_underline_color(
         &mut self,
         alloc: Global,
@@ -385,8 +387,9 @@ impl CellAttributes {
         self.form.hyperlink()
     }
 
-    /// Sets the link of the text. It can only fail where `change_hyperlink` can, which also
-    /// promises that an error leaves the attributes as they were; this contract doesn't say so.
+    /// Sets the link of the text. It can only fail where the new attributes take memory and the old
+    /// ones took none. Only `change_hyperlink` promises that an error leaves the attributes
+    /// unchanged.
     pub fn set_hyperlink(
         &mut self,
         alloc: Global,
@@ -402,8 +405,8 @@ impl CellAttributes {
         Ok(self)
     }
 
-    /// Sets the link of the text. It can only fail where the attributes take memory and took none
-    /// before. At an error nothing changed.
+    /// Sets the link of the text. It can only fail where the new attributes take memory and the old
+    /// ones took none. An error leaves the attributes unchanged.
     pub fn change_hyperlink(
         &mut self,
         alloc: Global,
@@ -418,7 +421,7 @@ impl CellAttributes {
         self.form.set_hyperlink(alloc, value)
     }
 
-    /// A copy with the semantic type `Output`, and no underline, overline, strike through and
+    /// A copy with the semantic type `Output`, and without underline, overline, strike through and
     /// link. The other attributes are kept, the underline colour and the wrapped mark too. It can
     /// only fail where the copy takes memory, for an underline colour or a true colour with a
     /// palette's fallback.
@@ -430,8 +433,8 @@ impl CellAttributes {
         Ok(CellAttributes { form })
     }
 
-    /// Applies a change of one attribute. It can only fail where the attributes take memory and
-    /// took none before, or at the copy of a link. At an error nothing changed.
+    /// Applies a change of one attribute. It can only fail where the new attributes take memory and
+    /// the old ones took none, or where it copies a link. An error leaves the attributes unchanged.
     pub fn apply_change(
         &mut self,
         alloc: Global,
@@ -508,7 +511,7 @@ impl CellAttributes {
     }
 }
 
-/// The rare colour, or else the word's.
+/// The box's colour, or the word's where that is the default.
 fn shown(rare: ColorAttribute, word: ColorAttribute) -> ColorAttribute
     ensures { result ≡ shown rare word }
 {
@@ -518,7 +521,7 @@ fn shown(rare: ColorAttribute, word: ColorAttribute) -> ColorAttribute
     }
 }
 
-/// The part of a colour that the box has.
+/// The colour where the box holds it, or else the default.
 fn rare_part(color: &ColorAttribute) -> ColorAttribute
     ensures { result ≡ rare_part color.now }
 {

@@ -1,4 +1,4 @@
-//! How cells and attributes are shown to a person who debugs.
+//! How cells and attributes are printed for debugging.
 use super::{Cell, CellAttributes};
 use std::fmt;
 use std::fmt::{Debug, DebugStruct};

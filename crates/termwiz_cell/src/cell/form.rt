@@ -10,14 +10,15 @@ use crate::hyperlink::Hyperlink;
 use std::alloc::{AllocError, Global};
 use std::rc::Rc;
 
-/// Attributes in one of two forms. `Boxed` is there only while a rare attribute isn't default.
+/// Attributes in one of two forms. They are `Boxed` only while a rare attribute isn't default.
 #[derive(Drop)]
 pub(super) enum Form {
     Plain(StyleWord),
     Boxed(Box<Full>),
 }
 
-/// The word, and the rare attributes: those that few cells have.
+/// The word, and the rare attributes: the underline colour, the link, and true colours with a
+/// palette's fallback.
 #[derive(Drop)]
 pub(super) struct Full {
     pub(super) style: StyleWord,
@@ -77,7 +78,8 @@ impl Full {
             && is_default_color(self.underline_color)
     }
 
-    /// A copy in a box of its own. It stands apart, so that the copy of plain attributes is short.
+    /// A copy in a box of its own. It is kept out of line, so that the path of plain attributes is
+    /// short.
     #[inline(never)]
     fn copied(&self, alloc: Global) -> Result<Form, AllocError>
         requires { spec.is_rare_default (spec.full_rare self.now) ≡ false }
@@ -96,7 +98,8 @@ impl Full {
         Ok(Form::Boxed(Box::new(alloc, copy)?))
     }
 
-    /// Whether both are the same. It stands apart, so that the test of plain attributes is short.
+    /// Whether both are the same. It is kept out of line, so that the path of plain attributes is
+    /// short.
     #[inline(never)]
     fn is_same(&self, other: &Full) -> bool
         ensures { IsTrue result
@@ -123,7 +126,7 @@ impl Full {
 }
 
 impl Form {
-    /// The small attributes.
+    /// The word's attributes.
     pub(super) fn style(&self) -> &StyleWord
         ensures { result.now ≡ spec.style_in self.now }
     {
@@ -133,7 +136,7 @@ impl Form {
         }
     }
 
-    /// The small attributes, for writing.
+    /// The word's attributes, for writing.
     pub(super) fn style_mut(&mut self) -> &mut StyleWord
         ensures* writes_back { sem 𝓛 (LendsStyle self.entry result) }
         ensures value { result.now ≡ spec.style_in self.old }
@@ -157,7 +160,7 @@ impl Form {
         }
     }
 
-    /// The rare foreground.
+    /// The box's foreground, or the default where there is no box.
     pub(super) fn foreground(&self) -> ColorAttribute
         ensures { result ≡ (spec.rare_in self.now).foreground }
     {
@@ -167,7 +170,7 @@ impl Form {
         }
     }
 
-    /// The rare background.
+    /// The box's background, or the default where there is no box.
     pub(super) fn background(&self) -> ColorAttribute
         ensures { result ≡ (spec.rare_in self.now).background }
     {
@@ -177,7 +180,7 @@ impl Form {
         }
     }
 
-    /// The underline colour.
+    /// The underline colour, or the default where there is no box.
     pub(super) fn underline_color(&self) -> ColorAttribute
         ensures { result ≡ (spec.rare_in self.now).underline_color }
     {
@@ -187,7 +190,7 @@ impl Form {
         }
     }
 
-    /// The link.
+    /// The link, or `None` where there is no box.
     pub(super) fn hyperlink(&self) -> Option<&Rc<Hyperlink>>
         ensures { option_map (λ rc. rc.now.value) result ≡ (spec.rare_in self.now).hyperlink }
     {
@@ -197,7 +200,8 @@ impl Form {
         }
     }
 
-    /// Sets one of the rare colours. It can only fail where a box is needed that was not there.
+    /// Sets one of the rare colours. It can only fail where the new attributes need a box and the
+    /// old ones had none.
     #[tactic(auto, using(crate::proofs::Boxes::rare_default_only, crate::proofs::Boxes::default_color_alone))]
     pub(super) fn set_color(
         &mut self,
@@ -233,7 +237,8 @@ impl Form {
         Ok(())
     }
 
-    /// Sets the link. It can only fail where a box is needed that was not there.
+    /// Sets the link. It can only fail where the new attributes need a box and the old ones had
+    /// none.
     #[tactic(auto, using(crate::proofs::Boxes::rare_default_only))]
     pub(super) fn set_hyperlink(
         &mut self,
@@ -297,7 +302,7 @@ impl Form {
         }
     }
 
-    /// A copy of the word, where there is no box.
+    /// A copy of the word, or `None` where there is a box.
     #[inline]
     pub(super) fn unboxed_copy(&self) -> Option<Form>
         ensures { MatchOption result (spec.is_boxed self.now ≡ true) (λ copy. (copy ≡ self.now)
@@ -309,7 +314,7 @@ impl Form {
         }
     }
 
-    /// A copy with the semantic type `Output`, and no underline, overline, strike through and
+    /// A copy with the semantic type `Output`, and without underline, overline, strike through and
     /// link. It can only fail where the copy needs a box.
     pub(super) fn sgr_only(&self, alloc: Global) -> Result<Form, AllocError>
         ensures style { IfOk result (λ copy.

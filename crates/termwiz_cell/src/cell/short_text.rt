@@ -1,4 +1,4 @@
-//! Texts of at most seven bytes, which stand in the value itself.
+//! Texts of at most seven bytes, stored in the value itself.
 ghost use Rattle.std.specs.Prelude.{◌≡◌, ◌≢◌, ◌<◌, ◌≤◌, ◌∷◌, [], MatchOption, bytes_eq, length};
 ghost use Rattle.termwiz_cell.specs.{is_plain, space, true};
 
@@ -16,7 +16,7 @@ pub(super) fn plain_text(byte: u8) -> ArrayString<7>
     short
 }
 
-/// A space. Spaces stand behind it too, so that all seven bytes are written as one constant.
+/// A space. The unused bytes are spaces too, so that all seven bytes are written as one constant.
 #[inline(always)]
 pub(super) fn space_text() -> ArrayString<7>
     ensures { result.bytes ≡ space }
@@ -60,7 +60,7 @@ fn copied(text: &str) -> ArrayString<7>
     short
 }
 
-/// The byte of a text that has one, which is a character of ASCII.
+/// The byte of a text of one byte, which is a character of ASCII.
 #[inline(always)]
 pub(super) fn only_byte(short: &ArrayString<7>) -> Option<u8>
     ensures { MatchOption result (length short.now.bytes ≢ 1)

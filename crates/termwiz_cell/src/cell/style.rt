@@ -1,4 +1,4 @@
-//! The small attributes, and their numbers.
+//! The attributes that are enums, and the numbers of their variants.
 ghost use Rattle.std.specs.Prelude.{◌≡◌, ◌<◌};
 ghost use Rattle.termwiz_cell.specs.{blink_at, blink_number, intensity_at, intensity_number};
 ghost use Rattle.termwiz_cell.specs.{is_blinking, is_underlined, IsNumbered, semantic_at};
@@ -18,6 +18,7 @@ pub enum Intensity {
     #[default]
     Normal,
     Bold,
+    /// Dim.
     Half,
 }
 
@@ -33,7 +34,7 @@ pub enum Underline {
     Dashed,
 }
 
-/// Whether there is a line.
+/// Whether the text is underlined.
 impl From<Underline> for bool {
     ghost from_gives = { λ underline on. on ≡ is_underlined underline };
 
@@ -50,7 +51,7 @@ pub enum Blink {
     Rapid,
 }
 
-/// Whether it blinks.
+/// Whether the text blinks.
 impl From<Blink> for bool {
     ghost from_gives = { λ blink on. on ≡ is_blinking blink };
 
@@ -68,7 +69,7 @@ pub enum SemanticType {
     Prompt,
 }
 
-/// Where a text stands on its line: on the base line, raised, or lowered.
+/// The vertical position of a text on its line: on the base line, raised, or lowered.
 #[derive(Clone, Copy, PartialEq, Eq, Debug)]
 pub enum VerticalAlign {
     BaseLine,
@@ -77,7 +78,7 @@ pub enum VerticalAlign {
 }
 
 impl Intensity {
-    /// Its number: the variants have those from 0 on, in their order.
+    /// The variant's number: variants are numbered from 0, in their order.
     pub fn number(self) -> u8
         ensures value { result ≡ intensity_number self }
         ensures bound { result < 3 }
@@ -86,7 +87,7 @@ impl Intensity {
     }
 }
 
-/// The variant of a number, and a fault for the number of none.
+/// The variant of a number, and `UnknownNumber` where no variant has it.
 impl TryFrom<u8> for Intensity {
     type Error = UnknownNumber;
 
@@ -103,7 +104,7 @@ impl TryFrom<u8> for Intensity {
 }
 
 impl Underline {
-    /// Its number: the variants have those from 0 on, in their order.
+    /// The variant's number: variants are numbered from 0, in their order.
     pub fn number(self) -> u8
         ensures value { result ≡ underline_number self }
         ensures bound { result < 6 }
@@ -112,7 +113,7 @@ impl Underline {
     }
 }
 
-/// The variant of a number, and a fault for the number of none.
+/// The variant of a number, and `UnknownNumber` where no variant has it.
 impl TryFrom<u8> for Underline {
     type Error = UnknownNumber;
 
@@ -132,7 +133,7 @@ impl TryFrom<u8> for Underline {
 }
 
 impl Blink {
-    /// Its number: the variants have those from 0 on, in their order.
+    /// The variant's number: variants are numbered from 0, in their order.
     pub fn number(self) -> u8
         ensures value { result ≡ blink_number self }
         ensures bound { result < 3 }
@@ -141,7 +142,7 @@ impl Blink {
     }
 }
 
-/// The variant of a number, and a fault for the number of none.
+/// The variant of a number, and `UnknownNumber` where no variant has it.
 impl TryFrom<u8> for Blink {
     type Error = UnknownNumber;
 
@@ -158,7 +159,7 @@ impl TryFrom<u8> for Blink {
 }
 
 impl SemanticType {
-    /// Its number: the variants have those from 0 on, in their order.
+    /// The variant's number: variants are numbered from 0, in their order.
     pub fn number(self) -> u8
         ensures value { result ≡ semantic_number self }
         ensures bound { result < 3 }
@@ -167,7 +168,7 @@ impl SemanticType {
     }
 }
 
-/// The variant of a number, and a fault for the number of none.
+/// The variant of a number, and `UnknownNumber` where no variant has it.
 impl TryFrom<u8> for SemanticType {
     type Error = UnknownNumber;
 
@@ -184,7 +185,7 @@ impl TryFrom<u8> for SemanticType {
 }
 
 impl VerticalAlign {
-    /// Its number: the variants have those from 0 on, in their order.
+    /// The variant's number: variants are numbered from 0, in their order.
     pub fn number(self) -> u8
         ensures value { result ≡ vertical_number self }
         ensures bound { result < 3 }
@@ -193,7 +194,7 @@ impl VerticalAlign {
     }
 }
 
-/// The variant of a number, and a fault for the number of none.
+/// The variant of a number, and `UnknownNumber` where no variant has it.
 impl TryFrom<u8> for VerticalAlign {
     type Error = UnknownNumber;
 

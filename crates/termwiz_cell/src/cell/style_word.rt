@@ -7,7 +7,8 @@ use super::style::{Blink, Intensity, SemanticType, Underline, VerticalAlign};
 use crate::color::{ColorAttribute, RgbColor};
 use std::marker::Model;
 
-/// Attributes in a word: one digit each, to a radix of its own. A style has one word.
+/// Attributes in a word: one digit each, each with a radix of its own. A style has exactly one
+/// word.
 ///
 /// The word holds all attributes but the underline colour, the link and true colours with a
 /// palette's fallback: 55296 styles and 16777473 colours for text and background each are fewer
@@ -29,8 +30,8 @@ impl Model for StyleWord {
     ghost invariant = { λ s. IsStyleWord s.word };
 }
 
-// The place of each digit, the lowest first: a digit ends where the next begins. Those to a power
-// of two come first, since they are read without a division.
+// The place of each digit, the lowest first: a digit ends where the next begins. Those with a power
+// of two as radix come first, since they are read without a division.
 const INTENSITY: u64 = 1;
 
 const UNDERLINE: u64 = 1 << 2;
@@ -57,10 +58,10 @@ const FOREGROUND: u64 = VERTICAL_ALIGN * 3;
 
 const BACKGROUND: u64 = FOREGROUND * COLORS;
 
-// The default colour, 256 of the palette, and 2^24 true ones.
+// The default colour, 256 of the palette, and 2^24 true colours.
 const COLORS: u64 = 16777473;
 
-/// The word with this digit to the base `radix` at the place.
+/// The word with this digit of radix `radix` at the place.
 #[inline]
 fn with_digit(word: u64, place: u64, radix: u64, digit: u64) -> u64
     requires place { 0 < place }
@@ -81,7 +82,7 @@ fn flag_digit(flag: bool) -> u64
 }
 
 /// The digit of a colour: 0 for the default, the index plus 1 for one of the palette, and from 257
-/// on the true ones. One with a palette's fallback has the default's.
+/// on the true colours. One with a palette's fallback has the default's.
 fn color_digit(color: ColorAttribute) -> u64
     ensures value { result ≡ color_number (word_part color) }
     ensures fits { FitsWord (word_part color) }
@@ -157,7 +158,8 @@ impl StyleWord {
         self.word == 0
     }
 
-    /// The style with the semantic type `Output`, and no underline, overline and strike through.
+    /// The style with the semantic type `Output`, and without underline, overline and strike
+    /// through.
     pub(super) fn sgr_only(&self) -> StyleWord
         ensures { result ≡ style_sgr_only self.now }
     {
@@ -336,7 +338,7 @@ impl StyleWord {
         color_from(self.word / FOREGROUND % COLORS)
     }
 
-    /// Sets the part of a colour that the word holds.
+    /// Sets the colour, or the default where the word can't hold it.
     #[tactic(auto, using(crate::proofs::StyleSetters::foreground))]
     pub(super) fn set_foreground(&mut self, value: ColorAttribute)
         ensures { self.new ≡ record self.old { foreground = word_part value } }
@@ -351,7 +353,7 @@ impl StyleWord {
         color_from(self.word / BACKGROUND)
     }
 
-    /// Sets the part of a colour that the word holds.
+    /// Sets the colour, or the default where the word can't hold it.
     #[tactic(auto, using(crate::proofs::StyleSetters::background))]
     pub(super) fn set_background(&mut self, value: ColorAttribute)
         ensures { self.new ≡ record self.old { background = word_part value } }

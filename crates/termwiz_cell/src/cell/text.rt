@@ -8,7 +8,7 @@ use super::short_text::{is_same_short, only_byte, plain_text, short_text, space_
 use arrayvec::ArrayString;
 use std::alloc::{AllocError, Global};
 
-/// The text of a cell, and whether it takes two columns. A text of at most seven bytes stands in
+/// The text of a cell, and whether it takes two columns. A text of at most seven bytes is stored in
 /// the value itself, and a longer one on the heap.
 #[derive(Drop)]
 pub(super) enum CellText {
@@ -37,8 +37,8 @@ pub(super) fn cleaned(text: &str) -> &str
 }
 
 impl LongText {
-    /// Whether both are the same text of the same width. It stands apart, so that the test of
-    /// short texts is short.
+    /// Whether both are the same text of the same width. It is kept out of line, so that the path
+    /// of short texts is short.
     #[inline(never)]
     fn is_same(&self, other: &LongText) -> bool
         ensures { result
@@ -119,7 +119,7 @@ impl CellText {
         matches!(self.as_plain(), Some(b' '))
     }
 
-    /// The text, where it is one printable character of ASCII, of one column.
+    /// The byte of the text, where it is one printable character of ASCII, of one column.
     #[inline(always)]
     #[tactic(auto, using(crate::proofs::TextForms::plain_one, crate::proofs::TextForms::not_plain))]
     pub(super) fn as_plain(&self) -> Option<u8>
@@ -136,8 +136,8 @@ impl CellText {
         }
     }
 
-    /// Whether both are the same text of the same width. A text's length and width decide its form,
-    /// so texts of two forms differ.
+    /// Whether both are the same text of the same width. A text's length and width determine its
+    /// form, so texts of two forms differ.
     #[inline(always)]
     #[tactic(auto, using(crate::proofs::TextForms::short_differs_from_long, crate::proofs::TextForms::long_differs_from_short, crate::proofs::TextForms::clean_filled))]
     pub(super) fn is_same(&self, other: &CellText) -> bool
@@ -158,7 +158,7 @@ impl CellText {
         }
     }
 
-    /// A copy, where the text stands in the value itself, and else `None`.
+    /// A copy, or `None` where the text is longer than seven bytes.
     #[inline(always)]
     pub(super) fn short_copy(&self) -> Option<CellText>
         requires { HasTextForm self.now }
@@ -190,8 +190,8 @@ impl CellText {
     }
 }
 
-/// This text, which has more than seven bytes. It stands apart, so that the way of the others is
-/// short.
+/// This text, which has more than seven bytes. It is kept out of line, so that the path of short
+/// texts is short.
 #[inline(never)]
 fn long_text(alloc: Global, text: &str, wide: bool) -> Result<CellText, AllocError>
     requires clean { clean text.now ≡ text.now }

@@ -1,4 +1,4 @@
-//! Sequences of changes, which report where their changes take a cursor.
+//! Sequences of changes, which report where their changes move a cursor.
 ghost use Rattle.std.specs.Prelude.{◌≡◌, ◌+◌, ◌+ℤ◌, ◌-ℤ◌, ◌≤ℤ◌, ◌<◌, ◌≤◌, ◌^◌, ◌∷◌, ◌++◌, [], IfOk};
 ghost use Rattle.termwiz_cell.specs.{AddsAll, AddsOne, DistancesFit, FitsSigned, IfErr, IsSequence};
 ghost use Rattle.termwiz_cell.specs.{MovesTo, OnErr, OnOk, Range, RowFits, SequenceValue, aim, map};
@@ -17,11 +17,11 @@ use thiserror::Error;
 /// Why a sequence refuses a change. The first applicable error is returned, in this order.
 #[derive(Debug, Drop, Clone, Copy, PartialEq, Eq, Error)]
 pub enum SequenceError {
-    /// Error 1: a text takes the cursor's row past the greatest `isize`, or the distance of a move
-    /// is no `isize`.
+    /// Error 1: a text moves the cursor's row past the greatest `isize`, or the distance of a move
+    /// doesn't fit an `isize`.
     #[error("a row or a distance is out of range")]
     Range,
-    /// Error 2: a growth was refused.
+    /// Error 2: memory was refused.
     #[error("out of memory")]
     Memory,
 }
@@ -36,15 +36,14 @@ impl From<AllocError> for SequenceError {
     }
 }
 
-/// A list of changes that grows, and reports where its changes take a cursor and how far apart the
-/// rows are that it reaches.
+/// A growing list of changes, which reports where its changes move a cursor, and the height of the
+/// rows that the cursor was in.
 ///
-/// It serves a program that doesn't own the whole screen, as a line editor, whose output begins
-/// wherever the cursor was when it was called. So places are counted from there: the cursor begins
-/// at column 0 of row 0, and rows above that one are below 0. Nothing scrolls, and rows have no
-/// end.
+/// It is for a program that doesn't own the whole screen, such as a line editor, whose output
+/// begins wherever the cursor is. So rows are numbered from there: the cursor begins at column 0 of
+/// row 0, and rows above that one are negative. Nothing scrolls, and the rows have no end.
 ///
-/// A text moves the cursor's column as on a surface of that many columns and with that width value.
+/// A text moves the cursor's column as on a surface of as many columns with the same width value.
 #[derive(Drop)]
 pub struct ChangeSequence<W: Widths> {
     widths: W,
@@ -100,7 +99,7 @@ fn columns_of<W: Widths>(widths: &W, grapheme: &str) -> usize
     }
 }
 
-// Where a cell of this width takes a cursor.
+// Where a cell of this width moves a cursor.
 fn after_cell(columns: usize, at: (usize, i128), width: usize) -> (usize, i128)
     requires column { at.0 ≤ columns }
     requires few { columns < 2 ^ 32 }
@@ -118,7 +117,7 @@ fn after_cell(columns: usize, at: (usize, i128), width: usize) -> (usize, i128)
     }
 }
 
-// Where a grapheme takes a cursor.
+// Where a grapheme moves a cursor.
 fn after_grapheme<W: Widths>(
     widths: &W,
     columns: usize,
@@ -143,7 +142,7 @@ fn after_grapheme<W: Widths>(
     }
 }
 
-// Where a text takes a cursor.
+// Where a text moves a cursor.
 fn after_text<W: Widths>(widths: &W, columns: usize, x: usize, y: i128, text: &str) -> (usize, i128)
     requires column { x ≤ columns }
     requires few { columns < 2 ^ 32 }
@@ -162,7 +161,7 @@ fn after_text<W: Widths>(widths: &W, columns: usize, x: usize, y: i128, text: &s
     at
 }
 
-// What a position asks for, from a place among this many columns or rows.
+// The column or row that a position asks for, from a current one, of `count` columns or rows.
 fn aim_at(position: Position, from: i128, count: usize) -> i128
     requires few { count < 2 ^ 32 }
     requires low { (pos 0 -ℤ pos (2 ^ 64)) ≤ℤ from }
@@ -192,7 +191,7 @@ fn row_of(aim: i128, rows: usize) -> isize
     (aim % rows as i128) as isize
 }
 
-// A row or a distance, where it is an `isize`.
+// A row or a distance, or `Range` where it doesn't fit an `isize`.
 fn in_range(value: i128) -> Result<isize, SequenceError>
     ensures ok { IfOk result (λ same. same ≡ value) }
     ensures fits { OnOk result (FitsSigned w64 value) }
@@ -201,7 +200,7 @@ fn in_range(value: i128) -> Result<isize, SequenceError>
     isize::try_from(value).map_err(|_| SequenceError::Range)
 }
 
-// Puts a change behind the others. On an error nothing has changed.
+// Appends a change. An error leaves the list unchanged.
 fn push(changes: &mut Vec<Change>, change: Change) -> Result<(), AllocError>
     ensures ok { OnOk result (
         map change_value changes.new.items
@@ -213,7 +212,8 @@ fn push(changes: &mut Vec<Change>, change: Change) -> Result<(), AllocError>
 }
 
 impl<W: Widths> ChangeSequence<W> {
-    /// An empty sequence for a screen of this many rows and columns.
+    /// An empty sequence for a screen of this many rows and columns: at least 1 and fewer than 2^32
+    /// each.
     pub fn new(alloc: Global, rows: usize, cols: usize, widths: W) -> ChangeSequence<W>
         requires some_row { 0 < rows }
         requires few_rows { rows < 2 ^ 32 }
@@ -249,26 +249,26 @@ impl<W: Widths> ChangeSequence<W> {
         self.changes
     }
 
-    /// The cursor's column and row. The column is the number of columns where a wrap is pending,
-    /// and a row above the first is below 0.
+    /// The cursor's column and row. Where a wrap is pending, the column equals the number of
+    /// columns. A row above the first is negative.
     pub fn current_cursor_position(&self) -> (usize, isize)
         ensures cursor { result ≡ self.now.cursor }
-        // Every sequence has its form: the cursor is in its columns, and its row between the least
-        // and the greatest.
+        // The column is at most the number of columns, and the row between the least and the
+        // greatest.
         ensures form { IsSequence self.now }
     {
         (self.x, self.y)
     }
 
-    /// The distance in rows from the least to the greatest row that the cursor was in so far, row 0
-    /// among them: one less than the rows from the one to the other.
+    /// The greatest row minus the least row that the cursor was in, row 0 included: one less than
+    /// the number of rows from the one to the other.
     pub fn render_height(&self) -> usize
         ensures { pos result ≡ self.now.greatest -ℤ self.now.least }
     {
         (self.greatest as i128 - self.least as i128) as usize
     }
 
-    // Where a text takes the cursor.
+    // Where a text moves the cursor.
     fn after_text(&self, text: &str) -> Result<(usize, isize), SequenceError>
         ensures ok { IfOk result (λ at.
             at ≡ text_place (measure W.width_of self.now.widths) self.now.columns
@@ -283,7 +283,7 @@ impl<W: Widths> ChangeSequence<W> {
         Ok((x, y))
     }
 
-    // Where a position takes the cursor.
+    // Where a position moves the cursor.
     fn after_position(&self, x: Position, y: Position) -> (usize, isize)
         ensures place { result ≡ position_place self.now.rows self.now.columns self.now.cursor x y }
         ensures column { result.0 ≤ self.now.columns }
@@ -293,7 +293,7 @@ impl<W: Widths> ChangeSequence<W> {
         (column, row)
     }
 
-    // Where a change takes the cursor.
+    // Where a change moves the cursor.
     fn after_change(&self, change: &Change) -> Result<(usize, isize), SequenceError>
         ensures ok { IfOk result (λ at.
             at ≡ place_after (measure W.width_of self.now.widths) self.now
@@ -329,13 +329,15 @@ impl<W: Widths> ChangeSequence<W> {
         })
     }
 
-    /// Adds a change, which moves the cursor:
-    /// - a text as on a surface, with a row more at each LF, CR LF and wrap;
-    /// - a position to what it asks for, by remainders: the column's is never below 0, and the
-    ///   row's has the sign of what is asked for;
-    /// - a clear of the screen and a scroll to column 0 of row 0, and all others not at all.
-    /// `Range`: a text takes the row past the greatest `isize`. `Memory`: a growth was refused.
-    /// After both nothing has changed.
+    /// Adds a change, and moves the cursor:
+    /// - by a text as on a surface, and down by one row at each LF, CR LF and wrap;
+    /// - by a position to the remainder of the requested column by the columns, which is never
+    ///   negative, and to the remainder of the requested row by the rows, which has the row's sign;
+    /// - by a clear of the screen and a scroll to column 0 of row 0, and by other changes not at
+    ///   all.
+    ///
+    /// `Range`: a text moves the row past the greatest `isize`. `Memory`: memory was refused. Both
+    /// leave the sequence unchanged.
     pub fn add(&mut self, change: Change) -> Result<(), SequenceError>
         ensures { AddsOne (measure W.width_of self.old.widths) self.old
             (change_value change) result self.new }
@@ -349,7 +351,7 @@ impl<W: Widths> ChangeSequence<W> {
         Ok(())
     }
 
-    /// Adds the changes in order. On an error those before the refused one stay.
+    /// Adds the changes in order. After an error the sequence has those before the refused one.
     pub fn add_changes(&mut self, changes: Vec<Change>) -> Result<(), SequenceError>
         ensures { AddsAll (measure W.width_of self.old.widths) self.old
             (map change_value changes.items) result self.new }
@@ -360,13 +362,12 @@ impl<W: Widths> ChangeSequence<W> {
         Ok(())
     }
 
-    /// Adds the change that moves the cursor by the distances from where it is to a column and a
-    /// row.
+    /// Adds the change that moves the cursor by the distances from its column and row to these.
     ///
-    /// - As by `add` the cursor comes to the remainders of these: to the place itself where the
-    ///   column is less than the columns, and the row, without its sign, less than the rows.
-    /// - `Range`: a distance is no `isize`. `Memory`: a growth was refused. After both nothing has
-    ///   changed.
+    /// - The cursor moves to this place where the column is less than the columns and the absolute
+    ///   value of the row less than the rows, and else to the remainders by these.
+    /// - `Range`: a distance doesn't fit an `isize`. `Memory`: memory was refused. Both leave the
+    ///   sequence unchanged.
     pub fn move_to(&mut self, place: (usize, isize)) -> Result<(), SequenceError>
         ensures { MovesTo (measure W.width_of self.old.widths) self.old place result
             self.new }

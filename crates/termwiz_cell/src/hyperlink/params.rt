@@ -1,5 +1,4 @@
-//! The params of a link: their reading from a text, their printing, and what equality and copies
-//! ask of them.
+//! The params of a link: parsing, printing, comparing and copying them.
 ghost use Rattle.std.specs.Prelude.{◌≡◌, IfOk, OnOk, map, string_bytes};
 ghost use Rattle.termwiz_cell.specs.{WritesOnOk, are_pairs, has_equals, pair_of, param_bytes};
 ghost use Rattle.termwiz_cell.specs.{param_eq, params_of, params_text, pointwise, with_pair};
@@ -21,7 +20,7 @@ fn is_pair(part: &str) -> bool
     part.bytes().any(|b| b == b'=')
 }
 
-/// The params that the text's pairs make. Where a key comes again, its last value stands.
+/// The params that the text's pairs make. Where a key is repeated, its last value is kept.
 pub(super) fn read_params(alloc: Global, text: &str) -> Result<BTreeMap<String, String>, AllocError>
     ensures { IfOk result (λ params. map param_bytes params.entries ≡ params_of text.now) }
 {
@@ -35,7 +34,7 @@ pub(super) fn read_params(alloc: Global, text: &str) -> Result<BTreeMap<String, 
     Ok(params)
 }
 
-/// Puts a part's value, which stands behind its first `=`, at its key.
+/// Inserts a part's value, which follows its first `=`, at its key.
 fn put_pair(
     alloc: Global,
     params: &mut BTreeMap<String, String>,
@@ -88,7 +87,7 @@ pub(super) fn has_same_params(a: &BTreeMap<String, String>, b: &BTreeMap<String,
     ensures { result
         ≡ pointwise param_eq (map param_bytes a.now.entries) (map param_bytes b.now.entries) }
 {
-    // Few links have any.
+    // Few links have params.
     if a.is_empty() && b.is_empty() {
         return true;
     }

@@ -9,10 +9,10 @@ use std::ops::Range;
 /// The column and the width of the cell of each byte of a text.
 #[derive(Debug, Drop)]
 pub(super) struct ByteCells {
-    // The columns of the first bytes, each of which has a narrow cell of its own, one behind
-    // another: they take no memory.
+    // The columns of the first bytes, each of which has a narrow cell of its own, one after
+    // another. They take no memory.
     plain: Range<usize>,
-    // The cells of the bytes behind them.
+    // The cells of the bytes after these.
     others: Vec<(usize, u8)>,
 }
 
@@ -28,7 +28,7 @@ impl Model for ByteCells {
 }
 
 impl ByteCells {
-    /// Those of no text, before a cell at this column.
+    /// The cells of an empty text that begins at this column.
     pub(super) fn new(alloc: Global, first: usize) -> ByteCells
         ensures { result ≡ [] }
     {
@@ -51,7 +51,7 @@ impl ByteCells {
         }
     }
 
-    /// Adds the bytes of one cell. On an error some of them may be there.
+    /// Adds the bytes of one cell. After an error some of them may have been added.
     pub(super) fn push(&mut self, count: usize, index: usize, width: u8) -> Result<(), AllocError>
         ensures ok { OnOk result (self.new ≡ self.old ++ replicate count (index, width)) }
         ensures grows { length self.old ≤ length self.new }
@@ -78,7 +78,8 @@ impl Clone for ByteCells {
     }
 }
 
-// Where the columns end with those of a cell, if it is narrow, has one byte and is the next one.
+// The end of the columns once a cell is added, if the cell has one byte and one column and is the
+// next one.
 fn end_with(columns: &Range<usize>, count: usize, index: usize, width: u8) -> Option<usize>
     ensures end { IfSome result (λ end. (count ≡ 1) × (width ≡ 1) × (index ≡ columns.now.end)
         × (end ≡ index + 1)) }

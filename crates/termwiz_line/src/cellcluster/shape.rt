@@ -1,8 +1,8 @@
-//! Which cells a cluster takes.
+//! Which cells join a cluster.
 ghost use Rattle.std.specs.Prelude.{◌≡◌};
 ghost use Rattle.termwiz_line.specs.{grown, shape_of_one};
 
-/// What a cluster holds so far.
+/// The cells that a cluster has so far.
 #[derive(Clone, Copy, Drop)]
 pub(super) enum Shape {
     Spaces,
@@ -18,7 +18,7 @@ impl Shape {
         if is_space { Shape::Spaces } else { Shape::Word }
     }
 
-    /// The shape with one more cell, where the cluster takes it.
+    /// The shape with one more cell, or `None` where the cell doesn't join the cluster.
     pub(super) fn grown(self, is_alike: bool, is_space: bool) -> Option<Shape>
         ensures { result ≡ grown self is_alike is_space }
     {

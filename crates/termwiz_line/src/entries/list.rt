@@ -1,4 +1,4 @@
-//! A list of entries whose last text may still grow.
+//! A list of entries whose last text can still grow.
 ghost use Rattle.std.specs.Prelude.{◌≡◌, ◌++◌, ◌∷◌, ◌&&◌, if◌then◌else◌, [], IfOk, OnErr, false};
 ghost use Rattle.termwiz_line.specs.{IsLastOf, OnOk, add_text, change_value, ends_printable, joins};
 ghost use Rattle.termwiz_line.specs.{is_plain, is_text, last_is, map, option_copied, pen_entry};
@@ -11,14 +11,14 @@ use termwiz_cell::cell::CellAttributes;
 use termwiz_cell::change::Change;
 use termwiz_text::JoinedText;
 
-/// Entries: changes, in order. A text at their end grows by each text that joins it. After an error
-/// of a method the list may hold anything.
+/// A list of entries, which are changes. A text at its end grows by each text that joins it. After
+/// an error of a method the list may have any entries.
 #[derive(Drop)]
 pub struct EntryList {
     alloc: Global,
     // All entries but the growing text.
     pushed: Vec<Change>,
-    // The growing text, while there is one. The next one takes its room.
+    // The growing text, while there is one. The next one reuses its memory.
     text: JoinedText,
     grows: bool,
 }
@@ -50,7 +50,7 @@ impl EntryList {
         }
     }
 
-    /// An entry comes behind the others. It is no text.
+    /// Appends an entry that isn't a text.
     #[inline(always)]
     pub fn push(&mut self, entry: Change) -> Result<(), AllocError>
         requires { is_text (change_value entry) ≡ false }
@@ -61,9 +61,8 @@ impl EntryList {
         Ok(())
     }
 
-    /// A text comes behind the others. Where the last entry is a text and no grapheme runs over the
-    /// seam, it joins that: cut together, they are the last one's graphemes and then the new text
-    /// as one grapheme. Else it is an entry of its own.
+    /// Appends a text. It joins a text at the end where the graphemes of both together are those of
+    /// that text and then the new text as one grapheme. Otherwise it becomes a new entry.
     #[inline(always)]
     pub fn push_text(&mut self, more: &str) -> Result<(), AllocError>
         ensures { OnOk result (self.new ≡ add_text self.old more.now) }
@@ -74,8 +73,8 @@ impl EntryList {
         self.start_text(more)
     }
 
-    // A text of its own comes behind the others. It stands apart, so that the way of a text that
-    // joins is short.
+    // Appends a text as a new entry. It is kept out of line, so that the path of a text that joins
+    // is short.
     #[inline(never)]
     fn start_text(&mut self, first: &str) -> Result<(), AllocError>
         ensures { OnOk result (self.new ≡ self.old ++ change.Text first.now ∷ []) }
@@ -86,7 +85,7 @@ impl EntryList {
         Ok(())
     }
 
-    /// A character of printable ASCII comes behind a text that ends in one, which it always joins.
+    /// Appends a character of printable ASCII to a text that ends in one, which it always joins.
     #[inline(always)]
     pub fn push_plain(&mut self, byte: u8) -> Result<(), AllocError>
         requires plain { is_plain byte ≡ true }
@@ -97,7 +96,7 @@ impl EntryList {
         Ok(())
     }
 
-    /// A pen comes behind the others, where it is another one than before.
+    /// Appends a pen, unless it equals the old one.
     #[inline(always)]
     pub fn push_pen(&mut self, old: &CellAttributes, new: &CellAttributes) -> Result<(), AllocError>
         ensures { OnOk result (self.new ≡ self.old ++ pen_entry old.now new.now) }
@@ -116,7 +115,7 @@ impl EntryList {
         Ok(())
     }
 
-    /// Room for so many times more entries than there are, where memory allows.
+    /// Reserves room for `times` times as many entries as there are, if memory allows.
     pub fn reserve_times(&mut self, times: usize)
         ensures { self.new ≡ self.old }
     {
@@ -138,7 +137,7 @@ impl EntryList {
         self.grows && self.text.ends_plain()
     }
 
-    /// The last entry, if it is no text.
+    /// The last entry, if it isn't a text.
     pub fn last(&self) -> Option<&Change>
         ensures { IsLastOf self.now (option_copied result) }
     {
@@ -148,7 +147,7 @@ impl EntryList {
         self.pushed.last()
     }
 
-    /// The entries in a list.
+    /// The entries, in order.
     pub fn into_vec(self) -> Result<Vec<Change>, AllocError>
         ensures { IfOk result (λ entries. map change_value entries.items ≡ self) }
     {
@@ -163,7 +162,7 @@ impl EntryList {
     }
 }
 
-// The text, where it grew, takes its place among the entries.
+// Pushes the growing text, if there is one.
 #[inline(always)]
 fn push_grown(
     alloc: Global,
@@ -183,7 +182,7 @@ fn push_grown(
     Ok(())
 }
 
-// The text, where it grew, and then the entry.
+// Pushes the growing text, if there is one, and then the entry.
 #[inline(always)]
 fn push_behind(
     alloc: Global,
@@ -202,7 +201,7 @@ fn push_behind(
     Ok(())
 }
 
-// Joins a text to the growing one, where there is one and it can be. Says whether it did.
+// Joins a text to the growing one, if there is one and it joins, and returns whether it did.
 #[inline(always)]
 fn join_text(text: &mut JoinedText, grows: bool, more: &str) -> Result<bool, AllocError>
     ensures joins { IfOk result (λ joined. joined ≡ (grows && joins text.old more.now)) }

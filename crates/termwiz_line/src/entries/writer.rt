@@ -16,16 +16,15 @@ use termwiz_cell::change::Change;
 use termwiz_storage::line::cellref::VisibleCellIter;
 
 /// Writes rows of visible cells as entries: a pen for each run of equal attributes, then its texts.
-/// Spaces at the end of a row are left out where their attributes are default but for the
-/// background; a background other than the default one is cleared to the end of the line in their
-/// place.
+/// Spaces at the end of a row are left out where their attributes are default except for the
+/// background. Where that isn't the default, a clear to the end of the line replaces them.
 ///
-/// After an error of a method the writer may hold anything.
+/// After an error of a method the writer may have any entries.
 #[derive(Drop)]
 pub struct RowWriter<'a> {
     entries: EntryList,
     pen: &'a CellAttributes,
-    // Spaces that may end the row are held back: how many, and their attributes.
+    // Spaces that may end the row are held back: their number, and their attributes.
     spaces: usize,
     space_attrs: &'a CellAttributes,
 }
@@ -44,7 +43,7 @@ impl<'a> Model for RowWriter<'a> {
 }
 
 impl<'a> RowWriter<'a> {
-    /// A writer of nothing yet, where this pen stands.
+    /// A writer without entries, with this pen as the current one.
     pub fn new(alloc: Global, pen: &'a CellAttributes) -> RowWriter<'a>
         ensures printed { result.printed ≡ record { entries = []; pen = pen.now } }
         ensures spaces { result.spaces ≡ 0 }
@@ -57,7 +56,7 @@ impl<'a> RowWriter<'a> {
         }
     }
 
-    /// An entry between two rows. It is no text.
+    /// Appends an entry between two rows. It isn't a text.
     pub fn push(&mut self, entry: Change) -> Result<(), AllocError>
         requires { is_text (change_value entry) ≡ false }
         ensures printed { OnOk result (
@@ -71,7 +70,7 @@ impl<'a> RowWriter<'a> {
         Ok(())
     }
 
-    /// A visible cell with this text and these attributes comes next.
+    /// Writes a visible cell with this text and these attributes.
     #[inline(always)]
     pub fn cell(&mut self, text: &str, attrs: &'a CellAttributes) -> Result<(), AllocError>
         ensures { OnOk result (
@@ -86,7 +85,7 @@ impl<'a> RowWriter<'a> {
         self.print(text, attrs)
     }
 
-    /// So many spaces with these attributes come next.
+    /// Writes `count` spaces with these attributes.
     #[inline(always)]
     pub fn spaces(&mut self, count: usize, attrs: &'a CellAttributes) -> Result<(), AllocError>
         ensures { OnOk result (
@@ -115,8 +114,8 @@ impl<'a> RowWriter<'a> {
         self.spaces > 0 && *self.space_attrs == *attrs
     }
 
-    // The spaces held back are printed. Behind the first of them, at the latest, the text grows
-    // behind printable ASCII.
+    // Prints the held-back spaces. Once the first is printed, the last entry is a text that ends in
+    // printable ASCII.
     #[inline(always)]
     fn print_spaces(&mut self) -> Result<(), AllocError>
         ensures printed { OnOk result (
@@ -134,7 +133,8 @@ impl<'a> RowWriter<'a> {
         Ok(())
     }
 
-    // Whether the text grows behind printable ASCII, and spaces held back have the pen that stands.
+    // Whether the last entry is a text that ends in printable ASCII, and held-back spaces have the
+    // current pen.
     #[inline(always)]
     fn holds_in_text(&self) -> bool
         ensures { IsTrue result → IsInText self.now }
@@ -142,8 +142,8 @@ impl<'a> RowWriter<'a> {
         self.entries.ends_printable() && *self.space_attrs == *self.pen
     }
 
-    // One of the spaces held back is printed, whatever stands before it. It stands apart, so that a
-    // cell behind no spaces is written at once.
+    // Prints one of the held-back spaces, whatever the last entry is. It is kept out of line, so
+    // that the path without spaces is short.
     #[inline(never)]
     fn print_space(&mut self) -> Result<(), AllocError>
         requires { 0 < self.old.spaces }
@@ -160,7 +160,7 @@ impl<'a> RowWriter<'a> {
         Ok(())
     }
 
-    // A visible cell with this text is printed.
+    // Prints a visible cell with this text.
     #[inline(always)]
     fn print(&mut self, text: &str, attrs: &'a CellAttributes) -> Result<(), AllocError>
         ensures printed { OnOk result (
@@ -175,8 +175,7 @@ impl<'a> RowWriter<'a> {
         Ok(())
     }
 
-    /// A row of these visible cells, with so many spaces with these attributes behind them, comes
-    /// behind the others.
+    /// Writes a row of these visible cells, followed by `spaces` spaces with these attributes.
     pub fn row(
         &mut self,
         cells: VisibleCellIter<'a>,
@@ -198,8 +197,8 @@ impl<'a> RowWriter<'a> {
         self.end_row()
     }
 
-    // Visible cells come next. Each form of storage is walked apart, so that the walk needs no test
-    // for each cell.
+    // Writes visible cells. Each form of storage has a loop of its own, which needs no test of the
+    // form for each cell.
     fn cells(&mut self, cells: VisibleCellIter<'a>) -> Result<(), AllocError>
         ensures { OnOk result (
             (from : spec.Penned) (before : List VisibleCell) → IsWritten from before self.old →
@@ -223,7 +222,7 @@ impl<'a> RowWriter<'a> {
         Ok(())
     }
 
-    // Whether the spaces held back are left out where the row ends.
+    // Whether the held-back spaces are left out where the row ends.
     fn leaves_out(&self) -> bool
         ensures { result ≡ (nat_lt 0 self.now.spaces
             && has_only_background self.now.space_attrs) }
@@ -231,8 +230,8 @@ impl<'a> RowWriter<'a> {
         self.spaces > 0 && self.space_attrs.has_only_background()
     }
 
-    // The row ends here: the spaces held back are left out, or printed where their attributes are
-    // more than a background.
+    // Ends the row: the held-back spaces are left out, or printed where other attributes than the
+    // background are set.
     fn end_row(&mut self) -> Result<(), AllocError>
         ensures row { OnOk result (
             (from : spec.Penned) (cells : List VisibleCell) →
@@ -248,14 +247,14 @@ impl<'a> RowWriter<'a> {
         Ok(())
     }
 
-    /// Room for so many rows like those that were written, where memory allows.
+    /// Reserves room for `rows` rows like those that were written, if memory allows.
     pub fn reserve_rows(&mut self, rows: usize)
         ensures { self.new ≡ self.old }
     {
         self.entries.reserve_times(rows);
     }
 
-    /// The last entry, if it is no text.
+    /// The last entry, if it isn't a text.
     pub fn last(&self) -> Option<&Change>
         ensures { IsLastOf self.now.printed.entries (option_copied result) }
     {
@@ -277,7 +276,8 @@ impl<'a> RowWriter<'a> {
     }
 }
 
-// What ends a row where spaces with these attributes are left out. Gives the pen after it.
+// Pushes what ends a row where spaces with these attributes are left out, and returns the pen after
+// it.
 fn push_tail<'a>(
     entries: &mut EntryList,
     pen: &'a CellAttributes,
@@ -297,7 +297,7 @@ fn push_tail<'a>(
     Ok(end)
 }
 
-// A background other than the default one, to the end of the line.
+// Pushes a clear to the end of the line, unless the background is the default.
 fn push_clear(entries: &mut EntryList, end: &CellAttributes) -> Result<(), AllocError>
     ensures { OnOk result (entries.new ≡ entries.old ++ spec.clear_entry end.now) }
 {

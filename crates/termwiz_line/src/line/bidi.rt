@@ -2,27 +2,29 @@
 ghost use Rattle.std.specs.Prelude.{◌≡◌};
 ghost use Rattle.termwiz_line.specs.{is_auto, is_right_to_left};
 
-/// In which direction a text is laid out.
+/// The direction in which a text is laid out.
 #[derive(Debug, Clone, Copy, PartialEq, Eq)]
 pub enum Direction {
     LeftToRight,
     RightToLeft,
 }
 
-/// What decides the direction of a line: the named one, or the line's own text, and the named one
-/// where the text has no direction.
+/// What determines the direction of a line: the direction that is named, or, by the `Auto` hints,
+/// the line's text, with the named direction for a text that has none.
 #[derive(Debug, Clone, Copy, PartialEq, Eq)]
 pub enum ParagraphDirectionHint {
+    /// Left to right, whatever the text.
     LeftToRight,
+    /// Right to left, whatever the text.
     RightToLeft,
-    /// That of the line's text, and from left to right where it has none.
+    /// The direction of the line's text, or left to right where it has none.
     AutoLeftToRight,
-    /// That of the line's text, and from right to left where it has none.
+    /// The direction of the line's text, or right to left where it has none.
     AutoRightToLeft,
 }
 
 impl ParagraphDirectionHint {
-    /// The hint that names this direction, and asks the text first or doesn't.
+    /// The hint of this direction, with or without precedence of the text's own.
     pub(super) fn new(right_to_left: bool, auto: bool) -> ParagraphDirectionHint
         ensures direction { is_right_to_left result ≡ right_to_left }
         ensures auto { is_auto result ≡ auto }
@@ -35,7 +37,7 @@ impl ParagraphDirectionHint {
         }
     }
 
-    /// Whether the direction that it names is from right to left.
+    /// Whether the direction that it names is right to left.
     pub(super) fn is_right_to_left(self) -> bool
         ensures { result ≡ is_right_to_left self }
     {
@@ -45,7 +47,7 @@ impl ParagraphDirectionHint {
         )
     }
 
-    /// Whether the text is asked first.
+    /// Whether the text's own direction takes precedence.
     pub(super) fn is_auto(self) -> bool
         ensures { result ≡ is_auto self }
     {

@@ -30,41 +30,41 @@ pub use clicks::DoubleClickRange;
 pub use zones::ZoneRange;
 use zones::drop_zones;
 
-/// A line of cells by itself: a row of a copied screen is one, and so may be what a program keeps
-/// of rows that have scrolled away.
+/// A line of cells, for example a row of a copied screen or of a program's scrollback.
 ///
-/// It stores cells from the first column on. A wide cell hides the one that is stored behind it, as
-/// a rule its half: a blank with its attributes. How many cells are stored is not how wide the line
-/// is shown: whoever shows it reads default blanks behind its last cell, and cuts what is too long.
+/// Its stored cells begin at column 0. A wide cell hides the cell stored after it, usually its
+/// half: a blank with its attributes. The number of stored cells is not the width at which the line
+/// is shown: a shorter line is padded with default blanks, and a longer one is cut.
 ///
-/// An edit is given the number of the change that it belongs to, and the line keeps the greatest
-/// that it has taken; `blank_out` alone sets the number anew. Where each change has a new number,
-/// whoever keeps something that was made from a line sees by it that the line has changed since.
+/// An edit is given the number of the change that it belongs to, and raises the line's number to
+/// it; `blank_out` sets it. Where each change has a new number, a cache of what was made from a
+/// line can tell by it whether the line has changed.
 ///
-/// The number doesn't change where `split_off` cuts, nor where `cells_mut` is written through.
+/// `split_off`, and writing through `cells_mut`, don't change the number.
 ///
 /// Two lines are equal where their cells, numbers and flags are, whichever form stores the cells.
 ///
-/// A line stores its cells as a vector or as one text. `stored_cells`, whether `as_str` lends, and
-/// the variants of visible cells show which it is; `==` doesn't.
+/// A line stores its cells as a vector or as one text. `stored_cells`, whether `as_str` borrows,
+/// and the variants of visible cells depend on it; `==` doesn't.
 ///
-/// - `new` makes a text. It stays one while `set_cell`, `set_cell_grapheme` or
+/// - `new` returns a text. It stays a text while `set_cell`, `set_cell_grapheme` or
 ///   `overlay_text_with_attribute` sets each cell at its end, `fill_range` sets narrow cells there,
 ///   or one wide cell, and no default blanks, `append_line` appends another line, or
 ///   `set_last_cell_was_wrapped` marks the last cell.
-/// - Any other edit that changes cells, and lending them for writing, makes a vector of a text; an
-///   edit that changes none, or fails, may.
-/// - `compress_for_scrollback` makes a text of a vector.
+/// - Any other edit that changes cells, and `cells_mut`, makes a text a vector. An edit that
+///   changes none, or fails, may do so.
+/// - `compress_for_scrollback` makes a vector a text, where each visible wide cell is followed by
+///   its half.
 ///
-/// `visible_cells` walks what is seen of a line, and `changes` gives the changes that print it, for
-/// whoever has to write it somewhere else.
+/// `visible_cells` iterates over the visible cells, and `changes` returns the changes that print
+/// them.
 #[derive(Drop, Debug)]
 pub struct Line {
     alloc: Global,
     storage: CellStorage,
     seqno: SequenceNo,
     bits: LineBits,
-    // The zones, once they were asked for, and none before: each edit of cells drops them.
+    // The zones, once they were computed, or none. Each edit of cells drops them.
     zones: Vec<ZoneRange>,
 }
 
@@ -85,7 +85,7 @@ impl Model for Line {
           is_vector = is_vector l.storage;
         } };
 
-    // There are no other bits, and zones that are kept are those of the cells.
+    // There are no other bits, and zones that are cached are those of the cells.
     ghost invariant = { λ l. (flag_bits (flags_of l.bits.0) ≡ l.bits.0)
         × AreUpToDate l.zones.items (cells_in l.storage) };
 }
@@ -106,7 +106,7 @@ impl Line {
         Ok(Line::of(alloc, storage, seqno))
     }
 
-    /// A line that stores this many copies of a cell, and no halves where that is wide.
+    /// A line of this many stored copies of a cell, without halves where it is wide.
     pub fn with_width_and_cell(
         alloc: Global,
         width: usize,
@@ -124,7 +124,7 @@ impl Line {
         Ok(Line::of(alloc, CellStorage::copies(alloc, width, cell)?, seqno))
     }
 
-    /// A line of these stored cells. The half of a wide cell is one of them.
+    /// A line of these stored cells, which include the halves of wide cells.
     pub fn from_cells(cells: Vec<Cell>, seqno: SequenceNo) -> Line
         ensures { result
             ≡ record { cells = cells.items; seqno = seqno; flags = no_flags; is_vector = true } }
@@ -133,8 +133,7 @@ impl Line {
         Line::of(alloc, CellStorage::vector(cells), seqno)
     }
 
-    /// A line without cells. It is stored as one text, and stays one as long as each cell is set at
-    /// its end.
+    /// A line without cells, stored as one text.
     pub fn new(alloc: Global, seqno: SequenceNo) -> Line
         ensures { result
             ≡ record { cells = []; seqno = seqno; flags = no_flags; is_vector = false } }
@@ -161,9 +160,9 @@ impl Line {
         }
     }
 
-    /// Makes this a new line of this many default blanks, with this number and without flags. A
-    /// vector takes memory only where it grows.
-    /// On an error number, flags and cells are as before.
+    /// Replaces the line by one of this many default blanks, with this number and without flags.
+    /// With a vector that doesn't grow it never fails. An error leaves number, flags and cells
+    /// unchanged.
     #[doc(hidden)]
     pub fn blank_out(&mut self, width: usize, seqno: SequenceNo) -> Result<(), AllocError>
         ensures ok { OnOk result (
@@ -183,9 +182,9 @@ impl Line {
         Ok(())
     }
 
-    /// Cuts the line to this many columns, or grows it to them by default blanks. Where it grows
-    /// and its last visible cell lacks its half, the half comes first.
-    /// The line takes the number. On an error number, flags and cells are as before.
+    /// Cuts the line to this many columns, or pads it with default blanks. Where it grows and its
+    /// last visible cell lacks its half, the half is appended first. Raises the line's number to
+    /// `seqno`. An error leaves number, flags and cells unchanged.
     pub fn resize(&mut self, width: usize, seqno: SequenceNo) -> Result<(), AllocError>
         ensures ok { OnOk result (IsEdited self.old (resized width self.old.cells) seqno self.new) }
         ensures err { OnErr result (IsUnchanged self.old self.new) }
@@ -198,8 +197,8 @@ impl Line {
         Ok(())
     }
 
-    /// A copy that is stored as a vector, with this number and without flags, cut to this many
-    /// columns, or grown to them as by `resize`.
+    /// A copy that is stored as a vector, with this number and without flags, cut or padded to this
+    /// many columns as by `resize`.
     #[doc(hidden)]
     pub fn resized(&self, width: usize, seqno: SequenceNo) -> Result<Line, AllocError>
         ensures { IfOk result (λ line.
@@ -214,12 +213,12 @@ impl Line {
         Ok(Line::of(self.alloc, storage, seqno))
     }
 
-    /// Stores the cells as one text, which mostly takes far less memory than a vector: for what is
-    /// kept of rows that have scrolled away. Cells, number and flags stay.
+    /// Stores the cells as one text, which usually takes far less memory than a vector, for example
+    /// for scrollback. Cells, number and flags don't change.
     ///
-    /// - A vector stays one where a hidden cell isn't a blank with the attributes of the cell that
-    ///   hides it, or where the last visible cell is wide and lacks its half.
-    /// - On an error nothing changed.
+    /// - A vector stays a vector where a hidden cell isn't a blank with the attributes of the cell
+    ///   that hides it, or where the last visible cell is wide and lacks its half.
+    /// - An error leaves the line unchanged.
     pub fn compress_for_scrollback(&mut self) -> Result<(), AllocError>
         ensures cells { self.new.cells ≡ self.old.cells }
         ensures number { self.new.seqno ≡ self.old.seqno }
@@ -253,7 +252,7 @@ impl Line {
         self.bits == other.bits
     }
 
-    /// How many cells are stored, hidden ones among them.
+    /// How many cells are stored, hidden ones included.
     pub fn len(&self) -> usize
         ensures { result ≡ length self.now.cells }
     {
@@ -267,7 +266,7 @@ impl Line {
         self.storage.iter()
     }
 
-    /// The changes that print the visible cells, from a pen with these attributes on.
+    /// The changes that print the visible cells, starting with a pen of these attributes.
     pub fn changes(&self, start_attr: &CellAttributes) -> Result<Vec<Change>, AllocError>
         ensures { IfOk result (λ out.
             map change_value out.items
@@ -277,7 +276,7 @@ impl Line {
         Ok(row.entries)
     }
 
-    /// The clusters of the visible cells: the pieces that a shaper is given.
+    /// The clusters of the visible cells: the pieces that a text shaper is given.
     pub fn cluster<W: Widths>(&self, widths: &W) -> Result<Vec<CellCluster>, AllocError>
         ensures { IfOk result (λ clusters.
             AreClusters (W.presentation_of widths.now) (visible self.now.cells) clusters.items) }
@@ -285,8 +284,8 @@ impl Line {
         CellCluster::make_cluster(self.alloc, widths, self.visible_cells())
     }
 
-    /// The stored cells of a vector, hidden ones among them. A line that is stored as one text has
-    /// none to lend.
+    /// The stored cells of a vector, hidden ones included, or `None` for a line that is stored as
+    /// one text.
     pub fn stored_cells(&self) -> Option<&[Cell]>
         ensures { option_map (λ cells. cells.now) result
             ≡ (if self.now.is_vector then Some self.now.cells else None) }
@@ -294,7 +293,7 @@ impl Line {
         self.storage.cells()
     }
 
-    /// The stored cells of a line that is a vector, hidden ones among them.
+    /// The stored cells of a line that is a vector, hidden ones included.
     #[doc(hidden)]
     pub fn vector_cells(&self) -> &[Cell]
         requires { self.now.is_vector ≡ true }
@@ -325,7 +324,7 @@ impl PartialEq for Line {
     ghost laws = { on_per line_contents (partial_equiv_from_equiv
         (decided contents_eq contents_eq-Decides)) };
 
-    // Whichever form stores the cells.
+    // The form that stores the cells doesn't matter.
     fn eq(&self, other: &Line) -> bool
         ensures value { result ≡ line_eq self.now other.now }
         ensures same { IsTrue result ↔ (line_contents self.now ≡ line_contents other.now) }

@@ -45,7 +45,7 @@ impl Flags for LineBits {
 }
 
 impl LineBits {
-    /// Says how large the cells are shown.
+    /// Sets how large the cells are shown.
     pub(super) fn set_sizes(&mut self, double_width: bool, top: bool, bottom: bool)
         requires { flag_bits (flags_of self.old.0) ≡ self.old.0 }
         ensures sizes { flags_of self.new.0
@@ -57,7 +57,7 @@ impl LineBits {
         self.set(LineBits::DOUBLE_HEIGHT_BOTTOM, bottom);
     }
 
-    /// Says whether the bidirectional algorithm may lay out the text.
+    /// Sets whether the text may be laid out by the bidirectional algorithm.
     pub(super) fn set_bidi_enabled(&mut self, enabled: bool)
         requires { flag_bits (flags_of self.old.0) ≡ self.old.0 }
         ensures enabled { flags_of self.new.0
@@ -67,7 +67,7 @@ impl LineBits {
         self.set(LineBits::BIDI_ENABLED, enabled);
     }
 
-    /// Says what decides the direction of the text.
+    /// Sets what determines the direction of the text.
     pub(super) fn set_direction(&mut self, right_to_left: bool, auto: bool)
         requires { flag_bits (flags_of self.old.0) ≡ self.old.0 }
         ensures direction { flags_of self.new.0

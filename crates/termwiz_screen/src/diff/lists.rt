@@ -12,8 +12,7 @@ use termwiz_cell::cell::Cell;
 use termwiz_cell::change::Change;
 use termwiz_line::line::line::Line;
 
-/// The changes that print what a region of other rows of a width shows and own rows of a width
-/// don't.
+/// The changes that print what own rows lack of a region of other rows, each of its own width.
 pub fn diff_rows(
     alloc: Global,
     own: &VecDeque<Line>,
@@ -42,7 +41,7 @@ pub fn diff_rows(
     writer.into_vec()
 }
 
-/// The changes that print what lines show and the first own rows don't.
+/// The changes that print what the first own rows lack of lines.
 pub fn diff_lines(
     alloc: Global,
     own: &VecDeque<Line>,
@@ -61,7 +60,7 @@ pub fn diff_lines(
     diff_padded(alloc, own, width, lines, &Cell::blank())
 }
 
-// The same, where the cell of what is behind a line's end is lent too.
+// As `diff_lines`. The caller also lends the cell that pads a line.
 fn diff_padded<'a>(
     alloc: Global,
     own: &VecDeque<Line>,
@@ -84,8 +83,7 @@ fn diff_padded<'a>(
     writer.into_vec()
 }
 
-/// The changes that print what a line shows and an own row, if there is one with this number,
-/// doesn't.
+/// The changes that print what an own row lacks of a line, or none where there is no such row.
 pub fn diff_line(
     alloc: Global,
     own: &VecDeque<Line>,

@@ -1,8 +1,8 @@
-//! Regions: a rectangle of own columns and rows, and as large a one of another's.
+//! Regions: a rectangle of own columns and rows, and one of the same size of another surface.
 ghost use Rattle.std.specs.Prelude.{◌≡◌, ◌||◌, ◌==◌};
 ghost use Rattle.termwiz_screen.specs.{band, cut, fitting, region_value};
 
-/// A rectangle of own columns and rows, and as large a one of another's.
+/// A rectangle of own columns and rows, and one of the same size of another surface.
 #[derive(Clone, Copy)]
 pub struct Region {
     pub x: usize,
@@ -14,7 +14,7 @@ pub struct Region {
 }
 
 impl Region {
-    /// This many whole rows, from a row on, and another's from its first one on.
+    /// This many whole rows, from row `y` on, and the other surface's from row 0 on.
     pub fn band(width: usize, y: usize, height: usize) -> Region
         ensures { region_value result ≡ band width y 0 height }
     {
@@ -28,7 +28,7 @@ impl Region {
         }
     }
 
-    /// The part that fits in an own width and height, and in another's.
+    /// The part that fits in the own width and height, and in the other's.
     pub fn cut(self, own: (usize, usize), other: (usize, usize)) -> Region
         ensures { region_value result ≡ cut (region_value self) own.0 own.1 other.0 other.1 }
     {

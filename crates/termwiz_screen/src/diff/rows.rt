@@ -15,7 +15,7 @@ use termwiz_cell::cell::{Cell, CellAttributes};
 use termwiz_line::line::line::Line;
 use termwiz_storage::line::cellref::{CellRef, VisibleCellIter};
 
-/// The rows of a region of another surface, one after another.
+/// Prints the rows of a region of another surface, in order.
 pub(super) fn print_rows<'a>(
     writer: &mut DiffWriter<'a>,
     own: &VecDeque<Line>,
@@ -49,7 +49,7 @@ pub(super) fn print_rows<'a>(
     Ok(())
 }
 
-/// The rows that lines show, one after another.
+/// Prints the rows that lines show, in order.
 pub(super) fn print_lines<'a>(
     writer: &mut DiffWriter<'a>,
     own: &VecDeque<Line>,
@@ -73,7 +73,7 @@ pub(super) fn print_lines<'a>(
     Ok(())
 }
 
-/// One row of a region: the cells that this line shows and the own one doesn't.
+/// Prints one row of a region: the cells that the other line shows and the own one doesn't.
 pub(super) fn print_row<'a>(
     writer: &mut DiffWriter<'a>,
     own: &Line,
@@ -93,7 +93,7 @@ pub(super) fn print_row<'a>(
         (row_need (row_of v own.now.cells) region.x
         (row_of w other.now.cells) region.other_x region.width))) }
 {
-    // Most rows are equal, which shows without a walk.
+    // Most rows are equal, which is tested without a loop over visible cells.
     if region.x == region.other_x && own.has_same_cells(other) {
         return Ok(());
     }
@@ -120,15 +120,15 @@ fn print_cells<'a>(
     let next = print_visible(writer, own, other, padding, region, row)?;
     let met = next.saturating_sub(region.other_x).min(region.width);
     let end = region.x + region.width;
-    // Behind the stored cells of both are default blanks. The first column there may be the half of
-    // a wide own cell.
+    // After the stored cells of both there are default blanks. The first column there may be the
+    // half of a wide own cell.
     let count = end.min(own.len() + 1).saturating_sub(region.x + met);
     print_blanks(writer, own, padding, row, region.x + met, count)?;
     Ok(())
 }
 
-// Prints the visible cells of a line at the region's columns, and returns the column behind the
-// last one.
+// Prints the visible cells of a line at the region's columns, and returns the column after the last
+// one.
 fn print_visible<'a>(
     writer: &mut DiffWriter<'a>,
     own: &[Cell],
@@ -153,8 +153,8 @@ fn print_visible<'a>(
     }
 }
 
-// Prints stored cells at the region's columns, read beside the own ones, and returns the column
-// behind the last one.
+// Prints stored cells at the region's columns, read in step with the own ones, and returns the
+// column after the last one.
 fn print_stored<'a>(
     writer: &mut DiffWriter<'a>,
     own: &[Cell],
@@ -191,7 +191,7 @@ fn print_stored<'a>(
     Ok(next)
 }
 
-// The first column from this one on that is not hidden behind a wide cell.
+// The first column from this one on that no wide cell hides.
 fn first_visible(cells: &[Cell], from: usize) -> usize
     ensures from { from ≤ result }
     ensures visible { hides cells.now result ≡ false }
@@ -204,7 +204,7 @@ fn first_visible(cells: &[Cell], from: usize) -> usize
     next.max(from)
 }
 
-// Prints a stored cell at a column, unless the own row shows it there. Returns whether it does.
+// Prints a stored cell at a column, unless the own row shows it there, and returns whether it does.
 #[inline(always)]
 fn print_unless_stored<'a>(
     writer: &mut DiffWriter<'a>,
@@ -222,7 +222,7 @@ fn print_unless_stored<'a>(
         (if shows own.now column cell.now then []
         else at_column column cell.now ∷ []))) }
 {
-    // A cell's text is clean, as `str` promises.
+    // `str` promises that a cell's text is clean.
     let _text = cell.str();
     let lent = CellRef::CellRef {
         cell_index: column,
@@ -235,7 +235,7 @@ fn print_unless_stored<'a>(
     Ok(shown)
 }
 
-// Prints the visible cells of a line that is stored as one text, and returns the column behind the
+// Prints the visible cells of a line that is stored as one text, and returns the column after the
 // last one.
 fn print_walk<'a>(
     writer: &mut DiffWriter<'a>,
@@ -273,7 +273,7 @@ fn print_walk<'a>(
     Ok(next)
 }
 
-// This many default blanks from a column on.
+// Prints this many default blanks from a column on.
 fn print_blanks<'a>(
     writer: &mut DiffWriter<'a>,
     own: &[Cell],
@@ -298,7 +298,7 @@ fn print_blanks<'a>(
     Ok(())
 }
 
-// A cell is printed at a column, unless the own row shows it there.
+// Prints a cell at a column, unless the own row shows it there.
 #[inline(always)]
 fn print_unless_shown<'a>(
     writer: &mut DiffWriter<'a>,
@@ -335,8 +335,8 @@ fn is_shown(own: &[Cell], padding: &Cell, column: usize, cell: &CellRef<'_>) -> 
     }
 }
 
-// The same behind the stored cells, where the padding is shown. It stands apart, so that the test
-// of stored cells needs no choice of a cell.
+// As `is_shown`, for a column after the stored cells, where the padding is shown. It is kept out of
+// line, so that the path of stored cells is short.
 #[inline(never)]
 fn is_shown_past_end(own: &[Cell], padding: &Cell, column: usize, cell: &CellRef<'_>) -> bool
     requires padding { padding.now ≡ blank }
@@ -346,7 +346,7 @@ fn is_shown_past_end(own: &[Cell], padding: &Cell, column: usize, cell: &CellRef
     is_equal(padding, cell) && !is_half(own, column)
 }
 
-// Whether the column holds the second half of a wide cell.
+// Whether a wide cell hides the cell at the column.
 #[inline(always)]
 fn is_half(cells: &[Cell], column: usize) -> bool
     ensures { result ≡ is_hidden cells.now column }

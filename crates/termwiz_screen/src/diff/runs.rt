@@ -1,4 +1,4 @@
-//! Runs of cells, which need fewer tests than cells alone.
+//! Runs of cells, which need fewer tests than single cells.
 ghost use Rattle.std.specs.Prelude.{◌≡◌, ◌+◌, ◌-◌, ◌<◌, ◌≤◌, ◌↔◌, IfOk, IfSome, IsTrue, false};
 ghost use Rattle.termwiz_screen.specs.{IsPrintedTo, cell_eq, ended_at, ends_printable, is_plain, ℕ};
 ghost use Rattle.termwiz_screen.specs.{PrintedOut, is_wide, last_is, length, plain_cell, stored};
@@ -8,8 +8,8 @@ use std::alloc::AllocError;
 use termwiz_cell::cell::{Cell, CellAttributes};
 use termwiz_line::entries::EntryList;
 
-/// How many narrow cells from these columns on are the same. Behind a narrow cell that is shown no
-/// half stands, so they are shown too.
+/// How many narrow cells from these columns on are the same. No half follows a visible narrow cell,
+/// so they are visible too.
 #[inline(never)]
 pub(super) fn count_same(
     own: &[Cell],
@@ -34,7 +34,7 @@ pub(super) fn count_same(
     count
 }
 
-// Whether both are the same narrow cell. Of plain ones only the characters and the attributes are
+// Whether both are the same narrow cell. Of plain cells only the characters and the attributes are
 // compared.
 #[inline(always)]
 fn is_same_narrow(own: &Cell, cell: &Cell) -> bool
@@ -46,8 +46,8 @@ fn is_same_narrow(own: &Cell, cell: &Cell) -> bool
     }
 }
 
-// Whether both are the same narrow cell, whatever its text. It stands apart, so that the test of
-// plain ones is short.
+// Whether both are the same narrow cell, whatever its text. It is kept out of line, so that the
+// path of plain cells is short.
 #[inline(never)]
 fn is_same_other(own: &Cell, cell: &Cell) -> bool
     ensures { IsTrue result ↔ ((own.now ≡ cell.now) × (is_wide cell.now ≡ false)) }
@@ -67,8 +67,8 @@ fn is_plain_cell(cell: &Cell, byte: u8, attrs: &CellAttributes) -> bool
     }
 }
 
-/// The texts of plain cells with these attributes, from these columns on, which the own row doesn't
-/// show, join the text that the entries end in. Returns how many.
+/// Appends the texts of plain cells with these attributes, from these columns on, that the own row
+/// doesn't show, to the text at the end of the entries, and returns their number.
 #[inline(always)]
 pub(super) fn push_run(
     entries: &mut EntryList,
@@ -100,7 +100,7 @@ pub(super) fn push_run(
     Ok(count)
 }
 
-// The character of a plain cell with these attributes, where the own cell is another one.
+// The character of a plain cell with these attributes, if the own cell differs.
 #[inline(always)]
 fn other_plain(own: &Cell, cell: &Cell, attrs: &CellAttributes) -> Option<u8>
     ensures plain { IfSome result (λ byte. is_plain byte ≡ true) }

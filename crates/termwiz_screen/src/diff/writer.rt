@@ -1,4 +1,4 @@
-//! A writer of the changes that print cells at their places.
+//! A writer of the changes that print cells at their columns and rows.
 ghost use Rattle.std.specs.Prelude.{◌≡◌, ◌+◌, ◌-◌, ◌<◌, ◌≤◌, ◌^◌, ◌++◌, ◌∷◌, [], IfOk, OnOk, Some};
 ghost use Rattle.termwiz_screen.specs.{IsOfCell, IsPrintedTo, change_value, cursor_at, end_value};
 ghost use Rattle.termwiz_screen.specs.{length, map, ref_cell, ℕ};
@@ -13,7 +13,7 @@ use termwiz_cell::change::{Change, Position};
 use termwiz_line::entries::EntryList;
 use termwiz_storage::line::cellref::CellRef;
 
-// Where the last cell ended: the cursor and the pen behind it.
+// The cursor and the pen after the last cell.
 #[derive(Clone, Copy)]
 struct End<'a> {
     x: usize,
@@ -38,7 +38,7 @@ impl<'a> Model for DiffWriter<'a> {
 }
 
 impl<'a> DiffWriter<'a> {
-    /// A writer of nothing yet.
+    /// A writer without entries.
     pub(super) fn new(alloc: Global) -> DiffWriter<'a>
         ensures { result ≡ spec.nothing_printed }
     {
@@ -48,7 +48,7 @@ impl<'a> DiffWriter<'a> {
         }
     }
 
-    /// A cell comes to a column of a row.
+    /// Prints a cell at a column of a row.
     #[inline(always)]
     pub(super) fn print(
         &mut self,
@@ -73,10 +73,11 @@ impl<'a> DiffWriter<'a> {
         Ok(())
     }
 
-    /// Prints the plain cells from a column on that go right behind the last one, in its pen, and
-    /// that the own row doesn't show. Returns how many.
+    /// Prints the plain cells from a column on that directly follow the last cell, in its pen, and
+    /// that the own row doesn't show, and returns their number.
     ///
-    /// They need no move and no pen, and printable ASCII always joins a text that ends in it.
+    /// They need no move and no pen, and printable ASCII always joins a text that ends in printable
+    /// ASCII.
     pub(super) fn print_run(
         &mut self,
         own: &[Cell],
@@ -111,7 +112,7 @@ impl<'a> DiffWriter<'a> {
         Ok(count)
     }
 
-    /// The changes in a list.
+    /// The changes, in order.
     pub(super) fn into_vec(self) -> Result<Vec<Change>, AllocError>
         ensures { IfOk result (λ changes. map change_value changes.items ≡ self.entry.entries) }
     {
@@ -119,7 +120,7 @@ impl<'a> DiffWriter<'a> {
     }
 }
 
-// A move to a place and a pen, where they are needed.
+// Appends a move to a row and column, and a pen, where they are needed.
 #[inline(always)]
 fn push_place(
     entries: &mut EntryList,

@@ -1,4 +1,4 @@
-//! Full repaints: what they have before the rows, and behind them.
+//! Full repaints: their entries before the rows, and after them.
 ghost use Rattle.std.specs.Prelude.{◌≡◌, ◌++◌, IfOk, List, OnOk, length, map};
 ghost use Rattle.termwiz_screen.specs.{ChangeValue, behind, blank, change_value, line_attribute};
 ghost use Rattle.termwiz_screen.specs.{default_attributes, penned_value, row_flags, shape_of};
@@ -16,8 +16,8 @@ use termwiz_cell::color::ColorAttribute;
 use termwiz_line::entries::{Penned, RowWriter};
 use termwiz_line::line::line::Line;
 
-/// A clear of the screen with the cursor hidden, the title, the cursor's colour, and how each row
-/// is shown; then the cursor goes home.
+/// A writer that begins with a hidden cursor, a clear of the screen, the title, the cursor's
+/// colour, how large each row is shown, and a move to column 0 of row 0.
 pub fn fully_started<'a>(
     alloc: Global,
     padding: &'a Cell,
@@ -46,7 +46,7 @@ pub fn fully_started<'a>(
     Ok(writer)
 }
 
-// How each row is shown, with a move down before each but the first.
+// Appends how large each row is shown, with a move down before each but the first.
 fn push_lines(writer: &mut RowWriter<'_>, rows: &VecDeque<Line>) -> Result<(), AllocError>
     ensures printed { OnOk result (
         let lines = map line_attribute (row_flags rows.now.items) in
@@ -64,8 +64,8 @@ fn push_lines(writer: &mut RowWriter<'_>, rows: &VecDeque<Line>) -> Result<(), A
     Ok(())
 }
 
-/// What was drawn without its last moves, and then the cursor, the pen, the visibility of a visible
-/// cursor, and the cursor's shape, which is the default one where none was set.
+/// What was drawn without the moves at its end, followed by the cursor, the pen, the visibility of
+/// a visible cursor, and the cursor's shape, or the default one where none was set.
 pub fn fully_framed(
     drawn: Penned<'_>,
     x: usize,
@@ -85,7 +85,7 @@ pub fn fully_framed(
     Ok(entries)
 }
 
-// A visible cursor, and the cursor's shape.
+// Appends a visible cursor, and the cursor's shape.
 fn push_fully_shown(
     entries: &mut Vec<Change>,
     visibility: CursorVisibility,

@@ -1,4 +1,4 @@
-//! Rows that take another size.
+//! Resizing rows.
 ghost use Rattle.std.specs.Prelude.{◌≡◌, ◌≤◌, ◌++◌, [], vec_capacity, vec_len};
 ghost use Rattle.termwiz_screen.specs.{AreVectors, HaveGrown, IfOk, OnErr, OnOk, Undoes, can_undo};
 ghost use Rattle.termwiz_screen.specs.{cells_of, cuts_in_place, deque_capacity, deque_len, drop};
@@ -11,15 +11,16 @@ use std::collections::VecDeque;
 use termwiz_cell::change::SEQ_ZERO;
 use termwiz_line::line::line::Line;
 
-// What brings a row back that has grown: a vector is cut to as many cells as it had, and what was a
-// text comes there again.
+// How to restore a row that has grown: cut a vector to its old number of cells, or put the old line
+// back where it was a text.
 #[derive(Drop)]
 enum Undo {
     Cut(usize),
     Put(Box<Line>),
 }
 
-// Makes a text a vector of this width. It stands apart, so that the way of a vector is short.
+// Makes a text a vector of this width. It is kept out of line, so that the path of a vector is
+// short.
 #[inline(never)]
 fn grow_text(alloc: Global, row: &mut Line, width: usize) -> Result<Undo, AllocError>
     ensures ok { OnOk result (row.new ≡ in_width width row.old) }
@@ -33,7 +34,7 @@ fn grow_text(alloc: Global, row: &mut Line, width: usize) -> Result<Undo, AllocE
     Ok(Undo::Put(text))
 }
 
-// Grows a row that has fewer columns, where it stands. A text becomes a vector of the width.
+// Grows a row that has fewer columns, in place. A text becomes a vector of the width.
 fn grow_row(alloc: Global, row: &mut Line, width: usize) -> Result<Undo, AllocError>
     ensures ok { OnOk result (row.new ≡ grown width row.old) }
     ensures undo { IfOk result (λ undo. Undoes row.old undo) }
@@ -49,7 +50,7 @@ fn grow_row(alloc: Global, row: &mut Line, width: usize) -> Result<Undo, AllocEr
     Ok(Undo::Cut(len))
 }
 
-// Brings a row back that has grown.
+// Restores a row that has grown.
 fn undo_row(row: &mut Line, undo: Undo)
     requires { can_undo undo row.old ≡ true }
     ensures { row.new ≡ undone undo row.old }
@@ -60,7 +61,7 @@ fn undo_row(row: &mut Line, undo: Undo)
     }
 }
 
-// Grows the first rows, until one is refused memory.
+// Grows the first `count` rows, until memory is refused for one.
 fn grow_first(
     alloc: Global,
     rows: &mut VecDeque<Line>,
@@ -84,7 +85,8 @@ fn grow_first(
     Ok(())
 }
 
-// Grows the first rows. Where one is refused memory, those that have grown are brought back.
+// Grows the first `count` rows. Where memory is refused for one, those that have grown are
+// restored.
 fn grow_rows(
     alloc: Global,
     rows: &mut VecDeque<Line>,
@@ -130,8 +132,8 @@ fn cut_rows(rows: &mut VecDeque<Line>, width: usize)
     }
 }
 
-/// Cuts or fills each row to the width, and their number to the height by rows of default blanks.
-/// On an error the rows are as before.
+/// Cuts or pads each row to the width, and the list to the height, by rows of default blanks. An
+/// error leaves the rows unchanged.
 pub fn resize_rows(
     alloc: Global,
     rows: &mut VecDeque<Line>,
@@ -145,7 +147,7 @@ pub fn resize_rows(
     ensures err { OnErr result (rows.new.items ≡ rows.old.items) }
     ensures vectors { AreVectors rows.old.items → AreVectors rows.new.items }
 {
-    // All that can fail comes before the first row is cut.
+    // What can fail comes before the first row is cut.
     let kept = height.min(rows.len());
     let missing = height - kept;
     let mut below = VecDeque::with_capacity(alloc, missing)?;

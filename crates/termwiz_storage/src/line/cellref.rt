@@ -11,10 +11,10 @@ use termwiz_cell::cell::{Cell, CellAttributes};
 use termwiz_cell::emoji::{Presentation, Widths};
 
 /// A visible cell of a line, with its column: a stored cell, or a piece of a text with its width in
-/// columns and its attributes. One that is made by hand may have any width and any text.
+/// columns and its attributes. A value that a caller constructs may have any width and any text.
 #[derive(Clone, Copy, Debug)]
 pub enum CellRef<'a> {
-    /// A cell that is stored as one.
+    /// A cell that is stored by itself.
     CellRef {
         cell_index: usize,
         cell: &'a Cell,
@@ -49,7 +49,7 @@ impl<'a> CellRef<'a> {
         }
     }
 
-    /// The columns that the cell takes. The cells that a walk gives have 1 or 2.
+    /// The cell's width in columns. The cells that an iterator over a line yields have 1 or 2.
     pub fn width(&self) -> usize
         ensures { result ≡ ref_width self.now }
     {
@@ -69,8 +69,8 @@ impl<'a> CellRef<'a> {
         }
     }
 
-    /// How the text is shown: in the form that a variation selector in it asks for, or else as the
-    /// width value says.
+    /// The form in which the text is shown, as the width value gives it: the one that a variation
+    /// selector in the text asks for, or else the default one.
     pub fn presentation<W: Widths>(&self, widths: &W) -> Presentation
         ensures { let shown = W.presentation_of widths.now (ref_cell self.now).text in
             result ≡ unwrap_or shown.1 shown.0 }
@@ -79,8 +79,8 @@ impl<'a> CellRef<'a> {
         variation.unwrap_or(presentation)
     }
 
-    /// A cell of this text, width and attributes, as `Cell::new_grapheme_with_width` makes it. The
-    /// width must be at most 2.
+    /// A cell of this text, width and attributes, as `Cell::new_grapheme_with_width` returns it.
+    /// The width must be at most 2.
     pub fn as_cell(&self, alloc: Global) -> Result<Cell, AllocError>
         requires { ref_width self.now ≤ 2 }
         ensures { IfOk result (λ cell.
@@ -102,7 +102,7 @@ impl<'a> CellRef<'a> {
     }
 
     /// A copy of the cell. The reference must have a width and a text that a cell can have, as each
-    /// item of a walk does.
+    /// item of an iterator over a line has.
     #[doc(hidden)]
     pub fn to_cell(&self, alloc: Global) -> Result<Cell, AllocError>
         requires { IsOfCell self.now }
@@ -111,7 +111,7 @@ impl<'a> CellRef<'a> {
         self.as_cell(alloc)
     }
 
-    /// Whether text, width and attributes are the same, wherever the cells stand.
+    /// Whether text, width and attributes are the same, whatever the columns.
     pub fn same_contents(&self, other: &CellRef<'_>) -> bool
         ensures { IsTrue result ↔ (contents self.now ≡ contents other.now) }
     {
@@ -161,7 +161,7 @@ impl<'a> CellRef<'a> {
 fn copied(cell: &Cell) -> Result<Cell, AllocError>
     ensures { IfOk result (λ made. made ≡ cell_of cell.now.text (columns cell.now) cell.now.attrs) }
 {
-    // A cell's text is clean, as `str` promises.
+    // `str` promises that a cell's text is clean.
     let _text = cell.str();
     cell.clone()
 }
@@ -169,9 +169,9 @@ fn copied(cell: &Cell) -> Result<Cell, AllocError>
 /// The visible cells of a line, in order.
 #[derive(Drop)]
 pub enum VisibleCellIter<'a> {
-    /// Of cells that are stored one by one.
+    /// The cells are stored one by one.
     V(VecStorageIter<'a>),
-    /// Of cells that are stored as one text.
+    /// The cells are stored as one text.
     Cluster(ClusterLineIter<'a>),
 }
 

@@ -22,10 +22,10 @@ use std::alloc::{AllocError, Global};
 use std::marker::Model;
 use termwiz_cell::cell::{Cell, CellAttributes};
 
-/// The cells of a line as one text, with the shapes of the cells in it, and runs of equal
-/// attributes. Where cells in a row are alike it takes far less memory than a vector of cells.
+/// The cells of a line as one text, with runs of equal shapes and runs of equal attributes. Where
+/// adjacent cells have equal shapes and attributes it takes far less memory than a vector of cells.
 ///
-/// It stands for a list of stored cells, in which each wide cell is followed by its half, a blank
+/// Its value is a list of stored cells, in which each wide cell is followed by its half, a blank
 /// with its attributes.
 #[derive(Drop, Debug)]
 pub struct ClusteredLine {
@@ -64,7 +64,7 @@ impl ClusteredLine {
         }
     }
 
-    /// The line of these stored cells. There is none where a hidden cell isn't a blank with the
+    /// The line of these stored cells, or `None` where a hidden cell isn't a blank with the
     /// attributes of the cell that hides it, or where the last visible cell is wide and lacks its
     /// half.
     pub fn from_cells(alloc: Global, cells: &[Cell]) -> Result<Option<ClusteredLine>, AllocError>
@@ -75,7 +75,7 @@ impl ClusteredLine {
             return Ok(None);
         }
         let mut line = ClusteredLine::new(alloc);
-        // Each visible cell has a byte at least.
+        // Each visible cell has at least one byte.
         line.text.reserve(cells.len())?;
         let mut rest = cells;
         'runs: while !rest.is_empty() {
@@ -85,7 +85,7 @@ impl ClusteredLine {
         Ok(Some(line))
     }
 
-    /// How many cells are stored, halves of wide ones among them.
+    /// How many cells are stored, the halves of wide ones included.
     pub fn len(&self) -> usize
         ensures len { result ≡ length self.now }
         ensures whole { IsWhole self.now }
@@ -100,7 +100,7 @@ impl ClusteredLine {
         self.len == 0
     }
 
-    /// The attributes of the last visible cell, where there is one.
+    /// The attributes of the last visible cell, if any.
     pub(super) fn last_attrs(&self) -> Option<&CellAttributes>
         ensures { option_copied result ≡ last_attrs (visible self.now) }
     {
@@ -108,7 +108,7 @@ impl ClusteredLine {
         Some(&run.attrs)
     }
 
-    /// How many cells are left without the visible default blanks that end the list.
+    /// The number of cells without the visible default blanks that end the list.
     pub(super) fn kept_len(&self) -> usize
         ensures { IsKept self.now result }
     {
@@ -138,7 +138,7 @@ impl ClusteredLine {
         }
     }
 
-    // The column behind the last visible cell that is no default blank.
+    // The column after the last visible cell that isn't a default blank.
     fn walked_len(&self) -> usize
         ensures { IsKept self.now result }
     {
@@ -151,7 +151,7 @@ impl ClusteredLine {
         kept.min(self.len)
     }
 
-    /// The visible cell that begins at a column.
+    /// The visible cell that begins at a column, if any.
     pub(super) fn get_cell(&self, i: usize) -> Option<CellRef<'_>>
         ensures cell { option_map ref_cell result ≡ cell_at (visible self.now) i }
         ensures index { IfSome result (λ cell. ref_index cell ≡ i) }
@@ -178,7 +178,7 @@ impl ClusteredLine {
         self.text().len() == self.len && cell_count(&self.shapes) == self.len
     }
 
-    // The visible cell that begins at a column, which a walk meets.
+    // The visible cell that begins at a column, found by a walk.
     fn walked_cell(&self, i: usize) -> Option<CellRef<'_>>
         ensures cell { option_map ref_cell result ≡ cell_at (visible self.now) i }
         ensures index { IfSome result (λ cell. ref_index cell ≡ i) }
@@ -199,7 +199,7 @@ impl ClusteredLine {
         has_link(&self.attrs)
     }
 
-    // Gives back the memory that is kept for more cells.
+    // Frees the memory that is reserved for more cells.
     fn shrink_to_fit(&mut self)
         ensures { self.new ≡ self.old }
     {
@@ -208,7 +208,7 @@ impl ClusteredLine {
         self.attrs.shrink_to_fit();
     }
 
-    /// Appends a cell, and the half of a wide one. On an error nothing changed.
+    /// Appends a cell, and the half of a wide one. An error leaves the line unchanged.
     pub fn append(&mut self, cell: &Cell) -> Result<(), AllocError>
         ensures ok { OnOk result (self.new ≡ self.old ++ with_half cell.now) }
         ensures err { OnErr result (self.new ≡ self.old) }
@@ -217,7 +217,7 @@ impl ClusteredLine {
         Ok(())
     }
 
-    // Appends a run of plain cells, or else one cell and its half, and gives what is left.
+    // Appends a run of plain cells, or else one cell and its half, and returns the rest.
     fn append_first<'a>(&mut self, cells: &'a [Cell]) -> Result<&'a [Cell], AllocError>
         requires some { 0 < length cells.now }
         requires whole { IsWhole cells.now }
@@ -234,8 +234,8 @@ impl ClusteredLine {
         Ok(&cells[first.width()..])
     }
 
-    // Appends the first cells as far as they are plain and have these attributes, 65,535 at most,
-    // and returns how many these are.
+    // Appends the leading cells that are plain and have these attributes, at most 65,535, and
+    // returns their number.
     fn append_run(&mut self, cells: &[Cell], attrs: &CellAttributes) -> Result<usize, AllocError>
         requires { 0 < length cells.now }
         ensures within { IfOk result (λ count. count ≤ length cells.now) }
@@ -258,7 +258,7 @@ impl ClusteredLine {
             return Ok(0);
         }
         if let Err(error) = push_attrs(&mut self.attrs, attrs, count as u16) {
-            // The texts are taken back.
+            // The texts that were appended are removed.
             self.text.truncate(end);
             return Err(error);
         }
@@ -267,7 +267,7 @@ impl ClusteredLine {
         Ok(count)
     }
 
-    // What can fail comes first, so that an error leaves the line as it was.
+    // What can fail comes first, so that an error leaves the line unchanged.
     fn append_clean(
         &mut self,
         text: &str,
@@ -294,8 +294,8 @@ impl ClusteredLine {
         Ok(())
     }
 
-    /// Marks the last visible cell, and its half, as wrapped, or not. An empty list first gets a
-    /// default blank. On an error nothing changed.
+    /// Sets whether the last visible cell, and its half, are marked as wrapped. To an empty list a
+    /// default blank is first appended. An error leaves the line unchanged.
     pub fn set_last_cell_was_wrapped(&mut self, wrapped: bool) -> Result<(), AllocError>
         ensures ok { OnOk result (self.new ≡ set_last_wrapped wrapped self.old) }
         ensures err { OnErr result (self.new ≡ self.old) }
@@ -308,7 +308,7 @@ impl ClusteredLine {
         Ok(())
     }
 
-    // Appends a blank that is marked as wrapped, or not.
+    // Appends a blank with this wrapped mark.
     fn append_marked(&mut self, wrapped: bool) -> Result<(), AllocError>
         ensures ok { OnOk result (self.new ≡ self.old ++ with_wrapped wrapped blank ∷ []) }
         ensures err { OnErr result (self.new ≡ self.old) }
@@ -318,7 +318,7 @@ impl ClusteredLine {
         self.append(&Cell::blank_with_attrs(attrs))
     }
 
-    /// The texts of the visible cells, one after another.
+    /// The texts of the visible cells, concatenated.
     pub fn text(&self) -> &str
         ensures { result.now ≡ texts_of (visible self.now) }
     {
@@ -371,8 +371,8 @@ fn is_half_of(cell: &Cell, wide: &Cell) -> bool
     cell.width() == 1 && matches!(cell.str().as_bytes(), b" ") && *cell.attrs() == *wide.attrs()
 }
 
-// Appends the texts of the first cells, as far as they are plain and have these attributes, and
-// returns how many these are. There is room for all.
+// Appends the texts of the leading cells that are plain and have these attributes, and returns
+// their number. The text has room for all.
 fn push_plain(text: &mut String, cells: &[Cell], attrs: &CellAttributes) -> usize
     requires { string_len text.old + length cells.now ≤ string_capacity text.old }
     ensures within { result ≤ length cells.now }
@@ -388,7 +388,7 @@ fn push_plain(text: &mut String, cells: &[Cell], attrs: &CellAttributes) -> usiz
     cells.len()
 }
 
-// Appends to a text, for which there is room. A character of ASCII takes no call.
+// Appends to a text that has room. A character of ASCII is appended without a call.
 fn push_text(text: &mut String, more: &str)
     requires { string_len text.old + length more.now ≤ string_capacity text.old }
     ensures { string_bytes text.new ≡ string_bytes text.old ++ more.now }
@@ -399,7 +399,7 @@ fn push_text(text: &mut String, more: &str)
     }
 }
 
-// How many bytes of a text its first cell takes.
+// How many bytes the first cell of a text has.
 fn cell_len(shape: Shape, text: &str) -> usize
     ensures { result ≡ cell_len shape text.now }
 {

@@ -1,4 +1,4 @@
-//! Where a line keeps its cells, and all that edits them.
+//! The storage of a line's cells, and the edits of it.
 ghost use Rattle.std.specs.Prelude.{◌≡◌, ◌≢◌, ◌-◌, ◌<◌, ◌≤◌, ◌∷◌, ◌↔◌, if◌then◌else◌, [], IfSome};
 ghost use Rattle.termwiz_storage.specs.{AreLetters, IfOk, IsKept, IsOfCell, IsOk, IsTrue, IsWhole};
 ghost use Rattle.termwiz_storage.specs.{LendsVector, None, OnErr, OnOk, Some, blank, cell_at, drop};
@@ -18,18 +18,18 @@ use crate::line::vecstorage::VecStorage;
 use std::alloc::{AllocError, Global};
 use termwiz_cell::cell::{Cell, CellAttributes};
 
-/// The stored cells of a line, a list in one of two forms. Its edits are methods here, and
-/// `coerce_vec` lends the cells for writing.
+/// The stored cells of a line: a list in one of two forms. `coerce_vec` lends the cells for
+/// writing.
 ///
-/// A walk over the list gives the visible cells: the stored cell behind a visible wide one is
+/// An iterator over the list yields the visible cells: the stored cell after a visible wide one is
 /// hidden. `set_cell` stores the half of the wide one there, a blank with its attributes.
 ///
-/// Two storages are equal where their lists of cells are, whatever the forms.
+/// Two storages are equal where their lists of cells are, in whichever form.
 #[derive(Drop, Debug)]
 pub enum CellStorage {
-    /// Each cell has a place of its own.
+    /// The cells are stored one by one.
     V(VecStorage),
-    /// All cells stand in one text.
+    /// All cells are stored in one text.
     Cluster(ClusteredLine),
 }
 
@@ -50,7 +50,7 @@ impl CellStorage {
         CellStorage::Cluster(ClusteredLine::new(alloc))
     }
 
-    /// How many cells are stored, hidden ones among them.
+    /// How many cells are stored, hidden ones included.
     pub fn len(&self) -> usize
         ensures { result ≡ length (cells_in self.now) }
     {
@@ -70,7 +70,7 @@ impl CellStorage {
         }
     }
 
-    /// The stored cells of a vector, hidden ones among them. A text has none to lend.
+    /// The stored cells of a vector, hidden ones included, or `None` for a text.
     pub fn cells(&self) -> Option<&[Cell]>
         ensures { option_map (λ cells. cells.now) result
             ≡ (if is_vector self.now then Some (cells_in self.now) else None) }
@@ -81,8 +81,7 @@ impl CellStorage {
         }
     }
 
-    /// The texts of the visible cells, one after another, where they stand in a text. A vector has
-    /// none to lend.
+    /// The texts of the visible cells, concatenated, or `None` for a vector.
     pub fn text(&self) -> Option<&str>
         ensures { option_map (λ text. text.now) result
             ≡ (if is_vector self.now then None else Some (texts_of (visible (cells_in self.now)))) }
@@ -103,14 +102,14 @@ impl CellStorage {
         }
     }
 
-    /// Sets the cell at a column, and behind a wide one its half. The list is first padded with
-    /// default blanks as far as these need, and a wide cell stored right before the column becomes
-    /// a blank with its attributes.
+    /// Sets the cell at a column, and the half of a wide one after it. The list is first padded
+    /// with default blanks as far as needed, and a wide cell stored directly before the column
+    /// becomes a blank with its attributes.
     ///
-    /// - Right behind the last cell of a text the cell is appended to the text.
-    /// - Anywhere else, and by each other edit but `append_visible` and the mark of the last cell,
-    ///   a text becomes a vector, also where the list stays as it is.
-    /// - On an error, which a cell past the greatest column gives too, the cells are as before.
+    /// - At the column directly after the last cell of a text, the cell is appended to the text.
+    /// - At any other column a text becomes a vector. Every other edit but `append_visible` and
+    ///   `set_last_wrapped` makes it a vector too, even where no cell changes.
+    /// - It also fails at a column past the greatest `usize`. An error leaves the cells unchanged.
     pub fn set_cell(&mut self, i: usize, cell: Cell) -> Result<(), AllocError>
         ensures ok { OnOk result (cells_in self.new ≡ set_cell i cell (cells_in self.old)) }
         ensures err { OnErr result (cells_in self.new ≡ cells_in self.old) }
@@ -129,9 +128,9 @@ impl CellStorage {
         Ok(())
     }
 
-    /// Sets a cell as `set_cell` does, in a list that is then cut to `len` cells. A text becomes a
-    /// vector.
-    /// On an error, which a cell past the greatest column gives too, the cells are as before.
+    /// Sets a cell as `set_cell` does, and then cuts the list to `len` cells. A text becomes a
+    /// vector. It also fails at a column past the greatest `usize`. An error leaves the cells
+    /// unchanged.
     #[inline(always)]
     pub fn set_cell_within(&mut self, i: usize, cell: Cell, len: usize) -> Result<(), AllocError>
         ensures ok { OnOk result (
@@ -145,8 +144,8 @@ impl CellStorage {
     }
 
     /// Sets the cell of each character of a run of printable ASCII, in order from a column on, with
-    /// attributes that take no memory. A text becomes a vector, also by an empty run.
-    /// On an error, which a cell past the greatest column gives too, the cells are as before.
+    /// attributes that take no memory. A text becomes a vector, even for an empty run. It also
+    /// fails at a column past the greatest `usize`. An error leaves the cells unchanged.
     #[inline]
     pub fn set_run(&mut self, i: usize, run: &str, attrs: &CellAttributes) -> Result<(), AllocError>
         requires plain { list_all is_plain run.now ≡ true }
@@ -161,10 +160,9 @@ impl CellStorage {
         Ok(())
     }
 
-    /// Sets the cell of each letter of a run, of two columns, in order from a column on, and behind
-    /// each its half, with attributes that take no memory. A text becomes a vector, also by an
-    /// empty run.
-    /// On an error, which a cell past the greatest column gives too, the cells are as before.
+    /// Sets the cell of each letter of a run, of two columns, and its half, in order from a column
+    /// on, with attributes that take no memory. A text becomes a vector, even for an empty run. It
+    /// also fails at a column past the greatest `usize`. An error leaves the cells unchanged.
     #[inline]
     pub fn set_letters(
         &mut self,
@@ -184,9 +182,8 @@ impl CellStorage {
         Ok(())
     }
 
-    /// Sets a default blank in each of the columns from `from` up to `to`, which is not among them,
-    /// in order. A text becomes a vector, also where there is no such column.
-    /// On an error the cells are as before.
+    /// Sets a default blank in each of the columns `from..to`, in order. A text becomes a vector,
+    /// even where there is no such column. An error leaves the cells unchanged.
     pub fn set_blanks(&mut self, from: usize, to: usize) -> Result<(), AllocError>
         ensures ok { OnOk result (
             cells_in self.new ≡ fill (to - from) from blank (cells_in self.old)) }
@@ -198,8 +195,8 @@ impl CellStorage {
         Ok(())
     }
 
-    /// Makes the list this many default blanks, in a vector. It can only fail where the list grows,
-    /// or a text becomes a vector. On an error the cells are as before.
+    /// Replaces the list by this many default blanks, in a vector. It can only fail where the list
+    /// grows, or a text becomes a vector. An error leaves the cells unchanged.
     #[inline(always)]
     pub fn blank_out(&mut self, len: usize) -> Result<(), AllocError>
         ensures ok { OnOk result (cells_in self.new ≡ replicate len blank) }
@@ -213,12 +210,12 @@ impl CellStorage {
         Ok(())
     }
 
-    /// Cuts the list to this many cells, or grows it by default blanks. Where it grows and its last
-    /// visible cell is wide and lacks its half, the half comes first.
+    /// Cuts the list to this many cells, or pads it with default blanks. Where it grows and its
+    /// last visible cell is wide and lacks its half, the half is appended first.
     ///
-    /// - A text becomes a vector, also where the length stays.
-    /// - It can only fail where the list grows, or a text becomes a vector. On an error the cells
-    ///   are as before.
+    /// - A text becomes a vector, even where the length doesn't change.
+    /// - It can only fail where the list grows, or a text becomes a vector. An error leaves the
+    ///   cells unchanged.
     pub fn resize(&mut self, len: usize) -> Result<(), AllocError>
         ensures ok { OnOk result (cells_in self.new ≡ resized len (cells_in self.old)) }
         ensures err { OnErr result (cells_in self.new ≡ cells_in self.old) }
@@ -231,8 +228,8 @@ impl CellStorage {
         Ok(())
     }
 
-    /// Cuts the list to at most this many cells. A text becomes a vector, also where nothing is
-    /// cut, and only that can fail. On an error the cells are as before.
+    /// Cuts the list to at most this many cells. A text becomes a vector, even where nothing is
+    /// cut, and only that can fail. An error leaves the cells unchanged.
     pub fn truncate(&mut self, len: usize) -> Result<(), AllocError>
         ensures ok { OnOk result (cells_in self.new ≡ take len (cells_in self.old)) }
         ensures err { OnErr result (cells_in self.new ≡ cells_in self.old) }
@@ -244,9 +241,9 @@ impl CellStorage {
         Ok(())
     }
 
-    /// Marks the last visible cell and the stored cell that it hides as wrapped, or not. An empty
-    /// list first gets a default blank.
-    /// With a vector that has cells it never fails. On an error the cells are as before.
+    /// Sets whether the last visible cell and the stored cell that it hides are marked as wrapped.
+    /// To an empty list a default blank is first appended. With a vector that has cells it never
+    /// fails. An error leaves the cells unchanged.
     pub fn set_last_wrapped(&mut self, wrapped: bool) -> Result<(), AllocError>
         ensures ok { OnOk result (
             cells_in self.new ≡ set_last_wrapped wrapped (cells_in self.old)) }
@@ -262,8 +259,8 @@ impl CellStorage {
         Ok(())
     }
 
-    /// How many cells are left without the visible default blanks that end the list. The hidden
-    /// cell behind a wide one is none of these.
+    /// The number of cells without the visible default blanks that end the list. The hidden cell
+    /// after a wide one is not one of these.
     pub fn kept_len(&self) -> usize
         ensures { IsKept (cells_in self.now) result }
     {
@@ -273,7 +270,7 @@ impl CellStorage {
         }
     }
 
-    /// The attributes of the last visible cell, where there is one.
+    /// The attributes of the last visible cell, if any.
     pub fn last_attrs(&self) -> Option<&CellAttributes>
         ensures { option_copied result ≡ last_attrs (visible (cells_in self.now)) }
     {
@@ -283,7 +280,7 @@ impl CellStorage {
         }
     }
 
-    /// The visible cell that begins at a column.
+    /// The visible cell that begins at a column, if any.
     pub fn get_cell(&self, i: usize) -> Option<CellRef<'_>>
         ensures cell { option_map ref_cell result ≡ cell_at (visible (cells_in self.now)) i }
         ensures index { IfSome result (λ cell. ref_index cell ≡ i) }
@@ -305,7 +302,7 @@ impl CellStorage {
         }
     }
 
-    /// A copy of the cells in a vector, cut to this many cells, or grown to them as by `resize`.
+    /// A copy of the cells in a vector, cut or padded to this many cells as by `resize`.
     pub fn resized_copy(&self, len: usize) -> Result<CellStorage, AllocError>
         ensures cells { IfOk result (λ copy. cells_in copy ≡ resized len (cells_in self.now)) }
         ensures vector { IfOk result (λ copy. is_vector copy ≡ true) }
@@ -323,9 +320,8 @@ impl CellStorage {
         }
     }
 
-    /// The storage as a vector, which it is from then on. Its cells can be written: the list is
-    /// then what was written, and another vector where one was assigned. With a vector it never
-    /// fails. On an error nothing changed.
+    /// Makes the storage a vector, and returns it for writing. The storage then has the cells that
+    /// are written, or the vector that is assigned. With a vector it never fails.
     #[inline(always)]
     pub fn coerce_vec(&mut self) -> Result<&mut VecStorage, AllocError>
         ensures* writes_back { sem 𝓛 (LendsVector self.entry result) }
@@ -341,7 +337,8 @@ impl CellStorage {
         }
     }
 
-    // A text becomes a vector of its cells. It stands apart, so that the way of a vector is short.
+    // Makes a text a vector of its cells. It is kept out of line, so that the path of a vector is
+    // short.
     #[inline(never)]
     fn expand(&mut self) -> Result<(), AllocError>
         ensures cells { cells_in self.new ≡ cells_in self.old }
@@ -354,12 +351,12 @@ impl CellStorage {
         Ok(())
     }
 
-    /// Puts the cells in a text, which takes far less memory where cells in a row are alike. The
-    /// list of cells stays.
+    /// Stores the cells in a text, which takes far less memory where adjacent cells have equal
+    /// shapes and attributes. The list of cells doesn't change.
     ///
-    /// - A vector stays one where a hidden cell isn't a blank with the attributes of the cell that
-    ///   hides it, or where the last visible cell is wide and lacks its half.
-    /// - On an error nothing changed.
+    /// - A vector stays a vector where a hidden cell isn't a blank with the attributes of the cell
+    ///   that hides it, or where the last visible cell is wide and lacks its half.
+    /// - An error leaves the storage unchanged.
     pub fn compress(&mut self, alloc: Global) -> Result<(), AllocError>
         ensures cells { cells_in self.new ≡ cells_in self.old }
         ensures clustered { OnOk result (is_vector self.new ≡ false ↔ IsWhole (cells_in self.old)) }
@@ -372,7 +369,7 @@ impl CellStorage {
                 }
             }
             CellStorage::Cluster(line) => {
-                // No wide cell of a text lacks its half, as `len` promises.
+                // `len` promises that no wide cell of a text lacks its half.
                 let _len = line.len();
             }
         }
@@ -380,7 +377,7 @@ impl CellStorage {
     }
 }
 
-// The cells of a text, each with a place of its own.
+// The cells of a text, stored one by one.
 #[inline(never)]
 fn expanded(line: &ClusteredLine) -> Result<VecStorage, AllocError>
     ensures { IfOk result (λ storage. storage ≡ line.now) }
@@ -424,7 +421,7 @@ impl Eq for CellStorage {
 
 impl CellStorage {
     // Whether each hidden cell is the half of the one that hides it, and no visible wide cell lacks
-    // its half. The reader of a text's length knows it.
+    // its half. For a text, `len` promises it.
     fn is_whole(&self) -> bool
         ensures { IsTrue result ↔ IsWhole (cells_in self.now) }
     {
@@ -458,7 +455,7 @@ fn has_cells_of(line: &ClusteredLine, other: &CellStorage) -> bool
     shows_same(VisibleCellIter::Cluster(line.iter()), other.iter())
 }
 
-// Whether both walks meet the same cells, at the same columns.
+// Whether both iterators yield the same cells, at the same columns.
 fn shows_same(cells: VisibleCellIter<'_>, others: VisibleCellIter<'_>) -> bool
     ensures { IsTrue result ↔ (cells_left cells.entry ≡ cells_left others.entry) }
 {
@@ -471,7 +468,7 @@ fn shows_same(cells: VisibleCellIter<'_>, others: VisibleCellIter<'_>) -> bool
     others.next().is_none()
 }
 
-// Whether a walk goes on with this cell.
+// Whether this cell is the next item of an iterator, which is advanced.
 fn comes_next(others: &mut VisibleCellIter<'_>, cell: CellRef<'_>) -> bool
     requires { IsOfCell cell }
     ensures same { IsTrue result

@@ -28,14 +28,14 @@ pub use walk::VecStorageIter;
 pub(crate) use walk::plain_byte;
 pub(crate) use wrapped::set_wrapped;
 
-/// The cells of a line, each with a place of its own. It is read, and written, as a slice of cells.
+/// The cells of a line, stored one by one. It can be read and written as a slice of cells.
 #[derive(Debug)]
 pub struct VecStorage {
     cells: Vec<Cell>,
     // From this column on each cell is a default blank.
     used: usize,
-    // Whether a cell may own memory. Where none does, cells are overwritten, copied and let go
-    // without a look at what each holds.
+    // Whether a cell may own memory. Where none does, cells are overwritten, copied and dropped
+    // without inspecting each.
     owns: bool,
 }
 
@@ -51,7 +51,7 @@ impl Model for VecStorage {
     ghost invariant = { λ s. IsMarked s.used s.owns s.cells.items };
 }
 
-// Where no cell owns memory, none is looked at.
+// Where no cell owns memory, none is inspected.
 impl Drop for VecStorage {
     fn drop(self) {
         let VecStorage {
@@ -76,7 +76,7 @@ impl VecStorage {
         VecStorage { cells, used, owns }
     }
 
-    /// How many cells are stored, hidden ones among them.
+    /// How many cells are stored, hidden ones included.
     pub fn len(&self) -> usize
         ensures { result ≡ length self.now }
     {
@@ -90,7 +90,7 @@ impl VecStorage {
         self.cells.is_empty()
     }
 
-    /// The stored cells, hidden ones among them.
+    /// The stored cells, hidden ones included.
     pub fn cells(&self) -> &[Cell]
         ensures { result.now ≡ self.now }
     {
@@ -110,7 +110,7 @@ impl VecStorage {
         *self.cells.allocator()
     }
 
-    /// Pads with default blanks to at least this many cells. On an error nothing changed.
+    /// Pads with default blanks to at least this many cells. An error leaves the list unchanged.
     #[tactic(auto, using(crate::proofs::Owned::marked_padded))]
     pub(crate) fn pad(&mut self, len: usize) -> Result<(), AllocError>
         ensures ok { OnOk result (self.new ≡ padded len self.old) }
@@ -123,7 +123,7 @@ impl VecStorage {
         Ok(())
     }
 
-    // A wide cell that column i cuts becomes a blank with its attributes.
+    // Makes a wide cell that column i cuts a blank with its attributes.
     #[tactic(auto, using(crate::proofs::Owned::marked_halved))]
     fn tear(&mut self, i: usize)
         requires { i ≤ length self.old }
@@ -134,7 +134,7 @@ impl VecStorage {
         }
     }
 
-    // Makes room for what comes to the columns from i up to another. On an error nothing changed.
+    // Makes room for cells in the columns `i..end`. An error leaves the list unchanged.
     #[inline(always)]
     fn make_room(&mut self, i: usize, end: usize) -> Result<(), AllocError>
         requires { i ≤ end }
@@ -147,7 +147,7 @@ impl VecStorage {
         Ok(())
     }
 
-    // The cell comes to column i.
+    // Stores the cell at column i.
     #[inline(always)]
     fn store(&mut self, i: usize, cell: Cell)
         requires { i < length self.old }
@@ -158,7 +158,7 @@ impl VecStorage {
         self.cells[i] = cell;
     }
 
-    // A wide cell comes to column i, and its half behind it.
+    // Stores a wide cell at column i, and its half after it.
     #[inline(always)]
     fn store_wide(&mut self, i: usize, cell: Cell, half: Cell)
         requires { i + 1 < length self.old }
@@ -195,10 +195,10 @@ impl VecStorage {
         Ok(())
     }
 
-    /// Sets the cell at a column, and behind a wide one its half. The list is first padded with
-    /// default blanks as far as these need, and a wide cell stored right before the column becomes
-    /// a blank with its attributes.
-    /// On an error, which a cell past the greatest column gives too, nothing changed.
+    /// Sets the cell at a column, and the half of a wide one after it. The list is first padded
+    /// with default blanks as far as needed, and a wide cell stored directly before the column
+    /// becomes a blank with its attributes. It also fails at a column past the greatest `usize`. An
+    /// error leaves the list unchanged.
     #[inline(always)]
     pub(crate) fn set_cell(&mut self, i: usize, cell: Cell) -> Result<(), AllocError>
         ensures ok { OnOk result (self.new ≡ set_cell i cell self.old) }
@@ -212,8 +212,8 @@ impl VecStorage {
         Ok(())
     }
 
-    /// Sets a cell as `set_cell` does, in a list that is then cut to `len` cells. On an error,
-    /// which a cell past the greatest column gives too, nothing changed.
+    /// Sets a cell as `set_cell` does, and then cuts the list to `len` cells. It also fails at a
+    /// column past the greatest `usize`. An error leaves the list unchanged.
     #[inline(always)]
     pub(crate) fn set_cell_within(
         &mut self,
@@ -230,8 +230,8 @@ impl VecStorage {
     }
 
     /// Sets the cell of each character of a run of printable ASCII, in order from a column on, with
-    /// attributes that take no memory. It takes memory only where the list grows.
-    /// On an error, which a cell past the greatest column gives too, nothing changed.
+    /// attributes that take no memory. It also fails at a column past the greatest `usize`. An
+    /// error leaves the list unchanged.
     pub(crate) fn set_run(
         &mut self,
         i: usize,
@@ -251,7 +251,7 @@ impl VecStorage {
         Ok(())
     }
 
-    // The cells of the run come to the columns from i on.
+    // Stores the cells of the run in the columns from i on.
     fn put_run(&mut self, i: usize, run: &[u8], attrs: &CellAttributes)
         requires plain { list_all is_plain run.now ≡ true }
         requires unboxed { needs_box attrs.now ≡ false }
@@ -262,10 +262,9 @@ impl VecStorage {
         put_cells(&mut self.cells[i..i + run.len()], run, attrs, self.owns);
     }
 
-    /// Sets the cell of each letter of a run, of two columns, in order from a column on, and behind
-    /// each its half, with attributes that take no memory. It takes memory only where the list
-    /// grows.
-    /// On an error, which a cell past the greatest column gives too, nothing changed.
+    /// Sets the cell of each letter of a run, of two columns, and its half, in order from a column
+    /// on, with attributes that take no memory. It also fails at a column past the greatest
+    /// `usize`. An error leaves the list unchanged.
     pub(crate) fn set_letters(
         &mut self,
         i: usize,
@@ -286,7 +285,7 @@ impl VecStorage {
         Ok(())
     }
 
-    // The cells of the letters and their halves come to the columns from i on.
+    // Stores the cells of the letters and their halves in the columns from i on.
     fn put_letters(&mut self, i: usize, run: &str, attrs: &CellAttributes)
         requires letters { AreLetters run.now }
         requires unboxed { needs_box attrs.now ≡ false }
@@ -305,8 +304,8 @@ impl VecStorage {
         );
     }
 
-    /// Sets a default blank in each of the columns from `from` up to `to`, which is not among them,
-    /// in order. On an error nothing changed.
+    /// Sets a default blank in each of the columns `from..to`, in order. An error leaves the list
+    /// unchanged.
     pub(crate) fn set_blanks(&mut self, from: usize, to: usize) -> Result<(), AllocError>
         ensures ok { OnOk result (self.new ≡ fill (to - from) from blank self.old) }
         ensures err { OnErr result (self.new ≡ self.old) }
@@ -318,7 +317,7 @@ impl VecStorage {
         Ok(())
     }
 
-    // The cells from one column up to another become default blanks.
+    // Makes the cells in the columns `from..to` default blanks.
     #[inline(always)]
     fn blank_between(&mut self, from: usize, to: usize)
         requires { to ≤ length self.old }
@@ -345,8 +344,8 @@ impl VecStorage {
         }
     }
 
-    /// Makes the list this many default blanks. It can only fail where the list grows. On an error
-    /// nothing changed.
+    /// Replaces the list by this many default blanks. It can only fail where the list grows. An
+    /// error leaves the list unchanged.
     pub(crate) fn blank_out(&mut self, len: usize) -> Result<(), AllocError>
         ensures ok { OnOk result (self.new ≡ replicate len blank) }
         ensures err { OnErr result (self.new ≡ self.old) }
@@ -357,8 +356,7 @@ impl VecStorage {
         Ok(())
     }
 
-    // Pads with default blanks, or cuts, where the list is of another length. On an error nothing
-    // changed.
+    // Pads with default blanks, or cuts, to this many cells. An error leaves the list unchanged.
     fn fit(&mut self, len: usize) -> Result<(), AllocError>
         ensures ok { OnOk result (length self.new ≡ len) }
         ensures err { OnErr result (self.new ≡ self.old) }
@@ -373,16 +371,16 @@ impl VecStorage {
         Ok(())
     }
 
-    // Whether the last visible cell is wide, and its half is not stored.
+    // Whether the last visible cell is wide and lacks its half.
     fn lacks_half(&self) -> bool
         ensures { result ≡ hides self.now (length self.now) }
     {
         self.is_hidden(self.cells.len())
     }
 
-    /// Cuts the list to this many cells, or grows it by default blanks. Where it grows and its last
-    /// visible cell is wide and lacks its half, the half comes first.
-    /// It can only fail where the list grows. On an error nothing changed.
+    /// Cuts the list to this many cells, or pads it with default blanks. Where it grows and its
+    /// last visible cell is wide and lacks its half, the half is appended first. It can only fail
+    /// where the list grows. An error leaves the list unchanged.
     pub(crate) fn resize(&mut self, len: usize) -> Result<(), AllocError>
         ensures ok { OnOk result (self.new ≡ resized len self.old) }
         ensures err { OnErr result (self.new ≡ self.old) }
@@ -403,7 +401,7 @@ impl VecStorage {
         Ok(())
     }
 
-    /// A copy, cut to this many cells, or grown to them as by `resize`.
+    /// A copy, cut or padded to this many cells as by `resize`.
     pub(crate) fn resized_copy(&self, len: usize) -> Result<VecStorage, AllocError>
         ensures { IfOk result (λ copy. copy ≡ resized len self.now) }
     {
@@ -412,7 +410,8 @@ impl VecStorage {
         Ok(copy)
     }
 
-    // A copy of at most this many cells, with room for as many. Blanks at the end aren't cloned.
+    // A copy of at most this many cells, with room for as many. Default blanks at the end are not
+    // cloned.
     fn first_cells(&self, len: usize) -> Result<VecStorage, AllocError>
         ensures { IfOk result (λ copy. copy ≡ take len self.now) }
     {
@@ -424,19 +423,19 @@ impl VecStorage {
         Ok(VecStorage { cells, used, owns })
     }
 
-    /// How many cells are left without the visible default blanks that end the list.
+    /// The number of cells without the visible default blanks that end the list.
     pub(crate) fn kept_len(&self) -> usize
         ensures { IsKept self.now result }
     {
         let end = self.filled_len();
-        // A default blank right behind a wide cell is hidden.
+        // A default blank directly after a wide cell is hidden.
         if end < self.cells.len() && self.is_hidden(end) {
             return end + 1;
         }
         end
     }
 
-    /// The visible cell that begins at a column.
+    /// The visible cell that begins at a column, if any.
     pub(crate) fn get_cell(&self, i: usize) -> Option<CellRef<'_>>
         ensures cell { option_map ref_cell result ≡ cell_at (visible self.now) i }
         ensures index { IfSome result (λ cell. ref_index cell ≡ i) }
@@ -446,7 +445,7 @@ impl VecStorage {
             return None;
         }
         let cell = &self.cells[i];
-        // A cell's text is clean, as `str` promises.
+        // `str` promises that a cell's text is clean.
         let _text = cell.str();
         Some(CellRef::CellRef {
             cell_index: i,
@@ -466,7 +465,7 @@ impl VecStorage {
         false
     }
 
-    // The column behind the last stored cell that is no default blank.
+    // The column after the last stored cell that isn't a default blank.
     fn filled_len(&self) -> usize
         ensures { IsFilledTo result self.now }
     {
@@ -510,7 +509,7 @@ fn half_of(cell: &Cell) -> Result<Cell, AllocError>
     Ok(Cell::blank_with_attrs(attrs))
 }
 
-// A blank with the cell's attributes comes in its place.
+// Replaces a cell by a blank with its attributes.
 #[inline(never)]
 fn blank_out(cell: &mut Cell)
     ensures { cell.new ≡ half cell.old }
@@ -566,7 +565,7 @@ impl PartialEq for VecStorage {
     }
 }
 
-// Whether both are the same cells. Cells are compared in the loop itself, without a call for each.
+// Whether both are the same cells. They are compared in the loop itself, without a call for each.
 fn are_same(cells: &[Cell], others: &[Cell]) -> bool
     requires { length cells.now ≡ length others.now }
     ensures { IsTrue result ↔ (cells.now ≡ others.now) }

@@ -12,45 +12,44 @@ use std::alloc::{AllocError, Global};
 use termwiz_cell::change::SequenceNo;
 use termwiz_cell::emoji::Widths;
 
-/// What happens to a surface with several viewers, which are numbered from 0, as its answers are.
+/// What happens to a surface with several viewers. Viewers and answers are numbered from 0.
 #[derive(Drop, Debug)]
 pub enum ManyEvent<W: Widths> {
-    /// This happens to the surface. No viewer follows it (`Follow`).
+    /// An event on the surface, other than `Follow`.
     On(Event<W>),
-    /// The surface gives an answer for this viewer's number, and it is kept.
+    /// The surface returns an answer for this viewer's number, which is stored.
     AnswerFor(usize),
-    /// This viewer is given that answer.
+    /// Gives this viewer the answer of this number.
     Deliver(usize, usize),
-    /// This viewer takes this width and height.
+    /// Resizes this viewer to this width in columns and this height in rows.
     ResizeViewer(usize, usize, usize),
 }
 
-/// What came of such an event.
+/// The outcome of such an event.
 #[derive(Drop, Debug)]
 pub enum ManyOutcome {
-    /// What came of an event on the surface.
+    /// The outcome of an event on the surface.
     Of(Outcome),
-    /// The answer is kept under this number.
+    /// The answer is stored with this number.
     Kept(usize),
-    /// The viewer accepted the answer: its number now, and what it shows.
+    /// The viewer accepted the answer: its number now, and its screen.
     Accepted(SequenceNo, Screen),
     /// The viewer didn't accept it.
     NotAccepted(AcceptError),
-    /// The viewer took the size.
+    /// The viewer was resized.
     Done,
-    /// The answer, or the viewer's size, was refused.
+    /// The answer, or the resize of the viewer, was refused.
     Refused(SurfaceError),
-    /// There is no such viewer, or no such answer; or the event was `On(Event::Follow)`, since no
-    /// viewer of many follows.
+    /// There is no such viewer, or no such answer, or the event was `On(Event::Follow)`.
     NoSuch,
 }
 
-/// Runs the events on one blank surface, of this width in columns and this height in rows, and so
-/// many blank viewers of it, and gives one outcome for each.
+/// Runs the events on one blank surface, of this width in columns and this height in rows, and this
+/// many blank viewers of it, and returns one outcome for each.
 ///
-/// - A refused event is an outcome, and the run goes on.
-/// - It fails where there is no memory for the surface, a viewer, the lists of answers and
-///   outcomes, or the outcome of a viewer that accepted.
+/// - A refused event is an outcome, and the run continues.
+/// - It fails where memory is refused for the surface, a viewer, the lists of answers and outcomes,
+///   or the outcome of a viewer that accepted.
 pub fn run_many<W: Widths>(
     alloc: Global,
     widths: W,
@@ -75,7 +74,7 @@ pub fn run_many<W: Widths>(
     Ok(outcomes)
 }
 
-// So many viewers of a surface, each blank.
+// This many blank viewers of a surface.
 fn blank_viewers<W: Widths>(
     alloc: Global,
     surface: &Surface<W>,
@@ -90,7 +89,7 @@ fn blank_viewers<W: Widths>(
     Ok(viewers)
 }
 
-// Does one event.
+// Runs one event.
 fn serve<W: Widths>(
     alloc: Global,
     surface: &mut Surface<W>,
@@ -130,7 +129,7 @@ fn serve<W: Widths>(
     }
 }
 
-// The surface's answer for a number is kept.
+// Stores the surface's answer for a number.
 fn answer<W: Widths>(
     surface: &Surface<W>,
     seq: SequenceNo,
@@ -149,7 +148,7 @@ fn answer<W: Widths>(
     }
 }
 
-// A viewer is given an answer, and the outcome has what it shows then.
+// Gives a viewer an answer. The outcome has what the viewer shows then.
 fn deliver<W: Widths>(viewer: &mut Viewer<W>, answer: &Answer) -> Result<ManyOutcome, AllocError>
     ensures { IfOk result (λ outcome.
         DeliversTo (measure W.width_of) viewer.old answer.now outcome viewer.new) }
@@ -163,7 +162,7 @@ fn deliver<W: Widths>(viewer: &mut Viewer<W>, answer: &Answer) -> Result<ManyOut
     }
 }
 
-// A viewer takes another size.
+// Resizes a viewer.
 fn resize<W: Widths>(viewer: &mut Viewer<W>, width: usize, height: usize) -> ManyOutcome
     requires size { IsSurfaceSize width height }
     ensures { ResizesAs viewer.old width height result viewer.new }

@@ -1,4 +1,4 @@
-//! What an event does to a surface and its viewer, and what comes of it.
+//! What an event does to a surface and its viewer, and its outcome.
 ghost use Rattle.std.specs.Prelude.{◌≡◌, IfOk, OnOk, map};
 ghost use Rattle.termwiz_surface.specs.{Acts, Allows, Follows, IfSome, IsInRange, IsNone};
 ghost use Rattle.termwiz_surface.specs.{KeepsNames, KeepsViewers, Reports, Views, change_value};
@@ -11,7 +11,7 @@ use std::borrow::CowSlice;
 use termwiz_cell::change::{Change, SequenceNo};
 use termwiz_cell::emoji::Widths;
 
-/// Does one event.
+/// Runs one event.
 pub(super) fn serve<W: Widths>(
     alloc: Global,
     surface: &mut Surface<W>,
@@ -34,7 +34,7 @@ pub(super) fn serve<W: Widths>(
     }
 }
 
-// The viewer forgets the changes that it made, since nobody follows it.
+// Forgets the changes that the viewer applied, since nobody follows it.
 fn forget_made<W: Widths>(viewer: &mut Viewer<W>)
     ensures forgets { viewer.new ≡ with_empty_log viewer.old }
     ensures follows { (s : SurfaceValue W) →
@@ -43,7 +43,7 @@ fn forget_made<W: Widths>(viewer: &mut Viewer<W>)
     viewer.flush_changes_older_than(viewer.surface().current_seqno());
 }
 
-/// Does one event of the surface's own: any but that its viewer follows.
+/// Runs one event on the surface: any but `Follow`.
 pub(super) fn act<W: Widths>(
     alloc: Global,
     surface: &mut Surface<W>,
@@ -82,7 +82,7 @@ pub(super) fn act<W: Widths>(
     }
 }
 
-// What adding a list of changes answered, as an outcome.
+// The result of adding a list of changes, as an outcome.
 fn answered(answer: Result<SequenceNo, SurfaceError>) -> Outcome
     ensures { Reports (λ reported. reported ≡ answer) result }
 {
@@ -92,7 +92,7 @@ fn answered(answer: Result<SequenceNo, SurfaceError>) -> Outcome
     }
 }
 
-// The viewer follows, and the outcome has what it made and shows.
+// The viewer follows. The outcome has the changes that it applied, and what it shows then.
 fn follow<W: Widths>(
     alloc: Global,
     surface: &Surface<W>,
@@ -122,7 +122,7 @@ fn follow<W: Widths>(
     }
 }
 
-// The changes from a number on, as a list of their own.
+// The changes from a number on, as an owned list.
 fn ask<W: Widths>(alloc: Global, surface: &Surface<W>, seq: SequenceNo) -> Outcome
     ensures { Acts (measure W.width_of) surface.now (Event.Ask seq) result surface.now }
 {
@@ -135,8 +135,7 @@ fn ask<W: Widths>(alloc: Global, surface: &Surface<W>, seq: SequenceNo) -> Outco
     }
 }
 
-/// The changes of an answer as a list of their own, for whoever applies them. What is lent is
-/// cloned, and what is owned isn't.
+/// Changes as an owned list. Borrowed ones are cloned, and owned ones moved.
 pub fn copied(alloc: Global, changes: CowSlice<'_, Change>) -> Result<Vec<Change>, AllocError>
     ensures { IfOk result (λ copies.
         map change_value copies.items ≡ map change_value (cow_slice_items changes.entry)) }

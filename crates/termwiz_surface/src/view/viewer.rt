@@ -18,18 +18,18 @@ use thiserror::Error;
 /// Why a viewer doesn't accept an answer. The first applicable error is returned, in this order.
 #[derive(Debug, Drop, Clone, Copy, PartialEq, Eq, Error)]
 pub enum AcceptError {
-    /// Error 1: the answer is for another size. Nothing has changed.
+    /// Error 1: the answer is for another size. The viewer is unchanged.
     #[error("the answer is for another size")]
     Size,
-    /// Error 2: the answer is no repaint, and the viewer's number isn't its base. Nothing has
-    /// changed.
+    /// Error 2: the answer isn't a repaint, and the viewer's number isn't its base. The viewer is
+    /// unchanged.
     #[error("the answer is for another number")]
     Stale,
     /// Error 3: the numbers of the viewer's own surface would pass the greatest `usize`. The viewer
-    /// shows what it showed, and has no number.
+    /// shows the same, and has no number.
     #[error("the numbers of changes are used up")]
     Numbers,
-    /// Error 4: a growth was refused. The viewer may show anything, and has no number.
+    /// Error 4: memory was refused. The viewer may show anything, and has no number.
     #[error("out of memory")]
     Memory,
 }
@@ -44,27 +44,27 @@ impl From<AllocError> for AcceptError {
     }
 }
 
-/// A surface that follows another one, its source: it shows what the source showed when it followed
-/// last.
+/// A surface that follows another one, its source: it shows what the source showed at the last
+/// `follow` that succeeded.
 ///
-/// `follow` asks the source for what changed since the number that it gave last, and makes those
-/// changes.
+/// `follow` gets the changes since the viewer's number from the source, and applies them.
 ///
-/// - A viewer gets a few changes where few were made, and the whole screen where the source no
-///   longer knows them.
-/// - Where the source has another size, the viewer takes it first.
-/// - From a full source it also has all that is kept beside the screen.
+/// - A viewer gets the changes that it lacks, or a repaint where the source no longer has them or
+///   they are too many.
+/// - Where the source has another size, the viewer is first resized to it.
+/// - From a full source it also gets the title, the cursor's shape and colour, and how large each
+///   row is shown.
 ///
-/// A viewer's own surface logs what it made, so that viewers can follow a viewer. That log grows
-/// with each change, until `flush_changes_older_than` forgets some; another size, or a list that
-/// found no memory, empties it.
+/// A viewer's own surface logs the changes that it applied, so that viewers can follow a viewer.
+/// That log grows with each change, until `flush_changes_older_than` forgets some. A resize, or a
+/// list of changes for which memory was refused, empties it.
 ///
-/// Where the source is far away, the viewer's number goes to it, and what `Surface::answer` gives
-/// for that comes back: `accept` makes it, however late, and refuses what doesn't lead on from what
-/// the viewer shows.
+/// For a remote source, send it the viewer's number, and pass what `Surface::answer` returns for
+/// that to `accept`, however late. `accept` refuses an answer that doesn't start from what the
+/// viewer shows.
 ///
-/// A viewer is for one source: it keeps that one's number and width value. For another source make
-/// a new viewer.
+/// A viewer is for one source: it keeps the source's number and width value. For another source
+/// create a new viewer.
 #[derive(Drop, Debug)]
 pub struct Viewer<W: Widths> {
     surface: Surface<W>,
@@ -81,7 +81,7 @@ impl<W: Widths> Model for Viewer<W> {
 
 impl<W: Widths> Viewer<W> {
     /// A viewer that shows a blank surface of the source's size and width value, and has no number.
-    /// Its surface is a full one where the source is: nothing else chooses the kind.
+    /// Its surface is a full one where the source is.
     pub fn new(alloc: Global, source: &Surface<W>) -> Result<Viewer<W>, AllocError>
         ensures blank { IfOk result (λ viewer. viewer ≡ blank_viewer source.now) }
         ensures follows { IfOk result (λ viewer. Follows (measure W.width_of) viewer source.now) }
@@ -101,16 +101,16 @@ impl<W: Widths> Viewer<W> {
         &self.surface
     }
 
-    /// The number that the viewer was last given: the source's when it followed last, or that of
-    /// the answer that it accepted last. It is 0 where there is none yet, and after a failure or
-    /// another size.
+    /// The number that the viewer was last given: the source's at the last `follow`, or that of the
+    /// answer that it accepted last. It is 0, which means none, at first, after a resize, and after
+    /// `follow`, or `accept` with `Numbers` or `Memory`, failed.
     pub fn last(&self) -> SequenceNo
         ensures { result ≡ self.now.last }
     {
         self.last
     }
 
-    /// Takes the source's size, and no number, where the viewer has another size.
+    /// Where the viewer has another size than the source, resizes it, and sets its number to 0.
     fn fit(&mut self, source: &Surface<W>) -> Result<(), SurfaceError>
         ensures fits { Fits self.old source.now result self.new }
         ensures sized { OnOk result (
@@ -129,8 +129,8 @@ impl<W: Widths> Viewer<W> {
         Ok(())
     }
 
-    // Takes the source's size, and asks the source for its number and what changed since the
-    // viewer's. After an error the viewer may have taken the size, and shows the same otherwise.
+    // Resizes the viewer to the source's size, and gets the source's number and the changes that
+    // the viewer lacks. After an error the viewer may be resized, and otherwise shows the same.
     fn ask<'s>(
         &mut self,
         source: &'s Surface<W>,
@@ -148,8 +148,8 @@ impl<W: Widths> Viewer<W> {
         Ok((number, changes))
     }
 
-    /// The first half of following: the viewer takes the source's size, and gets the source's
-    /// number and the changes that are to be made. After an error it has no number.
+    /// The first half of `follow`: resizes the viewer to the source's size, and returns the
+    /// source's number and the changes to apply. After an error the viewer has no number.
     pub(crate) fn fetch<'s>(
         &mut self,
         source: &'s Surface<W>,
@@ -173,8 +173,8 @@ impl<W: Widths> Viewer<W> {
         }
     }
 
-    /// The other half: the viewer makes the changes, and takes the source's number, which is the
-    /// answer. After an error it has no number.
+    /// The second half of `follow`: applies the changes, and sets the viewer's number to the
+    /// source's, which it returns. After an error the viewer has no number.
     pub(crate) fn make(
         &mut self,
         number: SequenceNo,
@@ -192,7 +192,7 @@ impl<W: Widths> Viewer<W> {
         Ok(number)
     }
 
-    // Makes the changes. Those that are lent are cloned into the log, and the others moved.
+    // Applies the changes. Borrowed ones are cloned into the log, and owned ones moved.
     fn add(&mut self, changes: CowSlice<'_, Change>) -> Result<SequenceNo, SurfaceError>
         ensures adds { Adds (measure W.width_of self.old.surface.widths)
             self.old.surface (stream_of changes.entry)
@@ -209,14 +209,14 @@ impl<W: Widths> Viewer<W> {
         }
     }
 
-    /// Forgets the number, so that the next answer brings the whole screen.
+    /// Forgets the number, so that the next answer is a repaint.
     pub(crate) fn forget(&mut self)
         ensures { self.new ≡ forgetful self.old }
     {
         self.last = SEQ_ZERO;
     }
 
-    // Refuses an answer that doesn't fit, before anything is done.
+    // Refuses an answer that doesn't fit, before anything changes.
     fn decline(&self, answer: &Answer) -> Result<(), AcceptError>
         ensures declines { Declines self.now answer.now result }
         ensures sized { OnOk result (
@@ -231,14 +231,14 @@ impl<W: Widths> Viewer<W> {
         Ok(())
     }
 
-    // Whether the viewer's own surface has numbers for so many more changes.
+    // Whether the viewer's own surface has numbers for `count` more changes.
     fn has_numbers(&self, count: usize) -> bool
         ensures { result ≡ nat_lt (next_number self.now.surface.log + count) (2 ^ 64) }
     {
         count <= usize::MAX - self.surface.current_seqno()
     }
 
-    // Makes the changes of an answer that may be taken, and takes its number.
+    // Applies the changes of an answer that fits, and sets the viewer's number to its number.
     fn take(&mut self, answer: &Answer) -> Result<(), AllocError>
         requires may { MayTake self.old answer.now }
         requires numbers { next_number self.old.surface.log + length answer.now.changes < 2 ^ 64 }
@@ -259,7 +259,8 @@ impl<W: Widths> Viewer<W> {
         Ok(())
     }
 
-    // The same of an answer that is given away.
+    // Applies the changes of an owned answer that fits, which are moved, and sets the viewer's
+    // number to its number.
     fn take_owned(&mut self, answer: Answer) -> Result<(), AllocError>
         requires may { MayTake self.old answer }
         requires numbers { next_number self.old.surface.log + length answer.changes < 2 ^ 64 }
@@ -281,14 +282,15 @@ impl<W: Widths> Viewer<W> {
         Ok(())
     }
 
-    /// Makes the changes of an answer, takes its number, and returns it: so the viewer shows what
-    /// the surface showed when it gave the answer, whatever either has done since.
+    /// Applies the changes of an answer, and returns its number, which becomes the viewer's. A
+    /// viewer that showed what its number names then shows what the surface showed when it returned
+    /// the answer, whatever happened to both since.
     ///
-    /// - `Size`: the answer is for another size. `Stale`: it is no repaint, and the viewer doesn't
-    ///   have the number that it leads from. After both nothing has changed.
-    /// - `Numbers`: the numbers of the viewer's own surface are used up; it shows what it showed.
-    ///   `Memory`: a growth was refused; it may show anything. After both the viewer has no number,
-    ///   so that it is to be answered by a repaint.
+    /// - `Size`: the answer is for another size. `Stale`: it isn't a repaint, and its base isn't
+    ///   the viewer's number. Both leave the viewer unchanged.
+    /// - `Numbers`: the numbers of the viewer's own surface are used up; it shows the same.
+    ///   `Memory`: memory was refused; it may show anything. After both the viewer has no number,
+    ///   so that it needs a repaint.
     pub fn accept(&mut self, answer: &Answer) -> Result<SequenceNo, AcceptError>
         ensures takes { Takes (measure W.width_of self.old.surface.widths)
             self.old answer.now result self.new }
@@ -298,13 +300,13 @@ impl<W: Widths> Viewer<W> {
             self.old answer.now result self.new }
         ensures shows_fully { ShowsCarried full_screens (measure W.width_of)
             self.old answer.now result self.new }
-        // and shows what its number names then, also after an error.
+        // and shows what its number names then, even after an error.
         ensures names { StaysNamed screens (measure W.width_of) self.old answer.now self.new }
         ensures names_fully { StaysNamed full_screens (measure W.width_of)
             self.old answer.now self.new }
-        // Each viewer that follows the viewer's own surface goes on to, also after an error.
+        // Each viewer that follows the viewer's own surface still follows it, even after an error.
         ensures followed { KeepsViewers (measure W.width_of) self.old.surface self.new.surface }
-        // What the numbers of its own surface named they name still, also after an error.
+        // The numbers of its own surface still name what they named, even after an error.
         ensures remembered { KeepsNames (measure W.width_of self.old.surface.widths)
             self.old.surface self.new.surface }
     {
@@ -317,8 +319,8 @@ impl<W: Widths> Viewer<W> {
         Ok(answer.number())
     }
 
-    /// Behaves like `accept`, of an answer that is given away: its changes are moved into the log
-    /// of the viewer's own surface, and not copied.
+    /// Behaves like `accept` on an owned answer, whose changes are moved into the log of the
+    /// viewer's own surface, and not copied.
     pub fn accept_owned(&mut self, answer: Answer) -> Result<SequenceNo, AcceptError>
         ensures takes { Takes (measure W.width_of self.old.surface.widths)
             self.old answer result self.new }
@@ -328,13 +330,13 @@ impl<W: Widths> Viewer<W> {
             self.old answer result self.new }
         ensures shows_fully { ShowsCarried full_screens (measure W.width_of)
             self.old answer result self.new }
-        // and shows what its number names then, also after an error.
+        // and shows what its number names then, even after an error.
         ensures names { StaysNamed screens (measure W.width_of) self.old answer self.new }
         ensures names_fully { StaysNamed full_screens (measure W.width_of)
             self.old answer self.new }
-        // Each viewer that follows the viewer's own surface goes on to, also after an error.
+        // Each viewer that follows the viewer's own surface still follows it, even after an error.
         ensures followed { KeepsViewers (measure W.width_of) self.old.surface self.new.surface }
-        // What the numbers of its own surface named they name still, also after an error.
+        // The numbers of its own surface still name what they named, even after an error.
         ensures remembered { KeepsNames (measure W.width_of self.old.surface.widths)
             self.old.surface self.new.surface }
     {
@@ -348,19 +350,19 @@ impl<W: Widths> Viewer<W> {
         Ok(number)
     }
 
-    /// Takes another size, as a surface does, and has no number then: so it is to be answered by a
-    /// repaint of that size. After an error nothing has changed.
+    /// Resizes the viewer as `Surface::resize` does, and sets its number to 0, so that it needs a
+    /// repaint of that size. An error leaves the viewer unchanged.
     pub fn resize(&mut self, width: usize, height: usize) -> Result<(), SurfaceError>
         requires size { IsSurfaceSize width height }
         ensures resizes { Resizes self.old.surface width height result self.new.surface }
         ensures ok { OnOk result (self.new.last ≡ 0) }
         ensures err { OnErr result (self.new ≡ self.old) }
-        // A viewer that shows what its number names does so still.
+        // A viewer that shows what its number names still does.
         ensures names { KeepsShowing screens self.old self.new }
         ensures names_fully { KeepsShowing full_screens self.old self.new }
-        // Each viewer that follows the viewer's own surface goes on to, also after an error.
+        // Each viewer that follows the viewer's own surface still follows it, even after an error.
         ensures followed { KeepsViewers (measure W.width_of) self.old.surface self.new.surface }
-        // What the numbers of its own surface named they name still, also after an error.
+        // The numbers of its own surface still name what they named, even after an error.
         ensures remembered { KeepsNames (measure W.width_of self.old.surface.widths)
             self.old.surface self.new.surface }
     {
@@ -370,11 +372,11 @@ impl<W: Widths> Viewer<W> {
         Ok(())
     }
 
-    /// Forgets the changes before this number of the viewer's own surface, as
-    /// `Surface::flush_changes_older_than` does there. What the viewer shows, its last number and
-    /// whom it follows stay.
+    /// Forgets the changes of the viewer's own surface before this number, as
+    /// `Surface::flush_changes_older_than` does. What the viewer shows, its last number and which
+    /// surfaces it follows don't change.
     ///
-    /// A viewer whose own surface nobody follows can forget all that it made:
+    /// A viewer whose own surface nobody follows can forget all changes:
     /// `viewer.flush_changes_older_than(viewer.surface().current_seqno())`. With `viewer.last()`,
     /// which is a number of the source and names nothing in the viewer's own log, it would forget
     /// too little or too much.
@@ -382,29 +384,30 @@ impl<W: Widths> Viewer<W> {
         ensures flushes { self.new.surface
             ≡ with_log self.old.surface (flushed self.old.surface.log seq) }
         ensures last { self.new.last ≡ self.old.last }
-        // Where this is the coming change's number, no change stays.
+        // At the number of the next change all changes are forgotten.
         ensures emptied { seq ≡ next_number self.old.surface.log →
             self.new.surface.log.changes ≡ [] }
-        // It follows each surface that it followed.
+        // It still follows each surface that it followed.
         ensures follows { (s : SurfaceValue W) →
             Follows (measure W.width_of) self.old s → Follows (measure W.width_of) self.new s }
-        // Each viewer that follows the viewer's own surface goes on to.
+        // Each viewer that follows the viewer's own surface still follows it.
         ensures followed { KeepsViewers (measure W.width_of) self.old.surface self.new.surface }
-        // What the numbers of its own surface named they name still.
+        // The numbers of its own surface still name what they named.
         ensures remembered { KeepsNames (measure W.width_of self.old.surface.widths)
             self.old.surface self.new.surface }
     {
         self.surface.flush_changes_older_than(seq);
     }
 
-    /// Shows what the source shows now. The answer is the source's number.
+    /// Makes a viewer that follows the source show what the source shows now, and returns the
+    /// source's number.
     ///
-    /// - `Numbers`: the numbers of the viewer's own surface are used up. `Memory`: a growth was
-    ///   refused. After both the viewer may show anything, and has no number. Its width value
-    ///   stays, and the number of its own surface has grown by two at most.
-    /// - A viewer that followed the source follows it still: the next time that it succeeds it gets
-    ///   the whole screen, and shows it.
-    /// - `ScrollRegion` never comes.
+    /// - `Numbers`: the numbers of the viewer's own surface are used up. `Memory`: memory was
+    ///   refused. After both the viewer may show anything, and has no number. Its width value is
+    ///   the same, and the number of its own surface has grown by at most two.
+    /// - A viewer that followed the source still follows it: the next time that it succeeds it gets
+    ///   a repaint, and shows the source's screen.
+    /// - It never fails with `ScrollRegion`.
     pub fn follow(&mut self, source: &Surface<W>) -> Result<SequenceNo, SurfaceError>
         ensures steps { FollowsTo (measure W.width_of) source.now self.old result self.new }
         // A viewer that follows the source shows its screen after each success,
@@ -413,13 +416,13 @@ impl<W: Widths> Viewer<W> {
         // and that of a full source its full screen,
         ensures fully_caught_up { Follows (measure W.width_of) self.old source.now →
             source.now.full ≡ true → OnOk result (full_of self.new.surface ≡ full_of source.now) }
-        // and follows it also after a failure.
+        // and still follows it after a failure.
         ensures follows { Follows (measure W.width_of) self.old source.now →
             Follows (measure W.width_of) self.new source.now }
         ensures failed { OnErr result (self.new.last ≡ 0) }
-        // Each viewer that follows the viewer's own surface goes on to, also after an error.
+        // Each viewer that follows the viewer's own surface still follows it, even after an error.
         ensures followed { KeepsViewers (measure W.width_of) self.old.surface self.new.surface }
-        // What the numbers of its own surface named they name still, also after an error.
+        // The numbers of its own surface still name what they named, even after an error.
         ensures remembered { KeepsNames (measure W.width_of self.old.surface.widths)
             self.old.surface self.new.surface }
     {

@@ -1,13 +1,13 @@
-//! Events that wait to be done.
+//! Events that wait to be run.
 ghost use Rattle.std.specs.Prelude.{◌≡◌, ◌∷◌, [], MatchOption};
 
 use std::marker::Model;
 
-/// Room is given back once more than this part of it is empty: an eighth.
+/// Memory is freed once more than this part of it is empty: an eighth.
 const PART: usize = 8;
 
-/// Events that wait to be done, in order. The room of those that were taken is given back while
-/// the others wait, so that a long list and its outcomes don't both take all of their memory.
+/// Events that wait to be run, in order. The memory of those that were taken is freed while the
+/// others wait, so that a long list and its outcomes don't both take all of their memory.
 #[derive(Drop)]
 pub(super) struct Waiting<E> {
     // The next event is the last one.
@@ -23,7 +23,7 @@ impl<E> Model for Waiting<E> {
 }
 
 impl<E> Waiting<E> {
-    /// All of these events.
+    /// A list of these events.
     pub(super) fn new(events: Vec<E>) -> Waiting<E>
         ensures { result ≡ events.items }
     {
@@ -42,7 +42,7 @@ impl<E> Waiting<E> {
     }
 }
 
-// Gives room back, where so much is empty that it is worth the move.
+// Frees memory, where enough is empty to be worth the move.
 fn give_back<E>(list: &mut Vec<E>)
     ensures { list.new.items ≡ list.old.items }
 {

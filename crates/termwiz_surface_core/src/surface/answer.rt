@@ -1,4 +1,4 @@
-//! Answers that can be carried off, and accepted by viewers later.
+//! Answers as values, which viewers can accept later.
 ghost use Rattle.std.specs.Prelude.{◌≡◌, ◌≤◌, ◌&&◌, if◌then◌else◌, IfOk, None, false, length};
 ghost use Rattle.std.specs.Prelude.{nat_le};
 ghost use Rattle.termwiz_surface_core.specs.{IsBorrowedSlice, IsSurfaceSize, map, most_own_entries};
@@ -15,9 +15,9 @@ use termwiz_cell::change::{Change, SEQ_ZERO, SequenceNo};
 use termwiz_cell::emoji::Widths;
 use termwiz_screen::scroll_region::regions_fit;
 
-/// What a viewer accepts to have the screen that a surface had when it gave the answer: as
-/// `get_changes` answers, but with its changes as a list of its own, so that it can be carried off
-/// and be delivered late, repeatedly, in any order, or never.
+/// What leads a viewer to the screen that a surface had when it returned the answer: what
+/// `get_changes` returns, as a value with the size and the numbers. It can be stored or sent, and
+/// delivered late, repeatedly, in any order, or never.
 #[derive(Drop, Debug)]
 pub struct Answer {
     width: usize,
@@ -46,9 +46,9 @@ impl Model for Answer {
 }
 
 impl Answer {
-    /// An answer that is put together of its parts, as one that was stored or sent has them: a
-    /// repaint where the base is 0. It is `None` where the number is below the base, or a scroll
-    /// among the changes has a region that goes past the last row.
+    /// An answer from its parts, as they were stored or sent: a repaint where the base is 0.
+    /// Returns `None` where the number is less than the base, or a scroll among the changes has a
+    /// region that goes past the last row.
     pub fn from_parts(
         size: (usize, usize),
         base: SequenceNo,
@@ -82,26 +82,27 @@ impl Answer {
         })
     }
 
-    /// The width in columns and the height in rows of the surface that gave it, and of the viewers
-    /// that may accept it.
+    /// The width in columns and the height in rows of the surface that returned it, and of the
+    /// viewers that can accept it.
     pub fn size(&self) -> (usize, usize)
         ensures width { result.0 ≡ self.now.width }
         ensures height { result.1 ≡ self.now.height }
-        // It is a size that a surface may have.
+        // It is a size that a surface can have.
         ensures valid { IsSurfaceSize self.now.width self.now.height }
     {
         (self.width, self.height)
     }
 
     /// The number that a viewer must have to accept it, or 0 for a repaint, which any viewer of its
-    /// size may accept.
+    /// size can accept.
     pub fn base(&self) -> SequenceNo
         ensures { result ≡ self.now.base }
     {
         self.base
     }
 
-    /// The surface's number when it gave the answer, which a viewer that accepts it has then.
+    /// The surface's number when it returned the answer. A viewer that accepts the answer gets this
+    /// number.
     pub fn number(&self) -> SequenceNo
         ensures value { result ≡ self.now.number }
         ensures ordered { self.now.base ≤ result }
@@ -109,14 +110,14 @@ impl Answer {
         self.number
     }
 
-    /// Whether it brings any screen of its size to the surface's: whether its base is 0.
+    /// Whether it leads from any screen of its size to the surface's: whether its base is 0.
     pub fn is_repaint(&self) -> bool
         ensures { result ≡ is_repaint self.now }
     {
         self.base == SEQ_ZERO
     }
 
-    /// The changes that a viewer makes.
+    /// The changes that a viewer applies.
     pub fn changes(&self) -> &[Change]
         ensures value { map change_value result.now ≡ self.now.changes }
         // No scroll among them has a region that goes past the last row.
@@ -125,7 +126,7 @@ impl Answer {
         self.changes.as_slice()
     }
 
-    /// The changes, of an answer that is given away.
+    /// The changes, without a copy.
     pub fn into_changes(self) -> Vec<Change>
         ensures value { map change_value result.items ≡ self.changes }
         // No scroll among them has a region that goes past the last row.
@@ -136,12 +137,12 @@ impl Answer {
 }
 
 impl<W: Widths> Surface<W> {
-    /// What a viewer that was last given this number has to accept, as an answer that can be kept:
-    /// a copy of the changes from that number on where the log knows it and they are worth sending,
-    /// and else a repaint, with the base 0, as `get_changes` says.
+    /// The answer for a viewer that was last given the number `seq`: a copy of what `get_changes`
+    /// returns for it, with the base `seq` for the changes from that number on, and 0 for a
+    /// repaint.
     ///
-    /// Whoever accepts it has the screen that this surface has now, and one of a full surface gives
-    /// its full screen, to a plain viewer too.
+    /// It leads to the screen that this surface has now. That of a full surface leads to its full
+    /// screen, for a plain viewer too.
     pub fn answer(&self, seq: SequenceNo) -> Result<Answer, AllocError>
         ensures given { IfOk result (λ answer.
             IsGivenBy screens (measure W.width_of) self.now seq answer) }
@@ -156,7 +157,7 @@ impl<W: Widths> Surface<W> {
             (past : ℕ → FullScreen) → IsPastOf full_screens (measure W.width_of) past self.now →
             IfOk result (λ answer.
             CarriesTo full_screens (measure W.width_of) past answer self.now) }
-        // A repaint's entries are the defined ones.
+        // The changes of a repaint are the defined ones.
         ensures entries { knows self.now seq ≡ false →
             IfOk result (λ answer. answer.changes ≡ own_repaint self.now) }
         ensures short { knows self.now seq ≡ false →
@@ -175,7 +176,7 @@ impl<W: Widths> Surface<W> {
     }
 }
 
-// Whether these changes were made for whoever asked.
+// Whether the changes are owned.
 fn is_owned(changes: &CowSlice<'_, Change>) -> bool
     ensures lent { result ≡ false → IsBorrowedSlice changes.now }
     ensures made { result ≡ true → IsOwnedSlice changes.now }

@@ -1,4 +1,4 @@
-//! What viewers are answered: the changes that they lack, or a repaint.
+//! The answers that viewers get: the changes that they lack, or a repaint.
 ghost use Rattle.std.specs.Prelude.{◌≡◌, ◌≤◌, ◌==◌, [], IfOk, IsOkAnd, false, length, map, true, ℕ};
 ghost use Rattle.termwiz_surface_core.specs.{IsOwnedSlice, KeepsNames, KeepsViewers, Lends, due};
 ghost use Rattle.termwiz_surface_core.specs.{Repaints, StreamsFrom, StreamsFullyFrom, change_value};
@@ -18,34 +18,35 @@ use termwiz_screen::repaint::full::{fully_framed, fully_started};
 use termwiz_screen::repaint::{all_rows, framed, started};
 
 impl<W: Widths> Surface<W> {
-    /// Whether there are changes that a viewer with this number lacks: whether it isn't the coming
-    /// change's.
+    /// Whether a viewer with this number lacks changes: whether it isn't the number of the next
+    /// change.
     pub fn has_changes(&self, seq: SequenceNo) -> bool
         ensures { result ≡ not (seq == next_number self.now.log) }
     {
         seq != self.log.next_number()
     }
 
-    /// Forgets the changes before this number, where it is from the first number of the log on up
-    /// to the coming change's. Viewers with this number and greater ones are answered as before.
+    /// Forgets the changes before this number, if it is at least the log's first number and at most
+    /// that of the next change. Viewers with this number or a greater one get the same answers as
+    /// before.
     pub fn flush_changes_older_than(&mut self, seq: SequenceNo)
         ensures flushes { self.new ≡ with_log self.old (flushed self.old.log seq) }
-        // The answer for this number, and for each greater one, is as it was.
+        // The answer for this number, and for each greater one, is the same.
         ensures answers { (n most : ℕ) → seq ≤ n →
             (is_known most self.new.log n ≡ is_known most self.old.log n)
             × (due self.new.log n ≡ due self.old.log n) }
-        // Where this is the coming change's number, no change stays.
+        // At the number of the next change all changes are forgotten.
         ensures emptied { seq ≡ next_number self.old.log → self.new.log.changes ≡ [] }
-        // Each viewer that follows the surface goes on to.
+        // Each viewer that follows the surface still follows it.
         ensures followed { KeepsViewers (measure W.width_of) self.old self.new }
-        // What its numbers named they name still.
+        // Its numbers still name what they named.
         ensures remembered { KeepsNames (measure W.width_of self.old.widths) self.old self.new }
     {
         self.log.flush(seq);
     }
 
-    /// Forgets the changes that no answer needs: all but as many of the last as an answer may lend,
-    /// which are 3 plus six fifths of the number of cells. Whoever asks is answered as before.
+    /// Forgets the changes that no answer needs: all but the last 3 plus six fifths of the number
+    /// of cells. All viewers get the same answers as before.
     ///
     /// All calls together cost a few instructions for each change that they forget.
     pub fn forget_unneeded(&mut self)
@@ -56,9 +57,9 @@ impl<W: Widths> Surface<W> {
             × (knows self.old n ≡ true → due self.new.log n ≡ due self.old.log n) }
         ensures few { length self.new.log.changes
             ≤ delta_limit self.new.width self.new.height }
-        // Each viewer that follows the surface goes on to.
+        // Each viewer that follows the surface still follows it.
         ensures followed { KeepsViewers (measure W.width_of) self.old self.new }
-        // What its numbers named they name still.
+        // Its numbers still name what they named.
         ensures remembered { KeepsNames (measure W.width_of self.old.widths) self.old self.new }
     {
         let most = delta_limit(self.width, self.height);
@@ -66,24 +67,24 @@ impl<W: Widths> Surface<W> {
         self.flush_changes_older_than(first);
     }
 
-    /// The number of the coming change, and what a viewer that was last given this number has to
-    /// apply.
+    /// The number of the next change, and the changes that a viewer that was last given the number
+    /// `seq` has to apply.
     ///
-    /// Where the log has the changes from that number on, and they are worth sending, they are
-    /// lent, without a copy and without memory. Else the answer is a repaint, which brings any
-    /// screen of this size to this one:
+    /// Where the log has the changes from `seq` on, and they aren't too many, they are borrowed,
+    /// and the call never fails. Otherwise they are a repaint, which leads from any screen of this
+    /// size to this one:
     ///
-    /// - for 0, which is the number of a viewer that was given none;
-    /// - for a number before the log's first one, as one that was flushed is, and for one past the
-    ///   coming change's;
+    /// - for 0, the number of a viewer that was given none;
+    /// - for a number before the log's first one, as after a flush, and for one past the number of
+    ///   the next change;
     /// - where more changes are due than 3 plus six fifths of the number of cells.
     ///
-    /// What a repaint carries of what is kept beside the screen:
+    /// A repaint sets the screen, and also:
     ///
-    /// - the title, unless it is empty, and the shape of a visible cursor, where one was set. It
-    ///   leaves the cursor's colour and the sizes of lines.
-    /// - That of a full surface sets all: the title, an empty one too, the cursor's shape, also of
-    ///   a hidden cursor and where none was set, its colour, and the size of each line.
+    /// - the title, unless it is empty, and the shape of a visible cursor, if one was set, but
+    ///   neither the cursor's colour nor the sizes of lines;
+    /// - of a full surface, the title, even an empty one, the cursor's shape, even of a hidden
+    ///   cursor or where none was set, its colour, and the size of each line.
     pub fn get_changes(
         &self,
         seq: SequenceNo,
@@ -91,11 +92,11 @@ impl<W: Widths> Surface<W> {
         ensures number { IfOk result (λ answer. answer.0 ≡ next_number self.now.log) }
         ensures due { knows self.now seq ≡ true →
             IsOkAnd result (λ answer. Lends answer.1 (due self.now.log seq)) }
-        // Replayed on any screen of that size, whatever it shows, a repaint gives this one: rows,
-        // cursor, visibility and pen.
+        // Replayed on any screen of this size, a repaint gives this one: rows, cursor, visibility
+        // and pen.
         ensures repaint { knows self.now seq ≡ false →
             IfOk result (λ answer. Repaints (measure W.width_of) self.now (stream_of answer.1)) }
-        // Its entries are the defined ones, the title and the cursor's shape among them.
+        // Its changes are the defined ones, the title and the cursor's shape among them.
         ensures entries { knows self.now seq ≡ false →
             IfOk result (λ answer. stream_of answer.1 ≡ own_repaint self.now) }
         ensures short { knows self.now seq ≡ false →
@@ -104,10 +105,11 @@ impl<W: Widths> Surface<W> {
         ensures regions { IfOk result (λ answer.
             regions_fit self.now.height (stream_of answer.1) ≡ true) }
         ensures owned { knows self.now seq ≡ false → IfOk result (λ answer. IsOwnedSlice answer.1) }
-        // Both kinds of answer in one: what leads on a viewer that is led, by `following_laws`.
+        // Both kinds of answer in one: by `following_laws` they lead a viewer that follows to this
+        // screen.
         ensures stream { IfOk result (λ answer.
             StreamsFrom (measure W.width_of) self.now seq (stream_of answer.1)) }
-        // Of a full surface, what leads a viewer on to its full screen.
+        // Those of a full surface lead a viewer to its full screen.
         ensures full { self.now.full ≡ true → IfOk result (λ answer.
             StreamsFullyFrom (measure W.width_of) self.now seq (stream_of answer.1)) }
     {

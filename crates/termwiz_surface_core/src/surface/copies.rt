@@ -11,20 +11,20 @@ use termwiz_cell::change::{Change, Position, SequenceNo};
 use termwiz_cell::emoji::Widths;
 
 impl<W: Widths> Surface<W> {
-    /// Draws what another surface shows on this one, from this column and row on, counted from 0.
-    /// What doesn't fit is left out: where the place lies outside, that is all of it. Cells that
-    /// this surface shows there already are not printed again.
+    /// Draws what another surface shows on this one, from column `x` and row `y` on, numbered from
+    /// 0. What doesn't fit is left out. Cells that this surface shows there already are not printed
+    /// again.
     ///
-    /// Where anything is printed, the last two changes set back the cursor and the pen, so they are
-    /// as before, a pending wrap too.
+    /// Cursor and pen are as before, a pending wrap too: where anything is printed, the last two
+    /// changes restore them.
     ///
     /// Where both surfaces measure texts alike and no wide grapheme of either crosses an edge of
-    /// its region, this one's shows then what the other's does, and all else stays. What crosses an
-    /// edge is printed whole.
+    /// its region, this region then shows what the other surface's does, and nothing else changes.
+    /// A wide grapheme that crosses an edge is printed whole.
     ///
-    /// The changes are made and logged as one list, and the answer is that of `add_changes`.
-    /// `Numbers`: nothing has changed. `Memory`: either there was none for the list, and nothing
-    /// has changed, or the surface is as after `add_changes`. `ScrollRegion` never comes.
+    /// The changes are applied and logged as one list, and the result is that of `add_changes`.
+    /// `Numbers`: the surface is unchanged. `Memory`: the surface is unchanged, or as after that
+    /// error of `add_changes`. It never fails with `ScrollRegion`.
     pub fn draw_from_screen(
         &mut self,
         other: &Surface<W>,
@@ -32,18 +32,18 @@ impl<W: Widths> Surface<W> {
         y: usize,
     ) -> Result<SequenceNo, SurfaceError>
         ensures drawn { IsDrawn (measure W.width_of) self.old other.now x y result self.new }
-        // All but the rows is as before.
+        // All parts of the screen but the rows are unchanged.
         ensures restores { OnOk result (
             screen_of self.new ≡ record (screen_of self.old) { rows = (screen_of self.new).rows }) }
-        // For two surfaces of one width function: the other's rows, where no wide grapheme crosses
-        // an edge.
+        // For two surfaces of one width function: the region shows the other's, where no wide
+        // grapheme crosses an edge.
         ensures region { OnOk result (
             HasDrawn (measure W.width_of) self.old other.now x y (screen_of self.new)) }
         ensures no_scroll { result ≡ Err ScrollRegion → ⊥ }
-        // Each viewer that follows the surface goes on to, also after an error, and whatever width
-        // value the drawn one has.
+        // Each viewer that follows the surface still follows it, even after an error, and whatever
+        // width value the other surface has.
         ensures followed { KeepsViewers (measure W.width_of) self.old self.new }
-        // What its numbers named they name still, also after an error.
+        // Its numbers still name what they named, even after an error.
         ensures remembered { KeepsNames (measure W.width_of self.old.widths) self.old self.new }
     {
         let (width, height) = other.dimensions();
@@ -52,19 +52,19 @@ impl<W: Widths> Surface<W> {
         self.add_changes(changes)
     }
 
-    /// Copies what a region shows, of this column, row, width and height, to the region of this
-    /// size from another column and row on, all counted from 0.
+    /// Copies what the region of `width` columns and `height` rows from column `src_x` and row
+    /// `src_y` on shows, to the region from `dest_x` and `dest_y` on, numbered from 0.
     ///
     /// - The regions may overlap: what is copied is what was shown before.
-    /// - Both are cut to what fits in the surface; where one begins outside, nothing is copied.
+    /// - Both are cut to what fits in the surface. Where one begins outside, nothing is copied.
     /// - Cells that are shown there already are not printed again.
     ///
-    /// Where no wide grapheme crosses an edge of either region, the second one shows then what the
-    /// first did, and all else stays. What crosses an edge is printed whole.
+    /// Where no wide grapheme crosses an edge of either region, the second one then shows what the
+    /// first did, and nothing else changes. A wide grapheme that crosses an edge is printed whole.
     ///
-    /// The changes are made and logged as one list, and the answer is that of `add_changes`.
-    /// `Numbers`: nothing has changed. `Memory`: either there was none for the list, and nothing
-    /// has changed, or the surface is as after `add_changes`. `ScrollRegion` never comes.
+    /// The changes are applied and logged as one list, and the result is that of `add_changes`.
+    /// `Numbers`: the surface is unchanged. `Memory`: the surface is unchanged, or as after that
+    /// error of `add_changes`. It never fails with `ScrollRegion`.
     pub fn copy_region(
         &mut self,
         src_x: usize,
@@ -76,15 +76,15 @@ impl<W: Widths> Surface<W> {
     ) -> Result<SequenceNo, SurfaceError>
         ensures copied { IsCopied (measure W.width_of)
             self.old src_x src_y width height dest_x dest_y result self.new }
-        // What the region showed before, overlapping or not, where no wide grapheme crosses an
-        // edge.
+        // The second region shows what the first one showed before, overlapping or not, where no
+        // wide grapheme crosses an edge.
         ensures region { OnOk result (
             let r = copied_region (screen_of self.old) src_x src_y width height dest_x dest_y in
             HasCopied self.old r (screen_of self.new)) }
         ensures no_scroll { result ≡ Err ScrollRegion → ⊥ }
-        // Each viewer that follows the surface goes on to, also after an error.
+        // Each viewer that follows the surface still follows it, even after an error.
         ensures followed { KeepsViewers (measure W.width_of) self.old self.new }
-        // What its numbers named they name still, also after an error.
+        // Its numbers still name what they named, even after an error.
         ensures remembered { KeepsNames (measure W.width_of self.old.widths) self.old self.new }
     {
         let copies = self.diff_region(dest_x, dest_y, width, height, self, src_x, src_y)?;
@@ -92,7 +92,8 @@ impl<W: Widths> Surface<W> {
     }
 }
 
-// The changes, and where there are any the cursor and the pen behind them.
+// The changes, followed, where there are any, by a move and a pen that restore the cursor and the
+// pen.
 fn restored(
     mut changes: Vec<Change>,
     cursor: (usize, usize),

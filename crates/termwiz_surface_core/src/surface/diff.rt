@@ -1,5 +1,5 @@
-//! Diffs: the changes that print what another surface, a region of it, or lines show and this
-//! surface doesn't.
+//! Diffs: the changes that print what this surface lacks of another surface, of a region of it, or
+//! of lines.
 ghost use Rattle.std.specs.Prelude.{◌≡◌, ◌∷◌, [], IfOk, length, map, min};
 ghost use Rattle.termwiz_surface_core.specs.{All, ArePrintable, AreRows, GivesRegion, HaveRow};
 ghost use Rattle.termwiz_surface_core.specs.{HaveTopRows, MeasureAlike, PrintsRegion, PrintsRows};
@@ -16,23 +16,24 @@ use termwiz_screen::diff::lists::{diff_line, diff_lines, diff_rows};
 use termwiz_screen::diff::region::Region;
 
 impl<W: Widths> Surface<W> {
-    /// The changes that make this surface show what another one of its size shows: made by
-    /// `add_changes`, they give it the other's rows by exactly the cells that it doesn't show yet,
-    /// where both measure texts alike. There are none where the rows are equal. Where the sizes
-    /// differ, what fits in both is compared.
+    /// The changes that make this surface show what another one of its size shows: applied by
+    /// `add_changes`, they give it the other's rows and print exactly the cells that it doesn't
+    /// show yet, where both measure texts alike. There are none where the rows are equal. Where the
+    /// sizes differ, what fits in both is compared.
     ///
     /// They are moves, pens and texts alone, at most three for each cell that they print: a move
-    /// where the cursor doesn't stand behind the cell before, and a pen where that cell's isn't the
-    /// same.
+    /// where the cell doesn't directly follow the one before, and a pen where that one had another
+    /// pen.
     pub fn diff_screens(&self, other: &Surface<W>) -> Result<Vec<Change>, AllocError>
-        // The exact prints are promised where both have one width function, as `PrintsRegion` says.
+        // Which cells are printed is promised where both have one width function, in
+        // `PrintsRegion`.
         ensures diff { IfOk result (λ l. let r = whole self.now.width self.now.height in
             PrintsRegion (measure W.width_of) self.now other.now r (map change_value l.items)) }
-        // Its entries are the defined ones.
+        // The changes are the defined ones.
         ensures entries { IfOk result (λ l. let r = whole self.now.width self.now.height in
             map change_value l.items ≡ region_diff self.now other.now r) }
-        // For two surfaces of one size and one width function: the other's rows, by exactly the
-        // cells that are not shown yet.
+        // For two surfaces of one size and one width function: they give the other's rows, and
+        // print exactly the cells that are not shown yet.
         ensures rows { self.now.width ≡ other.now.width → self.now.height ≡ other.now.height →
             MeasureAlike (measure W.width_of) self.now other.now → IfOk result (λ l.
             (screen_after (measure W.width_of) self.now (map change_value l.items)).rows
@@ -49,13 +50,14 @@ impl<W: Widths> Surface<W> {
         self.diff_of(other, Region::band(self.width, 0, self.height))
     }
 
-    /// The changes that print what a region of another surface shows and the region of this size
-    /// from this column and row on doesn't, all counted from 0. Regions are cut to what fits in
-    /// both surfaces; where one begins outside, there is nothing to print.
+    /// The changes that print what the region of this surface from column `x` and row `y` on lacks
+    /// of the region of another surface from `other_x` and `other_y` on, numbered from 0. Both have
+    /// `width` columns and `height` rows, and are cut to what fits in both surfaces. Where one
+    /// begins outside, there are no changes.
     ///
     /// Where both measure texts alike and no wide grapheme of either surface crosses an edge of its
-    /// region, made by `add_changes` they give the region of this surface what the other's shows,
-    /// and all else stays. What crosses an edge is printed whole.
+    /// region, applied by `add_changes` they make this region show what the other does, and nothing
+    /// else changes. A wide grapheme that crosses an edge is printed whole.
     pub fn diff_region(
         &self,
         x: usize,
@@ -87,13 +89,13 @@ impl<W: Widths> Surface<W> {
         self.diff_of(other, region)
     }
 
-    /// The changes that print what lines show and the rows from the top don't: line i is compared
-    /// with row i, cut or filled with default blanks to the surface's width. Lines past the last
-    /// row are left out.
+    /// The changes that print what the rows from the top lack of lines: line i, cut or padded with
+    /// default blanks to the surface's width, is compared with row i. Lines past the last row are
+    /// left out.
     ///
     /// Where each visible cell of the lines is one grapheme with the width that this surface
-    /// measures, made by `add_changes` they give each of these rows what its line shows, and the
-    /// others stay.
+    /// measures, applied by `add_changes` they make each of these rows show what its line does, and
+    /// no other row changes.
     pub fn diff_lines(&self, other_lines: Vec<&Line>) -> Result<Vec<Change>, AllocError>
         ensures diff { let f = measure W.width_of self.now.widths in
             let lines = other_lines.entry.items in
@@ -103,7 +105,7 @@ impl<W: Widths> Surface<W> {
         ensures entries { let lines = other_lines.entry.items in IfOk result (λ l.
             let a = screen_of self.now in let b = rows_of a.width lines (λ line. line.now.cells) in
             map change_value l.items ≡ diff a.rows b (top_rows a (length lines))) }
-        // Each of these rows shows what its line does, and the others stay.
+        // Each of these rows shows what its line does, and no other row changes.
         ensures rows { let f = measure W.width_of self.now.widths in
             let lines = other_lines.entry.items in
             All (λ line. ArePrintable f line.now.cells) lines → IfOk result (λ l.
@@ -114,12 +116,13 @@ impl<W: Widths> Surface<W> {
         diff_lines(self.alloc, &self.rows, self.width, other_lines)
     }
 
-    /// The changes that print what a line shows and a row, by its number from 0, doesn't; nothing
-    /// where there is no such row. The line is cut or filled with default blanks to the surface's
-    /// width.
+    /// The changes that print what row `row_num`, numbered from 0, lacks of a line, which is cut or
+    /// padded with default blanks to the surface's width. There are none where there is no such
+    /// row.
     ///
     /// Where each visible cell of the line is one grapheme with the width that this surface
-    /// measures, made by `add_changes` they give the row what the line shows, and the others stay.
+    /// measures, applied by `add_changes` they make the row show what the line does, and no other
+    /// row changes.
     pub fn diff_against_numbered_line(
         &self,
         row_num: usize,
@@ -132,7 +135,7 @@ impl<W: Widths> Surface<W> {
         ensures entries { IfOk result (λ l.
             let a = screen_of self.now in let row = row_of a.width other_line.now.cells in
             map change_value l.items ≡ diff a.rows (row ∷ []) (one_row a row_num)) }
-        // That row shows what the line does, and the others stay.
+        // That row shows what the line does, and no other row changes.
         ensures row { let f = measure W.width_of self.now.widths in
             ArePrintable f other_line.now.cells → IfOk result (λ l.
             let a = screen_of self.now in let row = row_of a.width other_line.now.cells in
@@ -142,7 +145,7 @@ impl<W: Widths> Surface<W> {
         diff_line(self.alloc, &self.rows, self.width, row_num, other_line)
     }
 
-    // The changes that print what a region of another surface shows and this one doesn't.
+    // The changes that print what this surface lacks of a region of another one.
     fn diff_of(&self, other: &Surface<W>, region: Region) -> Result<Vec<Change>, AllocError>
         ensures diff { IfOk result (λ l. let r = region_value region in
             PrintsRegion (measure W.width_of) self.now other.now r (map change_value l.items)) }

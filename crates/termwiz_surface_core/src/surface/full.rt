@@ -8,8 +8,8 @@ use termwiz_cell::emoji::Widths;
 use termwiz_screen::full::{FullScreen, attributes_of, shape_or_default};
 
 impl<W: Widths> Surface<W> {
-    /// A copy of what the surface shows, as `screen` gives it, and of what it keeps beside it. Its
-    /// rows have the number 0 and no flags: how each line is shown stands beside them.
+    /// A copy of the screen, as `screen` returns it, with the title, the cursor's shape and colour,
+    /// and how large each line is shown. Its rows have the number 0 and no flags.
     pub fn full_screen(&self) -> Result<FullScreen, AllocError>
         ensures shown { IfOk result (λ copy. full_value copy ≡ full_of self.now) }
         ensures numbers { IfOk result (λ copy.

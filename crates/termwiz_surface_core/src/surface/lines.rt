@@ -1,4 +1,4 @@
-//! The rows of a surface, lent as lines or as cells.
+//! The rows of a surface, borrowed as lines or as cells.
 ghost use Rattle.std.specs.Prelude.{◌≡◌, IfOk, map, option_map, slice_get};
 ghost use Rattle.termwiz_surface_core.specs.{AreVectors, cells_of, row_flags};
 
@@ -11,8 +11,8 @@ use termwiz_line::line::line::Line;
 
 impl<W: Widths> Surface<W> {
     /// The rows from the top, as they are stored: a row may be shorter than the surface is wide,
-    /// and shows default blanks behind its cells. Nothing is promised of the numbers of these
-    /// lines: `get_changes` returns what has changed.
+    /// and shows default blanks after its cells. The numbers of these lines are unspecified;
+    /// `get_changes` returns what has changed.
     pub fn screen_lines(&self) -> Result<Vec<&Line>, AllocError>
         ensures cells { IfOk result (λ lines. map (λ l. l.now.cells) lines.items ≡ self.now.lines) }
         ensures flags { IfOk result (λ lines. map (λ l. l.now.flags) lines.items ≡ self.now.flags) }
@@ -27,8 +27,8 @@ impl<W: Widths> Surface<W> {
         lent_cells(self.alloc, &self.rows)
     }
 
-    /// The row at this index from the top, or none past the last one. It is the line that
-    /// `screen_lines` lends there, and takes no memory.
+    /// The row at this index from the top, as `screen_lines` returns it, or `None` past the last
+    /// one.
     pub fn screen_line(&self, row: usize) -> Option<&Line>
         ensures cells { option_map (λ l. l.now.cells) result ≡ slice_get self.now.lines row }
         ensures flags { option_map (λ l. l.now.flags) result ≡ slice_get self.now.flags row }
@@ -36,8 +36,8 @@ impl<W: Widths> Surface<W> {
         self.rows.get(row)
     }
 
-    /// The stored cells of the row at this index from the top, or none past the last one. They are
-    /// those that `screen_cells` lends there, and take no memory.
+    /// The stored cells of the row at this index from the top, as `screen_cells` returns them, or
+    /// `None` past the last one.
     pub fn row_cells(&self, row: usize) -> Option<&[Cell]>
         ensures { option_map (λ r. r.now) result ≡ slice_get self.now.lines row }
     {

@@ -32,7 +32,7 @@ impl<W: Widths> Surface<W> {
         Ok(())
     }
 
-    // Goes to the beginning of the next row.
+    // Moves the cursor to the beginning of the next row.
     fn next_line(&mut self) -> Result<(), AllocError>
         ensures ok { OnOk result (Becomes self.old (returned (down (screen_of self.old)))
             (down_kept (screen_of self.old) (kept_of self.old)) self.new) }
@@ -57,7 +57,7 @@ impl<W: Widths> Surface<W> {
         Ok(())
     }
 
-    // Goes to the next row, where a wrap is pending.
+    // Moves the cursor to the next row, if a wrap is pending.
     fn wrap(&mut self) -> Result<(), AllocError>
         ensures ok { OnOk result (Becomes self.old (wrapped (screen_of self.old))
             (wrapped_kept (screen_of self.old) (kept_of self.old)) self.new) }
@@ -90,8 +90,8 @@ impl<W: Widths> Surface<W> {
         Ok(())
     }
 
-    // How many characters a run may have: what fits in the row in which the first one comes, and
-    // none where the pen takes memory.
+    // How many columns a run may have: those left in the row of its first character, and none where
+    // the pen takes memory.
     fn run_limit(&self) -> usize
         ensures fits { result ≤ columns_left (screen_of self.now) }
         ensures unboxed { 0 < result → needs_box self.now.pen ≡ false }
@@ -120,7 +120,7 @@ impl<W: Widths> Surface<W> {
         Ok(())
     }
 
-    // Prints a run of ASCII in the row in which its first character comes.
+    // Prints a run of ASCII, and first wraps where a wrap is pending.
     fn print_run(&mut self, run: &str) -> Result<(), AllocError>
         requires some { 0 < length run.now }
         requires plain { list_all is_plain run.now ≡ true }
@@ -151,7 +151,7 @@ impl<W: Widths> Surface<W> {
         Ok(())
     }
 
-    // Prints a run of letters in the row in which its first one comes.
+    // Prints a run of letters, and first wraps where a wrap is pending.
     fn print_letters(&mut self, run: &str) -> Result<(), AllocError>
         requires some { 0 < length (chars run.now) }
         requires letters { AreLetters run.now }
@@ -168,7 +168,7 @@ impl<W: Widths> Surface<W> {
     }
 
     // Prints the run of ASCII or of letters, or the CR LF, that the text begins with, or else its
-    // first grapheme, and gives what is left.
+    // first grapheme, and returns the rest.
     fn print_first<'a>(&mut self, text: &'a str) -> Result<&'a str, AllocError>
         requires { 0 < length text.now }
         ensures ok { IfOk result (λ rest. PrintsFirst (measure W.width_of self.old.widths)

@@ -1,4 +1,4 @@
-//! What a surface shows and keeps, for reading.
+//! Reading what a surface shows and keeps.
 ghost use Rattle.std.specs.Prelude.{◌≡◌, ◌-◌, ◌<◌, ◌^◌, IfOk, string_bytes};
 ghost use Rattle.termwiz_surface_core.specs.{All, HasFullSize, HasSize, IsPrintable, IsSound};
 ghost use Rattle.termwiz_surface_core.specs.{full_of, lengths_of, measure, next_number, no_flags};
@@ -16,14 +16,14 @@ impl<W: Widths> Surface<W> {
     pub fn dimensions(&self) -> (usize, usize)
         ensures width { result.0 ≡ self.now.width }
         ensures height { result.1 ≡ self.now.height }
-        // Every surface has its form.
+        // Every surface is valid.
         ensures sound { IsSound (measure W.width_of self.now.widths) self.now }
         // Its screen has its size, so repaints can be replayed on it.
         ensures sized { HasSize self.now.width self.now.height (screen_of self.now) }
         // Its full screen has its size too.
         ensures fully_sized { HasFullSize self.now.width self.now.height (full_of self.now) }
-        // Each row of the screen has a half behind each wide cell, and each visible cell is one
-        // grapheme with the width that is measured for it.
+        // Each row of the screen has a half after each wide cell, and each visible cell is one
+        // grapheme with its measured width.
         ensures printable { IsPrintable (measure W.width_of self.now.widths) (screen_of self.now) }
     {
         (self.width, self.height)
@@ -36,14 +36,15 @@ impl<W: Widths> Surface<W> {
         self.widths
     }
 
-    /// Whether its repaints carry all that is kept beside the screen.
+    /// Whether this is a full surface: whether its repaints also set the title, the cursor's shape
+    /// and colour, and how large each row is shown.
     pub fn is_full(&self) -> bool
         ensures { result ≡ self.now.full }
     {
         self.full
     }
 
-    /// The cursor's column and row, from 0. The column is the width where a wrap is pending.
+    /// The cursor's column and row, from 0. Where a wrap is pending, the column equals the width.
     pub fn cursor_position(&self) -> (usize, usize)
         ensures column { result.0 ≡ self.now.x }
         ensures row { result.1 ≡ self.now.y }
@@ -65,14 +66,14 @@ impl<W: Widths> Surface<W> {
         self.title.as_str()
     }
 
-    /// The cursor's shape, where one was set.
+    /// The cursor's shape, if one was set.
     pub fn cursor_shape(&self) -> Option<CursorShape>
         ensures { result ≡ self.now.shape }
     {
         self.shape
     }
 
-    /// The number of the coming change, which is what a viewer that has all changes was last given.
+    /// The number of the next change, which is the number of a viewer that has all changes.
     pub fn current_seqno(&self) -> SequenceNo
         ensures value { result ≡ next_number self.now.log }
         ensures fits { result < 2 ^ 64 }
@@ -80,7 +81,7 @@ impl<W: Widths> Surface<W> {
         self.log.next_number()
     }
 
-    /// The texts of each row's visible cells within its stored length, with a newline behind each
+    /// The texts of each row's visible cells within its stored length, with a newline after each
     /// row.
     pub fn screen_chars_to_string(&self) -> Result<String, AllocError>
         ensures { IfOk result (λ text.
@@ -89,8 +90,8 @@ impl<W: Widths> Surface<W> {
         chars_of(self.alloc, &self.rows)
     }
 
-    /// A copy of what the surface shows: each row is cut or filled to the width with default
-    /// blanks, and has the number 0 and no flags.
+    /// A copy of what the surface shows. Each row is cut or padded with default blanks to the
+    /// width, and has the number 0 and no flags.
     pub fn screen(&self) -> Result<Screen, AllocError>
         ensures shown { IfOk result (λ screen. screen_value screen ≡ screen_of self.now) }
         ensures numbers { IfOk result (λ screen. All (λ line. line.seqno ≡ 0) screen.rows.items) }

@@ -1,4 +1,4 @@
-//! Surfaces that take another size.
+//! Resizing surfaces.
 ghost use Rattle.std.specs.Prelude.{◌≡◌, ◌+◌, ◌<◌, ◌^◌, OnErr, OnOk};
 ghost use Rattle.termwiz_surface_core.specs.{HasResized, IsSurfaceSize, KeepsNames, KeepsViewers};
 ghost use Rattle.termwiz_surface_core.specs.{Resizes, measure, next_number};
@@ -9,22 +9,21 @@ use termwiz_cell::emoji::Widths;
 use termwiz_screen::rows::resize_rows;
 
 impl<W: Widths> Surface<W> {
-    /// Takes another size, in columns and rows.
+    /// Resizes the surface to a width in columns and a height in rows.
     ///
-    /// - Each row is cut, or filled with default blanks; rows go at the bottom, or default ones
-    ///   come there.
-    /// - The cursor stays where it is on the surface still, and else, from a pending wrap too, goes
-    ///   to the last column or row.
-    /// - The log is emptied and a number is taken, unless the number is 0: so every viewer is
-    ///   answered by a repaint.
-    /// - `Numbers`: the number is the greatest. `Memory`: a growth was refused. After both nothing
-    ///   has changed.
+    /// - Each row is cut, or padded with default blanks. At the bottom rows are removed, or default
+    ///   ones added.
+    /// - A cursor past the last column or row, as where a wrap is pending, moves to the last one.
+    /// - The log is emptied, and the number grows by one, unless it is 0, so every viewer gets a
+    ///   repaint.
+    /// - `Numbers`: the number is the greatest `usize`. `Memory`: memory was refused. Both leave
+    ///   the surface unchanged.
     pub fn resize(&mut self, width: usize, height: usize) -> Result<(), SurfaceError>
         requires size { IsSurfaceSize width height }
         ensures resizes { Resizes self.old width height result self.new }
-        // Each viewer that follows the surface goes on to, also after an error.
+        // Each viewer that follows the surface still follows it, even after an error.
         ensures followed { KeepsViewers (measure W.width_of) self.old self.new }
-        // What its numbers named they name still, also after an error.
+        // Its numbers still name what they named, even after an error.
         ensures remembered { KeepsNames (measure W.width_of self.old.widths) self.old self.new }
     {
         if !self.log.has_numbers(1) {

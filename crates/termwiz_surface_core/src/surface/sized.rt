@@ -1,4 +1,4 @@
-//! Surfaces of a size that is checked.
+//! Surfaces of a checked size.
 ghost use Rattle.std.specs.Prelude.{◌≡◌, ◌↔◌, IfErr, IfOk, IsTrue};
 ghost use Rattle.termwiz_surface_core.specs.{IsSurfaceSize, blank_surface, false};
 ghost use Rattle.termwiz_surface_core.specs.declared.surface.NewSurfaceError.TheVariants as errors;
@@ -8,8 +8,8 @@ use std::alloc::Global;
 use termwiz_cell::emoji::Widths;
 
 impl<W: Widths> Surface<W> {
-    /// A surface as `new` makes it, of a width in columns and a height in rows that are checked. It
-    /// fails with `Size` where no surface may have this size.
+    /// A surface as `new` returns it, of a width in columns and a height in rows that are checked.
+    /// It fails with `Size` where no surface can have this size.
     pub fn with_size(
         alloc: Global,
         width: usize,
@@ -29,7 +29,7 @@ impl<W: Widths> Surface<W> {
     }
 }
 
-// Whether a surface may have this size.
+// Whether a surface can have this size.
 fn is_surface_size(width: usize, height: usize) -> bool
     ensures { IsTrue result ↔ IsSurfaceSize width height }
 {

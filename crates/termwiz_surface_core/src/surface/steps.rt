@@ -21,8 +21,8 @@ use termwiz_screen::rows::{
 };
 
 impl<W: Widths> Surface<W> {
-    // Clears from the cursor to the end of its row, with a pen of this background from then on. The
-    // clears stand apart, so that the way of a text is short.
+    // Clears from the cursor to the end of its row, and sets the pen to this background. The clears
+    // are kept out of line, so that the path of texts is short.
     #[inline(never)]
     pub(super) fn clear_to_end_of_line(&mut self, color: &ColorAttribute) -> Result<(), AllocError>
         ensures ok { OnOk result (let s = screen_of self.old in
@@ -59,7 +59,7 @@ impl<W: Widths> Surface<W> {
         Ok(())
     }
 
-    // Clears all rows, and takes the cursor home.
+    // Clears all rows, and moves the cursor to column 0 of row 0.
     #[inline(never)]
     pub(super) fn clear_screen(&mut self, color: &ColorAttribute) -> Result<(), AllocError>
         ensures ok { OnOk result (let s = screen_of self.old in
@@ -98,7 +98,7 @@ impl<W: Widths> Surface<W> {
         self.y = row_at(y, self.y, self.height);
     }
 
-    // Scrolls rows up inside a region. The cursor stays.
+    // Scrolls rows up inside a region. The cursor doesn't move.
     pub(super) fn scroll_region_up(
         &mut self,
         first: usize,
@@ -119,7 +119,7 @@ impl<W: Widths> Surface<W> {
         Ok(())
     }
 
-    // Scrolls rows down inside a region. The cursor stays.
+    // Scrolls rows down inside a region. The cursor doesn't move.
     pub(super) fn scroll_region_down(
         &mut self,
         first: usize,
@@ -140,7 +140,7 @@ impl<W: Widths> Surface<W> {
         Ok(())
     }
 
-    // Says how the cursor's row is shown.
+    // Sets how large the cursor's row is shown.
     pub(super) fn set_line_attribute(&mut self, attribute: LineAttribute)
         ensures { let k = kept_of self.old in
             Becomes self.old (screen_of self.old)

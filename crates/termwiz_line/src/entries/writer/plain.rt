@@ -1,6 +1,7 @@
 //! Rows of cells that are stored one by one, most of which are one character of printable ASCII in
-//! the pen that stands.
-ghost use Rattle.std.specs.Prelude.{◌≡◌, ◌++◌, ◌∷◌, ◌≤◌, ◌&&◌, ◌==◌, [], List, OnOk, length, true};
+//! the current pen.
+ghost use Rattle.std.specs.Prelude.{◌≡◌, ◌++◌, ◌∷◌, ◌≤◌, ◌&&◌, ◌==◌, [], IfOk, List, OnOk};
+ghost use Rattle.std.specs.Prelude.{length, true};
 ghost use Rattle.termwiz_line.specs.{IsInText, IsUnderWay, IsWritten, Penned, VisibleCell};
 ghost use Rattle.termwiz_line.specs.{and_cells, ends_printable, is_plain, last_is, spaces_of};
 
@@ -10,8 +11,8 @@ use termwiz_cell::cell::CellAttributes;
 use termwiz_storage::line::vecstorage::VecStorageIter;
 
 impl<'a> RowWriter<'a> {
-    // Cells that are stored one by one come next. Behind each one the plain cells in its pen are
-    // written in a loop of their own, which asks only what they need.
+    // Writes cells that are stored one by one. After each one, the plain cells in its pen are
+    // written in a loop of their own, which only tests what they need.
     pub(super) fn stored_cells(&mut self, cells: VecStorageIter<'a>) -> Result<(), AllocError>
         ensures { OnOk result (
             (from : Penned) (before : List VisibleCell) → IsWritten from before self.old →
@@ -20,45 +21,49 @@ impl<'a> RowWriter<'a> {
         let mut left = cells;
         while let Some(cell) = left.next() {
             self.cell(cell.str(), cell.attrs())?;
-            self.plain_cells(&mut left)?;
+            left = self.plain_cells(left)?;
         }
         Ok(())
     }
 
-    // The plain cells that come next in the pen that stands are written, where the text grows
-    // behind printable ASCII.
+    // Writes the next plain cells in the current pen, if the last entry is a text that ends in
+    // printable ASCII, and returns the cells that are left.
     #[inline(always)]
-    fn plain_cells(&mut self, left: &mut VecStorageIter<'a>) -> Result<(), AllocError>
-        ensures written { OnOk result (
-            (from : Penned) (all : List VisibleCell) →
-            IsUnderWay from all left.old self.old → IsUnderWay from all left.new self.new) }
-        ensures shorter { length left.new ≤ length left.old }
+    fn plain_cells(
+        &mut self,
+        mut left: VecStorageIter<'a>,
+    ) -> Result<VecStorageIter<'a>, AllocError>
+        ensures written { IfOk result (λ rest. (from : Penned) (all : List VisibleCell) →
+            IsUnderWay from all left.entry self.old → IsUnderWay from all rest self.new) }
+        ensures shorter { IfOk result (λ rest. length rest ≤ length left.entry) }
     {
         if !self.is_in_text() {
-            return Ok(());
+            return Ok(left);
         }
-        // A pen in a place of its own is compared without a look behind a reference.
+        // A local copy of the pen is compared without following a reference.
         match self.pen.unboxed_copy() {
-            Some(pen) => self.plain_run(left, &pen),
-            None => self.boxed_run(left),
+            Some(pen) => self.plain_run(&mut left, &pen)?,
+            None => return self.boxed_run(left),
         }
+        Ok(left)
     }
 
-    // The same for a pen in a box. It stands apart, so that the way of the others is short.
+    // Writes the next plain cells in a pen that has a box. It is kept out of line and takes the
+    // cells by value, so that the path of other pens is short and keeps them in registers.
     #[inline(never)]
-    fn boxed_run(&mut self, left: &mut VecStorageIter<'a>) -> Result<(), AllocError>
+    fn boxed_run(&mut self, mut left: VecStorageIter<'a>) -> Result<VecStorageIter<'a>, AllocError>
         requires spaces { self.old.spaces ≡ 0 }
         requires text { last_is ends_printable self.old.printed.entries ≡ true }
-        ensures written { OnOk result (
-            (from : Penned) (all : List VisibleCell) →
-            IsUnderWay from all left.old self.old → IsUnderWay from all left.new self.new) }
-        ensures shorter { length left.new ≤ length left.old }
+        ensures written { IfOk result (λ rest. (from : Penned) (all : List VisibleCell) →
+            IsUnderWay from all left.entry self.old → IsUnderWay from all rest self.new) }
+        ensures shorter { IfOk result (λ rest. length rest ≤ length left.entry) }
     {
         let pen = self.pen;
-        self.plain_run(left, pen)
+        self.plain_run(&mut left, pen)?;
+        Ok(left)
     }
 
-    // Writes the plain cells that come next in a pen that is equal to the one that stands.
+    // Writes the next plain cells in a pen that is equal to the current one.
     #[inline(always)]
     fn plain_run(
         &mut self,
@@ -80,7 +85,7 @@ impl<'a> RowWriter<'a> {
         Ok(())
     }
 
-    // Whether the text grows, no space is held back behind it, and it ends in printable ASCII.
+    // Whether the last entry is a text that ends in printable ASCII, and no space is held back.
     fn is_in_text(&self) -> bool
         ensures { result
             ≡ (self.now.spaces == 0 && last_is ends_printable self.now.printed.entries) }
@@ -88,7 +93,7 @@ impl<'a> RowWriter<'a> {
         self.spaces == 0 && self.entries.ends_printable()
     }
 
-    // A cell of one character of printable ASCII comes next, in the pen that stands.
+    // Writes a cell of one character of printable ASCII in the current pen.
     #[inline(always)]
     fn plain_cell(&mut self, byte: u8) -> Result<(), AllocError>
         requires plain { is_plain byte ≡ true }
@@ -109,7 +114,7 @@ impl<'a> RowWriter<'a> {
         Ok(())
     }
 
-    // The spaces held back, whose pen stands, are printed behind printable ASCII.
+    // Prints the held-back spaces, which have the current pen, after printable ASCII.
     #[inline(always)]
     pub(super) fn push_spaces(&mut self) -> Result<(), AllocError>
         requires { IsInText self.old }

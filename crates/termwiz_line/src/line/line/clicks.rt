@@ -7,31 +7,31 @@ use super::Line;
 use std::ops;
 use termwiz_storage::line::cellref::{CellRef, VisibleCellIter};
 
-/// The columns that a double click selects: from the range's start up to, but without, its end.
+/// The columns that a double click selects: from the range's start up to its end, which is
+/// excluded.
 #[derive(Clone, Debug, PartialEq, Drop)]
 pub enum DoubleClickRange {
-    /// They lie in this line.
+    /// They end in this line.
     Range(ops::Range<usize>),
-    /// They go up to the end of this line, and the text goes on in the next one.
+    /// They extend to the end of this line, whose text continues in the next one.
     RangeWithWrap(ops::Range<usize>),
 }
 
 impl Line {
-    /// The columns of the word in which a double click at a column lies. A word cell is a visible
+    /// The columns of the word that a double click at a column selects. A word cell is a visible
     /// one whose text `is_word` accepts.
     ///
     /// - The start is the column of the first cell of the longest run of word cells that ends with
     ///   the last visible cell at the column or before it.
-    /// - The end is one past the column at which the last cell begins of the longest run of them
-    ///   that starts with the first visible cell at the column or after it: of a wide cell at the
-    ///   end of a word it leaves out the second column.
-    /// - Where the run on a side has no cell, its start or end is the column itself, and so are
-    ///   both where the column lies behind the line.
+    /// - The end is one past the column at which the last cell begins, of the longest run of word
+    ///   cells that starts with the first visible cell at the column or after it. So the second
+    ///   column of a wide cell at the end of a word is excluded.
+    /// - Where the run on a side has no cell, the start or end is the column itself. Where the
+    ///   column is past the end of the line, both are the column.
     ///
     /// ```text
     /// |foo bar|  at column 1:  0..3      at column 3, the space:  3..3      at column 5:  4..7
     /// ```
-    /// It takes no memory.
     pub fn compute_double_click_range<F: Fn(&str) -> bool>(
         &self,
         click_col: usize,
@@ -42,7 +42,7 @@ impl Line {
             × (upper_of result ≡ click_col) × (goes_on result ≡ false) }
         ensures around { click_col < length self.now.cells → (lower_of result ≤ click_col)
             × (click_col ≤ upper_of result) × (upper_of result ≤ length self.now.cells) }
-        // For a predicate that answers the same for the same text.
+        // For a predicate that returns the same for the same text.
         ensures upper { click_col < length self.now.cells → (word : List ℕ → Bool) →
             AnswersAs (FnReturnsAt F.Fn is_word) word →
             IsUpper word (visible self.now.cells) click_col (upper_of result) }
@@ -68,7 +68,7 @@ impl Line {
     }
 }
 
-// Whether the predicate says of the cell that it belongs to a word.
+// Whether the predicate accepts the cell's text.
 fn is_in_word<F: Fn(&str) -> bool>(cell: CellRef<'_>, is_word: &F) -> bool
     requires { F.IsAlwaysCallable is_word.now }
     ensures { (word : List ℕ → Bool) → AnswersAs (FnReturnsAt F.Fn is_word.now) word →
@@ -77,7 +77,7 @@ fn is_in_word<F: Fn(&str) -> bool>(cell: CellRef<'_>, is_word: &F) -> bool
     is_word(cell.str())
 }
 
-// Where the word ends that the click is in.
+// The end of the word at the click.
 fn upper_end<F: Fn(&str) -> bool>(
     cells: VisibleCellIter<'_>,
     click: usize,
@@ -105,7 +105,7 @@ fn upper_end<F: Fn(&str) -> bool>(
     upper
 }
 
-// Where the word starts that the click is in.
+// The start of the word at the click.
 fn lower_end<F: Fn(&str) -> bool>(cells: VisibleCellIter<'_>, click: usize, is_word: &F) -> usize
     requires callable { F.IsAlwaysCallable is_word.now }
     ensures at_most { result ≤ click }

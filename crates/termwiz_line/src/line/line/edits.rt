@@ -20,8 +20,8 @@ use termwiz_cell::change::SequenceNo;
 use termwiz_storage::line::vecstorage::VecStorage;
 
 impl Line {
-    /// Makes the line this many blanks with these attributes, without flags. It takes the number.
-    /// On an error number, flags and cells are as before.
+    /// Replaces the cells by this many blanks with these attributes, and clears the flags. Raises
+    /// the line's number to `seqno`. An error leaves number, flags and cells unchanged.
     pub fn resize_and_clear(
         &mut self,
         width: usize,
@@ -44,13 +44,13 @@ impl Line {
         Ok(())
     }
 
-    /// Sets the cell at a column. The line is padded with default blanks up to it, a wide cell that
-    /// is cut leaves a blank with its attributes, and the half of a wide cell follows it. The line
-    /// takes the number.
+    /// Sets the cell at a column, and the half of a wide one after it. The line is first padded
+    /// with default blanks up to the column, and a wide cell directly before the column becomes a
+    /// blank with its attributes. Raises the line's number to `seqno`.
     ///
-    /// - At the end of a line that stores its cells as one text it is appended to the text.
-    /// - On an error, which also comes where the cell would end past the greatest `usize`, number,
-    ///   flags and cells are as before.
+    /// - At the end of a line that stores its cells as one text, the cell is appended to the text.
+    /// - It also fails where the cell would end past the greatest `usize`. An error leaves number,
+    ///   flags and cells unchanged.
     pub fn set_cell(&mut self, i: usize, cell: Cell, seqno: SequenceNo) -> Result<(), AllocError>
         ensures ok { OnOk result (
             IsEdited self.old (set_cell i cell self.old.cells) seqno self.new) }
@@ -65,9 +65,8 @@ impl Line {
     }
 
     /// Sets the cell of a text of this width at a column, as `set_cell` does. A width of 0 counts
-    /// as 1.
-    /// The line takes the number. On an error, which also comes where the cell would end past the
-    /// greatest `usize`, number, flags and cells are as before.
+    /// as 1. Raises the line's number to `seqno`. It also fails where the cell would end past the
+    /// greatest `usize`. An error leaves number, flags and cells unchanged.
     pub fn set_cell_grapheme(
         &mut self,
         i: usize,
@@ -89,9 +88,9 @@ impl Line {
         Ok(())
     }
 
-    /// Sets the cell at a column as `set_cell` does, in a line that is then cut to `width` columns.
-    /// The line takes the number. On an error, which also comes where the cell would end past the
-    /// greatest `usize`, number, flags and cells are as before.
+    /// Sets the cell at a column as `set_cell` does, and then cuts the line to `width` columns.
+    /// Raises the line's number to `seqno`. It also fails where the cell would end past the
+    /// greatest `usize`. An error leaves number, flags and cells unchanged.
     #[doc(hidden)]
     #[inline(always)]
     pub fn set_cell_within(
@@ -113,9 +112,8 @@ impl Line {
     }
 
     /// Sets the cell of each character of a run of printable ASCII, in order from a column on, with
-    /// attributes that take no memory. A vector takes memory only where it grows.
-    /// The line takes the number. On an error, which also comes where the run would end past the
-    /// greatest `usize`, number, flags and cells are as before.
+    /// attributes that take no memory. Raises the line's number to `seqno`. It also fails where the
+    /// run would end past the greatest `usize`. An error leaves number, flags and cells unchanged.
     #[doc(hidden)]
     pub fn set_run(
         &mut self,
@@ -137,11 +135,10 @@ impl Line {
         Ok(())
     }
 
-    /// Sets the cell of each letter of a run, of two columns, in order from a column on, and behind
-    /// each its half, with attributes that take no memory. A vector takes memory only where it
-    /// grows.
-    /// The line takes the number. On an error, which also comes where the run would end past the
-    /// greatest `usize`, number, flags and cells are as before.
+    /// Sets the cell of each letter of a run, of two columns, and its half, in order from a column
+    /// on, with attributes that take no memory. Raises the line's number to `seqno`. It also fails
+    /// where the run would end past the greatest `usize`. An error leaves number, flags and cells
+    /// unchanged.
     #[doc(hidden)]
     pub fn set_letters(
         &mut self,
@@ -164,15 +161,14 @@ impl Line {
         Ok(())
     }
 
-    /// Cuts the default blanks at the end, unless there is nothing else. The line takes the number
-    /// where that changes it.
-    /// It takes memory only where it makes a vector of a text that it cuts. On an error number,
-    /// flags and cells are as before.
+    /// Cuts the default blanks at the end, unless the line has no other cell. Raises the line's
+    /// number to `seqno` where it cuts any. It can only fail where it cuts a text, which becomes a
+    /// vector. An error leaves number, flags and cells unchanged.
     pub fn prune_trailing_blanks(&mut self, seqno: SequenceNo) -> Result<(), AllocError>
         ensures ok { OnOk result (Prunes self.old seqno self.new) }
         ensures err { OnErr result (IsUnchanged self.old self.new) }
         ensures succeeds { self.old.is_vector ≡ true → IsOk result }
-        // Where it cuts nothing.
+        // If there is nothing to cut.
         ensures rests { IsPruned self.old.cells self.old.cells →
             (result ≡ Ok tt) × (self.new ≡ self.old) }
     {
@@ -185,7 +181,7 @@ impl Line {
         Ok(())
     }
 
-    // Sets a default blank in each of the columns from one up to another.
+    // Sets a default blank in each of the columns `from..to`.
     fn set_blanks(&mut self, from: usize, to: usize, seqno: SequenceNo) -> Result<(), AllocError>
         ensures ok { OnOk result (Fills self.old (to - from) from blank seqno self.new) }
         ensures err { OnErr result (IsUnchanged self.old self.new) }
@@ -199,8 +195,8 @@ impl Line {
         Ok(())
     }
 
-    // Sets the cell of a character of printable ASCII in each of the columns from one up to
-    // another, with attributes that take no memory.
+    // Sets the cell of a character of printable ASCII in each of the columns `from..to`, with
+    // attributes that take no memory.
     fn set_copies(
         &mut self,
         from: usize,
@@ -224,7 +220,8 @@ impl Line {
         Ok(())
     }
 
-    // The character of a cell that is copied without taking memory, where the line is a vector.
+    // The character of a plain cell that can be copied without taking memory, if the line is a
+    // vector.
     fn copied_byte(&self, cell: &Cell) -> Option<u8>
         ensures cell { IfSome result (λ byte. cell.now ≡ plain_cell byte cell.now.attrs) }
         ensures plain { IfSome result (λ byte. is_plain byte ≡ true) }
@@ -237,7 +234,7 @@ impl Line {
         cell.as_plain()
     }
 
-    // Sets the cell in each of the columns from one up to another.
+    // Sets the cell in each of the columns `from..to`.
     fn set_cells(
         &mut self,
         from: usize,
@@ -276,15 +273,15 @@ impl Line {
         self.storage.is_empty() && cell.is_blank()
     }
 
-    /// Sets the cell in each of the columns, in order, as `set_cell` does, and then prunes as
-    /// `prune_trailing_blanks` does. The line takes the number with the first cell that is set, and
-    /// where pruning changes it.
+    /// Sets the cell in each of the columns, in order, as `set_cell` does, and then cuts default
+    /// blanks as `prune_trailing_blanks` does. Raises the line's number to `seqno` where it sets or
+    /// cuts a cell.
     ///
-    /// - Of a wide cell the last one stays, and each before it leaves its half.
-    /// - An empty line stays as it is where the cell is a default blank.
-    /// - Where there is no column it prunes, and that is all. It takes memory only where that makes
-    ///   a vector of a text.
-    /// - On an error the cell was set in some first columns, and nothing was pruned.
+    /// - A wide cell stays in the last column only: each one before it becomes its half.
+    /// - An empty line is unchanged where the cell is a default blank.
+    /// - For an empty range it only cuts default blanks, and can only fail where that makes a text
+    ///   a vector.
+    /// - After an error the cell is set in some of the first columns, or none, and no blank is cut.
     pub fn fill_range(
         &mut self,
         range: Range<usize>,
@@ -297,10 +294,10 @@ impl Line {
         ensures appended { OnOk result (
             AppendsCells self.old range.start range.end cell.now self.new) }
         ensures made { OnOk result (MakesVector self.old range.start range.end cell.now self.new) }
-        // Of no column.
+        // For an empty range.
         ensures none { range.end ≤ range.start → OnOk result (Prunes self.old seqno self.new) }
         ensures succeeds { range.end ≤ range.start → self.old.is_vector ≡ true → IsOk result }
-        // Of no column, where pruning cuts nothing.
+        // For an empty range, if there is nothing to cut.
         ensures rests { range.end ≤ range.start → IsPruned self.old.cells self.old.cells →
             (result ≡ Ok tt) × (self.new ≡ self.old) }
     {
@@ -311,17 +308,17 @@ impl Line {
         self.prune_trailing_blanks(seqno)
     }
 
-    /// Inserts a cell at a column, and its half behind a wide one, which moves the cells from there
-    /// on. First the last cell before the margin is removed, where there is one, and then a line
-    /// that is too short is padded with default blanks. The line takes the number.
+    /// Inserts a cell at a column, and the half of a wide one after it, and moves the cells from
+    /// that column on. First the cell in the last column before the margin is removed, if any, and
+    /// a line that is too short is padded with default blanks. Raises the line's number to `seqno`.
     ///
     /// ```text
     /// |abcd|  X at 1, margin 4:  |aXbc|      X at 1, margin 3:  |aXbd|
     /// ```
-    /// - A margin is the column behind the last one that it holds, so it is at least 1.
-    /// - A wide cell that this cuts stays as it is.
-    /// - On an error, which also comes where the cell would end past the greatest `usize`, number,
-    ///   flags and cells are as before.
+    /// - The margin is the column after the last one that is edited, so it is at least 1.
+    /// - A wide cell that this cuts is kept.
+    /// - It also fails where the cell would end past the greatest `usize`. An error leaves number,
+    ///   flags and cells unchanged.
     pub fn insert_cell(
         &mut self,
         x: usize,
@@ -341,12 +338,12 @@ impl Line {
         Ok(())
     }
 
-    /// Removes the cell at a column, which moves those behind it, and appends a default blank. The
-    /// line takes the number where it changes.
+    /// Removes the cell at a column, moves those after it, and appends a default blank. Raises the
+    /// line's number to `seqno` where it removes a cell.
     ///
     /// - A wide cell before it that this cuts becomes a blank with its attributes.
-    /// - Past the end of the line nothing changes.
-    /// - A vector takes no memory. On an error number, flags and cells are as before.
+    /// - Past the end of the line it changes nothing.
+    /// - With a vector it never fails. An error leaves number, flags and cells unchanged.
     pub fn erase_cell(&mut self, x: usize, seqno: SequenceNo) -> Result<(), AllocError>
         ensures ok { OnOk result (IsEditedAt x self.old (erased x self.old.cells) seqno self.new) }
         ensures err { OnErr result (IsUnchanged self.old self.new) }
@@ -361,10 +358,10 @@ impl Line {
         Ok(())
     }
 
-    /// Removes the cell at a column, which moves those behind it. A wide cell before it that this
-    /// cuts becomes a blank with its attributes. Past the end of the line nothing changes.
-    /// The line takes the number where it changes. A vector takes no memory. On an error number,
-    /// flags and cells are as before.
+    /// Removes the cell at a column, and moves those after it. A wide cell before it that this cuts
+    /// becomes a blank with its attributes. Past the end of the line it changes nothing. Raises the
+    /// line's number to `seqno` where it removes a cell. With a vector it never fails. An error
+    /// leaves number, flags and cells unchanged.
     pub fn remove_cell(&mut self, x: usize, seqno: SequenceNo) -> Result<(), AllocError>
         ensures ok { OnOk result (IsEditedAt x self.old (removed x self.old.cells) seqno self.new) }
         ensures err { OnErr result (IsUnchanged self.old self.new) }
@@ -380,12 +377,12 @@ impl Line {
     }
 
     /// Removes the cell at a column as `remove_cell` does, and inserts a blank with these
-    /// attributes in the last column before the margin, where the line reaches up to it.
-    /// A margin is the column behind the last one that it holds, so it is at least 1.
+    /// attributes in the last column before the margin, where the line reaches up to it. The margin
+    /// is the column after the last one that is edited, so it is at least 1.
     /// ```text
     /// |abcd|  column 0, margin 3:  |bc d|
     /// ```
-    /// The line takes the number. On an error number, flags and cells are as before.
+    /// Raises the line's number to `seqno`. An error leaves number, flags and cells unchanged.
     pub fn erase_cell_with_margin(
         &mut self,
         x: usize,
@@ -407,9 +404,8 @@ impl Line {
         Ok(())
     }
 
-    /// Keeps the cells before a column, and the number. The rest is handed out as a line with the
-    /// same flags and with the number that is given.
-    /// On an error number, flags and cells are as before.
+    /// Keeps the cells before a column, and the line's number. Returns the rest as a line with the
+    /// same flags and the number `seqno`. An error leaves number, flags and cells unchanged.
     pub fn split_off(&mut self, i: usize, seqno: SequenceNo) -> Result<Line, AllocError>
         ensures kept { OnOk result (HasCells self.old (take i self.old.cells) self.new) }
         ensures rest { IfOk result (λ rest.
@@ -425,12 +421,12 @@ impl Line {
         Ok(rest)
     }
 
-    /// Appends the visible cells of another line, the half of each wide one behind it. The line
-    /// takes the number.
+    /// Appends the visible cells of another line, each wide one followed by its half. Raises the
+    /// line's number to `seqno`.
     ///
-    /// - A line that stores its cells as one text stays so, whichever form the other has.
-    /// - On an error, which also comes where a cell would end past the greatest `usize`, nothing
-    ///   changed.
+    /// - The form that stores the cells is kept, whichever form the other line has.
+    /// - It also fails where a cell would end past the greatest `usize`. An error leaves the line
+    ///   unchanged.
     pub fn append_line(&mut self, other: Line, seqno: SequenceNo) -> Result<(), AllocError>
         ensures ok { OnOk result (
             IsEdited self.old (self.old.cells ++ with_halves (visible other.cells)) seqno
@@ -444,8 +440,8 @@ impl Line {
         Ok(())
     }
 
-    /// A line of the visible cells that begin in these columns, the half of each wide one behind
-    /// it. It has this line's number, and no flags.
+    /// A line of the visible cells that begin in these columns, each wide one followed by its half.
+    /// It has this line's number, and no flags.
     pub fn columns_as_line(&self, range: Range<usize>) -> Result<Line, AllocError>
         ensures { IfOk result (λ line.
             line ≡ record {
@@ -459,9 +455,9 @@ impl Line {
         Ok(Line::of(self.alloc, storage, self.seqno))
     }
 
-    /// The stored cells, for writing: `line.cells_mut()?[i] = cell`. The line is a vector from then
-    /// on, and its number stays.
-    /// On an error, which a vector never gives, number, flags and cells are as before.
+    /// The stored cells, for writing: `line.cells_mut()?[i] = cell`. The line becomes a vector, and
+    /// keeps its number. With a vector it never fails. An error leaves number, flags and cells
+    /// unchanged.
     pub fn cells_mut(&mut self) -> Result<&mut VecStorage, AllocError>
         ensures* writes_back { sem 𝓛 (LendsLine self.entry result) }
         ensures value { IfOk result (λ cells. cells.now ≡ self.old.cells) }
@@ -471,7 +467,7 @@ impl Line {
         self.storage.coerce_vec()
     }
 
-    /// The stored cells, as `cells_mut` lends them, for whoever writes attributes alone.
+    /// The stored cells, as `cells_mut` lends them, for writing attributes only.
     pub fn cells_mut_for_attr_changes_only(&mut self) -> Result<&mut VecStorage, AllocError>
         ensures* writes_back { sem 𝓛 (LendsLine self.entry result) }
         ensures value { IfOk result (λ cells. cells.now ≡ self.old.cells) }

@@ -1,4 +1,4 @@
-//! The number of a line, and its flags: how large its characters are, and the direction of its
+//! The number of a line, and its flags: how large its cells are shown, and the direction of its
 //! text.
 ghost use Rattle.std.specs.Prelude.{◌≡◌, ◌<◌, ◌↔◌, ◌&&◌, ◌||◌, ◌⊎◌, IsTrue, false, max, not, true};
 ghost use Rattle.termwiz_line.specs.{goes_left, is_auto, is_right_to_left, with_direction};
@@ -11,29 +11,29 @@ use bitflags::Flags;
 use termwiz_cell::change::{SEQ_ZERO, SequenceNo};
 
 impl Line {
-    /// The line's number: the greatest that it has taken since it was made or blanked out.
+    /// The line's number, which edits raise.
     pub fn current_seqno(&self) -> SequenceNo
         ensures { result ≡ self.now.seqno }
     {
         self.seqno
     }
 
-    /// Whether the line has changed since this number. One with the number 0 always counts as
-    /// changed.
+    /// Whether the line has changed since this number: whether its own is greater. A line with the
+    /// number 0 always counts as changed.
     pub fn changed_since(&self, seqno: SequenceNo) -> bool
         ensures { IsTrue result ↔ ((self.now.seqno ≡ 0) ⊎ (seqno < self.now.seqno)) }
     {
         self.seqno == SEQ_ZERO || self.seqno > seqno
     }
 
-    /// Takes the number: the line keeps the greater of it and its own.
+    /// Raises the line's number to `seqno`, unless it is greater.
     pub fn update_last_change_seqno(&mut self, seqno: SequenceNo)
         ensures { self.new ≡ record self.old { seqno = max self.old.seqno seqno } }
     {
         self.seqno = self.seqno.max(seqno);
     }
 
-    /// Whether cells are shown in their own size, neither twice as wide nor as a half of two rows.
+    /// Whether cells are shown in single width and single height.
     pub fn is_single_width(&self) -> bool
         ensures { result
             ≡ not (self.now.flags.double_width || self.now.flags.double_height_top ||
@@ -44,7 +44,7 @@ impl Line {
             || self.bits.contains(LineBits::DOUBLE_HEIGHT_BOTTOM))
     }
 
-    /// Shows cells in their own size. The line takes the number.
+    /// Shows cells in single width and single height. Raises the line's number to `seqno`.
     pub fn set_single_width(&mut self, seqno: SequenceNo)
         ensures { self.new
             ≡ record self.old {
@@ -56,7 +56,7 @@ impl Line {
         self.seqno = self.seqno.max(seqno);
     }
 
-    /// Whether each cell is shown twice as wide, and one row high.
+    /// Whether cells are shown in double width and single height.
     pub fn is_double_width(&self) -> bool
         ensures { result
             ≡ (self.now.flags.double_width && not self.now.flags.double_height_top
@@ -67,7 +67,7 @@ impl Line {
             && !self.bits.contains(LineBits::DOUBLE_HEIGHT_BOTTOM)
     }
 
-    /// Shows each cell twice as wide, and one row high. The line takes the number.
+    /// Shows cells in double width and single height. Raises the line's number to `seqno`.
     pub fn set_double_width(&mut self, seqno: SequenceNo)
         ensures { self.new
             ≡ record self.old {
@@ -79,7 +79,7 @@ impl Line {
         self.seqno = self.seqno.max(seqno);
     }
 
-    /// Whether the line shows the upper half of cells that are twice as wide and two rows high.
+    /// Whether the line shows the upper half of cells of double width and double height.
     pub fn is_double_height_top(&self) -> bool
         ensures { result
             ≡ (self.now.flags.double_width && self.now.flags.double_height_top
@@ -90,8 +90,8 @@ impl Line {
             && !self.bits.contains(LineBits::DOUBLE_HEIGHT_BOTTOM)
     }
 
-    /// Shows the upper half of cells that are twice as wide and two rows high. The line takes the
-    /// number.
+    /// Shows the upper half of cells of double width and double height. Raises the line's number to
+    /// `seqno`.
     pub fn set_double_height_top(&mut self, seqno: SequenceNo)
         ensures { self.new
             ≡ record self.old {
@@ -103,7 +103,7 @@ impl Line {
         self.seqno = self.seqno.max(seqno);
     }
 
-    /// Whether the line shows the lower half of cells that are twice as wide and two rows high.
+    /// Whether the line shows the lower half of cells of double width and double height.
     pub fn is_double_height_bottom(&self) -> bool
         ensures { result
             ≡ (self.now.flags.double_width && not self.now.flags.double_height_top
@@ -114,8 +114,8 @@ impl Line {
             && self.bits.contains(LineBits::DOUBLE_HEIGHT_BOTTOM)
     }
 
-    /// Shows the lower half of cells that are twice as wide and two rows high. The line takes the
-    /// number.
+    /// Shows the lower half of cells of double width and double height. Raises the line's number to
+    /// `seqno`.
     pub fn set_double_height_bottom(&mut self, seqno: SequenceNo)
         ensures { self.new
             ≡ record self.old {
@@ -127,8 +127,8 @@ impl Line {
         self.seqno = self.seqno.max(seqno);
     }
 
-    /// Says whether whoever shows the line may lay out its text by the bidirectional algorithm. The
-    /// line takes the number.
+    /// Sets whether a viewer may lay out the text by the bidirectional algorithm. Raises the line's
+    /// number to `seqno`.
     pub fn set_bidi_enabled(&mut self, enabled: bool, seqno: SequenceNo)
         ensures { self.new
             ≡ record self.old {
@@ -140,8 +140,8 @@ impl Line {
         self.seqno = self.seqno.max(seqno);
     }
 
-    /// Sets the direction of the text, and whether the text itself is asked first. The line takes
-    /// the number.
+    /// Sets the direction of the text, and whether the text's own direction takes precedence.
+    /// Raises the line's number to `seqno`.
     pub fn set_direction(&mut self, direction: Direction, auto_detect: bool, seqno: SequenceNo)
         ensures { self.new
             ≡ record self.old {
@@ -155,8 +155,8 @@ impl Line {
         self.seqno = self.seqno.max(seqno);
     }
 
-    /// Sets both: whether the bidirectional algorithm may lay out the text, and what decides its
-    /// direction. The line takes the number.
+    /// Sets whether a viewer may lay out the text by the bidirectional algorithm, and what
+    /// determines its direction. Raises the line's number to `seqno`.
     pub fn set_bidi_info(
         &mut self,
         enabled: bool,
@@ -176,7 +176,8 @@ impl Line {
         self.seqno = self.seqno.max(seqno);
     }
 
-    /// Whether the bidirectional algorithm may lay out the text, and what decides its direction.
+    /// Whether a viewer may lay out the text by the bidirectional algorithm, and what determines
+    /// its direction.
     pub fn bidi_info(&self) -> (bool, ParagraphDirectionHint)
         ensures enabled { result.0 ≡ self.now.flags.bidi_enabled }
         ensures direction { is_right_to_left result.1 ≡ self.now.flags.right_to_left }

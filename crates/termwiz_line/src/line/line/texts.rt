@@ -20,8 +20,8 @@ use termwiz_storage::line::vecstorage::push_with_half;
 use termwiz_text::Graphemes;
 
 impl Line {
-    /// A line of the cells of a text's graphemes, the half of each wide one behind it, with these
-    /// attributes. They are measured by the given version of Unicode.
+    /// A line of the cells of a text's graphemes with these attributes, each wide cell followed by
+    /// its half. They are measured in the given version of Unicode.
     pub fn from_text<W: Widths>(
         alloc: Global,
         text: &str,
@@ -44,7 +44,7 @@ impl Line {
         Ok(Line::from_cells(cells, seqno))
     }
 
-    /// A line of a text in default attributes, measured without a version, with the number 0.
+    /// A line of a text with default attributes and the number 0, measured without a version.
     pub fn from_plain<W: Widths>(alloc: Global, text: &str, widths: &W) -> Result<Line, AllocError>
         ensures { IfOk result (λ line.
             line ≡ record {
@@ -65,8 +65,8 @@ impl Line {
         )
     }
 
-    /// A line of a text, as `from_text` makes it without a version, whose last visible cell is
-    /// marked as wrapped, with its half. An empty text makes a line without cells.
+    /// A line of a text, as `from_text` returns it without a version, whose last visible cell and
+    /// its half are marked as wrapped. An empty text gives a line without cells.
     pub fn from_text_with_wrapped_last_col<W: Widths>(
         alloc: Global,
         text: &str,
@@ -85,13 +85,13 @@ impl Line {
     }
 
     /// Sets the cells of a text's graphemes, as `set_cell` does, the first at a column and each of
-    /// the others behind the last one.
+    /// the others after the one before it.
     /// ```text
     /// |abcdef|  `xかy` from column 1:  |axかyf|      |ab|  `x` from column 4:  |ab  x|
     /// ```
-    /// The line takes the number with the first; an empty text changes nothing.
-    /// On an error, which also comes where a cell would end past the greatest `usize`, some first
-    /// ones are set.
+    /// Raises the line's number to `seqno`; an empty text changes nothing. It also fails where a
+    /// cell would end past the greatest `usize`. After an error some of the first cells are set, or
+    /// none.
     pub fn overlay_text_with_attribute<W: Widths>(
         &mut self,
         start: usize,
@@ -119,8 +119,8 @@ impl Line {
         Ok(())
     }
 
-    /// The texts of the visible cells, one after another. A line that stores them as one text lends
-    /// it, which takes no memory.
+    /// The texts of the visible cells, concatenated. Borrows from a line that stores its cells as
+    /// one text, and never fails there.
     pub fn as_str(&self) -> Result<CowStr<'_>, AllocError>
         ensures text { IfOk result (λ text.
             cow_str_bytes text ≡ texts_of (visible self.now.cells)) }
@@ -133,7 +133,7 @@ impl Line {
         Ok(CowStr::Owned(text))
     }
 
-    /// The texts of the visible cells that begin in these columns, one after another.
+    /// The texts of the visible cells that begin in these columns, concatenated.
     pub fn columns_as_str(&self, range: Range<usize>) -> Result<String, AllocError>
         ensures { IfOk result (λ text.
             string_bytes text ≡ texts_between range.start range.end (visible self.now.cells)) }
@@ -145,8 +145,8 @@ impl Line {
         Ok(text)
     }
 
-    /// The visible cell that begins at a column. There is none at the half of a wide cell, or
-    /// behind the line.
+    /// The visible cell that begins at a column. There is none at the second column of a wide cell,
+    /// or past the end of the line.
     pub fn get_cell(&self, cell_index: usize) -> Option<CellRef<'_>>
         ensures cell { option_map ref_cell result ≡ cell_at (visible self.now.cells) cell_index }
         ensures index { IfSome result (λ cell. ref_index cell ≡ cell_index) }
@@ -162,7 +162,8 @@ impl Line {
         self.storage.has_hyperlink()
     }
 
-    /// Whether the text of each visible cell is a single space, as of a line without cells.
+    /// Whether the text of each visible cell is a single space. A line without cells is white
+    /// space.
     pub fn is_whitespace(&self) -> bool
         ensures { IsTrue result ↔ All (λ p. p.cell.text ≡ space) (visible self.now.cells) }
     {
@@ -190,7 +191,7 @@ fn measured_cell<W: Widths>(
     Cell::new_grapheme(alloc, widths, grapheme, attrs, version)
 }
 
-// The column behind a cell.
+// The column after a cell.
 fn end_of(column: usize, cell: &Cell) -> Result<usize, AllocError>
     ensures { IfOk result (λ end. end ≡ column + columns cell.now) }
 {
@@ -217,7 +218,7 @@ fn push_text<W: Widths>(
     Ok(())
 }
 
-// The texts of cells, one after another.
+// The texts of cells, concatenated.
 fn joined_texts(alloc: Global, cells: VisibleCellIter<'_>) -> Result<String, AllocError>
     ensures { IfOk result (λ text. string_bytes text ≡ texts_of (cells_left cells.entry)) }
 {
@@ -228,7 +229,7 @@ fn joined_texts(alloc: Global, cells: VisibleCellIter<'_>) -> Result<String, All
     Ok(text)
 }
 
-// Pushes the text of a cell that begins in the columns from one up to another.
+// Pushes the text of a cell, if it begins in the columns `from..to`.
 fn push_within(
     text: &mut String,
     cell: CellRef<'_>,

@@ -1,4 +1,4 @@
-//! The mark of a line whose text goes on in the next one.
+//! The wrapped mark: the next line continues the text.
 ghost use Rattle.std.specs.Prelude.{◌≡◌, ◌<◌, IsOk, OnErr, OnOk, length, true};
 ghost use Rattle.termwiz_line.specs.{IsEdited, IsUnchanged, last_is_wrapped, set_last_wrapped};
 ghost use Rattle.termwiz_line.specs.{visible};
@@ -9,9 +9,9 @@ use std::alloc::AllocError;
 use termwiz_cell::change::SequenceNo;
 
 impl Line {
-    /// Marks the last visible cell, and the stored cell that it hides, as wrapped, or not. An empty
-    /// line first gets a default blank.
-    /// The line takes the number. On an error number, flags and cells are as before.
+    /// Sets whether the last visible cell, and the stored cell that it hides, are marked as
+    /// wrapped. To an empty line a default blank is first appended. Raises the line's number to
+    /// `seqno`. An error leaves number, flags and cells unchanged.
     pub fn set_last_cell_was_wrapped(
         &mut self,
         wrapped: bool,
@@ -30,7 +30,7 @@ impl Line {
         Ok(())
     }
 
-    /// Whether the last visible cell is marked as wrapped: then the text goes on in the next line.
+    /// Whether the last visible cell is marked as wrapped: the next line continues the text.
     pub fn last_cell_was_wrapped(&self) -> bool
         ensures { result ≡ last_is_wrapped (visible self.now.cells) }
     {

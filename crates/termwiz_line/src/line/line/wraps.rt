@@ -1,4 +1,4 @@
-//! A line that is cut into lines of a width.
+//! Wrapping a line into lines of a width.
 ghost use Rattle.std.specs.Prelude.{◌≡◌, ◌+◌, ◌<◌, ◌≤◌, ◌^◌, ◌∷◌, ◌++◌, ◌↔◌, IfOk, IsTrue, length};
 ghost use Rattle.termwiz_line.specs.{AreLinesOf, FitsWidth, IsOfCell, IsSpace, IsTrimmed, OnOk};
 ghost use Rattle.termwiz_line.specs.{IsWrapped, cells_left, indexed_cell, ref_cell, take, true};
@@ -12,22 +12,22 @@ use termwiz_storage::line::cellref::{CellRef, VisibleCellIter};
 use termwiz_storage::line::vecstorage::push_with_half;
 
 impl Line {
-    /// Cuts the line into lines of at most this many columns, which have the number and no flags.
-    /// The cells behind the last one that isn't a space are dropped, and each line but the last is
-    /// marked as wrapped.
+    /// Splits the line into lines of at most this many columns, which have the number `seqno` and
+    /// no flags. The cells after the last one that isn't a space are dropped, and each line but the
+    /// last is marked as wrapped.
     ///
     /// ```text
     /// |aかb |  at 2 columns:  |a|  |か|  |b|
     /// ```
-    /// - A line takes as many cells as fit, and one at least, so a wide cell has a line of 2
-    ///   columns where the width is less; the half of a wide cell follows it.
-    /// - A line of spaces alone, or of no cells, comes back as it is.
-    /// - On an error the line is dropped.
+    /// - Each line has as many cells as fit, and at least one, so a wide cell has a line of 2
+    ///   columns where the width is less. The half of a wide cell follows it.
+    /// - A line of spaces alone, or of no cells, is returned unchanged.
+    /// - An error drops the line.
     pub fn wrap(self, width: usize, seqno: SequenceNo) -> Result<Vec<Line>, AllocError>
         ensures ok { IfOk result (λ lines. IsWrapped width seqno self lines.items) }
         ensures fits { 2 ≤ width → IfOk result (λ lines. FitsWidth width self lines.items) }
     {
-        // A walk meets no more cells than there are.
+        // There are no more visible cells than stored ones.
         let _len = self.len();
         let kept = text_count(self.visible_cells());
         if kept > 0 {

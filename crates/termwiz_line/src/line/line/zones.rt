@@ -13,17 +13,17 @@ use termwiz_storage::line::storage::CellStorage;
 /// A run of visible cells of one semantic type.
 #[derive(Clone, Debug, PartialEq, Eq, Drop)]
 pub struct ZoneRange {
-    /// What the run is to its reader.
+    /// The type of the cells.
     pub semantic_type: SemanticType,
-    /// From the column of the first cell to that of the last, which is in the zone too: the zone of
-    /// one cell is an empty range.
+    /// From the column of the first cell to the column of the last, which is in the zone too: the
+    /// range of a zone of one cell is empty.
     pub range: Range<usize>,
 }
 
 impl Line {
     /// The runs of visible cells of one semantic type, in order, up to the last cell that isn't a
-    /// default blank, or all where there is no such cell.
-    /// They are kept until the next edit of cells. The line is as before, also on an error.
+    /// default blank, or all where there is no such cell. They are cached until the next edit of
+    /// cells. The line doesn't change, even on an error.
     pub fn semantic_zone_ranges(&mut self) -> Result<&[ZoneRange], AllocError>
         ensures* unchanged { sem 𝓛 (KeepsLine self.entry) }
         ensures value { IfOk result (λ zones. AreZones (visible self.old.cells) zones.now) }
@@ -35,7 +35,7 @@ impl Line {
     }
 }
 
-/// Drops zones that are kept. Mostly there are none, which is seen at once.
+/// Drops cached zones. Usually there are none, so that test comes first.
 #[inline(always)]
 pub(super) fn drop_zones(zones: &mut Vec<ZoneRange>)
     ensures { zones.new.items ≡ [] }
@@ -77,7 +77,7 @@ fn kept_count(cells: VisibleCellIter<'_>) -> usize
     kept
 }
 
-// The zones of a cell and of those after it, up to a count.
+// The zones of a cell and of at most `count` cells after it.
 fn zones_from(
     alloc: Global,
     first: CellRef<'_>,
@@ -112,7 +112,7 @@ fn has_type(cell: CellRef<'_>, semantic_type: SemanticType) -> bool
     cell.attrs().semantic_type() == semantic_type
 }
 
-// The zone of a cell alone.
+// The zone of a single cell.
 fn zone_at(cell: CellRef<'_>) -> ZoneRange
     ensures { result ≡ zone_of (indexed_cell cell.entry ∷ []) }
 {

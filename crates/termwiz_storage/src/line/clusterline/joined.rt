@@ -1,4 +1,4 @@
-//! One text behind another.
+//! Appending to the cells of a text.
 ghost use Rattle.std.specs.Prelude.{◌≡◌, ◌++◌, IfOk, OnErr, OnOk};
 ghost use Rattle.termwiz_storage.specs.{IsOfCell, ref_cell, visible, with_half, with_halves};
 
@@ -9,7 +9,7 @@ use crate::line::vecstorage::VecStorage;
 use std::alloc::AllocError;
 
 impl ClusteredLine {
-    /// The visible cells of a vector, the half of each wide one behind it.
+    /// The visible cells of a vector, each wide one followed by its half.
     pub(crate) fn of_visible(storage: &VecStorage) -> Result<ClusteredLine, AllocError>
         ensures { IfOk result (λ line. line ≡ with_halves (visible storage.now)) }
     {
@@ -20,7 +20,7 @@ impl ClusteredLine {
         Ok(line)
     }
 
-    // Appends a visible cell, and the half of a wide one. On an error nothing changed.
+    // Appends a visible cell, and the half of a wide one. An error leaves the line unchanged.
     fn append_visible_cell(&mut self, cell: CellRef<'_>) -> Result<(), AllocError>
         requires { IsOfCell cell }
         ensures ok { OnOk result (self.new ≡ self.old ++ with_half (ref_cell cell.entry)) }
@@ -30,8 +30,7 @@ impl ClusteredLine {
         Ok(())
     }
 
-    /// Appends the cells of another text. It takes memory only where the text or its lists of runs
-    /// grow. On an error nothing changed.
+    /// Appends the cells of another text. An error leaves the line unchanged.
     pub(crate) fn append_text(&mut self, more: ClusteredLine) -> Result<(), AllocError>
         ensures ok { OnOk result (self.new ≡ self.old ++ more) }
         ensures err { OnErr result (self.new ≡ self.old) }
@@ -39,7 +38,7 @@ impl ClusteredLine {
         if more.len > usize::MAX - self.len {
             return Err(AllocError);
         }
-        // What can fail comes first, so that an error leaves the line as it was.
+        // What can fail comes first, so that an error leaves the line unchanged.
         self.text.reserve(more.text.len())?;
         self.shapes.reserve(more.shapes.len())?;
         self.attrs.reserve(more.attrs.len())?;

@@ -1,4 +1,4 @@
-//! Lists of runs: more cells, how many there are, a look at one, and a walk over all.
+//! Lists of runs: append cells, count them, index one, and iterate over all.
 ghost use Rattle.std.specs.Prelude.{◌≡◌, ◌<◌, ◌≤◌, ◌+◌, ◌^◌, ◌++◌, ◌∷◌, [], vec_capacity, vec_len};
 ghost use Rattle.termwiz_storage.specs.{AddsAttrs, IfOk, IsTrue, MatchOption, OnErr, OnOk, false};
 ghost use Rattle.termwiz_storage.specs.{attrs_of, is_some, length, list_any, map_last, marked};
@@ -25,7 +25,7 @@ impl Clone for AttrsRun {
     }
 }
 
-/// So many more cells of this shape, where there is room for one more run.
+/// Appends `cells` cells of this shape. The list has room for one more run.
 pub(super) fn push_shape(runs: &mut Vec<ShapeRun>, shape: Shape, cells: u16)
     requires { vec_len runs.old < vec_capacity runs.old }
     ensures shapes { shapes_of runs.new.items ≡ shapes_of runs.old.items ++ replicate cells shape }
@@ -64,7 +64,7 @@ fn run_of(shape: Shape, cells: u16) -> ShapeRun
     }
 }
 
-/// Appends runs, for which there is room.
+/// Appends runs. The list has room for them.
 pub(super) fn append_shapes(runs: &mut Vec<ShapeRun>, more: &[ShapeRun])
     requires { vec_len runs.old + length more.now ≤ vec_capacity runs.old }
     ensures { shapes_of runs.new.items ≡ shapes_of runs.old.items ++ shapes_of more.now }
@@ -85,8 +85,8 @@ fn shape_in(run: &ShapeRun) -> Shape
     }
 }
 
-// Counts so many more cells into the last run, where it has these attributes and its count has room
-// for them.
+// Adds `cells` to the count of the last run, if that has these attributes and the sum fits, and
+// returns whether it did.
 #[inline(always)]
 fn lengthen_last(runs: &mut Vec<AttrsRun>, attrs: &CellAttributes, cells: u16) -> bool
     ensures yes { IsTrue result → AddsAttrs runs.old.items cells attrs.now runs.new.items }
@@ -102,7 +102,7 @@ fn lengthen_last(runs: &mut Vec<AttrsRun>, attrs: &CellAttributes, cells: u16) -
     false
 }
 
-/// Appends runs, for which there is room.
+/// Appends runs. The list has room for them.
 pub(super) fn append_attrs(runs: &mut Vec<AttrsRun>, more: Vec<AttrsRun>)
     requires { vec_len runs.old + vec_len more ≤ vec_capacity runs.old }
     ensures { attrs_of runs.new.items ≡ attrs_of runs.old.items ++ attrs_of more.items }
@@ -114,7 +114,7 @@ pub(super) fn append_attrs(runs: &mut Vec<AttrsRun>, more: Vec<AttrsRun>)
     }
 }
 
-/// So many more cells with these attributes, one at least. On an error nothing changed.
+/// Appends `cells` cells with these attributes, at least one. An error leaves the list unchanged.
 #[inline(always)]
 pub(super) fn push_attrs(
     runs: &mut Vec<AttrsRun>,
@@ -133,7 +133,7 @@ pub(super) fn push_attrs(
     Ok(())
 }
 
-// A run of so many cells, if any, for which there is room.
+// Appends a run of `cells` cells, unless that is 0. The list has room for it.
 fn push_run(runs: &mut Vec<AttrsRun>, attrs: CellAttributes, cells: u16)
     requires { vec_len runs.old < vec_capacity runs.old }
     ensures attrs { attrs_of runs.new.items ≡ attrs_of runs.old.items ++ replicate cells attrs }
@@ -145,8 +145,8 @@ fn push_run(runs: &mut Vec<AttrsRun>, attrs: CellAttributes, cells: u16)
     }
 }
 
-/// Marks the last cell as wrapped, or not, in a run of its own, for which there is room. On an
-/// error nothing changed.
+/// Sets the wrapped mark of the last cell, in a run of its own. The list has room for it. An error
+/// leaves the list unchanged.
 pub(super) fn wrap_last(runs: &mut Vec<AttrsRun>, wrapped: bool) -> Result<(), AllocError>
     requires { vec_len runs.old < vec_capacity runs.old }
     ensures ok { OnOk result (
@@ -165,7 +165,7 @@ pub(super) fn wrap_last(runs: &mut Vec<AttrsRun>, wrapped: bool) -> Result<(), A
     Ok(())
 }
 
-// A copy that is marked as wrapped, or not.
+// A copy with this wrapped mark.
 fn marked_copy(attrs: &CellAttributes, wrapped: bool) -> Result<CellAttributes, AllocError>
     ensures { IfOk result (λ copy. copy ≡ marked wrapped attrs.now) }
 {
@@ -174,7 +174,7 @@ fn marked_copy(attrs: &CellAttributes, wrapped: bool) -> Result<CellAttributes, 
     Ok(copy)
 }
 
-/// How many cells there are.
+/// The number of cells.
 pub(super) fn cell_count(runs: &[ShapeRun]) -> usize
     requires { length (shapes_of runs.now) < 2 ^ 64 }
     ensures { result ≡ length (shapes_of runs.now) }
@@ -186,7 +186,7 @@ pub(super) fn cell_count(runs: &[ShapeRun]) -> usize
     count
 }
 
-/// The attributes of the cell before which there are so many, where there is one.
+/// The attributes of the cell at index `i`, if any.
 pub(super) fn attrs_at(runs: &[AttrsRun], i: usize) -> Option<&CellAttributes>
     ensures { option_copied result ≡ slice_get (attrs_of runs.now) i }
 {
@@ -213,7 +213,7 @@ pub(super) fn has_link(runs: &[AttrsRun]) -> bool
     false
 }
 
-/// The shapes of the cells that a walk over runs has left.
+/// An iterator over the shapes of the cells of runs.
 #[derive(Drop)]
 pub(super) struct ShapeIter<'a> {
     run: ShapeRun,
@@ -262,7 +262,7 @@ impl<'a> ShapeIter<'a> {
     }
 }
 
-/// The attributes of the cells that a walk over runs has left.
+/// An iterator over the attributes of the cells of runs.
 #[derive(Drop)]
 pub(super) struct AttrsIter<'a> {
     attrs: Option<&'a CellAttributes>,

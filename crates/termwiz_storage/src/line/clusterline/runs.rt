@@ -1,10 +1,10 @@
-//! Runs of cells that are alike: a value, and how many cells in a row have it.
+//! Runs: a value, and how many adjacent cells have it.
 ghost use Rattle.std.specs.Prelude.{◌<◌};
 
 use termwiz_cell::cell::CellAttributes;
 
-/// How a cell stands in a line's text: it takes one character or so many bytes, and one column or
-/// two.
+/// What a cell takes of a line's text, one character or `bytes` bytes, and whether it takes two
+/// columns.
 #[derive(Clone, Copy)]
 pub(super) struct Shape {
     pub(super) bytes: usize,
@@ -12,7 +12,7 @@ pub(super) struct Shape {
     pub(super) wide: bool,
 }
 
-/// Cells in a row of one shape.
+/// Adjacent cells of one shape.
 #[derive(Clone, Copy, Debug)]
 pub(super) struct ShapeRun {
     pub(super) bytes: usize,
@@ -21,7 +21,7 @@ pub(super) struct ShapeRun {
     pub(super) cells: u16,
 }
 
-/// Cells in a row with equal attributes.
+/// Adjacent cells with equal attributes.
 #[derive(Drop, Debug)]
 pub(super) struct AttrsRun {
     pub(super) attrs: CellAttributes,

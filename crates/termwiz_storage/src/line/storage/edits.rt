@@ -21,8 +21,8 @@ impl CellStorage {
         Ok(CellStorage::V(storage))
     }
 
-    /// Makes the list this many blanks with these attributes, in a vector. On an error the cells
-    /// are as before.
+    /// Replaces the list by this many blanks with these attributes, in a vector. An error leaves
+    /// the cells unchanged.
     pub fn clear_to(
         &mut self,
         alloc: Global,
@@ -42,10 +42,9 @@ impl CellStorage {
         Ok(())
     }
 
-    /// Sets the cell of a character of printable ASCII in each of the columns from `from` up to
-    /// `to`, which is not among them, in order, with attributes that take no memory. A text becomes
-    /// a vector, also where there is no such column.
-    /// On an error the cells are as before.
+    /// Sets the cell of a character of printable ASCII in each of the columns `from..to`, in order,
+    /// with attributes that take no memory. A text becomes a vector, even where there is no such
+    /// column. An error leaves the cells unchanged.
     pub fn set_copies(
         &mut self,
         from: usize,
@@ -66,9 +65,9 @@ impl CellStorage {
         Ok(())
     }
 
-    /// Removes the stored cell at a column, where there is one. A wide cell stored right before it
-    /// becomes a blank with its attributes; the half of a wide cell that is removed stays.
-    /// With a vector it never fails. On an error the cells are as before.
+    /// Removes the stored cell at a column, if any. A wide cell stored directly before it becomes a
+    /// blank with its attributes. The half of a removed wide cell is not removed. With a vector it
+    /// never fails. An error leaves the cells unchanged.
     pub fn remove_cell(&mut self, x: usize) -> Result<(), AllocError>
         ensures ok { OnOk result (cells_in self.new ≡ removed x (cells_in self.old)) }
         ensures err { OnErr result (cells_in self.new ≡ cells_in self.old) }
@@ -80,9 +79,8 @@ impl CellStorage {
         Ok(())
     }
 
-    /// Removes the cell at a column as `remove_cell` does, where there is one, and then appends a
-    /// default blank.
-    /// With a vector it never fails. On an error the cells are as before.
+    /// Removes the cell at a column, if any, as `remove_cell` does, and then appends a default
+    /// blank. With a vector it never fails. An error leaves the cells unchanged.
     pub fn erase_cell(&mut self, x: usize) -> Result<(), AllocError>
         ensures ok { OnOk result (cells_in self.new ≡ erased x (cells_in self.old)) }
         ensures err { OnErr result (cells_in self.new ≡ cells_in self.old) }
@@ -94,10 +92,9 @@ impl CellStorage {
         Ok(())
     }
 
-    /// Removes the cell at a column as `remove_cell` does, where there is one, and then inserts a
-    /// blank with these attributes in the last column before a margin of at least 1, where the list
-    /// reaches up to that column.
-    /// On an error the cells are as before.
+    /// Removes the cell at a column, if any, as `remove_cell` does, and then inserts a blank with
+    /// these attributes in the column before `margin`, which is at least 1, where the list reaches
+    /// up to that column. An error leaves the cells unchanged.
     pub fn erase_cell_with_margin(
         &mut self,
         x: usize,
@@ -115,13 +112,13 @@ impl CellStorage {
         Ok(())
     }
 
-    /// Inserts a cell at a column, and behind a wide one its half. First the stored cell in the
-    /// last column before a margin of at least 1 is removed, where there is one, and the list is
-    /// padded with default blanks up to the column.
+    /// Inserts a cell at a column, and the half of a wide one after it. First the stored cell in
+    /// the column before `margin`, which is at least 1, is removed, if any, and the list is padded
+    /// with default blanks up to the column.
     ///
-    /// - A wide cell that is then stored right before the column stays, so the inserted cell may be
-    ///   hidden.
-    /// - On an error, which a cell past the greatest column gives too, the cells are as before.
+    /// - A wide cell that is then stored directly before the column is kept, so the inserted cell
+    ///   may be hidden.
+    /// - It also fails at a column past the greatest `usize`. An error leaves the cells unchanged.
     pub fn insert_cell(&mut self, x: usize, cell: Cell, margin: usize) -> Result<(), AllocError>
         requires { 1 ≤ margin }
         ensures ok { OnOk result (cells_in self.new ≡ inserted x cell margin (cells_in self.old)) }
@@ -133,8 +130,8 @@ impl CellStorage {
         Ok(())
     }
 
-    /// Keeps the stored cells before a column, and hands out the rest in a vector. On an error the
-    /// cells are as before.
+    /// Keeps the stored cells before a column, and returns the rest in a vector. An error leaves
+    /// the cells unchanged.
     pub fn split_off(&mut self, at: usize) -> Result<CellStorage, AllocError>
         ensures kept { OnOk result (cells_in self.new ≡ take at (cells_in self.old)) }
         ensures rest { IfOk result (λ rest. cells_in rest ≡ drop at (cells_in self.old)) }
@@ -147,8 +144,8 @@ impl CellStorage {
         Ok(CellStorage::V(rest))
     }
 
-    /// Appends the visible cells of another list, the half of each wide one behind it. A text stays
-    /// one, whichever form the other list has. On an error nothing changed.
+    /// Appends the visible cells of another list, each wide one followed by its half. The form is
+    /// kept, whichever form the other list has. An error leaves the storage unchanged.
     pub fn append_visible(&mut self, other: CellStorage) -> Result<(), AllocError>
         ensures ok { OnOk result (
             cells_in self.new ≡ cells_in self.old ++ with_halves (visible (cells_in other))) }
@@ -162,7 +159,7 @@ impl CellStorage {
         Ok(())
     }
 
-    // The cells, each with a place of its own.
+    // The cells, stored one by one.
     fn into_vector(self) -> Result<VecStorage, AllocError>
         ensures { IfOk result (λ storage. storage ≡ cells_in self) }
     {
@@ -172,22 +169,22 @@ impl CellStorage {
         }
     }
 
-    // The visible cells in one text, the half of each wide one behind it.
+    // The visible cells in one text, each wide one followed by its half.
     fn into_text(self) -> Result<ClusteredLine, AllocError>
         ensures { IfOk result (λ line. line ≡ with_halves (visible (cells_in self))) }
     {
         match self {
             CellStorage::V(storage) => ClusteredLine::of_visible(&storage),
             CellStorage::Cluster(line) => {
-                // The cells of a text are its visible ones with their halves, as `len` promises.
+                // `len` promises that the cells of a text are its visible ones with their halves.
                 let _len = line.len();
                 Ok(line)
             }
         }
     }
 
-    /// A vector of the visible cells that begin in the columns from `from` up to `to`, which is not
-    /// among them, the half of each wide one behind it.
+    /// A vector of the visible cells that begin in the columns `from..to`, each wide one followed
+    /// by its half.
     pub fn columns(&self, from: usize, to: usize) -> Result<CellStorage, AllocError>
         ensures cells { IfOk result (λ cells.
             cells_in cells ≡ columns_between from to (cells_in self.now)) }

@@ -25,8 +25,8 @@ impl VecStorage {
         Ok(VecStorage { cells, used, owns })
     }
 
-    /// Removes the stored cell at a column, where there is one. A wide cell stored right before it
-    /// becomes a blank with its attributes.
+    /// Removes the stored cell at a column, if any. A wide cell stored directly before it becomes a
+    /// blank with its attributes.
     pub(crate) fn remove_cell(&mut self, x: usize)
         ensures { self.new ≡ removed x self.old }
     {
@@ -36,8 +36,8 @@ impl VecStorage {
         }
     }
 
-    /// Removes the cell at a column as `remove_cell` does, where there is one, and then appends a
-    /// default blank.
+    /// Removes the cell at a column, if any, as `remove_cell` does, and then appends a default
+    /// blank.
     pub(crate) fn erase_cell(&mut self, x: usize)
         ensures { self.new ≡ erased x self.old }
     {
@@ -47,10 +47,9 @@ impl VecStorage {
         }
     }
 
-    /// Removes the cell at a column as `remove_cell` does, where there is one, and then inserts a
-    /// blank with these attributes in the last column before a margin, where the list reaches up to
-    /// that column.
-    /// On an error nothing changed.
+    /// Removes the cell at a column, if any, as `remove_cell` does, and then inserts a blank with
+    /// these attributes in the column before `margin`, where the list reaches up to that column. An
+    /// error leaves the list unchanged.
     pub(crate) fn erase_cell_with_margin(
         &mut self,
         x: usize,
@@ -76,10 +75,10 @@ impl VecStorage {
         Ok(())
     }
 
-    /// Inserts a cell at a column, and behind a wide one its half. First the stored cell in the
-    /// last column before a margin is removed, where there is one, and the list is padded with
-    /// default blanks up to the column.
-    /// On an error, which a cell past the greatest column gives too, nothing changed.
+    /// Inserts a cell at a column, and the half of a wide one after it. First the stored cell in
+    /// the column before `margin` is removed, if any, and the list is padded with default blanks up
+    /// to the column. It also fails at a column past the greatest `usize`. An error leaves the list
+    /// unchanged.
     pub(crate) fn insert_cell(
         &mut self,
         x: usize,
@@ -97,9 +96,8 @@ impl VecStorage {
         Ok(())
     }
 
-    /// Sets the cell of a character of printable ASCII in each of the columns from `from` up to
-    /// `to`, which is not among them, in order, with attributes that take no memory. It takes
-    /// memory only where the list grows. On an error nothing changed.
+    /// Sets the cell of a character of printable ASCII in each of the columns `from..to`, in order,
+    /// with attributes that take no memory. An error leaves the list unchanged.
     pub(crate) fn set_copies(
         &mut self,
         from: usize,
@@ -120,7 +118,7 @@ impl VecStorage {
         Ok(())
     }
 
-    // The cell of the character comes to so many columns, from one on.
+    // Stores the cell of the character in `count` columns from `from` on.
     fn put_copies(&mut self, from: usize, count: usize, byte: u8, attrs: &CellAttributes)
         requires plain { is_plain byte ≡ true }
         requires unboxed { needs_box attrs.now ≡ false }
@@ -131,7 +129,8 @@ impl VecStorage {
         put_copies(&mut self.cells, from, count, byte, attrs, self.owns);
     }
 
-    /// Keeps the stored cells before a column, and hands out the rest. On an error nothing changed.
+    /// Keeps the stored cells before a column, and returns the rest. An error leaves the list
+    /// unchanged.
     pub(crate) fn split_off(&mut self, at: usize) -> Result<VecStorage, AllocError>
         ensures kept { OnOk result (self.new ≡ take at self.old) }
         ensures rest { IfOk result (λ rest. rest ≡ drop at self.old) }
@@ -147,8 +146,8 @@ impl VecStorage {
         })
     }
 
-    /// Appends the visible cells of another list, the half of each wide one behind it. On an error
-    /// nothing changed.
+    /// Appends the visible cells of another list, each wide one followed by its half. An error
+    /// leaves the list unchanged.
     pub(crate) fn append_visible(&mut self, other: &VecStorage) -> Result<(), AllocError>
         ensures ok { OnOk result (self.new ≡ self.old ++ with_halves (visible other.now)) }
         ensures err { OnErr result (self.new ≡ self.old) }
@@ -160,8 +159,7 @@ impl VecStorage {
         Ok(())
     }
 
-    /// The visible cells that begin in the columns from `from` up to `to`, which is not among them,
-    /// the half of each wide one behind it.
+    /// The visible cells that begin in the columns `from..to`, each wide one followed by its half.
     pub(crate) fn columns(&self, from: usize, to: usize) -> Result<VecStorage, AllocError>
         ensures { IfOk result (λ cells. cells ≡ columns_between from to self.now) }
     {
@@ -171,7 +169,7 @@ impl VecStorage {
     }
 }
 
-// Removes the cell at a column, which leaves room for another.
+// Removes the cell at a column, so the list has room for another.
 fn take_out(cells: &mut Vec<Cell>, x: usize)
     requires { x < vec_len cells.old }
     ensures items { cells.new.items ≡ remove cells.old.items x }
@@ -191,7 +189,7 @@ fn shift_out(cells: &mut Vec<Cell>, x: usize)
     cells.push(Cell::blank()).unwrap();
 }
 
-// Removes the cell at a column, and inserts one in the last column before a margin, where the list
+// Removes the cell at a column, and inserts one in the column before `margin`, where the list
 // reaches up to it.
 fn shift_to_margin(cells: &mut Vec<Cell>, x: usize, margin: usize, cell: Cell)
     requires place { x < vec_len cells.old }
@@ -202,7 +200,7 @@ fn shift_to_margin(cells: &mut Vec<Cell>, x: usize, margin: usize, cell: Cell)
     insert_at_margin(cells, margin, cell).unwrap();
 }
 
-// Inserts a cell in the last column before a margin, where the list reaches up to it.
+// Inserts a cell in the column before `margin`, where the list reaches up to it.
 fn insert_at_margin(cells: &mut Vec<Cell>, margin: usize, cell: Cell) -> Result<(), AllocError>
     requires { 1 ≤ margin }
     ensures ok { OnOk result (cells.new.items ≡ inserted_at_margin margin cell cells.old.items) }
@@ -215,7 +213,7 @@ fn insert_at_margin(cells: &mut Vec<Cell>, margin: usize, cell: Cell) -> Result<
     Ok(())
 }
 
-// Removes the cell in the last column before a margin, where there is one.
+// Removes the cell in the column before `margin`, if any.
 fn remove_at_margin(cells: &mut Vec<Cell>, margin: usize)
     requires { 1 ≤ margin }
     ensures items { cells.new.items ≡ removed_at_margin margin cells.old.items }
@@ -226,7 +224,7 @@ fn remove_at_margin(cells: &mut Vec<Cell>, margin: usize)
     }
 }
 
-// How many cells are left of so many once the one before a margin is removed.
+// How many of `len` cells are left once the one in the column before `margin` is removed.
 fn len_before_margin(len: usize, margin: usize) -> usize
     requires { 1 ≤ margin }
     ensures { result ≡ (if nat_le margin len then len - 1 else len) }
@@ -237,8 +235,8 @@ fn len_before_margin(len: usize, margin: usize) -> usize
     len
 }
 
-// Removes the cell before a margin, and pads up to a column, with room for so many cells more. On
-// an error nothing changed.
+// Removes the cell in the column before `margin`, and pads up to column `x`, with room for
+// `columns` more cells. An error leaves the list unchanged.
 fn make_gap(
     cells: &mut Vec<Cell>,
     x: usize,
@@ -259,7 +257,7 @@ fn make_gap(
     Ok(())
 }
 
-// Inserts a cell, for which there is room.
+// Inserts a cell. The list has room for it.
 fn insert_in_gap(cells: &mut Vec<Cell>, x: usize, cell: Cell)
     requires place { x ≤ vec_len cells.old }
     requires room { vec_len cells.old < vec_capacity cells.old }
@@ -270,7 +268,8 @@ fn insert_in_gap(cells: &mut Vec<Cell>, x: usize, cell: Cell)
     cells.insert(x, cell).unwrap();
 }
 
-// Inserts a cell, and its half behind a wide one, once the cell before a margin is removed.
+// Inserts a cell, and the half of a wide one after it, once the cell in the column before `margin`
+// is removed.
 fn insert_moving(
     cells: &mut Vec<Cell>,
     x: usize,
@@ -297,7 +296,7 @@ fn insert_moving(
     Ok(())
 }
 
-// Inserts a cell, and removes the one in the last column before a margin, in one pass.
+// Inserts a cell, and removes the one in the column before `margin`, in one pass.
 fn insert_before_margin(cells: &mut Vec<Cell>, x: usize, cell: Cell, margin: usize)
     requires before { x < margin }
     requires within { margin ≤ vec_len cells.old }
@@ -306,7 +305,7 @@ fn insert_before_margin(cells: &mut Vec<Cell>, x: usize, cell: Cell, margin: usi
     push_along(&mut cells[x..margin], cell);
 }
 
-// Each cell makes room for the one before it, and the last one goes.
+// Moves each cell by one, stores the new one at the front, and drops the last one.
 fn push_along(cells: &mut [Cell], cell: Cell)
     ensures { cells.new ≡ take (length cells.old) (cell ∷ cells.old) }
 {
@@ -316,8 +315,8 @@ fn push_along(cells: &mut [Cell], cell: Cell)
     }
 }
 
-/// Pushes a cell, and behind a wide one its half. On an error the wide cell may have been pushed
-/// without its half.
+/// Pushes a cell, and the half of a wide one after it. An error may leave a wide cell without its
+/// half.
 #[doc(hidden)]
 pub fn push_with_half(out: &mut Vec<Cell>, cell: Cell) -> Result<(), AllocError>
     ensures { OnOk result (out.new.items ≡ out.old.items ++ with_half cell) }
@@ -339,7 +338,7 @@ fn push_wide(out: &mut Vec<Cell>, cell: Cell) -> Result<(), AllocError>
     Ok(())
 }
 
-// Whether a cell at this column is visible, and is one of those from a column on.
+// Whether a cell at column `i` is visible, and not before column `from`.
 fn is_shown(i: usize, from: usize, hidden: bool) -> bool
     ensures { result ≡ (nat_le from i && not hidden) }
 {
@@ -353,7 +352,7 @@ pub(crate) fn hides_next(cell: &Cell, hidden: bool) -> bool
     cell.width() > 1 && !hidden
 }
 
-// Pushes a copy of a cell that is shown, and of its half.
+// Pushes a copy of a cell that is shown, and the half of a wide one.
 fn push_where(out: &mut Vec<Cell>, cell: &Cell, shown: bool) -> Result<(), AllocError>
     ensures { OnOk result (
         out.new.items ≡ out.old.items ++ (if shown then with_half cell.now else [])) }
@@ -364,8 +363,7 @@ fn push_where(out: &mut Vec<Cell>, cell: &Cell, shown: bool) -> Result<(), Alloc
     Ok(())
 }
 
-// Pushes copies of the visible cells that begin in the columns from one up to another, with their
-// halves.
+// Pushes copies of the visible cells that begin in the columns `from..to`, with their halves.
 fn push_columns(
     out: &mut Vec<Cell>,
     cells: &[Cell],

@@ -1,4 +1,4 @@
-//! Lists of cells: padded, copied, overwritten and cut, with no look at cells that own no memory.
+//! Lists of cells: pad, copy, overwrite and cut them, without inspecting cells that own no memory.
 ghost use Rattle.std.specs.Prelude.{◌≡◌, ◌↔◌, ◌<◌, ◌≤◌, ◌+◌, ◌*◌, ◌++◌, ◌∷◌, [], map, vec_capacity};
 ghost use Rattle.termwiz_storage.specs.{AreLetters, OwnNothing, is_plain, owns_memory, put_letters};
 ghost use Rattle.termwiz_storage.specs.{IfOk, IsOk, IsTrue, OnOk, chars, false, length, padded};
@@ -10,8 +10,8 @@ use std::mem;
 use termwiz_cell::cell::{Cell, CellAttributes};
 use termwiz_text::{letter_at, letter_count};
 
-// Pads with default blanks, for which there may be room. It stands apart, so that the way of a list
-// that is long enough is short.
+// Pads with default blanks. It is kept out of line, so that the path of a list that is long enough
+// is short.
 #[inline(never)]
 pub(super) fn pad_cells(cells: &mut Vec<Cell>, len: usize) -> Result<(), AllocError>
     ensures ok { OnOk result (cells.new.items ≡ padded len cells.old.items) }
@@ -22,7 +22,7 @@ pub(super) fn pad_cells(cells: &mut Vec<Cell>, len: usize) -> Result<(), AllocEr
     let have = cells.len();
     if have < len {
         cells.reserve(len - have)?;
-        // A list of the function's own is filled faster than one behind a reference.
+        // A local list is filled faster than one that a reference points to.
         let none = Vec::new(*cells.allocator());
         let own = mem::replace(cells, none);
         *cells = with_blanks(own, len);
@@ -30,7 +30,7 @@ pub(super) fn pad_cells(cells: &mut Vec<Cell>, len: usize) -> Result<(), AllocEr
     Ok(())
 }
 
-// Pads with default blanks, for which there is room.
+// Pads with default blanks. The list has room for them.
 fn with_blanks(cells: Vec<Cell>, len: usize) -> Vec<Cell>
     requires longer { vec_len cells ≤ len }
     requires room { len ≤ vec_capacity cells }
@@ -52,7 +52,7 @@ pub(super) fn own_nothing(cells: &[Cell]) -> bool
     cells.iter().all(|cell| !cell.owns_memory())
 }
 
-// Copies of cells, with room for so many. Those that own no memory are copied without a call.
+// Copies of cells, with room for `room` cells. Those that own no memory are copied without a call.
 pub(super) fn copied_cells(
     alloc: Global,
     cells: &[Cell],
@@ -71,8 +71,8 @@ pub(super) fn copied_cells(
     Ok(with_short_copies(copy, cells))
 }
 
-// Copies of cells that own no memory, in a list that has room for them. A turn copies four, so that
-// few instructions are the loop's own.
+// Appends copies of cells that own no memory. The list has room for them. An iteration copies four,
+// to keep the overhead of the loop low.
 fn with_short_copies(list: Vec<Cell>, cells: &[Cell]) -> Vec<Cell>
     requires unowned { OwnNothing cells.now }
     requires room { vec_len list + length cells.now ≤ vec_capacity list }
@@ -93,7 +93,7 @@ fn with_short_copies(list: Vec<Cell>, cells: &[Cell]) -> Vec<Cell>
     list
 }
 
-// A copy of a cell that owns no memory, behind those of a list that has room for it.
+// Appends a copy of a cell that owns no memory. The list has room for it.
 #[inline(always)]
 fn with_short_copy(list: Vec<Cell>, cell: &Cell) -> Vec<Cell>
     requires unowned { owns_memory cell.now ≡ false }
@@ -107,7 +107,7 @@ fn with_short_copy(list: Vec<Cell>, cell: &Cell) -> Vec<Cell>
     list
 }
 
-// A cell comes in the place of another, which is dropped only where it may own memory.
+// Replaces a cell, which is dropped only where it may own memory.
 #[inline(always)]
 fn overwrite(place: &mut Cell, cell: Cell, owns: bool)
     requires { owns ≡ false → owns_memory place.old ≡ false }
@@ -119,8 +119,7 @@ fn overwrite(place: &mut Cell, cell: Cell, owns: bool)
     }
 }
 
-// Cuts the list to at most this many cells. Those behind are dropped only where they may own
-// memory.
+// Cuts the list to at most this many cells. The others are dropped only where they may own memory.
 pub(super) fn cut(cells: &mut Vec<Cell>, len: usize, owns: bool)
     requires { owns ≡ false → OwnNothing cells.old.items }
     ensures { cells.new.items ≡ take len cells.old.items }
@@ -136,7 +135,7 @@ pub(super) fn cut(cells: &mut Vec<Cell>, len: usize, owns: bool)
     }
 }
 
-// The cells of the run come in the place of as many others.
+// Overwrites as many cells with those of the run.
 pub(super) fn put_cells(cells: &mut [Cell], run: &[u8], attrs: &CellAttributes, owns: bool)
     requires plain { list_all is_plain run.now ≡ true }
     requires unboxed { needs_box attrs.now ≡ false }
@@ -151,7 +150,7 @@ pub(super) fn put_cells(cells: &mut [Cell], run: &[u8], attrs: &CellAttributes, 
     }
 }
 
-// The cell of one character comes in the place of so many others, from a column on.
+// Overwrites `count` cells from column `from` on with the cell of one character.
 pub(super) fn put_copies(
     cells: &mut [Cell],
     from: usize,
@@ -173,7 +172,7 @@ pub(super) fn put_copies(
     }
 }
 
-// The cells of the letters and their halves come in the place of others, from the first one on.
+// Overwrites the first cells with those of the letters and their halves.
 pub(super) fn put_letter_cells(
     alloc: Global,
     cells: &mut [Cell],
@@ -187,7 +186,7 @@ pub(super) fn put_letter_cells(
     requires room { 2 * length (chars run.now) ≤ length cells.old }
     ensures { cells.new ≡ put_letters 0 (chars run.now) attrs.now cells.old }
 {
-    // Neither loop asks for each cell whether another one is to be dropped.
+    // So neither loop tests `owns` for each cell.
     if owns {
         overwrite_by_letters(alloc, cells, run, attrs, true);
     } else {
@@ -219,7 +218,7 @@ fn overwrite_by_letters(
     }
 }
 
-// The cells from one column up to another become default blanks.
+// Makes the cells in the columns `from..to` default blanks.
 #[inline(always)]
 pub(super) fn blank_cells(cells: &mut [Cell], from: usize, to: usize, owns: bool)
     requires range { to ≤ length cells.old }

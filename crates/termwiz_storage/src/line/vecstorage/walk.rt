@@ -1,4 +1,4 @@
-//! The walk of cells that are stored one by one.
+//! The iterator over cells that are stored one by one.
 ghost use Rattle.std.specs.Prelude.{◌≡◌, ◌↔◌, ◌∷◌, ◌<◌, [], IfSome, IsSome, MatchOption, false};
 ghost use Rattle.termwiz_storage.specs.{IsPlainFirst, YieldsCell, begins_plain, is_plain_with};
 ghost use Rattle.termwiz_storage.specs.{item_count, true, visible};
@@ -29,7 +29,7 @@ impl<'a> Model for VecStorageIter<'a> {
 }
 
 impl<'a> VecStorageIter<'a> {
-    /// The visible cells of these stored ones.
+    /// An iterator over the visible cells of these stored cells.
     #[doc(hidden)]
     pub fn new(cells: &'a [Cell]) -> VecStorageIter<'a>
         ensures { result ≡ visible cells.now }
@@ -40,8 +40,8 @@ impl<'a> VecStorageIter<'a> {
         }
     }
 
-    /// The character of the next cell, where that is plain: one character of printable ASCII, which
-    /// takes one column, with these attributes. Else the walk stays where it is.
+    /// The character of the next cell, where that is one character of printable ASCII, of one
+    /// column, with these attributes. Otherwise returns `None`, and the iterator isn't advanced.
     #[doc(hidden)]
     #[inline(always)]
     pub fn next_plain(&mut self, attrs: &CellAttributes) -> Option<u8>
@@ -71,11 +71,11 @@ impl<'a> Iterator for VecStorageIter<'a> {
     #[inline(always)]
     fn next(&mut self) -> Option<CellRef<'a>> {
         let cell = self.cells.next()?;
-        // A cell's text is clean, as `str` promises.
+        // `str` promises that a cell's text is clean.
         let _text = cell.str();
         let cell_index = self.idx;
         self.idx += 1;
-        // The cell behind a wide one is passed over.
+        // The cell after a wide one is skipped.
         if cell.width() > 1 && self.cells.next().is_some() {
             self.idx += 1;
         }

@@ -1,4 +1,4 @@
-//! The mark of the last visible cell, behind which the text goes on in the next line.
+//! The wrapped mark of the last visible cell: the next line continues the text.
 ghost use Rattle.std.specs.Prelude.{◌≡◌, ◌<◌, ◌≤◌, IsOk, IsTrue, OnErr, length, slice_set, vec_len};
 ghost use Rattle.termwiz_storage.specs.{OnOk, hides, last_attrs, last_index, option_copied, stored};
 ghost use Rattle.termwiz_storage.specs.{set_last_wrapped, visible, with_wrapped, wrapped_last};
@@ -8,9 +8,9 @@ use std::alloc::AllocError;
 use termwiz_cell::cell::{Cell, CellAttributes};
 
 impl VecStorage {
-    /// Marks the last visible cell and the stored cell that it hides as wrapped, or not. An empty
-    /// list first gets a default blank.
-    /// On an error, which only an empty list gives, nothing changed.
+    /// Sets whether the last visible cell and the stored cell that it hides are marked as wrapped.
+    /// To an empty list a default blank is first appended, and only that can fail. An error leaves
+    /// the list unchanged.
     pub(crate) fn set_last_wrapped(&mut self, wrapped: bool) -> Result<(), AllocError>
         ensures ok { OnOk result (self.new ≡ set_last_wrapped wrapped self.old) }
         ensures err { OnErr result (self.new ≡ self.old) }
@@ -33,7 +33,7 @@ impl VecStorage {
         self.used = self.cells.len();
     }
 
-    /// The attributes of the last visible cell, where there is one.
+    /// The attributes of the last visible cell, if any.
     pub(crate) fn last_attrs(&self) -> Option<&CellAttributes>
         ensures { option_copied result ≡ last_attrs (visible self.now) }
     {
@@ -53,8 +53,8 @@ impl VecStorage {
         if self.is_hidden(last) { last - 1 } else { last }
     }
 
-    // Whether the cell before column i hides it. Of wide cells in a row the first hides the next,
-    // which then hides none, and so on in turn.
+    // Whether the cell before column i hides it. Of adjacent wide cells the first hides the second,
+    // which hides none; the third hides the fourth, and so on.
     pub(super) fn is_hidden(&self, i: usize) -> bool
         requires { i ≤ length self.now }
         ensures value { result ≡ hides self.now i }
@@ -78,7 +78,7 @@ fn put_wrapped(cells: &mut Vec<Cell>, i: usize, wrapped: bool)
     set_wrapped(cells[i].attrs_mut(), wrapped);
 }
 
-/// Marks attributes as wrapped, or not.
+/// Sets the wrapped mark of attributes.
 pub(crate) fn set_wrapped(attrs: &mut CellAttributes, wrapped: bool)
     ensures { attrs.new ≡ record attrs.old { wrapped = wrapped } }
 {

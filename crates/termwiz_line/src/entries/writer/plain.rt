@@ -1,7 +1,6 @@
 //! Rows of cells that are stored one by one, most of which are one character of printable ASCII in
 //! the current pen.
-ghost use Rattle.std.specs.Prelude.{◌≡◌, ◌++◌, ◌∷◌, ◌≤◌, ◌&&◌, ◌==◌, [], IfOk, List, OnOk};
-ghost use Rattle.std.specs.Prelude.{length, true};
+ghost use Rattle.std.specs.Prelude.{◌≡◌, ◌++◌, ◌∷◌, ◌≤◌, ◌&&◌, ◌==◌, [], List, OnOk, length, true};
 ghost use Rattle.termwiz_line.specs.{IsInText, IsUnderWay, IsWritten, Penned, VisibleCell};
 ghost use Rattle.termwiz_line.specs.{and_cells, ends_printable, is_plain, last_is, spaces_of};
 
@@ -21,46 +20,43 @@ impl<'a> RowWriter<'a> {
         let mut left = cells;
         while let Some(cell) = left.next() {
             self.cell(cell.str(), cell.attrs())?;
-            left = self.plain_cells(left)?;
+            self.plain_cells(&mut left)?;
         }
         Ok(())
     }
 
     // Writes the next plain cells in the current pen, if the last entry is a text that ends in
-    // printable ASCII, and returns the cells that are left.
+    // printable ASCII.
     #[inline(always)]
-    fn plain_cells(
-        &mut self,
-        mut left: VecStorageIter<'a>,
-    ) -> Result<VecStorageIter<'a>, AllocError>
-        ensures written { IfOk result (λ rest. (from : Penned) (all : List VisibleCell) →
-            IsUnderWay from all left.entry self.old → IsUnderWay from all rest self.new) }
-        ensures shorter { IfOk result (λ rest. length rest ≤ length left.entry) }
+    fn plain_cells(&mut self, left: &mut VecStorageIter<'a>) -> Result<(), AllocError>
+        ensures written { OnOk result (
+            (from : Penned) (all : List VisibleCell) →
+            IsUnderWay from all left.old self.old → IsUnderWay from all left.new self.new) }
+        ensures shorter { length left.new ≤ length left.old }
     {
         if !self.is_in_text() {
-            return Ok(left);
+            return Ok(());
         }
         // A local copy of the pen is compared without following a reference.
         match self.pen.unboxed_copy() {
-            Some(pen) => self.plain_run(&mut left, &pen)?,
-            None => return self.boxed_run(left),
+            Some(pen) => self.plain_run(left, &pen),
+            None => self.boxed_run(left),
         }
-        Ok(left)
     }
 
-    // Writes the next plain cells in a pen that has a box. It is kept out of line and takes the
-    // cells by value, so that the path of other pens is short and keeps them in registers.
+    // Writes the next plain cells in a pen that has a box. It is kept out of line, so that the path
+    // of other pens is short.
     #[inline(never)]
-    fn boxed_run(&mut self, mut left: VecStorageIter<'a>) -> Result<VecStorageIter<'a>, AllocError>
+    fn boxed_run(&mut self, left: &mut VecStorageIter<'a>) -> Result<(), AllocError>
         requires spaces { self.old.spaces ≡ 0 }
         requires text { last_is ends_printable self.old.printed.entries ≡ true }
-        ensures written { IfOk result (λ rest. (from : Penned) (all : List VisibleCell) →
-            IsUnderWay from all left.entry self.old → IsUnderWay from all rest self.new) }
-        ensures shorter { IfOk result (λ rest. length rest ≤ length left.entry) }
+        ensures written { OnOk result (
+            (from : Penned) (all : List VisibleCell) →
+            IsUnderWay from all left.old self.old → IsUnderWay from all left.new self.new) }
+        ensures shorter { length left.new ≤ length left.old }
     {
         let pen = self.pen;
-        self.plain_run(&mut left, pen)?;
-        Ok(left)
+        self.plain_run(left, pen)
     }
 
     // Writes the next plain cells in a pen that is equal to the current one.

@@ -9,7 +9,7 @@ loop-cell-preserved c =
     let u = c.loop-cell.invariant from before z in
     let p : VisibleCell = indexed_cell c.in-Some.cell in
     let left : List VisibleCell = c.next.new.self in
-    c.in_ok-left.ensures.written from (before ++ c.args.cells) (record {
+    c.in_ok-plain_cells.ensures.written from (before ++ c.args.cells) (record {
       done = u.done ++ p ∷ [];
       whole = append_assoc u.done (p ∷ []) left ∙ ap (λ l. u.done ++ l) (sym c.in-Some.ensures.steps.0) ∙ u.whole;
       written = c.in_ok-cell.ensures from u.done p (sym c.str.ensures) (sym c.attrs.ensures) u.written;

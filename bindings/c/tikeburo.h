@@ -3,7 +3,7 @@
  * A surface holds what a terminal's screen shows, with no terminal behind it. Changes go in, a
  * function each below, and any list of them as bytes. A viewer shows what a surface of its process
  * shows. A client shows what a surface of any process shows: it asks by bytes (tk_client_ask), the
- * surface answers by bytes (tk_respond), and tk_client_feed takes them, in whatever pieces they
+ * surface answers by bytes (tk_respond), and tk_client_feed takes them, in whatever chunks they
  * come.
  *
  * What a caller keeps, and nothing checks:
@@ -16,15 +16,15 @@
  *   value.
  * - One call at a time has a handle. A handle stays on its thread.
  * - Where a call takes two handles, they are two.
- * - A pointer is never NULL, also where the length behind it is 0. A length is not above what lies
+ * - A pointer is never NULL, also where its length is 0. A length is not above what lies
  *   at the pointer, buffers don't overlap, and nothing that a call reads is written meanwhile.
  * - A bool is 0 or 1.
  * - malloc, realloc and free are those of one allocator, which aligns blocks as C's own does. No
  *   call comes from a signal handler, or from the forked child of a process with threads.
  *
- * The library keeps no pointer of the caller's behind a call. No call aborts.
+ * The library keeps no pointer of the caller's after a call. No call aborts.
  *
- * Columns and rows are counted from 0. A text is UTF-8 with no zero behind it, and lengths are in
+ * Columns and rows are counted from 0. A text is UTF-8 with no zero at its end, and lengths are in
  * bytes. Where a call writes into a buffer of the caller's, `room` is its length and `*len` gets
  * the length that is needed: where the room is too short, the call returns TK_SHORT and has written
  * nothing but `*len`. After any other error `*len` is as it was too.
@@ -129,7 +129,7 @@ typedef struct tk_attributes {
     bool reverse;
     bool strikethrough;
     bool invisible;
-    bool wrapped;           /* the row was wrapped behind this cell */
+    bool wrapped;           /* the row was wrapped after this cell */
     bool overline;
     tk_color foreground;
     tk_color background;
@@ -194,15 +194,15 @@ tk_status tk_cursor_is_visible(tk_handle *handle, bool *is_visible);
 /* The title, empty at first. TK_SHORT. */
 tk_status tk_title(tk_handle *handle, char *text, size_t room, size_t *len);
 
-/* The texts of all rows' visible cells within their stored lengths, with a line feed behind each
+/* The texts of all rows' visible cells within their stored lengths, with a line feed after each
  * row. TK_SHORT. */
 tk_status tk_screen_text(tk_handle *handle, char *text, size_t room, size_t *len);
 
 /* The texts of a row's visible cells within its stored length. TK_RANGE: the row. TK_SHORT. */
 tk_status tk_row_text(tk_handle *handle, size_t row, char *text, size_t room, size_t *len);
 
-/* The cell at a column of a row: its text into the buffer, and the rest into *cell. The cell behind
- * it is `cell->columns` further: at the second column of a wide cell stands a blank one.
+/* The cell at a column of a row: its text into the buffer, and the rest into *cell. The next
+ * cell is `cell->columns` further: the second column of a wide cell holds a blank one.
  * TK_RANGE: the row or the column. TK_SHORT: *cell is as it was too. */
 tk_status tk_cell_at(tk_handle *handle, size_t column, size_t row, tk_cell *cell, char *text,
                      size_t room, size_t *len);
@@ -225,9 +225,9 @@ tk_status tk_link_at(tk_handle *handle, size_t column, size_t row, char *uri, si
 tk_status tk_print(tk_handle *surface, const char *text, size_t len);
 
 /* Makes a list of changes, which these bytes encode: the array `[* change]` of docs/stream.cddl
- * and nothing behind it. A text in it has the pieces that the surface cuts and measures: where they
+ * and nothing after it. A text in it has the pieces that the surface cuts and measures: where they
  * aren't known, tk_print prints it. TK_TRUNCATED: the bytes end before the list does.
- * TK_UNREADABLE: they are wrong at a byte, or more come behind the list. TK_REGION. */
+ * TK_UNREADABLE: they are wrong at a byte, or more follow the list. TK_REGION. */
 tk_status tk_add_changes(tk_handle *surface, const uint8_t *bytes, size_t len);
 
 /* Moves the cursor to this column and row; past the last ones is at the last ones. */
@@ -317,8 +317,8 @@ tk_status tk_follow(tk_handle *viewer, tk_handle *source);
 
 /* Writes the answer to what a client asks: all that the surface keeps, or the changes since the
  * number that the client shows, where it shows this surface. The ask is that of tk_client_ask, and
- * nothing behind it. What no answer can need is forgotten. TK_TRUNCATED: the bytes end before the
- * ask does. TK_UNREADABLE: they are wrong at a byte, or more come behind the ask. TK_WRONG_KIND.
+ * nothing after it. What no answer can need is forgotten. TK_TRUNCATED: the bytes end before the
+ * ask does. TK_UNREADABLE: they are wrong at a byte, or more follow the ask. TK_WRONG_KIND.
  * TK_SHORT: the answer is not kept, and the next call makes it anew. */
 tk_status tk_respond(tk_handle *surface, const uint8_t *ask, size_t ask_len, uint8_t *bytes,
                      size_t room, size_t *len);

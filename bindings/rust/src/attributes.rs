@@ -142,7 +142,7 @@ pub struct Attributes {
     pub overline: bool,
     /// The text's colour.
     pub foreground: ColorAttribute,
-    /// The colour behind it.
+    /// The background.
     pub background: ColorAttribute,
     /// The colour of the line below it.
     pub underline_color: ColorAttribute,
@@ -218,7 +218,7 @@ pub enum AttributeChange {
     Invisible(bool),
     /// Their colour.
     Foreground(ColorAttribute),
-    /// The colour behind them.
+    /// The background.
     Background(ColorAttribute),
     /// What they link to.
     Hyperlink(Option<Hyperlink>),

@@ -46,7 +46,7 @@ pub struct Changes {
 enum Stretch {
     /// A text to be printed, since the library has to cut and measure it.
     Text { begin: usize },
-    /// So many changes. They begin with room for the head of their array, at whose end it stands.
+    /// So many changes. They begin with room for the head of their array, which ends that room.
     List {
         begin: usize,
         head: usize,
@@ -201,12 +201,12 @@ impl Changes {
         self.attribute(&AttributeChange::Invisible(is_on))
     }
 
-    /// Sets their colour.
+    /// Sets the colour of coming texts.
     pub fn foreground(&mut self, color: ColorAttribute) -> &mut Changes {
         self.attribute(&AttributeChange::Foreground(color))
     }
 
-    /// Sets the colour behind them.
+    /// Sets the background of coming texts.
     pub fn background(&mut self, color: ColorAttribute) -> &mut Changes {
         self.attribute(&AttributeChange::Background(color))
     }
@@ -363,7 +363,7 @@ impl fmt::Debug for Changes {
 mod tests {
     use super::*;
 
-    /// What the calls of the library take: a text behind `T`, and a list behind `L`.
+    /// What the calls of the library take: a text after `T`, and a list after `L`.
     fn runs(changes: &Changes) -> Vec<Vec<u8>> {
         let run = |run| match run {
             Run::Text(text) => [b"T", text].concat(),

@@ -35,7 +35,7 @@ def main():
     try:
         import rtlib
         marked = [crate.name for crate in rtlib.crates_below(str(TOP)) if mark(crate, since)]
-    except (ImportError, AttributeError, TypeError) as error:
+    except (Exception, SystemExit) as error:
         print(f"built.py: this toolchain's stamps aren't known ({error})")
         return
     print(f"built.py: {len(marked)} libraries are taken as rt ci built them")

@@ -59,7 +59,13 @@ const EFFECTS = {
         });
     },
     2(screen, text, runs = [BigInt([...text].length), 1n, 1n]) {
-        if (/[\r\n]/.test(text)) return;
+        if (/[\r\n]/.test(text)) {
+            const lines = text.split('\n');
+            assert.equal(screen.cursor.y, Math.min(lines.length - 1, 3));
+            const last = lines.at(-1).split('\r').at(-1);
+            assert.ok(screen.text(screen.cursor.y).includes(last));
+            return;
+        }
         const shown = text.replace(/[\x00-\x1f\x7f]/g, ' ');
         assert.equal(screen.text(0).trimEnd(), shown.trimEnd());
         let columns = 0;

@@ -20,7 +20,7 @@ pub fn decode_ask(bytes: &[u8]) -> Result<(Ask, usize), WireError>
     // What is decoded was encoded so, in so many bytes.
     ensures found { IfOk result (λ x.
         (bytes.now ≡ ask x.0 ++ drop x.1 bytes.now) × (x.1 ≤ length bytes.now)) }
-    // It asks for a number of a source, or for none of none.
+    // It names a source, or its number is 0.
     ensures named { IfOk result (λ x. x.0.source ≡ 0 → x.0.number ≡ 0) }
     // It is this value, or this fault.
     ensures exact { Decodes (λ x. (x.0, drop x.1 bytes.now)) result (ask_at bytes.now) }

@@ -1,18 +1,13 @@
 -- A change of one attribute, with its link as a value, and what it makes of attributes.
-use Rattle.std.specs.Prelude.{◌≡◌, Bool, false, not, ◌&&◌, ◌||◌, Option, is_some}
-use Rattle.std.specs.Bool.{Decides, beq}
-use Rattle.std.specs.Cmp.{booleans_Decides}
-use Rattle.std.proofs.lemmas.Bool.Decides.{Decides-like}
-use Rattle.std.proofs.Common.{ap}
+use Rattle.std.specs.Prelude.{Bool, false, not, ◌&&◌, ◌||◌, Option, is_some}
 use Rattle.termwiz_cell.specs.declared.cell.style.Intensity as intensity
 use Rattle.termwiz_cell.specs.declared.cell.style.Underline as underline
 use Rattle.termwiz_cell.specs.declared.cell.style.Blink as blink
 use Rattle.termwiz_cell.specs.declared.color.ColorAttribute.{ColorAttribute}
 use Rattle.termwiz_cell.specs.declared.cell.attribute_change.AttributeChange.{AttributeChange}
 use Rattle.termwiz_cell.specs.declared.cell.attribute_change.AttributeChange.TheVariants as code
-use Rattle.termwiz_cell.specs.Style.{intensity_eq, underline_eq, blink_eq, intensity_eq-Decides, underline_eq-Decides, blink_eq-Decides}
 use Rattle.termwiz_cell.specs.Link.{Link, linked}
-use Rattle.termwiz_cell.specs.Attributes.{Attributes, needs_box, color_eq, color_eq-Decides, option_link_eq, option_link_eq-Decides}
+use Rattle.termwiz_cell.specs.Attributes.{Attributes, needs_box}
 
 pub data AttributeChangeValue : Type 0 where
   Intensity : (value : intensity.Intensity) → AttributeChangeValue
@@ -59,30 +54,3 @@ is_link _ = false
 -- the change may find no memory: at a link, which is copied, and where attributes that needed no box come to need one
 abbrev pub takes_memory : Attributes → AttributeChangeValue → Bool
 takes_memory a change = is_link change || (not (needs_box a) && needs_box (with_attribute a change))
-
--- `==` of changes of one attribute
-abbrev pub attribute_change_eq : AttributeChangeValue → AttributeChangeValue → Bool
-attribute_change_eq (Intensity a) (Intensity b) = intensity_eq a b
-attribute_change_eq (Underline a) (Underline b) = underline_eq a b
-attribute_change_eq (Italic a) (Italic b) = beq a b
-attribute_change_eq (Blink a) (Blink b) = blink_eq a b
-attribute_change_eq (Reverse a) (Reverse b) = beq a b
-attribute_change_eq (StrikeThrough a) (StrikeThrough b) = beq a b
-attribute_change_eq (Invisible a) (Invisible b) = beq a b
-attribute_change_eq (Foreground a) (Foreground b) = color_eq a b
-attribute_change_eq (Background a) (Background b) = color_eq a b
-attribute_change_eq (Hyperlink a) (Hyperlink b) = option_link_eq a b
-attribute_change_eq _ _ = false
-
-pub attribute_change_eq-Decides : (a b : AttributeChangeValue) → Decides (attribute_change_eq a b) (a ≡ b)
-attribute_change_eq-Decides (Intensity a) (Intensity b) = Decides-like (intensity_eq a b) (ap Intensity) (λ e. cc) (intensity_eq-Decides a b)
-attribute_change_eq-Decides (Underline a) (Underline b) = Decides-like (underline_eq a b) (ap Underline) (λ e. cc) (underline_eq-Decides a b)
-attribute_change_eq-Decides (Italic a) (Italic b) = Decides-like (beq a b) (ap Italic) (λ e. cc) (booleans_Decides a b)
-attribute_change_eq-Decides (Blink a) (Blink b) = Decides-like (blink_eq a b) (ap Blink) (λ e. cc) (blink_eq-Decides a b)
-attribute_change_eq-Decides (Reverse a) (Reverse b) = Decides-like (beq a b) (ap Reverse) (λ e. cc) (booleans_Decides a b)
-attribute_change_eq-Decides (StrikeThrough a) (StrikeThrough b) = Decides-like (beq a b) (ap StrikeThrough) (λ e. cc) (booleans_Decides a b)
-attribute_change_eq-Decides (Invisible a) (Invisible b) = Decides-like (beq a b) (ap Invisible) (λ e. cc) (booleans_Decides a b)
-attribute_change_eq-Decides (Foreground a) (Foreground b) = Decides-like (color_eq a b) (ap Foreground) (λ e. cc) (color_eq-Decides a b)
-attribute_change_eq-Decides (Background a) (Background b) = Decides-like (color_eq a b) (ap Background) (λ e. cc) (color_eq-Decides a b)
-attribute_change_eq-Decides (Hyperlink a) (Hyperlink b) = Decides-like (option_link_eq a b) (ap Hyperlink) (λ e. cc) (option_link_eq-Decides a b)
-attribute_change_eq-Decides _ _ = ((λ e. cc), (λ e. cc))

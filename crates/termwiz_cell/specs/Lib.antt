@@ -30,7 +30,7 @@ pub mod StyleLending
 pub use Rattle.std.specs.Bool.{beq}
 pub use Rattle.std.specs.Borrow.{sem}
 pub use Rattle.std.specs.Char.{is_whitespace}
-pub use Rattle.std.specs.Cmp.{decided, on_equiv, on_per, partial_equiv_from_equiv}
+pub use Rattle.std.specs.Cmp.{decided, partial_equiv_from_equiv}
 pub use Rattle.std.specs.Cmp.Lexicographic.{pointwise}
 pub use Rattle.std.specs.Fmt.{WritesOnOk}
 pub use Rattle.std.specs.Int.{int_rem_euclid, w64}
@@ -39,11 +39,11 @@ pub use Rattle.std.specs.List.{list_all}
 pub use Rattle.std.specs.Prelude.{IfErr, IfOk, IfSome, IsOk, IsSome, IsTrue, IsUtf8, None, OnErr, OnOk, Some, ℤ, bytes_eq, codes, false, length, map, not, pos, true}
 pub use Rattle.std.specs.Str.{chars}
 pub use Rattle.termwiz_cell.specs.AnsiColor.{ansi_index}
-pub use Rattle.termwiz_cell.specs.AttributeChangeValue.{attribute_change_eq, attribute_change_eq-Decides, attribute_change_value, is_link, takes_memory, with_attribute}
+pub use Rattle.termwiz_cell.specs.AttributeChangeValue.{attribute_change_value, takes_memory, with_attribute}
 pub use Rattle.termwiz_cell.specs.Attributes.{attributes_eq, attributes_eq-Decides, bits_of, color_eq, default_attributes, has_only_background, is_default, needs_box, option_link_eq, sgr_only, without_colors}
 pub use Rattle.termwiz_cell.specs.CellLayout.{HasTextForm, text_in, wide_in}
 pub use Rattle.termwiz_cell.specs.CellValue.{blank, blank_of, cell_eq, cell_eq-Decides, cell_of, clean, columns, is_wide, measured, owns_memory, plain_cell, space}
-pub use Rattle.termwiz_cell.specs.ChangeValue.{Attribute, LineAttribute, Text, change_eq, change_eq-Decides, change_value, copy_takes_memory, is_text, position_eq, scroll_eq, visibility_eq}
+pub use Rattle.termwiz_cell.specs.ChangeValue.{Attribute, LineAttribute, Text, change_value, is_text}
 pub use Rattle.termwiz_cell.specs.ColorText.{IsByte, IsColorText, IsDigit, IsHexColor, IsPart, IsX11Color, color_of, rgb_text, x11_text}
 pub use Rattle.termwiz_cell.specs.Link.{link_eq, link_eq-Decides, linked, param_bytes, param_eq}
 pub use Rattle.termwiz_cell.specs.LinkPairs.{are_pairs, has_equals, pair_of, params_of, with_pair}
@@ -52,8 +52,8 @@ pub use Rattle.termwiz_cell.specs.LinkText.{AreInOrder, IsReadable, link_text, p
 pub use Rattle.termwiz_cell.specs.Measure.{measure}
 pub use Rattle.termwiz_cell.specs.Numbered.{IsNumbered}
 pub use Rattle.termwiz_cell.specs.Sequence.{AddsAll, AddsOne, DistancesFit, IsSequence, MovesTo, RowFits, SequenceValue, aim, cell_place, grapheme_place, move_by, place_after, position_place, printed_columns, text_place}
-pub use Rattle.termwiz_cell.specs.Shapes.{is_blinking_shape, line_at, line_attribute_eq, line_number, shape_at, shape_eq, shape_number}
-pub use Rattle.termwiz_cell.specs.Style.{blink_at, blink_eq, blink_number, flag_number, intensity_at, intensity_eq, intensity_number, is_blinking, is_underlined, semantic_at, semantic_number, underline_at, underline_eq, underline_number, vertical_at, vertical_number}
+pub use Rattle.termwiz_cell.specs.Shapes.{is_blinking_shape, line_at, line_number, shape_at, shape_number}
+pub use Rattle.termwiz_cell.specs.Style.{blink_at, blink_number, flag_number, intensity_at, intensity_number, is_blinking, is_underlined, semantic_at, semantic_number, underline_at, underline_number, vertical_at, vertical_number}
 pub use Rattle.termwiz_cell.specs.StyleLending.{LendsStyle}
 pub use Rattle.termwiz_cell.specs.StyleWord.{FitsWord, IsRgb, bits_at, color_at, color_number, rgb_at, rgb_number, style_at, style_sgr_only, word_part}
 pub use Rattle.termwiz_cell.specs.Width.{asked_by, at_version, columns_of, unicode_columns, variation, version_index}

@@ -39,9 +39,6 @@ intensity_number Half = 2
 abbrev pub intensity_at : ℕ → Intensity
 intensity_at n = if n == 0 then Normal else if n == 1 then Bold else Half
 
-abbrev pub intensity_eq : Intensity → Intensity → Bool
-intensity_eq a b = intensity_number a == intensity_number b
-
 abbrev pub underline_number : Underline → ℕ
 underline_number underline.None = 0
 underline_number underline.Single = 1
@@ -59,9 +56,6 @@ underline_at n =
     else if n == 4 then underline.Dotted
     else underline.Dashed
 
-abbrev pub underline_eq : Underline → Underline → Bool
-underline_eq a b = underline_number a == underline_number b
-
 -- there is a line
 abbrev pub is_underlined : Underline → Bool
 is_underlined underline.None = false
@@ -74,9 +68,6 @@ blink_number blink.Rapid = 2
 
 abbrev pub blink_at : ℕ → Blink
 blink_at n = if n == 0 then blink.None else if n == 1 then blink.Slow else blink.Rapid
-
-abbrev pub blink_eq : Blink → Blink → Bool
-blink_eq a b = blink_number a == blink_number b
 
 -- the text blinks
 abbrev pub is_blinking : Blink → Bool
@@ -141,12 +132,3 @@ flag-back false = refl
 -- values that differ in their numbers are compared by them
 pub numbers-Decide : {T : Type 0} (number : T → ℕ) (at : ℕ → T) (back : (v : T) → at (number v) ≡ v) (a b : T) → Decides (number a == number b) (a ≡ b)
 numbers-Decide number at back a b = Decides-like (number a == number b) (λ e. sym (back a) ∙ ap at e ∙ back b) (ap number) (Decides-eqb (number a) (number b))
-
-pub intensity_eq-Decides : (a b : Intensity) → Decides (intensity_eq a b) (a ≡ b)
-intensity_eq-Decides = numbers-Decide intensity_number intensity_at intensity-back
-
-pub underline_eq-Decides : (a b : Underline) → Decides (underline_eq a b) (a ≡ b)
-underline_eq-Decides = numbers-Decide underline_number underline_at underline-back
-
-pub blink_eq-Decides : (a b : Blink) → Decides (blink_eq a b) (a ≡ b)
-blink_eq-Decides = numbers-Decide blink_number blink_at blink-back

@@ -1,16 +1,13 @@
 //! The changes of a surface, the positions in them, and their numbers.
-ghost use Rattle.std.specs.Prelude.{◌≡◌, ◌<◌, ◌↔◌, IfOk, IsTrue, false, string_bytes};
+ghost use Rattle.std.specs.Prelude.{◌≡◌, ◌<◌, IfOk, IsTrue, string_bytes};
 ghost use Rattle.termwiz_cell.specs.{Attribute, LineAttribute, Text, attribute_change_value};
-ghost use Rattle.termwiz_cell.specs.{change_eq, change_eq-Decides, change_value, copy_takes_memory};
-ghost use Rattle.termwiz_cell.specs.{decided, is_blinking_shape, is_text, line_attribute_eq};
-ghost use Rattle.termwiz_cell.specs.{line_at, line_number, IsNumbered, on_equiv, on_per};
-ghost use Rattle.termwiz_cell.specs.{partial_equiv_from_equiv, position_eq, scroll_eq, shape_at};
-ghost use Rattle.termwiz_cell.specs.{shape_eq, shape_number, visibility_eq};
+ghost use Rattle.termwiz_cell.specs.{IsNumbered, change_value, is_blinking_shape, is_text, line_at};
+ghost use Rattle.termwiz_cell.specs.{line_number, shape_at, shape_number};
 
 mod sequence;
 
 use crate::cell::{AttributeChange, CellAttributes, UnknownNumber};
-use crate::color::{ColorAttribute, is_same_color};
+use crate::color::ColorAttribute;
 pub use sequence::{ChangeSequence, SequenceError};
 use std::alloc::{AllocError, Global};
 
@@ -156,7 +153,7 @@ pub const SEQ_ZERO: SequenceNo = 0;
 ///
 /// Two changes are equal where all their parts are: texts are compared by their bytes, and links as
 /// values. A clone can only fail at a text, a title, a link, or attributes that take memory.
-#[derive(Drop, Debug)]
+#[derive(Drop, Clone, PartialEq, Eq, Debug)]
 pub enum Change {
     /// Sets one attribute of the pen, and leaves the others unchanged.
     Attribute(AttributeChange),
@@ -211,59 +208,6 @@ pub enum Change {
     LineAttribute(LineAttribute),
 }
 
-impl Clone for Change {
-    ghost is_clone = { λ a b. change_value b ≡ change_value a };
-
-    ghost is_infallible = { λ change. copy_takes_memory (change_value change) ≡ false };
-
-    fn clone(&self) -> Result<Change, AllocError> {
-        match self {
-            Change::Attribute(change) => {
-                let copy = change.clone()?;
-                Ok(Change::Attribute(copy))
-            }
-            Change::AllAttributes(attrs) => {
-                let copy = attrs.clone()?;
-                Ok(Change::AllAttributes(copy))
-            }
-            Change::Text(text) => {
-                let copy = text.clone()?;
-                Ok(Change::Text(copy))
-            }
-            Change::ClearScreen(color) => Ok(Change::ClearScreen(*color)),
-            Change::ClearToEndOfLine(color) => Ok(Change::ClearToEndOfLine(*color)),
-            Change::ClearToEndOfScreen(color) => Ok(Change::ClearToEndOfScreen(*color)),
-            Change::CursorPosition { x, y } => Ok(Change::CursorPosition { x: *x, y: *y }),
-            Change::CursorColor(color) => Ok(Change::CursorColor(*color)),
-            Change::CursorShape(shape) => Ok(Change::CursorShape(*shape)),
-            Change::CursorVisibility(visibility) => Ok(Change::CursorVisibility(*visibility)),
-            Change::ScrollRegionUp {
-                first_row,
-                region_size,
-                scroll_count,
-            } => Ok(Change::ScrollRegionUp {
-                first_row: *first_row,
-                region_size: *region_size,
-                scroll_count: *scroll_count,
-            }),
-            Change::ScrollRegionDown {
-                first_row,
-                region_size,
-                scroll_count,
-            } => Ok(Change::ScrollRegionDown {
-                first_row: *first_row,
-                region_size: *region_size,
-                scroll_count: *scroll_count,
-            }),
-            Change::Title(title) => {
-                let copy = title.clone()?;
-                Ok(Change::Title(copy))
-            }
-            Change::LineAttribute(line) => Ok(Change::LineAttribute(*line)),
-        }
-    }
-}
-
 impl Change {
     /// A change that prints a copy of this text.
     pub fn text_from(alloc: Global, text: &str) -> Result<Change, AllocError>
@@ -315,105 +259,4 @@ impl From<LineAttribute> for Change {
     fn from(attribute: LineAttribute) -> Change {
         Change::LineAttribute(attribute)
     }
-}
-
-impl PartialEq for Change {
-    ghost eq = { λ a b. change_eq (change_value a) (change_value b) };
-
-    ghost laws = { on_per change_value (partial_equiv_from_equiv
-        (decided change_eq change_eq-Decides)) };
-
-    fn eq(&self, other: &Change) -> bool
-        ensures value { result ≡ change_eq (change_value self.now) (change_value other.now) }
-        ensures same { IsTrue result ↔ (change_value self.now ≡ change_value other.now) }
-    {
-        self.is_same(other)
-    }
-}
-
-impl Eq for Change {
-    ghost laws = { on_equiv change_value (decided change_eq change_eq-Decides) };
-}
-
-impl Change {
-    fn is_same(&self, other: &Change) -> bool
-        ensures { result ≡ change_eq (change_value self.now) (change_value other.now) }
-    {
-        match (self, other) {
-            (Change::Attribute(a), Change::Attribute(b)) => *a == *b,
-            (Change::AllAttributes(a), Change::AllAttributes(b)) => *a == *b,
-            (Change::Text(a), Change::Text(b)) => *a == *b,
-            (Change::ClearScreen(a), Change::ClearScreen(b)) => is_same_color(*a, *b),
-            (Change::ClearToEndOfLine(a), Change::ClearToEndOfLine(b)) => is_same_color(*a, *b),
-            (Change::ClearToEndOfScreen(a), Change::ClearToEndOfScreen(b)) => {
-                is_same_color(*a, *b)
-            }
-            (Change::CursorPosition { x: a, y: b }, Change::CursorPosition { x: c, y: d }) => {
-                is_same_position(*a, *c) && is_same_position(*b, *d)
-            }
-            (Change::CursorColor(a), Change::CursorColor(b)) => is_same_color(*a, *b),
-            (Change::CursorShape(a), Change::CursorShape(b)) => is_same_shape(*a, *b),
-            (Change::CursorVisibility(a), Change::CursorVisibility(b)) => {
-                is_same_visibility(*a, *b)
-            }
-            (
-                Change::ScrollRegionUp {
-                    first_row: a,
-                    region_size: b,
-                    scroll_count: c,
-                },
-                Change::ScrollRegionUp {
-                    first_row: d,
-                    region_size: e,
-                    scroll_count: f,
-                },
-            ) => is_same_scroll((*a, *b, *c), (*d, *e, *f)),
-            (
-                Change::ScrollRegionDown {
-                    first_row: a,
-                    region_size: b,
-                    scroll_count: c,
-                },
-                Change::ScrollRegionDown {
-                    first_row: d,
-                    region_size: e,
-                    scroll_count: f,
-                },
-            ) => is_same_scroll((*a, *b, *c), (*d, *e, *f)),
-            (Change::Title(a), Change::Title(b)) => *a == *b,
-            (Change::LineAttribute(a), Change::LineAttribute(b)) => is_same_line(*a, *b),
-            _ => false,
-        }
-    }
-}
-
-fn is_same_position(a: Position, b: Position) -> bool
-    ensures { result ≡ position_eq a b }
-{
-    a == b
-}
-
-fn is_same_visibility(a: CursorVisibility, b: CursorVisibility) -> bool
-    ensures { result ≡ visibility_eq a b }
-{
-    a == b
-}
-
-fn is_same_shape(a: CursorShape, b: CursorShape) -> bool
-    ensures { result ≡ shape_eq a b }
-{
-    a == b
-}
-
-fn is_same_line(a: LineAttribute, b: LineAttribute) -> bool
-    ensures { result ≡ line_attribute_eq a b }
-{
-    a == b
-}
-
-/// Whether two scrolls have the same first row, size and count.
-fn is_same_scroll(a: (usize, usize, usize), b: (usize, usize, usize)) -> bool
-    ensures { result ≡ scroll_eq a.0 a.1 a.2 b.0 b.1 b.2 }
-{
-    a.0 == b.0 && a.1 == b.1 && a.2 == b.2
 }

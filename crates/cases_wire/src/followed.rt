@@ -4,7 +4,7 @@ use cases_words::fault::Fault;
 use std::alloc::Global;
 use termwiz_cell::emoji::UnicodeWidths;
 use termwiz_share::{Client, ClientError, Source};
-use termwiz_surface_core::surface::FullScreen;
+use termwiz_surface::FullScreen;
 use termwiz_wire::{Ask, FaultKind, Limits, SentAnswer, WireError, decode_answer};
 
 /// A source, and a client that shows what the source showed before its last changes.

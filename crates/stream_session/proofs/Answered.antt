@@ -10,9 +10,9 @@ use Rattle.surfview_session.specs.Lines.{LineSays, Say, LastLine}
 use Rattle.termwiz_cell.specs.Width.{unicode_columns}
 use Rattle.termwiz_cell.specs.declared.emoji.UnicodeWidths.{UnicodeWidths}
 use Rattle.termwiz_screen.specs.Picture.{screens}
-use Rattle.termwiz_surface_core.specs.Answer.{AnswerValue}
-use Rattle.termwiz_surface_core.specs.Carried.{IsGivenBy}
-use Rattle.termwiz_surface_core.specs.SurfaceValue.{SurfaceValue}
+use Rattle.termwiz_surface.specs.Answer.{AnswerValue}
+use Rattle.termwiz_surface.specs.Carried.{IsGivenBy}
+use Rattle.termwiz_surface.specs.SurfaceValue.{SurfaceValue}
 use Rattle.termwiz_wire.specs.Sent.{answer}
 use Rattle.stream_session.specs.Answering.{AnswersAll, Ended, IsAnswered, MayAnswer, Next, WritesAnswers}
 use Rattle.stream_session.specs.Requests.{MaySay, SaysRequest}

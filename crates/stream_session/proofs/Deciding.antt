@@ -2,7 +2,7 @@
 use Rattle.std.proofs.Common.{◌≡◌, ℕ, ◌∙◌, Bool, true, false, cond, eqb, not, List, drop, refl, sym, subst}
 use Rattle.std.specs.Prelude.{Option, None, Some, Result, Ok, Err, if◌then◌else◌}
 use Rattle.termwiz_cell.specs.Width.{unicode_columns}
-use Rattle.termwiz_surface_core.specs.Answer.{is_repaint}
+use Rattle.termwiz_surface.specs.Answer.{is_repaint}
 use Rattle.termwiz_wire.specs.Answers.{Decodes, answer_at}
 use Rattle.termwiz_wire.specs.declared.fault.Fault.{Fault}
 use Rattle.termwiz_wire.specs.declared.fault.Limits.{Limits}

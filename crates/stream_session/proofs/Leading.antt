@@ -15,13 +15,13 @@ use Rattle.termwiz_screen.specs.Picture.{screens}
 use Rattle.termwiz_screen.specs.Printable.{HasSize}
 use Rattle.termwiz_screen.specs.Screen.{Screen, row_at}
 use Rattle.termwiz_screen.specs.Step.{replay}
-use Rattle.termwiz_surface_core.proofs.Following.{known_tells}
-use Rattle.termwiz_surface_core.proofs.Remembering.{names-stay, past-first, past-names, past-leads}
-use Rattle.termwiz_surface_core.specs.Answer.{AnswerValue, is_repaint}
-use Rattle.termwiz_surface_core.specs.Carried.{IsGivenBy}
-use Rattle.termwiz_surface_core.specs.Following.{LeadsTo}
-use Rattle.termwiz_surface_core.specs.History.{KeepsNames}
-use Rattle.termwiz_surface_core.specs.SurfaceValue.{SurfaceValue, screen_of}
+use Rattle.termwiz_surface.proofs.Following.{known_tells}
+use Rattle.termwiz_surface.proofs.Remembering.{names-stay, past-first, past-names, past-leads}
+use Rattle.termwiz_surface.specs.Answer.{AnswerValue, is_repaint}
+use Rattle.termwiz_surface.specs.Carried.{IsGivenBy}
+use Rattle.termwiz_surface.specs.Following.{LeadsTo}
+use Rattle.termwiz_surface.specs.History.{KeepsNames}
+use Rattle.termwiz_surface.specs.SurfaceValue.{SurfaceValue, screen_of}
 use Rattle.termwiz_wire.specs.Sent.{IsSent}
 use Rattle.termwiz_wire.specs.declared.sent.SentAnswer.{SentAnswer}
 use Rattle.stream_session.specs.Frames.{Frame, LeadsOn, LeadOn, viewing_of}

@@ -8,10 +8,10 @@ use Rattle.termwiz_cell.specs.declared.emoji.UnicodeWidths.{UnicodeWidths}
 use Rattle.termwiz_screen.specs.Picture.{screens}
 use Rattle.termwiz_surface.specs.Schedule.{Acts}
 use Rattle.termwiz_surface.specs.declared.view.Outcome.{Outcome}
-use Rattle.termwiz_surface_core.specs.Answer.{AnswerValue}
-use Rattle.termwiz_surface_core.specs.Carried.{IsGivenBy}
-use Rattle.termwiz_surface_core.specs.History.{KeepsNames}
-use Rattle.termwiz_surface_core.specs.SurfaceValue.{SurfaceValue, screen_of}
+use Rattle.termwiz_surface.specs.Answer.{AnswerValue}
+use Rattle.termwiz_surface.specs.Carried.{IsGivenBy}
+use Rattle.termwiz_surface.specs.History.{KeepsNames}
+use Rattle.termwiz_surface.specs.SurfaceValue.{SurfaceValue, screen_of}
 use Rattle.termwiz_wire.specs.Sent.{IsSent, answer}
 use Rattle.stream_session.specs.Frames.{Frame, LeadOn, IsChain, encoded, viewing_of}
 use Rattle.stream_session.specs.SendSteps.{HasNamed, Steps}

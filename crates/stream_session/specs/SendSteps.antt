@@ -4,9 +4,9 @@ use Rattle.termwiz_cell.specs.declared.emoji.UnicodeWidths.{UnicodeWidths}
 use Rattle.termwiz_screen.specs.Log.{next_number}
 use Rattle.termwiz_screen.specs.Picture.{screens}
 use Rattle.termwiz_screen.specs.Screen.{Screen}
-use Rattle.termwiz_surface_core.specs.Carried.{IsPastOf}
-use Rattle.termwiz_surface_core.specs.History.{Names}
-use Rattle.termwiz_surface_core.specs.SurfaceValue.{SurfaceValue}
+use Rattle.termwiz_surface.specs.Carried.{IsPastOf}
+use Rattle.termwiz_surface.specs.History.{Names}
+use Rattle.termwiz_surface.specs.SurfaceValue.{SurfaceValue}
 use Rattle.stream_session.specs.Frames.{Frame, LeadOn}
 use Rattle.stream_session.specs.Sending.{columns, Sends}
 use Rattle.stream_session.specs.Viewing.{Viewing}

@@ -11,9 +11,9 @@ use Rattle.termwiz_surface.specs.Schedule as schedule
 use Rattle.termwiz_surface.specs.declared.view.Event.{Event}
 use Rattle.termwiz_surface.specs.declared.view.Event.TheVariants as event
 use Rattle.termwiz_surface.specs.declared.view.Outcome.{Outcome}
-use Rattle.termwiz_surface_core.specs.Answer.{AnswerValue}
-use Rattle.termwiz_surface_core.specs.Carried.{IsGivenBy}
-use Rattle.termwiz_surface_core.specs.SurfaceValue.{SurfaceValue, blank_surface, screen_of}
+use Rattle.termwiz_surface.specs.Answer.{AnswerValue}
+use Rattle.termwiz_surface.specs.Carried.{IsGivenBy}
+use Rattle.termwiz_surface.specs.SurfaceValue.{SurfaceValue, blank_surface, screen_of}
 use Rattle.termwiz_wire.specs.Sent.{answer}
 use Rattle.stream_session.specs.Frames.{Frame}
 use Rattle.stream_session.specs.declared.sending.SendEvent.{SendEvent}

@@ -5,8 +5,8 @@ use Rattle.surfview_session.specs.Run.{unicode}
 use Rattle.termwiz_cell.specs.Width.{unicode_columns}
 use Rattle.termwiz_screen.specs.Screen.{Screen}
 use Rattle.termwiz_screen.specs.Step.{replay}
-use Rattle.termwiz_surface_core.specs.Answer.{AnswerValue, is_repaint}
-use Rattle.termwiz_surface_core.specs.SurfaceValue.{blank_surface, screen_of}
+use Rattle.termwiz_surface.specs.Answer.{AnswerValue, is_repaint}
+use Rattle.termwiz_surface.specs.SurfaceValue.{blank_surface, screen_of}
 use Rattle.termwiz_wire.specs.declared.sent.SentAnswer.{SentAnswer}
 use Rattle.stream_session.specs.declared.viewing.AnswerFault.{AnswerFault}
 use Rattle.stream_session.specs.declared.viewing.AnswerFault.TheVariants.{Stale, Size}

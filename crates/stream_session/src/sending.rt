@@ -6,7 +6,7 @@ ghost use Rattle.termwiz_surface.specs.declared.view.Event.TheVariants as event;
 ghost use Rattle.termwiz_surface.specs.{IsGivenBy, IsSurfaceSize, KeepsNames, screens};
 ghost use Rattle.termwiz_cell.specs.Width.{unicode_columns};
 ghost use Rattle.termwiz_wire.specs.Sent.{IsSent, answer};
-ghost use Rattle.termwiz_surface_core.specs.Answer.{AnswerValue};
+ghost use Rattle.termwiz_surface.specs.Answer.{AnswerValue};
 ghost use Rattle.stream_session.specs.Answering.{Answers, Does, IsAnswered, asked_number};
 ghost use Rattle.stream_session.specs.Frames.{Frame, IsChain};
 ghost use Rattle.stream_session.specs.Requests.{IsRequestInRange};

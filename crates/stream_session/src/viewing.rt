@@ -102,7 +102,7 @@ pub struct StreamViewer {
 
 impl Model for StreamViewer {
     ghost use Rattle.stream_session.specs.Viewing.{Viewing};
-    ghost use Rattle.termwiz_surface_core.specs.SurfaceValue.{screen_of};
+    ghost use Rattle.termwiz_surface.specs.SurfaceValue.{screen_of};
 
     ghost Value = { Viewing };
 

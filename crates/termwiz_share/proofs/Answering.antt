@@ -10,11 +10,11 @@ use Rattle.termwiz_screen.specs.FullScreen.{HasFullSize}
 use Rattle.termwiz_screen.specs.Log.{delta_limit, due, next_number}
 use Rattle.termwiz_screen.specs.Picture.{full_screens}
 use Rattle.termwiz_screen.proofs.Logs.{flushed_number}
-use Rattle.termwiz_surface_core.specs.Answer.{AnswerValue, is_repaint}
-use Rattle.termwiz_surface_core.specs.Asking.{knows, own_repaint}
-use Rattle.termwiz_surface_core.specs.Carried.{IsGivenBy}
-use Rattle.termwiz_surface_core.specs.SurfaceValue.{SurfaceValue, full_of}
-use Rattle.termwiz_surface_core.proofs.Remembering.{given-carries}
+use Rattle.termwiz_surface.specs.Answer.{AnswerValue, is_repaint}
+use Rattle.termwiz_surface.specs.Asking.{knows, own_repaint}
+use Rattle.termwiz_surface.specs.Carried.{IsGivenBy}
+use Rattle.termwiz_surface.specs.SurfaceValue.{SurfaceValue, full_of}
+use Rattle.termwiz_surface.proofs.Remembering.{given-carries}
 use Rattle.termwiz_wire.specs.Lengths.{capped}
 use Rattle.termwiz_wire.specs.Sent.{IsSent, answer}
 use Rattle.termwiz_wire.specs.declared.sent.Ask.{Ask}

@@ -13,9 +13,9 @@ use Rattle.termwiz_line.specs.Row.{row_of}
 use Rattle.termwiz_line.proofs.RowOf.{length-row_of}
 use Rattle.termwiz_screen.specs.FullScreen.{FullScreen, HasFullSize, full_step, line_attribute}
 use Rattle.termwiz_screen.specs.Screen.{row_at}
-use Rattle.termwiz_surface_core.proofs.Remembering.{full_screens_keep}
+use Rattle.termwiz_surface.proofs.Remembering.{full_screens_keep}
 use Rattle.termwiz_screen.specs.Picture.{full_screens, played}
-use Rattle.termwiz_surface_core.specs.Answer.{AnswerValue, suits}
+use Rattle.termwiz_surface.specs.Answer.{AnswerValue, suits}
 use Rattle.termwiz_wire.specs.Answers.{answer_at}
 use Rattle.termwiz_wire.specs.Sent.{answer}
 use Rattle.termwiz_wire.specs.declared.fault.Fault.{Fault}

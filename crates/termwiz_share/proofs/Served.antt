@@ -7,13 +7,12 @@ use Rattle.cbor.specs.declared.error.FaultKind.TheVariants.{Limit, Truncated}
 use Rattle.termwiz_screen.specs.FullScreen.{FullScreen}
 use Rattle.termwiz_screen.specs.Log.{next_number}
 use Rattle.termwiz_screen.specs.Picture.{full_screens}
-use Rattle.termwiz_surface_core.specs.Answer.{AnswerValue, Carries}
-use Rattle.termwiz_surface_core.specs.Following.{KeepsViewers}
-use Rattle.termwiz_surface_core.specs.History.{KeepsNames, Names}
-use Rattle.termwiz_surface_core.specs.SurfaceValue.{SurfaceValue, full_of}
-use Rattle.termwiz_surface_core.proofs.Remembering.{past-first}
-use Rattle.termwiz_surface_core.specs.Following as following
-use Rattle.termwiz_surface_core.specs.Following.{ViewerValue}
+use Rattle.termwiz_surface.specs.Answer.{AnswerValue, Carries}
+use Rattle.termwiz_surface.specs.Following.{KeepsViewers, ViewerValue}
+use Rattle.termwiz_surface.specs.History.{KeepsNames, Names}
+use Rattle.termwiz_surface.specs.SurfaceValue.{SurfaceValue, full_of}
+use Rattle.termwiz_surface.proofs.Remembering.{past-first}
+use Rattle.termwiz_surface.specs.Following as following
 use Rattle.termwiz_wire.specs.Answers.{answer_at}
 use Rattle.termwiz_wire.specs.Sent.{answer}
 use Rattle.termwiz_wire.specs.declared.fault.Fault.{Fault}

@@ -4,15 +4,15 @@ use Rattle.std.proofs.lemmas.Bool.{true≢false}
 use Rattle.std.proofs.lemmas.List.{length-append, length-drop, take_all}
 use Rattle.std.specs.Result.{is_err}
 use Rattle.termwiz_cell.specs.ChangeValue.{ChangeValue}
-use Rattle.termwiz_surface_core.specs.Adding.{Adds}
-use Rattle.termwiz_surface_core.specs.SurfaceValue.{SurfaceValue, full_of}
-use Rattle.termwiz_surface_core.specs.declared.surface.SurfaceError.{SurfaceError}
-use Rattle.termwiz_surface_core.proofs.Following.{full-made}
+use Rattle.termwiz_surface.specs.Adding.{Adds}
+use Rattle.termwiz_surface.specs.SurfaceValue.{SurfaceValue, full_of}
+use Rattle.termwiz_surface.specs.declared.surface.SurfaceError.{SurfaceError}
+use Rattle.termwiz_surface.proofs.Following.{full-made}
 use Rattle.cbor.specs.Encoding.{head}
 use Rattle.termwiz_wire.specs.Sent.{answer}
 use Rattle.termwiz_screen.specs.FullScreen.{FullScreen}
 use Rattle.termwiz_screen.specs.Picture.{full_screens, played}
-use Rattle.termwiz_surface_core.specs.Answer.{AnswerValue, is_repaint, suits}
+use Rattle.termwiz_surface.specs.Answer.{AnswerValue, is_repaint, suits}
 use Rattle.termwiz_wire.specs.Answers.{answer_at}
 use Rattle.termwiz_wire.specs.declared.sent.SentAnswer.{SentAnswer}
 use Rattle.termwiz_share.specs.Client.{ClientValue, SameSettings, Shown, blank_screen, fits, has_other_size, shown_by, taken}

@@ -3,8 +3,8 @@ use Rattle.std.specs.Prelude.{◌≡◌, ◌⊎◌, ℕ, ◌*◌, ◌<◌, ◌�
 use Rattle.std.specs.List.{AllByRecursion, flat_map}
 use Rattle.termwiz_screen.specs.FullScreen.{FullScreen, HasFullSize}
 use Rattle.termwiz_screen.specs.Picture.{full_screens}
-use Rattle.termwiz_surface_core.specs.Answer.{Carries}
-use Rattle.termwiz_surface_core.specs.History.{Names}
+use Rattle.termwiz_surface.specs.Answer.{Carries}
+use Rattle.termwiz_surface.specs.History.{Names}
 use Rattle.termwiz_wire.specs.Sent.{IsSent, answer}
 use Rattle.termwiz_wire.specs.declared.fault.Limits.{Limits}
 use Rattle.termwiz_wire.specs.declared.sent.SentAnswer.{SentAnswer}

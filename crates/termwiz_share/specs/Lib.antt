@@ -9,14 +9,14 @@ pub use Rattle.termwiz_cell.specs.ChangeValue.{change_value}
 pub use Rattle.termwiz_cell.specs.Measure.{measure}
 pub use Rattle.termwiz_screen.specs.FullScreen.{FullScreen, full_replay}
 pub use Rattle.termwiz_screen.specs.Log.{next_number}
-pub use Rattle.termwiz_surface_core.specs.Adding.{Adds, with_log}
-pub use Rattle.termwiz_surface_core.specs.Answer.{is_repaint, suits}
-pub use Rattle.termwiz_surface_core.specs.Copies.{IsCopied, IsDrawn, copied_region}
-pub use Rattle.termwiz_surface_core.specs.Diffs.{HasCopied, HasDrawn}
-pub use Rattle.termwiz_surface_core.specs.Following.{KeepsViewers}
-pub use Rattle.termwiz_surface_core.specs.Resizing.{Resizes}
-pub use Rattle.termwiz_surface_core.specs.SurfaceValue.{IsSurfaceSize, SurfaceValue, blank_surface, screen_of}
-pub use Rattle.termwiz_surface_core.specs.declared.surface.SurfaceError.TheVariants.{ScrollRegion}
+pub use Rattle.termwiz_surface.specs.Adding.{Adds, with_log}
+pub use Rattle.termwiz_surface.specs.Answer.{is_repaint, suits}
+pub use Rattle.termwiz_surface.specs.Copies.{IsCopied, IsDrawn, copied_region}
+pub use Rattle.termwiz_surface.specs.Diffs.{HasCopied, HasDrawn}
+pub use Rattle.termwiz_surface.specs.Following.{KeepsViewers}
+pub use Rattle.termwiz_surface.specs.Resizing.{Resizes}
+pub use Rattle.termwiz_surface.specs.SurfaceValue.{IsSurfaceSize, SurfaceValue, blank_surface, screen_of}
+pub use Rattle.termwiz_surface.specs.declared.surface.SurfaceError.TheVariants.{ScrollRegion}
 pub use Rattle.termwiz_wire.specs.Answers.{answer_at}
 pub use Rattle.termwiz_wire.specs.Sent.{IsAsk, ask}
 pub use Rattle.termwiz_wire.specs.declared.fault.Fault.{Fault}

@@ -3,11 +3,11 @@ use Rattle.std.specs.Prelude.{◌≡◌, ◌⊎◌, ℕ, ◌+◌, ◌*◌, ◌<�
 use Rattle.termwiz_screen.specs.FullScreen.{FullScreen, HasFullSize}
 use Rattle.termwiz_screen.specs.Log.{delta_limit, next_number}
 use Rattle.termwiz_screen.specs.Picture.{full_screens}
-use Rattle.termwiz_surface_core.specs.Adding.{with_log}
-use Rattle.termwiz_surface_core.specs.Answer.{AnswerValue}
-use Rattle.termwiz_surface_core.specs.Asking.{forgotten, own_repaint}
-use Rattle.termwiz_surface_core.specs.Carried.{CarriesTo, IsGivenBy, IsPastOf}
-use Rattle.termwiz_surface_core.specs.SurfaceValue.{SurfaceValue, full_of}
+use Rattle.termwiz_surface.specs.Adding.{with_log}
+use Rattle.termwiz_surface.specs.Answer.{AnswerValue}
+use Rattle.termwiz_surface.specs.Asking.{forgotten, own_repaint}
+use Rattle.termwiz_surface.specs.Carried.{CarriesTo, IsGivenBy, IsPastOf}
+use Rattle.termwiz_surface.specs.SurfaceValue.{SurfaceValue, full_of}
 use Rattle.termwiz_wire.specs.Sent.{IsSent, answer}
 use Rattle.termwiz_wire.specs.declared.sent.Ask.{Ask}
 use Rattle.termwiz_wire.specs.declared.sent.SentAnswer.{SentAnswer}

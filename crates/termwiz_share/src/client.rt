@@ -15,7 +15,7 @@ use std::alloc::{AllocError, Global};
 use std::marker::Model;
 use termwiz_cell::change::SequenceNo;
 use termwiz_cell::emoji::Widths;
-use termwiz_surface_core::surface::Surface;
+use termwiz_surface::Surface;
 use termwiz_wire::{
     Ask, Begun, Limits, NoAnswer, SourceNo, WireError, answers, decode_more, encode_ask,
 };

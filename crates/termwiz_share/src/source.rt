@@ -12,7 +12,7 @@ use std::alloc::{AllocError, Global};
 use std::marker::Model;
 use termwiz_cell::change::{Change, SEQ_ZERO, SequenceNo};
 use termwiz_cell::emoji::Widths;
-use termwiz_surface_core::surface::{Answer, Surface, SurfaceError};
+use termwiz_surface::{Answer, Surface, SurfaceError};
 use termwiz_wire::{Ask, SourceNo, encode_answer, encoded_len};
 
 /// A full surface that clients show, with a number that names it among all sources that a client

@@ -1,16 +1,16 @@
 -- What comes of an answer that is accepted.
 use Rattle.std.proofs.Common.{◌≡◌, ℕ, List, sym, ap, ◌∙◌}
-use Rattle.termwiz_surface_core.specs.Adding.{Makes}
+use Rattle.termwiz_surface.specs.Adding.{Makes}
 use Rattle.termwiz_surface.specs.Accepting.{MayTake}
-use Rattle.termwiz_surface_core.specs.Answer.{AnswerValue, Carries}
-use Rattle.termwiz_surface_core.specs.Following.{ViewerValue}
+use Rattle.termwiz_surface.specs.Answer.{AnswerValue, Carries}
+use Rattle.termwiz_surface.specs.Following.{ViewerValue}
 use Rattle.termwiz_screen.specs.FullScreen.{FullScreen, HasFullSize}
-use Rattle.termwiz_surface_core.specs.SurfaceValue.{full_of, SurfaceValue, screen_of}
-use Rattle.termwiz_surface_core.specs.History.{Names}
+use Rattle.termwiz_surface.specs.SurfaceValue.{full_of, SurfaceValue, screen_of}
+use Rattle.termwiz_surface.specs.History.{Names}
 use Rattle.termwiz_screen.specs.Picture.{screens, full_screens}
 use Rattle.termwiz_screen.specs.Screen.{Screen}
-use Rattle.termwiz_surface_core.proofs.Following.{full-made}
-use Rattle.termwiz_surface_core.proofs.Remembering.{carried-leads}
+use Rattle.termwiz_surface.proofs.Following.{full-made}
+use Rattle.termwiz_surface.proofs.Remembering.{carried-leads}
 
 -- a number that is another one names the same picture
 pub names-same : {P : Type 0} (past : ℕ → P) (n k : ℕ) (p q : P) → n ≡ k → q ≡ p → Names past k p → Names past n q

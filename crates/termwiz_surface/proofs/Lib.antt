@@ -1,6 +1,17 @@
-mod Running
+mod Drawn
+mod Printing
+mod Changed
+mod SoundRepaint
+mod Settled
+mod ResizedSize
+pub mod Following
+mod Copying
+mod DiffSurfaces
+pub mod Remembering
+mod Forgetting
 mod Viewing
-mod FollowedRuns
-mod ScheduleLaws
 mod Accepting
+mod FollowedRuns
+mod Running
+mod ScheduleLaws
 mod ManyRuns

@@ -3,17 +3,17 @@ use Rattle.std.proofs.Common.{◌≡◌, ℕ, ◌<◌, ◌≤◌, inl, inr, List
 use Rattle.std.specs.Prelude.{get_or, set}
 use Rattle.std.proofs.lemmas.List.{length-map, length-replicate, get_or-map, get_or-replicate, get_or_default, map-append}
 use Rattle.std.proofs.lemmas.List.Elements.{All-push, All-set}
-use Rattle.termwiz_surface_core.specs.Answer.{AnswerValue, Carries}
-use Rattle.termwiz_surface_core.specs.Following.{ViewerValue, blank_viewer}
-use Rattle.termwiz_surface_core.specs.History.{Names, IsPast, KeepsNames}
+use Rattle.termwiz_surface.specs.Answer.{AnswerValue, Carries}
+use Rattle.termwiz_surface.specs.Following.{ViewerValue, blank_viewer}
+use Rattle.termwiz_surface.specs.History.{Names, IsPast, KeepsNames}
 use Rattle.termwiz_screen.specs.Log.{next_number}
 use Rattle.termwiz_screen.specs.Picture.{screens}
 use Rattle.termwiz_surface.specs.ManySchedule.{Held, ManyState, Receives, ResizesAs, Delivers, TakesOwnSize, AllowsMany, RunsMany, Ended, Next}
 use Rattle.termwiz_surface.specs.ManySteps.{many_state, IsNamed, IsHeld, Remembers, AnswersTo, TakesAs, DeliversTo, Serves}
 use Rattle.termwiz_surface.specs.Schedule.{Acts}
 use Rattle.termwiz_screen.specs.Screen.{Screen}
-use Rattle.termwiz_surface_core.specs.SurfaceValue.{SurfaceValue, screen_of}
-use Rattle.termwiz_surface_core.specs.declared.surface.SurfaceError.TheVariants as refused
+use Rattle.termwiz_surface.specs.SurfaceValue.{SurfaceValue, screen_of}
+use Rattle.termwiz_surface.specs.declared.surface.SurfaceError.TheVariants as refused
 use Rattle.termwiz_surface.specs.declared.view.Event.{Event}
 use Rattle.termwiz_surface.specs.declared.view.Outcome.{Outcome}
 use Rattle.termwiz_surface.specs.declared.view.many.ManyEvent.{ManyEvent}
@@ -21,7 +21,7 @@ use Rattle.termwiz_surface.specs.declared.view.many.ManyEvent.TheVariants.{On, A
 use Rattle.termwiz_surface.specs.declared.view.many.ManyOutcome.{ManyOutcome}
 use Rattle.termwiz_surface.specs.declared.view.many.ManyOutcome.TheVariants.{Of, Kept, Accepted, NotAccepted, Done, Refused, NoSuch}
 use Rattle.termwiz_surface.specs.declared.view.viewer.AcceptError.TheVariants.{Size, Stale, Numbers, Memory}
-use Rattle.termwiz_surface_core.proofs.Remembering.{past-first, names-stay, answers-stay, given-carries}
+use Rattle.termwiz_surface.proofs.Remembering.{past-first, names-stay, answers-stay, given-carries}
 
 pub RunsMany-push : {W : Type 0} {measure_of : W → List ℕ → ℕ} {a b : ManyState W} {events : List (ManyEvent W)} {outcomes : List ManyOutcome} (e : ManyEvent W) (outcome : ManyOutcome) (c : ManyState W)
     → RunsMany measure_of a events outcomes b → AllowsMany measure_of b e outcome c → RunsMany measure_of a (events ++ e ∷ []) (outcomes ++ outcome ∷ []) c

@@ -1,9 +1,9 @@
 -- What a surface does is what the schedule allows, and a run goes on by one event.
 use Rattle.std.proofs.Common.{◌≡◌, ℕ, List, [], ◌∷◌, ◌++◌, refl, sym, subst}
 use Rattle.std.specs.Prelude.{Result}
-use Rattle.termwiz_surface_core.specs.Following.{ViewerValue, Follows}
-use Rattle.termwiz_surface_core.specs.SurfaceValue.{SurfaceValue}
-use Rattle.termwiz_surface_core.specs.declared.surface.SurfaceError.{SurfaceError}
+use Rattle.termwiz_surface.specs.Following.{ViewerValue, Follows}
+use Rattle.termwiz_surface.specs.SurfaceValue.{SurfaceValue}
+use Rattle.termwiz_surface.specs.declared.surface.SurfaceError.{SurfaceError}
 use Rattle.termwiz_surface.specs.Schedule.{Reports, Acts, Views, Allows, Runs, Ended, Next, with_empty_log}
 use Rattle.termwiz_surface.specs.declared.view.Event.{Event}
 use Rattle.termwiz_surface.specs.declared.view.Event.TheVariants.{Changes, Draw, Copy, Flush, Resize, Follow, Show, Ask}

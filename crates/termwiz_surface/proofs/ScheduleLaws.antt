@@ -8,11 +8,11 @@ use Rattle.termwiz_screen.specs.Log.{next_number, due, delta_limit}
 use Rattle.termwiz_screen.specs.Picture.{Pictures, screens, full_screens, played}
 use Rattle.termwiz_screen.specs.Printable.{HasSize}
 use Rattle.termwiz_screen.specs.ScreenValue.{screen_value}
-use Rattle.termwiz_surface_core.proofs.Following.{known_tells, fitted_last, fitted_room}
-use Rattle.termwiz_surface_core.proofs.SoundRepaint.{sound_has_size, sound_is_printable}
-use Rattle.termwiz_surface_core.specs.Asking.{knows, most_own_entries}
-use Rattle.termwiz_surface_core.specs.Following.{ViewerValue, Follows, IsLost, HasNoRoom, HasRoom, has_size_of, asks_with, number_in_size}
-use Rattle.termwiz_surface_core.specs.SurfaceValue.{SurfaceValue, screen_of, full_of}
+use Rattle.termwiz_surface.proofs.Following.{known_tells, fitted_last, fitted_room}
+use Rattle.termwiz_surface.proofs.SoundRepaint.{sound_has_size, sound_is_printable}
+use Rattle.termwiz_surface.specs.Asking.{knows, most_own_entries}
+use Rattle.termwiz_surface.specs.Following.{ViewerValue, Follows, IsLost, HasNoRoom, HasRoom, has_size_of, asks_with, number_in_size}
+use Rattle.termwiz_surface.specs.SurfaceValue.{SurfaceValue, screen_of, full_of}
 use Rattle.termwiz_surface.specs.Schedule.{CatchesUp, with_empty_log}
 use Rattle.termwiz_surface.specs.ScheduleLaws.{LeadOn, FollowedLeadOn, FollowedFullLeadOn, Loses, LackNumbers, LackMemory, BrokenListsLeaveForm}
 

@@ -4,17 +4,17 @@ use Rattle.std.specs.Prelude.{Result, Ok, Err, OnOk, ◌==◌}
 use Rattle.std.proofs.lemmas.Bool.{cases_Bool, eqb-true, true≢false}
 use Rattle.std.proofs.lemmas.Bool.Decides.{nat_tests}
 use Rattle.termwiz_cell.specs.ChangeValue.{ChangeValue}
-use Rattle.termwiz_surface_core.specs.Following.{ViewerValue, Follows, Fits, IsFitted, IsAnswer, Fetches, Accepts, IsLost, HasNoRoom, HasRoom, FollowsTo, has_size_of}
+use Rattle.termwiz_surface.specs.Following.{ViewerValue, Follows, Fits, IsFitted, IsAnswer, Fetches, Accepts, IsLost, HasNoRoom, HasRoom, FollowsTo, has_size_of}
 use Rattle.termwiz_screen.specs.Log.{LogValue, next_number, restarted}
 use Rattle.termwiz_screen.specs.Picture.{Pictures, screens, full_screens}
-use Rattle.termwiz_surface_core.specs.Adding.{Makes}
+use Rattle.termwiz_surface.specs.Adding.{Makes}
 use Rattle.termwiz_screen.specs.FullScreen.{HasFullSize, full_replay}
-use Rattle.termwiz_surface_core.specs.History.{GoesOn, KeepsNames}
-use Rattle.termwiz_surface_core.specs.SurfaceValue.{SurfaceValue, screen_of, full_of}
+use Rattle.termwiz_surface.specs.History.{GoesOn, KeepsNames}
+use Rattle.termwiz_surface.specs.SurfaceValue.{SurfaceValue, screen_of, full_of}
 use Rattle.termwiz_screen.specs.Step.{replay, regions_fit}
-use Rattle.termwiz_surface_core.specs.declared.surface.SurfaceError.{SurfaceError}
-use Rattle.termwiz_surface_core.specs.declared.surface.SurfaceError.TheVariants.{ScrollRegion, Numbers, Memory}
-use Rattle.termwiz_surface_core.proofs.Following.{Follows-none, Follows-same, Follows-fitted, caught_up, fully_caught_up, full-made, fitted_widths, fitted_full, fitted_height, fitted_number, fitted_last, fitted_room}
+use Rattle.termwiz_surface.specs.declared.surface.SurfaceError.{SurfaceError}
+use Rattle.termwiz_surface.specs.declared.surface.SurfaceError.TheVariants.{ScrollRegion, Numbers, Memory}
+use Rattle.termwiz_surface.proofs.Following.{Follows-none, Follows-same, Follows-fitted, caught_up, fully_caught_up, full-made, fitted_widths, fitted_full, fitted_height, fitted_number, fitted_last, fitted_room}
 use Rattle.termwiz_screen.proofs.Logs.{restarted_number}
 
 -- an emptied log's number is no smaller

@@ -1,10 +1,10 @@
 -- What a viewer does that is given an answer.
 use Rattle.std.specs.Prelude.{◌≡◌, ◌⊎◌, ℕ, ◌+◌, ◌<◌, ◌≤◌, ◌^◌, true, false, List, length, Result, Ok, Err}
-use Rattle.termwiz_surface_core.specs.Adding.{Makes, with_log}
-use Rattle.termwiz_surface_core.specs.Answer.{AnswerValue, suits, is_stale}
-use Rattle.termwiz_surface_core.specs.Following.{ViewerValue, forgetful}
+use Rattle.termwiz_surface.specs.Adding.{Makes, with_log}
+use Rattle.termwiz_surface.specs.Answer.{AnswerValue, suits, is_stale}
+use Rattle.termwiz_surface.specs.Following.{ViewerValue, forgetful}
 use Rattle.termwiz_screen.specs.Log.{next_number, restarted}
-use Rattle.termwiz_surface_core.specs.SurfaceValue.{IsSound, SameFrame}
+use Rattle.termwiz_surface.specs.SurfaceValue.{IsSound, SameFrame}
 use Rattle.termwiz_surface.specs.declared.view.viewer.AcceptError.{AcceptError}
 use Rattle.termwiz_surface.specs.declared.view.viewer.AcceptError.TheVariants.{Size, Stale, Numbers, Memory}
 

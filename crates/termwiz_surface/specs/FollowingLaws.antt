@@ -1,7 +1,7 @@
 -- What happens to a surface keeps its viewers following, those that show screens and those that show full ones.
 use Rattle.std.specs.Prelude.{◌≡◌, ℕ, List}
 use Rattle.termwiz_cell.specs.ChangeValue.{ChangeValue}
-use Rattle.termwiz_surface_core.specs.Following.{LeadsTo}
+use Rattle.termwiz_surface.specs.Following.{LeadsTo}
 use Rattle.termwiz_screen.specs.Log.{LogValue, next_number, appended, flushed, restarted}
 use Rattle.termwiz_screen.specs.Picture.{Pictures, played}
 use Rattle.termwiz_screen.specs.Stream.{Brings}

@@ -1,9 +1,9 @@
 -- What happens to a surface leaves what its numbers named, screens and full screens; and an answer leads to the picture that its number names.
 use Rattle.std.specs.Prelude.{◌≡◌, ℕ, ◌≤◌, false, List, []}
 use Rattle.termwiz_cell.specs.ChangeValue.{ChangeValue}
-use Rattle.termwiz_surface_core.specs.Answer.{AnswerValue, IsGiven, Carries, is_stale}
-use Rattle.termwiz_surface_core.specs.Following.{LeadsTo}
-use Rattle.termwiz_surface_core.specs.History.{Names, IsPast, GoesOn}
+use Rattle.termwiz_surface.specs.Answer.{AnswerValue, IsGiven, Carries, is_stale}
+use Rattle.termwiz_surface.specs.Following.{LeadsTo}
+use Rattle.termwiz_surface.specs.History.{Names, IsPast, GoesOn}
 use Rattle.termwiz_screen.specs.Log.{LogValue, next_number, appended, flushed, restarted}
 use Rattle.termwiz_screen.specs.Picture.{Pictures, played}
 

@@ -1,22 +1,22 @@
+pub mod SurfaceValue
+pub mod Printing
+pub mod Adding
+pub mod Resizing
+pub mod Following
+pub mod Copies
+pub mod History
+pub mod Answer
+pub mod Asking
+pub mod Diffs
+pub mod Carried
 pub mod Accepting
-pub mod Schedule
-pub mod ScheduleLaws
+pub mod Showing
 pub mod FollowingLaws
 pub mod HistoryLaws
+pub mod Schedule
+pub mod ScheduleLaws
 pub mod ManySchedule
 pub mod ManySteps
-pub mod Showing
-pub use Rattle.termwiz_surface_core.specs.SurfaceValue
-pub use Rattle.termwiz_surface_core.specs.Printing
-pub use Rattle.termwiz_surface_core.specs.Adding
-pub use Rattle.termwiz_surface_core.specs.Resizing
-pub use Rattle.termwiz_surface_core.specs.Following
-pub use Rattle.termwiz_surface_core.specs.Copies
-pub use Rattle.termwiz_surface_core.specs.History
-pub use Rattle.termwiz_surface_core.specs.Answer
-pub use Rattle.termwiz_surface_core.specs.Asking
-pub use Rattle.termwiz_surface_core.specs.Diffs
-pub use Rattle.termwiz_surface_core.specs.Carried
 pub use Rattle.termwiz_screen.specs.Screen
 pub use Rattle.termwiz_screen.specs.Place
 pub use Rattle.termwiz_screen.specs.Print
@@ -47,17 +47,17 @@ pub use Rattle.termwiz_screen.specs.Fewest
 pub use Rattle.termwiz_screen.specs.SequenceLaws
 pub use Rattle.termwiz_cell.specs.ChangeValue
 -- what callers cite, by its name alone: surfaces, viewers and answers,
-pub use Rattle.termwiz_surface_core.specs.SurfaceValue.{SurfaceValue, blank_surface, screen_of, kept_of, full_of, IsSound, IsSurfaceSize, SameFrame}
-pub use Rattle.termwiz_surface_core.specs.Adding.{Adds, Makes, with_log}
-pub use Rattle.termwiz_surface_core.specs.Resizing.{HasResized, Resizes}
-pub use Rattle.termwiz_surface_core.specs.Copies.{IsDrawn, IsCopied, drawn_region, copied_region}
-pub use Rattle.termwiz_surface_core.specs.Following.{ViewerValue, Follows, FollowsTo, KeepsViewers, Leads, FullLeads, blank_viewer}
-pub use Rattle.termwiz_surface_core.specs.History.{Names, IsPast, KeepsNames}
-pub use Rattle.termwiz_surface_core.specs.Asking.{knows, own_repaint, most_own_entries, Repaints, StreamsFrom, StreamsFullyFrom}
-pub use Rattle.termwiz_surface_core.specs.Diffs.{MeasureAlike, screen_after, HasDrawn, HasCopied, region_at, cut_to, PrintsRegion, GivesRegion, region_diff, rows_of, top_rows, one_row, PrintsRows, HaveTopRows, HaveRow}
-pub use Rattle.termwiz_surface_core.specs.Answer.{AnswerValue, IsGiven, Carries}
-pub use Rattle.termwiz_surface_core.specs.Carried.{IsPastOf, IsGivenBy, CarriesTo}
-pub use Rattle.termwiz_surface_core.specs.declared.surface.SurfaceError.TheVariants.{ScrollRegion}
+pub use Rattle.termwiz_surface.specs.SurfaceValue.{SurfaceValue, blank_surface, screen_of, kept_of, full_of, IsSound, IsSurfaceSize, SameFrame}
+pub use Rattle.termwiz_surface.specs.Adding.{Adds, Makes, with_log}
+pub use Rattle.termwiz_surface.specs.Resizing.{HasResized, Resizes}
+pub use Rattle.termwiz_surface.specs.Copies.{IsDrawn, IsCopied, drawn_region, copied_region}
+pub use Rattle.termwiz_surface.specs.Following.{ViewerValue, Follows, FollowsTo, KeepsViewers, Leads, FullLeads, blank_viewer}
+pub use Rattle.termwiz_surface.specs.History.{Names, IsPast, KeepsNames}
+pub use Rattle.termwiz_surface.specs.Asking.{knows, own_repaint, most_own_entries, Repaints, StreamsFrom, StreamsFullyFrom}
+pub use Rattle.termwiz_surface.specs.Diffs.{MeasureAlike, screen_after, HasDrawn, HasCopied, region_at, cut_to, PrintsRegion, GivesRegion, region_diff, rows_of, top_rows, one_row, PrintsRows, HaveTopRows, HaveRow}
+pub use Rattle.termwiz_surface.specs.Answer.{AnswerValue, IsGiven, Carries}
+pub use Rattle.termwiz_surface.specs.Carried.{IsPastOf, IsGivenBy, CarriesTo}
+pub use Rattle.termwiz_surface.specs.declared.surface.SurfaceError.TheVariants.{ScrollRegion}
 pub use Rattle.termwiz_storage.specs.Clustered.{IsWhole}
 pub use Rattle.termwiz_surface.specs.Accepting.{Takes}
 pub use Rattle.termwiz_surface.specs.Showing.{HasCaughtUp, ShowsNamed, KeepsShowing, ShowsCarried, StaysNamed}
@@ -119,15 +119,36 @@ pub use Rattle.termwiz_cell.specs.declared.color.ColorAttribute.{ColorAttribute}
 pub use Rattle.termwiz_cell.specs.declared.change.Position.TheVariants.{Relative, Absolute, EndRelative}
 pub use Rattle.termwiz_cell.specs.declared.change.LineAttribute.TheVariants.{DoubleHeightTopHalfLine, DoubleHeightBottomHalfLine, DoubleWidthLine, SingleWidthLine}
 -- what the contracts of this crate use, by its name alone
-pub use Rattle.std.specs.Cow.{cow_slice_items}
-pub use Rattle.std.specs.List.{All, Any}
+pub use Rattle.std.specs.Cow.{IsBorrowedSlice, IsOwnedSlice, cow_slice_items}
+pub use Rattle.std.specs.List.{All, Any, list_all}
 pub use Rattle.std.specs.Option.{IfSome, IsNone}
-pub use Rattle.std.specs.Prelude.{IfOk, length, nat_lt, true}
+pub use Rattle.std.specs.Prelude.{IfOk, IsOk, OnErr, OnOk, Some, false, length, map, nat_lt, not, true, ℕ}
+pub use Rattle.std.specs.Str.{chars}
+pub use Rattle.termwiz_cell.specs.AttributeChangeValue.{attribute_change_value, with_attribute}
+pub use Rattle.termwiz_cell.specs.Attributes.{needs_box}
+pub use Rattle.termwiz_screen.specs.Clear.{clear_eol, clear_eos, clear_screen, eol_lengths, eos_lengths, screen_lengths}
+pub use Rattle.termwiz_screen.specs.Diff.{restoring}
+pub use Rattle.termwiz_screen.specs.Measured.{IsMeasured}
+pub use Rattle.termwiz_screen.specs.Place.{placed}
+pub use Rattle.termwiz_screen.specs.Print.{columns_left, down, down_kept, one_kept, print, print_kept, print_one, put_at_cursor, put_kept, returned, wrapped, wrapped_kept}
+pub use Rattle.termwiz_screen.specs.RegionValue.{region_value}
+pub use Rattle.termwiz_screen.specs.Repaint.{full_repaint, repaint}
+pub use Rattle.termwiz_screen.specs.Runs.{AreNarrow, AreWide}
+pub use Rattle.termwiz_screen.specs.ScreenValue.{cells_of}
+pub use Rattle.termwiz_screen.specs.ScrollRegions.{region_down, region_up}
+pub use Rattle.termwiz_screen.specs.Sides.{AreVectors, row_flags}
+pub use Rattle.termwiz_screen.specs.Step.{region_fits}
 pub use Rattle.termwiz_surface.specs.Accepting.{Declines, HasDropped, MayTake}
+pub use Rattle.termwiz_surface.specs.Adding.{Refuses}
+pub use Rattle.termwiz_surface.specs.Answer.{is_repaint}
+pub use Rattle.termwiz_surface.specs.Asking.{forgotten}
+pub use Rattle.termwiz_surface.specs.Following.{Accepts, Fetches, Fits, forgetful}
 pub use Rattle.termwiz_surface.specs.FollowingLaws.{ChangesLeadOn, FlushesKeepLeading, LeadsWhereItIs, RestartsKeepLeading, StreamsLeadOn}
 pub use Rattle.termwiz_surface.specs.HistoryLaws.{AnswersStay, CarriedLead, ChangesGoOn, FlushesKeepPast, GivenCarry, NamedAreLed, NamesStay, NothingIsNamedAtFirst, NumberNamesPicture, RestartsGoOn}
 pub use Rattle.termwiz_surface.specs.ManySchedule.{Held, IsManyInRange, ResizesAs}
 pub use Rattle.termwiz_surface.specs.ManySteps.{AnswersTo, DeliversTo, Remembers, Serves}
+pub use Rattle.termwiz_surface.specs.Printing.{PrintsFirst, PrintsGraphemes}
 pub use Rattle.termwiz_surface.specs.Schedule.{Acts, Allows, IsInRange, IsScheduleOf, Reports, Views, with_empty_log}
 pub use Rattle.termwiz_surface.specs.ScheduleLaws.{BrokenListsLeaveForm, FollowedFullLeadOn, FollowedLeadOn, LackMemory, LackNumbers}
-pub use Rattle.termwiz_surface_core.specs.Following.{Accepts, Fetches, Fits, forgetful}
+pub use Rattle.termwiz_surface.specs.SurfaceValue.{Becomes, lengths_of}
+pub use Rattle.unicode_segmentation.specs.Grapheme.{graphemes}

@@ -4,13 +4,13 @@ use Rattle.std.specs.Prelude.{◌≡◌, ◌⊎◌, false, ℕ, ◌<◌, ◌≤�
 use Rattle.termwiz_screen.specs.Picture.{screens}
 use Rattle.termwiz_screen.specs.Screen.{Screen}
 use Rattle.termwiz_screen.specs.ScreenValue.{screen_value}
-use Rattle.termwiz_surface_core.specs.Answer.{AnswerValue}
-use Rattle.termwiz_surface_core.specs.Asking.{knows, own_repaint}
-use Rattle.termwiz_surface_core.specs.Carried.{IsGivenBy}
-use Rattle.termwiz_surface_core.specs.Following.{ViewerValue, blank_viewer}
-use Rattle.termwiz_surface_core.specs.Resizing.{Resizes}
-use Rattle.termwiz_surface_core.specs.SurfaceValue.{IsSurfaceSize, SurfaceValue, blank_surface, screen_of}
-use Rattle.termwiz_surface_core.specs.declared.surface.SurfaceError.TheVariants as refused
+use Rattle.termwiz_surface.specs.Answer.{AnswerValue}
+use Rattle.termwiz_surface.specs.Asking.{knows, own_repaint}
+use Rattle.termwiz_surface.specs.Carried.{IsGivenBy}
+use Rattle.termwiz_surface.specs.Following.{ViewerValue, blank_viewer}
+use Rattle.termwiz_surface.specs.Resizing.{Resizes}
+use Rattle.termwiz_surface.specs.SurfaceValue.{IsSurfaceSize, SurfaceValue, blank_surface, screen_of}
+use Rattle.termwiz_surface.specs.declared.surface.SurfaceError.TheVariants as refused
 use Rattle.termwiz_surface.specs.Accepting.{Takes}
 use Rattle.termwiz_surface.specs.Schedule.{Acts, HasUnmarkedRows, IsInRange}
 use Rattle.termwiz_surface.specs.declared.view.Event.TheVariants as event

@@ -2,19 +2,19 @@
 use Rattle.std.specs.Prelude.{◌≡◌, ℕ, ◌≤◌, false, List, [], ◌∷◌, ◌++◌, length, map, Ok, Err}
 use Rattle.std.specs.List.{All}
 use Rattle.termwiz_surface.specs.Accepting.{Takes}
-use Rattle.termwiz_surface_core.specs.Answer.{AnswerValue, Carries}
-use Rattle.termwiz_surface_core.specs.Asking.{knows, own_repaint}
-use Rattle.termwiz_surface_core.specs.Carried.{IsGivenBy}
-use Rattle.termwiz_surface_core.specs.Following.{ViewerValue}
-use Rattle.termwiz_surface_core.specs.History.{Names, IsPast}
+use Rattle.termwiz_surface.specs.Answer.{AnswerValue, Carries}
+use Rattle.termwiz_surface.specs.Asking.{knows, own_repaint}
+use Rattle.termwiz_surface.specs.Carried.{IsGivenBy}
+use Rattle.termwiz_surface.specs.Following.{ViewerValue}
+use Rattle.termwiz_surface.specs.History.{Names, IsPast}
 use Rattle.termwiz_screen.specs.Log.{next_number}
 use Rattle.termwiz_surface.specs.ManySchedule.{Held, ManyState, AllowsMany}
 use Rattle.termwiz_screen.specs.Picture.{screens}
 use Rattle.termwiz_surface.specs.Schedule.{HasUnmarkedRows}
 use Rattle.termwiz_screen.specs.Screen.{Screen}
 use Rattle.termwiz_screen.specs.ScreenValue.{screen_value}
-use Rattle.termwiz_surface_core.specs.SurfaceValue.{SurfaceValue, screen_of}
-use Rattle.termwiz_surface_core.specs.declared.surface.SurfaceError.TheVariants as refused
+use Rattle.termwiz_surface.specs.SurfaceValue.{SurfaceValue, screen_of}
+use Rattle.termwiz_surface.specs.declared.surface.SurfaceError.TheVariants as refused
 use Rattle.termwiz_surface.specs.declared.view.many.ManyEvent.{ManyEvent}
 use Rattle.termwiz_surface.specs.declared.view.many.ManyOutcome.{ManyOutcome}
 use Rattle.termwiz_surface.specs.declared.view.many.ManyOutcome.TheVariants.{Kept, Accepted, NotAccepted, Refused}

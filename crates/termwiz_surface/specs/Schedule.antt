@@ -11,13 +11,13 @@ use Rattle.termwiz_screen.specs.Picture.{Pictures, screens, full_screens}
 use Rattle.termwiz_screen.specs.ScreenValue.{screen_value}
 use Rattle.termwiz_screen.specs.ShownChars.{shown_chars}
 use Rattle.termwiz_screen.specs.declared.screen.Screen as code
-use Rattle.termwiz_surface_core.specs.Adding.{Adds, with_log}
-use Rattle.termwiz_surface_core.specs.Copies.{IsDrawn, IsCopied}
-use Rattle.termwiz_surface_core.specs.Following.{ViewerValue, Follows, FollowsTo, IsAnswer, blank_viewer}
-use Rattle.termwiz_surface_core.specs.Resizing.{Resizes}
-use Rattle.termwiz_surface_core.specs.SurfaceValue.{IsSurfaceSize, SurfaceValue, blank_surface, screen_of, lengths_of, full_of}
-use Rattle.termwiz_surface_core.specs.declared.surface.SurfaceError.{SurfaceError}
-use Rattle.termwiz_surface_core.specs.declared.surface.SurfaceError.TheVariants.{Memory}
+use Rattle.termwiz_surface.specs.Adding.{Adds, with_log}
+use Rattle.termwiz_surface.specs.Copies.{IsDrawn, IsCopied}
+use Rattle.termwiz_surface.specs.Following.{ViewerValue, Follows, FollowsTo, IsAnswer, blank_viewer}
+use Rattle.termwiz_surface.specs.Resizing.{Resizes}
+use Rattle.termwiz_surface.specs.SurfaceValue.{IsSurfaceSize, SurfaceValue, blank_surface, screen_of, lengths_of, full_of}
+use Rattle.termwiz_surface.specs.declared.surface.SurfaceError.{SurfaceError}
+use Rattle.termwiz_surface.specs.declared.surface.SurfaceError.TheVariants.{Memory}
 use Rattle.termwiz_surface.specs.declared.view.Event.{Event}
 use Rattle.termwiz_surface.specs.declared.view.Event.TheVariants.{Changes, Draw, Copy, Flush, Resize, Follow, Show, Ask}
 use Rattle.termwiz_surface.specs.declared.view.Outcome.{Outcome}

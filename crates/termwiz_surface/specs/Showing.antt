@@ -2,10 +2,10 @@
 use Rattle.std.specs.Prelude.{◌≡◌, ℕ, List, Result, OnOk}
 use Rattle.termwiz_screen.specs.Log.{next_number}
 use Rattle.termwiz_screen.specs.Picture.{Pictures}
-use Rattle.termwiz_surface_core.specs.Answer.{AnswerValue, Carries}
-use Rattle.termwiz_surface_core.specs.Following.{ViewerValue}
-use Rattle.termwiz_surface_core.specs.History.{Names}
-use Rattle.termwiz_surface_core.specs.SurfaceValue.{SurfaceValue, screen_of, full_of}
+use Rattle.termwiz_surface.specs.Answer.{AnswerValue, Carries}
+use Rattle.termwiz_surface.specs.Following.{ViewerValue}
+use Rattle.termwiz_surface.specs.History.{Names}
+use Rattle.termwiz_surface.specs.SurfaceValue.{SurfaceValue, screen_of, full_of}
 use Rattle.termwiz_surface.specs.declared.view.viewer.AcceptError.{AcceptError}
 
 -- the surface's screen, and it has the surface's number

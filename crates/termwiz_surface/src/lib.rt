@@ -1,22 +1,34 @@
-//! Surfaces, the viewers that follow them or accept their answers, and runs of events.
+//! Surfaces: screens that lists of changes modify, the answers that viewers get, the viewers that
+//! follow a surface or accept its answers, and runs of events.
 //!
 //! This is the crate that callers name. Its root has the types that they use, and it re-exports the
 //! modules of the crates below under termwiz's names: cells, colours, links, changes, width values,
 //! lines and shaper clusters. `specs/Lib.antt` re-exports the definitions that callers cite, each
 //! by its name alone.
 //!
+//! - `specs/SurfaceValue.antt` defines a surface in contracts, and its invariant.
+//! - `specs/Adding.antt`, `specs/Resizing.antt` and `specs/Copies.antt` define what a list of
+//!   changes, a resize, and draws and copies do to a surface (`surface.rt`).
+//! - `specs/Asking.antt` defines what answers viewers get, and `specs/Diffs.antt` what a diff of
+//!   two surfaces prints.
+//! - `specs/Following.antt` defines when a viewer follows a surface: each call that changes a
+//!   surface promises that its viewers still follow it. `specs/FollowingLaws.antt` says why.
+//! - `specs/History.antt` defines what a surface's numbers name: above 0 each number names one
+//!   picture, whatever happens to the surface. `specs/Answer.antt` and `specs/Carried.antt` define
+//!   an answer as a value, and where it leads, and `specs/HistoryLaws.antt` says why.
 //! - A viewer takes the surface's size, gets the changes that it lacks, and applies them
 //!   (`view/viewer.rt`), or accepts an answer that was stored or sent (`specs/Accepting.antt`).
-//!   `specs/Showing.antt` defines what viewers show, `specs/HistoryLaws.antt` and
-//!   `specs/FollowingLaws.antt` why they still follow.
+//!   `specs/Showing.antt` defines what viewers show.
 //! - `specs/Schedule.antt` defines which outcomes a list of events may have, on one surface with
 //!   one viewer (`view.rt`), and `specs/ManySchedule.antt` with many viewers, whose answers are
 //!   stored and delivered in any order (`view/many.rt`).
 #![tactic(auto)]
 
 pub mod laws;
+pub mod surface;
 pub mod view;
 
+pub use surface::{Answer, FullScreen, NewSurfaceError, Screen, Surface, SurfaceError};
 pub use termwiz_cell::cell::{AttributeChange, Cell, CellAttributes};
 pub use termwiz_cell::change::{
     Change, CursorShape, CursorVisibility, Position, SEQ_ZERO, SequenceNo,
@@ -29,9 +41,5 @@ pub use termwiz_line::line::line::Line;
 pub use termwiz_line::{cellcluster, line};
 pub use termwiz_storage::line::cellref::{CellRef, VisibleCellIter};
 pub use termwiz_storage::line::vecstorage::VecStorage;
-pub use termwiz_surface_core::surface;
-pub use termwiz_surface_core::surface::{
-    Answer, FullScreen, NewSurfaceError, Screen, Surface, SurfaceError,
-};
 pub use termwiz_text::{split_letter_run, split_plain_run};
 pub use view::{AcceptError, Event, Outcome, Viewer};

@@ -1,7 +1,7 @@
 -- How answers and asks are encoded.
 use Rattle.std.specs.Prelude.{◌≡◌, ℕ, ◌<◌, ◌^◌, List, ◌++◌}
 use Rattle.cbor.specs.Encoding.{unsigned, array}
-use Rattle.termwiz_surface_core.specs.Answer.{IsWellFormed}
+use Rattle.termwiz_surface.specs.Answer.{IsWellFormed}
 use Rattle.termwiz_wire.specs.Encoding.{changes}
 use Rattle.termwiz_wire.specs.Forms.{AreChanges}
 use Rattle.termwiz_wire.specs.declared.sent.SentAnswer.{SentAnswer}

@@ -25,7 +25,7 @@ use termwiz_cell::change::{Change, Position};
 use termwiz_cell::color::ColorAttribute;
 use termwiz_cell::emoji::Widths;
 use termwiz_cell::hyperlink::Hyperlink;
-use termwiz_surface_core::surface::Answer;
+use termwiz_surface::Answer;
 
 #[tactic(auto, unfolding(crate::specs::Encoding::color))]
 fn color_len(value: ColorAttribute) -> usize

@@ -1,6 +1,6 @@
 //! What a stream carries: answers, each with its source, and what is asked for.
 use termwiz_cell::change::SequenceNo;
-use termwiz_surface_core::surface::Answer;
+use termwiz_surface::Answer;
 
 /// The number of a source, which is a surface that gives answers. Numbers are from 1 on, and 0
 /// names no source.

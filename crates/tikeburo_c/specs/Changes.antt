@@ -7,9 +7,9 @@ use Rattle.termwiz_cell.specs.ChangeValue.{Attribute, ChangeValue, change_value}
 use Rattle.termwiz_cell.specs.declared.change.Change.{Change}
 use Rattle.termwiz_share.specs.Serving.{KeepsClients}
 use Rattle.termwiz_share.specs.Source.{SourceValue, trimmed}
-use Rattle.termwiz_surface_core.specs.Adding.{Adds}
-use Rattle.termwiz_surface_core.specs.Following.{KeepsViewers}
-use Rattle.termwiz_surface_core.specs.declared.surface.SurfaceError.{SurfaceError}
+use Rattle.termwiz_surface.specs.Adding.{Adds}
+use Rattle.termwiz_surface.specs.Following.{KeepsViewers}
+use Rattle.termwiz_surface.specs.declared.surface.SurfaceError.{SurfaceError}
 use Rattle.termwiz_wire.specs.Answers.{changes_at}
 use Rattle.termwiz_wire.specs.Encoding.{changes}
 use Rattle.termwiz_wire.specs.Forms.{AreChanges}

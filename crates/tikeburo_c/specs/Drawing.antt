@@ -2,8 +2,8 @@
 use Rattle.std.specs.Prelude.{◌≡◌, ℕ, Result, Err, OnOk, Option, Some, None}
 use Rattle.termwiz_share.specs.Source.{SourceValue, trimmed}
 use Rattle.termwiz_surface.specs.{HasCopied, HasDrawn, IsCopied, IsDrawn, SurfaceValue, copied_region, screen_of}
-use Rattle.termwiz_surface_core.specs.declared.surface.SurfaceError.{SurfaceError}
-use Rattle.termwiz_surface_core.specs.declared.surface.SurfaceError.TheVariants.{ScrollRegion}
+use Rattle.termwiz_surface.specs.declared.surface.SurfaceError.{SurfaceError}
+use Rattle.termwiz_surface.specs.declared.surface.SurfaceError.TheVariants.{ScrollRegion}
 use Rattle.tikeburo_c.specs.Changes.{GoesOn}
 use Rattle.tikeburo_c.specs.Kept.{shown_of}
 use Rattle.tikeburo_c.specs.Outcomes.{Outcome, changing_failure, outcome_of}

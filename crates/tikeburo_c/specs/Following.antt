@@ -2,10 +2,10 @@
 use Rattle.std.specs.Prelude.{◌≡◌, ℕ, true, not, ◌==◌, ◌||◌, Result, Ok, OnOk, OnErr, Option, Some, None, if◌then◌else◌}
 use Rattle.termwiz_screen.specs.Log.{flushed, next_number}
 use Rattle.termwiz_surface.specs.Showing.{HasCaughtUp}
-use Rattle.termwiz_surface_core.specs.Adding.{with_log}
-use Rattle.termwiz_surface_core.specs.Following.{Follows, FollowsTo, ViewerValue, blank_viewer}
-use Rattle.termwiz_surface_core.specs.SurfaceValue.{SurfaceValue, full_of}
-use Rattle.termwiz_surface_core.specs.declared.surface.SurfaceError.{SurfaceError}
+use Rattle.termwiz_surface.specs.Adding.{with_log}
+use Rattle.termwiz_surface.specs.Following.{Follows, FollowsTo, ViewerValue, blank_viewer}
+use Rattle.termwiz_surface.specs.SurfaceValue.{SurfaceValue, full_of}
+use Rattle.termwiz_surface.specs.declared.surface.SurfaceError.{SurfaceError}
 use Rattle.tikeburo_c.specs.Kept.{number_of, shown_of}
 use Rattle.tikeburo_c.specs.Outcomes.{Outcome, changing_failure, outcome_of}
 use Rattle.tikeburo_c.specs.Results.{OnViewer, OrNoMemory, Refused, Returns}

@@ -2,8 +2,8 @@
 use Rattle.std.specs.Prelude.{◌≡◌, ℕ, ℤ, pos, List, Result, Ok, Err}
 use Rattle.cbor.specs.declared.error.FaultKind.{FaultKind}
 use Rattle.cbor.specs.declared.error.FaultKind.TheVariants as faults
-use Rattle.termwiz_surface_core.specs.declared.surface.SurfaceError.{SurfaceError}
-use Rattle.termwiz_surface_core.specs.declared.surface.SurfaceError.TheVariants as changing
+use Rattle.termwiz_surface.specs.declared.surface.SurfaceError.{SurfaceError}
+use Rattle.termwiz_surface.specs.declared.surface.SurfaceError.TheVariants as changing
 use Rattle.termwiz_wire.specs.declared.fault.Fault.{Fault}
 use Rattle.termwiz_wire.specs.declared.fault.WireError.{WireError}
 use Rattle.termwiz_wire.specs.declared.fault.WireError.TheVariants as decoding

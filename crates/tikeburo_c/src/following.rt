@@ -1,6 +1,6 @@
 //! Viewers: how they are made, and follow.
 ghost use Rattle.std.specs.Prelude.{◌≡◌, IfErr, IfOk, OnOk, Some};
-ghost use Rattle.termwiz_surface_core.specs.Following.{Follows, blank_viewer};
+ghost use Rattle.termwiz_surface.specs.Following.{Follows, blank_viewer};
 ghost use Rattle.tikeburo_c.specs.Following.{FollowsSource, MakesViewer, blank_follower};
 ghost use Rattle.tikeburo_c.specs.Handles.{kept_of};
 ghost use Rattle.tikeburo_c.specs.Outcomes.{Reports};

@@ -8,7 +8,7 @@ use crate::error::ClientError;
 use cbor::unsigned_len;
 use termwiz_cell::change::SequenceNo;
 use termwiz_cell::emoji::Widths;
-use termwiz_surface_core::surface::{Answer, Surface};
+use termwiz_surface::{Answer, Surface};
 use termwiz_wire::{SentAnswer, SourceNo};
 
 impl<W: Widths> Client<W> {

@@ -72,7 +72,7 @@ pub struct Viewer<W: Widths> {
 }
 
 impl<W: Widths> Model for Viewer<W> {
-    ghost use Rattle.termwiz_surface_core.specs.Following.{ViewerValue};
+    ghost use Rattle.termwiz_surface.specs.Following.{ViewerValue};
 
     ghost Value = { ViewerValue W };
 

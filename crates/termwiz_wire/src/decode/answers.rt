@@ -18,7 +18,7 @@ use cbor::Reader;
 use std::alloc::Global;
 use termwiz_cell::change::Change;
 use termwiz_cell::emoji::Widths;
-use termwiz_surface_core::surface::Answer;
+use termwiz_surface::Answer;
 
 /// Decodes the answer at the front of the bytes, and returns how many bytes it takes. Its texts are
 /// cut and measured by `widths` as they were by its sender.

@@ -9,7 +9,7 @@ use crate::sent::{Ask, SourceNo};
 use cbor::{put_array, put_unsigned};
 use std::alloc::AllocError;
 use termwiz_cell::emoji::Widths;
-use termwiz_surface_core::surface::Answer;
+use termwiz_surface::Answer;
 
 /// The version of the stream.
 const VERSION: usize = 2;

@@ -1,6 +1,6 @@
 use Rattle.std.proofs.Common.{ℕ, refl, subst}
 use Rattle.termwiz_screen.specs.Picture.{screens}
-use Rattle.termwiz_surface_core.specs.Carried.{IsGivenBy}
+use Rattle.termwiz_surface.specs.Carried.{IsGivenBy}
 use Rattle.stream_session.specs.Answering.{asked_number}
 use Rattle.stream_session.specs.Sending.{columns}
 use Rattle.stream_session.proofs.Answered.{answered_by}

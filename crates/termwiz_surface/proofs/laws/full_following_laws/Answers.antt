@@ -1,5 +1,5 @@
 use Rattle.termwiz_screen.specs.Picture.{full_screens}
-use Rattle.termwiz_surface_core.proofs.Following.{Leads-same, Leads-appended, Leads-flushed, Leads-restarted, Leads-stream}
+use Rattle.termwiz_surface.proofs.Following.{Leads-same, Leads-appended, Leads-flushed, Leads-restarted, Leads-stream}
 use Rattle.termwiz_surface.proofs.laws.full_following_laws.Goals as goal
 
 pub returns : goal.returns

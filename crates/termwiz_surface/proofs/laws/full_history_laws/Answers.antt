@@ -1,5 +1,5 @@
 use Rattle.termwiz_screen.specs.Picture.{full_screens}
-use Rattle.termwiz_surface_core.proofs.Remembering.{past-first, past-names, past-leads, past-changes, past-flushed, past-restarted, names-stay, answers-stay, given-carries, carried-leads, full_screens_keep}
+use Rattle.termwiz_surface.proofs.Remembering.{past-first, past-names, past-leads, past-changes, past-flushed, past-restarted, names-stay, answers-stay, given-carries, carried-leads, full_screens_keep}
 use Rattle.termwiz_surface.proofs.laws.full_history_laws.Goals as goal
 
 pub returns : goal.returns

@@ -1,5 +1,5 @@
 use Rattle.std.proofs.Common.{◌≡◌, replicate}
-use Rattle.termwiz_surface_core.specs.Following.{blank_viewer}
+use Rattle.termwiz_surface.specs.Following.{blank_viewer}
 use Rattle.termwiz_surface.proofs.view.many.blank_viewers.Given as goal
 
 -- so many viewers were made

@@ -3,8 +3,8 @@ use Rattle.std.specs.Prelude.{vec_len}
 use Rattle.termwiz_cell.specs.ChangeValue.{change_value}
 use Rattle.termwiz_cell.specs.Measure.{measure}
 use Rattle.termwiz_screen.specs.Log.{next_number}
-use Rattle.termwiz_surface_core.specs.Adding.{Adds}
-use Rattle.termwiz_surface_core.specs.Copies.{IsDrawn, IsCopied}
+use Rattle.termwiz_surface.specs.Adding.{Adds}
+use Rattle.termwiz_surface.specs.Copies.{IsDrawn, IsCopied}
 use Rattle.termwiz_surface.proofs.Running.{Reports-answer}
 use Rattle.termwiz_surface.proofs.view.serving.act.Goals as goal
 

@@ -1,6 +1,6 @@
 use Rattle.std.proofs.Common.{ap, ◌∙◌}
 use Rattle.termwiz_screen.specs.Log.{flushed, next_number}
-use Rattle.termwiz_surface_core.specs.Adding.{with_log}
+use Rattle.termwiz_surface.specs.Adding.{with_log}
 use Rattle.termwiz_surface.proofs.view.serving.forget_made.Goals as goal
 
 pub returns-clause-forgets : goal.returns-clause-forgets

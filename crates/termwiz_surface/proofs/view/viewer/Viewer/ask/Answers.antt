@@ -1,7 +1,7 @@
 use Rattle.std.proofs.Common.{ap, subst}
 use Rattle.termwiz_cell.specs.Measure.{measure}
 use Rattle.termwiz_screen.specs.Stream.{stream_of}
-use Rattle.termwiz_surface_core.specs.Following.{ViewerValue, IsAnswer}
+use Rattle.termwiz_surface.specs.Following.{ViewerValue, IsAnswer}
 use Rattle.termwiz_surface.proofs.view.viewer.Viewer.ask.Goals as goal
 
 pub returns-clause-fetches : goal.returns-clause-fetches

@@ -1,4 +1,4 @@
-use Rattle.termwiz_surface_core.proofs.ResizedSize.{full_size-resized}
+use Rattle.termwiz_surface.proofs.ResizedSize.{full_size-resized}
 use Rattle.termwiz_surface.proofs.view.viewer.Viewer.fit.Goals as goal
 
 pub returns-in_ok-resize-clause-sized : goal.returns-in_ok-resize-clause-sized

@@ -1,0 +1,28 @@
+use Rattle.std.proofs.Common.{[], length, ap, ◌∙◌, refl, arith, replicate, subst, sym}
+use Rattle.std.proofs.lemmas.List.{length-replicate, get_or-replicate}
+use Rattle.termwiz_cell.specs.Measure.{measure}
+use Rattle.std.specs.Prelude.{None}
+use Rattle.termwiz_cell.specs.CellValue.{blank}
+use Rattle.termwiz_screen.specs.Log.{next_number}
+use Rattle.termwiz_screen.specs.Measured.{IsStored}
+use Rattle.termwiz_screen.proofs.Sides.{sides-full}
+use Rattle.termwiz_screen.proofs.Stored.{IsStored-blank}
+use Rattle.termwiz_surface.proofs.surface.Surface.blank.Goals as goal
+
+pub invariant_of-result : goal.invariant_of-result
+invariant_of-result g c = (
+  rw c.in_ok-rows.ensures.cells (record {
+    some_column = c.requires.size.some_column;
+    some_row = c.requires.size.some_row;
+    fits = c.requires.size.fits;
+    fits_height = c.requires.size.fits_height;
+    full = length-replicate _ _;
+    sides = sides-full c.in_ok-rows.rows.items (ap length c.in_ok-rows.ensures.cells ∙ length-replicate _ _);
+    column = omega arith;
+    row = c.requires.size.some_row;
+    number_fits = omega (arith, ap next_number c.new-2.ensures);
+    regions = rw c.new-2.ensures refl;
+    stored_so = λ j l. subst (IsStored (measure g.W.Widths.width_of c.args.widths) c.args.width) (sym (get_or-replicate c.args.height j (replicate c.args.width blank) [] l)) (IsStored-blank (measure g.W.Widths.width_of c.args.widths) c.args.width (record { space = g.met.W.Widths.space_has_one c.args.widths None }) c.requires.size.some_column);
+  }),
+  c.in_ok-rows.ensures.vectors,
+)

@@ -1,0 +1,41 @@
+use Rattle.std.proofs.Common.{arith, refl}
+use Rattle.std.specs.Prelude.{None, string_bytes}
+use Rattle.termwiz_cell.specs.Attributes.{with_background}
+use Rattle.termwiz_cell.specs.Measure.{measure}
+use Rattle.termwiz_screen.specs.ScreenValue.{cells_of}
+use Rattle.termwiz_surface.proofs.Changed.{IsSound-partly, IsSound-screen, rows-screen, lengths-screen}
+use Rattle.termwiz_surface.proofs.surface.Surface.clear_screen.Goals as goal
+
+pub invariant_of-self : goal.invariant_of-self
+invariant_of-self g c = (
+  rw c.in_err-fill_rows.ensures.sides.flags
+      (IsSound-partly (measure g.W.Widths.width_of c.self.inside.widths) _ (record { space = g.met.W.Widths.space_has_one c.self.inside.widths None }) c.self.invariant.0 (with_background c.args.color.now) _ (rw (c.in_ok-cleared.ensures, c.in_ok-pen.ensures) at (c.in_err-fill_rows.ensures.err (omega arith)))),
+  c.in_err-fill_rows.ensures.sides.vectors c.self.invariant.1,
+)
+
+pub invariant_of-self-2 : goal.invariant_of-self-2
+invariant_of-self-2 g c = (
+  rw (c.in_ok-pen.ensures, c.in_ok-fill_rows.ensures.sides.flags)
+      (IsSound-screen (measure g.W.Widths.width_of c.self.inside.widths) _ (record { space = g.met.W.Widths.space_has_one c.self.inside.widths None }) c.self.invariant.0 (with_background c.args.color.now) _ (rw (c.in_ok-cleared.ensures, c.in_ok-pen.ensures) at c.in_ok-fill_rows.ensures.ok)),
+  c.in_ok-fill_rows.ensures.sides.vectors c.self.invariant.1,
+)
+
+pub returns-clause-ok : goal.returns-clause-ok
+returns-clause-ok g c =
+    let f = measure g.W.Widths.width_of c.self.inside.widths in
+    let done = rw (c.in_ok-cleared.ensures, c.in_ok-pen.ensures) at c.in_ok-fill_rows.ensures.ok in
+    rw (← c.self.view_is, c.in_ok-pen.ensures) (record {
+      widths = refl;
+      width = refl;
+      height = refl;
+      full = refl;
+      log = refl;
+      screen_is = rw (rows-screen f _ (record { space = g.met.W.Widths.space_has_one c.self.inside.widths None }) c.self.invariant.0 (with_background c.args.color.now) (cells_of c.fill_rows.new.rows.items) done) refl;
+      kept_is = λ i. record {
+        lengths = lengths-screen f _ (record { space = g.met.W.Widths.space_has_one c.self.inside.widths None }) c.self.invariant.0 (with_background c.args.color.now) (cells_of c.fill_rows.new.rows.items) done i;
+        flags = c.in_ok-fill_rows.ensures.sides.flags i;
+        title = string_bytes c.self.inside.title;
+        shape = c.self.inside.shape;
+        color = c.self.inside.color;
+      };
+    })

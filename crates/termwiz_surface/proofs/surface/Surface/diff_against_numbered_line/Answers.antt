@@ -1,0 +1,47 @@
+use Rattle.std.proofs.Common.{◌≡◌, ◌-◌, [], ◌∷◌, map, min, sym, ap, ◌∙◌, subst}
+use Rattle.std.proofs.lemmas.Result.{IfOk-weaker}
+use Rattle.std.specs.Prelude.{None}
+use Rattle.std.specs.VecDeque.{deque_len}
+use Rattle.termwiz_cell.specs.ChangeValue.{change_value}
+use Rattle.termwiz_cell.specs.Measure.{measure}
+use Rattle.termwiz_line.specs.Row.{row_of}
+use Rattle.termwiz_screen.specs.Diff.{band, diff, need}
+use Rattle.termwiz_screen.specs.DiffLists.{IsDiff}
+use Rattle.termwiz_screen.specs.ScreenValue.{cells_of}
+use Rattle.termwiz_surface.specs.SurfaceValue.{SurfaceValue, IsSound, screen_of}
+use Rattle.termwiz_surface.proofs.DiffSurfaces.{sound_rows, line_diff, line_gives}
+use Rattle.termwiz_screen.proofs.Lines.{length-cells_of}
+use Rattle.termwiz_surface.proofs.surface.Surface.diff_against_numbered_line.Goals as goal
+
+pub returns-clause-entries : goal.returns-clause-entries
+returns-clause-entries g c =
+    let cells = c.args.other_line.now.cells in
+    let row = c.args.row_num in
+    let s = c.self.inside in
+    let height : deque_len s.rows ≡ s.height = s.rows.ok.0 ∙ sym (length-cells_of s.rows.items) ∙ c.self.invariant.0.full in
+    IfOk-weaker c.diff_line.result _ _
+    (λ l e. e
+    ∙ ap (λ h. diff (map (row_of s.width) (cells_of s.rows.items)) (row_of s.width cells ∷ []) (band s.width row 0 (min 1 (h - row)))) height
+    ∙ ap (λ (u : SurfaceValue _). diff (screen_of u).rows (row_of u.width cells ∷ []) (band u.width row 0 (min 1 (u.height - row)))) c.self.view_is)
+    c.diff_line.ensures
+
+pub returns-clause-diff : goal.returns-clause-diff
+returns-clause-diff g c = λ printable.
+    let v = c.args.self.now in
+    let a = screen_of v in
+    let f = measure g.W.Widths.width_of v.widths in
+    let cells = c.args.other_line.now.cells in
+    let row = c.args.row_num in
+    let b = row_of v.width cells ∷ [] in
+    let n = min 1 (v.height - row) in
+    IfOk-weaker c.diff_line.result _ _
+    (λ l e. subst (λ es. IsDiff f a (f ≡ f) (need a.rows b (band v.width row 0 n)) es) (sym e)
+    (line_diff f (g.met.W.Widths.space_has_one v.widths None) a cells row printable))
+    (returns-clause-entries g c)
+
+pub returns-clause-row : goal.returns-clause-row
+returns-clause-row g c = λ printable.
+    let v = c.args.self.now in
+    let f = measure g.W.Widths.width_of v.widths in
+    let own = sound_rows f v (subst (λ (s : SurfaceValue _). IsSound (measure g.W.Widths.width_of s.widths) s) c.self.view_is c.self.invariant.0) in
+    IfOk-weaker c.diff_line.result _ _ (λ l d. line_gives f (screen_of v) own (λ line. line.now.cells) c.args.other_line c.args.row_num (map change_value l.items) d) (returns-clause-diff g c printable)

@@ -1,0 +1,26 @@
+use Rattle.std.proofs.Common.{◌≡◌, true, map, length-append, ap, ◌∙◌, arith}
+use Rattle.std.proofs.lemmas.List.{length-map}
+use Rattle.termwiz_cell.specs.ChangeValue.{change_value}
+use Rattle.termwiz_screen.specs.Log.{next_number}
+use Rattle.termwiz_screen.specs.Step.{regions_fit}
+use Rattle.termwiz_surface.specs.SurfaceValue.{SurfaceValue}
+use Rattle.termwiz_surface.proofs.Drawn.{any_log}
+use Rattle.termwiz_screen.proofs.LogRegions.{regions-append}
+use Rattle.termwiz_surface.proofs.surface.Surface.make_all.Goals as goal
+
+pub invariant_of-self-3 : goal.invariant_of-self-3
+invariant_of-self-3 g c =
+    let s = c.self-2.inside in
+    let form = c.self-2.invariant.0 in
+    let changes = map change_value c.args.changes.items in
+    let made = c.in_ok-apply_all.ensures.ok in
+    let height : s.height ≡ c.args.self.now.height = ap (λ (v : SurfaceValue _). v.height) c.self-2.view_is ∙ made.height ∙ ap (λ (v : SurfaceValue _). v.height) c.self.view_is in
+    let number : next_number s.log ≡ next_number c.args.self.now.log =
+    ap (λ (v : SurfaceValue _). next_number v.log) c.self-2.view_is ∙ ap next_number made.log ∙ ap next_number c.in_ok-reserve.ensures.unchanged ∙ ap (λ (v : SurfaceValue _). next_number v.log) c.self.view_is in
+    let fits : regions_fit s.height changes ≡ true = ap (λ h. regions_fit h changes) height ∙ c.requires.fits in (
+      rw c.in_ok-append.ensures.ok
+          (any_log _ _ _ form
+          (omega (arith, number, c.requires.numbers, length-append s.log.changes changes, length-map c.args.changes.items change_value, c.args.changes.ok.0))
+          (regions-append s.height s.log.changes changes form.regions fits)),
+      c.self-2.invariant.1,
+    )

@@ -1,0 +1,47 @@
+use Rattle.std.proofs.Common.{◌≡◌, ◌+◌, ◌<◌, ℕ, List, min, ap, refl, sym, subst, ◌∙◌}
+use Rattle.std.specs.Prelude.{None, string_bytes}
+use Rattle.termwiz_cell.specs.CellValue.{columns}
+use Rattle.termwiz_cell.specs.Measure.{measure}
+use Rattle.termwiz_surface.specs.SurfaceValue.{SurfaceValue}
+use Rattle.termwiz_screen.specs.Measured.{IsMeasured}
+use Rattle.termwiz_surface.proofs.Drawn.{IsSound-put, rows-put, lengths-put}
+use Rattle.termwiz_surface.proofs.surface.Surface.put.Given as given
+use Rattle.termwiz_surface.proofs.surface.Surface.put.Goals as goal
+
+module _ (g : given.Over) (c : goal.After-self-1 g) where
+  abbrev width : List ℕ → ℕ
+  width = measure g.W.Widths.width_of c.self.inside.widths
+
+  inside : c.self.inside.x < c.self.inside.width
+  inside = subst (λ (s : SurfaceValue _). s.x < s.width) (sym c.self.view_is) c.requires.inside
+
+  measured_so : IsMeasured width c.args.cell
+  measured_so = subst (λ (s : SurfaceValue _). IsMeasured (measure g.W.Widths.width_of s.widths) c.args.cell) (sym c.self.view_is) c.requires.measured
+
+  x_is : c.min-self-inside.result ≡ min (c.self.inside.x + columns c.args.cell) c.self.inside.width
+  x_is = c.min-self-inside.ensures ∙ ap (λ n. min (c.self.inside.x + n) c.self.inside.width) c.width.ensures.value
+
+pub invariant_of-self-2 : goal.invariant_of-self-2
+invariant_of-self-2 g c = (
+  rw (c.in_ok-paint_row.ensures.ok, c.in_ok-paint_row.ensures.sides.flags, x_is g c)
+      (IsSound-put (width g c) _ c.args.cell c.self.invariant.0 (inside g c) (record { space = g.met.W.Widths.space_has_one c.self.inside.widths None }) (measured_so g c)),
+  c.in_ok-paint_row.ensures.sides.vectors c.self.invariant.1,
+)
+
+pub returns-clause-ok : goal.returns-clause-ok
+returns-clause-ok g c =
+    rw (← c.self.view_is, c.in_ok-paint_row.ensures.ok, x_is g c) (record {
+      widths = refl;
+      width = refl;
+      height = refl;
+      full = refl;
+      log = refl;
+      screen_is = rw (rows-put (width g c) _ c.args.cell c.self.invariant.0 (inside g c)) refl;
+      kept_is = λ i. record {
+        lengths = lengths-put (width g c) _ c.args.cell c.self.invariant.0 (inside g c) i;
+        flags = c.in_ok-paint_row.ensures.sides.flags i;
+        title = string_bytes c.self.inside.title;
+        shape = c.self.inside.shape;
+        color = c.self.inside.color;
+      };
+    })

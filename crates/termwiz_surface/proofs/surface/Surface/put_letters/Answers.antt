@@ -1,0 +1,28 @@
+use Rattle.std.proofs.Common.{◌+◌, ◌*◌, ◌≤◌, length, refl, sym, subst}
+use Rattle.std.specs.Prelude.{None}
+use Rattle.std.specs.Str.{chars}
+use Rattle.termwiz_cell.specs.Measure.{measure}
+use Rattle.termwiz_screen.specs.Runs.{AreWide}
+use Rattle.termwiz_surface.specs.SurfaceValue.{SurfaceValue}
+use Rattle.termwiz_surface.proofs.Printing.{IsPrinted-letters}
+use Rattle.termwiz_surface.proofs.surface.Surface.put_letters.Goals as goal
+
+pub invariant_of-self-2 : goal.invariant_of-self-2
+invariant_of-self-2 g c =
+    let fits : c.self.inside.x + 2 * length (chars c.args.run.now) ≤ c.self.inside.width = subst (λ (s : SurfaceValue _). s.x + 2 * length (chars c.args.run.now) ≤ s.width) (sym c.self.view_is) c.requires.fits in
+    let wide : AreWide (measure g.W.Widths.width_of c.self.inside.widths) (chars c.args.run.now) = subst (λ (s : SurfaceValue _). AreWide (measure g.W.Widths.width_of s.widths) (chars c.args.run.now)) (sym c.self.view_is) c.requires.wide in
+    (rw (c.in_ok-paint_letters.ensures.ok, c.letter_count.ensures, c.in_ok-paint_letters.ensures.sides.flags) (IsPrinted-letters (measure g.W.Widths.width_of c.self.inside.widths) (record { space = g.met.W.Widths.space_has_one c.self.inside.widths None }) (chars c.args.run.now) _ c.self.invariant.0 fits c.requires.letters wide).sound, c.in_ok-paint_letters.ensures.sides.vectors c.self.invariant.1)
+
+pub returns-clause-ok : goal.returns-clause-ok
+returns-clause-ok g c =
+    let fits : c.self.inside.x + 2 * length (chars c.args.run.now) ≤ c.self.inside.width = subst (λ (s : SurfaceValue _). s.x + 2 * length (chars c.args.run.now) ≤ s.width) (sym c.self.view_is) c.requires.fits in
+    let wide : AreWide (measure g.W.Widths.width_of c.self.inside.widths) (chars c.args.run.now) = subst (λ (s : SurfaceValue _). AreWide (measure g.W.Widths.width_of s.widths) (chars c.args.run.now)) (sym c.self.view_is) c.requires.wide in
+    rw (← c.self.view_is, c.in_ok-paint_letters.ensures.ok, c.letter_count.ensures, c.in_ok-paint_letters.ensures.sides.flags) (record {
+      widths = refl;
+      width = refl;
+      height = refl;
+      full = refl;
+      log = refl;
+      screen_is = (IsPrinted-letters (measure g.W.Widths.width_of c.self.inside.widths) (record { space = g.met.W.Widths.space_has_one c.self.inside.widths None }) (chars c.args.run.now) _ c.self.invariant.0 fits c.requires.letters wide).screen;
+      kept_is = (IsPrinted-letters (measure g.W.Widths.width_of c.self.inside.widths) (record { space = g.met.W.Widths.space_has_one c.self.inside.widths None }) (chars c.args.run.now) _ c.self.invariant.0 fits c.requires.letters wide).kept;
+    })

@@ -1,0 +1,41 @@
+use Rattle.std.proofs.Common.{◌+◌, ◌≤◌, length, ap, refl, sym, subst}
+use Rattle.std.specs.Prelude.{None, string_bytes}
+use Rattle.termwiz_cell.specs.Measure.{measure}
+use Rattle.termwiz_screen.specs.ScreenValue.{cells_of}
+use Rattle.termwiz_surface.specs.SurfaceValue.{SurfaceValue}
+use Rattle.termwiz_screen.proofs.Sides.{sides-full}
+use Rattle.termwiz_surface.proofs.Drawn.{any_flags, IsSound-partly_reset, IsSound-down}
+use Rattle.termwiz_screen.proofs.ScrolledRows.{rows-down, lengths-down}
+use Rattle.termwiz_surface.proofs.surface.Surface.scroll_region_down.Goals as goal
+
+pub invariant_of-self : goal.invariant_of-self
+invariant_of-self g c = (
+  any_flags _ _ _ (sides-full c.scroll_region_down.new.rows.items refl) (IsSound-partly_reset (measure g.W.Widths.width_of c.self.inside.widths) _ (record { space = g.met.W.Widths.space_has_one c.self.inside.widths None }) c.self.invariant.0 _ c.in_err-scroll_region_down.ensures.err),
+  c.in_err-scroll_region_down.ensures.vectors c.self.invariant.1,
+)
+
+pub invariant_of-self-2 : goal.invariant_of-self-2
+invariant_of-self-2 g c =
+    let inside : c.args.first + c.args.size ≤ c.self.inside.height = subst (λ (s : SurfaceValue _). c.args.first + c.args.size ≤ s.height) (sym c.self.view_is) c.requires in (
+      rw c.in_ok-scroll_region_down.ensures.ok
+          (any_flags _ _ _ (sides-full c.scroll_region_down.new.rows.items (ap length c.in_ok-scroll_region_down.ensures.ok)) (IsSound-down (measure g.W.Widths.width_of c.self.inside.widths) _ (record { space = g.met.W.Widths.space_has_one c.self.inside.widths None }) c.self.invariant.0 c.args.first c.args.size c.args.count inside)),
+      c.in_ok-scroll_region_down.ensures.vectors c.self.invariant.1,
+    )
+
+pub returns-clause-ok : goal.returns-clause-ok
+returns-clause-ok g c =
+    rw (← c.self.view_is, c.in_ok-scroll_region_down.ensures.ok) (record {
+      widths = refl;
+      width = refl;
+      height = refl;
+      full = refl;
+      log = refl;
+      screen_is = rw (rows-down c.self.inside.width (cells_of c.self.inside.rows.items) c.args.first c.args.size c.args.count) refl;
+      kept_is = λ i. record {
+        lengths = lengths-down c.self.inside.width (cells_of c.self.inside.rows.items) c.args.first c.args.size c.args.count i;
+        flags = c.in_ok-scroll_region_down.ensures.flags i;
+        title = string_bytes c.self.inside.title;
+        shape = c.self.inside.shape;
+        color = c.self.inside.color;
+      };
+    })

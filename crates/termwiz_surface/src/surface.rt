@@ -1,0 +1,383 @@
+//! Surfaces.
+ghost use Rattle.std.specs.Prelude.{◌≡◌, ◌+◌, ◌-◌, ◌<◌, ◌^◌, ◌∷◌, [], IfOk, OnErr, length, vec_len};
+ghost use Rattle.termwiz_surface.specs.{IsSurfaceSize, KeepsViewers, SameFrame, blank_surface};
+ghost use Rattle.termwiz_surface.specs.{change_value, next_number, region_fits, regions_fit};
+ghost use Rattle.termwiz_surface.specs.{IsSound, KeepsNames, Makes, Refuses, false, measure};
+ghost use Rattle.termwiz_surface.specs.{Adds, IsOk, OnOk, map, true};
+ghost use Rattle.termwiz_surface.specs.declared.surface.NewSurfaceError.TheVariants as errors;
+
+mod answer;
+mod answers;
+mod copies;
+mod diff;
+mod full;
+mod lines;
+mod print;
+mod readings;
+mod resizing;
+mod sized;
+mod steps;
+
+pub use answer::Answer;
+use std::alloc::{AllocError, Global};
+use std::collections::VecDeque;
+use std::marker::Model;
+use std::slice;
+use termwiz_cell::cell::CellAttributes;
+use termwiz_cell::change::Change;
+pub use termwiz_cell::change::{CursorShape, CursorVisibility, Position, SEQ_ZERO, SequenceNo};
+use termwiz_cell::color::ColorAttribute;
+use termwiz_cell::emoji::Widths;
+use termwiz_line::line::line::Line;
+pub use termwiz_screen::full::FullScreen;
+use termwiz_screen::log::Log;
+use termwiz_screen::rows::blank_rows;
+pub use termwiz_screen::screen::Screen;
+use termwiz_screen::scroll_region::regions_fit;
+use thiserror::Error;
+
+/// Why a list of changes, or a resize, is refused. The first applicable error is returned, in this
+/// order.
+#[derive(Debug, Drop, Clone, Copy, PartialEq, Eq, Error)]
+pub enum SurfaceError {
+    /// Error 1: the region of a scroll goes past the last row. The surface is unchanged.
+    #[error("a scroll region goes past the last row")]
+    ScrollRegion,
+    /// Error 2: the numbers of the changes would pass the greatest `usize`. The surface is
+    /// unchanged. After `Viewer::follow` the viewer may show anything, and has no number.
+    #[error("the numbers of changes are used up")]
+    Numbers,
+    /// Error 3: memory was refused. After `Viewer::follow` the viewer may show anything, and has no
+    /// number.
+    ///
+    /// - After a list of changes, that of a draw or a copy too, the surface is valid and has its
+    ///   old size, its log is empty, and its number is greater by one, or still 0.
+    /// - Where memory was refused for the list of a draw or a copy, or for a resize, the surface is
+    ///   unchanged.
+    #[error("out of memory")]
+    Memory,
+}
+
+impl From<AllocError> for SurfaceError {
+    ghost use Rattle.termwiz_surface.specs.declared.surface.SurfaceError.TheVariants.{Memory};
+
+    ghost from_gives = { λ _ error. error ≡ Memory };
+
+    fn from(_error: AllocError) -> SurfaceError {
+        SurfaceError::Memory
+    }
+}
+
+/// Why no surface was created.
+#[derive(Debug, Drop, Clone, Copy, PartialEq, Eq, Error)]
+pub enum NewSurfaceError {
+    /// The size is out of range: columns and rows are 1 to 2^32 - 1 each.
+    #[error("no surface has {width} columns and {height} rows")]
+    Size { width: usize, height: usize },
+    /// Memory was refused.
+    #[error("out of memory")]
+    Memory,
+}
+
+impl From<AllocError> for NewSurfaceError {
+    ghost from_gives = { λ _ error. error ≡ errors.Memory };
+
+    fn from(_error: AllocError) -> NewSurfaceError {
+        NewSurfaceError::Memory
+    }
+}
+
+/// The contents of a terminal's screen, without a terminal: rows of cells, a cursor, its
+/// visibility, and the pen, which is the attributes of the next text.
+///
+/// `add_change` adds one change, and `add_changes` a list of them: texts, pens, clears, moves and
+/// scrolls. The surface applies them in order, and logs them by their numbers. It also keeps a
+/// title, the cursor's shape and colour, and how large each line is shown; only `full_screen`
+/// returns the colour.
+///
+/// `get_changes` returns what a viewer lacks: the changes since the number that it was last given,
+/// or, where the log no longer has them or they are too many, a repaint, which leads from any
+/// screen of this size to this one. `answer` returns the same as a value that can be stored or
+/// sent.
+///
+/// `flush_changes_older_than` forgets the changes that all viewers have, and `forget_unneeded`
+/// those that no answer needs: without them the log grows with each change. `screen` copies what
+/// the surface shows, and `full_screen` also the title, the cursor's shape and colour, and how
+/// large each line is shown.
+///
+/// `new_full` returns a full surface: its repaints also set all of these, so that its viewers have
+/// them whatever they missed. Those of other surfaces set only the screen, the title unless it is
+/// empty, and the shape of a visible cursor, if one was set.
+///
+/// A viewer applies these changes: to a terminal, at the other end of a connection, or to a second
+/// surface. It must measure texts as this surface does, by the same width value.
+///
+/// A program may draw the parts of a screen on separate surfaces and compose them:
+/// `draw_from_screen` draws one surface on another, and `copy_region` copies a region within one.
+#[derive(Drop, Debug)]
+pub struct Surface<W: Widths> {
+    widths: W,
+    alloc: Global,
+    width: usize,
+    height: usize,
+    rows: VecDeque<Line>,
+    x: usize,
+    y: usize,
+    visibility: CursorVisibility,
+    pen: CellAttributes,
+    title: String,
+    shape: Option<CursorShape>,
+    color: ColorAttribute,
+    full: bool,
+    log: Log,
+}
+
+impl<W: Widths> Model for Surface<W> {
+    ghost use Rattle.std.specs.Prelude.{string_bytes};
+    ghost use Rattle.termwiz_screen.specs.{AreVectors, cells_of, measure, row_flags};
+    ghost use Rattle.termwiz_surface.specs.SurfaceValue.{IsSound, SurfaceValue};
+
+    ghost Value = { SurfaceValue W };
+
+    ghost view = { λ s. record {
+      widths = s.widths;
+      width = s.width;
+      height = s.height;
+      lines = cells_of s.rows.items;
+      flags = row_flags s.rows.items;
+      x = s.x;
+      y = s.y;
+      visibility = s.visibility;
+      pen = s.pen;
+      title = string_bytes s.title;
+      shape = s.shape;
+      color = s.color;
+      full = s.full;
+      log = s.log;
+    } };
+
+    ghost invariant = { λ s.
+        IsSound (measure W.width_of s.widths) (view s) × AreVectors s.rows.items };
+}
+
+/// A copy equals its original in all that can be read: the size, the kind (full or not), the
+/// screen, each row's line attribute and stored length, the title, the cursor's shape and colour,
+/// the log and the number. A viewer of one can follow the other until one of them changes.
+impl<W: Widths> Clone for Surface<W> {
+    ghost is_clone = { λ a b. b ≡ a };
+
+    fn clone(&self) -> Result<Surface<W>, AllocError> {
+        let rows = self.rows.clone()?;
+        let pen = self.pen.clone()?;
+        let title = self.title.clone()?;
+        let log = self.log.clone()?;
+        Ok(Surface {
+            widths: self.widths,
+            alloc: self.alloc,
+            width: self.width,
+            height: self.height,
+            rows,
+            x: self.x,
+            y: self.y,
+            visibility: self.visibility,
+            pen,
+            title,
+            shape: self.shape,
+            color: self.color,
+            full: self.full,
+            log,
+        })
+    }
+}
+
+impl<W: Widths> Surface<W> {
+    /// A surface of this width in columns and this height in rows: it has default blanks, a visible
+    /// cursor at column 0 of row 0, a pen of default attributes, and the number 0.
+    pub fn new(
+        alloc: Global,
+        width: usize,
+        height: usize,
+        widths: W,
+    ) -> Result<Surface<W>, AllocError>
+        requires size { IsSurfaceSize width height }
+        ensures { IfOk result (λ s. s ≡ blank_surface widths width height false) }
+    {
+        Surface::blank(alloc, width, height, widths, false)
+    }
+
+    /// A surface as `new` returns it, but a full one: its repaints also set the title, the cursor's
+    /// shape and colour, and how large each row is shown.
+    pub fn new_full(
+        alloc: Global,
+        width: usize,
+        height: usize,
+        widths: W,
+    ) -> Result<Surface<W>, AllocError>
+        requires size { IsSurfaceSize width height }
+        ensures { IfOk result (λ s. s ≡ blank_surface widths width height true) }
+    {
+        Surface::blank(alloc, width, height, widths, true)
+    }
+
+    /// A blank surface, full or not.
+    pub(crate) fn blank(
+        alloc: Global,
+        width: usize,
+        height: usize,
+        widths: W,
+        full: bool,
+    ) -> Result<Surface<W>, AllocError>
+        requires size { IsSurfaceSize width height }
+        ensures { IfOk result (λ s. s ≡ blank_surface widths width height full) }
+    {
+        let rows = blank_rows(alloc, width, height)?;
+        Ok(Surface {
+            widths,
+            alloc,
+            width,
+            height,
+            rows,
+            x: 0,
+            y: 0,
+            visibility: CursorVisibility::Visible,
+            pen: CellAttributes::blank(),
+            title: String::new(alloc),
+            shape: None,
+            color: ColorAttribute::Default,
+            full,
+            log: Log::new(alloc),
+        })
+    }
+
+    // Refuses a list of changes that can't be applied, before any is applied.
+    fn refuse(&self, changes: &[Change]) -> Result<(), SurfaceError>
+        ensures { Refuses self.now (map change_value changes.now) result }
+    {
+        if !regions_fit(changes, self.height) {
+            return Err(SurfaceError::ScrollRegion);
+        }
+        if !self.log.has_numbers(changes.len()) {
+            return Err(SurfaceError::Numbers);
+        }
+        Ok(())
+    }
+
+    // Applies a change and logs it.
+    fn make_one(&mut self, change: Change) -> Result<(), AllocError>
+        requires fits { region_fits self.old.height (change_value change) ≡ true }
+        requires numbers { next_number self.old.log + 1 < 2 ^ 64 }
+        ensures ok { OnOk result (Makes (measure W.width_of self.old.widths)
+            self.old (change_value change ∷ []) self.new) }
+        ensures err { OnErr result (SameFrame self.old self.new) }
+    {
+        self.log.reserve(1)?;
+        self.apply(&change)?;
+        self.log.push(change)?;
+        Ok(())
+    }
+
+    // Applies the changes and logs them.
+    fn make_all(&mut self, changes: Vec<Change>) -> Result<(), AllocError>
+        requires fits { regions_fit self.old.height (map change_value changes.items) ≡ true }
+        requires numbers { next_number self.old.log + vec_len changes < 2 ^ 64 }
+        ensures ok { OnOk result (Makes (measure W.width_of self.old.widths)
+            self.old (map change_value changes.items) self.new) }
+        ensures err { OnErr result (SameFrame self.old self.new) }
+        ensures some { OnErr result (0 < vec_len changes) }
+    {
+        self.log.reserve(changes.len())?;
+        self.apply_all(changes.as_slice())?;
+        self.log.append(changes)?;
+        Ok(())
+    }
+
+    // Applies the changes and logs clones of them.
+    fn make_lent(&mut self, changes: &[Change]) -> Result<(), AllocError>
+        requires fits { regions_fit self.old.height (map change_value changes.now) ≡ true }
+        requires numbers { next_number self.old.log + length changes.now < 2 ^ 64 }
+        ensures ok { OnOk result (Makes (measure W.width_of self.old.widths)
+            self.old (map change_value changes.now) self.new) }
+        ensures err { OnErr result (SameFrame self.old self.new) }
+        ensures some { OnErr result (0 < length changes.now) }
+    {
+        self.log.reserve(changes.len())?;
+        self.apply_all(changes)?;
+        self.log.append_clones(changes)?;
+        Ok(())
+    }
+
+    /// Applies one change, and returns its number. `ScrollRegion`, `Numbers`: the surface is
+    /// unchanged. `Memory`: the change may be applied in part; the surface is valid and has its old
+    /// size, its log is empty, and its number is greater by one, or still 0.
+    pub fn add_change(&mut self, change: Change) -> Result<SequenceNo, SurfaceError>
+        ensures adds { Adds (measure W.width_of self.old.widths)
+            self.old (change_value change ∷ []) (next_number self.old.log) result self.new }
+        // Each viewer that follows the surface still follows it, even after an error.
+        ensures followed { KeepsViewers (measure W.width_of) self.old self.new }
+        // Its numbers still name what they named, even after an error.
+        ensures remembered { KeepsNames (measure W.width_of self.old.widths) self.old self.new }
+    {
+        self.refuse(slice::from_ref(&change))?;
+        let number = self.log.next_number();
+        if self.make_one(change).is_err() {
+            self.log.restart();
+            return Err(SurfaceError::Memory);
+        }
+        Ok(number)
+    }
+
+    /// Applies the changes in order. Returns `max(n, 1) - 1 + changes.len()`, where `n` is the
+    /// surface's number before the call: for a list that isn't empty, the number of its last
+    /// change, or one more where `n` is 0.
+    ///
+    /// - `ScrollRegion`, `Numbers`: the surface is unchanged.
+    /// - `Memory`: some changes may be applied, the last of them in part; the surface is valid and
+    ///   has its old size, its log is empty, and its number is greater by one, or still 0.
+    pub fn add_changes(&mut self, changes: Vec<Change>) -> Result<SequenceNo, SurfaceError>
+        ensures adds { Adds (measure W.width_of self.old.widths)
+            self.old (map change_value changes.items)
+            (next_number self.old.log - 1 + vec_len changes) result self.new }
+        ensures empty { vec_len changes ≡ 0 → IsOk result }
+        // Each viewer that follows the surface still follows it, even after an error.
+        ensures followed { KeepsViewers (measure W.width_of) self.old self.new }
+        // Its numbers still name what they named, even after an error.
+        ensures remembered { KeepsNames (measure W.width_of self.old.widths) self.old self.new }
+    {
+        self.refuse(changes.as_slice())?;
+        let number = number_for(self.log.next_number(), changes.len());
+        if self.make_all(changes).is_err() {
+            self.log.restart();
+            return Err(SurfaceError::Memory);
+        }
+        Ok(number)
+    }
+
+    /// Behaves like `add_changes` on borrowed changes, of which it logs clones.
+    pub fn add_lent_changes(&mut self, changes: &[Change]) -> Result<SequenceNo, SurfaceError>
+        ensures adds { Adds (measure W.width_of self.old.widths)
+            self.old (map change_value changes.now)
+            (next_number self.old.log - 1 + length changes.now) result self.new }
+        ensures empty { length changes.now ≡ 0 → IsOk result }
+        // Each viewer that follows the surface still follows it, even after an error.
+        ensures followed { KeepsViewers (measure W.width_of) self.old self.new }
+        // Its numbers still name what they named, even after an error.
+        ensures remembered { KeepsNames (measure W.width_of self.old.widths) self.old self.new }
+    {
+        self.refuse(changes)?;
+        let number = number_for(self.log.next_number(), changes.len());
+        if self.make_lent(changes).is_err() {
+            self.log.restart();
+            return Err(SurfaceError::Memory);
+        }
+        Ok(number)
+    }
+}
+
+// The sequence number returned for `count` changes.
+#[inline(always)]
+fn number_for(coming: SequenceNo, count: usize) -> SequenceNo
+    requires { coming + count < 2 ^ 64 }
+    ensures { result ≡ coming - 1 + count }
+{
+    coming.saturating_sub(1) + count
+}

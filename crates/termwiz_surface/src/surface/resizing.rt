@@ -1,0 +1,50 @@
+//! Resizing surfaces.
+ghost use Rattle.std.specs.Prelude.{◌≡◌, ◌+◌, ◌<◌, ◌^◌, OnErr, OnOk};
+ghost use Rattle.termwiz_surface.specs.{HasResized, IsSurfaceSize, KeepsNames, KeepsViewers};
+ghost use Rattle.termwiz_surface.specs.{Resizes, measure, next_number};
+
+use super::{Surface, SurfaceError};
+use std::alloc::AllocError;
+use termwiz_cell::emoji::Widths;
+use termwiz_screen::rows::resize_rows;
+
+impl<W: Widths> Surface<W> {
+    /// Resizes the surface to a width in columns and a height in rows.
+    ///
+    /// - Each row is cut, or padded with default blanks. At the bottom rows are removed, or default
+    ///   ones added.
+    /// - A cursor past the last column or row, as where a wrap is pending, moves to the last one.
+    /// - The log is emptied, and the number grows by one, unless it is 0, so every viewer gets a
+    ///   repaint.
+    /// - `Numbers`: the number is the greatest `usize`. `Memory`: memory was refused. Both leave
+    ///   the surface unchanged.
+    pub fn resize(&mut self, width: usize, height: usize) -> Result<(), SurfaceError>
+        requires size { IsSurfaceSize width height }
+        ensures resizes { Resizes self.old width height result self.new }
+        // Each viewer that follows the surface still follows it, even after an error.
+        ensures followed { KeepsViewers (measure W.width_of) self.old self.new }
+        // Its numbers still name what they named, even after an error.
+        ensures remembered { KeepsNames (measure W.width_of self.old.widths) self.old self.new }
+    {
+        if !self.log.has_numbers(1) {
+            return Err(SurfaceError::Numbers);
+        }
+        self.change_size(width, height)?;
+        Ok(())
+    }
+
+    fn change_size(&mut self, width: usize, height: usize) -> Result<(), AllocError>
+        requires size { IsSurfaceSize width height }
+        requires number { next_number self.old.log + 1 < 2 ^ 64 }
+        ensures ok { OnOk result (HasResized self.old width height self.new) }
+        ensures err { OnErr result (self.new ≡ self.old) }
+    {
+        resize_rows(self.alloc, &mut self.rows, width, height)?;
+        self.width = width;
+        self.height = height;
+        self.x = self.x.min(width - 1);
+        self.y = self.y.min(height - 1);
+        self.log.restart();
+        Ok(())
+    }
+}

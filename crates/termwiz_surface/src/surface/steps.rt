@@ -1,0 +1,214 @@
+//! What each change does to a surface.
+ghost use Rattle.std.specs.Prelude.{◌≡◌, ◌+◌, ◌-◌, ◌<◌, ◌≤◌, replicate, slice_index_or, slice_set};
+ghost use Rattle.termwiz_surface.specs.{attribute_change_value, no_flags, with_line_attribute};
+ghost use Rattle.termwiz_surface.specs.{OnOk, screen_lengths, with_attribute, with_background};
+ghost use Rattle.termwiz_surface.specs.{change_value, clear_screen, eol_lengths, eos_lengths};
+ghost use Rattle.termwiz_surface.specs.{region_down, region_fits, regions_fit, replay_kept};
+ghost use Rattle.termwiz_surface.specs.{Becomes, SameFrame, clear_eol, clear_eos, lengths_of};
+ghost use Rattle.termwiz_surface.specs.{kept_of, measure, region_up, screen_of, step_kept};
+ghost use Rattle.termwiz_surface.specs.{OnErr, blank, length, map, placed, replay, step, true};
+
+use super::Surface;
+use std::alloc::AllocError;
+use termwiz_cell::cell::AttributeChange;
+use termwiz_cell::change::{Change, LineAttribute, Position};
+use termwiz_cell::color::ColorAttribute;
+use termwiz_cell::emoji::Widths;
+use termwiz_screen::pen::{background_only, blank_with};
+use termwiz_screen::place::{column_at, row_at};
+use termwiz_screen::rows::{
+    fill_row, fill_rows, scroll_region_down, scroll_region_up, set_line_attribute,
+};
+
+impl<W: Widths> Surface<W> {
+    // Clears from the cursor to the end of its row, and sets the pen to this background. The clears
+    // are kept out of line, so that the path of texts is short.
+    #[inline(never)]
+    pub(super) fn clear_to_end_of_line(&mut self, color: &ColorAttribute) -> Result<(), AllocError>
+        ensures ok { OnOk result (let s = screen_of self.old in
+            Becomes self.old (clear_eol s (with_background color.now))
+            (record (kept_of self.old) {
+              lengths = eol_lengths s (with_background color.now) (lengths_of self.old);
+            }) self.new) }
+        ensures err { OnErr result (SameFrame self.old self.new) }
+    {
+        let pen = background_only(self.alloc, *color)?;
+        let cleared = blank_with(&pen)?;
+        fill_row(&mut self.rows, self.width, self.x, self.y, &cleared)?;
+        self.pen = pen;
+        Ok(())
+    }
+
+    // Clears from the cursor to the end of the screen.
+    #[inline(never)]
+    pub(super) fn clear_to_end_of_screen(
+        &mut self,
+        color: &ColorAttribute,
+    ) -> Result<(), AllocError>
+        ensures ok { OnOk result (let s = screen_of self.old in
+            Becomes self.old (clear_eos s (with_background color.now))
+            (record (kept_of self.old) {
+              lengths = eos_lengths s (with_background color.now) (lengths_of self.old);
+            }) self.new) }
+        ensures err { OnErr result (SameFrame self.old self.new) }
+    {
+        let pen = background_only(self.alloc, *color)?;
+        let cleared = blank_with(&pen)?;
+        fill_rows(&mut self.rows, self.width, self.x, self.y, &cleared)?;
+        self.pen = pen;
+        Ok(())
+    }
+
+    // Clears all rows, and moves the cursor to column 0 of row 0.
+    #[inline(never)]
+    pub(super) fn clear_screen(&mut self, color: &ColorAttribute) -> Result<(), AllocError>
+        ensures ok { OnOk result (let s = screen_of self.old in
+            Becomes self.old (clear_screen s (with_background color.now))
+            (record (kept_of self.old) {
+              lengths = screen_lengths s (with_background color.now) (lengths_of self.old);
+            }) self.new) }
+        ensures err { OnErr result (SameFrame self.old self.new) }
+    {
+        let pen = background_only(self.alloc, *color)?;
+        let cleared = blank_with(&pen)?;
+        fill_rows(&mut self.rows, self.width, 0, 0, &cleared)?;
+        self.pen = pen;
+        self.x = 0;
+        self.y = 0;
+        Ok(())
+    }
+
+    #[inline(never)]
+    pub(super) fn change_pen(&mut self, change: &AttributeChange) -> Result<(), AllocError>
+        ensures ok { OnOk result (Becomes self.old
+            (record (screen_of self.old) {
+              pen = with_attribute self.old.pen (attribute_change_value change.now);
+            })
+            (kept_of self.old) self.new) }
+        ensures err { OnErr result (self.new ≡ self.old) }
+    {
+        self.pen.apply_change(self.alloc, change)?;
+        Ok(())
+    }
+
+    pub(super) fn place_cursor(&mut self, x: Position, y: Position)
+        ensures { Becomes self.old (placed (screen_of self.old) x y) (kept_of self.old) self.new }
+    {
+        self.x = column_at(x, self.x, self.width);
+        self.y = row_at(y, self.y, self.height);
+    }
+
+    // Scrolls rows up inside a region. The cursor doesn't move.
+    pub(super) fn scroll_region_up(
+        &mut self,
+        first: usize,
+        size: usize,
+        count: usize,
+    ) -> Result<(), AllocError>
+        requires { first + size ≤ self.old.height }
+        ensures ok { OnOk result (let s = screen_of self.old in let k = kept_of self.old in
+            Becomes self.old
+            (record s { rows = region_up (replicate s.width blank) s.rows first size count })
+            (record k {
+              lengths = region_up s.width k.lengths first size count;
+              flags = region_up no_flags k.flags first size count;
+            }) self.new) }
+        ensures err { OnErr result (SameFrame self.old self.new) }
+    {
+        scroll_region_up(&mut self.rows, self.width, first, size, count)?;
+        Ok(())
+    }
+
+    // Scrolls rows down inside a region. The cursor doesn't move.
+    pub(super) fn scroll_region_down(
+        &mut self,
+        first: usize,
+        size: usize,
+        count: usize,
+    ) -> Result<(), AllocError>
+        requires { first + size ≤ self.old.height }
+        ensures ok { OnOk result (let s = screen_of self.old in let k = kept_of self.old in
+            Becomes self.old
+            (record s { rows = region_down (replicate s.width blank) s.rows first size count })
+            (record k {
+              lengths = region_down s.width k.lengths first size count;
+              flags = region_down no_flags k.flags first size count;
+            }) self.new) }
+        ensures err { OnErr result (SameFrame self.old self.new) }
+    {
+        scroll_region_down(&mut self.rows, self.width, first, size, count)?;
+        Ok(())
+    }
+
+    // Sets how large the cursor's row is shown.
+    pub(super) fn set_line_attribute(&mut self, attribute: LineAttribute)
+        ensures { let k = kept_of self.old in
+            Becomes self.old (screen_of self.old)
+            (record k {
+              flags = slice_set k.flags self.old.y
+                  (with_line_attribute attribute (slice_index_or k.flags self.old.y no_flags));
+            }) self.new }
+    {
+        set_line_attribute(&mut self.rows, self.y, attribute);
+    }
+
+    #[inline(never)]
+    pub(super) fn set_title(&mut self, title: &str) -> Result<(), AllocError>
+        ensures ok { OnOk result (Becomes self.old (screen_of self.old)
+            (record (kept_of self.old) { title = title.now }) self.new) }
+        ensures err { OnErr result (self.new ≡ self.old) }
+    {
+        self.title = String::from_str(self.alloc, title)?;
+        Ok(())
+    }
+
+    pub(super) fn apply(&mut self, change: &Change) -> Result<(), AllocError>
+        requires { region_fits self.old.height (change_value change.now) ≡ true }
+        ensures ok { OnOk result (let f = measure W.width_of self.old.widths in
+            let s = screen_of self.old in
+            Becomes self.old (step f s (change_value change.now))
+            (step_kept f s (kept_of self.old) (change_value change.now)) self.new) }
+        ensures err { OnErr result (SameFrame self.old self.new) }
+    {
+        match change {
+            Change::Attribute(change) => self.change_pen(change)?,
+            Change::AllAttributes(attrs) => self.pen = attrs.clone()?,
+            Change::Text(text) => self.print_text(text.as_str())?,
+            Change::ClearScreen(color) => self.clear_screen(color)?,
+            Change::ClearToEndOfLine(color) => self.clear_to_end_of_line(color)?,
+            Change::ClearToEndOfScreen(color) => self.clear_to_end_of_screen(color)?,
+            Change::CursorPosition { x, y } => self.place_cursor(*x, *y),
+            Change::CursorColor(color) => self.color = *color,
+            Change::CursorShape(shape) => self.shape = Some(*shape),
+            Change::CursorVisibility(visibility) => self.visibility = *visibility,
+            Change::ScrollRegionUp {
+                first_row,
+                region_size,
+                scroll_count,
+            } => self.scroll_region_up(*first_row, *region_size, *scroll_count)?,
+            Change::ScrollRegionDown {
+                first_row,
+                region_size,
+                scroll_count,
+            } => self.scroll_region_down(*first_row, *region_size, *scroll_count)?,
+            Change::Title(title) => self.set_title(title.as_str())?,
+            Change::LineAttribute(attribute) => self.set_line_attribute(*attribute),
+        }
+        Ok(())
+    }
+
+    pub(super) fn apply_all(&mut self, changes: &[Change]) -> Result<(), AllocError>
+        requires { regions_fit self.old.height (map change_value changes.now) ≡ true }
+        ensures ok { OnOk result (let f = measure W.width_of self.old.widths in
+            let s = screen_of self.old in
+            Becomes self.old (replay f s (map change_value changes.now))
+            (replay_kept f s (kept_of self.old) (map change_value changes.now)) self.new) }
+        ensures err { OnErr result (SameFrame self.old self.new) }
+        ensures empty { OnErr result (0 < length changes.now) }
+    {
+        for change in changes {
+            self.apply(change)?;
+        }
+        Ok(())
+    }
+}

@@ -1,5 +1,0 @@
-use Rattle.termwiz_surface_core.proofs.Remembering.{keeps_restarted}
-use Rattle.termwiz_surface_core.proofs.surface.Surface.resize.Goals as goal
-
-pub returns-clause-remembered : goal.returns-clause-remembered
-returns-clause-remembered g c = keeps_restarted _ c.args.self.now c.change_size.new.self c.in_ok-change_size.ensures.ok.log

@@ -1,61 +1,61 @@
 //! Questions about cells.
 use crate::pens::pen;
 use crate::words::text;
-use cases_words::fault::Fault;
-use cases_words::words::{first, given, sides, truth_word};
+use cases::error::PlayError;
+use cases::words::{first, given, sides, truth_word};
 use std::alloc::Global;
 use termwiz_cell::cell::{Cell, CellAttributes};
 use termwiz_cell::emoji::{OneColumn, UnicodeWidths, Widths};
 
-pub fn answer(alloc: Global, words: &str) -> Result<String, Fault> {
+pub fn answer(alloc: Global, words: &str) -> Result<String, PlayError> {
     let (what, words) = first(words)?;
     match what {
         "show" => show(alloc, words),
         "form" => form(alloc, words),
         "same" => truth_word(alloc, is_same(alloc, words)?),
         "debug" => debug(alloc, words),
-        _ => Err(Fault::Bad),
+        _ => Err(PlayError::Bad),
     }
 }
 
-fn show(alloc: Global, words: &str) -> Result<String, Fault> {
+fn show(alloc: Global, words: &str) -> Result<String, PlayError> {
     let cell = cell(alloc, words)?;
     shown(alloc, &cell)
 }
 
-fn shown(alloc: Global, cell: &Cell) -> Result<String, Fault> {
+fn shown(alloc: Global, cell: &Cell) -> Result<String, PlayError> {
     let (text, width, blank) = (cell.str(), cell.width(), cell.is_blank());
     Ok(format!(in alloc; "\"{text}\", columns {width}, blank {blank}")?)
 }
 
-fn form(alloc: Global, words: &str) -> Result<String, Fault> {
+fn form(alloc: Global, words: &str) -> Result<String, PlayError> {
     let form = cell(alloc, words)?.presentation(&UnicodeWidths);
     Ok(format!(in alloc; "{form:?}")?)
 }
 
 // What `{:?}` shows of a cell with attributes.
-fn debug(alloc: Global, words: &str) -> Result<String, Fault> {
+fn debug(alloc: Global, words: &str) -> Result<String, PlayError> {
     let (word, pen_words) = sides(words)?;
     let attrs = pen(alloc, pen_words)?;
     let cell = Cell::new_grapheme(alloc, &UnicodeWidths, text(word), attrs, None)?;
     Ok(format!(in alloc; "{cell:?}")?)
 }
 
-fn is_same(alloc: Global, words: &str) -> Result<bool, Fault> {
+fn is_same(alloc: Global, words: &str) -> Result<bool, PlayError> {
     let (one, other) = sides(words)?;
     let one = cell(alloc, one)?;
     let other = cell(alloc, other)?;
     Ok(one == other)
 }
 
-fn cell(alloc: Global, words: &str) -> Result<Cell, Fault> {
+fn cell(alloc: Global, words: &str) -> Result<Cell, PlayError> {
     match words.strip_prefix("copy ") {
         Some(words) => Ok(made(alloc, words)?.clone()?),
         None => made(alloc, words),
     }
 }
 
-fn made(alloc: Global, words: &str) -> Result<Cell, Fault> {
+fn made(alloc: Global, words: &str) -> Result<Cell, PlayError> {
     match words {
         "blank" => Ok(Cell::blank()),
         "default" => Ok(Cell::default()),
@@ -63,7 +63,7 @@ fn made(alloc: Global, words: &str) -> Result<Cell, Fault> {
     }
 }
 
-fn of_text(alloc: Global, words: &str) -> Result<Cell, Fault> {
+fn of_text(alloc: Global, words: &str) -> Result<Cell, PlayError> {
     let (how, word) = first(words)?;
     match how {
         "grapheme" => of_grapheme(alloc, text(word)),
@@ -73,17 +73,17 @@ fn of_text(alloc: Global, words: &str) -> Result<Cell, Fault> {
     }
 }
 
-fn of_grapheme(alloc: Global, text: &str) -> Result<Cell, Fault> {
+fn of_grapheme(alloc: Global, text: &str) -> Result<Cell, PlayError> {
     let attrs = CellAttributes::blank();
     Ok(Cell::new_grapheme(alloc, &UnicodeWidths, text, attrs, None)?)
 }
 
-fn of_char<W: Widths>(alloc: Global, text: &str, widths: &W) -> Result<Cell, Fault> {
-    let c = text.chars().next().ok_or(Fault::Bad)?;
+fn of_char<W: Widths>(alloc: Global, text: &str, widths: &W) -> Result<Cell, PlayError> {
+    let c = text.chars().next().ok_or(PlayError::Bad)?;
     Ok(Cell::new(alloc, widths, c, CellAttributes::blank())?)
 }
 
-fn of_width(alloc: Global, text: &str, width: &str) -> Result<Cell, Fault> {
+fn of_width(alloc: Global, text: &str, width: &str) -> Result<Cell, PlayError> {
     let width = given(width)?.min(2);
     let attrs = CellAttributes::blank();
     Ok(Cell::new_grapheme_with_width(alloc, text, width, attrs)?)

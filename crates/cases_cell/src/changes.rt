@@ -1,29 +1,29 @@
 //! Questions about changes.
 use crate::pens::pen;
 use crate::words::text;
-use cases_words::attributes::attribute;
-use cases_words::fault::Fault;
-use cases_words::shapes::{line_attribute, shape};
-use cases_words::words::{color, first, given, sides, truth_word};
+use cases::attributes::attribute;
+use cases::error::PlayError;
+use cases::shapes::{line_attribute, shape};
+use cases::words::{color, first, given, sides, truth_word};
 use std::alloc::Global;
 use termwiz_cell::change::{Change, CursorVisibility, Position, SEQ_ZERO};
 
-pub fn answer(alloc: Global, words: &str) -> Result<String, Fault> {
+pub fn answer(alloc: Global, words: &str) -> Result<String, PlayError> {
     let (what, words) = first(words)?;
     match what {
         "show" => show(alloc, words),
         "same" => truth_word(alloc, is_same(alloc, words)?),
         "blinks" => truth_word(alloc, shape(words)?.is_blinking()),
-        _ => Err(Fault::Bad),
+        _ => Err(PlayError::Bad),
     }
 }
 
-fn show(alloc: Global, words: &str) -> Result<String, Fault> {
+fn show(alloc: Global, words: &str) -> Result<String, PlayError> {
     let change = change(alloc, words)?;
     shown(alloc, &change)
 }
 
-fn shown(alloc: Global, change: &Change) -> Result<String, Fault> {
+fn shown(alloc: Global, change: &Change) -> Result<String, PlayError> {
     let text = if change.is_text() {
         Some(change.text())
     } else {
@@ -32,21 +32,21 @@ fn shown(alloc: Global, change: &Change) -> Result<String, Fault> {
     Ok(format!(in alloc; "{text:?}")?)
 }
 
-fn is_same(alloc: Global, words: &str) -> Result<bool, Fault> {
+fn is_same(alloc: Global, words: &str) -> Result<bool, PlayError> {
     let (one, other) = sides(words)?;
     let one = change(alloc, one)?;
     let other = change(alloc, other)?;
     Ok(one == other)
 }
 
-fn change(alloc: Global, words: &str) -> Result<Change, Fault> {
+fn change(alloc: Global, words: &str) -> Result<Change, PlayError> {
     match words.strip_prefix("copy ") {
         Some(words) => Ok(made(alloc, words)?.clone()?),
         None => made(alloc, words),
     }
 }
 
-fn made(alloc: Global, words: &str) -> Result<Change, Fault> {
+fn made(alloc: Global, words: &str) -> Result<Change, PlayError> {
     match words {
         "visible" => Ok(Change::CursorVisibility(CursorVisibility::default())),
         "up" => Ok(up()),
@@ -62,7 +62,7 @@ fn up() -> Change {
     }
 }
 
-fn of_words(alloc: Global, words: &str) -> Result<Change, Fault> {
+fn of_words(alloc: Global, words: &str) -> Result<Change, PlayError> {
     let (kind, words) = first(words)?;
     match kind {
         "text" => Ok(Change::text_from(alloc, text(words))?),
@@ -73,7 +73,7 @@ fn of_words(alloc: Global, words: &str) -> Result<Change, Fault> {
     }
 }
 
-fn of_word(alloc: Global, kind: &str, word: &str) -> Result<Change, Fault> {
+fn of_word(alloc: Global, kind: &str, word: &str) -> Result<Change, PlayError> {
     match kind {
         "from" => Ok(Change::from(text(word).to_owned(alloc)?)),
         "title" => Ok(Change::Title(text(word).to_owned(alloc)?)),
@@ -83,23 +83,23 @@ fn of_word(alloc: Global, kind: &str, word: &str) -> Result<Change, Fault> {
     }
 }
 
-fn of_name(kind: &str, word: &str) -> Result<Change, Fault> {
+fn of_name(kind: &str, word: &str) -> Result<Change, PlayError> {
     match kind {
         "color" => Ok(Change::CursorColor(color(word)?)),
         "clear" => Ok(Change::ClearScreen(color(word)?)),
         "shape" => Ok(Change::CursorShape(shape(word)?)),
-        _ => Err(Fault::Bad),
+        _ => Err(PlayError::Bad),
     }
 }
 
 /// First row, size and count.
-fn numbers(words: &str) -> Result<(usize, usize, usize), Fault> {
+fn numbers(words: &str) -> Result<(usize, usize, usize), PlayError> {
     let (first_row, words) = first(words)?;
     let (size, count) = first(words)?;
     Ok((given(first_row)?, given(size)?, given(count)?))
 }
 
-fn scroll(way: &str, numbers: (usize, usize, usize)) -> Result<Change, Fault> {
+fn scroll(way: &str, numbers: (usize, usize, usize)) -> Result<Change, PlayError> {
     let (first_row, region_size, scroll_count) = numbers;
     match way {
         "scroll-up" => Ok(Change::ScrollRegionUp {
@@ -112,6 +112,6 @@ fn scroll(way: &str, numbers: (usize, usize, usize)) -> Result<Change, Fault> {
             region_size,
             scroll_count,
         }),
-        _ => Err(Fault::Bad),
+        _ => Err(PlayError::Bad),
     }
 }

@@ -51,13 +51,13 @@ mod stage;
 mod widths;
 mod words;
 
-use cases_words::fault::Fault;
-use cases_words::play::play_input;
-use cases_words::recorded::play_recorded;
+use cases::error::PlayError;
+use cases::play::play_input;
+use cases::recorded::play_recorded;
 use recorded::Player;
 use stage::Stage;
 
-fn main(rt: HostRuntime) -> Result<(), Fault> {
+fn main(rt: HostRuntime) -> Result<(), PlayError> {
     play_input(&rt, &mut Stage(rt.alloc()))?;
     play_recorded(&rt, "links.txt", "> ", &mut Player(rt.alloc()))
 }

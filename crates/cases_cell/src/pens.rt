@@ -1,43 +1,43 @@
 //! Questions about attributes.
-use cases_words::fault::Fault;
-use cases_words::pens;
-use cases_words::words::{first, sides};
+use cases::error::PlayError;
+use cases::pens;
+use cases::words::{first, sides};
 use std::alloc::Global;
 use termwiz_cell::cell::CellAttributes;
 
-pub fn answer(alloc: Global, words: &str) -> Result<String, Fault> {
+pub fn answer(alloc: Global, words: &str) -> Result<String, PlayError> {
     let (what, words) = first(words)?;
     match what {
         "show" => show(alloc, words),
         "same" => same(alloc, words),
-        _ => Err(Fault::Bad),
+        _ => Err(PlayError::Bad),
     }
 }
 
-fn show(alloc: Global, words: &str) -> Result<String, Fault> {
+fn show(alloc: Global, words: &str) -> Result<String, PlayError> {
     let pen = pen(alloc, words)?;
     shown(alloc, &pen)
 }
 
-fn shown(alloc: Global, pen: &CellAttributes) -> Result<String, Fault> {
+fn shown(alloc: Global, pen: &CellAttributes) -> Result<String, PlayError> {
     let blank = pen.is_blank();
     Ok(format!(in alloc; "{pen:?}, blank {blank}")?)
 }
 
-fn same(alloc: Global, words: &str) -> Result<String, Fault> {
+fn same(alloc: Global, words: &str) -> Result<String, PlayError> {
     let (one, other) = sides(words)?;
     let (same, bits) = are_same(alloc, one, other)?;
     Ok(format!(in alloc; "{same}, bits {bits}")?)
 }
 
 // Whether two pens are equal, and whether all but their colours and links are.
-fn are_same(alloc: Global, one: &str, other: &str) -> Result<(bool, bool), Fault> {
+fn are_same(alloc: Global, one: &str, other: &str) -> Result<(bool, bool), PlayError> {
     let one = pen(alloc, one)?;
     let other = pen(alloc, other)?;
     Ok((one == other, one.attribute_bits_equal(&other)))
 }
 
 /// What the words make of blank attributes.
-pub fn pen(alloc: Global, words: &str) -> Result<CellAttributes, Fault> {
+pub fn pen(alloc: Global, words: &str) -> Result<CellAttributes, PlayError> {
     pens::pen(alloc, words, ' ')
 }

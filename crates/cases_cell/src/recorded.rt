@@ -2,10 +2,10 @@
 //! link of a sequence's parts, in hex digits and `-` for an empty part: `none`, why it is none, or
 //! its uri and its params, and its text where it has at most one. `> color R G B` asks for both
 //! texts of a colour.
-use cases_words::escapes::escaped;
-use cases_words::fault::Fault;
-use cases_words::play::Play;
-use cases_words::words::first;
+use cases::error::PlayError;
+use cases::escapes::escaped;
+use cases::play::Play;
+use cases::words::first;
 use std::alloc::Global;
 use termwiz_cell::color::RgbColor;
 use termwiz_cell::hyperlink::{Hyperlink, LinkError};
@@ -15,16 +15,16 @@ use termwiz_cell::hyperlink::{Hyperlink, LinkError};
 pub struct Player(pub Global);
 
 impl Play for Player {
-    fn line(&mut self, line: &str) -> Result<String, Fault> {
+    fn line(&mut self, line: &str) -> Result<String, PlayError> {
         match line.strip_prefix("> parse") {
             Some(parts) => parse(self.0, parts),
-            None => color(self.0, line.strip_prefix("> color ").ok_or(Fault::Bad)?),
+            None => color(self.0, line.strip_prefix("> color ").ok_or(PlayError::Bad)?),
         }
     }
 }
 
 // Behind each space stands a part.
-fn parse(alloc: Global, words: &str) -> Result<String, Fault> {
+fn parse(alloc: Global, words: &str) -> Result<String, PlayError> {
     let mut parts: Vec<Vec<u8>> = Vec::new(alloc);
     for word in words.split(' ').skip(1) {
         parts.push(bytes(alloc, word)?)?;
@@ -33,7 +33,7 @@ fn parse(alloc: Global, words: &str) -> Result<String, Fault> {
     parsed_words(alloc, Hyperlink::parse(alloc, lent.as_slice()))
 }
 
-fn bytes(alloc: Global, word: &str) -> Result<Vec<u8>, Fault> {
+fn bytes(alloc: Global, word: &str) -> Result<Vec<u8>, PlayError> {
     let mut bytes = Vec::new(alloc);
     if word != "-" {
         for digits in word.as_bytes().chunks(2) {
@@ -43,26 +43,26 @@ fn bytes(alloc: Global, word: &str) -> Result<Vec<u8>, Fault> {
     Ok(bytes)
 }
 
-fn byte(digits: &[u8]) -> Result<u8, Fault> {
-    let digits = str::from_utf8(digits).map_err(|_| Fault::Bad)?;
-    u8::from_str_radix(digits, 16).map_err(|_| Fault::Bad)
+fn byte(digits: &[u8]) -> Result<u8, PlayError> {
+    let digits = str::from_utf8(digits).map_err(|_| PlayError::Bad)?;
+    u8::from_str_radix(digits, 16).map_err(|_| PlayError::Bad)
 }
 
 fn parsed_words(
     alloc: Global,
     parsed: Result<Option<Hyperlink>, LinkError>,
-) -> Result<String, Fault> {
+) -> Result<String, PlayError> {
     match parsed {
         Ok(Some(link)) => link_words(alloc, &link),
         Ok(None) => Ok("none".to_owned(alloc)?),
         Err(LinkError::WrongParamCount) => Ok("fault count".to_owned(alloc)?),
         Err(LinkError::NotUtf8) => Ok("fault utf8".to_owned(alloc)?),
         Err(LinkError::BadParams) => Ok("fault params".to_owned(alloc)?),
-        Err(LinkError::Memory) => Err(Fault::Memory),
+        Err(LinkError::Memory) => Err(PlayError::Memory),
     }
 }
 
-fn link_words(alloc: Global, link: &Hyperlink) -> Result<String, Fault> {
+fn link_words(alloc: Global, link: &Hyperlink) -> Result<String, PlayError> {
     let mut words = String::from_str(alloc, "link ")?;
     words.push_str(escaped(alloc, link.uri())?.as_str())?;
     for (key, value) in link.params() {
@@ -74,21 +74,21 @@ fn link_words(alloc: Global, link: &Hyperlink) -> Result<String, Fault> {
     Ok(words)
 }
 
-fn push_param(alloc: Global, words: &mut String, key: &str, value: &str) -> Result<(), Fault> {
+fn push_param(alloc: Global, words: &mut String, key: &str, value: &str) -> Result<(), PlayError> {
     let key = escaped(alloc, key)?;
     let value = escaped(alloc, value)?;
     write!(words, " {key}={value}")?;
     Ok(())
 }
 
-fn push_shown(alloc: Global, words: &mut String, link: &Hyperlink) -> Result<(), Fault> {
+fn push_shown(alloc: Global, words: &mut String, link: &Hyperlink) -> Result<(), PlayError> {
     let shown = format!(in alloc; "{link}")?;
     let word = escaped(alloc, shown.as_str())?;
     write!(words, "\nshown {word}")?;
     Ok(())
 }
 
-fn color(alloc: Global, words: &str) -> Result<String, Fault> {
+fn color(alloc: Global, words: &str) -> Result<String, PlayError> {
     let (red, words) = first(words)?;
     let (green, blue) = first(words)?;
     let color = RgbColor::new_8bpc(part(red)?, part(green)?, part(blue)?);
@@ -97,6 +97,6 @@ fn color(alloc: Global, words: &str) -> Result<String, Fault> {
     Ok(format!(in alloc; "{short} {long}")?)
 }
 
-fn part(word: &str) -> Result<u8, Fault> {
-    word.parse().map_err(|_| Fault::Bad)
+fn part(word: &str) -> Result<u8, PlayError> {
+    word.parse().map_err(|_| PlayError::Bad)
 }

@@ -1,7 +1,7 @@
 //! Lines of the cases, and their answers by topic.
 use crate::{cells, changes, colors, links, pens, widths};
-use cases_words::fault::Fault;
-use cases_words::play::Play;
+use cases::error::PlayError;
+use cases::play::Play;
 use std::alloc::Global;
 
 /// Answers the lines.
@@ -9,16 +9,16 @@ use std::alloc::Global;
 pub struct Stage(pub Global);
 
 impl Play for Stage {
-    fn line(&mut self, line: &str) -> Result<String, Fault> {
+    fn line(&mut self, line: &str) -> Result<String, PlayError> {
         match line.split_once(' ') {
             Some(("case", _)) => Ok(String::new(self.0)),
             Some((topic, rest)) => answer(self.0, topic, rest),
-            None => Err(Fault::Bad),
+            None => Err(PlayError::Bad),
         }
     }
 }
 
-fn answer(alloc: Global, topic: &str, rest: &str) -> Result<String, Fault> {
+fn answer(alloc: Global, topic: &str, rest: &str) -> Result<String, PlayError> {
     match topic {
         "colour" => colors::answer(alloc, rest),
         "link" => links::answer(alloc, rest),

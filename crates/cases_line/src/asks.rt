@@ -4,8 +4,8 @@ ghost use Rattle.termwiz_storage.specs.CellsLeft.{IsOfCell};
 
 use crate::pens::{change_words, pen_words, text_lengths};
 use crate::{clicks, clusters, words};
-use cases_words::fault::Fault;
-use cases_words::words::{given, number_word, push_barred, truth_word};
+use cases::error::PlayError;
+use cases::words::{given, number_word, push_barred, truth_word};
 use std::alloc::Global;
 use std::borrow::CowStr;
 use termwiz_cell::cell::{Cell, CellAttributes};
@@ -13,24 +13,24 @@ use termwiz_cell::emoji::OneColumn;
 use termwiz_line::line::line::Line;
 use termwiz_storage::line::cellref::CellRef;
 
-pub fn answer(alloc: Global, line: &Line, words: &[&str]) -> Result<String, Fault> {
+pub fn answer(alloc: Global, line: &Line, words: &[&str]) -> Result<String, PlayError> {
     match words {
         [name] => named(alloc, line, name),
         [name, number] => by_number(alloc, line, name, given(number)?),
         ["copied", column, word] => copied(alloc, line, given(column)?, word),
         [name, first, second] => by_two(alloc, line, name, given(first)?, given(second)?),
-        _ => Err(Fault::Bad),
+        _ => Err(PlayError::Bad),
     }
 }
 
-fn by_number(alloc: Global, line: &Line, name: &str, number: usize) -> Result<String, Fault> {
+fn by_number(alloc: Global, line: &Line, name: &str, number: usize) -> Result<String, PlayError> {
     match name {
         "cell" => cell(alloc, line, number),
         "pen" => pen(alloc, line, number),
         "click" => click(alloc, line, number),
         "turning-click" => clicks::turning(alloc, line, number),
         "changed" => truth_word(alloc, line.changed_since(number)),
-        _ => Err(Fault::Bad),
+        _ => Err(PlayError::Bad),
     }
 }
 
@@ -40,15 +40,15 @@ fn by_two(
     name: &str,
     first: usize,
     second: usize,
-) -> Result<String, Fault> {
+) -> Result<String, PlayError> {
     match name {
         "columns" => columns(alloc, line, first, second),
         "alike" => alike(alloc, line, first, second),
-        _ => Err(Fault::Bad),
+        _ => Err(PlayError::Bad),
     }
 }
 
-fn named(alloc: Global, line: &Line, name: &str) -> Result<String, Fault> {
+fn named(alloc: Global, line: &Line, name: &str) -> Result<String, PlayError> {
     match name {
         "stored" => stored(alloc, line),
         "pens" => pens(alloc, line),
@@ -59,7 +59,7 @@ fn named(alloc: Global, line: &Line, name: &str) -> Result<String, Fault> {
     }
 }
 
-fn value(alloc: Global, line: &Line, name: &str) -> Result<String, Fault> {
+fn value(alloc: Global, line: &Line, name: &str) -> Result<String, PlayError> {
     match name {
         "len" => number_word(alloc, line.len()),
         "number" => number_word(alloc, line.current_seqno()),
@@ -70,7 +70,7 @@ fn value(alloc: Global, line: &Line, name: &str) -> Result<String, Fault> {
     }
 }
 
-fn reading(alloc: Global, line: &Line, name: &str) -> Result<String, Fault> {
+fn reading(alloc: Global, line: &Line, name: &str) -> Result<String, PlayError> {
     match name {
         "text" => text(alloc, line),
         "size" => size(alloc, line),
@@ -81,7 +81,7 @@ fn reading(alloc: Global, line: &Line, name: &str) -> Result<String, Fault> {
     }
 }
 
-fn stored(alloc: Global, line: &Line) -> Result<String, Fault> {
+fn stored(alloc: Global, line: &Line) -> Result<String, PlayError> {
     match line.stored_cells() {
         Some(cells) => texts(alloc, cells),
         None => Ok(String::from_str(alloc, "one text")?),
@@ -89,7 +89,7 @@ fn stored(alloc: Global, line: &Line) -> Result<String, Fault> {
 }
 
 // The texts of these cells, between bars.
-fn texts(alloc: Global, cells: &[Cell]) -> Result<String, Fault> {
+fn texts(alloc: Global, cells: &[Cell]) -> Result<String, PlayError> {
     let mut texts = String::from_str(alloc, "|")?;
     for cell in cells {
         texts.push_str(cell.str())?;
@@ -99,7 +99,7 @@ fn texts(alloc: Global, cells: &[Cell]) -> Result<String, Fault> {
 }
 
 /// The texts of these cells, each with a bar behind it.
-pub fn texts_apart(alloc: Global, cells: &[Cell]) -> Result<String, Fault> {
+pub fn texts_apart(alloc: Global, cells: &[Cell]) -> Result<String, PlayError> {
     let mut texts = String::new(alloc);
     for cell in cells {
         push_barred(&mut texts, cell.str())?;
@@ -108,9 +108,9 @@ pub fn texts_apart(alloc: Global, cells: &[Cell]) -> Result<String, Fault> {
 }
 
 // The pens of all stored cells.
-fn pens(alloc: Global, line: &Line) -> Result<String, Fault> {
+fn pens(alloc: Global, line: &Line) -> Result<String, PlayError> {
     let mut pens = String::new(alloc);
-    for cell in line.stored_cells().ok_or(Fault::Bad)? {
+    for cell in line.stored_cells().ok_or(PlayError::Bad)? {
         let words = pen_words(alloc, cell.attrs())?;
         push_barred(&mut pens, words.as_str())?;
     }
@@ -118,14 +118,14 @@ fn pens(alloc: Global, line: &Line) -> Result<String, Fault> {
 }
 
 // The pen of the stored cell at a column.
-fn pen(alloc: Global, line: &Line, column: usize) -> Result<String, Fault> {
-    let cells = line.stored_cells().ok_or(Fault::Bad)?;
-    let cell = cells.get(column).ok_or(Fault::Bad)?;
+fn pen(alloc: Global, line: &Line, column: usize) -> Result<String, PlayError> {
+    let cells = line.stored_cells().ok_or(PlayError::Bad)?;
+    let cell = cells.get(column).ok_or(PlayError::Bad)?;
     pen_words(alloc, cell.attrs())
 }
 
 /// The texts of the visible cells, between bars.
-pub fn shown(alloc: Global, line: &Line) -> Result<String, Fault> {
+pub fn shown(alloc: Global, line: &Line) -> Result<String, PlayError> {
     let mut texts = String::from_str(alloc, "|")?;
     for cell in line.visible_cells() {
         texts.push_str(cell.str())?;
@@ -135,7 +135,7 @@ pub fn shown(alloc: Global, line: &Line) -> Result<String, Fault> {
 }
 
 // The visible texts, each behind its column, as `0a|1b|`.
-fn cells(alloc: Global, line: &Line) -> Result<String, Fault> {
+fn cells(alloc: Global, line: &Line) -> Result<String, PlayError> {
     let mut texts = String::new(alloc);
     for cell in line.visible_cells() {
         let column = cell.cell_index();
@@ -146,7 +146,7 @@ fn cells(alloc: Global, line: &Line) -> Result<String, Fault> {
 }
 
 // The words of each visible cell.
-fn visible(alloc: Global, line: &Line) -> Result<String, Fault> {
+fn visible(alloc: Global, line: &Line) -> Result<String, PlayError> {
     let mut words = String::new(alloc);
     for cell in line.visible_cells() {
         let word = cell_words(alloc, cell)?;
@@ -156,19 +156,19 @@ fn visible(alloc: Global, line: &Line) -> Result<String, Fault> {
 }
 
 // Its text, column, width and pen, and how it is shown.
-fn cell_words(alloc: Global, cell: CellRef<'_>) -> Result<String, Fault> {
+fn cell_words(alloc: Global, cell: CellRef<'_>) -> Result<String, PlayError> {
     let place = place_words(alloc, cell)?;
     let pen = pen_words(alloc, cell.attrs())?;
     let presentation = cell.presentation(&OneColumn);
     Ok(format!(in alloc; "{place}, pen {pen}, {presentation:?}")?)
 }
 
-fn place_words(alloc: Global, cell: CellRef<'_>) -> Result<String, Fault> {
+fn place_words(alloc: Global, cell: CellRef<'_>) -> Result<String, PlayError> {
     let (text, column, width) = (cell.str(), cell.cell_index(), cell.width());
     Ok(format!(in alloc; "{text} at {column}, width {width}")?)
 }
 
-fn cell(alloc: Global, line: &Line, column: usize) -> Result<String, Fault> {
+fn cell(alloc: Global, line: &Line, column: usize) -> Result<String, PlayError> {
     match line.get_cell(column) {
         Some(cell) => cell_words(alloc, cell),
         None => Ok(String::from_str(alloc, "none")?),
@@ -176,19 +176,19 @@ fn cell(alloc: Global, line: &Line, column: usize) -> Result<String, Fault> {
 }
 
 // Whether the visible cells at two columns show the same.
-fn alike(alloc: Global, line: &Line, column: usize, other: usize) -> Result<String, Fault> {
+fn alike(alloc: Global, line: &Line, column: usize, other: usize) -> Result<String, PlayError> {
     let (cell, other) = (visible_at(line, column)?, visible_at(line, other)?);
     truth_word(alloc, cell.same_contents(&other))
 }
 
 // Whether the copy of a visible cell is this cell, whether the visible one is its copy, and whether
 // it is blank.
-fn copied(alloc: Global, line: &Line, column: usize, word: &str) -> Result<String, Fault> {
+fn copied(alloc: Global, line: &Line, column: usize, word: &str) -> Result<String, PlayError> {
     let visible = visible_at(line, column)?;
     copy_words(alloc, visible, &words::cell(alloc, word)?)
 }
 
-fn copy_words(alloc: Global, visible: CellRef<'_>, cell: &Cell) -> Result<String, Fault>
+fn copy_words(alloc: Global, visible: CellRef<'_>, cell: &Cell) -> Result<String, PlayError>
     requires { IsOfCell visible }
 {
     let copy = visible.as_cell(alloc)?;
@@ -197,31 +197,31 @@ fn copy_words(alloc: Global, visible: CellRef<'_>, cell: &Cell) -> Result<String
     Ok(format!(in alloc; "equal {equal}, back {back}, blank {blank}")?)
 }
 
-fn visible_at(line: &Line, column: usize) -> Result<CellRef<'_>, Fault>
+fn visible_at(line: &Line, column: usize) -> Result<CellRef<'_>, PlayError>
     ensures { IfOk result IsOfCell }
 {
-    line.get_cell(column).ok_or(Fault::Bad)
+    line.get_cell(column).ok_or(PlayError::Bad)
 }
 
-fn text(alloc: Global, line: &Line) -> Result<String, Fault> {
+fn text(alloc: Global, line: &Line) -> Result<String, PlayError> {
     match line.as_str()? {
         CowStr::Borrowed(text) => Ok(format!(in alloc; "lent |{text}|")?),
         CowStr::Owned(text) => Ok(format!(in alloc; "own |{text}|")?),
     }
 }
 
-fn columns(alloc: Global, line: &Line, from: usize, to: usize) -> Result<String, Fault> {
+fn columns(alloc: Global, line: &Line, from: usize, to: usize) -> Result<String, PlayError> {
     let text = line.columns_as_str(from..to)?;
     Ok(format!(in alloc; "|{text}|")?)
 }
 
-fn click(alloc: Global, line: &Line, column: usize) -> Result<String, Fault> {
+fn click(alloc: Global, line: &Line, column: usize) -> Result<String, PlayError> {
     let range = line.compute_double_click_range(column, |text| text != " ");
     Ok(format!(in alloc; "{range:?}")?)
 }
 
 // The names of all sizes that the line has.
-fn size(alloc: Global, line: &Line) -> Result<String, Fault> {
+fn size(alloc: Global, line: &Line) -> Result<String, PlayError> {
     let sizes = [
         (line.is_single_width(), "single"),
         (line.is_double_width(), "double"),
@@ -237,18 +237,18 @@ fn size(alloc: Global, line: &Line) -> Result<String, Fault> {
     Ok(names)
 }
 
-fn bidi(alloc: Global, line: &Line) -> Result<String, Fault> {
+fn bidi(alloc: Global, line: &Line) -> Result<String, PlayError> {
     let (enabled, hint) = line.bidi_info();
     Ok(format!(in alloc; "{enabled} {hint:?}")?)
 }
 
-fn changes(alloc: Global, line: &Line) -> Result<String, Fault> {
+fn changes(alloc: Global, line: &Line) -> Result<String, PlayError> {
     let changes = line.changes(&CellAttributes::blank())?;
     change_words(alloc, changes.as_slice())
 }
 
 // How many bytes the texts of its changes have.
-fn lengths(alloc: Global, line: &Line) -> Result<String, Fault> {
+fn lengths(alloc: Global, line: &Line) -> Result<String, PlayError> {
     let changes = line.changes(&CellAttributes::blank())?;
     text_lengths(alloc, changes.as_slice())
 }

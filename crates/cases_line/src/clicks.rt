@@ -1,11 +1,11 @@
 //! Double clicks where cells are of a word and of none by turns.
-use cases_words::fault::Fault;
+use cases::error::PlayError;
 use std::alloc::Global;
 use std::cell::Cell;
 use termwiz_line::line::line::{DoubleClickRange, Line};
 
 /// Whether the range lies in the line, and the column in it or at its end.
-pub fn turning(alloc: Global, line: &Line, column: usize) -> Result<String, Fault> {
+pub fn turning(alloc: Global, line: &Line, column: usize) -> Result<String, PlayError> {
     let last = Cell::new(false);
     let range = line.compute_double_click_range(column, |_| turn(&last));
     let around = is_around(&range, column, line.len());

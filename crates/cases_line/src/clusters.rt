@@ -1,13 +1,13 @@
 //! Questions about a line's clusters.
 use crate::pens::pen_words;
-use cases_words::fault::Fault;
-use cases_words::words::push_barred;
+use cases::error::PlayError;
+use cases::words::push_barred;
 use std::alloc::Global;
 use termwiz_cell::emoji::UnicodeWidths;
 use termwiz_line::cellcluster::CellCluster;
 use termwiz_line::line::line::Line;
 
-pub fn answer(alloc: Global, line: &Line, name: &str) -> Result<String, Fault> {
+pub fn answer(alloc: Global, line: &Line, name: &str) -> Result<String, PlayError> {
     let clusters = line.cluster(&UnicodeWidths)?;
     match name {
         "clusters" => shown(alloc, clusters.as_slice()),
@@ -15,12 +15,12 @@ pub fn answer(alloc: Global, line: &Line, name: &str) -> Result<String, Fault> {
         "bytes" => bytes(alloc, clusters.as_slice()),
         "looks" => looks(alloc, clusters.as_slice()),
         "cluster-copies" => copies(alloc, clusters.as_slice()),
-        _ => Err(Fault::Bad),
+        _ => Err(PlayError::Bad),
     }
 }
 
 // The texts of the clusters, each behind its column and its width, as `0:2か|2:1a|`.
-fn shown(alloc: Global, clusters: &[CellCluster]) -> Result<String, Fault> {
+fn shown(alloc: Global, clusters: &[CellCluster]) -> Result<String, PlayError> {
     let mut words = String::new(alloc);
     for cluster in clusters {
         let column = cluster.first_cell_idx;
@@ -31,18 +31,18 @@ fn shown(alloc: Global, clusters: &[CellCluster]) -> Result<String, Fault> {
     Ok(words)
 }
 
-fn of_cells(alloc: Global, line: &Line) -> Result<String, Fault> {
+fn of_cells(alloc: Global, line: &Line) -> Result<String, PlayError> {
     let clusters = CellCluster::make_cluster(alloc, &UnicodeWidths, line.visible_cells())?;
     shown(alloc, clusters.as_slice())
 }
 
 // The cells of the bytes of the first cluster.
-fn bytes(alloc: Global, clusters: &[CellCluster]) -> Result<String, Fault> {
-    cells_of_bytes(alloc, clusters.first().ok_or(Fault::Bad)?)
+fn bytes(alloc: Global, clusters: &[CellCluster]) -> Result<String, PlayError> {
+    cells_of_bytes(alloc, clusters.first().ok_or(PlayError::Bad)?)
 }
 
 // The column and the width of each byte's cell, as `0:2|0:2|0:2|2:1|`.
-fn cells_of_bytes(alloc: Global, cluster: &CellCluster) -> Result<String, Fault> {
+fn cells_of_bytes(alloc: Global, cluster: &CellCluster) -> Result<String, PlayError> {
     let mut words = String::new(alloc);
     let count = cluster.text.len();
     for byte in 0..count {
@@ -54,7 +54,7 @@ fn cells_of_bytes(alloc: Global, cluster: &CellCluster) -> Result<String, Fault>
 }
 
 // The pen of each cluster, how it is shown and where to.
-fn looks(alloc: Global, clusters: &[CellCluster]) -> Result<String, Fault> {
+fn looks(alloc: Global, clusters: &[CellCluster]) -> Result<String, PlayError> {
     let mut words = String::new(alloc);
     for cluster in clusters {
         let pen = pen_words(alloc, &cluster.attrs)?;
@@ -65,7 +65,7 @@ fn looks(alloc: Global, clusters: &[CellCluster]) -> Result<String, Fault> {
 }
 
 // Whether the copy of each cluster has the same cells of its bytes.
-fn copies(alloc: Global, clusters: &[CellCluster]) -> Result<String, Fault> {
+fn copies(alloc: Global, clusters: &[CellCluster]) -> Result<String, PlayError> {
     let mut words = String::new(alloc);
     for cluster in clusters {
         let same = is_copied(alloc, cluster)?;
@@ -74,7 +74,7 @@ fn copies(alloc: Global, clusters: &[CellCluster]) -> Result<String, Fault> {
     Ok(words)
 }
 
-fn is_copied(alloc: Global, cluster: &CellCluster) -> Result<bool, Fault> {
+fn is_copied(alloc: Global, cluster: &CellCluster) -> Result<bool, PlayError> {
     let copy = cluster.clone()?;
     have_same_bytes(alloc, &copy, cluster)
 }
@@ -83,7 +83,7 @@ fn have_same_bytes(
     alloc: Global,
     cluster: &CellCluster,
     other: &CellCluster,
-) -> Result<bool, Fault> {
+) -> Result<bool, PlayError> {
     let cells = cells_of_bytes(alloc, cluster)?;
     Ok(cells.as_str() == cells_of_bytes(alloc, other)?.as_str())
 }

@@ -2,10 +2,10 @@
 //! Edits with the same kinds of words are chosen once the words are values, so that each word is
 //! read in one place for many edits.
 use crate::words::{cell, direction, hint, pen, text};
-use cases_words::fault::Fault;
-use cases_words::pens::semantic_type;
-use cases_words::shapes::line_attribute;
-use cases_words::words::{given, pair, truth};
+use cases::error::PlayError;
+use cases::pens::semantic_type;
+use cases::shapes::line_attribute;
+use cases::words::{given, pair, truth};
 use std::alloc::{AllocError, Global};
 use termwiz_cell::cell::{Cell, CellAttributes};
 use termwiz_cell::change::LineAttribute;
@@ -13,21 +13,21 @@ use termwiz_cell::emoji::UnicodeWidths;
 use termwiz_line::line::line::Line;
 use termwiz_text::split_letter_run;
 
-pub fn edit(alloc: Global, line: &mut Line, words: &[&str]) -> Result<(), Fault> {
+pub fn edit(alloc: Global, line: &mut Line, words: &[&str]) -> Result<(), PlayError> {
     match words {
         ["compress"] => done(line.compress_for_scrollback()),
         ["retype", name] => retype(line, name),
         [name, words @ .., seqno] => numbered(alloc, line, name, words, given(seqno)?),
-        _ => Err(Fault::Bad),
+        _ => Err(PlayError::Bad),
     }
 }
 
-fn done(made: Result<(), AllocError>) -> Result<(), Fault> {
+fn done(made: Result<(), AllocError>) -> Result<(), PlayError> {
     Ok(made?)
 }
 
 // Writes the type into each cell that the line lends.
-fn retype(line: &mut Line, name: &str) -> Result<(), Fault> {
+fn retype(line: &mut Line, name: &str) -> Result<(), PlayError> {
     let semantic_type = semantic_type(name)?;
     let cells: &mut [Cell] = line.cells_mut()?;
     for cell in cells.iter_mut() {
@@ -43,7 +43,7 @@ fn numbered(
     name: &str,
     words: &[&str],
     seqno: usize,
-) -> Result<(), Fault> {
+) -> Result<(), PlayError> {
     match words {
         [] => whole(line, name, seqno),
         [word] => by_one(line, name, word, seqno),
@@ -52,19 +52,19 @@ fn numbered(
         [column, word, width, pen] if name == "grapheme" => {
             set_grapheme(alloc, line, pair(column, width)?, word, pen, seqno)
         }
-        _ => Err(Fault::Bad),
+        _ => Err(PlayError::Bad),
     }
 }
 
-fn whole(line: &mut Line, name: &str, seqno: usize) -> Result<(), Fault> {
+fn whole(line: &mut Line, name: &str, seqno: usize) -> Result<(), PlayError> {
     match name {
         "prune" => done(line.prune_trailing_blanks(seqno)),
         "take-number" => Ok(line.update_last_change_seqno(seqno)),
-        _ => Err(Fault::Bad),
+        _ => Err(PlayError::Bad),
     }
 }
 
-fn by_one(line: &mut Line, name: &str, word: &str, seqno: usize) -> Result<(), Fault> {
+fn by_one(line: &mut Line, name: &str, word: &str, seqno: usize) -> Result<(), PlayError> {
     match name {
         "size" => Ok(size(line, line_attribute(word)?, seqno)),
         "mark" => done(line.set_last_cell_was_wrapped(truth(word)?, seqno)),
@@ -83,7 +83,7 @@ fn size(line: &mut Line, size: LineAttribute, seqno: usize) {
 }
 
 // At a column, or to a width.
-fn by_number(line: &mut Line, name: &str, number: usize, seqno: usize) -> Result<(), Fault> {
+fn by_number(line: &mut Line, name: &str, number: usize, seqno: usize) -> Result<(), PlayError> {
     match name {
         "run" => done(line.set_run(number, "xy", &CellAttributes::blank(), seqno)),
         "letters" => done(set_letters(line, number, seqno)),
@@ -91,7 +91,7 @@ fn by_number(line: &mut Line, name: &str, number: usize, seqno: usize) -> Result
         "remove" => done(line.remove_cell(number, seqno)),
         "resize" => done(line.resize(number, seqno)),
         "blank-out" => done(line.blank_out(number, seqno)),
-        _ => Err(Fault::Bad),
+        _ => Err(PlayError::Bad),
     }
 }
 
@@ -107,14 +107,14 @@ fn by_two(
     first: &str,
     second: &str,
     seqno: usize,
-) -> Result<(), Fault> {
+) -> Result<(), PlayError> {
     match name {
         "bidi" => Ok(line.set_bidi_info(truth(first)?, hint(second)?, seqno)),
         "direction" => Ok(line.set_direction(direction(first)?, truth(second)?, seqno)),
         "set" => set(alloc, line, given(first)?, second, seqno),
         "clear" => clear(alloc, line, given(first)?, second, seqno),
         "erase-within" => erase_within(alloc, line, pair(first, second)?, "-", seqno),
-        _ => Err(Fault::Bad),
+        _ => Err(PlayError::Bad),
     }
 }
 
@@ -124,7 +124,7 @@ fn set(
     column: usize,
     word: &str,
     seqno: usize,
-) -> Result<(), Fault> {
+) -> Result<(), PlayError> {
     let cell = cell(alloc, word)?;
     done(line.set_cell(column, cell, seqno))
 }
@@ -135,7 +135,7 @@ fn clear(
     width: usize,
     word: &str,
     seqno: usize,
-) -> Result<(), Fault> {
+) -> Result<(), PlayError> {
     let attrs = pen(alloc, word)?;
     done(line.resize_and_clear(width, seqno, attrs))
 }
@@ -147,11 +147,11 @@ fn erase_within(
     place: (usize, usize),
     pen_word: &str,
     seqno: usize,
-) -> Result<(), Fault> {
+) -> Result<(), PlayError> {
     let (column, end) = place;
     let attrs = pen(alloc, pen_word)?;
     if end == 0 {
-        return Err(Fault::Bad);
+        return Err(PlayError::Bad);
     }
     done(line.erase_cell_with_margin(column, end, seqno, attrs))
 }
@@ -164,7 +164,7 @@ fn by_three(
     second: &str,
     third: &str,
     seqno: usize,
-) -> Result<(), Fault> {
+) -> Result<(), PlayError> {
     match name {
         "fill" => fill(alloc, line, pair(first, second)?, third, seqno),
         "overlay" => overlay(alloc, line, given(first)?, second, third, seqno),
@@ -180,7 +180,7 @@ fn fill(
     columns: (usize, usize),
     word: &str,
     seqno: usize,
-) -> Result<(), Fault> {
+) -> Result<(), PlayError> {
     let cell = cell(alloc, word)?;
     done(line.fill_range(columns.0..columns.1, &cell, seqno))
 }
@@ -192,7 +192,7 @@ fn overlay(
     word: &str,
     pen_word: &str,
     seqno: usize,
-) -> Result<(), Fault> {
+) -> Result<(), PlayError> {
     let text = text(alloc, word)?;
     overlay_text(line, column, text.as_str(), pen(alloc, pen_word)?, seqno)
 }
@@ -203,7 +203,7 @@ fn overlay_text(
     text: &str,
     attrs: CellAttributes,
     seqno: usize,
-) -> Result<(), Fault> {
+) -> Result<(), PlayError> {
     done(line.overlay_text_with_attribute(column, text, &attrs, seqno, &UnicodeWidths))
 }
 
@@ -215,7 +215,7 @@ fn set_grapheme(
     word: &str,
     pen_word: &str,
     seqno: usize,
-) -> Result<(), Fault> {
+) -> Result<(), PlayError> {
     let (column, width) = place;
     let text = text(alloc, word)?;
     let attrs = pen(alloc, pen_word)?;
@@ -230,12 +230,12 @@ fn put_cell(
     place: (usize, usize),
     word: &str,
     seqno: usize,
-) -> Result<(), Fault> {
+) -> Result<(), PlayError> {
     let (column, end) = place;
     let cell = cell(alloc, word)?;
     match name {
         "within" => done(line.set_cell_within(column, cell, end, seqno)),
         "insert" if end > 0 => done(line.insert_cell(column, cell, end, seqno)),
-        _ => Err(Fault::Bad),
+        _ => Err(PlayError::Bad),
     }
 }

@@ -58,13 +58,13 @@ mod recorded;
 mod stage;
 mod words;
 
-use cases_words::fault::Fault;
-use cases_words::play::play_input;
-use cases_words::recorded::play_recorded;
+use cases::error::PlayError;
+use cases::play::play_input;
+use cases::recorded::play_recorded;
 use recorded::Player;
 use stage::Stage;
 
-fn main(rt: HostRuntime) -> Result<(), Fault> {
+fn main(rt: HostRuntime) -> Result<(), PlayError> {
     let alloc = rt.alloc();
     play_input(&rt, &mut Stage::new(alloc))?;
     play_recorded(&rt, "lines.txt", "case", &mut Player::new(alloc, false))?;

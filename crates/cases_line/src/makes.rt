@@ -1,27 +1,27 @@
 //! Lines by the words that make them.
 use crate::words::{cell, cells, pen, text};
-use cases_words::fault::Fault;
-use cases_words::words::given;
+use cases::error::PlayError;
+use cases::words::given;
 use std::alloc::{AllocError, Global};
 use termwiz_cell::cell::CellAttributes;
 use termwiz_cell::emoji::UnicodeWidths;
 use termwiz_line::line::line::Line;
 
-pub fn make(alloc: Global, words: &[&str]) -> Result<Line, Fault> {
+pub fn make(alloc: Global, words: &[&str]) -> Result<Line, PlayError> {
     match words {
         ["set", words @ ..] => set(alloc, words),
         ["plain", word] => plain(alloc, word),
         ["cells", seqno, words @ ..] => of_cells(alloc, given(seqno)?, words),
         [name, words @ .., seqno] => numbered(alloc, name, words, given(seqno)?),
-        _ => Err(Fault::Bad),
+        _ => Err(PlayError::Bad),
     }
 }
 
-fn done(made: Result<Line, AllocError>) -> Result<Line, Fault> {
+fn done(made: Result<Line, AllocError>) -> Result<Line, PlayError> {
     Ok(made?)
 }
 
-fn set(alloc: Global, words: &[&str]) -> Result<Line, Fault> {
+fn set(alloc: Global, words: &[&str]) -> Result<Line, PlayError> {
     let mut line = Line::with_width(alloc, 0, 0)?;
     for word in words {
         set_last(alloc, &mut line, word)?;
@@ -30,24 +30,24 @@ fn set(alloc: Global, words: &[&str]) -> Result<Line, Fault> {
 }
 
 // Sets a cell behind the last one.
-fn set_last(alloc: Global, line: &mut Line, word: &str) -> Result<(), Fault> {
+fn set_last(alloc: Global, line: &mut Line, word: &str) -> Result<(), PlayError> {
     let at = line.len();
     let cell = cell(alloc, word)?;
     line.set_cell(at, cell, 0)?;
     Ok(())
 }
 
-fn plain(alloc: Global, word: &str) -> Result<Line, Fault> {
+fn plain(alloc: Global, word: &str) -> Result<Line, PlayError> {
     let text = text(alloc, word)?;
     done(Line::from_plain(alloc, text.as_str(), &UnicodeWidths))
 }
 
-fn of_cells(alloc: Global, seqno: usize, words: &[&str]) -> Result<Line, Fault> {
+fn of_cells(alloc: Global, seqno: usize, words: &[&str]) -> Result<Line, PlayError> {
     Ok(Line::from_cells(cells(alloc, words)?, seqno))
 }
 
 // The lines that are given a number.
-fn numbered(alloc: Global, name: &str, words: &[&str], seqno: usize) -> Result<Line, Fault> {
+fn numbered(alloc: Global, name: &str, words: &[&str], seqno: usize) -> Result<Line, PlayError> {
     match (name, words) {
         ("empty", []) => Ok(Line::new(alloc, seqno)),
         ("blanks", [width]) => done(Line::with_width(alloc, given(width)?, seqno)),
@@ -55,25 +55,30 @@ fn numbered(alloc: Global, name: &str, words: &[&str], seqno: usize) -> Result<L
         ("text", [word, pen]) => of_text(alloc, word, pen, seqno),
         ("wrapping", [word]) => wrapping(alloc, word, "-", seqno),
         ("wrapping", [word, pen]) => wrapping(alloc, word, pen, seqno),
-        _ => Err(Fault::Bad),
+        _ => Err(PlayError::Bad),
     }
 }
 
-fn many(alloc: Global, width: usize, word: &str, seqno: usize) -> Result<Line, Fault> {
+fn many(alloc: Global, width: usize, word: &str, seqno: usize) -> Result<Line, PlayError> {
     let cell = cell(alloc, word)?;
     done(Line::with_width_and_cell(alloc, width, cell, seqno))
 }
 
-fn of_text(alloc: Global, word: &str, pen_word: &str, seqno: usize) -> Result<Line, Fault> {
+fn of_text(alloc: Global, word: &str, pen_word: &str, seqno: usize) -> Result<Line, PlayError> {
     let text = text(alloc, word)?;
     in_pen(alloc, text.as_str(), pen(alloc, pen_word)?, seqno)
 }
 
-fn in_pen(alloc: Global, text: &str, attrs: CellAttributes, seqno: usize) -> Result<Line, Fault> {
+fn in_pen(
+    alloc: Global,
+    text: &str,
+    attrs: CellAttributes,
+    seqno: usize,
+) -> Result<Line, PlayError> {
     done(Line::from_text(alloc, text, &attrs, seqno, None, &UnicodeWidths))
 }
 
-fn wrapping(alloc: Global, word: &str, pen_word: &str, seqno: usize) -> Result<Line, Fault> {
+fn wrapping(alloc: Global, word: &str, pen_word: &str, seqno: usize) -> Result<Line, PlayError> {
     let text = text(alloc, word)?;
     wrapping_text(alloc, text.as_str(), pen(alloc, pen_word)?, seqno)
 }
@@ -83,7 +88,7 @@ fn wrapping_text(
     text: &str,
     attrs: CellAttributes,
     seqno: usize,
-) -> Result<Line, Fault> {
+) -> Result<Line, PlayError> {
     let widths = UnicodeWidths;
     done(Line::from_text_with_wrapped_last_col(alloc, text, &attrs, seqno, &widths))
 }

@@ -1,15 +1,15 @@
 //! The words of attributes and of changes.
 use crate::words::pen;
-use cases_words::fault::Fault;
-use cases_words::pens::{BLINKS, INTENSITIES, SEMANTIC_TYPES, UNDERLINES, VERTICAL_ALIGNS};
-use cases_words::words::{color_word, name_of, push_barred};
+use cases::error::PlayError;
+use cases::pens::{BLINKS, INTENSITIES, SEMANTIC_TYPES, UNDERLINES, VERTICAL_ALIGNS};
+use cases::words::{color_word, name_of, push_barred};
 use std::alloc::Global;
 use termwiz_cell::cell::{CellAttributes, SemanticType};
 use termwiz_cell::change::Change;
 use termwiz_cell::color::ColorAttribute;
 
 /// The words of a pen, and `and more` where these do not say it all.
-pub fn pen_words(alloc: Global, attrs: &CellAttributes) -> Result<String, Fault> {
+pub fn pen_words(alloc: Global, attrs: &CellAttributes) -> Result<String, PlayError> {
     let mut words = String::new(alloc);
     push_styles(&mut words, attrs)?;
     push_flags(&mut words, attrs)?;
@@ -24,18 +24,18 @@ pub fn pen_words(alloc: Global, attrs: &CellAttributes) -> Result<String, Fault>
     Ok(words)
 }
 
-fn has_words(alloc: Global, attrs: &CellAttributes, words: &str) -> Result<bool, Fault> {
+fn has_words(alloc: Global, attrs: &CellAttributes, words: &str) -> Result<bool, PlayError> {
     let pen = pen(alloc, words)?;
     Ok(pen == *attrs)
 }
 
-fn push_styles(words: &mut String, attrs: &CellAttributes) -> Result<(), Fault> {
+fn push_styles(words: &mut String, attrs: &CellAttributes) -> Result<(), PlayError> {
     push_word(words, name_of(&INTENSITIES, &attrs.intensity()))?;
     push_word(words, name_of(&UNDERLINES, &attrs.underline()))?;
     push_word(words, name_of(&BLINKS, &attrs.blink()))
 }
 
-fn push_flags(words: &mut String, attrs: &CellAttributes) -> Result<(), Fault> {
+fn push_flags(words: &mut String, attrs: &CellAttributes) -> Result<(), PlayError> {
     let flags = [
         (attrs.italic(), "italic"),
         (attrs.reverse(), "reverse"),
@@ -52,7 +52,7 @@ fn push_flags(words: &mut String, attrs: &CellAttributes) -> Result<(), Fault> {
     Ok(())
 }
 
-fn push_kinds(words: &mut String, attrs: &CellAttributes) -> Result<(), Fault> {
+fn push_kinds(words: &mut String, attrs: &CellAttributes) -> Result<(), PlayError> {
     let semantic_type = attrs.semantic_type();
     if semantic_type != SemanticType::Output {
         push_word(words, name_of(&SEMANTIC_TYPES, &semantic_type))?;
@@ -69,7 +69,7 @@ fn push_kinds(words: &mut String, attrs: &CellAttributes) -> Result<(), Fault> {
 }
 
 // Adds a word, if it has a letter.
-fn push_word(words: &mut String, word: &str) -> Result<(), Fault> {
+fn push_word(words: &mut String, word: &str) -> Result<(), PlayError> {
     if !words.is_empty() && !word.is_empty() {
         words.push(',')?;
     }
@@ -77,7 +77,7 @@ fn push_word(words: &mut String, word: &str) -> Result<(), Fault> {
     Ok(())
 }
 
-fn push_colors(alloc: Global, words: &mut String, attrs: &CellAttributes) -> Result<(), Fault> {
+fn push_colors(alloc: Global, words: &mut String, attrs: &CellAttributes) -> Result<(), PlayError> {
     push_color(alloc, words, "fg", attrs.foreground())?;
     push_color(alloc, words, "bg", attrs.background())?;
     push_color(alloc, words, "ul", attrs.underline_color())
@@ -88,7 +88,7 @@ fn push_color(
     words: &mut String,
     name: &str,
     color: ColorAttribute,
-) -> Result<(), Fault> {
+) -> Result<(), PlayError> {
     if color == ColorAttribute::Default {
         return Ok(());
     }
@@ -98,7 +98,7 @@ fn push_color(
 }
 
 /// Changes, each with `|` behind it.
-pub fn change_words(alloc: Global, changes: &[Change]) -> Result<String, Fault> {
+pub fn change_words(alloc: Global, changes: &[Change]) -> Result<String, PlayError> {
     let mut words = String::new(alloc);
     for change in changes {
         let word = change_word(alloc, change)?;
@@ -107,7 +107,7 @@ pub fn change_words(alloc: Global, changes: &[Change]) -> Result<String, Fault> 
     Ok(words)
 }
 
-fn change_word(alloc: Global, change: &Change) -> Result<String, Fault> {
+fn change_word(alloc: Global, change: &Change) -> Result<String, PlayError> {
     match change {
         Change::AllAttributes(attrs) => pen_word(alloc, attrs),
         Change::Text(text) => Ok(format!(in alloc; "text {text}")?),
@@ -115,13 +115,13 @@ fn change_word(alloc: Global, change: &Change) -> Result<String, Fault> {
     }
 }
 
-fn pen_word(alloc: Global, attrs: &CellAttributes) -> Result<String, Fault> {
+fn pen_word(alloc: Global, attrs: &CellAttributes) -> Result<String, PlayError> {
     let words = pen_words(alloc, attrs)?;
     Ok(format!(in alloc; "pen {words}")?)
 }
 
 /// How many bytes each text has, with `|` behind it.
-pub fn text_lengths(alloc: Global, changes: &[Change]) -> Result<String, Fault> {
+pub fn text_lengths(alloc: Global, changes: &[Change]) -> Result<String, PlayError> {
     let mut lengths = String::new(alloc);
     for change in changes {
         if let Change::Text(text) = change {

@@ -1,10 +1,10 @@
 //! All that is read of a line, in the words of recorded answers.
 use crate::pens::pen_words;
 use crate::words::HINTS;
-use cases_words::escapes::escaped;
-use cases_words::fault::Fault;
-use cases_words::pens::SEMANTIC_TYPES;
-use cases_words::words::{color_word, name_of};
+use cases::error::PlayError;
+use cases::escapes::escaped;
+use cases::pens::SEMANTIC_TYPES;
+use cases::words::{color_word, name_of};
 use std::alloc::Global;
 use std::ops::Range;
 use termwiz_cell::cell::{Cell, CellAttributes};
@@ -13,14 +13,14 @@ use termwiz_cell::emoji::UnicodeWidths;
 use termwiz_line::line::line::{DoubleClickRange, Line};
 
 /// Its length, number and text.
-pub fn summary(alloc: Global, line: &Line) -> Result<String, Fault> {
+pub fn summary(alloc: Global, line: &Line) -> Result<String, PlayError> {
     let (len, number) = (line.len(), line.current_seqno());
     let text = shown(alloc, line)?;
     let word = escaped(alloc, text.as_str())?;
     Ok(format!(in alloc; "{len} {number} {word}")?)
 }
 
-fn shown(alloc: Global, line: &Line) -> Result<String, Fault> {
+fn shown(alloc: Global, line: &Line) -> Result<String, PlayError> {
     let text = line.as_str()?;
     Ok((*text).to_owned(alloc)?)
 }
@@ -31,7 +31,7 @@ pub fn yes(truth: bool) -> &'static str {
 }
 
 /// Each reading on a line of its own.
-pub fn readings(alloc: Global, line: &Line) -> Result<String, Fault> {
+pub fn readings(alloc: Global, line: &Line) -> Result<String, PlayError> {
     let mut readings = format!(in alloc; "line {}\n", summary(alloc, line)?)?;
     push_flags(&mut readings, line)?;
     push_cells(alloc, &mut readings, line)?;
@@ -47,7 +47,7 @@ pub fn readings(alloc: Global, line: &Line) -> Result<String, Fault> {
     Ok(readings)
 }
 
-fn push_flags(readings: &mut String, line: &Line) -> Result<(), Fault> {
+fn push_flags(readings: &mut String, line: &Line) -> Result<(), PlayError> {
     let (enabled, hint) = line.bidi_info();
     let direction = if enabled { "bidi" } else { "plain" };
     writeln!(
@@ -72,7 +72,7 @@ fn size(line: &Line) -> &'static str {
 }
 
 // Visible cells, and stored ones where a cell is wide.
-fn push_cells(alloc: Global, readings: &mut String, line: &Line) -> Result<(), Fault> {
+fn push_cells(alloc: Global, readings: &mut String, line: &Line) -> Result<(), PlayError> {
     let mut has_wide = false;
     readings.push_str("cells")?;
     for cell in line.visible_cells() {
@@ -88,7 +88,7 @@ fn push_cells(alloc: Global, readings: &mut String, line: &Line) -> Result<(), F
     Ok(())
 }
 
-fn push_stored(alloc: Global, readings: &mut String, line: &Line) -> Result<(), Fault> {
+fn push_stored(alloc: Global, readings: &mut String, line: &Line) -> Result<(), PlayError> {
     let mut copy = line.clone()?;
     let cells: &[Cell] = copy.cells_mut()?;
     readings.push_str("stored")?;
@@ -105,14 +105,14 @@ fn cell_word(
     text: &str,
     width: usize,
     attrs: &CellAttributes,
-) -> Result<String, Fault> {
+) -> Result<String, PlayError> {
     let text = escaped(alloc, text)?;
     let pen = pen_words(alloc, attrs)?;
     Ok(format!(in alloc; "{text}/{width}/{pen}")?)
 }
 
 // Texts of columns, double clicks and semantic zones.
-fn push_ranges(alloc: Global, readings: &mut String, line: &Line) -> Result<(), Fault> {
+fn push_ranges(alloc: Global, readings: &mut String, line: &Line) -> Result<(), PlayError> {
     readings.push_str("columns")?;
     for columns in [1..3, 2..usize::MAX, 3..1, 0..line.len()] {
         push_columns(alloc, readings, line, columns)?;
@@ -129,14 +129,14 @@ fn push_columns(
     readings: &mut String,
     line: &Line,
     columns: Range<usize>,
-) -> Result<(), Fault> {
+) -> Result<(), PlayError> {
     let text = line.columns_as_str(columns)?;
     let word = escaped(alloc, text.as_str())?;
     write!(readings, " {word}")?;
     Ok(())
 }
 
-fn push_click(readings: &mut String, line: &Line, column: usize) -> Result<(), Fault> {
+fn push_click(readings: &mut String, line: &Line, column: usize) -> Result<(), PlayError> {
     let (range, mark) = match line.compute_double_click_range(column, |text| text != " ") {
         DoubleClickRange::Range(range) => (range, '-'),
         DoubleClickRange::RangeWithWrap(range) => (range, '~'),
@@ -145,7 +145,7 @@ fn push_click(readings: &mut String, line: &Line, column: usize) -> Result<(), F
     Ok(())
 }
 
-fn push_zones(readings: &mut String, line: &Line) -> Result<(), Fault> {
+fn push_zones(readings: &mut String, line: &Line) -> Result<(), PlayError> {
     let mut copy = line.clone()?;
     readings.push_str("\nzones")?;
     for zone in copy.semantic_zone_ranges()? {
@@ -157,7 +157,7 @@ fn push_zones(readings: &mut String, line: &Line) -> Result<(), Fault> {
 }
 
 // Whether the cells' texts are the graphemes of the line's text.
-fn keeps_apart(alloc: Global, line: &Line) -> Result<bool, Fault> {
+fn keeps_apart(alloc: Global, line: &Line) -> Result<bool, PlayError> {
     let text = shown(alloc, line)?;
     let whole = Line::from_plain(alloc, text.as_str(), &UnicodeWidths)?;
     let mut others = whole.visible_cells();
@@ -170,7 +170,7 @@ fn keeps_apart(alloc: Global, line: &Line) -> Result<bool, Fault> {
     Ok(others.next().is_none())
 }
 
-fn push_entries(alloc: Global, readings: &mut String, line: &Line) -> Result<(), Fault> {
+fn push_entries(alloc: Global, readings: &mut String, line: &Line) -> Result<(), PlayError> {
     let changes = line.changes(&CellAttributes::blank())?;
     readings.push_str("entries")?;
     for change in changes.as_slice() {
@@ -180,12 +180,12 @@ fn push_entries(alloc: Global, readings: &mut String, line: &Line) -> Result<(),
     Ok(())
 }
 
-fn push_entry(alloc: Global, readings: &mut String, change: &Change) -> Result<(), Fault> {
+fn push_entry(alloc: Global, readings: &mut String, change: &Change) -> Result<(), PlayError> {
     match change {
         Change::AllAttributes(attrs) => write!(readings, " pen={}", pen_words(alloc, attrs)?)?,
         Change::Text(text) => write!(readings, " text={}", escaped(alloc, text.as_str())?)?,
         Change::ClearToEndOfLine(color) => write!(readings, " eol={}", color_word(alloc, *color)?)?,
-        _ => return Err(Fault::Bad),
+        _ => return Err(PlayError::Bad),
     }
     Ok(())
 }
@@ -200,7 +200,7 @@ fn has_narrow_bytes(line: &Line) -> bool {
     true
 }
 
-fn push_clusters(alloc: Global, readings: &mut String, line: &Line) -> Result<(), Fault> {
+fn push_clusters(alloc: Global, readings: &mut String, line: &Line) -> Result<(), PlayError> {
     let clusters = line.cluster(&UnicodeWidths)?;
     readings.push_str("clusters")?;
     for cluster in clusters.as_slice() {

@@ -6,9 +6,9 @@ use crate::edits::edit;
 use crate::makes::make;
 use crate::readings::{readings, summary, yes};
 use crate::words::{cell, pen};
-use cases_words::fault::Fault;
-use cases_words::play::Play;
-use cases_words::words::{given, pair};
+use cases::error::PlayError;
+use cases::play::Play;
+use cases::words::{given, pair};
 use std::alloc::Global;
 use termwiz_cell::cell::{Cell, CellAttributes};
 use termwiz_line::line::line::Line;
@@ -34,7 +34,7 @@ impl Player {
         }
     }
 
-    fn begin(&mut self) -> Result<String, Fault> {
+    fn begin(&mut self) -> Result<String, PlayError> {
         self.lines = Vec::new(self.alloc);
         for _ in 0..REGISTERS {
             self.lines.push(Line::new(self.alloc, 0))?;
@@ -42,20 +42,20 @@ impl Player {
         Ok(String::new(self.alloc))
     }
 
-    fn get(&self, register: usize) -> Result<&Line, Fault> {
-        self.lines.get(register).ok_or(Fault::Bad)
+    fn get(&self, register: usize) -> Result<&Line, PlayError> {
+        self.lines.get(register).ok_or(PlayError::Bad)
     }
 
-    fn get_mut(&mut self, register: usize) -> Result<&mut Line, Fault> {
-        self.lines.get_mut(register).ok_or(Fault::Bad)
+    fn get_mut(&mut self, register: usize) -> Result<&mut Line, PlayError> {
+        self.lines.get_mut(register).ok_or(PlayError::Bad)
     }
 
-    fn put(&mut self, register: usize, line: Line) -> Result<(), Fault> {
+    fn put(&mut self, register: usize, line: Line) -> Result<(), PlayError> {
         *self.get_mut(register)? = line;
         Ok(())
     }
 
-    fn call(&mut self, own: usize, words: &[&str]) -> Result<String, Fault> {
+    fn call(&mut self, own: usize, words: &[&str]) -> Result<String, PlayError> {
         let answer = self.answer(own, words)?;
         if self.compresses {
             self.get_mut(own)?.compress_for_scrollback()?;
@@ -63,7 +63,7 @@ impl Player {
         Ok(answer)
     }
 
-    fn answer(&mut self, own: usize, words: &[&str]) -> Result<String, Fault> {
+    fn answer(&mut self, own: usize, words: &[&str]) -> Result<String, PlayError> {
         match words {
             ["?"] => readings(self.alloc, self.get(own)?),
             ["equal", other] => self.equal(own, given(other)?),
@@ -77,7 +77,7 @@ impl Player {
         }
     }
 
-    fn summarized(&mut self, own: usize, words: &[&str]) -> Result<String, Fault> {
+    fn summarized(&mut self, own: usize, words: &[&str]) -> Result<String, PlayError> {
         match words {
             ["copy", to] => self.copy(own, given(to)?)?,
             ["append", other, seqno] => self.append(own, given(other)?, given(seqno)?)?,
@@ -86,49 +86,54 @@ impl Player {
         summary(self.alloc, self.get(own)?)
     }
 
-    fn make_or_edit(&mut self, own: usize, words: &[&str]) -> Result<(), Fault> {
+    fn make_or_edit(&mut self, own: usize, words: &[&str]) -> Result<(), PlayError> {
         match made(self.alloc, words)? {
             Some(line) => self.put(own, line),
             None => change(self.alloc, self.get_mut(own)?, words),
         }
     }
 
-    fn equal(&self, own: usize, other: usize) -> Result<String, Fault> {
+    fn equal(&self, own: usize, other: usize) -> Result<String, PlayError> {
         let equal = *self.get(own)? == *self.get(other)?;
         Ok(yes(equal).to_owned(self.alloc)?)
     }
 
-    fn compress(&mut self, own: usize) -> Result<String, Fault> {
+    fn compress(&mut self, own: usize) -> Result<String, PlayError> {
         self.get_mut(own)?.compress_for_scrollback()?;
         Ok(String::new(self.alloc))
     }
 
-    fn copy(&mut self, own: usize, to: usize) -> Result<(), Fault> {
+    fn copy(&mut self, own: usize, to: usize) -> Result<(), PlayError> {
         let copy = self.get(own)?.clone()?;
         self.put(to, copy)
     }
 
-    fn append(&mut self, own: usize, other: usize, seqno: usize) -> Result<(), Fault> {
+    fn append(&mut self, own: usize, other: usize, seqno: usize) -> Result<(), PlayError> {
         let other = self.get(other)?.clone()?;
         self.get_mut(own)?.append_line(other, seqno)?;
         Ok(())
     }
 
     // At a column and with a number.
-    fn split(&mut self, own: usize, at: (usize, usize), to: usize) -> Result<String, Fault> {
+    fn split(&mut self, own: usize, at: (usize, usize), to: usize) -> Result<String, PlayError> {
         let rest = self.get_mut(own)?.split_off(at.0, at.1)?;
         self.put(to, rest)?;
         self.summaries(own, to)
     }
 
-    fn columns(&mut self, own: usize, from: (usize, usize), to: usize) -> Result<String, Fault> {
+    fn columns(
+        &mut self,
+        own: usize,
+        from: (usize, usize),
+        to: usize,
+    ) -> Result<String, PlayError> {
         let part = self.get(own)?.columns_as_line(from.0..from.1)?;
         self.put(to, part)?;
         self.summaries(own, to)
     }
 
     // The summary of a line, and behind it that of another one.
-    fn summaries(&self, own: usize, other: usize) -> Result<String, Fault> {
+    fn summaries(&self, own: usize, other: usize) -> Result<String, PlayError> {
         let mut summaries = summary(self.alloc, self.get(own)?)?;
         if other != own {
             let other = summary(self.alloc, self.get(other)?)?;
@@ -143,7 +148,7 @@ impl Player {
         own: usize,
         how: (usize, usize),
         kept: (usize, usize),
-    ) -> Result<String, Fault> {
+    ) -> Result<String, PlayError> {
         let pieces = self.get(own)?.clone()?.wrap(how.0, how.1)?;
         let mut answer = listed(self.alloc, pieces.as_slice())?;
         let piece = chosen(pieces.as_slice(), kept.1)?;
@@ -155,17 +160,17 @@ impl Player {
 }
 
 impl Play for Player {
-    fn line(&mut self, line: &str) -> Result<String, Fault> {
+    fn line(&mut self, line: &str) -> Result<String, PlayError> {
         let words: Vec<&str> = line.split(' ').collect(self.alloc)?;
         match words.as_slice() {
             ["case"] => self.begin(),
             [">", register, words @ ..] => self.call(given(register)?, words),
-            _ => Err(Fault::Bad),
+            _ => Err(PlayError::Bad),
         }
     }
 }
 
-fn listed(alloc: Global, pieces: &[Line]) -> Result<String, Fault> {
+fn listed(alloc: Global, pieces: &[Line]) -> Result<String, PlayError> {
     let count = pieces.len();
     let mut list = format!(in alloc; "wrap {count}\n")?;
     for piece in pieces {
@@ -177,16 +182,16 @@ fn listed(alloc: Global, pieces: &[Line]) -> Result<String, Fault> {
 }
 
 // A copy of the piece of this number, counted round.
-fn chosen(pieces: &[Line], number: usize) -> Result<Line, Fault> {
+fn chosen(pieces: &[Line], number: usize) -> Result<Line, PlayError> {
     if pieces.is_empty() {
-        return Err(Fault::Bad);
+        return Err(PlayError::Bad);
     }
-    let piece = pieces.get(number % pieces.len()).ok_or(Fault::Bad)?;
+    let piece = pieces.get(number % pieces.len()).ok_or(PlayError::Bad)?;
     Ok(piece.clone()?)
 }
 
 // The line that a call makes, unless it changes one.
-fn made(alloc: Global, words: &[&str]) -> Result<Option<Line>, Fault> {
+fn made(alloc: Global, words: &[&str]) -> Result<Option<Line>, PlayError> {
     match words {
         ["cells" | "plain" | "text", ..] => Ok(Some(make(alloc, words)?)),
         ["new", seqno] => Ok(Some(make(alloc, &["empty", seqno])?)),
@@ -199,7 +204,7 @@ fn made(alloc: Global, words: &[&str]) -> Result<Option<Line>, Fault> {
     }
 }
 
-fn change(alloc: Global, line: &mut Line, words: &[&str]) -> Result<(), Fault> {
+fn change(alloc: Global, line: &mut Line, words: &[&str]) -> Result<(), PlayError> {
     match words {
         ["write", column, word] => {
             let cell = cell(alloc, word)?;
@@ -215,7 +220,7 @@ fn change(alloc: Global, line: &mut Line, words: &[&str]) -> Result<(), Fault> {
     }
 }
 
-fn other_change(alloc: Global, line: &mut Line, words: &[&str]) -> Result<(), Fault> {
+fn other_change(alloc: Global, line: &mut Line, words: &[&str]) -> Result<(), PlayError> {
     match words {
         ["single" | "double" | "top" | "bottom", seqno] => {
             edit(alloc, line, &["size", words[0], seqno])
@@ -226,7 +231,7 @@ fn other_change(alloc: Global, line: &mut Line, words: &[&str]) -> Result<(), Fa
     }
 }
 
-fn change_cells(alloc: Global, line: &mut Line, words: &[&str]) -> Result<(), Fault> {
+fn change_cells(alloc: Global, line: &mut Line, words: &[&str]) -> Result<(), PlayError> {
     match words {
         ["clear", width, seqno, pen] => edit(alloc, line, &["clear", width, pen, seqno]),
         ["margin", column, end, seqno, pen] => {
@@ -240,7 +245,7 @@ fn change_cells(alloc: Global, line: &mut Line, words: &[&str]) -> Result<(), Fa
 }
 
 // Writes over a cell that the line lends, if it has one there.
-fn write_cell(line: &mut Line, column: usize, cell: Cell) -> Result<(), Fault> {
+fn write_cell(line: &mut Line, column: usize, cell: Cell) -> Result<(), PlayError> {
     let cells: &mut [Cell] = line.cells_mut()?;
     if let Some(lent) = cells.get_mut(column) {
         *lent = cell;
@@ -248,7 +253,7 @@ fn write_cell(line: &mut Line, column: usize, cell: Cell) -> Result<(), Fault> {
     Ok(())
 }
 
-fn paint_cell(line: &mut Line, column: usize, attrs: CellAttributes) -> Result<(), Fault> {
+fn paint_cell(line: &mut Line, column: usize, attrs: CellAttributes) -> Result<(), PlayError> {
     let cells: &mut [Cell] = line.cells_mut()?;
     if let Some(lent) = cells.get_mut(column) {
         *lent.attrs_mut() = attrs;

@@ -2,9 +2,9 @@
 use crate::asks::{answer, shown, texts_apart};
 use crate::edits::edit;
 use crate::makes::make;
-use cases_words::fault::Fault;
-use cases_words::play::Play;
-use cases_words::words::{given, pair, truth_word};
+use cases::error::PlayError;
+use cases::play::Play;
+use cases::words::{given, pair, truth_word};
 use std::alloc::{AllocError, Global};
 use std::mem;
 use termwiz_cell::cell::Cell;
@@ -19,7 +19,7 @@ pub struct Stage {
 }
 
 impl Play for Stage {
-    fn line(&mut self, line: &str) -> Result<String, Fault> {
+    fn line(&mut self, line: &str) -> Result<String, PlayError> {
         if line.starts_with("case ") {
             *self = Stage::new(self.alloc);
             return Ok(String::new(self.alloc));
@@ -38,7 +38,7 @@ impl Stage {
         }
     }
 
-    fn command(&mut self, words: &[&str]) -> Result<String, Fault> {
+    fn command(&mut self, words: &[&str]) -> Result<String, PlayError> {
         match words {
             ["ask", words @ ..] => self.asked(words),
             ["wrap", width, seqno] => self.wrap(width, seqno),
@@ -47,7 +47,7 @@ impl Stage {
     }
 
     // An edit that finds no memory is answered by `refused`, and no other step has an answer.
-    fn step(&mut self, words: &[&str]) -> Result<String, Fault> {
+    fn step(&mut self, words: &[&str]) -> Result<String, PlayError> {
         let made = match words {
             ["new", words @ ..] => self.add_made(words),
             ["on", number] => self.go_on(number),
@@ -60,71 +60,71 @@ impl Stage {
         made.map(|()| String::new(self.alloc))
     }
 
-    fn own(&self) -> Result<&Line, Fault> {
-        self.lines.get(self.on).ok_or(Fault::Bad)
+    fn own(&self) -> Result<&Line, PlayError> {
+        self.lines.get(self.on).ok_or(PlayError::Bad)
     }
 
-    fn own_mut(&mut self) -> Result<&mut Line, Fault> {
-        self.lines.get_mut(self.on).ok_or(Fault::Bad)
+    fn own_mut(&mut self) -> Result<&mut Line, PlayError> {
+        self.lines.get_mut(self.on).ok_or(PlayError::Bad)
     }
 
-    fn other(&self, word: &str) -> Result<&Line, Fault> {
-        self.lines.get(given(word)?).ok_or(Fault::Bad)
+    fn other(&self, word: &str) -> Result<&Line, PlayError> {
+        self.lines.get(given(word)?).ok_or(PlayError::Bad)
     }
 
-    fn go_on(&mut self, number: &str) -> Result<(), Fault> {
+    fn go_on(&mut self, number: &str) -> Result<(), PlayError> {
         self.on = given(number)?;
         Ok(())
     }
 
     // Adds the line, and goes on with it.
-    fn add(&mut self, line: Line) -> Result<(), Fault> {
+    fn add(&mut self, line: Line) -> Result<(), PlayError> {
         self.on = self.lines.len();
         self.lines.push(line)?;
         Ok(())
     }
 
-    fn add_made(&mut self, words: &[&str]) -> Result<(), Fault> {
+    fn add_made(&mut self, words: &[&str]) -> Result<(), PlayError> {
         let line = make(self.alloc, words)?;
         self.add(line)
     }
 
-    fn add_clone(&mut self) -> Result<(), Fault> {
+    fn add_clone(&mut self) -> Result<(), PlayError> {
         let clone = self.own()?.clone()?;
         self.add(clone)
     }
 
-    fn add_part(&mut self, from: &str, to: &str) -> Result<(), Fault> {
+    fn add_part(&mut self, from: &str, to: &str) -> Result<(), PlayError> {
         let (from, to) = pair(from, to)?;
         let part = self.own()?.columns_as_line(from..to)?;
         self.add(part)
     }
 
-    fn split(&mut self, column: &str, seqno: &str) -> Result<(), Fault> {
+    fn split(&mut self, column: &str, seqno: &str) -> Result<(), PlayError> {
         let (column, seqno) = pair(column, seqno)?;
         let rest = self.own_mut()?.split_off(column, seqno)?;
         self.add(rest)
     }
 
     // Appends a copy of another line.
-    fn append(&mut self, number: &str, seqno: &str) -> Result<(), Fault> {
+    fn append(&mut self, number: &str, seqno: &str) -> Result<(), PlayError> {
         let seqno = given(seqno)?;
         let other = self.other(number)?.clone()?;
         self.own_mut()?.append_line(other, seqno)?;
         Ok(())
     }
 
-    fn edited(&mut self, words: &[&str]) -> Result<String, Fault> {
+    fn edited(&mut self, words: &[&str]) -> Result<String, PlayError> {
         let alloc = self.alloc;
         match edit(alloc, self.own_mut()?, words) {
             Ok(()) => Ok(String::new(alloc)),
-            Err(Fault::Memory) => Ok("refused".to_owned(alloc)?),
-            Err(fault) => Err(fault),
+            Err(PlayError::Memory) => Ok("refused".to_owned(alloc)?),
+            Err(error) => Err(error),
         }
     }
 
     // The pieces into which the line is wrapped, each on a line of its own.
-    fn wrap(&mut self, width: &str, seqno: &str) -> Result<String, Fault> {
+    fn wrap(&mut self, width: &str, seqno: &str) -> Result<String, PlayError> {
         let (width, seqno) = pair(width, seqno)?;
         let empty = Line::new(self.alloc, seqno);
         let line = mem::replace(self.own_mut()?, empty);
@@ -135,7 +135,7 @@ impl Stage {
         Ok(pieces)
     }
 
-    fn asked(&mut self, words: &[&str]) -> Result<String, Fault> {
+    fn asked(&mut self, words: &[&str]) -> Result<String, PlayError> {
         let answer = match words {
             ["same", number] => self.same(number),
             ["zones"] => self.zones(),
@@ -149,16 +149,16 @@ impl Stage {
         Ok(answer)
     }
 
-    fn answered(&self, words: &[&str]) -> Result<String, Fault> {
+    fn answered(&self, words: &[&str]) -> Result<String, PlayError> {
         answer(self.alloc, self.own()?, words)
     }
 
-    fn same(&self, number: &str) -> Result<String, Fault> {
+    fn same(&self, number: &str) -> Result<String, PlayError> {
         let same = *self.own()? == *self.other(number)?;
         truth_word(self.alloc, same)
     }
 
-    fn zones(&mut self) -> Result<String, Fault> {
+    fn zones(&mut self) -> Result<String, PlayError> {
         let mut zones = String::new(self.alloc);
         for zone in self.own_mut()?.semantic_zone_ranges()? {
             let (semantic_type, range) = (zone.semantic_type, &zone.range);
@@ -168,13 +168,13 @@ impl Stage {
     }
 
     // Whether the zones are those of a copy, which keeps none.
-    fn fresh(&mut self) -> Result<String, Fault> {
+    fn fresh(&mut self) -> Result<String, PlayError> {
         let fresh = has_own_zones(self.own_mut()?)?;
         truth_word(self.alloc, fresh)
     }
 
     // The texts of the cells that are lent for writing.
-    fn lent(&mut self) -> Result<String, Fault> {
+    fn lent(&mut self) -> Result<String, PlayError> {
         let alloc = self.alloc;
         let cells: &[Cell] = self.own_mut()?.cells_mut()?;
         texts_apart(alloc, cells)
@@ -182,7 +182,7 @@ impl Stage {
 }
 
 // Adds a piece's text and length, and `>` where the text goes on.
-fn push_piece(alloc: Global, pieces: &mut String, piece: &Line) -> Result<(), Fault> {
+fn push_piece(alloc: Global, pieces: &mut String, piece: &Line) -> Result<(), PlayError> {
     let text = shown(alloc, piece)?;
     let len = piece.len();
     let mark = if piece.last_cell_was_wrapped() {

@@ -1,8 +1,8 @@
 //! Values by their words.
-use cases_words::escapes::unescaped;
-use cases_words::fault::Fault;
-use cases_words::pens;
-use cases_words::words::{given, named};
+use cases::error::PlayError;
+use cases::escapes::unescaped;
+use cases::pens;
+use cases::words::{given, named};
 use std::alloc::Global;
 use termwiz_cell::cell::{Cell, CellAttributes};
 use termwiz_line::line::bidi::{Direction, ParagraphDirectionHint};
@@ -24,16 +24,16 @@ pub const HINTS: [(&str, ParagraphDirectionHint); 8] = [
     ("AutoRightToLeft", ParagraphDirectionHint::AutoRightToLeft),
 ];
 
-pub fn direction(word: &str) -> Result<Direction, Fault> {
+pub fn direction(word: &str) -> Result<Direction, PlayError> {
     named(&DIRECTIONS, word)
 }
 
-pub fn hint(word: &str) -> Result<ParagraphDirectionHint, Fault> {
+pub fn hint(word: &str) -> Result<ParagraphDirectionHint, PlayError> {
     named(&HINTS, word)
 }
 
 /// The text of a word: `_` stands for a space, and `""` for no text.
-pub fn text(alloc: Global, word: &str) -> Result<String, Fault> {
+pub fn text(alloc: Global, word: &str) -> Result<String, PlayError> {
     if word == "\"\"" {
         return Ok(String::new(alloc));
     }
@@ -41,7 +41,7 @@ pub fn text(alloc: Global, word: &str) -> Result<String, Fault> {
 }
 
 /// Default attributes, for `-`, or with those whose words are joined by `,`.
-pub fn pen(alloc: Global, word: &str) -> Result<CellAttributes, Fault> {
+pub fn pen(alloc: Global, word: &str) -> Result<CellAttributes, PlayError> {
     if word == "-" {
         return Ok(CellAttributes::blank());
     }
@@ -50,7 +50,7 @@ pub fn pen(alloc: Global, word: &str) -> Result<CellAttributes, Fault> {
 
 /// A cell: its text alone, or with its width, or with its width and its pen, with `/` or `:`
 /// between them.
-pub fn cell(alloc: Global, word: &str) -> Result<Cell, Fault> {
+pub fn cell(alloc: Global, word: &str) -> Result<Cell, PlayError> {
     let (text, rest) = parted(word, "1");
     let (width, pen) = parted(rest, "-");
     cell_of(alloc, text, given(width)?, pen)
@@ -65,14 +65,14 @@ fn parted<'a>(word: &'a str, other: &'a str) -> (&'a str, &'a str) {
     }
 }
 
-fn cell_of(alloc: Global, word: &str, width: usize, pen_word: &str) -> Result<Cell, Fault> {
+fn cell_of(alloc: Global, word: &str, width: usize, pen_word: &str) -> Result<Cell, PlayError> {
     let text = text(alloc, word)?;
     let attrs = pen(alloc, pen_word)?;
     Ok(Cell::new_grapheme_with_width(alloc, text.as_str(), width.min(2), attrs)?)
 }
 
 /// Cells of these words, in order.
-pub fn cells(alloc: Global, words: &[&str]) -> Result<Vec<Cell>, Fault> {
+pub fn cells(alloc: Global, words: &[&str]) -> Result<Vec<Cell>, PlayError> {
     let mut cells = Vec::new(alloc);
     for word in words {
         push_cell(alloc, &mut cells, word)?;
@@ -80,7 +80,7 @@ pub fn cells(alloc: Global, words: &[&str]) -> Result<Vec<Cell>, Fault> {
     Ok(cells)
 }
 
-fn push_cell(alloc: Global, cells: &mut Vec<Cell>, word: &str) -> Result<(), Fault> {
+fn push_cell(alloc: Global, cells: &mut Vec<Cell>, word: &str) -> Result<(), PlayError> {
     let cell = cell(alloc, word)?;
     cells.push(cell)?;
     Ok(())

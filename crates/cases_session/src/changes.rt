@@ -1,13 +1,13 @@
 //! Changes that no script makes, by their words.
-use cases_words::fault::Fault;
-use cases_words::places::position;
+use cases::error::PlayError;
+use cases::places::position;
 use std::alloc::Global;
 use termwiz_cell::cell::{AttributeChange, CellAttributes, Intensity, Underline};
 use termwiz_cell::change::{Change, CursorShape, CursorVisibility, LineAttribute};
 use termwiz_cell::color::{ColorAttribute, RgbColor};
 
 /// The change of these words.
-pub fn change(alloc: Global, words: &[&str]) -> Result<Change, Fault> {
+pub fn change(alloc: Global, words: &[&str]) -> Result<Change, PlayError> {
     match words {
         ["move", x, y] => moved(x, y),
         ["title", title] => titled(alloc, title),
@@ -17,7 +17,7 @@ pub fn change(alloc: Global, words: &[&str]) -> Result<Change, Fault> {
     }
 }
 
-fn rarer(words: &[&str]) -> Result<Change, Fault> {
+fn rarer(words: &[&str]) -> Result<Change, PlayError> {
     match words {
         ["eol", "red"] => Ok(Change::ClearToEndOfLine(red())),
         ["cursor", "red"] => Ok(Change::CursorColor(red())),
@@ -25,7 +25,7 @@ fn rarer(words: &[&str]) -> Result<Change, Fault> {
         ["row", "double"] => Ok(Change::LineAttribute(LineAttribute::DoubleWidthLine)),
         ["set", "bold"] => Ok(bold()),
         ["pen", "double"] => Ok(underlined_twice()),
-        _ => Err(Fault::Bad),
+        _ => Err(PlayError::Bad),
     }
 }
 
@@ -44,12 +44,12 @@ fn underlined_twice() -> Change {
     Change::AllAttributes(pen)
 }
 
-fn titled(alloc: Global, title: &str) -> Result<Change, Fault> {
+fn titled(alloc: Global, title: &str) -> Result<Change, PlayError> {
     let title = String::from_str(alloc, title)?;
     Ok(Change::Title(title))
 }
 
-fn moved(x: &str, y: &str) -> Result<Change, Fault> {
+fn moved(x: &str, y: &str) -> Result<Change, PlayError> {
     let x = position(x)?;
     let y = position(y)?;
     Ok(Change::CursorPosition { x, y })

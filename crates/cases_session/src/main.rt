@@ -32,12 +32,12 @@ mod shown;
 mod stage;
 mod trial;
 
-use cases_words::fault::Fault;
-use cases_words::play::play_input;
-use cases_words::recorded::play_recorded;
+use cases::error::PlayError;
+use cases::play::play_input;
+use cases::recorded::play_recorded;
 use stage::Stage;
 
-fn main(rt: HostRuntime) -> Result<(), Fault> {
+fn main(rt: HostRuntime) -> Result<(), PlayError> {
     let alloc = rt.alloc();
     play_input(&rt, &mut Stage::new(alloc))?;
     let mut scripts = recorded_scripts::Player::new(alloc);

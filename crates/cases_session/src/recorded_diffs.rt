@@ -3,11 +3,11 @@
 //! `diff_screens` and two names, `diff_region X Y WIDTH HEIGHT OTHER_X OTHER_Y`, whose answers are
 //! changes as the program prints them, and `draw X Y`, of which the program shows the first one.
 use crate::shown::printed;
-use cases_words::fault::Fault;
-use cases_words::play::Play;
-use cases_words::words::pair;
+use cases::error::PlayError;
+use cases::play::Play;
+use cases::words::pair;
+use sessions::view::script::{Events, read};
 use std::alloc::Global;
-use surfview_session::script::{Events, read};
 use termwiz_cell::change::Change;
 use termwiz_cell::emoji::UnicodeWidths;
 use termwiz_surface::surface::Surface;
@@ -25,7 +25,7 @@ pub struct Player {
 }
 
 impl Player {
-    pub fn new(alloc: Global) -> Result<Player, Fault> {
+    pub fn new(alloc: Global) -> Result<Player, PlayError> {
         Ok(Player {
             alloc,
             a: surface(alloc, "1", "1")?,
@@ -33,7 +33,7 @@ impl Player {
         })
     }
 
-    fn command(&mut self, words: &[&str]) -> Result<String, Fault> {
+    fn command(&mut self, words: &[&str]) -> Result<String, PlayError> {
         match words {
             ["case", width, height, other_width, other_height] => {
                 self.a = surface(self.alloc, width, height)?;
@@ -42,18 +42,18 @@ impl Player {
             }
             [">", "draw", x, y] => drawn(self.alloc, &mut self.a, &self.b, pair(x, y)?),
             [">", words @ ..] => changes_printed(self.alloc, self.diff(words)?),
-            _ => Err(Fault::Bad),
+            _ => Err(PlayError::Bad),
         }
     }
 
-    fn diff(&self, words: &[&str]) -> Result<Vec<Change>, Fault> {
+    fn diff(&self, words: &[&str]) -> Result<Vec<Change>, PlayError> {
         match words {
             ["diff_screens", "a", "b"] => Ok(self.a.diff_screens(&self.b)?),
             ["diff_screens", "b", "a"] => Ok(self.b.diff_screens(&self.a)?),
             ["diff_region", x, y, width, height, other_x, other_y] => {
                 self.region_diff(pair(x, y)?, pair(width, height)?, pair(other_x, other_y)?)
             }
-            _ => Err(Fault::Bad),
+            _ => Err(PlayError::Bad),
         }
     }
 
@@ -62,7 +62,7 @@ impl Player {
         from: (usize, usize),
         size: (usize, usize),
         other: (usize, usize),
-    ) -> Result<Vec<Change>, Fault> {
+    ) -> Result<Vec<Change>, PlayError> {
         let b = &self.b;
         Ok(
             self.a
@@ -72,7 +72,7 @@ impl Player {
 }
 
 impl Play for Player {
-    fn line(&mut self, line: &str) -> Result<String, Fault> {
+    fn line(&mut self, line: &str) -> Result<String, PlayError> {
         let alloc = self.alloc;
         match line.split_once(' ') {
             Some(("a", line)) => make(alloc, &mut self.a, line),
@@ -85,36 +85,40 @@ impl Play for Player {
     }
 }
 
-fn surface(alloc: Global, width: &str, height: &str) -> Result<Surface<UnicodeWidths>, Fault> {
+fn surface(alloc: Global, width: &str, height: &str) -> Result<Surface<UnicodeWidths>, PlayError> {
     let (width, height) = pair(width, height)?;
     if 0 < width && width <= MOST && 0 < height && height <= MOST {
         Ok(Surface::new(alloc, width, height, UnicodeWidths)?)
     } else {
-        Err(Fault::Bad)
+        Err(PlayError::Bad)
     }
 }
 
 // Makes the changes of a script's line, which has no answer.
-fn make(alloc: Global, surface: &mut Surface<UnicodeWidths>, line: &str) -> Result<String, Fault> {
+fn make(
+    alloc: Global,
+    surface: &mut Surface<UnicodeWidths>,
+    line: &str,
+) -> Result<String, PlayError> {
     let Ok(Events::OfOne(events)) = read(alloc, line) else {
-        return Err(Fault::Bad);
+        return Err(PlayError::Bad);
     };
     for event in events {
         let Event::Changes(changes) = event else {
-            return Err(Fault::Bad);
+            return Err(PlayError::Bad);
         };
-        surface.add_changes(changes).map_err(|_| Fault::Bad)?;
+        surface.add_changes(changes).map_err(|_| PlayError::Bad)?;
     }
     Ok(String::new(alloc))
 }
 
 // The changes as the program prints them.
-fn changes_printed(alloc: Global, changes: Vec<Change>) -> Result<String, Fault> {
+fn changes_printed(alloc: Global, changes: Vec<Change>) -> Result<String, PlayError> {
     let answer = printed(alloc, &Outcome::Asked(0, changes))?;
     let lines = answer
         .as_str()
         .strip_prefix("number 0\n")
-        .ok_or(Fault::Bad)?;
+        .ok_or(PlayError::Bad)?;
     Ok(lines.to_owned(alloc)?)
 }
 
@@ -124,10 +128,10 @@ fn drawn(
     surface: &mut Surface<UnicodeWidths>,
     other: &Surface<UnicodeWidths>,
     place: (usize, usize),
-) -> Result<String, Fault> {
+) -> Result<String, PlayError> {
     surface
         .draw_from_screen(other, place.0, place.1)
-        .map_err(|_| Fault::Bad)?;
+        .map_err(|_| PlayError::Bad)?;
     let rows = surface.screen_chars_to_string()?;
     printed(alloc, &Outcome::Shown(rows, surface.cursor_position()))
 }

@@ -2,8 +2,8 @@
 //! the program prints for it.
 use crate::stage::text_of;
 use crate::trial::Trial;
-use cases_words::fault::Fault;
-use cases_words::play::Play;
+use cases::error::PlayError;
+use cases::play::Play;
 use std::alloc::Global;
 
 /// Runs the scripts.
@@ -21,7 +21,7 @@ impl Player {
         }
     }
 
-    fn begin(&mut self, size: &str) -> Result<(), Fault> {
+    fn begin(&mut self, size: &str) -> Result<(), PlayError> {
         self.trial = Trial::new(self.alloc);
         for word in size.split(' ') {
             self.trial.add_word(word)?;
@@ -29,26 +29,26 @@ impl Player {
         Ok(())
     }
 
-    fn add(&mut self, line: &str) -> Result<(), Fault> {
+    fn add(&mut self, line: &str) -> Result<(), PlayError> {
         self.trial.add(line.as_bytes())?;
         self.trial.add(b"\n")
     }
 }
 
 impl Play for Player {
-    fn line(&mut self, line: &str) -> Result<String, Fault> {
+    fn line(&mut self, line: &str) -> Result<String, PlayError> {
         match line.strip_prefix("case ") {
             Some(size) => self.begin(size)?,
-            None => self.add(line.strip_prefix("> ").ok_or(Fault::Bad)?)?,
+            None => self.add(line.strip_prefix("> ").ok_or(PlayError::Bad)?)?,
         }
         Ok(String::new(self.alloc))
     }
 
     // A session that ends early prints no such answer.
-    fn end(&mut self) -> Result<Option<String>, Fault> {
+    fn end(&mut self) -> Result<Option<String>, PlayError> {
         match self.trial.run() {
             0 => Ok(Some(text_of(self.alloc, self.trial.out.kept())?)),
-            _ => Err(Fault::Bad),
+            _ => Err(PlayError::Bad),
         }
     }
 }

@@ -1,34 +1,34 @@
 //! The printed forms of outcomes, and the events of scripts.
-use cases_words::fault::Fault;
+use cases::error::PlayError;
+use sessions::printed::{Printed, PrintedMany};
+use sessions::view::script::{Events, read};
 use std::alloc::{AllocError, Global};
-use surfview_session::printed::{Printed, PrintedMany};
-use surfview_session::script::{Events, read};
 use termwiz_cell::change::Change;
 use termwiz_cell::emoji::UnicodeWidths;
 use termwiz_surface::surface::SurfaceError;
 use termwiz_surface::view::{AcceptError, Event, ManyEvent, ManyOutcome, Outcome};
 
 /// The printed form of an outcome.
-pub fn printed(alloc: Global, outcome: &Outcome) -> Result<String, Fault> {
+pub fn printed(alloc: Global, outcome: &Outcome) -> Result<String, PlayError> {
     let text = format!(in alloc; "{}", Printed(outcome))?;
     Ok(text)
 }
 
 /// The printed form of an outcome among several viewers.
-pub fn printed_many(alloc: Global, outcome: &ManyOutcome) -> Result<String, Fault> {
+pub fn printed_many(alloc: Global, outcome: &ManyOutcome) -> Result<String, PlayError> {
     let text = format!(in alloc; "{}", PrintedMany(outcome))?;
     Ok(text)
 }
 
 /// What the changes of a script with one viewer print, each event's below the line of the number 7.
-pub fn made(alloc: Global, text: &str) -> Result<String, Fault> {
+pub fn made(alloc: Global, text: &str) -> Result<String, PlayError> {
     match read(alloc, text) {
         Ok(Events::OfOne(events)) => made_by_each(alloc, events),
-        _ => Err(Fault::Bad),
+        _ => Err(PlayError::Bad),
     }
 }
 
-fn made_by_each(alloc: Global, events: Vec<Event<UnicodeWidths>>) -> Result<String, Fault> {
+fn made_by_each(alloc: Global, events: Vec<Event<UnicodeWidths>>) -> Result<String, PlayError> {
     let mut lines = String::new(alloc);
     for event in events {
         let made = made_by(alloc, event)?;
@@ -37,7 +37,7 @@ fn made_by_each(alloc: Global, events: Vec<Event<UnicodeWidths>>) -> Result<Stri
     Ok(lines)
 }
 
-fn made_by(alloc: Global, event: Event<UnicodeWidths>) -> Result<String, Fault> {
+fn made_by(alloc: Global, event: Event<UnicodeWidths>) -> Result<String, PlayError> {
     match event {
         Event::Changes(changes) => printed(alloc, &Outcome::Asked(7, changes)),
         _ => Ok(String::new(alloc)),
@@ -45,15 +45,15 @@ fn made_by(alloc: Global, event: Event<UnicodeWidths>) -> Result<String, Fault> 
 }
 
 /// Each event of a script, on a line of its own.
-pub fn listed(alloc: Global, text: &str) -> Result<String, Fault> {
+pub fn listed(alloc: Global, text: &str) -> Result<String, PlayError> {
     match read(alloc, text) {
         Ok(Events::OfOne(events)) => listed_for_one(alloc, events.as_slice()),
         Ok(Events::OfMany(events)) => listed_for_many(alloc, events.as_slice()),
-        Err(_) => Err(Fault::Bad),
+        Err(_) => Err(PlayError::Bad),
     }
 }
 
-fn listed_for_one(alloc: Global, events: &[Event<UnicodeWidths>]) -> Result<String, Fault> {
+fn listed_for_one(alloc: Global, events: &[Event<UnicodeWidths>]) -> Result<String, PlayError> {
     let mut lines = String::new(alloc);
     for event in events {
         let line = named(alloc, event)?;
@@ -62,7 +62,10 @@ fn listed_for_one(alloc: Global, events: &[Event<UnicodeWidths>]) -> Result<Stri
     Ok(lines)
 }
 
-fn listed_for_many(alloc: Global, events: &[ManyEvent<UnicodeWidths>]) -> Result<String, Fault> {
+fn listed_for_many(
+    alloc: Global,
+    events: &[ManyEvent<UnicodeWidths>],
+) -> Result<String, PlayError> {
     let mut lines = String::new(alloc);
     for event in events {
         let line = named_for_many(alloc, event)?;
@@ -120,22 +123,22 @@ fn numbered(alloc: Global, name: &str, number: usize) -> Result<String, AllocErr
 }
 
 /// The error of a surface, by its word.
-pub fn surface_error(word: &str) -> Result<SurfaceError, Fault> {
+pub fn surface_error(word: &str) -> Result<SurfaceError, PlayError> {
     match word {
         "region" => Ok(SurfaceError::ScrollRegion),
         "numbers" => Ok(SurfaceError::Numbers),
         "memory" => Ok(SurfaceError::Memory),
-        _ => Err(Fault::Bad),
+        _ => Err(PlayError::Bad),
     }
 }
 
 /// The error of a viewer that doesn't accept an answer, by its word.
-pub fn accept_error(word: &str) -> Result<AcceptError, Fault> {
+pub fn accept_error(word: &str) -> Result<AcceptError, PlayError> {
     match word {
         "size" => Ok(AcceptError::Size),
         "stale" => Ok(AcceptError::Stale),
         "numbers" => Ok(AcceptError::Numbers),
         "memory" => Ok(AcceptError::Memory),
-        _ => Err(Fault::Bad),
+        _ => Err(PlayError::Bad),
     }
 }

@@ -3,9 +3,9 @@ use crate::changes::change;
 use crate::channels::Sink;
 use crate::shown::{accept_error, listed, made, printed, printed_many, surface_error};
 use crate::trial::Trial;
-use cases_words::fault::Fault;
-use cases_words::play::{Play, push_lines};
-use cases_words::words::{given, pair};
+use cases::error::PlayError;
+use cases::play::{Play, push_lines};
+use cases::words::{given, pair};
 use std::alloc::Global;
 use std::io::ErrorKind;
 use std::mem;
@@ -21,7 +21,7 @@ pub struct Stage {
 }
 
 impl Play for Stage {
-    fn line(&mut self, line: &str) -> Result<String, Fault> {
+    fn line(&mut self, line: &str) -> Result<String, PlayError> {
         let answer = self.answer(line)?;
         with_note(answer)
     }
@@ -36,7 +36,7 @@ impl Stage {
         }
     }
 
-    fn answer(&mut self, line: &str) -> Result<String, Fault> {
+    fn answer(&mut self, line: &str) -> Result<String, PlayError> {
         if let Some(text) = line.strip_prefix('|') {
             self.add_line(text)?;
             return self.silent();
@@ -49,12 +49,12 @@ impl Stage {
     }
 
     // No answer.
-    fn silent(&self) -> Result<String, Fault> {
+    fn silent(&self) -> Result<String, PlayError> {
         Ok(String::new(self.alloc))
     }
 
     // The answer of a command that has a text in brackets.
-    fn text(&mut self, name: &str, text: &str) -> Result<String, Fault> {
+    fn text(&mut self, name: &str, text: &str) -> Result<String, PlayError> {
         match name {
             "alone" => self.run_alone(text),
             "bad" => self.run_bad(text),
@@ -63,16 +63,16 @@ impl Stage {
         }
     }
 
-    fn add_text(&mut self, name: &str, text: &str) -> Result<String, Fault> {
+    fn add_text(&mut self, name: &str, text: &str) -> Result<String, PlayError> {
         match name {
             "part" => self.trial.add(text.as_bytes())?,
             "word" => self.trial.add_word(text)?,
-            _ => return Err(Fault::Bad),
+            _ => return Err(PlayError::Bad),
         }
         self.silent()
     }
 
-    fn command(&mut self, words: &[&str]) -> Result<String, Fault> {
+    fn command(&mut self, words: &[&str]) -> Result<String, PlayError> {
         match words {
             ["run"] => self.run(),
             ["count"] => self.count(),
@@ -82,7 +82,7 @@ impl Stage {
         }
     }
 
-    fn outcome(&mut self, words: &[&str]) -> Result<String, Fault> {
+    fn outcome(&mut self, words: &[&str]) -> Result<String, PlayError> {
         match words {
             ["answered", number] => self.answered(number),
             ["refused", word] => self.refused(word),
@@ -94,26 +94,26 @@ impl Stage {
         }
     }
 
-    fn step(&mut self, words: &[&str]) -> Result<String, Fault> {
+    fn step(&mut self, words: &[&str]) -> Result<String, PlayError> {
         match words {
             ["case", ..] => self.begin(),
             ["words", words @ ..] => self.trial.set_words(words)?,
             ["bytes", bytes @ ..] => self.add_bytes(bytes)?,
             ["change", words @ ..] => self.add_change(words)?,
             ["fails", words @ ..] => self.fail(words)?,
-            _ => return Err(Fault::Bad),
+            _ => return Err(PlayError::Bad),
         }
         self.silent()
     }
 
-    fn fail(&mut self, words: &[&str]) -> Result<(), Fault> {
+    fn fail(&mut self, words: &[&str]) -> Result<(), PlayError> {
         match words {
             ["read"] => self.trial.fail_to_read(ErrorKind::Other),
             ["read", "memory"] => self.trial.fail_to_read(ErrorKind::OutOfMemory),
             ["flush"] => self.trial.out.fail_to_flush(),
             ["write", writes] => self.trial.out.fail_after(given(writes)?),
             ["error", writes] => self.trial.err.fail_after(given(writes)?),
-            _ => return Err(Fault::Bad),
+            _ => return Err(PlayError::Bad),
         }
         Ok(())
     }
@@ -123,43 +123,43 @@ impl Stage {
         self.changes = Vec::new(self.alloc);
     }
 
-    fn add_line(&mut self, text: &str) -> Result<(), Fault> {
+    fn add_line(&mut self, text: &str) -> Result<(), PlayError> {
         self.trial.add(text.as_bytes())?;
         self.trial.add(b"\n")
     }
 
-    fn add_bytes(&mut self, bytes: &[&str]) -> Result<(), Fault> {
+    fn add_bytes(&mut self, bytes: &[&str]) -> Result<(), PlayError> {
         for digits in bytes {
             self.trial.add_byte(digits)?;
         }
         Ok(())
     }
 
-    fn add_change(&mut self, words: &[&str]) -> Result<(), Fault> {
+    fn add_change(&mut self, words: &[&str]) -> Result<(), PlayError> {
         let change = change(self.alloc, words)?;
         self.changes.push(change)?;
         Ok(())
     }
 
-    fn run(&mut self) -> Result<String, Fault> {
+    fn run(&mut self) -> Result<String, PlayError> {
         let status = self.trial.run();
         self.ending(status)
     }
 
-    fn run_alone(&mut self, text: &str) -> Result<String, Fault> {
+    fn run_alone(&mut self, text: &str) -> Result<String, PlayError> {
         self.trial.add(text.as_bytes())?;
         self.run()
     }
 
     // The line stands between a good one and another that is bad.
-    fn run_bad(&mut self, line: &str) -> Result<String, Fault> {
+    fn run_bad(&mut self, line: &str) -> Result<String, PlayError> {
         self.add_line("show")?;
         self.add_line(line)?;
         self.add_line("fly")?;
         self.run()
     }
 
-    fn count(&mut self) -> Result<String, Fault> {
+    fn count(&mut self) -> Result<String, PlayError> {
         self.trial.run();
         let Sink {
             writes,
@@ -171,13 +171,13 @@ impl Stage {
         Ok(counts)
     }
 
-    fn report(&mut self) -> Result<String, Fault> {
+    fn report(&mut self) -> Result<String, PlayError> {
         let status = self.trial.report_memory();
         self.ending(status)
     }
 
     // What was written, the error, and the status.
-    fn ending(&mut self, status: u8) -> Result<String, Fault> {
+    fn ending(&mut self, status: u8) -> Result<String, PlayError> {
         let mut ending = with_note(text_of(self.alloc, self.trial.out.kept())?)?;
         let error = with_note(text_of(self.alloc, self.trial.err.kept())?)?;
         self.trial.clear();
@@ -186,37 +186,37 @@ impl Stage {
         Ok(ending)
     }
 
-    fn events(&mut self) -> Result<String, Fault> {
+    fn events(&mut self) -> Result<String, PlayError> {
         let events = listed(self.alloc, self.trial.text()?)?;
         self.trial.clear();
         Ok(events)
     }
 
-    fn answered(&self, number: &str) -> Result<String, Fault> {
+    fn answered(&self, number: &str) -> Result<String, PlayError> {
         printed(self.alloc, &Outcome::Answered(given(number)?))
     }
 
-    fn refused(&self, word: &str) -> Result<String, Fault> {
+    fn refused(&self, word: &str) -> Result<String, PlayError> {
         printed(self.alloc, &Outcome::Refused(surface_error(word)?))
     }
 
-    fn unaccepted(&self, word: &str) -> Result<String, Fault> {
+    fn unaccepted(&self, word: &str) -> Result<String, PlayError> {
         printed_many(self.alloc, &ManyOutcome::NotAccepted(accept_error(word)?))
     }
 
-    fn unanswered(&self, word: &str) -> Result<String, Fault> {
+    fn unanswered(&self, word: &str) -> Result<String, PlayError> {
         printed_many(self.alloc, &ManyOutcome::Refused(surface_error(word)?))
     }
 
     // The lines of the input are the rows.
-    fn shown(&mut self, x: &str, y: &str) -> Result<String, Fault> {
+    fn shown(&mut self, x: &str, y: &str) -> Result<String, PlayError> {
         let place = pair(x, y)?;
         let rows = String::from_str(self.alloc, self.trial.text()?)?;
         self.trial.clear();
         printed(self.alloc, &Outcome::Shown(rows, place))
     }
 
-    fn asked(&mut self, number: &str) -> Result<String, Fault> {
+    fn asked(&mut self, number: &str) -> Result<String, PlayError> {
         let number = given(number)?;
         let changes = mem::replace(&mut self.changes, Vec::new(self.alloc));
         printed(self.alloc, &Outcome::Asked(number, changes))
@@ -229,7 +229,7 @@ fn bracketed(line: &str) -> Option<(&str, &str)> {
 }
 
 // The text, and a note where its last line has no end.
-fn with_note(text: String) -> Result<String, Fault> {
+fn with_note(text: String) -> Result<String, PlayError> {
     let mut text = text;
     if !text.is_empty() && !text.as_str().ends_with('\n') {
         text.push_str("\nno line end\n")?;
@@ -238,8 +238,8 @@ fn with_note(text: String) -> Result<String, Fault> {
 }
 
 /// The text of these bytes.
-pub fn text_of(alloc: Global, bytes: &[u8]) -> Result<String, Fault> {
-    let text = str::from_utf8(bytes).map_err(|_| Fault::Bad)?;
+pub fn text_of(alloc: Global, bytes: &[u8]) -> Result<String, PlayError> {
+    let text = str::from_utf8(bytes).map_err(|_| PlayError::Bad)?;
     let text = String::from_str(alloc, text)?;
     Ok(text)
 }

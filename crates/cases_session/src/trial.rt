@@ -1,9 +1,10 @@
 //! A session's words and input, and where it writes.
 use crate::channels::{Sink, Source};
-use cases_words::fault::Fault;
+use cases::error::PlayError;
+use sessions::ending::SessionError;
+use sessions::view::{USAGE, view_session};
 use std::alloc::Global;
 use std::io::ErrorKind;
-use surfview_session::session::{SessionError, USAGE, session};
 
 /// A session's words and input, and where it writes.
 #[derive(Drop)]
@@ -38,7 +39,7 @@ impl Trial {
     }
 
     /// Takes these words in place of the others.
-    pub fn set_words(&mut self, words: &[&str]) -> Result<(), Fault> {
+    pub fn set_words(&mut self, words: &[&str]) -> Result<(), PlayError> {
         self.words.clear();
         for word in words {
             self.add_word(word)?;
@@ -46,28 +47,28 @@ impl Trial {
         Ok(())
     }
 
-    pub fn add_word(&mut self, word: &str) -> Result<(), Fault> {
+    pub fn add_word(&mut self, word: &str) -> Result<(), PlayError> {
         let word = String::from_str(self.alloc, word)?;
         self.words.push(word)?;
         Ok(())
     }
 
     /// Adds bytes to the input.
-    pub fn add(&mut self, bytes: &[u8]) -> Result<(), Fault> {
+    pub fn add(&mut self, bytes: &[u8]) -> Result<(), PlayError> {
         self.input.extend_from_slice(bytes)?;
         Ok(())
     }
 
     /// Adds the byte that two hex digits write.
-    pub fn add_byte(&mut self, digits: &str) -> Result<(), Fault> {
-        let byte = u8::from_str_radix(digits, 16).map_err(|_| Fault::Bad)?;
+    pub fn add_byte(&mut self, digits: &str) -> Result<(), PlayError> {
+        let byte = u8::from_str_radix(digits, 16).map_err(|_| PlayError::Bad)?;
         self.input.push(byte)?;
         Ok(())
     }
 
     /// The input, which is text.
-    pub fn text(&self) -> Result<&str, Fault> {
-        str::from_utf8(self.input.as_slice()).map_err(|_| Fault::Bad)
+    pub fn text(&self) -> Result<&str, PlayError> {
+        str::from_utf8(self.input.as_slice()).map_err(|_| PlayError::Bad)
     }
 
     /// Its reads fail in this way behind the last byte of the input.
@@ -104,5 +105,5 @@ fn ended(
     out: &mut Sink,
     err: &mut Sink,
 ) -> u8 {
-    session(alloc, words, input, out, err)
+    view_session(alloc, words, input, out, err)
 }

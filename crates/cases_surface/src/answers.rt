@@ -1,8 +1,8 @@
 //! Answers to the questions about a surface.
 use crate::measure::Measure;
-use cases_words::escapes::unescaped;
-use cases_words::fault::Fault;
-use cases_words::words::{given, number_word, pair, truth_word};
+use cases::error::PlayError;
+use cases::escapes::unescaped;
+use cases::words::{given, number_word, pair, truth_word};
 use std::alloc::Global;
 use std::borrow::CowSlice;
 use termwiz_cell::cell::{Cell, CellAttributes};
@@ -12,7 +12,7 @@ use termwiz_line::line::line::Line;
 use termwiz_surface::surface::{FullScreen, Screen, Surface, SurfaceError};
 
 /// The number of a change that was made, or why it was refused.
-pub fn made(alloc: Global, made: Result<SequenceNo, SurfaceError>) -> Result<String, Fault> {
+pub fn made(alloc: Global, made: Result<SequenceNo, SurfaceError>) -> Result<String, PlayError> {
     match made {
         Ok(number) => Ok(format!(in alloc; "= {number}")?),
         Err(error) => Ok(format!(in alloc; "refused: {error}")?),
@@ -20,7 +20,7 @@ pub fn made(alloc: Global, made: Result<SequenceNo, SurfaceError>) -> Result<Str
 }
 
 /// The rows, and the cursor.
-pub fn rows(alloc: Global, surface: &Surface<Measure>) -> Result<String, Fault> {
+pub fn rows(alloc: Global, surface: &Surface<Measure>) -> Result<String, PlayError> {
     let shown = surface.screen_chars_to_string()?;
     let mut rows = framed(alloc, shown.as_str())?;
     let (x, y) = surface.cursor_position();
@@ -29,7 +29,7 @@ pub fn rows(alloc: Global, surface: &Surface<Measure>) -> Result<String, Fault> 
 }
 
 // Each row between bars.
-fn framed(alloc: Global, shown: &str) -> Result<String, Fault> {
+fn framed(alloc: Global, shown: &str) -> Result<String, PlayError> {
     let mut rows = String::new(alloc);
     for row in shown.lines() {
         writeln!(rows, "|{row}|")?;
@@ -37,12 +37,12 @@ fn framed(alloc: Global, shown: &str) -> Result<String, Fault> {
     Ok(rows)
 }
 
-pub fn number(alloc: Global, surface: &Surface<Measure>) -> Result<String, Fault> {
+pub fn number(alloc: Global, surface: &Surface<Measure>) -> Result<String, PlayError> {
     number_word(alloc, surface.current_seqno())
 }
 
 /// What is kept beside the screen.
-pub fn kept(alloc: Global, surface: &Surface<Measure>) -> Result<String, Fault> {
+pub fn kept(alloc: Global, surface: &Surface<Measure>) -> Result<String, PlayError> {
     let title = surface.title();
     let shape = surface.cursor_shape();
     let cursor = surface.cursor_visibility();
@@ -50,7 +50,7 @@ pub fn kept(alloc: Global, surface: &Surface<Measure>) -> Result<String, Fault> 
 }
 
 /// The rows and the cursor, and all that is kept beside the screen of a full surface.
-pub fn full(alloc: Global, surface: &Surface<Measure>) -> Result<String, Fault> {
+pub fn full(alloc: Global, surface: &Surface<Measure>) -> Result<String, PlayError> {
     let mut answer = rows(alloc, surface)?;
     let full = surface.full_screen()?;
     let kept = beside(alloc, &full)?;
@@ -58,7 +58,7 @@ pub fn full(alloc: Global, surface: &Surface<Measure>) -> Result<String, Fault> 
     Ok(answer)
 }
 
-fn beside(alloc: Global, full: &FullScreen) -> Result<String, Fault> {
+fn beside(alloc: Global, full: &FullScreen) -> Result<String, PlayError> {
     let ((x, y), visibility) = (full.screen.cursor, full.screen.visibility);
     let (title, shape, color) = (full.title.as_str(), full.shape, full.color);
     let mut kept = format!(in alloc;
@@ -69,7 +69,7 @@ fn beside(alloc: Global, full: &FullScreen) -> Result<String, Fault> {
     Ok(kept)
 }
 
-fn push_attributes(kept: &mut String, lines: &[LineAttribute]) -> Result<(), Fault> {
+fn push_attributes(kept: &mut String, lines: &[LineAttribute]) -> Result<(), PlayError> {
     for line in lines {
         write!(kept, " {line:?}")?;
     }
@@ -82,23 +82,23 @@ pub fn full_same(
     alloc: Global,
     one: &Surface<Measure>,
     other: &Surface<Measure>,
-) -> Result<String, Fault> {
+) -> Result<String, PlayError> {
     let full = one.full_screen()?;
     let same = has_full_screen(other, &full)?;
     truth_word(alloc, same)
 }
 
-fn has_full_screen(surface: &Surface<Measure>, full: &FullScreen) -> Result<bool, Fault> {
+fn has_full_screen(surface: &Surface<Measure>, full: &FullScreen) -> Result<bool, PlayError> {
     Ok(surface.full_screen()? == *full)
 }
 
 /// How many columns each row of the screen has.
-pub fn screen(alloc: Global, surface: &Surface<Measure>) -> Result<String, Fault> {
+pub fn screen(alloc: Global, surface: &Surface<Measure>) -> Result<String, PlayError> {
     let screen = surface.screen()?;
     lengths(alloc, screen.rows.as_slice())
 }
 
-fn lengths(alloc: Global, rows: &[Line]) -> Result<String, Fault> {
+fn lengths(alloc: Global, rows: &[Line]) -> Result<String, PlayError> {
     let mut lengths = String::new(alloc);
     for row in rows {
         writeln!(lengths, "{} columns", row.len())?;
@@ -107,7 +107,7 @@ fn lengths(alloc: Global, rows: &[Line]) -> Result<String, Fault> {
 }
 
 /// How many columns each line has, and whether it is double wide.
-pub fn flags(alloc: Global, surface: &Surface<Measure>) -> Result<String, Fault> {
+pub fn flags(alloc: Global, surface: &Surface<Measure>) -> Result<String, PlayError> {
     let lines = surface.screen_lines()?;
     let mut flags = String::new(alloc);
     for line in &lines {
@@ -118,7 +118,7 @@ pub fn flags(alloc: Global, surface: &Surface<Measure>) -> Result<String, Fault>
 }
 
 /// The texts of each row's stored cells.
-pub fn cells(alloc: Global, surface: &Surface<Measure>) -> Result<String, Fault> {
+pub fn cells(alloc: Global, surface: &Surface<Measure>) -> Result<String, PlayError> {
     let rows = surface.screen_cells()?;
     let mut cells = String::new(alloc);
     for row in &rows {
@@ -128,7 +128,7 @@ pub fn cells(alloc: Global, surface: &Surface<Measure>) -> Result<String, Fault>
     Ok(cells)
 }
 
-fn texts(alloc: Global, row: &[Cell]) -> Result<String, Fault> {
+fn texts(alloc: Global, row: &[Cell]) -> Result<String, PlayError> {
     let mut texts = String::new(alloc);
     for cell in row {
         if !texts.is_empty() {
@@ -140,12 +140,12 @@ fn texts(alloc: Global, row: &[Cell]) -> Result<String, Fault> {
     Ok(texts)
 }
 
-pub fn has(alloc: Global, surface: &Surface<Measure>, seq: &str) -> Result<String, Fault> {
+pub fn has(alloc: Global, surface: &Surface<Measure>, seq: &str) -> Result<String, PlayError> {
     truth_word(alloc, surface.has_changes(given(seq)?))
 }
 
 /// The answer to a number: whether it is lent, its number and its changes.
-pub fn answer(alloc: Global, surface: &Surface<Measure>, seq: &str) -> Result<String, Fault> {
+pub fn answer(alloc: Global, surface: &Surface<Measure>, seq: &str) -> Result<String, PlayError> {
     let (number, changes) = due(surface, given(seq)?)?;
     let how = match &changes {
         CowSlice::Borrowed(_) => "lent",
@@ -161,12 +161,12 @@ pub fn answer(alloc: Global, surface: &Surface<Measure>, seq: &str) -> Result<St
 pub fn due(
     surface: &Surface<Measure>,
     seq: SequenceNo,
-) -> Result<(SequenceNo, CowSlice<'_, Change>), Fault> {
-    surface.get_changes(seq).map_err(|_| Fault::Memory)
+) -> Result<(SequenceNo, CowSlice<'_, Change>), PlayError> {
+    surface.get_changes(seq).map_err(|_| PlayError::Memory)
 }
 
 /// Each change on a line of its own.
-pub fn listed(alloc: Global, changes: &[Change]) -> Result<String, Fault> {
+pub fn listed(alloc: Global, changes: &[Change]) -> Result<String, PlayError> {
     let mut list = String::new(alloc);
     for change in changes {
         writeln!(list, "{change:?}")?;
@@ -175,12 +175,12 @@ pub fn listed(alloc: Global, changes: &[Change]) -> Result<String, Fault> {
 }
 
 /// Whether both have the same screen.
-pub fn is_same(one: &Surface<Measure>, other: &Surface<Measure>) -> Result<bool, Fault> {
+pub fn is_same(one: &Surface<Measure>, other: &Surface<Measure>) -> Result<bool, PlayError> {
     let screen = one.screen()?;
     has_screen(other, &screen)
 }
 
-fn has_screen(surface: &Surface<Measure>, screen: &Screen) -> Result<bool, Fault> {
+fn has_screen(surface: &Surface<Measure>, screen: &Screen) -> Result<bool, PlayError> {
     Ok(surface.screen()? == *screen)
 }
 
@@ -188,7 +188,7 @@ pub fn same(
     alloc: Global,
     one: &Surface<Measure>,
     other: &Surface<Measure>,
-) -> Result<String, Fault> {
+) -> Result<String, PlayError> {
     let same = is_same(one, other)?;
     truth_word(alloc, same)
 }
@@ -197,7 +197,7 @@ pub fn diff(
     alloc: Global,
     one: &Surface<Measure>,
     other: &Surface<Measure>,
-) -> Result<String, Fault> {
+) -> Result<String, PlayError> {
     let changes = one.diff_screens(other)?;
     listed(alloc, changes.as_slice())
 }
@@ -209,9 +209,9 @@ pub fn region_diff(
     place: &[&str],
     other: &Surface<Measure>,
     corner: (usize, usize),
-) -> Result<String, Fault> {
+) -> Result<String, PlayError> {
     let [x, y, width, height] = place else {
-        return Err(Fault::Bad);
+        return Err(PlayError::Bad);
     };
     let (from, size) = (pair(x, y)?, pair(width, height)?);
     let changes = one.diff_region(from.0, from.1, size.0, size.1, other, corner.0, corner.1)?;
@@ -222,9 +222,9 @@ pub fn line_diff(
     alloc: Global,
     surface: &Surface<Measure>,
     words: &[&str],
-) -> Result<String, Fault> {
+) -> Result<String, PlayError> {
     let [row, text] = words else {
-        return Err(Fault::Bad);
+        return Err(PlayError::Bad);
     };
     let row = given(row)?;
     let line = Line::from_plain(alloc, text, &UnicodeWidths)?;
@@ -237,14 +237,14 @@ pub fn lines_diff(
     alloc: Global,
     surface: &Surface<Measure>,
     texts: &[&str],
-) -> Result<String, Fault> {
+) -> Result<String, PlayError> {
     let lines = plain_lines(alloc, texts)?;
     let lent: Vec<&Line> = lines.iter().collect(alloc)?;
     let changes = surface.diff_lines(lent)?;
     listed(alloc, changes.as_slice())
 }
 
-fn plain_lines(alloc: Global, texts: &[&str]) -> Result<Vec<Line>, Fault> {
+fn plain_lines(alloc: Global, texts: &[&str]) -> Result<Vec<Line>, PlayError> {
     let mut lines = Vec::new(alloc);
     for text in texts {
         lines.push(Line::from_plain(alloc, text, &UnicodeWidths)?)?;
@@ -253,11 +253,11 @@ fn plain_lines(alloc: Global, texts: &[&str]) -> Result<Vec<Line>, Fault> {
 }
 
 /// The text and the width of a cell.
-pub fn cell(alloc: Global, words: &[&str]) -> Result<String, Fault> {
+pub fn cell(alloc: Global, words: &[&str]) -> Result<String, PlayError> {
     let text = match words {
         [] => String::new(alloc),
         [word] => unescaped(alloc, word, ' ')?,
-        _ => return Err(Fault::Bad),
+        _ => return Err(PlayError::Bad),
     };
     let pen = CellAttributes::blank();
     let cell = Cell::new_grapheme(alloc, &UnicodeWidths, text.as_str(), pen, None)?;
@@ -266,7 +266,7 @@ pub fn cell(alloc: Global, words: &[&str]) -> Result<String, Fault> {
 }
 
 /// What each error of a surface says.
-pub fn refusals(alloc: Global) -> Result<String, Fault> {
+pub fn refusals(alloc: Global) -> Result<String, PlayError> {
     let mut messages = String::new(alloc);
     for error in [
         SurfaceError::ScrollRegion,

@@ -1,17 +1,17 @@
 //! Changes by the words of a line.
-use cases_words::attributes::attribute;
-use cases_words::escapes::unescaped;
-use cases_words::fault::Fault;
-use cases_words::pens::pen;
-use cases_words::places::position;
-use cases_words::shapes::{line_attribute, shape};
-use cases_words::words::{color, given};
+use cases::attributes::attribute;
+use cases::error::PlayError;
+use cases::escapes::unescaped;
+use cases::pens::pen;
+use cases::places::position;
+use cases::shapes::{line_attribute, shape};
+use cases::words::{color, given};
 use std::alloc::Global;
 use termwiz_cell::cell::CellAttributes;
 use termwiz_cell::change::{Change, CursorVisibility};
 
 /// The change of a line, unless the line is another command.
-pub fn change(alloc: Global, line: &str) -> Result<Option<Change>, Fault> {
+pub fn change(alloc: Global, line: &str) -> Result<Option<Change>, PlayError> {
     match line.split_once(' ') {
         Some((name, rest)) => written(alloc, name, rest),
         None => Ok(bare(alloc, line)),
@@ -30,7 +30,7 @@ fn bare(alloc: Global, name: &str) -> Option<Change> {
 }
 
 // The change of a name and what follows it.
-fn written(alloc: Global, name: &str, rest: &str) -> Result<Option<Change>, Fault> {
+fn written(alloc: Global, name: &str, rest: &str) -> Result<Option<Change>, PlayError> {
     match name {
         "text" => text(alloc, rest),
         "title" => title(alloc, rest),
@@ -40,25 +40,25 @@ fn written(alloc: Global, name: &str, rest: &str) -> Result<Option<Change>, Faul
     }
 }
 
-fn text(alloc: Global, rest: &str) -> Result<Option<Change>, Fault> {
+fn text(alloc: Global, rest: &str) -> Result<Option<Change>, PlayError> {
     Ok(Some(Change::Text(unescaped(alloc, rest, ' ')?)))
 }
 
-fn title(alloc: Global, rest: &str) -> Result<Option<Change>, Fault> {
+fn title(alloc: Global, rest: &str) -> Result<Option<Change>, PlayError> {
     Ok(Some(Change::Title(unescaped(alloc, rest, ' ')?)))
 }
 
-fn all_attributes(alloc: Global, rest: &str) -> Result<Option<Change>, Fault> {
+fn all_attributes(alloc: Global, rest: &str) -> Result<Option<Change>, PlayError> {
     Ok(Some(Change::AllAttributes(pen(alloc, rest, ' ')?)))
 }
 
-fn moved(rest: &str) -> Result<Option<Change>, Fault> {
-    let (x, y) = rest.split_once(' ').ok_or(Fault::Bad)?;
+fn moved(rest: &str) -> Result<Option<Change>, PlayError> {
+    let (x, y) = rest.split_once(' ').ok_or(PlayError::Bad)?;
     let (x, y) = (position(x)?, position(y)?);
     Ok(Some(Change::CursorPosition { x, y }))
 }
 
-fn scrolled(alloc: Global, name: &str, rest: &str) -> Result<Option<Change>, Fault> {
+fn scrolled(alloc: Global, name: &str, rest: &str) -> Result<Option<Change>, PlayError> {
     match name {
         "up" => scroll_up(alloc, rest),
         "down" => scroll_down(alloc, rest),
@@ -69,15 +69,15 @@ fn scrolled(alloc: Global, name: &str, rest: &str) -> Result<Option<Change>, Fau
 }
 
 // The first row of a region, its size and a count.
-fn region(alloc: Global, rest: &str) -> Result<(usize, usize, usize), Fault> {
+fn region(alloc: Global, rest: &str) -> Result<(usize, usize, usize), PlayError> {
     let words: Vec<&str> = rest.split(' ').collect(alloc)?;
     let [first, size, count] = words.as_slice() else {
-        return Err(Fault::Bad);
+        return Err(PlayError::Bad);
     };
     Ok((given(first)?, given(size)?, given(count)?))
 }
 
-fn scroll_up(alloc: Global, rest: &str) -> Result<Option<Change>, Fault> {
+fn scroll_up(alloc: Global, rest: &str) -> Result<Option<Change>, PlayError> {
     let (first_row, region_size, scroll_count) = region(alloc, rest)?;
     Ok(Some(Change::ScrollRegionUp {
         first_row,
@@ -86,7 +86,7 @@ fn scroll_up(alloc: Global, rest: &str) -> Result<Option<Change>, Fault> {
     }))
 }
 
-fn scroll_down(alloc: Global, rest: &str) -> Result<Option<Change>, Fault> {
+fn scroll_down(alloc: Global, rest: &str) -> Result<Option<Change>, PlayError> {
     let (first_row, region_size, scroll_count) = region(alloc, rest)?;
     Ok(Some(Change::ScrollRegionDown {
         first_row,
@@ -95,16 +95,16 @@ fn scroll_down(alloc: Global, rest: &str) -> Result<Option<Change>, Fault> {
     }))
 }
 
-fn set(alloc: Global, rest: &str) -> Result<Option<Change>, Fault> {
+fn set(alloc: Global, rest: &str) -> Result<Option<Change>, PlayError> {
     Ok(Some(Change::Attribute(attribute(alloc, rest)?)))
 }
 
-fn cursor_shape(rest: &str) -> Result<Option<Change>, Fault> {
+fn cursor_shape(rest: &str) -> Result<Option<Change>, PlayError> {
     Ok(Some(Change::CursorShape(shape(rest)?)))
 }
 
 // The change of a name and one word, if it is one.
-fn cleared(name: &str, rest: &str) -> Result<Option<Change>, Fault> {
+fn cleared(name: &str, rest: &str) -> Result<Option<Change>, PlayError> {
     match name {
         "clear" => Ok(Some(Change::ClearScreen(color(rest)?))),
         "eol" => Ok(Some(Change::ClearToEndOfLine(color(rest)?))),

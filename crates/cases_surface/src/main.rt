@@ -69,10 +69,10 @@ mod sequences;
 mod sizes;
 mod stage;
 
-use cases_words::fault::Fault;
-use cases_words::play::play_input;
+use cases::error::PlayError;
+use cases::play::play_input;
 use stage::Stage;
 
-fn main(rt: HostRuntime) -> Result<(), Fault> {
+fn main(rt: HostRuntime) -> Result<(), PlayError> {
     play_input(&rt, &mut Stage::new(rt.alloc()))
 }

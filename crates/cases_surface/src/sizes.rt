@@ -2,14 +2,14 @@
 ghost use Rattle.std.specs.Prelude.{◌<◌, ◌^◌, IfOk};
 
 use crate::measure::Measure;
-use cases_words::fault::Fault;
-use cases_words::words::pair;
+use cases::error::PlayError;
+use cases::words::pair;
 
 // The most columns of a surface, and its most rows.
 const MOST: usize = u32::MAX as usize;
 
 /// A width and a height that a surface may have.
-pub fn size(width: &str, height: &str) -> Result<(usize, usize), Fault>
+pub fn size(width: &str, height: &str) -> Result<(usize, usize), PlayError>
     ensures { IfOk result (λ size.
         (0 < size.0) × (size.0 < 2 ^ 32) × (0 < size.1) × (size.1 < 2 ^ 32)) }
 {
@@ -17,19 +17,19 @@ pub fn size(width: &str, height: &str) -> Result<(usize, usize), Fault>
     if 0 < width && width <= MOST && 0 < height && height <= MOST {
         Ok((width, height))
     } else {
-        Err(Fault::Bad)
+        Err(PlayError::Bad)
     }
 }
 
 /// A width and a height, and how columns are measured.
-pub fn measured_size(words: &[&str]) -> Result<(usize, usize, Measure), Fault>
+pub fn measured_size(words: &[&str]) -> Result<(usize, usize, Measure), PlayError>
     ensures { IfOk result (λ made.
         (0 < made.0) × (made.0 < 2 ^ 32) × (0 < made.1) × (made.1 < 2 ^ 32)) }
 {
     let [width, height, measure] = words else {
-        return Err(Fault::Bad);
+        return Err(PlayError::Bad);
     };
-    let measure = Measure::from_word(measure).ok_or(Fault::Bad)?;
+    let measure = Measure::from_word(measure).ok_or(PlayError::Bad)?;
     let (width, height) = size(width, height)?;
     Ok((width, height, measure))
 }

@@ -4,9 +4,9 @@ use crate::changes::change;
 use crate::measure::Measure;
 use crate::sequences::{Sequence, sequence_refusals};
 use crate::sizes::{measured_size, size};
-use cases_words::fault::Fault;
-use cases_words::play::Play;
-use cases_words::words::{given, pair};
+use cases::error::PlayError;
+use cases::play::Play;
+use cases::words::{given, pair};
 use std::alloc::Global;
 use termwiz_cell::change::{Change, SequenceNo};
 use termwiz_surface::surface::{Surface, SurfaceError};
@@ -32,7 +32,7 @@ pub struct Stage {
 }
 
 impl Play for Stage {
-    fn line(&mut self, line: &str) -> Result<String, Fault> {
+    fn line(&mut self, line: &str) -> Result<String, PlayError> {
         if line.starts_with("case ") {
             *self = Stage::new(self.alloc);
             return self.silent();
@@ -56,20 +56,20 @@ impl Stage {
         }
     }
 
-    fn command(&mut self, line: &str) -> Result<String, Fault> {
+    fn command(&mut self, line: &str) -> Result<String, PlayError> {
         let words: Vec<&str> = line.split(' ').collect(self.alloc)?;
         match words.as_slice() {
             [name, rest @ ..] => self.made(name, rest),
-            [] => Err(Fault::Bad),
+            [] => Err(PlayError::Bad),
         }
     }
 
     // No answer.
-    fn silent(&self) -> Result<String, Fault> {
+    fn silent(&self) -> Result<String, PlayError> {
         Ok(String::new(self.alloc))
     }
 
-    fn made(&mut self, name: &str, words: &[&str]) -> Result<String, Fault> {
+    fn made(&mut self, name: &str, words: &[&str]) -> Result<String, PlayError> {
         match name {
             "new" => self.make(words),
             "new-full" => self.make_full(words),
@@ -80,7 +80,7 @@ impl Stage {
         }
     }
 
-    fn turned(&mut self, name: &str, words: &[&str]) -> Result<String, Fault> {
+    fn turned(&mut self, name: &str, words: &[&str]) -> Result<String, PlayError> {
         match name {
             "on" => self.turn_to(words),
             "view" => self.turn_to_viewer(words),
@@ -90,7 +90,7 @@ impl Stage {
         }
     }
 
-    fn drawn(&mut self, name: &str, words: &[&str]) -> Result<String, Fault> {
+    fn drawn(&mut self, name: &str, words: &[&str]) -> Result<String, PlayError> {
         match name {
             "resize" => self.resize(words),
             "flush" => self.flush(words),
@@ -100,7 +100,7 @@ impl Stage {
         }
     }
 
-    fn followed(&mut self, name: &str, words: &[&str]) -> Result<String, Fault> {
+    fn followed(&mut self, name: &str, words: &[&str]) -> Result<String, PlayError> {
         match name {
             "lead" => self.lead(words),
             "follow" => self.follow(words),
@@ -111,7 +111,7 @@ impl Stage {
     }
 
     // The answer of a command that changes nothing.
-    fn answer(&self, name: &str, words: &[&str]) -> Result<String, Fault> {
+    fn answer(&self, name: &str, words: &[&str]) -> Result<String, PlayError> {
         match name {
             "place" => self.place(),
             "cell" => answers::cell(self.alloc, words),
@@ -121,7 +121,7 @@ impl Stage {
         }
     }
 
-    fn read(&self, name: &str, words: &[&str]) -> Result<String, Fault> {
+    fn read(&self, name: &str, words: &[&str]) -> Result<String, PlayError> {
         let own = self.own()?;
         match words {
             [] => named(self.alloc, own, name),
@@ -130,14 +130,14 @@ impl Stage {
         }
     }
 
-    fn asked(&self, own: &Surface<Measure>, name: &str, word: &str) -> Result<String, Fault> {
+    fn asked(&self, own: &Surface<Measure>, name: &str, word: &str) -> Result<String, PlayError> {
         match name {
             "has" => answers::has(self.alloc, own, word),
             "ask" => answers::answer(self.alloc, own, word),
             "same" => answers::same(self.alloc, own, self.other(word)?),
             "full-same" => answers::full_same(self.alloc, own, self.other(word)?),
             "diff" => answers::diff(self.alloc, own, self.other(word)?),
-            _ => Err(Fault::Bad),
+            _ => Err(PlayError::Bad),
         }
     }
 
@@ -146,45 +146,45 @@ impl Stage {
         own: &Surface<Measure>,
         name: &str,
         words: &[&str],
-    ) -> Result<String, Fault> {
+    ) -> Result<String, PlayError> {
         match name {
             "diff-line" => answers::line_diff(self.alloc, own, words),
             "diff-lines" => answers::lines_diff(self.alloc, own, words),
             "diff-region" => self.region_diff(own, words),
-            _ => Err(Fault::Bad),
+            _ => Err(PlayError::Bad),
         }
     }
 
-    fn region_diff(&self, own: &Surface<Measure>, words: &[&str]) -> Result<String, Fault> {
+    fn region_diff(&self, own: &Surface<Measure>, words: &[&str]) -> Result<String, PlayError> {
         let [place @ .., number, x, y] = words else {
-            return Err(Fault::Bad);
+            return Err(PlayError::Bad);
         };
         let corner = pair(x, y)?;
         answers::region_diff(self.alloc, own, place, self.other(number)?, corner)
     }
 
-    fn own(&self) -> Result<&Surface<Measure>, Fault> {
+    fn own(&self) -> Result<&Surface<Measure>, PlayError> {
         match self.shown {
-            Shown::Surface(number) => self.surfaces.get(number).ok_or(Fault::Bad),
+            Shown::Surface(number) => self.surfaces.get(number).ok_or(PlayError::Bad),
             Shown::Viewer(number) => {
-                let viewer = self.viewers.get(number).ok_or(Fault::Bad)?;
+                let viewer = self.viewers.get(number).ok_or(PlayError::Bad)?;
                 Ok(viewer.surface())
             }
         }
     }
 
-    fn own_mut(&mut self) -> Result<&mut Surface<Measure>, Fault> {
+    fn own_mut(&mut self) -> Result<&mut Surface<Measure>, PlayError> {
         match self.shown {
-            Shown::Surface(number) => self.surfaces.get_mut(number).ok_or(Fault::Bad),
-            Shown::Viewer(_) => Err(Fault::Bad),
+            Shown::Surface(number) => self.surfaces.get_mut(number).ok_or(PlayError::Bad),
+            Shown::Viewer(_) => Err(PlayError::Bad),
         }
     }
 
-    fn other(&self, word: &str) -> Result<&Surface<Measure>, Fault> {
-        self.surfaces.get(given(word)?).ok_or(Fault::Bad)
+    fn other(&self, word: &str) -> Result<&Surface<Measure>, PlayError> {
+        self.surfaces.get(given(word)?).ok_or(PlayError::Bad)
     }
 
-    fn add(&mut self, change: Change) -> Result<String, Fault> {
+    fn add(&mut self, change: Change) -> Result<String, PlayError> {
         if let Some(list) = &mut self.list {
             list.push(change)?;
             return self.silent();
@@ -196,13 +196,13 @@ impl Stage {
         answers::made(self.alloc, made)
     }
 
-    fn begin_list(&mut self) -> Result<String, Fault> {
+    fn begin_list(&mut self) -> Result<String, PlayError> {
         self.list = Some(Vec::new(self.alloc));
         self.silent()
     }
 
-    fn end_list(&mut self) -> Result<String, Fault> {
-        let list = self.list.take().ok_or(Fault::Bad)?;
+    fn end_list(&mut self) -> Result<String, PlayError> {
+        let list = self.list.take().ok_or(PlayError::Bad)?;
         if let Some(sequence) = &mut self.sequence {
             return sequence.add_changes(list);
         }
@@ -210,60 +210,60 @@ impl Stage {
         answers::made(self.alloc, made)
     }
 
-    fn make(&mut self, words: &[&str]) -> Result<String, Fault> {
+    fn make(&mut self, words: &[&str]) -> Result<String, PlayError> {
         let (width, height, measure) = measured_size(words)?;
         let surface = Surface::new(self.alloc, width, height, measure)?;
         self.show(surface)
     }
 
-    fn make_full(&mut self, words: &[&str]) -> Result<String, Fault> {
+    fn make_full(&mut self, words: &[&str]) -> Result<String, PlayError> {
         let (width, height, measure) = measured_size(words)?;
         let surface = Surface::new_full(self.alloc, width, height, measure)?;
         self.show(surface)
     }
 
     // The coming lines are about this new surface.
-    fn show(&mut self, surface: Surface<Measure>) -> Result<String, Fault> {
+    fn show(&mut self, surface: Surface<Measure>) -> Result<String, PlayError> {
         self.shown = Shown::Surface(self.surfaces.len());
         self.keep(surface)
     }
 
-    fn make_clone(&mut self) -> Result<String, Fault> {
+    fn make_clone(&mut self) -> Result<String, PlayError> {
         let clone = self.own()?.clone()?;
         self.keep(clone)
     }
 
-    fn keep(&mut self, surface: Surface<Measure>) -> Result<String, Fault> {
+    fn keep(&mut self, surface: Surface<Measure>) -> Result<String, PlayError> {
         self.surfaces.push(surface)?;
         self.silent()
     }
 
-    fn make_viewer(&mut self) -> Result<String, Fault> {
+    fn make_viewer(&mut self) -> Result<String, PlayError> {
         let viewer = Viewer::new(self.alloc, self.own()?)?;
         let last = viewer.last();
         self.viewers.push(viewer)?;
         Ok(format!(in self.alloc; "last {last}")?)
     }
 
-    fn make_sequence(&mut self, words: &[&str]) -> Result<String, Fault> {
+    fn make_sequence(&mut self, words: &[&str]) -> Result<String, PlayError> {
         let sequence = Sequence::new(self.alloc, words)?;
         self.sequence = Some(sequence);
         self.silent()
     }
 
-    fn turn_to(&mut self, words: &[&str]) -> Result<String, Fault> {
+    fn turn_to(&mut self, words: &[&str]) -> Result<String, PlayError> {
         self.shown = Shown::Surface(one(words)?);
         self.silent()
     }
 
-    fn turn_to_viewer(&mut self, words: &[&str]) -> Result<String, Fault> {
+    fn turn_to_viewer(&mut self, words: &[&str]) -> Result<String, PlayError> {
         self.shown = Shown::Viewer(one(words)?);
         self.silent()
     }
 
-    fn resize(&mut self, words: &[&str]) -> Result<String, Fault> {
+    fn resize(&mut self, words: &[&str]) -> Result<String, PlayError> {
         let [width, height] = words else {
-            return Err(Fault::Bad);
+            return Err(PlayError::Bad);
         };
         let (width, height) = size(width, height)?;
         match self.own_mut()?.resize(width, height) {
@@ -272,15 +272,15 @@ impl Stage {
         }
     }
 
-    fn flush(&mut self, words: &[&str]) -> Result<String, Fault> {
+    fn flush(&mut self, words: &[&str]) -> Result<String, PlayError> {
         let seq = one(words)?;
         self.own_mut()?.flush_changes_older_than(seq);
         self.silent()
     }
 
-    fn draw(&mut self, words: &[&str]) -> Result<String, Fault> {
+    fn draw(&mut self, words: &[&str]) -> Result<String, PlayError> {
         let [number, x, y] = words else {
-            return Err(Fault::Bad);
+            return Err(PlayError::Bad);
         };
         let place = pair(x, y)?;
         let other = self.other(number)?.clone()?;
@@ -291,14 +291,14 @@ impl Stage {
         &mut self,
         other: &Surface<Measure>,
         place: (usize, usize),
-    ) -> Result<String, Fault> {
+    ) -> Result<String, PlayError> {
         let made = self.own_mut()?.draw_from_screen(other, place.0, place.1);
         answers::made(self.alloc, made)
     }
 
-    fn copy(&mut self, words: &[&str]) -> Result<String, Fault> {
+    fn copy(&mut self, words: &[&str]) -> Result<String, PlayError> {
         let [x, y, width, height, to_x, to_y] = words else {
-            return Err(Fault::Bad);
+            return Err(PlayError::Bad);
         };
         let (from, size, to) = (pair(x, y)?, pair(width, height)?, pair(to_x, to_y)?);
         let own = self.own_mut()?;
@@ -307,70 +307,74 @@ impl Stage {
     }
 
     // Another surface makes what is due from a number on.
-    fn lead(&mut self, words: &[&str]) -> Result<String, Fault> {
+    fn lead(&mut self, words: &[&str]) -> Result<String, PlayError> {
         let [number, seq] = words else {
-            return Err(Fault::Bad);
+            return Err(PlayError::Bad);
         };
         let (number, seq) = pair(number, seq)?;
         let (next, changes) = self.due(seq)?;
-        let other = self.surfaces.get_mut(number).ok_or(Fault::Bad)?;
+        let other = self.surfaces.get_mut(number).ok_or(PlayError::Bad)?;
         match other.add_changes(changes) {
             Ok(_) => answers::made(self.alloc, Ok(next)),
             refused => answers::made(self.alloc, refused),
         }
     }
 
-    fn due(&self, seq: SequenceNo) -> Result<(SequenceNo, Vec<Change>), Fault> {
+    fn due(&self, seq: SequenceNo) -> Result<(SequenceNo, Vec<Change>), PlayError> {
         let (number, changes) = answers::due(self.own()?, seq)?;
         Ok((number, changes.into_owned(self.alloc)?))
     }
 
-    fn follow(&mut self, words: &[&str]) -> Result<String, Fault> {
+    fn follow(&mut self, words: &[&str]) -> Result<String, PlayError> {
         let number = one(words)?;
         let source = self.own()?.clone()?;
         self.follow_source(number, &source)
     }
 
-    fn follow_source(&mut self, number: usize, source: &Surface<Measure>) -> Result<String, Fault> {
-        let viewer = self.viewers.get_mut(number).ok_or(Fault::Bad)?;
+    fn follow_source(
+        &mut self,
+        number: usize,
+        source: &Surface<Measure>,
+    ) -> Result<String, PlayError> {
+        let viewer = self.viewers.get_mut(number).ok_or(PlayError::Bad)?;
         match viewer.follow(source) {
             Ok(answer) => followed_words(self.alloc, viewer, answer, source),
             Err(error) => answers::made(self.alloc, Err(error)),
         }
     }
 
-    fn goto(&mut self, words: &[&str]) -> Result<String, Fault> {
+    fn goto(&mut self, words: &[&str]) -> Result<String, PlayError> {
         match &mut self.sequence {
             Some(sequence) => sequence.goto(words),
-            None => Err(Fault::Bad),
+            None => Err(PlayError::Bad),
         }
     }
 
-    fn place(&self) -> Result<String, Fault> {
+    fn place(&self) -> Result<String, PlayError> {
         match &self.sequence {
             Some(sequence) => sequence.place(),
-            None => Err(Fault::Bad),
+            None => Err(PlayError::Bad),
         }
     }
 
-    fn consume(&mut self) -> Result<String, Fault> {
+    fn consume(&mut self) -> Result<String, PlayError> {
         match self.sequence.take() {
             Some(sequence) => answers::listed(self.alloc, sequence.into_changes().as_slice()),
-            None => Err(Fault::Bad),
+            None => Err(PlayError::Bad),
         }
     }
 }
 
 // The only number of the words.
-fn one(words: &[&str]) -> Result<usize, Fault> {
+fn one(words: &[&str]) -> Result<usize, PlayError> {
     match words {
         [word] => given(word),
-        _ => Err(Fault::Bad),
+        _ => Err(PlayError::Bad),
     }
 }
 
 // What is asked of a surface by a name alone.
-fn named(alloc: Global, own: &Surface<Measure>, name: &str) -> Result<String, Fault> {
+fn named(alloc: Global, own: &Surface<Measure>, name: &str) -> Result<String, PlayError> {
     match name {
         "rows" => answers::rows(alloc, own),
         "number" => answers::number(alloc, own),
@@ -379,7 +383,7 @@ fn named(alloc: Global, own: &Surface<Measure>, name: &str) -> Result<String, Fa
         "screen" => answers::screen(alloc, own),
         "flags" => answers::flags(alloc, own),
         "cells" => answers::cells(alloc, own),
-        _ => Err(Fault::Bad),
+        _ => Err(PlayError::Bad),
     }
 }
 
@@ -389,7 +393,7 @@ fn followed_words(
     viewer: &Viewer<Measure>,
     answer: SequenceNo,
     source: &Surface<Measure>,
-) -> Result<String, Fault> {
+) -> Result<String, PlayError> {
     let same = answers::is_same(viewer.surface(), source)?;
     let (last, number) = (viewer.last(), source.current_seqno());
     Ok(format!(in alloc; "= {answer}, last {last}, of {number}, shows the same: {same}")?)

@@ -1,6 +1,6 @@
 //! Damaged bytes that are decoded.
 use crate::damaged::Trial;
-use cases_words::fault::Fault;
+use cases::error::PlayError;
 use std::alloc::Global;
 use termwiz_cell::emoji::UnicodeWidths;
 use termwiz_wire::{
@@ -25,14 +25,18 @@ pub struct Decoder {
 }
 
 impl Trial for Decoder {
-    fn meet(&mut self, bytes: &[u8]) -> Result<(), Fault> {
+    fn meet(&mut self, bytes: &[u8]) -> Result<(), PlayError> {
         let mut again = Vec::new(self.alloc);
         let stands = match self.decoded(bytes, &mut again)? {
             Ok(taken) => again.len() == taken && bytes.starts_with(again.as_slice()),
             Err(WireError::Fault(fault)) => fault.at <= bytes.len(),
-            Err(WireError::Memory) => return Err(Fault::Memory),
+            Err(WireError::Memory) => return Err(PlayError::Memory),
         };
-        if stands { Ok(()) } else { Err(Fault::Differs) }
+        if stands {
+            Ok(())
+        } else {
+            Err(PlayError::Differs)
+        }
     }
 }
 
@@ -42,7 +46,7 @@ impl Decoder {
         &self,
         bytes: &[u8],
         again: &mut Vec<u8>,
-    ) -> Result<Result<usize, WireError>, Fault> {
+    ) -> Result<Result<usize, WireError>, PlayError> {
         let widths = UnicodeWidths;
         let decoded = match self.kind {
             Kind::Change => match decode_change(self.alloc, &widths, bytes) {

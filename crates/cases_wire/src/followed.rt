@@ -1,6 +1,6 @@
 //! Damaged bytes that a client is fed.
 use crate::damaged::Trial;
-use cases_words::fault::Fault;
+use cases::error::PlayError;
 use std::alloc::Global;
 use termwiz_cell::emoji::UnicodeWidths;
 use termwiz_share::{Client, ClientError, Source};
@@ -26,10 +26,10 @@ pub struct Followed {
 impl Followed {
     /// A source that made the changes of the repaint, and then those of the delta. It has to give
     /// that delta to whoever has the repaint.
-    pub fn new(alloc: Global, repaint: Vec<u8>, delta: &[u8]) -> Result<Followed, Fault> {
+    pub fn new(alloc: Global, repaint: Vec<u8>, delta: &[u8]) -> Result<Followed, PlayError> {
         let SentAnswer { source, answer } = sent(alloc, repaint.as_slice())?;
         if source == 0 {
-            return Err(Fault::Bad);
+            return Err(PlayError::Bad);
         }
         let ask = Ask {
             source,
@@ -54,20 +54,20 @@ impl Followed {
     }
 
     // Lets the client show what the source showed.
-    fn go_back(&mut self) -> Result<(), Fault> {
+    fn go_back(&mut self) -> Result<(), PlayError> {
         holds(self.client.feed(self.repaint.as_slice()).is_ok())?;
         self.shows(&self.before)
     }
 
     // Feeds the client these bytes in two pieces, and returns whether it may have taken an answer.
-    fn feed(&mut self, bytes: &[u8]) -> Result<bool, Fault> {
+    fn feed(&mut self, bytes: &[u8]) -> Result<bool, PlayError> {
         let (first, rest) = bytes.split_at(bytes.len() / 2);
         // What fails at the first piece fails alike at the other.
         let _ = self.client.feed(first);
         let fed = self.client.feed(rest);
         match decode_answer(self.alloc, &UnicodeWidths, Limits::default(), bytes) {
             Ok(_) => Ok(true),
-            Err(WireError::Memory) => Err(Fault::Memory),
+            Err(WireError::Memory) => Err(PlayError::Memory),
             Err(WireError::Fault(fault)) => {
                 let wanted = match fault.kind {
                     FaultKind::Truncated => Ok(()),
@@ -81,7 +81,7 @@ impl Followed {
     }
 
     // Lets the client show what the source shows, on a new connection.
-    fn go_on(&mut self, is_taken: bool) -> Result<(), Fault> {
+    fn go_on(&mut self, is_taken: bool) -> Result<(), PlayError> {
         self.client.reset();
         let ask = if is_taken {
             Ask {
@@ -98,13 +98,13 @@ impl Followed {
     }
 
     // Fails where the client shows anything else.
-    fn shows(&self, wanted: &FullScreen) -> Result<(), Fault> {
+    fn shows(&self, wanted: &FullScreen) -> Result<(), PlayError> {
         holds(self.client.surface().full_screen()? == *wanted)
     }
 }
 
 impl Trial for Followed {
-    fn meet(&mut self, bytes: &[u8]) -> Result<(), Fault> {
+    fn meet(&mut self, bytes: &[u8]) -> Result<(), PlayError> {
         self.go_back()?;
         let is_taken = self.feed(bytes)?;
         self.go_on(is_taken)
@@ -112,10 +112,10 @@ impl Trial for Followed {
 }
 
 // The answer that the bytes encode.
-fn sent(alloc: Global, bytes: &[u8]) -> Result<SentAnswer, Fault> {
+fn sent(alloc: Global, bytes: &[u8]) -> Result<SentAnswer, PlayError> {
     match decode_answer(alloc, &UnicodeWidths, Limits::default(), bytes) {
         Ok((sent, _)) => Ok(sent),
-        Err(_) => Err(Fault::Bad),
+        Err(_) => Err(PlayError::Bad),
     }
 }
 
@@ -125,13 +125,17 @@ fn gives(
     source: &mut Source<UnicodeWidths>,
     ask: Ask,
     bytes: &[u8],
-) -> Result<(), Fault> {
+) -> Result<(), PlayError> {
     let mut response = Vec::new(alloc);
     source.respond(ask, &mut response)?;
     holds(response.as_slice() == bytes)
 }
 
 // Fails where this isn't so.
-fn holds(is_so: bool) -> Result<(), Fault> {
-    if is_so { Ok(()) } else { Err(Fault::Differs) }
+fn holds(is_so: bool) -> Result<(), PlayError> {
+    if is_so {
+        Ok(())
+    } else {
+        Err(PlayError::Differs)
+    }
 }

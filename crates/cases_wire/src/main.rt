@@ -7,9 +7,10 @@
 //!   change where each text has one column. A text is shown without its pieces.
 //! - `damaged`: how many inputs differ in one byte from those of the lines before, or are their
 //!   beginnings. Each of them was decoded, and its value encoded again.
-//! - `client HEX HEX`: the same of a repaint and of a delta that leads on from it, as a source gives
-//!   them. A client that had taken the repaint was fed each of them. Of those that are no answer it
-//!   showed what it had shown, and then, by one response to its ask, what the source showed.
+//! - `client HEX HEX`: the same of a repaint and of a delta that leads on from it, as a source
+//!   gives them. A client that had taken the repaint was fed each of them. Of those that are no
+//!   answer it showed what it had shown, and then, by one response to its ask, what the source
+//!   showed.
 //!
 //! Where a value's encoding differs from the bytes that it was decoded from, another line says so.
 #![tactic(auto)]
@@ -20,10 +21,10 @@ mod followed;
 mod shown;
 mod stage;
 
-use cases_words::fault::Fault;
-use cases_words::play::play_input;
+use cases::error::PlayError;
+use cases::play::play_input;
 use stage::Stage;
 
-fn main(rt: HostRuntime) -> Result<(), Fault> {
+fn main(rt: HostRuntime) -> Result<(), PlayError> {
     play_input(&rt, &mut Stage::new(rt.alloc()))
 }

@@ -1,5 +1,5 @@
 //! Values in the diagnostic notation of CBOR, as `docs/stream.cddl` has them.
-use cases_words::fault::Fault;
+use cases::error::PlayError;
 use std::alloc::Global;
 use termwiz_cell::cell::{
     AttributeChange, Blink, CellAttributes, Intensity, SemanticType, Underline, VerticalAlign,
@@ -10,7 +10,7 @@ use termwiz_cell::hyperlink::Hyperlink;
 use termwiz_wire::SentAnswer;
 
 /// An answer, and its source.
-pub fn answer_text(alloc: Global, sent: &SentAnswer) -> Result<String, Fault> {
+pub fn answer_text(alloc: Global, sent: &SentAnswer) -> Result<String, PlayError> {
     let answer = &sent.answer;
     let source = sent.source;
     let (width, height) = answer.size();
@@ -26,7 +26,7 @@ pub fn answer_text(alloc: Global, sent: &SentAnswer) -> Result<String, Fault> {
 }
 
 // Adds an item to a list that is not closed yet.
-fn push_item(list: &mut String, item: &str) -> Result<(), Fault> {
+fn push_item(list: &mut String, item: &str) -> Result<(), PlayError> {
     if !list.ends_with('[') {
         list.push_str(", ")?;
     }
@@ -35,7 +35,7 @@ fn push_item(list: &mut String, item: &str) -> Result<(), Fault> {
 }
 
 /// A change.
-pub fn change_text(alloc: Global, change: &Change) -> Result<String, Fault> {
+pub fn change_text(alloc: Global, change: &Change) -> Result<String, PlayError> {
     match change {
         Change::Attribute(change) => pair(alloc, 0, attribute_text(alloc, change)?),
         Change::AllAttributes(attrs) => pair(alloc, 1, attributes_text(alloc, attrs)?),
@@ -69,19 +69,19 @@ pub fn change_text(alloc: Global, change: &Change) -> Result<String, Fault> {
     }
 }
 
-fn pair(alloc: Global, kind: usize, value: String) -> Result<String, Fault> {
+fn pair(alloc: Global, kind: usize, value: String) -> Result<String, PlayError> {
     Ok(format!(in alloc; "[{kind}, {value}]")?)
 }
 
-fn pair_of(alloc: Global, kind: usize, value: usize) -> Result<String, Fault> {
+fn pair_of(alloc: Global, kind: usize, value: usize) -> Result<String, PlayError> {
     Ok(format!(in alloc; "[{kind}, {value}]")?)
 }
 
-fn truth(alloc: Global, kind: usize, value: bool) -> Result<String, Fault> {
+fn truth(alloc: Global, kind: usize, value: bool) -> Result<String, PlayError> {
     Ok(format!(in alloc; "[{kind}, {value}]")?)
 }
 
-fn attribute_text(alloc: Global, change: &AttributeChange) -> Result<String, Fault> {
+fn attribute_text(alloc: Global, change: &AttributeChange) -> Result<String, PlayError> {
     match change {
         AttributeChange::Intensity(value) => pair_of(alloc, 0, intensity_number(*value)),
         AttributeChange::Underline(value) => pair_of(alloc, 1, underline_number(*value)),
@@ -97,7 +97,7 @@ fn attribute_text(alloc: Global, change: &AttributeChange) -> Result<String, Fau
     }
 }
 
-fn attributes_text(alloc: Global, attrs: &CellAttributes) -> Result<String, Fault> {
+fn attributes_text(alloc: Global, attrs: &CellAttributes) -> Result<String, PlayError> {
     let style = style_number(attrs);
     let foreground = color_text(alloc, attrs.foreground())?;
     let background = color_text(alloc, attrs.background())?;
@@ -131,7 +131,7 @@ fn style_number(attrs: &CellAttributes) -> usize {
     number.saturating_add(vertical_number(attrs.vertical_align()).saturating_mul(32768))
 }
 
-fn color_text(alloc: Global, color: ColorAttribute) -> Result<String, Fault> {
+fn color_text(alloc: Global, color: ColorAttribute) -> Result<String, PlayError> {
     match color {
         ColorAttribute::Default => Ok("null".to_owned(alloc)?),
         ColorAttribute::PaletteIndex(index) => Ok(format!(in alloc; "{index}")?),
@@ -146,7 +146,7 @@ fn color_text(alloc: Global, color: ColorAttribute) -> Result<String, Fault> {
     }
 }
 
-fn position_text(alloc: Global, at: Position) -> Result<String, Fault> {
+fn position_text(alloc: Global, at: Position) -> Result<String, PlayError> {
     match at {
         Position::Relative(distance) => Ok(format!(in alloc; "[0, {distance}]")?),
         Position::Absolute(number) => pair_of(alloc, 1, number),
@@ -154,7 +154,7 @@ fn position_text(alloc: Global, at: Position) -> Result<String, Fault> {
     }
 }
 
-fn link_text(alloc: Global, link: &Hyperlink) -> Result<String, Fault> {
+fn link_text(alloc: Global, link: &Hyperlink) -> Result<String, PlayError> {
     let uri = quoted(alloc, link.uri())?;
     let implicit = link.is_implicit();
     let mut text = format!(in alloc; "[{uri}, {implicit}, [")?;
@@ -168,7 +168,7 @@ fn link_text(alloc: Global, link: &Hyperlink) -> Result<String, Fault> {
     Ok(text)
 }
 
-fn quoted(alloc: Global, text: &str) -> Result<String, Fault> {
+fn quoted(alloc: Global, text: &str) -> Result<String, PlayError> {
     let mut quoted = String::new(alloc);
     quoted.push('"')?;
     for c in text.chars() {
@@ -178,7 +178,7 @@ fn quoted(alloc: Global, text: &str) -> Result<String, Fault> {
     Ok(quoted)
 }
 
-fn push_escaped(alloc: Global, quoted: &mut String, c: char) -> Result<(), Fault> {
+fn push_escaped(alloc: Global, quoted: &mut String, c: char) -> Result<(), PlayError> {
     match c {
         '"' => quoted.push_str("\\\"")?,
         '\\' => quoted.push_str("\\\\")?,

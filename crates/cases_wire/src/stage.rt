@@ -3,9 +3,9 @@ use crate::damaged::count_damaged;
 use crate::decoded::{Decoder, Kind};
 use crate::followed::Followed;
 use crate::shown::{answer_text, change_text};
-use cases_words::fault::Fault;
-use cases_words::hex::bytes_of;
-use cases_words::play::Play;
+use cases::error::PlayError;
+use cases::hex::bytes_of;
+use cases::play::Play;
 use std::alloc::Global;
 use termwiz_cell::emoji::{OneColumn, UnicodeWidths, Widths};
 use termwiz_wire::{
@@ -27,12 +27,12 @@ impl Stage {
     }
 
     // How many damaged inputs there were so far. Each ended as it has to, or the play had ended.
-    fn count(&self) -> Result<String, Fault> {
+    fn count(&self) -> Result<String, PlayError> {
         Ok(format!(in self.alloc; "{} inputs\n", self.damaged)?)
     }
 
     // What the bytes of a line encode.
-    fn decoded(&mut self, kind: &str, word: &str) -> Result<String, Fault> {
+    fn decoded(&mut self, kind: &str, word: &str) -> Result<String, PlayError> {
         let bytes = bytes_of(self.alloc, word)?;
         let bytes = bytes.as_slice();
         let mut lines = String::new(self.alloc);
@@ -50,12 +50,12 @@ impl Stage {
                 self.ask(bytes, &mut lines)?;
                 self.damage(Kind::Ask, bytes)?;
             }
-            _ => return Err(Fault::Bad),
+            _ => return Err(PlayError::Bad),
         }
         Ok(lines)
     }
 
-    fn damage(&mut self, kind: Kind, bytes: &[u8]) -> Result<(), Fault> {
+    fn damage(&mut self, kind: Kind, bytes: &[u8]) -> Result<(), PlayError> {
         let mut decoder = Decoder {
             alloc: self.alloc,
             kind,
@@ -65,7 +65,12 @@ impl Stage {
         Ok(())
     }
 
-    fn change<W: Widths>(&self, widths: &W, bytes: &[u8], lines: &mut String) -> Result<(), Fault> {
+    fn change<W: Widths>(
+        &self,
+        widths: &W,
+        bytes: &[u8],
+        lines: &mut String,
+    ) -> Result<(), PlayError> {
         match decode_change(self.alloc, widths, bytes) {
             Ok((change, taken)) => {
                 push(lines, change_text(self.alloc, &change)?.as_str())?;
@@ -77,7 +82,7 @@ impl Stage {
         }
     }
 
-    fn answer(&self, bytes: &[u8], lines: &mut String) -> Result<(), Fault> {
+    fn answer(&self, bytes: &[u8], lines: &mut String) -> Result<(), PlayError> {
         let limits = Limits::default();
         match decode_answer(self.alloc, &UnicodeWidths, limits, bytes) {
             Ok((sent, taken)) => {
@@ -90,7 +95,7 @@ impl Stage {
         }
     }
 
-    fn ask(&self, bytes: &[u8], lines: &mut String) -> Result<(), Fault> {
+    fn ask(&self, bytes: &[u8], lines: &mut String) -> Result<(), PlayError> {
         match decode_ask(bytes) {
             Ok((ask, taken)) => {
                 let text = format!(in self.alloc; "[2, {}, {}]", ask.source, ask.number)?;
@@ -103,9 +108,9 @@ impl Stage {
         }
     }
 
-    // How many inputs there are of a repaint and of a delta. A client met each of them as it has to.
-    fn followed(&self, words: &str) -> Result<String, Fault> {
-        let (repaint, delta) = words.split_once(' ').ok_or(Fault::Bad)?;
+    // How many inputs there are of a repaint and of a delta. A client met each as it has to.
+    fn followed(&self, words: &str) -> Result<String, PlayError> {
+        let (repaint, delta) = words.split_once(' ').ok_or(PlayError::Bad)?;
         let repaint = bytes_of(self.alloc, repaint)?;
         let delta = bytes_of(self.alloc, delta)?;
         let mut followed = Followed::new(self.alloc, repaint.clone()?, delta.as_slice())?;
@@ -114,13 +119,13 @@ impl Stage {
         Ok(format!(in self.alloc; "{} inputs\n", repaints.wrapping_add(deltas))?)
     }
 
-    fn fault(&self, error: WireError, lines: &mut String) -> Result<(), Fault> {
+    fn fault(&self, error: WireError, lines: &mut String) -> Result<(), PlayError> {
         push(lines, format!(in self.alloc; "{error}")?.as_str())
     }
 }
 
 impl Play for Stage {
-    fn line(&mut self, line: &str) -> Result<String, Fault> {
+    fn line(&mut self, line: &str) -> Result<String, PlayError> {
         let (kind, word) = line.split_once(' ').unwrap_or((line, ""));
         match kind {
             "case" => Ok(String::new(self.alloc)),
@@ -131,14 +136,14 @@ impl Play for Stage {
     }
 }
 
-fn push(lines: &mut String, line: &str) -> Result<(), Fault> {
+fn push(lines: &mut String, line: &str) -> Result<(), PlayError> {
     lines.push_str(line)?;
     lines.push('\n')?;
     Ok(())
 }
 
 // Says where a value's bytes aren't those that it was decoded from.
-fn compare(again: &[u8], bytes: &[u8], taken: usize, lines: &mut String) -> Result<(), Fault> {
+fn compare(again: &[u8], bytes: &[u8], taken: usize, lines: &mut String) -> Result<(), PlayError> {
     if again.len() == taken && bytes.starts_with(again) {
         return Ok(());
     }

@@ -2,9 +2,9 @@
 //! surface as bytes. With `-i` it answers asks that come on its input.
 #![tactic(auto)]
 
+use sessions::send::{USAGE, send_session};
+use sessions::words::words;
 use std::process::ExitCode;
-use stream_session::send_session::{USAGE, send_session};
-use surfview_session::session::words;
 
 fn main(rt: HostRuntime) -> ExitCode {
     let status = match words(&rt) {

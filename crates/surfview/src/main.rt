@@ -1,12 +1,13 @@
 //! `surfview WIDTH HEIGHT` reads a script of changes and prints what a surface shows and answers.
 #![tactic(auto)]
 
+use sessions::view::{USAGE, view_session};
+use sessions::words::words;
 use std::process::ExitCode;
-use surfview_session::session::{USAGE, session, words};
 
 fn main(rt: HostRuntime) -> ExitCode {
     let status = match words(&rt) {
-        Ok(words) => session(
+        Ok(words) => view_session(
             rt.alloc(),
             words.as_slice(),
             &mut rt.stdin(),

@@ -2,9 +2,9 @@
 //! shows of it.
 #![tactic(auto)]
 
+use sessions::watch::{USAGE, watch_session};
+use sessions::words::words;
 use std::process::ExitCode;
-use stream_session::watch_session::{USAGE, watch_session};
-use surfview_session::session::words;
 
 fn main(rt: HostRuntime) -> ExitCode {
     let status = match words(&rt) {

@@ -34,8 +34,8 @@ AddsList changes old outcome new =
     (number : ℕ) × (added : Result ℕ SurfaceError) × (outcome ≡ outcome_of changing_failure added) × Adds (columns_by old.surface.widths) (trimmed old.surface) changes number added new.surface × GoesOn old new
 
 -- one change is added
-abbrev pub AddsOne : ChangeValue → SourceValue ChosenWidths → Outcome → SourceValue ChosenWidths → Type 0
-AddsOne change = AddsList (change ∷ [])
+abbrev pub AddsChange : ChangeValue → SourceValue ChosenWidths → Outcome → SourceValue ChosenWidths → Type 0
+AddsChange change = AddsList (change ∷ [])
 
 -- the one list that the bytes encode, with nothing behind it
 abbrev pub IsOnlyList : (List ℕ → ℕ) → List ℕ → Result (Vec Change Global) Failure → Type 0
@@ -53,21 +53,21 @@ pub record AddsBytes (bytes : List ℕ) (old : SourceValue ChosenWidths) (outcom
   pub others : Refused (unread_as (changes_at (columns_by old.surface.widths) bytes)) old outcome new ⊎ OrNoMemory (AddsEncoded bytes) old outcome new
 
 -- the call adds this change to the surface of the handle
-abbrev pub Makes : ChangeValue → Handle → ℤ → Handle → Type 0
-Makes change old number new = Reports number (λ outcome. OnSurface (AddsOne change) (kept_of old) outcome (kept_of new))
+abbrev pub CallAdds : ChangeValue → Handle → ℤ → Handle → Type 0
+CallAdds change old number new = Reports number (λ outcome. OnSurface (AddsChange change) (kept_of old) outcome (kept_of new))
 
 -- the call adds this change to the surface of the handle, unless memory for the change itself was refused
-abbrev pub MakesCopy : ChangeValue → Handle → ℤ → Handle → Type 0
-MakesCopy change old number new = Reports number (λ outcome. OrNoMemory (OnSurface (AddsOne change)) (kept_of old) outcome (kept_of new))
+abbrev pub CallAddsCopy : ChangeValue → Handle → ℤ → Handle → Type 0
+CallAddsCopy change old number new = Reports number (λ outcome. OrNoMemory (OnSurface (AddsChange change)) (kept_of old) outcome (kept_of new))
 
 -- the call fails so, and the handle has what it had
 abbrev pub Leaves : Failure → Handle → ℤ → Handle → Type 0
 Leaves failure old number new = (number ≡ status_of (Err failure)) × (kept_of new ≡ kept_of old)
 
 -- the call adds this change, if its arguments are one
-abbrev pub MakesIfSome : Option ChangeValue → Handle → ℤ → Handle → Type 0
-MakesIfSome (Some change) old number new = Makes change old number new
-MakesIfSome None old number new = Leaves Range old number new
+abbrev pub CallAddsIfSome : Option ChangeValue → Handle → ℤ → Handle → Type 0
+CallAddsIfSome (Some change) old number new = CallAdds change old number new
+CallAddsIfSome None old number new = Leaves Range old number new
 
 -- the change that gives the pen a link to this uri
 abbrev pub link_to : List ℕ → ChangeValue

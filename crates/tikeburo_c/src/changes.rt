@@ -1,7 +1,7 @@
 //! Changes of surfaces.
 ghost use Rattle.std.specs.Prelude.{map};
 ghost use Rattle.termwiz_cell.specs.ChangeValue.{change_value};
-ghost use Rattle.tikeburo_c.specs.Changes.{AddsBytes, AddsList, AddsOne, IsOnlyList};
+ghost use Rattle.tikeburo_c.specs.Changes.{AddsBytes, AddsList, AddsChange, IsOnlyList};
 ghost use Rattle.tikeburo_c.specs.Outcomes.{Reports};
 ghost use Rattle.tikeburo_c.specs.Handles.{kept_of};
 ghost use Rattle.tikeburo_c.specs.Results.{OnSurface};
@@ -18,14 +18,14 @@ use termwiz_wire::decode_changes;
 
 /// Adds a change to the surface that the handle has.
 pub(crate) fn add(alloc: Global, handle: &mut Handle, change: Change) -> Result<(), Failure>
-    ensures { OnSurface (AddsOne (change_value change))
+    ensures { OnSurface (AddsChange (change_value change))
         (kept_of handle.old) result (kept_of handle.new) }
 {
     on_surface(alloc, handle, |surface| add_to(surface, change))
 }
 
 fn add_to(surface: &mut Source<ChosenWidths>, change: Change) -> Result<(), Failure>
-    ensures { AddsOne (change_value change) surface.old result surface.new }
+    ensures { AddsChange (change_value change) surface.old result surface.new }
 {
     surface.add_change(change)?;
     Ok(())

@@ -3,7 +3,7 @@ ghost use Rattle.std.specs.Prelude.{None, Some};
 ghost use Rattle.std.specs.Option.{option_map};
 ghost use Rattle.termwiz_cell.specs.ChangeValue as changes;
 ghost use Rattle.termwiz_surface.specs.{Absolute, Relative};
-ghost use Rattle.tikeburo_c.specs.Changes.{Makes, MakesIfSome};
+ghost use Rattle.tikeburo_c.specs.Changes.{CallAdds, CallAddsIfSome};
 ghost use Rattle.tikeburo_c.specs.Fields as fields;
 
 use crate::changes::add;
@@ -20,7 +20,7 @@ pub extern "C" fn tk_clear_screen(
     handle: &mut Handle,
     background: &ColorFields,
 ) -> i32
-    ensures { MakesIfSome (option_map changes.ClearScreen (fields.color_in background.now))
+    ensures { CallAddsIfSome (option_map changes.ClearScreen (fields.color_in background.now))
         handle.old result handle.new }
 {
     match color_in(background) {
@@ -36,7 +36,7 @@ pub extern "C" fn tk_clear_to_end_of_line(
     handle: &mut Handle,
     background: &ColorFields,
 ) -> i32
-    ensures { MakesIfSome (option_map changes.ClearToEndOfLine (fields.color_in background.now))
+    ensures { CallAddsIfSome (option_map changes.ClearToEndOfLine (fields.color_in background.now))
         handle.old result handle.new }
 {
     match color_in(background) {
@@ -52,7 +52,7 @@ pub extern "C" fn tk_clear_to_end_of_screen(
     handle: &mut Handle,
     background: &ColorFields,
 ) -> i32
-    ensures { MakesIfSome (option_map changes.ClearToEndOfScreen (fields.color_in background.now))
+    ensures { CallAddsIfSome (option_map changes.ClearToEndOfScreen (fields.color_in background.now))
         handle.old result handle.new }
 {
     match color_in(background) {
@@ -70,7 +70,7 @@ pub extern "C" fn tk_scroll_up(
     region_size: usize,
     scroll_count: usize,
 ) -> i32
-    ensures { Makes (changes.ScrollRegionUp first_row region_size scroll_count)
+    ensures { CallAdds (changes.ScrollRegionUp first_row region_size scroll_count)
         handle.old result handle.new }
 {
     let change = Change::ScrollRegionUp {
@@ -90,7 +90,7 @@ pub extern "C" fn tk_scroll_down(
     region_size: usize,
     scroll_count: usize,
 ) -> i32
-    ensures { Makes (changes.ScrollRegionDown first_row region_size scroll_count)
+    ensures { CallAdds (changes.ScrollRegionDown first_row region_size scroll_count)
         handle.old result handle.new }
 {
     let change = Change::ScrollRegionDown {
@@ -104,7 +104,7 @@ pub extern "C" fn tk_scroll_down(
 /// Moves the cursor to this column and row.
 #[unsafe(no_mangle)]
 pub extern "C" fn tk_move_to(alloc: Global, handle: &mut Handle, column: usize, row: usize) -> i32
-    ensures { Makes (changes.CursorPosition (Absolute column) (Absolute row))
+    ensures { CallAdds (changes.CursorPosition (Absolute column) (Absolute row))
         handle.old result handle.new }
 {
     let (x, y) = (Position::Absolute(column), Position::Absolute(row));
@@ -114,7 +114,7 @@ pub extern "C" fn tk_move_to(alloc: Global, handle: &mut Handle, column: usize, 
 /// Moves the cursor by so many columns and rows.
 #[unsafe(no_mangle)]
 pub extern "C" fn tk_move_by(alloc: Global, handle: &mut Handle, columns: isize, rows: isize) -> i32
-    ensures { Makes (changes.CursorPosition (Relative columns) (Relative rows))
+    ensures { CallAdds (changes.CursorPosition (Relative columns) (Relative rows))
         handle.old result handle.new }
 {
     let (x, y) = (Position::Relative(columns), Position::Relative(rows));

@@ -2,7 +2,7 @@
 ghost use Rattle.std.specs.Prelude.{None, Some};
 ghost use Rattle.std.specs.Option.{option_map};
 ghost use Rattle.termwiz_cell.specs.ChangeValue as changes;
-ghost use Rattle.tikeburo_c.specs.Changes.{Makes, MakesIfSome};
+ghost use Rattle.tikeburo_c.specs.Changes.{CallAdds, CallAddsIfSome};
 ghost use Rattle.tikeburo_c.specs.Fields as fields;
 ghost use Rattle.tikeburo_c.specs.Numbers as numbers;
 ghost use Rattle.tikeburo_c.specs.Reading.{visibility_of};
@@ -18,7 +18,7 @@ use termwiz_surface::{Change, CursorShape, CursorVisibility};
 /// Shows the cursor, or hides it.
 #[unsafe(no_mangle)]
 pub extern "C" fn tk_show_cursor(alloc: Global, handle: &mut Handle, is_visible: bool) -> i32
-    ensures { Makes (changes.CursorVisibility (visibility_of is_visible))
+    ensures { CallAdds (changes.CursorVisibility (visibility_of is_visible))
         handle.old result handle.new }
 {
     let visibility = if is_visible {
@@ -32,7 +32,7 @@ pub extern "C" fn tk_show_cursor(alloc: Global, handle: &mut Handle, is_visible:
 /// Sets the cursor's shape.
 #[unsafe(no_mangle)]
 pub extern "C" fn tk_set_cursor_shape(alloc: Global, handle: &mut Handle, shape: u8) -> i32
-    ensures { MakesIfSome (option_map changes.CursorShape (numbers.shape_in shape))
+    ensures { CallAddsIfSome (option_map changes.CursorShape (numbers.shape_in shape))
         handle.old result handle.new }
 {
     match CursorShape::try_from(shape) {
@@ -48,7 +48,7 @@ pub extern "C" fn tk_set_cursor_color(
     handle: &mut Handle,
     color: &ColorFields,
 ) -> i32
-    ensures { MakesIfSome (option_map changes.CursorColor (fields.color_in color.now))
+    ensures { CallAddsIfSome (option_map changes.CursorColor (fields.color_in color.now))
         handle.old result handle.new }
 {
     match color_in(color) {
@@ -60,7 +60,7 @@ pub extern "C" fn tk_set_cursor_color(
 /// Sets how large the cursor's line is shown.
 #[unsafe(no_mangle)]
 pub extern "C" fn tk_set_line_attribute(alloc: Global, handle: &mut Handle, attribute: u8) -> i32
-    ensures { MakesIfSome (option_map changes.LineAttribute (numbers.line_in attribute))
+    ensures { CallAddsIfSome (option_map changes.LineAttribute (numbers.line_in attribute))
         handle.old result handle.new }
 {
     match LineAttribute::try_from(attribute) {

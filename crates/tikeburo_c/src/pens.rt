@@ -5,7 +5,7 @@ ghost use Rattle.termwiz_cell.specs.Attributes.{Attributes};
 ghost use Rattle.termwiz_cell.specs.AttributeChangeValue as values;
 ghost use Rattle.termwiz_cell.specs.AttributeChangeValue.{attribute_change_value};
 ghost use Rattle.termwiz_cell.specs.ChangeValue as changes;
-ghost use Rattle.tikeburo_c.specs.Changes.{AddsOne, Makes, MakesCopy, MakesIfSome};
+ghost use Rattle.tikeburo_c.specs.Changes.{AddsChange, CallAdds, CallAddsCopy, CallAddsIfSome};
 ghost use Rattle.tikeburo_c.specs.Fields.{HasFields};
 ghost use Rattle.tikeburo_c.specs.Handles.{kept_of};
 ghost use Rattle.tikeburo_c.specs.Outcomes.{Reports};
@@ -24,7 +24,7 @@ use termwiz_surface::{AttributeChange, Change};
 
 fn set_pen(alloc: Global, handle: &mut Handle, attributes: &AttributeFields) -> Result<(), Failure>
     ensures made { (a : Attributes) → HasFields attributes.now a →
-        OrNoMemory (OnSurface (AddsOne (changes.AllAttributes a)))
+        OrNoMemory (OnSurface (AddsChange (changes.AllAttributes a)))
         (kept_of handle.old) result (kept_of handle.new) }
     ensures range { ((a : Attributes) → HasFields attributes.now a → ⊥) →
         OrNoMemory (Refused Range) (kept_of handle.old) result (kept_of handle.new) }
@@ -41,7 +41,7 @@ pub extern "C" fn tk_set_pen(
     attributes: &AttributeFields,
 ) -> i32
     ensures made { (a : Attributes) → HasFields attributes.now a →
-        MakesCopy (changes.AllAttributes a) handle.old result handle.new }
+        CallAddsCopy (changes.AllAttributes a) handle.old result handle.new }
     ensures range { ((a : Attributes) → HasFields attributes.now a → ⊥) →
         Reports result (λ outcome.
         OrNoMemory (Refused Range) (kept_of handle.old) outcome (kept_of handle.new)) }
@@ -51,7 +51,7 @@ pub extern "C" fn tk_set_pen(
 }
 
 fn set(alloc: Global, handle: &mut Handle, change: AttributeChange) -> i32
-    ensures { Makes (changes.Attribute (attribute_change_value change))
+    ensures { CallAdds (changes.Attribute (attribute_change_value change))
         handle.old result handle.new }
 {
     let outcome = add(alloc, handle, Change::Attribute(change));
@@ -61,7 +61,7 @@ fn set(alloc: Global, handle: &mut Handle, change: AttributeChange) -> i32
 /// Sets how strong texts are.
 #[unsafe(no_mangle)]
 pub extern "C" fn tk_set_intensity(alloc: Global, handle: &mut Handle, intensity: u8) -> i32
-    ensures { MakesIfSome (option_map (λ value. changes.Attribute (values.Intensity value))
+    ensures { CallAddsIfSome (option_map (λ value. changes.Attribute (values.Intensity value))
         (numbers.intensity_in intensity)) handle.old result handle.new }
 {
     match Intensity::try_from(intensity) {
@@ -73,7 +73,7 @@ pub extern "C" fn tk_set_intensity(alloc: Global, handle: &mut Handle, intensity
 /// Sets how texts are underlined.
 #[unsafe(no_mangle)]
 pub extern "C" fn tk_set_underline(alloc: Global, handle: &mut Handle, underline: u8) -> i32
-    ensures { MakesIfSome (option_map (λ value. changes.Attribute (values.Underline value))
+    ensures { CallAddsIfSome (option_map (λ value. changes.Attribute (values.Underline value))
         (numbers.underline_in underline)) handle.old result handle.new }
 {
     match Underline::try_from(underline) {
@@ -85,7 +85,7 @@ pub extern "C" fn tk_set_underline(alloc: Global, handle: &mut Handle, underline
 /// Sets how fast texts blink.
 #[unsafe(no_mangle)]
 pub extern "C" fn tk_set_blink(alloc: Global, handle: &mut Handle, blink: u8) -> i32
-    ensures { MakesIfSome (option_map (λ value. changes.Attribute (values.Blink value))
+    ensures { CallAddsIfSome (option_map (λ value. changes.Attribute (values.Blink value))
         (numbers.blink_in blink)) handle.old result handle.new }
 {
     match Blink::try_from(blink) {
@@ -97,7 +97,7 @@ pub extern "C" fn tk_set_blink(alloc: Global, handle: &mut Handle, blink: u8) ->
 /// Sets whether texts are slanted.
 #[unsafe(no_mangle)]
 pub extern "C" fn tk_set_italic(alloc: Global, handle: &mut Handle, is_on: bool) -> i32
-    ensures { Makes (changes.Attribute (values.Italic is_on)) handle.old result handle.new }
+    ensures { CallAdds (changes.Attribute (values.Italic is_on)) handle.old result handle.new }
 {
     set(alloc, handle, AttributeChange::Italic(is_on))
 }
@@ -105,7 +105,7 @@ pub extern "C" fn tk_set_italic(alloc: Global, handle: &mut Handle, is_on: bool)
 /// Sets whether the colours of text and background are exchanged.
 #[unsafe(no_mangle)]
 pub extern "C" fn tk_set_reverse(alloc: Global, handle: &mut Handle, is_on: bool) -> i32
-    ensures { Makes (changes.Attribute (values.Reverse is_on)) handle.old result handle.new }
+    ensures { CallAdds (changes.Attribute (values.Reverse is_on)) handle.old result handle.new }
 {
     set(alloc, handle, AttributeChange::Reverse(is_on))
 }
@@ -113,7 +113,7 @@ pub extern "C" fn tk_set_reverse(alloc: Global, handle: &mut Handle, is_on: bool
 /// Sets whether texts are struck through.
 #[unsafe(no_mangle)]
 pub extern "C" fn tk_set_strikethrough(alloc: Global, handle: &mut Handle, is_on: bool) -> i32
-    ensures { Makes (changes.Attribute (values.StrikeThrough is_on)) handle.old result handle.new }
+    ensures { CallAdds (changes.Attribute (values.StrikeThrough is_on)) handle.old result handle.new }
 {
     set(alloc, handle, AttributeChange::StrikeThrough(is_on))
 }
@@ -121,7 +121,7 @@ pub extern "C" fn tk_set_strikethrough(alloc: Global, handle: &mut Handle, is_on
 /// Sets whether texts are hidden.
 #[unsafe(no_mangle)]
 pub extern "C" fn tk_set_invisible(alloc: Global, handle: &mut Handle, is_on: bool) -> i32
-    ensures { Makes (changes.Attribute (values.Invisible is_on)) handle.old result handle.new }
+    ensures { CallAdds (changes.Attribute (values.Invisible is_on)) handle.old result handle.new }
 {
     set(alloc, handle, AttributeChange::Invisible(is_on))
 }
@@ -129,7 +129,7 @@ pub extern "C" fn tk_set_invisible(alloc: Global, handle: &mut Handle, is_on: bo
 /// Sets the colour of texts.
 #[unsafe(no_mangle)]
 pub extern "C" fn tk_set_foreground(alloc: Global, handle: &mut Handle, color: &ColorFields) -> i32
-    ensures { MakesIfSome (option_map (λ value. changes.Attribute (values.Foreground value))
+    ensures { CallAddsIfSome (option_map (λ value. changes.Attribute (values.Foreground value))
         (fields.color_in color.now)) handle.old result handle.new }
 {
     match color_in(color) {
@@ -141,7 +141,7 @@ pub extern "C" fn tk_set_foreground(alloc: Global, handle: &mut Handle, color: &
 /// Sets the colour behind texts.
 #[unsafe(no_mangle)]
 pub extern "C" fn tk_set_background(alloc: Global, handle: &mut Handle, color: &ColorFields) -> i32
-    ensures { MakesIfSome (option_map (λ value. changes.Attribute (values.Background value))
+    ensures { CallAddsIfSome (option_map (λ value. changes.Attribute (values.Background value))
         (fields.color_in color.now)) handle.old result handle.new }
 {
     match color_in(color) {

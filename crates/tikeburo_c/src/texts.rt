@@ -2,7 +2,7 @@
 ghost use Rattle.std.specs.Prelude.{IfErr, IfOk, IsUtf8, None, Some, [], ◌≡◌};
 ghost use Rattle.termwiz_cell.specs.AttributeChangeValue as values;
 ghost use Rattle.termwiz_cell.specs.ChangeValue.{Attribute, ChangeValue, Text, Title};
-ghost use Rattle.tikeburo_c.specs.Changes.{AddsOne, Leaves, Makes, MakesCopy, link_to};
+ghost use Rattle.tikeburo_c.specs.Changes.{AddsChange, Leaves, CallAdds, CallAddsCopy, link_to};
 ghost use Rattle.tikeburo_c.specs.Handles.{kept_of};
 ghost use Rattle.tikeburo_c.specs.Results.{OnSurface, OrNoMemory, Refused};
 ghost use Rattle.tikeburo_c.specs.declared.failure.Failure.TheVariants.{Unreadable};
@@ -27,7 +27,7 @@ fn text_in(bytes: &[u8]) -> Result<&str, Failure>
 }
 
 fn print(alloc: Global, handle: &mut Handle, text: &[u8]) -> Result<(), Failure>
-    ensures text { IsUtf8 text.now → OrNoMemory (OnSurface (AddsOne (Text text.now)))
+    ensures text { IsUtf8 text.now → OrNoMemory (OnSurface (AddsChange (Text text.now)))
         (kept_of handle.old) result (kept_of handle.new) }
     ensures unreadable { ¬ (IsUtf8 text.now) → Refused Unreadable
         (kept_of handle.old) result (kept_of handle.new) }
@@ -40,7 +40,7 @@ fn print(alloc: Global, handle: &mut Handle, text: &[u8]) -> Result<(), Failure>
 /// Prints a text at the cursor with the pen.
 #[unsafe(no_mangle)]
 pub extern "C" fn tk_print(alloc: Global, handle: &mut Handle, text: &[u8]) -> i32
-    ensures text { IsUtf8 text.now → MakesCopy (Text text.now) handle.old result handle.new }
+    ensures text { IsUtf8 text.now → CallAddsCopy (Text text.now) handle.old result handle.new }
     ensures unreadable { ¬ (IsUtf8 text.now) → Leaves Unreadable handle.old result handle.new }
 {
     let outcome = print(alloc, handle, text);
@@ -48,7 +48,7 @@ pub extern "C" fn tk_print(alloc: Global, handle: &mut Handle, text: &[u8]) -> i
 }
 
 fn set_title(alloc: Global, handle: &mut Handle, title: &[u8]) -> Result<(), Failure>
-    ensures text { IsUtf8 title.now → OrNoMemory (OnSurface (AddsOne (Title title.now)))
+    ensures text { IsUtf8 title.now → OrNoMemory (OnSurface (AddsChange (Title title.now)))
         (kept_of handle.old) result (kept_of handle.new) }
     ensures unreadable { ¬ (IsUtf8 title.now) → Refused Unreadable
         (kept_of handle.old) result (kept_of handle.new) }
@@ -61,7 +61,7 @@ fn set_title(alloc: Global, handle: &mut Handle, title: &[u8]) -> Result<(), Fai
 /// Sets the title.
 #[unsafe(no_mangle)]
 pub extern "C" fn tk_set_title(alloc: Global, handle: &mut Handle, title: &[u8]) -> i32
-    ensures text { IsUtf8 title.now → MakesCopy (Title title.now) handle.old result handle.new }
+    ensures text { IsUtf8 title.now → CallAddsCopy (Title title.now) handle.old result handle.new }
     ensures unreadable { ¬ (IsUtf8 title.now) → Leaves Unreadable handle.old result handle.new }
 {
     let outcome = set_title(alloc, handle, title);
@@ -69,7 +69,7 @@ pub extern "C" fn tk_set_title(alloc: Global, handle: &mut Handle, title: &[u8])
 }
 
 fn set_link(alloc: Global, handle: &mut Handle, uri: &[u8]) -> Result<(), Failure>
-    ensures text { IsUtf8 uri.now → OrNoMemory (OnSurface (AddsOne (link_to uri.now)))
+    ensures text { IsUtf8 uri.now → OrNoMemory (OnSurface (AddsChange (link_to uri.now)))
         (kept_of handle.old) result (kept_of handle.new) }
     ensures unreadable { ¬ (IsUtf8 uri.now) → Refused Unreadable
         (kept_of handle.old) result (kept_of handle.new) }
@@ -84,7 +84,7 @@ fn set_link(alloc: Global, handle: &mut Handle, uri: &[u8]) -> Result<(), Failur
 /// Gives the pen a link to this uri.
 #[unsafe(no_mangle)]
 pub extern "C" fn tk_set_link(alloc: Global, handle: &mut Handle, uri: &[u8]) -> i32
-    ensures text { IsUtf8 uri.now → MakesCopy (link_to uri.now) handle.old result handle.new }
+    ensures text { IsUtf8 uri.now → CallAddsCopy (link_to uri.now) handle.old result handle.new }
     ensures unreadable { ¬ (IsUtf8 uri.now) → Leaves Unreadable handle.old result handle.new }
 {
     let outcome = set_link(alloc, handle, uri);
@@ -94,7 +94,7 @@ pub extern "C" fn tk_set_link(alloc: Global, handle: &mut Handle, uri: &[u8]) ->
 /// Takes the link off the pen.
 #[unsafe(no_mangle)]
 pub extern "C" fn tk_clear_link(alloc: Global, handle: &mut Handle) -> i32
-    ensures { Makes (Attribute (values.Hyperlink None)) handle.old result handle.new }
+    ensures { CallAdds (Attribute (values.Hyperlink None)) handle.old result handle.new }
 {
     let change = AttributeChange::Hyperlink(None);
     status(add(alloc, handle, Change::Attribute(change)))

@@ -1,0 +1,181 @@
+//! One run of `surfsend`: from its words and its input to what it sends and its exit status.
+ghost use Rattle.std.specs.Prelude.{◌≡◌, ◌⊎◌, IfErr, IfOk, IfSome, IsErr, OnOk, drop};
+ghost use Rattle.std.specs.Io.KnownBytes.{Appends};
+ghost use Rattle.std.specs.List.{All};
+ghost use Rattle.sessions.specs.Answering.{AnswersAsAsked};
+ghost use Rattle.sessions.specs.Sending.{IsSendInRange, stream_of};
+ghost use Rattle.sessions.specs.Saying.{SaysSend};
+ghost use Rattle.sessions.specs.SendRun.{IsSendRun, WritesRun};
+ghost use Rattle.sessions.specs.Words.{AreRunWords, AreSendWords, IsInteractive};
+ghost use Rattle.sessions.specs.Lines.{Say};
+ghost use Rattle.sessions.specs.Status.{status_of};
+
+mod answering;
+pub mod runs;
+pub mod script;
+
+use crate::ending::{SessionError, bytes, write};
+use crate::printed::Printed;
+use crate::send::answering::answer_lines;
+use crate::send::runs::{SendEvent, SendOutcome, sent};
+use crate::send::script::read;
+use crate::words::{interactive_words, send_options};
+use std::alloc::Global;
+use std::io::{BufReader, Read, Write};
+
+/// The program's name and the words that it takes.
+pub const USAGE: &str = "surfsend [-i] [-s NUMBER] WIDTH HEIGHT";
+
+/// Runs the script that `input` holds on a surface of the size that `args` give, in columns and
+/// rows, and sends its answers to `out`, as those of the source that the number behind `-s` names,
+/// or of source 1. What is refused goes to `err`. With `-i` each line is done as soon as it has
+/// come, and may be an ask, whose answer is sent.
+///
+/// The result is the exit status: 0 where all is done, 2 for words that are no size, an input that
+/// can't be read or a bad command, and 3 for refused memory or a failed write. The line that says
+/// which goes to `err`, and a failed write has none. With status 2 nothing is written to `out`, or
+/// with `-i` what the lines before ask for.
+pub fn send_session<R: Read, O: Write, E: Write>(
+    alloc: Global,
+    args: &[String],
+    input: &mut R,
+    out: &mut O,
+    err: &mut E,
+) -> u8
+    ensures statuses { (result ≡ 0) ⊎ (result ≡ 2) ⊎ (result ≡ 3) }
+    ensures done { result ≡ 0 → AreRunWords args.now }
+    ensures refused { result ≡ 2 → IsInteractive args.now ⊎ (out.new ≡ out.old) }
+    ensures usage { AreRunWords args.now ⊎ ((input.new ≡ input.old) × (out.new ≡ out.old)) }
+    // Where the input and the output are known: what the script's lines send is written.
+    ensures sent { result ≡ 0 → IsInteractive args.now ⊎ WritesRun args.now
+        (R.remaining input.old) (O.contents out.old) (O.contents out.new) }
+    // And so are the answers that the lines ask for.
+    ensures answered { result ≡ 0 → IsInteractive args.now → AnswersAsAsked (drop 1 args.now)
+        (R.remaining input.old) (O.contents out.old) (O.contents out.new) }
+{
+    match interactive_words(args) {
+        Some(words) => answer_session(alloc, words, input, out, err),
+        None => script_session(alloc, args, input, out, err),
+    }
+}
+
+/// Sends the answers of the script that `input` holds, once it is read.
+fn script_session<R: Read, O: Write, E: Write>(
+    alloc: Global,
+    args: &[String],
+    input: &mut R,
+    out: &mut O,
+    err: &mut E,
+) -> u8
+    ensures statuses { (result ≡ 0) ⊎ (result ≡ 2) ⊎ (result ≡ 3) }
+    ensures done { result ≡ 0 → AreSendWords args.now }
+    ensures refused { result ≡ 2 → out.new ≡ out.old }
+    ensures usage { AreSendWords args.now ⊎ ((input.new ≡ input.old) × (out.new ≡ out.old)) }
+    ensures sent { result ≡ 0 → WritesRun args.now (R.remaining input.old)
+        (O.contents out.old) (O.contents out.new) }
+{
+    match outcomes(alloc, args, input) {
+        Ok(outcomes) => match send_each(alloc, outcomes.as_slice(), out, err) {
+            Ok(()) => 0,
+            Err(error) => error.report(USAGE, err),
+        },
+        Err(error) => error.report(USAGE, err),
+    }
+}
+
+/// Sends the answers that the lines of `input` ask for, as they come.
+fn answer_session<R: Read, O: Write, E: Write>(
+    alloc: Global,
+    words: &[String],
+    input: &mut R,
+    out: &mut O,
+    err: &mut E,
+) -> u8
+    ensures statuses { (result ≡ 0) ⊎ (result ≡ 2) ⊎ (result ≡ 3) }
+    ensures done { result ≡ 0 → AreSendWords words.now }
+    ensures usage { AreSendWords words.now ⊎ ((input.new ≡ input.old) × (out.new ≡ out.old)) }
+    ensures answered { result ≡ 0 → AnswersAsAsked words.now
+        (R.remaining input.old) (O.contents out.old) (O.contents out.new) }
+{
+    match answer(alloc, words, input, out, err) {
+        Ok(()) => 0,
+        Err(error) => error.report(USAGE, err),
+    }
+}
+
+/// Sends the answers that the lines of `input` ask for, on a surface of the width and the height
+/// that the words give.
+fn answer<R: Read, O: Write, E: Write>(
+    alloc: Global,
+    words: &[String],
+    input: &mut R,
+    out: &mut O,
+    err: &mut E,
+) -> Result<(), SessionError>
+    ensures usage { AreSendWords words.now
+        ⊎ (IsErr result × (input.new ≡ input.old) × (out.new ≡ out.old)) }
+    ensures answered { OnOk result (AnswersAsAsked words.now
+        (R.remaining input.old) (O.contents out.old) (O.contents out.new)) }
+{
+    let options = send_options(words).ok_or(SessionError::Usage)?;
+    let lines = BufReader::new(alloc, input).map_err(|_| SessionError::Memory)?;
+    answer_lines(alloc, options, lines, out, err)
+}
+
+/// What comes of the script that `input` holds, on a surface of the width and the height that the
+/// words give.
+fn outcomes<R: Read>(
+    alloc: Global,
+    args: &[String],
+    input: &mut R,
+) -> Result<Vec<SendOutcome>, SessionError>
+    ensures usage { AreSendWords args.now ⊎ (IsErr result × (input.new ≡ input.old)) }
+    ensures run { IfOk result (λ outcomes.
+        IsSendRun args.now (R.remaining input.old) outcomes.items) }
+{
+    let options = send_options(args).ok_or(SessionError::Usage)?;
+    let events = events(alloc, input)?;
+    let outcomes = sent(alloc, options.source, options.width, options.height, events)?;
+    Ok(outcomes)
+}
+
+/// The events of the script that `input` holds.
+fn events<R: Read>(alloc: Global, input: &mut R) -> Result<Vec<SendEvent>, SessionError>
+    ensures sizes { IfOk result (λ events. All IsSendInRange events.items) }
+    ensures said { IfOk result (λ events. IfSome (R.remaining input.old) (λ script.
+        Say SaysSend script events.items)) }
+{
+    let bytes = bytes(alloc, input)?;
+    let script = str::from_utf8(bytes.as_slice()).map_err(|_| SessionError::Unreadable)?;
+    let events = read(alloc, script)?;
+    Ok(events)
+}
+
+/// Sends each answer, and reports what was refused.
+pub(crate) fn send_each<O: Write, E: Write>(
+    alloc: Global,
+    outcomes: &[SendOutcome],
+    out: &mut O,
+    err: &mut E,
+) -> Result<(), SessionError>
+    ensures failed { IfErr result (λ error. status_of error ≡ 3) }
+    ensures sent { OnOk result (
+        Appends (O.contents out.old) (O.contents out.new) (stream_of outcomes.now)) }
+{
+    for outcome in outcomes {
+        match outcome {
+            SendOutcome::Of(outcome) => write(alloc, Printed(outcome), err)?,
+            SendOutcome::Sent(bytes) => send(bytes.as_slice(), out)?,
+        }
+    }
+    Ok(())
+}
+
+/// Writes an answer's bytes, and lets them go.
+fn send<O: Write>(bytes: &[u8], out: &mut O) -> Result<(), SessionError>
+    ensures failed { IfErr result (λ error. status_of error ≡ 3) }
+    ensures sent { OnOk result (Appends (O.contents out.old) (O.contents out.new) bytes.now) }
+{
+    out.write_all(bytes).map_err(|_| SessionError::Write)?;
+    out.flush().map_err(|_| SessionError::Write)
+}

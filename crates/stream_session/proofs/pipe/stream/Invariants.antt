@@ -1,6 +1,0 @@
-use Rattle.std.proofs.Common.{◌≡◌, take}
-use Rattle.stream_session.specs.Sending.{stream_of}
-use Rattle.stream_session.proofs.pipe.stream.Given as goal
-
-abbrev pub invariant-loop-outcome : goal.invariant-loop-outcome
-invariant-loop-outcome l = l.stream.items ≡ stream_of (take l.outcome-index l.outcomes)

@@ -1,7 +1,0 @@
-use Rattle.stream_session.proofs.Watched.{IsOn}
-use Rattle.stream_session.proofs.watching.watch.Given as goal
-
--- so many answers are taken, whose views are kept, and the other bytes are still to come
-abbrev pub invariant-loop-count : goal.invariant-loop-count
-invariant-loop-count g l =
-    IsOn l.fn.limits l.each (g.R.Read.remaining l.fn.input) l.views.items l.count l.watcher (g.R.Read.remaining l.input)

@@ -9,7 +9,7 @@ The words of the header are its own, and so are the names of parameters, the ord
 bytes are `char` or `uint8_t`; types, fields and numbers are those of the exports. A new export is
 declared at the header's end, with its documentation: put it where it belongs, and write its words.
 `tk_strerror` has to have a text for each status, which is written by hand.
-`ffi.rs` has the functions and statuses that the crate around it names.
+`ffi.rs` has the functions, statuses and kinds of changes that the crate around it names.
 """
 import argparse
 import re
@@ -23,7 +23,7 @@ MANIFEST = TOP / "bindings" / "rust" / "Cargo.toml"
 RUST = TOP / "bindings" / "rust" / "src"
 FFI = RUST / "ffi.rs"
 STRUCTS = {"Handle": "tk_handle", "ColorFields": "tk_color", "AttributeFields": "tk_attributes",
-           "CellFields": "tk_cell", "FaultFields": "tk_fault"}
+           "CellFields": "tk_cell", "ChangeFields": "tk_change", "FaultFields": "tk_fault"}
 PLAIN = {"usize": "size_t", "isize": "ptrdiff_t", "u8": "uint8_t", "i32": "tk_status",
          "bool": "bool"}
 IN_RUST = {"size_t": "usize", "ptrdiff_t": "isize", "uint8_t": "u8", "char": "u8", "void": "c_void",
@@ -31,7 +31,8 @@ IN_RUST = {"size_t": "usize", "ptrdiff_t": "isize", "uint8_t": "u8", "char": "u8
 # The prefixes of the header for enums that have numbers, and the names that differ.
 ENUMS = {"Failure": "", "Intensity": "INTENSITY_", "Underline": "UNDERLINE_", "Blink": "BLINK_",
          "SemanticType": "SEMANTIC_", "VerticalAlign": "ALIGN_", "CursorShape": "CURSOR_",
-         "LineAttribute": "LINE_", "ChosenWidths": "WIDTHS_", "ColorAttribute": "COLOR_"}
+         "LineAttribute": "LINE_", "ChosenWidths": "WIDTHS_", "ColorAttribute": "COLOR_",
+         "Kind": "CHANGE_"}
 NAMES = {"PaletteIndex": "PALETTE", "TrueColorWithDefaultFallback": "TRUE",
          "TrueColorWithPaletteFallback": "TRUE_OR_PALETTE"}
 DECLARATION = re.compile(r"^(tk_status|void) (tk_\w+)\(([^;{]*)\);", re.M)
@@ -45,12 +46,12 @@ def items(kind):
                 yield item
 
 
-def pointer(rust, is_bytes):
+def pointer(rust):
     """The type of C for a reference, as what is pointed to and whether it is only read."""
-    match = re.fullmatch(r"&(mut )?(\[u8\]|\w+)", rust)
+    match = re.fullmatch(r"&(mut )?\[?(\w+)\]?", rust)
     if not match:
         sys.exit(f"tools/abi.py: there is no type of C for {rust}")
-    to = "uint8_t" if is_bytes else STRUCTS.get(match.group(2)) or PLAIN[match.group(2)]
+    to = STRUCTS.get(match.group(2)) or PLAIN[match.group(2)]
     return ("" if match.group(1) else "const ") + to + " *"
 
 
@@ -67,8 +68,8 @@ def parameters(item):
         if rust in PLAIN:
             found.append((PLAIN[rust], name))
         else:
-            found.append((pointer(rust, "[u8]" in rust), name))
-            if "[u8]" in rust:
+            found.append((pointer(rust), name))
+            if "[" in rust:
                 found.append(("size_t", "room" if "mut" in rust else "len"))
     return found, PLAIN[result] if result else "void"
 
@@ -260,9 +261,10 @@ def ffi(text, made, known):
         used.update(re.findall(r"ffi::(\w+)", path.read_text()))
     text = structs(text, r"(pub struct {name} {{\n)(.*?)(}}\n)", lambda found, _: "".join(
         f"    pub {name}: {in_rust(kind)},\n" for kind, name in found))
-    statuses = "".join(f"pub const {name}: i32 = {number};\n"
-                       for name, number in known.items() if name in used)
-    text = re.sub(r"(pub const \w+: i32 = \d+;\n)+", lambda _: statuses, text, count=1)
+    constants = "".join(
+        f"pub const {name}: {'u8' if name.startswith('CHANGE_') else 'i32'} = {number};\n"
+        for name, number in known.items() if name in used)
+    text = re.sub(r"(pub const \w+: (i32|u8) = \d+;\n)+", lambda _: constants, text, count=1)
     calls = "\n".join(extern(name, *made[name]) for name in made if name in used)
     return re.sub(r'extern "C" \{\n.*?\n\}\n', lambda _: f'extern "C" {{\n{calls}\n}}\n', text,
                   count=1, flags=re.S)

@@ -9,7 +9,7 @@
 static int checks = 0;
 static int failures = 0;
 
-static void check(bool holds, const char *what, int line) {
+static inline void check(bool holds, const char *what, int line) {
     checks++;
     if (!holds) {
         failures++;
@@ -20,7 +20,7 @@ static void check(bool holds, const char *what, int line) {
 #define CHECK(what) check(what, #what, __LINE__)
 
 /* A surface with a number of its own. */
-static tk_handle made(size_t width, size_t height) {
+static inline tk_handle made(size_t width, size_t height) {
     static size_t source = 0;
     tk_handle surface = TK_NONE;
     source++;
@@ -29,7 +29,7 @@ static tk_handle made(size_t width, size_t height) {
     return surface;
 }
 
-static tk_handle made_client(void) {
+static inline tk_handle made_client(void) {
     tk_handle client = TK_NONE;
     check(tk_client_new(&client, TK_WIDTHS_UNICODE, TK_USUAL_CELLS, TK_USUAL_BYTES) == TK_DONE,
           "tk_client_new", __LINE__);
@@ -42,36 +42,36 @@ typedef struct bytes {
     size_t len;
 } bytes;
 
-static bytes ask_of(tk_handle *client) {
+static inline bytes ask_of(tk_handle *client) {
     bytes ask = {.len = 0};
     check(tk_client_ask(client, ask.at, 20, &ask.len) == TK_DONE, "tk_client_ask", __LINE__);
     return ask;
 }
 
 /* What the surface answers to the client. */
-static bytes answer_to(tk_handle *surface, tk_handle *client) {
+static inline bytes answer_to(tk_handle *surface, tk_handle *client) {
     bytes ask = ask_of(client), answer = {.len = 0};
     check(tk_respond(surface, ask.at, ask.len, answer.at, sizeof answer.at, &answer.len) == TK_DONE,
           "tk_respond", __LINE__);
     return answer;
 }
 
-static tk_status feed(tk_handle *client, const bytes *answer) {
+static inline tk_status feed(tk_handle *client, const bytes *answer) {
     tk_fault fault;
     return tk_client_feed(client, answer->at, answer->len, &fault);
 }
 
-static tk_status print(tk_handle *surface, const char *text) {
+static inline tk_status print(tk_handle *surface, const char *text) {
     return tk_print(surface, text, strlen(text));
 }
 
 /* Whether a text that a call gave is this one. */
-static bool is(tk_status status, const char *text, size_t len, const char *wanted) {
+static inline bool is(tk_status status, const char *text, size_t len, const char *wanted) {
     return status == TK_DONE && len == strlen(wanted) && memcmp(text, wanted, len) == 0;
 }
 
 /* Drops the blanks at the ends of rows, since a row may be stored without them. */
-static size_t trim(char *text, size_t len) {
+static inline size_t trim(char *text, size_t len) {
     size_t kept = 0, end = 0;
     for (size_t i = 0; i < len; i++) {
         if (text[i] == '\n')
@@ -83,56 +83,56 @@ static size_t trim(char *text, size_t len) {
     return end;
 }
 
-static bool row_is(tk_handle *handle, size_t row, const char *wanted) {
+static inline bool row_is(tk_handle *handle, size_t row, const char *wanted) {
     char text[256];
     size_t len = 0;
     tk_status status = tk_row_text(handle, row, text, sizeof text, &len);
     return is(status, text, trim(text, len), wanted);
 }
 
-static bool screen_is(tk_handle *handle, const char *wanted) {
+static inline bool screen_is(tk_handle *handle, const char *wanted) {
     char text[1024];
     size_t len = 0;
     tk_status status = tk_screen_text(handle, text, sizeof text, &len);
     return is(status, text, trim(text, len), wanted);
 }
 
-static bool title_is(tk_handle *handle, const char *wanted) {
+static inline bool title_is(tk_handle *handle, const char *wanted) {
     char text[64];
     size_t len = 0;
     tk_status status = tk_title(handle, text, sizeof text, &len);
     return is(status, text, len, wanted);
 }
 
-static bool link_is(tk_handle *handle, size_t column, size_t row, const char *wanted) {
+static inline bool link_is(tk_handle *handle, size_t column, size_t row, const char *wanted) {
     char uri[64];
     size_t len = 0;
     tk_status status = tk_link_at(handle, column, row, uri, sizeof uri, &len);
     return is(status, uri, len, wanted);
 }
 
-static bool cursor_is(tk_handle *handle, size_t column, size_t row) {
+static inline bool cursor_is(tk_handle *handle, size_t column, size_t row) {
     size_t x = 99, y = 99;
     return tk_cursor(handle, &x, &y) == TK_DONE && x == column && y == row;
 }
 
-static bool size_is(tk_handle *handle, size_t width, size_t height) {
+static inline bool size_is(tk_handle *handle, size_t width, size_t height) {
     size_t w = 99, h = 99;
     return tk_size(handle, &w, &h) == TK_DONE && w == width && h == height;
 }
 
-static bool number_is(tk_handle *handle, size_t wanted) {
+static inline bool number_is(tk_handle *handle, size_t wanted) {
     size_t number = 99;
     return tk_number(handle, &number) == TK_DONE && number == wanted;
 }
 
-static bool is_visible(tk_handle *handle, bool wanted) {
+static inline bool is_visible(tk_handle *handle, bool wanted) {
     bool visible = !wanted;
     return tk_cursor_is_visible(handle, &visible) == TK_DONE && visible == wanted;
 }
 
 /* The cell at this place, whose text has to be this one. */
-static tk_cell cell_at(tk_handle *handle, size_t column, size_t row, const char *wanted) {
+static inline tk_cell cell_at(tk_handle *handle, size_t column, size_t row, const char *wanted) {
     tk_cell cell;
     char text[64];
     size_t len = 0;
@@ -142,7 +142,7 @@ static tk_cell cell_at(tk_handle *handle, size_t column, size_t row, const char 
     return cell;
 }
 
-static bool same_color(tk_color a, tk_color b) {
+static inline bool same_color(tk_color a, tk_color b) {
     return a.kind == b.kind && a.red == b.red && a.green == b.green && a.blue == b.blue &&
            a.index == b.index;
 }

@@ -135,18 +135,56 @@ static void deliver(tk_handle *surface, tk_handle *client) {
     EXPECT(same_screens(surface, client));
 }
 
+/* Attributes of any numbers, of which most are in their ranges. */
+static tk_attributes random_attributes(void) {
+    tk_attributes attributes = TK_DEFAULT_ATTRIBUTES;
+    bool *flags[] = {&attributes.italic,    &attributes.reverse, &attributes.strikethrough,
+                     &attributes.invisible, &attributes.wrapped, &attributes.overline};
+    fill((uint8_t *)&attributes, sizeof attributes);
+    attributes.intensity %= 4;
+    attributes.underline %= 7;
+    attributes.blink %= 4;
+    attributes.semantic_type %= 4;
+    attributes.vertical_align %= 4;
+    for (size_t flag = 0; flag < sizeof flags / sizeof *flags; flag++)
+        memset(flags[flag], (int)below(2), sizeof *flags[flag]);
+    attributes.foreground.kind %= 5;
+    attributes.background.kind %= 5;
+    attributes.underline_color.kind %= 5;
+    return attributes;
+}
+
+/* A list of structs, each of some kind and with any numbers, and any bytes as their texts. */
+static tk_status add_random_structs(tk_handle *surface) {
+    tk_change list[4];
+    uint8_t texts[16];
+    size_t count = below(5), len = fill(texts, sizeof texts), left = len;
+    for (size_t i = 0; i < count; i++) {
+        size_t first = below(left + 1), second = below(4), third = below(12);
+        list[i] = (tk_change){(uint8_t)below(25), random_attributes(), first, second, third};
+        if (list[i].kind <= TK_CHANGE_LINK || list[i].kind == TK_CHANGE_PEN)
+            left -= first;
+        else if (below(16) == 0)
+            list[i].first = SIZE_MAX - below(4);
+    }
+    memset(texts, 'a', below(2) * sizeof texts);
+    return tk_add_changes(surface, list, count, (const char *)texts, len - left * below(2));
+}
+
 static void random_bytes(tk_handle *surface, tk_handle *client, size_t rounds) {
     uint8_t bytes[64], answer[1024];
     size_t answer_len;
     for (size_t round = 0; round < rounds; round++) {
         size_t len = fill(bytes, sizeof bytes);
         EXPECT(is_answered(feed(client, bytes, len)));
-        EXPECT(is_answered(tk_add_changes(surface, bytes, len)));
+        EXPECT(is_answered(tk_add_encoded(surface, bytes, len)));
         tk_status status = tk_respond(surface, bytes, len, answer, sizeof answer, &answer_len);
         EXPECT(is_answered(status) || status == TK_SHORT);
         len = random_answer(bytes);
         EXPECT(is_answered(feed(client, bytes, len)));
-        EXPECT(is_answered(tk_add_changes(surface, bytes + 7, len - 7)));
+        EXPECT(is_answered(tk_add_encoded(surface, bytes + 7, len - 7)));
+        status = add_random_structs(surface);
+        EXPECT(is_answered(status) || status == TK_RANGE);
         if (round % 64 == 0)
             deliver(surface, client);
     }
@@ -181,16 +219,16 @@ static void great_claims(tk_handle *surface, tk_handle *client) {
                                      0x7f, 255, 255, 255, 255, 255, 255, 255};
     static const uint8_t screen[] = {0x87, 2, 1, 0x1a, 255, 255, 255, 255, 0x1a,
                                      255,  255, 255, 255, 0,   1,   0x80};
-    EXPECT(tk_add_changes(surface, list, sizeof list) == TK_TRUNCATED);
-    EXPECT(tk_add_changes(surface, text, sizeof text) == TK_UNREADABLE);
+    EXPECT(tk_add_encoded(surface, list, sizeof list) == TK_TRUNCATED);
+    EXPECT(tk_add_encoded(surface, text, sizeof text) == TK_UNREADABLE);
     EXPECT(feed(client, answer, sizeof answer) == TK_UNREADABLE);
     EXPECT(feed(client, screen, sizeof screen) == TK_UNREADABLE);
-    EXPECT(tk_add_changes(surface, list, 0) == TK_TRUNCATED);
+    EXPECT(tk_add_encoded(surface, list, 0) == TK_TRUNCATED);
     EXPECT(feed(client, answer, 0) == TK_DONE);
     for (size_t depth = 0; depth < 64; depth++) { /* arrays in arrays */
         uint8_t nested[64];
         memset(nested, 0x81, sizeof nested);
-        EXPECT(tk_add_changes(surface, nested, depth) ==
+        EXPECT(tk_add_encoded(surface, nested, depth) ==
                (depth < 2 ? TK_TRUNCATED : TK_UNREADABLE));
         EXPECT(feed(client, nested, depth) == (depth < 2 ? TK_DONE : TK_UNREADABLE));
     }

@@ -1,4 +1,4 @@
-/* Calls every function of tikeburo.h: what it does, and each error that it names and that can be
+/* Calls every function of tikeburo.h but those for lists of changes (lists.c): what it does, and each error that it names and that can be
  * brought about. It ends with `N checks`, and with status 1 where any of them failed.
  *
  * Not brought about are TK_NUMBERS, for which 2^64 changes would be needed, and TK_MEMORY, which
@@ -22,6 +22,7 @@ static void test_structs(void) {
     CHECK(sizeof(tk_color) == 5);
     CHECK(sizeof(tk_attributes) == 26);
     CHECK(sizeof(tk_cell) == 28);
+    CHECK(sizeof(tk_change) == 56);
     CHECK(sizeof(tk_fault) == 24);
 }
 
@@ -333,32 +334,6 @@ static void test_draws(void) {
     tk_free(&screen);
 }
 
-static void test_change_lists(void) {
-    tk_handle surface = made(6, 2), none = TK_NONE;
-    const uint8_t nothing[] = {0x80};
-    const uint8_t hello[] = {0x82, 0x82, 2, 0x62, 'h', 'i', 0x82, 8, 6}; /* a text, a shape */
-    const uint8_t kana[] = {0x81, 0x83, 2, 0x63, 0xe3, 0x81, 0x8b, 0x83, 1, 1, 2};
-    const uint8_t no_pieces[] = {0x81, 0x82, 2, 0x63, 0xe3, 0x81, 0x8b};
-    const uint8_t region[] = {0x81, 0x84, 10, 1, 2, 1};
-    const uint8_t behind[] = {0x80, 0};
-    const uint8_t no_text[] = {0x81, 0x82, 2, 0x61, 0xff};
-    CHECK(tk_add_changes(&surface, nothing, sizeof nothing) == TK_DONE);
-    CHECK(number_is(&surface, 0));
-    CHECK(tk_add_changes(&surface, hello, sizeof hello) == TK_DONE);
-    CHECK(number_is(&surface, 2) && row_is(&surface, 0, "hi"));
-    for (size_t len = 0; len < sizeof hello; len++)
-        CHECK(tk_add_changes(&surface, hello, len) == TK_TRUNCATED);
-    CHECK(tk_add_changes(&surface, region, sizeof region) == TK_REGION);
-    CHECK(tk_add_changes(&surface, behind, sizeof behind) == TK_UNREADABLE);
-    CHECK(tk_add_changes(&surface, no_text, sizeof no_text) == TK_UNREADABLE);
-    CHECK(tk_add_changes(&surface, no_pieces, sizeof no_pieces) == TK_UNREADABLE);
-    CHECK(tk_add_changes(&none, hello, sizeof hello) == TK_NO_HANDLE);
-    CHECK(number_is(&surface, 2) && row_is(&surface, 0, "hi"));
-    CHECK(tk_add_changes(&surface, kana, sizeof kana) == TK_DONE);
-    CHECK(number_is(&surface, 3) && row_is(&surface, 0, "hiか"));
-    tk_free(&surface);
-}
-
 static void test_reads(void) {
     tk_handle surface = made(4, 2), none = TK_NONE;
     tk_cell cell = {.columns = 9};
@@ -560,7 +535,7 @@ static void test_follows(void) {
     CHECK(tk_follow(&none, &surface) == TK_NO_HANDLE);
     CHECK(tk_follow(&viewer, &none) == TK_NO_HANDLE);
     CHECK(tk_print(&viewer, "x", 1) == TK_WRONG_KIND);
-    CHECK(tk_add_changes(&viewer, (const uint8_t[]){0x80}, 1) == TK_WRONG_KIND);
+    CHECK(tk_add_encoded(&viewer, (const uint8_t[]){0x80}, 1) == TK_WRONG_KIND);
     CHECK(tk_set_italic(&viewer, true) == TK_WRONG_KIND);
     CHECK(tk_set_title(&viewer, "x", 1) == TK_WRONG_KIND);
     CHECK(tk_resize(&viewer, 2, 2) == TK_WRONG_KIND);
@@ -620,7 +595,6 @@ int main(void) {
     test_scrolls();
     test_states();
     test_draws();
-    test_change_lists();
     test_reads();
     test_streams();
     test_other_surface();

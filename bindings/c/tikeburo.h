@@ -1,10 +1,9 @@
 /* tikeburo.h: surfaces of a terminal, viewers and clients that show them, and the bytes between.
  *
- * A surface holds what a terminal's screen shows, with no terminal behind it. Changes go in, a
- * function each below, and any list of them as bytes. A viewer shows what a surface of its process
- * shows. A client shows what a surface of any process shows: it asks by bytes (tk_client_ask), the
- * surface answers by bytes (tk_respond), and tk_client_feed takes them, in whatever chunks they
- * come.
+ * A surface holds what a terminal's screen shows, with no terminal behind it. Changes go in, as a
+ * list of structs, one by one, or as bytes. A viewer shows what a surface of its process shows. A
+ * client shows what a surface of any process shows: it asks by bytes (tk_client_ask), the surface
+ * answers by bytes (tk_respond), and tk_client_feed takes them, in whatever chunks they come.
  *
  * What a caller keeps, and nothing checks:
  *
@@ -16,8 +15,9 @@
  *   value.
  * - One call at a time has a handle. A handle stays on its thread.
  * - Where a call takes two handles, they are two.
- * - A pointer is never NULL, also where its length is 0. A length is not above what lies
- *   at the pointer, buffers don't overlap, and nothing that a call reads is written meanwhile.
+ * - A pointer is never NULL, also where its length is 0, unless a call says that it may be. A
+ *   length is not above what lies at the pointer, buffers don't overlap, and nothing that a call
+ *   reads is written meanwhile.
  * - A bool is 0 or 1.
  * - malloc, realloc and free are those of one allocator, which aligns blocks as C's own does. No
  *   call comes from a signal handler, or from the forked child of a process with threads.
@@ -135,6 +135,10 @@ typedef struct tk_attributes {
     tk_color background;
     tk_color underline_color;
 } tk_attributes;
+#define TK_DEFAULT_COLOR { 0, 0, 0, 0, 0 }
+#define TK_DEFAULT_ATTRIBUTES \
+    { 0, 0, 0, 0, 0, false, false, false, false, false, false, TK_DEFAULT_COLOR, \
+      TK_DEFAULT_COLOR, TK_DEFAULT_COLOR }
 enum { TK_INTENSITY_NORMAL = 0, TK_INTENSITY_BOLD = 1, TK_INTENSITY_HALF = 2 };
 enum {
     TK_UNDERLINE_NONE = 0,
@@ -214,65 +218,69 @@ tk_status tk_link_at(tk_handle *handle, size_t column, size_t row, char *uri, si
 
 /* ---- Changes of a surface ----
  *
- * Each takes a surface, and is logged with a number, one above the one before. What no answer can
- * need is forgotten by itself, also where the call fails. TK_WRONG_KIND: the handle has another
- * kind. TK_NUMBERS: there is no number left. TK_MEMORY: either there was none for the change
- * itself, and nothing has changed, or the surface may show anything in its size, and its log is
- * empty. */
+ * Each call takes a surface. Each change is logged with a number, one above the one before. What no
+ * answer can need is forgotten by itself, also where the call fails. TK_WRONG_KIND: the handle has
+ * another kind. TK_NUMBERS: there are too few numbers left. TK_MEMORY: either there was none for
+ * the changes themselves, and nothing has changed, or the surface may show anything in its size,
+ * and its log is empty. */
 
-/* Prints a text at the cursor with the pen. CR goes to the first column, LF to the next row, and
- * other control characters of ASCII are spaces. TK_UNREADABLE. */
-tk_status tk_print(tk_handle *surface, const char *text, size_t len);
-
-/* Makes a list of changes, which these bytes encode: the array `[* change]` of docs/stream.cddl
- * and nothing after it. A text in it has the pieces that the surface cuts and measures: where they
- * aren't known, tk_print prints it. TK_TRUNCATED: the bytes end before the list does.
- * TK_UNREADABLE: they are wrong at a byte, or more follow the list. TK_REGION. */
-tk_status tk_add_changes(tk_handle *surface, const uint8_t *bytes, size_t len);
-
-/* Moves the cursor to this column and row; past the last ones is at the last ones. */
-tk_status tk_move_to(tk_handle *surface, size_t column, size_t row);
-
-/* Moves the cursor by so many columns and rows, below 0 to the left or up, as far as it goes. */
-tk_status tk_move_by(tk_handle *surface, ptrdiff_t columns, ptrdiff_t rows);
-
-/* Sets the whole pen, the attributes of coming texts, with no link. TK_RANGE: one of them. */
-tk_status tk_set_pen(tk_handle *surface, const tk_attributes *attributes);
-
-/* Changes one attribute of the pen. TK_RANGE: the value. */
-tk_status tk_set_intensity(tk_handle *surface, uint8_t intensity);
-tk_status tk_set_underline(tk_handle *surface, uint8_t underline);
-tk_status tk_set_blink(tk_handle *surface, uint8_t blink);
-tk_status tk_set_italic(tk_handle *surface, bool is_on);
-tk_status tk_set_reverse(tk_handle *surface, bool is_on);
-tk_status tk_set_strikethrough(tk_handle *surface, bool is_on);
-tk_status tk_set_invisible(tk_handle *surface, bool is_on);
-tk_status tk_set_foreground(tk_handle *surface, const tk_color *color);
-tk_status tk_set_background(tk_handle *surface, const tk_color *color);
-
-/* Gives the pen a link to this uri, or none. TK_UNREADABLE. */
-tk_status tk_set_link(tk_handle *surface, const char *uri, size_t len);
-tk_status tk_clear_link(tk_handle *surface);
-
-/* Clears all and goes home; from the cursor to its row's end; or from there to the last row's end.
- * What is cleared, and the pen, have this background and no other attribute. TK_RANGE: the
- * colour. */
-tk_status tk_clear_screen(tk_handle *surface, const tk_color *background);
-tk_status tk_clear_to_end_of_line(tk_handle *surface, const tk_color *background);
-tk_status tk_clear_to_end_of_screen(tk_handle *surface, const tk_color *background);
-
-/* Takes `count` rows, at most all, off the top or the bottom of the region of `rows` rows that
- * begins at `first`, and adds as many default ones at its other end. TK_REGION. */
-tk_status tk_scroll_up(tk_handle *surface, size_t first, size_t rows, size_t count);
-tk_status tk_scroll_down(tk_handle *surface, size_t first, size_t rows, size_t count);
-
-/* Sets the title. TK_UNREADABLE. */
-tk_status tk_set_title(tk_handle *surface, const char *title, size_t len);
-
-/* Shows the cursor or hides it, and sets its shape and its colour. TK_RANGE: shape or colour. */
-tk_status tk_show_cursor(tk_handle *surface, bool is_visible);
-tk_status tk_set_cursor_shape(tk_handle *surface, uint8_t shape);
-tk_status tk_set_cursor_color(tk_handle *surface, const tk_color *color);
+/* A change. Its kind says what of it is read. */
+typedef struct tk_change {
+    uint8_t kind; /* TK_CHANGE_TEXT .. */
+    tk_attributes attributes;
+    size_t first;
+    size_t second;
+    size_t third;
+} tk_change;
+enum {
+    /* The next `first` bytes of the list's texts: are printed at the cursor with the pen, where CR
+     * goes to the first column, LF to the next row, and other control characters of ASCII are
+     * spaces; are the title; or are the uri of the pen's link. */
+    TK_CHANGE_TEXT = 0,
+    TK_CHANGE_TITLE = 1,
+    TK_CHANGE_LINK = 2,
+    TK_CHANGE_NO_LINK = 3,
+    /* The pen, the attributes of coming texts, is `attributes`, with a link to the next `first`
+     * bytes of the texts where `first` isn't 0; or the pen has this one of the attributes. */
+    TK_CHANGE_PEN = 4,
+    TK_CHANGE_INTENSITY = 5,
+    TK_CHANGE_UNDERLINE = 6,
+    TK_CHANGE_BLINK = 7,
+    TK_CHANGE_ITALIC = 8,
+    TK_CHANGE_REVERSE = 9,
+    TK_CHANGE_STRIKETHROUGH = 10,
+    TK_CHANGE_INVISIBLE = 11,
+    TK_CHANGE_FOREGROUND = 12,
+    TK_CHANGE_BACKGROUND = 13,
+    /* The cursor goes to column `first` and row `second`, as far as it goes, which `third` says how
+     * to count: the sum of one of TK_COLUMN_* and one of TK_ROW_*. */
+    TK_CHANGE_MOVE = 14,
+    /* All is cleared, and the cursor goes home; or from the cursor to its row's end; or from there
+     * to the last row's end. What is cleared, and the pen, have the background of `attributes` and
+     * no other attribute. */
+    TK_CHANGE_CLEAR_SCREEN = 15,
+    TK_CHANGE_CLEAR_TO_END_OF_LINE = 16,
+    TK_CHANGE_CLEAR_TO_END_OF_SCREEN = 17,
+    /* `third` rows, at most all, are taken off the top or the bottom of the region of `second` rows
+     * that begins at row `first`, and as many default ones are added at its other end. */
+    TK_CHANGE_SCROLL_UP = 18,
+    TK_CHANGE_SCROLL_DOWN = 19,
+    /* The cursor is shown unless `first` is 0; has the shape of number `first`, TK_CURSOR_DEFAULT
+     * ..; or has the foreground of `attributes` as its colour. */
+    TK_CHANGE_CURSOR_VISIBILITY = 20,
+    TK_CHANGE_CURSOR_SHAPE = 21,
+    TK_CHANGE_CURSOR_COLOR = 22,
+    /* The cursor's line is shown as `first` says, TK_LINE_DOUBLE_HEIGHT_TOP_HALF .. */
+    TK_CHANGE_LINE_ATTRIBUTE = 23
+};
+/* From the first column or row on; from the cursor, where (size_t)-1 is one to the left or up; or
+ * so far from the end. */
+#define TK_COLUMN_ABSOLUTE ((size_t)0)
+#define TK_COLUMN_RELATIVE ((size_t)1)
+#define TK_COLUMN_FROM_END ((size_t)2)
+#define TK_ROW_ABSOLUTE ((size_t)0)
+#define TK_ROW_RELATIVE ((size_t)4)
+#define TK_ROW_FROM_END ((size_t)8)
 enum {
     TK_CURSOR_DEFAULT = 0,
     TK_CURSOR_BLINKING_BLOCK = 1,
@@ -282,15 +290,160 @@ enum {
     TK_CURSOR_BLINKING_BAR = 5,
     TK_CURSOR_STEADY_BAR = 6
 };
-
-/* Sets how large the cursor's line is shown. TK_RANGE. */
-tk_status tk_set_line_attribute(tk_handle *surface, uint8_t attribute);
 enum {
     TK_LINE_DOUBLE_HEIGHT_TOP_HALF = 0,
     TK_LINE_DOUBLE_HEIGHT_BOTTOM_HALF = 1,
     TK_LINE_DOUBLE_WIDTH = 2,
     TK_LINE_SINGLE_WIDTH = 3
 };
+
+/* Makes a list of changes in order, or none of them. Their texts stand behind one another in
+ * `texts`. By the first change that has a fault: TK_RANGE, its kind or another number is out of its
+ * range, or its text goes past the end of the texts; TK_UNREADABLE, its text is no UTF-8. After
+ * that TK_RANGE: texts are left. TK_REGION. */
+tk_status tk_add_changes(tk_handle *surface, const tk_change *changes, size_t count,
+                         const char *texts, size_t len);
+
+/* Makes a list of changes, which these bytes encode: the array `[* change]` of docs/stream.cddl
+ * and nothing after it. A text in it has the pieces that the surface cuts and measures: where they
+ * aren't known, tk_print prints it. TK_TRUNCATED: the bytes end before the list does.
+ * TK_UNREADABLE: they are wrong at a byte, or more follow the list. TK_REGION. */
+tk_status tk_add_encoded(tk_handle *surface, const uint8_t *bytes, size_t len);
+
+/* The calls from here on make one change each, of the kind above that has their name. A text may be
+ * NULL where its length is 0. */
+
+static inline tk_status tk_add_change(tk_handle *surface, tk_change change) {
+    return tk_add_changes(surface, &change, 1, "", 0);
+}
+
+static inline tk_status tk_add_text(tk_handle *surface, uint8_t kind, const char *text,
+                                    size_t len) {
+    tk_change change = { kind, TK_DEFAULT_ATTRIBUTES, len, 0, 0 };
+    return tk_add_changes(surface, &change, 1, text != NULL ? text : "", len);
+}
+
+static inline tk_status tk_add_pen(tk_handle *surface, uint8_t kind, tk_attributes attributes) {
+    tk_change change = { kind, attributes, 0, 0, 0 };
+    return tk_add_change(surface, change);
+}
+
+static inline tk_status tk_add_numbers(tk_handle *surface, uint8_t kind, size_t first,
+                                       size_t second, size_t third) {
+    tk_change change = { kind, TK_DEFAULT_ATTRIBUTES, first, second, third };
+    return tk_add_change(surface, change);
+}
+
+static inline tk_status tk_print(tk_handle *surface, const char *text, size_t len) {
+    return tk_add_text(surface, TK_CHANGE_TEXT, text, len);
+}
+static inline tk_status tk_set_title(tk_handle *surface, const char *title, size_t len) {
+    return tk_add_text(surface, TK_CHANGE_TITLE, title, len);
+}
+static inline tk_status tk_set_link(tk_handle *surface, const char *uri, size_t len) {
+    return tk_add_text(surface, TK_CHANGE_LINK, uri, len);
+}
+static inline tk_status tk_clear_link(tk_handle *surface) {
+    return tk_add_numbers(surface, TK_CHANGE_NO_LINK, 0, 0, 0);
+}
+
+/* To this column and row, or by so many, below 0 to the left or up. */
+static inline tk_status tk_move_to(tk_handle *surface, size_t column, size_t row) {
+    return tk_add_numbers(surface, TK_CHANGE_MOVE, column, row, 0);
+}
+static inline tk_status tk_move_by(tk_handle *surface, ptrdiff_t columns, ptrdiff_t rows) {
+    return tk_add_numbers(surface, TK_CHANGE_MOVE, (size_t)columns, (size_t)rows,
+                          TK_COLUMN_RELATIVE + TK_ROW_RELATIVE);
+}
+
+static inline tk_status tk_set_pen(tk_handle *surface, const tk_attributes *attributes) {
+    return tk_add_pen(surface, TK_CHANGE_PEN, *attributes);
+}
+static inline tk_status tk_set_intensity(tk_handle *surface, uint8_t intensity) {
+    tk_attributes attributes = TK_DEFAULT_ATTRIBUTES;
+    attributes.intensity = intensity;
+    return tk_add_pen(surface, TK_CHANGE_INTENSITY, attributes);
+}
+static inline tk_status tk_set_underline(tk_handle *surface, uint8_t underline) {
+    tk_attributes attributes = TK_DEFAULT_ATTRIBUTES;
+    attributes.underline = underline;
+    return tk_add_pen(surface, TK_CHANGE_UNDERLINE, attributes);
+}
+static inline tk_status tk_set_blink(tk_handle *surface, uint8_t blink) {
+    tk_attributes attributes = TK_DEFAULT_ATTRIBUTES;
+    attributes.blink = blink;
+    return tk_add_pen(surface, TK_CHANGE_BLINK, attributes);
+}
+static inline tk_status tk_set_italic(tk_handle *surface, bool is_on) {
+    tk_attributes attributes = TK_DEFAULT_ATTRIBUTES;
+    attributes.italic = is_on;
+    return tk_add_pen(surface, TK_CHANGE_ITALIC, attributes);
+}
+static inline tk_status tk_set_reverse(tk_handle *surface, bool is_on) {
+    tk_attributes attributes = TK_DEFAULT_ATTRIBUTES;
+    attributes.reverse = is_on;
+    return tk_add_pen(surface, TK_CHANGE_REVERSE, attributes);
+}
+static inline tk_status tk_set_strikethrough(tk_handle *surface, bool is_on) {
+    tk_attributes attributes = TK_DEFAULT_ATTRIBUTES;
+    attributes.strikethrough = is_on;
+    return tk_add_pen(surface, TK_CHANGE_STRIKETHROUGH, attributes);
+}
+static inline tk_status tk_set_invisible(tk_handle *surface, bool is_on) {
+    tk_attributes attributes = TK_DEFAULT_ATTRIBUTES;
+    attributes.invisible = is_on;
+    return tk_add_pen(surface, TK_CHANGE_INVISIBLE, attributes);
+}
+static inline tk_status tk_set_foreground(tk_handle *surface, const tk_color *color) {
+    tk_attributes attributes = TK_DEFAULT_ATTRIBUTES;
+    attributes.foreground = *color;
+    return tk_add_pen(surface, TK_CHANGE_FOREGROUND, attributes);
+}
+static inline tk_status tk_set_background(tk_handle *surface, const tk_color *color) {
+    tk_attributes attributes = TK_DEFAULT_ATTRIBUTES;
+    attributes.background = *color;
+    return tk_add_pen(surface, TK_CHANGE_BACKGROUND, attributes);
+}
+
+static inline tk_status tk_clear_screen(tk_handle *surface, const tk_color *background) {
+    tk_attributes attributes = TK_DEFAULT_ATTRIBUTES;
+    attributes.background = *background;
+    return tk_add_pen(surface, TK_CHANGE_CLEAR_SCREEN, attributes);
+}
+static inline tk_status tk_clear_to_end_of_line(tk_handle *surface, const tk_color *background) {
+    tk_attributes attributes = TK_DEFAULT_ATTRIBUTES;
+    attributes.background = *background;
+    return tk_add_pen(surface, TK_CHANGE_CLEAR_TO_END_OF_LINE, attributes);
+}
+static inline tk_status tk_clear_to_end_of_screen(tk_handle *surface, const tk_color *background) {
+    tk_attributes attributes = TK_DEFAULT_ATTRIBUTES;
+    attributes.background = *background;
+    return tk_add_pen(surface, TK_CHANGE_CLEAR_TO_END_OF_SCREEN, attributes);
+}
+
+static inline tk_status tk_scroll_up(tk_handle *surface, size_t first, size_t rows,
+                                     size_t count) {
+    return tk_add_numbers(surface, TK_CHANGE_SCROLL_UP, first, rows, count);
+}
+static inline tk_status tk_scroll_down(tk_handle *surface, size_t first, size_t rows,
+                                       size_t count) {
+    return tk_add_numbers(surface, TK_CHANGE_SCROLL_DOWN, first, rows, count);
+}
+
+static inline tk_status tk_show_cursor(tk_handle *surface, bool is_visible) {
+    return tk_add_numbers(surface, TK_CHANGE_CURSOR_VISIBILITY, is_visible, 0, 0);
+}
+static inline tk_status tk_set_cursor_shape(tk_handle *surface, uint8_t shape) {
+    return tk_add_numbers(surface, TK_CHANGE_CURSOR_SHAPE, shape, 0, 0);
+}
+static inline tk_status tk_set_cursor_color(tk_handle *surface, const tk_color *color) {
+    tk_attributes attributes = TK_DEFAULT_ATTRIBUTES;
+    attributes.foreground = *color;
+    return tk_add_pen(surface, TK_CHANGE_CURSOR_COLOR, attributes);
+}
+static inline tk_status tk_set_line_attribute(tk_handle *surface, uint8_t attribute) {
+    return tk_add_numbers(surface, TK_CHANGE_LINE_ATTRIBUTE, attribute, 0, 0);
+}
 
 /* Draws what the source shows, of any kind, from this column and row on. What doesn't fit
  * is left out. Cursor and pen are as before. It is logged as a list of changes. */

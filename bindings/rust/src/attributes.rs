@@ -173,6 +173,28 @@ impl Attributes {
     }
 }
 
+/// The attributes as the library reads them, without their link.
+impl From<&Attributes> for tk_attributes {
+    fn from(attributes: &Attributes) -> tk_attributes {
+        tk_attributes {
+            intensity: attributes.intensity as u8,
+            underline: attributes.underline as u8,
+            blink: attributes.blink as u8,
+            semantic_type: attributes.semantic_type as u8,
+            vertical_align: attributes.vertical_align as u8,
+            italic: attributes.italic,
+            reverse: attributes.reverse,
+            strikethrough: attributes.strikethrough,
+            invisible: attributes.invisible,
+            wrapped: attributes.wrapped,
+            overline: attributes.overline,
+            foreground: attributes.foreground.into(),
+            background: attributes.background.into(),
+            underline_color: attributes.underline_color.into(),
+        }
+    }
+}
+
 /// The value of this number in the header, which counts them in this order.
 fn at<T: Copy + Default>(all: &[T], number: u8) -> T {
     all.get(usize::from(number)).copied().unwrap_or_default()

@@ -116,25 +116,6 @@ pub enum Change {
     LineAttribute(LineAttribute),
 }
 
-impl Change {
-    /// How many rows a surface has at least that can make it: a scroll's region ends there.
-    pub(crate) fn rows(&self) -> usize {
-        match self {
-            Change::ScrollRegionUp {
-                first_row,
-                region_size,
-                ..
-            }
-            | Change::ScrollRegionDown {
-                first_row,
-                region_size,
-                ..
-            } => first_row.saturating_add(*region_size),
-            _ => 0,
-        }
-    }
-}
-
 impl<T: Into<String>> From<T> for Change {
     fn from(text: T) -> Change {
         Change::Text(text.into())

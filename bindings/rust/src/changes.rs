@@ -1,18 +1,16 @@
 //! Lists of changes that are made in place.
 
-use crate::attributes::{AttributeChange, Attributes, Blink, Intensity, Underline};
+use crate::attributes::{AttributeChange, Attributes, Blink, Hyperlink, Intensity, Underline};
 use crate::change::{Change, CursorShape, CursorVisibility, LineAttribute, Position};
 use crate::color::ColorAttribute;
-use crate::encode::Encoder;
-use crate::head::{self, ARRAY};
+use crate::ffi::{self, tk_attributes, tk_change};
 use std::fmt;
 
 /// A list of changes that is made in place: each call appends one, and
 /// [`Surface::add`](crate::Surface::add) makes them in order.
 ///
-/// The list is the bytes that the library takes, so that no change has memory of its own, and the
-/// library is called once for all changes between two texts that aren't ASCII. A list that is
-/// [cleared](Changes::clear) keeps its memory for the next ones.
+/// No change has memory of its own, and the library is called once for the whole list. A list that
+/// is [cleared](Changes::clear) keeps its memory for the next ones.
 ///
 /// `write!` appends one text. It fails only where what it formats does, and then appends nothing.
 ///
@@ -32,49 +30,9 @@ use std::fmt;
 /// ```
 #[derive(Clone, PartialEq, Eq, Default)]
 pub struct Changes {
-    /// Behind one another, what the runs have.
-    out: Encoder,
-    runs: Vec<Stretch>,
-    len: usize,
-    rows: usize,
-    /// Where a text is formatted. It is empty between calls.
-    formatted: String,
-}
-
-/// Where a run is in the bytes. It ends where the next one begins.
-#[derive(Clone, PartialEq, Eq)]
-enum Stretch {
-    /// A text to be printed, since the library has to cut and measure it.
-    Text { begin: usize },
-    /// So many changes. They begin with room for the head of their array, which ends that room.
-    List {
-        begin: usize,
-        head: usize,
-        count: usize,
-    },
-}
-
-impl Stretch {
-    fn begin(&self) -> usize {
-        match self {
-            Stretch::Text { begin } | Stretch::List { begin, .. } => *begin,
-        }
-    }
-
-    fn run<'a>(&self, bytes: &'a [u8], end: usize) -> Run<'a> {
-        match self {
-            Stretch::Text { begin } => Run::Text(&bytes[*begin..end]),
-            Stretch::List { head, .. } => Run::List(&bytes[*head..end]),
-        }
-    }
-}
-
-/// What one call of the library takes.
-pub(crate) enum Run<'a> {
-    /// A text, as UTF-8.
-    Text(&'a [u8]),
-    /// A list of changes.
-    List(&'a [u8]),
+    list: Vec<tk_change>,
+    /// The texts of all changes, behind one another.
+    texts: String,
 }
 
 impl Changes {
@@ -87,42 +45,52 @@ impl Changes {
     /// How many changes it has.
     #[must_use]
     pub fn len(&self) -> usize {
-        self.len
+        self.list.len()
     }
 
     /// Whether it has none.
     #[must_use]
     pub fn is_empty(&self) -> bool {
-        self.len == 0
+        self.list.is_empty()
     }
 
     /// Drops all changes, and keeps their memory.
     pub fn clear(&mut self) {
-        self.out.0.clear();
-        self.runs.clear();
-        self.len = 0;
-        self.rows = 0;
+        self.list.clear();
+        self.texts.clear();
     }
 
     /// Appends a change.
     pub fn push(&mut self, change: &Change) -> &mut Changes {
-        self.rows = self.rows.max(change.rows());
         match change {
+            Change::Attribute(change) => self.attribute(change),
+            Change::AllAttributes(attributes) => self.pen(attributes),
             Change::Text(text) => self.text(text),
-            _ => self.item(|out| out.change(change)),
+            Change::ClearScreen(color) => self.clear_screen(*color),
+            Change::ClearToEndOfLine(color) => self.clear_to_end_of_line(*color),
+            Change::ClearToEndOfScreen(color) => self.clear_to_end_of_screen(*color),
+            Change::CursorPosition { x, y } => self.position(*x, *y),
+            Change::CursorColor(color) => self.cursor_color(*color),
+            Change::CursorShape(shape) => self.cursor_shape(*shape),
+            Change::CursorVisibility(visibility) => self.cursor_visibility(*visibility),
+            Change::ScrollRegionUp {
+                first_row,
+                region_size,
+                scroll_count,
+            } => self.scroll_up(*first_row, *region_size, *scroll_count),
+            Change::ScrollRegionDown {
+                first_row,
+                region_size,
+                scroll_count,
+            } => self.scroll_down(*first_row, *region_size, *scroll_count),
+            Change::Title(title) => self.title(title),
+            Change::LineAttribute(attribute) => self.line_attribute(*attribute),
         }
     }
 
     /// Prints a text at the cursor, as [`Change::Text`].
     pub fn text(&mut self, text: &str) -> &mut Changes {
-        if text.bytes().all(has_one_column) {
-            return self.item(|out| out.print(text));
-        }
-        let begin = self.out.0.len();
-        self.runs.push(Stretch::Text { begin });
-        self.out.0.extend_from_slice(text.as_bytes());
-        self.len += 1;
-        self
+        self.with_text(ffi::CHANGE_TEXT, text)
     }
 
     /// Prints a text, as `write!` passes it.
@@ -131,19 +99,22 @@ impl Changes {
     ///
     /// What is formatted fails, and nothing is appended.
     pub fn write_fmt(&mut self, arguments: fmt::Arguments<'_>) -> fmt::Result {
-        let mut text = std::mem::take(&mut self.formatted);
-        let written = fmt::write(&mut text, arguments);
+        let begin = self.texts.len();
+        let written = fmt::write(&mut self.texts, arguments);
         if written.is_ok() {
-            self.text(&text);
+            let len = self.texts.len() - begin;
+            self.with_numbers(ffi::CHANGE_TEXT, [len, 0, 0]);
+        } else {
+            self.texts.truncate(begin);
         }
-        text.clear();
-        self.formatted = text;
         written
     }
 
     /// Moves the cursor, as far as it goes.
     pub fn position(&mut self, x: Position, y: Position) -> &mut Changes {
-        self.push(&Change::CursorPosition { x, y })
+        let (column, from) = counted(x);
+        let (row, row_from) = counted(y);
+        self.with_numbers(ffi::CHANGE_MOVE, [column, row, from + 4 * row_from])
     }
 
     /// Moves the cursor to this column and row; past the last ones is at the last ones.
@@ -158,12 +129,61 @@ impl Changes {
 
     /// Sets the whole pen, the attributes of coming texts.
     pub fn pen(&mut self, attributes: &Attributes) -> &mut Changes {
-        self.item(|out| out.attributes_change(attributes))
+        let uri = attributes.hyperlink.as_ref().map_or("", Hyperlink::uri);
+        self.texts.push_str(uri);
+        self.list.push(tk_change {
+            kind: ffi::CHANGE_PEN,
+            attributes: attributes.into(),
+            first: uri.len(),
+            ..tk_change::default()
+        });
+        self
     }
 
     /// Sets one attribute of the pen.
     pub fn attribute(&mut self, change: &AttributeChange) -> &mut Changes {
-        self.item(|out| out.attribute_change(change))
+        let mut fields = tk_attributes::default();
+        let kind = match change {
+            AttributeChange::Intensity(value) => {
+                fields.intensity = *value as u8;
+                ffi::CHANGE_INTENSITY
+            }
+            AttributeChange::Underline(value) => {
+                fields.underline = *value as u8;
+                ffi::CHANGE_UNDERLINE
+            }
+            AttributeChange::Italic(is_on) => {
+                fields.italic = *is_on;
+                ffi::CHANGE_ITALIC
+            }
+            AttributeChange::Blink(value) => {
+                fields.blink = *value as u8;
+                ffi::CHANGE_BLINK
+            }
+            AttributeChange::Reverse(is_on) => {
+                fields.reverse = *is_on;
+                ffi::CHANGE_REVERSE
+            }
+            AttributeChange::StrikeThrough(is_on) => {
+                fields.strikethrough = *is_on;
+                ffi::CHANGE_STRIKETHROUGH
+            }
+            AttributeChange::Invisible(is_on) => {
+                fields.invisible = *is_on;
+                ffi::CHANGE_INVISIBLE
+            }
+            AttributeChange::Foreground(color) => {
+                fields.foreground = (*color).into();
+                ffi::CHANGE_FOREGROUND
+            }
+            AttributeChange::Background(color) => {
+                fields.background = (*color).into();
+                ffi::CHANGE_BACKGROUND
+            }
+            AttributeChange::Hyperlink(Some(link)) => return self.link(link.uri()),
+            AttributeChange::Hyperlink(None) => return self.no_link(),
+        };
+        self.with_attributes(kind, fields)
     }
 
     /// Sets how bold coming texts are.
@@ -213,110 +233,117 @@ impl Changes {
 
     /// Gives them a link to this uri.
     pub fn link(&mut self, uri: &str) -> &mut Changes {
-        self.item(|out| out.link_change(Some(uri)))
+        self.with_text(ffi::CHANGE_LINK, uri)
     }
 
     /// Gives them no link.
     pub fn no_link(&mut self) -> &mut Changes {
-        self.item(|out| out.link_change(None))
+        self.with_numbers(ffi::CHANGE_NO_LINK, [0; 3])
     }
 
     /// Clears all and goes home. What is cleared, and the pen, have this background and no other
     /// attribute, here and at the other clears.
     pub fn clear_screen(&mut self, background: ColorAttribute) -> &mut Changes {
-        self.push(&Change::ClearScreen(background))
+        self.with_background(ffi::CHANGE_CLEAR_SCREEN, background)
     }
 
     /// Clears from the cursor to its row's end.
     pub fn clear_to_end_of_line(&mut self, background: ColorAttribute) -> &mut Changes {
-        self.push(&Change::ClearToEndOfLine(background))
+        self.with_background(ffi::CHANGE_CLEAR_TO_END_OF_LINE, background)
     }
 
     /// Clears from the cursor to the last row's end.
     pub fn clear_to_end_of_screen(&mut self, background: ColorAttribute) -> &mut Changes {
-        self.push(&Change::ClearToEndOfScreen(background))
+        self.with_background(ffi::CHANGE_CLEAR_TO_END_OF_SCREEN, background)
     }
 
     /// Takes `count` rows, at most all, off the top of the region of `rows` rows that begins at
     /// `first`, and adds as many default ones at its bottom.
     pub fn scroll_up(&mut self, first: usize, rows: usize, count: usize) -> &mut Changes {
-        self.push(&Change::ScrollRegionUp {
-            first_row: first,
-            region_size: rows,
-            scroll_count: count,
-        })
+        self.with_numbers(ffi::CHANGE_SCROLL_UP, [first, rows, count])
     }
 
     /// Takes them off the bottom, and adds as many at the top.
     pub fn scroll_down(&mut self, first: usize, rows: usize, count: usize) -> &mut Changes {
-        self.push(&Change::ScrollRegionDown {
-            first_row: first,
-            region_size: rows,
-            scroll_count: count,
-        })
+        self.with_numbers(ffi::CHANGE_SCROLL_DOWN, [first, rows, count])
     }
 
     /// Sets the title.
     pub fn title(&mut self, title: &str) -> &mut Changes {
-        self.item(|out| out.title(title))
+        self.with_text(ffi::CHANGE_TITLE, title)
     }
 
     /// Shows or hides the cursor.
     pub fn cursor_visibility(&mut self, visibility: CursorVisibility) -> &mut Changes {
-        self.push(&Change::CursorVisibility(visibility))
+        let is_visible = visibility == CursorVisibility::Visible;
+        self.with_numbers(ffi::CHANGE_CURSOR_VISIBILITY, [is_visible.into(), 0, 0])
     }
 
     /// Sets the cursor's shape.
     pub fn cursor_shape(&mut self, shape: CursorShape) -> &mut Changes {
-        self.push(&Change::CursorShape(shape))
+        self.with_numbers(ffi::CHANGE_CURSOR_SHAPE, [shape as usize, 0, 0])
     }
 
     /// Sets the cursor's colour.
     pub fn cursor_color(&mut self, color: ColorAttribute) -> &mut Changes {
-        self.push(&Change::CursorColor(color))
+        let fields = tk_attributes {
+            foreground: color.into(),
+            ..tk_attributes::default()
+        };
+        self.with_attributes(ffi::CHANGE_CURSOR_COLOR, fields)
     }
 
     /// Sets how large the cursor's line is shown.
     pub fn line_attribute(&mut self, attribute: LineAttribute) -> &mut Changes {
-        self.push(&Change::LineAttribute(attribute))
+        self.with_numbers(ffi::CHANGE_LINE_ATTRIBUTE, [attribute as usize, 0, 0])
     }
 
-    /// Appends what encodes one change, to the list that the last run is or to a new one.
-    fn item(&mut self, encode: impl FnOnce(&mut Encoder)) -> &mut Changes {
-        if !matches!(self.runs.last(), Some(Stretch::List { .. })) {
-            let (begin, head, count) = (self.out.0.len(), 0, 0);
-            self.out.0.extend_from_slice(&[0; head::ROOM]);
-            self.runs.push(Stretch::List { begin, head, count });
-        }
-        encode(&mut self.out);
-        if let Some(Stretch::List { begin, head, count }) = self.runs.last_mut() {
-            *count += 1;
-            let room = &mut self.out.0[*begin..*begin + head::ROOM];
-            *head = *begin + head::put_last(room, ARRAY, *count as u64);
-        }
-        self.len += 1;
+    fn with_text(&mut self, kind: u8, text: &str) -> &mut Changes {
+        self.texts.push_str(text);
+        self.with_numbers(kind, [text.len(), 0, 0])
+    }
+
+    fn with_numbers(&mut self, kind: u8, [first, second, third]: [usize; 3]) -> &mut Changes {
+        self.list.push(tk_change {
+            kind,
+            first,
+            second,
+            third,
+            ..tk_change::default()
+        });
         self
     }
 
-    /// How many rows a surface has at least that can make them.
-    pub(crate) fn rows(&self) -> usize {
-        self.rows
+    fn with_attributes(&mut self, kind: u8, attributes: tk_attributes) -> &mut Changes {
+        self.list.push(tk_change {
+            kind,
+            attributes,
+            ..tk_change::default()
+        });
+        self
     }
 
-    /// What the calls of the library take, in order.
-    pub(crate) fn runs(&self) -> impl Iterator<Item = Run<'_>> {
-        let bytes = &self.out.0;
-        let ends = self.runs.iter().skip(1).map(Stretch::begin);
-        let ends = ends.chain([bytes.len()]);
-        let runs = self.runs.iter().zip(ends);
-        runs.map(|(stretch, end)| stretch.run(bytes, end))
+    fn with_background(&mut self, kind: u8, background: ColorAttribute) -> &mut Changes {
+        let fields = tk_attributes {
+            background: background.into(),
+            ..tk_attributes::default()
+        };
+        self.with_attributes(kind, fields)
+    }
+
+    /// What the library takes: the changes, and their texts behind one another.
+    pub(crate) fn as_parts(&self) -> (&[tk_change], &str) {
+        (&self.list, &self.texts)
     }
 }
 
-/// Whether a character of ASCII is printed in one column, or a line break. Of a text of these alone
-/// nobody has to say how it is cut and measured.
-fn has_one_column(byte: u8) -> bool {
-    matches!(byte, b' '..=b'~' | b'\r' | b'\n')
+/// A position's number, and from where it is counted, as the header has it.
+fn counted(position: Position) -> (usize, usize) {
+    match position {
+        Position::Absolute(place) => (place, 0),
+        Position::Relative(distance) => (distance as usize, 1),
+        Position::EndRelative(distance) => (distance, 2),
+    }
 }
 
 impl<'a> Extend<&'a Change> for Changes {
@@ -354,7 +381,7 @@ impl FromIterator<Change> for Changes {
 impl fmt::Debug for Changes {
     fn fmt(&self, f: &mut fmt::Formatter<'_>) -> fmt::Result {
         f.debug_struct("Changes")
-            .field("len", &self.len)
+            .field("len", &self.len())
             .finish_non_exhaustive()
     }
 }
@@ -363,57 +390,15 @@ impl fmt::Debug for Changes {
 mod tests {
     use super::*;
 
-    /// What the calls of the library take: a text after `T`, and a list after `L`.
-    fn runs(changes: &Changes) -> Vec<Vec<u8>> {
-        let run = |run| match run {
-            Run::Text(text) => [b"T", text].concat(),
-            Run::List(bytes) => [b"L", bytes].concat(),
-        };
-        changes.runs().map(run).collect()
-    }
-
     #[test]
-    fn one_list_has_all_that_is_ascii() {
+    fn texts_stand_behind_one_another() {
         let mut changes = Changes::new();
-        assert!(runs(&changes).is_empty());
-        changes.text("a\r\n").italic(true).text("");
-        assert_eq!(
-            runs(&changes),
-            [b"L\x83\x82\x02\x63a\r\n\x82\x00\x82\x02\xf5\x82\x02\x60"]
-        );
-        assert_eq!(changes.len(), 3);
-    }
-
-    #[test]
-    fn other_texts_stand_alone() {
-        let mut changes = Changes::new();
-        for text in ["か", "\t", "x", "\x7f"] {
-            changes.text(text);
-        }
-        changes.title("か");
-        let wanted: [&[u8]; 5] = [
-            "Tか".as_bytes(),
-            b"T\t",
-            b"L\x81\x82\x02\x61x",
-            b"T\x7f",
-            b"L\x81\x82\x0c\x63\xe3\x81\x8b",
-        ];
-        assert_eq!(runs(&changes), wanted);
-        assert_eq!(changes.len(), 5);
-    }
-
-    #[test]
-    fn heads_are_the_shortest_at_any_length() {
-        let mut changes = Changes::new();
-        for count in 1..=300 {
-            changes.cursor_visibility(CursorVisibility::Hidden);
-            let mut bytes = b"L".to_vec();
-            head::put(&mut bytes, ARRAY, count);
-            for _ in 0..count {
-                bytes.extend_from_slice(b"\x82\x09\xf4");
-            }
-            assert_eq!(runs(&changes), [bytes]);
-        }
+        changes.text("か").italic(true).title("b").text("");
+        let (list, texts) = changes.as_parts();
+        assert_eq!(texts, "かb");
+        let lens: Vec<_> = list.iter().map(|change| change.first).collect();
+        assert_eq!(lens, [3, 0, 1, 0]);
+        assert_eq!(changes.len(), 4);
     }
 
     #[test]
@@ -444,9 +429,18 @@ mod tests {
     fn a_cleared_list_is_a_new_one() {
         let mut changes = Changes::new();
         changes.scroll_up(1, usize::MAX, 1).text("か").text("x");
-        assert_eq!(changes.rows(), usize::MAX);
         changes.clear();
         assert_eq!(changes, Changes::new());
-        assert_eq!(changes.rows(), 0);
+    }
+
+    #[test]
+    fn a_distance_may_be_negative() {
+        let mut changes = Changes::new();
+        changes.position(Position::Relative(-1), Position::EndRelative(2));
+        let (list, _) = changes.as_parts();
+        assert_eq!(
+            [list[0].first, list[0].second, list[0].third],
+            [usize::MAX, 2, 9]
+        );
     }
 }

@@ -11,6 +11,30 @@ pub const REGION: i32 = 4;
 pub const NUMBERS: i32 = 5;
 pub const RANGE: i32 = 8;
 pub const SHORT: i32 = 9;
+pub const CHANGE_TEXT: u8 = 0;
+pub const CHANGE_TITLE: u8 = 1;
+pub const CHANGE_LINK: u8 = 2;
+pub const CHANGE_NO_LINK: u8 = 3;
+pub const CHANGE_PEN: u8 = 4;
+pub const CHANGE_INTENSITY: u8 = 5;
+pub const CHANGE_UNDERLINE: u8 = 6;
+pub const CHANGE_BLINK: u8 = 7;
+pub const CHANGE_ITALIC: u8 = 8;
+pub const CHANGE_REVERSE: u8 = 9;
+pub const CHANGE_STRIKETHROUGH: u8 = 10;
+pub const CHANGE_INVISIBLE: u8 = 11;
+pub const CHANGE_FOREGROUND: u8 = 12;
+pub const CHANGE_BACKGROUND: u8 = 13;
+pub const CHANGE_MOVE: u8 = 14;
+pub const CHANGE_CLEAR_SCREEN: u8 = 15;
+pub const CHANGE_CLEAR_TO_END_OF_LINE: u8 = 16;
+pub const CHANGE_CLEAR_TO_END_OF_SCREEN: u8 = 17;
+pub const CHANGE_SCROLL_UP: u8 = 18;
+pub const CHANGE_SCROLL_DOWN: u8 = 19;
+pub const CHANGE_CURSOR_VISIBILITY: u8 = 20;
+pub const CHANGE_CURSOR_SHAPE: u8 = 21;
+pub const CHANGE_CURSOR_COLOR: u8 = 22;
+pub const CHANGE_LINE_ATTRIBUTE: u8 = 23;
 
 #[repr(C)]
 pub struct tk_handle {
@@ -19,7 +43,7 @@ pub struct tk_handle {
 }
 
 #[repr(C)]
-#[derive(Clone, Copy, Default)]
+#[derive(Clone, Copy, PartialEq, Eq, Default)]
 pub struct tk_color {
     pub kind: u8,
     pub red: u8,
@@ -29,7 +53,7 @@ pub struct tk_color {
 }
 
 #[repr(C)]
-#[derive(Default)]
+#[derive(Clone, Copy, PartialEq, Eq, Default)]
 pub struct tk_attributes {
     pub intensity: u8,
     pub underline: u8,
@@ -53,6 +77,16 @@ pub struct tk_cell {
     pub columns: u8,
     pub has_link: bool,
     pub attributes: tk_attributes,
+}
+
+#[repr(C)]
+#[derive(Clone, Copy, PartialEq, Eq, Default)]
+pub struct tk_change {
+    pub kind: u8,
+    pub attributes: tk_attributes,
+    pub first: usize,
+    pub second: usize,
+    pub third: usize,
 }
 
 #[repr(C)]
@@ -109,8 +143,13 @@ extern "C" {
         room: usize,
         len: *mut usize,
     ) -> i32;
-    pub fn tk_print(surface: *mut tk_handle, text: *const u8, len: usize) -> i32;
-    pub fn tk_add_changes(surface: *mut tk_handle, bytes: *const u8, len: usize) -> i32;
+    pub fn tk_add_changes(
+        surface: *mut tk_handle,
+        changes: *const tk_change,
+        count: usize,
+        texts: *const u8,
+        len: usize,
+    ) -> i32;
     pub fn tk_draw(
         surface: *mut tk_handle,
         source: *mut tk_handle,
@@ -164,6 +203,7 @@ mod tests {
         assert_eq!(size_of::<tk_color>(), 5);
         assert_eq!(size_of::<tk_attributes>(), 26);
         assert_eq!(size_of::<tk_cell>(), 28);
+        assert_eq!(size_of::<tk_change>(), 56);
         assert_eq!(size_of::<tk_fault>(), 24);
     }
 }

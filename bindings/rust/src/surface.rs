@@ -1,11 +1,10 @@
 //! Surfaces.
 
 use crate::change::{Change, SequenceNo};
-use crate::changes::{Changes, Run};
+use crate::changes::Changes;
 use crate::client::Ask;
-use crate::encode;
 use crate::error::Error;
-use crate::ffi;
+use crate::ffi::{self, tk_change};
 use crate::handle::{self, Handle};
 use crate::rows::{Row, Rows};
 use crate::screen::Screen;
@@ -107,7 +106,9 @@ impl Surface {
     /// surface may show anything in its size.
     pub fn add_change(&mut self, change: impl Into<Change>) -> Result<SequenceNo, Error> {
         let number = self.current_seqno();
-        self.make(&[change.into()])?;
+        let mut changes = Changes::new();
+        changes.push(&change.into());
+        self.add(&changes)?;
         Ok(number)
     }
 
@@ -117,8 +118,7 @@ impl Surface {
     /// # Errors
     ///
     /// [`Error::ScrollRegion`]: the region of a scroll goes past the last row, and nothing has
-    /// changed. [`Error::Numbers`] and [`Error::Memory`], as of [`Surface::add_change`]: the first
-    /// changes may have been made too.
+    /// changed. [`Error::Numbers`] and [`Error::Memory`], as of [`Surface::add_change`].
     ///
     /// # Examples
     ///
@@ -133,13 +133,7 @@ impl Surface {
     /// # Ok::<(), Error>(())
     /// ```
     pub fn add_changes(&mut self, changes: &[Change]) -> Result<SequenceNo, Error> {
-        let (_, height) = self.dimensions();
-        if changes.iter().any(|change| change.rows() > height) {
-            return Err(Error::ScrollRegion);
-        }
-        let number = self.current_seqno();
-        self.make(changes)?;
-        Ok(number.saturating_sub(1) + changes.len())
+        self.add(&changes.iter().collect())
     }
 
     /// Makes the changes of a list, as [`Surface::add_changes`] makes those of a slice.
@@ -161,50 +155,40 @@ impl Surface {
     /// # Ok::<(), Error>(())
     /// ```
     pub fn add(&mut self, changes: &Changes) -> Result<SequenceNo, Error> {
-        let (_, height) = self.dimensions();
-        if changes.rows() > height {
-            return Err(Error::ScrollRegion);
-        }
         let number = self.current_seqno();
-        for run in changes.runs() {
-            match run {
-                Run::Text(text) => self.print(text)?,
-                Run::List(bytes) => self.add_bytes(bytes)?,
-            }
-        }
+        let (list, texts) = changes.as_parts();
+        self.make(list, texts)?;
         Ok(number.saturating_sub(1) + changes.len())
     }
 
-    /// Prints the texts, and adds the changes between them as bytes: bytes of a text say how it is
-    /// cut and measured, which this crate has no tables for.
-    fn make(&mut self, changes: &[Change]) -> Result<(), Error> {
-        for part in changes.split_inclusive(|change| matches!(change, Change::Text(_))) {
-            match part {
-                [others @ .., Change::Text(text)] => {
-                    self.add_encoded(others)?;
-                    self.print(text.as_bytes())?;
-                }
-                others => self.add_encoded(others)?,
-            }
-        }
-        Ok(())
+    /// Prints a text at the cursor, as [`Change::Text`], and returns the number of that change.
+    ///
+    /// # Errors
+    ///
+    /// Those of [`Surface::add_change`].
+    pub fn print(&mut self, text: &str) -> Result<SequenceNo, Error> {
+        let number = self.current_seqno();
+        let change = tk_change {
+            kind: ffi::CHANGE_TEXT,
+            first: text.len(),
+            ..tk_change::default()
+        };
+        self.make(&[change], text)?;
+        Ok(number)
     }
 
-    fn add_encoded(&mut self, changes: &[Change]) -> Result<(), Error> {
-        if changes.is_empty() {
-            return Ok(());
-        }
-        self.add_bytes(&encode::changes(changes))
-    }
-
-    fn add_bytes(&mut self, bytes: &[u8]) -> Result<(), Error> {
-        // Safety: the handle is live, and the bytes are only read.
-        Error::check(unsafe { ffi::tk_add_changes(self.handle.get(), bytes.as_ptr(), bytes.len()) })
-    }
-
-    fn print(&mut self, text: &[u8]) -> Result<(), Error> {
-        // Safety: the handle is live, and the text is only read.
-        Error::check(unsafe { ffi::tk_print(self.handle.get(), text.as_ptr(), text.len()) })
+    fn make(&mut self, list: &[tk_change], texts: &str) -> Result<(), Error> {
+        let (handle, bytes) = (self.handle.get(), texts.as_bytes());
+        // Safety: the handle is live, and the list and its texts are only read.
+        Error::check(unsafe {
+            ffi::tk_add_changes(
+                handle,
+                list.as_ptr(),
+                list.len(),
+                bytes.as_ptr(),
+                bytes.len(),
+            )
+        })
     }
 
     /// Draws what another surface shows, a viewer or a client, from column `x` and row `y` on. What

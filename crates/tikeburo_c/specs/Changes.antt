@@ -33,10 +33,6 @@ abbrev pub AddsList : List ChangeValue → SourceValue ChosenWidths → Outcome 
 AddsList changes old outcome new =
     (number : ℕ) × (added : Result ℕ SurfaceError) × (outcome ≡ outcome_of changing_failure added) × Adds (columns_by old.surface.widths) (trimmed old.surface) changes number added new.surface × GoesOn old new
 
--- one change is added
-abbrev pub AddsChange : ChangeValue → SourceValue ChosenWidths → Outcome → SourceValue ChosenWidths → Type 0
-AddsChange change = AddsList (change ∷ [])
-
 -- the one list that the bytes encode, with nothing behind it
 abbrev pub IsOnlyList : (List ℕ → ℕ) → List ℕ → Result (Vec Change Global) Failure → Type 0
 IsOnlyList measure bytes (Ok x) = (bytes ≡ changes measure (map change_value x.items)) × ((cs : List ChangeValue) → AreChanges measure cs → bytes ≡ changes measure cs → map change_value x.items ≡ cs)
@@ -51,24 +47,3 @@ pub record AddsBytes (bytes : List ℕ) (old : SourceValue ChosenWidths) (outcom
   pub adds : (cs : List ChangeValue) → AreChanges (columns_by old.surface.widths) cs → bytes ≡ changes (columns_by old.surface.widths) cs → OrNoMemory (AddsList cs) old outcome new
   -- whatever the bytes are, they are refused by what is wrong with them, or encode a list that is added
   pub others : Refused (unread_as (changes_at (columns_by old.surface.widths) bytes)) old outcome new ⊎ OrNoMemory (AddsEncoded bytes) old outcome new
-
--- the call adds this change to the surface of the handle
-abbrev pub CallAdds : ChangeValue → Handle → ℤ → Handle → Type 0
-CallAdds change old number new = Reports number (λ outcome. OnSurface (AddsChange change) (kept_of old) outcome (kept_of new))
-
--- the call adds this change to the surface of the handle, unless memory for the change itself was refused
-abbrev pub CallAddsCopy : ChangeValue → Handle → ℤ → Handle → Type 0
-CallAddsCopy change old number new = Reports number (λ outcome. OrNoMemory (OnSurface (AddsChange change)) (kept_of old) outcome (kept_of new))
-
--- the call fails so, and the handle has what it had
-abbrev pub Leaves : Failure → Handle → ℤ → Handle → Type 0
-Leaves failure old number new = (number ≡ status_of (Err failure)) × (kept_of new ≡ kept_of old)
-
--- the call adds this change, if its arguments are one
-abbrev pub CallAddsIfSome : Option ChangeValue → Handle → ℤ → Handle → Type 0
-CallAddsIfSome (Some change) old number new = CallAdds change old number new
-CallAddsIfSome None old number new = Leaves Range old number new
-
--- the change that gives the pen a link to this uri
-abbrev pub link_to : List ℕ → ChangeValue
-link_to uri = Attribute (Hyperlink (Some (record { uri = uri; params = []; implicit = false })))

@@ -1,9 +1,14 @@
 -- Colours, attributes and cells, as the structs that C has of them.
 use Rattle.std.specs.Prelude.{◌≡◌, Option, Some, None, is_some, ◌==◌, if◌then◌else◌}
-use Rattle.termwiz_cell.specs.Attributes.{Attributes}
+use Rattle.termwiz_cell.specs.Attributes.{Attributes, default_attributes}
 use Rattle.termwiz_cell.specs.CellValue.{CellValue, columns}
 use Rattle.termwiz_cell.specs.Rgb.{rgb}
 use Rattle.termwiz_cell.specs.Style.{blink_number, intensity_number, semantic_number, underline_number, vertical_number}
+use Rattle.termwiz_cell.specs.declared.cell.style.Blink.{Blink}
+use Rattle.termwiz_cell.specs.declared.cell.style.Intensity.{Intensity}
+use Rattle.termwiz_cell.specs.declared.cell.style.SemanticType.{SemanticType}
+use Rattle.termwiz_cell.specs.declared.cell.style.Underline.{Underline}
+use Rattle.termwiz_cell.specs.declared.cell.style.VerticalAlign.{VerticalAlign}
 use Rattle.termwiz_cell.specs.declared.color.ColorAttribute.{ColorAttribute}
 use Rattle.termwiz_cell.specs.declared.color.ColorAttribute.TheVariants as colors
 use Rattle.tikeburo_c.specs.Numbers.{align_in, blink_in, intensity_in, semantic_in, underline_in}
@@ -47,24 +52,34 @@ attribute_fields a = record {
 abbrev pub cell_fields : CellValue → CellFields
 cell_fields c = record { columns = columns c; has_link = is_some c.attrs.hyperlink; attributes = attribute_fields c.attrs }
 
--- attributes with no link whose other parts than colours are those of the struct
-pub record HasStyles (f : AttributeFields) (a : Attributes) : Type 0 where
-  pub intensity : intensity_in f.intensity ≡ Some a.intensity
-  pub underline : underline_in f.underline ≡ Some a.underline
-  pub blink : blink_in f.blink ≡ Some a.blink
-  pub semantic_type : semantic_in f.semantic_type ≡ Some a.semantic_type
-  pub vertical_align : align_in f.vertical_align ≡ Some a.vertical_align
-  pub italic : a.italic ≡ f.italic
-  pub reverse : a.reverse ≡ f.reverse
-  pub strikethrough : a.strikethrough ≡ f.strikethrough
-  pub invisible : a.invisible ≡ f.invisible
-  pub wrapped : a.wrapped ≡ f.wrapped
-  pub overline : a.overline ≡ f.overline
-  pub hyperlink : a.hyperlink ≡ None
+-- the attributes of such a struct that are no colours, if each is in its range
+abbrev pub styles_in : AttributeFields → Option Attributes
+styles_in f = of (intensity_in f.intensity) (underline_in f.underline) (blink_in f.blink) (semantic_in f.semantic_type) (align_in f.vertical_align)
+  where
+    of : Option Intensity → Option Underline → Option Blink → Option SemanticType → Option VerticalAlign → Option Attributes
+    of (Some intensity) (Some underline) (Some blink) (Some semantic) (Some align) = Some (record default_attributes {
+      intensity = intensity;
+      underline = underline;
+      blink = blink;
+      semantic_type = semantic;
+      vertical_align = align;
+      italic = f.italic;
+      reverse = f.reverse;
+      strikethrough = f.strikethrough;
+      invisible = f.invisible;
+      wrapped = f.wrapped;
+      overline = f.overline;
+    })
+    of _ _ _ _ _ = None
 
--- attributes with no link that are those of the struct, colours and all
-pub record HasFields (f : AttributeFields) (a : Attributes) : Type 0 where
-  pub styles : HasStyles f a
-  pub foreground : color_in f.foreground ≡ Some a.foreground
-  pub background : color_in f.background ≡ Some a.background
-  pub underline_color : color_in f.underline_color ≡ Some a.underline_color
+-- the attributes of such a struct, with no link, if each is in its range
+abbrev pub attributes_in : AttributeFields → Option Attributes
+attributes_in f = of (styles_in f) (color_in f.foreground) (color_in f.background) (color_in f.underline_color)
+  where
+    of : Option Attributes → Option ColorAttribute → Option ColorAttribute → Option ColorAttribute → Option Attributes
+    of (Some a) (Some foreground) (Some background) (Some underline) = Some (record a {
+      foreground = foreground;
+      background = background;
+      underline_color = underline;
+    })
+    of _ _ _ _ = None

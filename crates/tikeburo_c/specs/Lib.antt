@@ -7,6 +7,7 @@ pub mod Following
 pub mod Handles
 pub mod Held
 pub mod Kept
+pub mod Lists
 pub mod Making
 pub mod Numbers
 pub mod Outcomes

@@ -1,7 +1,7 @@
 //! Changes of surfaces.
 ghost use Rattle.std.specs.Prelude.{map};
 ghost use Rattle.termwiz_cell.specs.ChangeValue.{change_value};
-ghost use Rattle.tikeburo_c.specs.Changes.{AddsBytes, AddsList, AddsChange, IsOnlyList};
+ghost use Rattle.tikeburo_c.specs.Changes.{AddsBytes, AddsList, IsOnlyList};
 ghost use Rattle.tikeburo_c.specs.Outcomes.{Reports};
 ghost use Rattle.tikeburo_c.specs.Handles.{kept_of};
 ghost use Rattle.tikeburo_c.specs.Results.{OnSurface};
@@ -16,21 +16,6 @@ use termwiz_share::Source;
 use termwiz_surface::Change;
 use termwiz_wire::decode_changes;
 
-/// Adds a change to the surface that the handle has.
-pub(crate) fn add(alloc: Global, handle: &mut Handle, change: Change) -> Result<(), Failure>
-    ensures { OnSurface (AddsChange (change_value change))
-        (kept_of handle.old) result (kept_of handle.new) }
-{
-    on_surface(alloc, handle, |surface| add_to(surface, change))
-}
-
-fn add_to(surface: &mut Source<ChosenWidths>, change: Change) -> Result<(), Failure>
-    ensures { AddsChange (change_value change) surface.old result surface.new }
-{
-    surface.add_change(change)?;
-    Ok(())
-}
-
 // The list of changes that the bytes encode, with nothing after it.
 fn only_changes(alloc: Global, widths: ChosenWidths, bytes: &[u8]) -> Result<Vec<Change>, Failure>
     ensures { IsOnlyList (columns_by widths) bytes.now result }
@@ -42,7 +27,11 @@ fn only_changes(alloc: Global, widths: ChosenWidths, bytes: &[u8]) -> Result<Vec
     Ok(changes)
 }
 
-fn add_list(surface: &mut Source<ChosenWidths>, changes: Vec<Change>) -> Result<(), Failure>
+/// Adds changes to a surface.
+pub(crate) fn add_list(
+    surface: &mut Source<ChosenWidths>,
+    changes: Vec<Change>,
+) -> Result<(), Failure>
     ensures { AddsList (map change_value changes.items) surface.old result surface.new }
 {
     surface.add_changes(changes)?;
@@ -58,7 +47,7 @@ fn add_bytes(alloc: Global, surface: &mut Source<ChosenWidths>, bytes: &[u8]) ->
 
 /// Makes the list of changes that these bytes encode.
 #[unsafe(no_mangle)]
-pub extern "C" fn tk_add_changes(alloc: Global, handle: &mut Handle, bytes: &[u8]) -> i32
+pub extern "C" fn tk_add_encoded(alloc: Global, handle: &mut Handle, bytes: &[u8]) -> i32
     ensures { Reports result (λ outcome. OnSurface (AddsBytes bytes.now)
         (kept_of handle.old) outcome (kept_of handle.new)) }
 {

@@ -1,7 +1,6 @@
 //! Colours, attributes and cells, as the structs that C has of them.
 ghost use Rattle.std.specs.Prelude.{◌≡◌, ◌⊎◌, IfErr, IfOk, None, Some};
 ghost use Rattle.termwiz_cell.specs.Attributes.{Attributes};
-ghost use Rattle.tikeburo_c.specs.Fields.{HasFields, HasStyles};
 ghost use Rattle.tikeburo_c.specs.declared.failure.Failure.TheVariants.{Memory, Range};
 ghost use Rattle.tikeburo_c.specs.Fields as specs_of;
 
@@ -130,7 +129,8 @@ pub(crate) fn cell_fields(cell: &Cell) -> CellFields
     }
 }
 
-fn in_range<T: Drop>(value: Option<T>) -> Result<T, Failure>
+/// The value, if it is in its range.
+pub(crate) fn in_range<T: Drop>(value: Option<T>) -> Result<T, Failure>
     ensures found { IfOk result (λ x. value ≡ Some x) }
     ensures missing { IfErr result (λ failure. (failure ≡ Range) × (value ≡ None)) }
 {
@@ -142,9 +142,9 @@ fn in_range<T: Drop>(value: Option<T>) -> Result<T, Failure>
 
 // The attributes of this struct that are no colours.
 fn styled(fields: &AttributeFields) -> Result<CellAttributes, Failure>
-    ensures found { IfOk result (HasStyles fields.now) }
-    ensures missing { IfErr result (λ failure. (failure ≡ Range)
-        × ((a : Attributes) → HasFields fields.now a → ⊥)) }
+    ensures found { IfOk result (λ attrs. specs_of.styles_in fields.now ≡ Some attrs) }
+    ensures missing { IfErr result (λ failure.
+        (failure ≡ Range) × (specs_of.styles_in fields.now ≡ None)) }
 {
     let intensity = Intensity::try_from(fields.intensity)?;
     let underline = Underline::try_from(fields.underline)?;
@@ -171,9 +171,9 @@ pub(crate) fn attributes_in(
     alloc: Global,
     fields: &AttributeFields,
 ) -> Result<CellAttributes, Failure>
-    ensures found { IfOk result (HasFields fields.now) }
+    ensures found { IfOk result (λ attrs. specs_of.attributes_in fields.now ≡ Some attrs) }
     ensures missing { IfErr result (λ failure. (failure ≡ Memory)
-        ⊎ ((failure ≡ Range) × ((a : Attributes) → HasFields fields.now a → ⊥))) }
+        ⊎ ((failure ≡ Range) × (specs_of.attributes_in fields.now ≡ None))) }
 {
     let mut attrs = styled(fields)?;
     let foreground = in_range(color_in(&fields.foreground))?;

@@ -3,7 +3,7 @@ ghost use Rattle.std.specs.Prelude.{◌≡◌, ℕ};
 ghost use Rattle.termwiz_screen.specs.Log.{next_number};
 ghost use Rattle.tikeburo_c.specs.Handles.{kept_of};
 ghost use Rattle.tikeburo_c.specs.Outcomes.{Reports};
-ghost use Rattle.tikeburo_c.specs.Reading.{ReadsValue, is_visible, text_of};
+ghost use Rattle.tikeburo_c.specs.Reading.{ReadsValue, is_visible, text_of, visibility_of};
 ghost use Rattle.tikeburo_c.specs.Results.{Gives, OrNoMemory, Reads};
 
 use crate::access::{fill, read};
@@ -73,6 +73,17 @@ fn is_visible(visibility: CursorVisibility) -> bool
     match visibility {
         CursorVisibility::Hidden => false,
         CursorVisibility::Visible => true,
+    }
+}
+
+/// A shown cursor's visibility, or a hidden one's.
+pub(crate) fn visibility_of(is_visible: bool) -> CursorVisibility
+    ensures { result ≡ visibility_of is_visible }
+{
+    if is_visible {
+        CursorVisibility::Visible
+    } else {
+        CursorVisibility::Hidden
     }
 }
 

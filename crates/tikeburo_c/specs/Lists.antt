@@ -1,0 +1,158 @@
+-- Lists of changes, as the structs that C has of them.
+use Rattle.cbor.specs.Decoding.{◌>>=◌}
+use Rattle.core.specs.Str.{is_utf8}
+use Rattle.std.specs.Int.{w64}
+use Rattle.std.specs.Option.{option_map}
+use Rattle.std.specs.Prelude.{ℕ, Bool, true, false, List, [], ◌∷◌, Option, Some, None, Result, Ok, Err, ◌==◌, ◌/◌, ◌%◌, not, nat_lt, length, take, drop, cast_signed, if◌then◌else◌}
+use Rattle.termwiz_cell.specs.AttributeChangeValue as attribute
+use Rattle.termwiz_cell.specs.Attributes.{Attributes}
+use Rattle.termwiz_cell.specs.AttributeChangeValue.{AttributeChangeValue}
+use Rattle.termwiz_cell.specs.ChangeValue as change
+use Rattle.termwiz_cell.specs.ChangeValue.{ChangeValue}
+use Rattle.termwiz_cell.specs.Link.{Link}
+use Rattle.termwiz_cell.specs.declared.change.Position.{Position}
+use Rattle.termwiz_cell.specs.declared.change.Position.TheVariants.{Absolute, EndRelative, Relative}
+use Rattle.termwiz_share.specs.Source.{SourceValue}
+use Rattle.tikeburo_c.specs.Changes.{AddsList}
+use Rattle.tikeburo_c.specs.Fields.{attributes_in, color_in}
+use Rattle.tikeburo_c.specs.Numbers.{blink_in, intensity_in, line_in, numbered, shape_in, underline_in}
+use Rattle.tikeburo_c.specs.Outcomes.{Outcome}
+use Rattle.tikeburo_c.specs.Reading.{visibility_of}
+use Rattle.tikeburo_c.specs.Results.{OrNoMemory, Refused}
+use Rattle.tikeburo_c.specs.declared.failure.Failure.{Failure}
+use Rattle.tikeburo_c.specs.declared.failure.Failure.TheVariants.{Range, Unreadable}
+use Rattle.tikeburo_c.specs.declared.fields.AttributeFields.{AttributeFields}
+use Rattle.tikeburo_c.specs.declared.lists.ChangeFields.{ChangeFields}
+use Rattle.tikeburo_c.specs.declared.lists.Kind.{Kind}
+use Rattle.tikeburo_c.specs.declared.lists.Kind.TheVariants as kind
+use Rattle.tikeburo_c.specs.declared.widths.ChosenWidths.{ChosenWidths}
+
+abbrev pub kind_at : ℕ → Kind
+kind_at n =
+    if n == 0 then kind.Text
+    else if n == 1 then kind.Title
+    else if n == 2 then kind.Link
+    else if n == 3 then kind.NoLink
+    else if n == 4 then kind.Pen
+    else if n == 5 then kind.Intensity
+    else if n == 6 then kind.Underline
+    else if n == 7 then kind.Blink
+    else if n == 8 then kind.Italic
+    else if n == 9 then kind.Reverse
+    else if n == 10 then kind.Strikethrough
+    else if n == 11 then kind.Invisible
+    else if n == 12 then kind.Foreground
+    else if n == 13 then kind.Background
+    else if n == 14 then kind.Move
+    else if n == 15 then kind.ClearScreen
+    else if n == 16 then kind.ClearToEndOfLine
+    else if n == 17 then kind.ClearToEndOfScreen
+    else if n == 18 then kind.ScrollUp
+    else if n == 19 then kind.ScrollDown
+    else if n == 20 then kind.CursorVisibility
+    else if n == 21 then kind.CursorShape
+    else if n == 22 then kind.CursorColor
+    else kind.LineAttribute
+
+-- the kind of this number, if there is one
+abbrev pub kind_in : ℕ → Option Kind
+kind_in = numbered 24 kind_at
+
+-- a change of this kind has a text: to print, as the title, or as the uri of a link
+abbrev pub has_text : Kind → Bool
+has_text kind.Text = true
+has_text kind.Title = true
+has_text kind.Link = true
+has_text kind.Pen = true
+has_text _ = false
+
+-- how many bytes of the list's texts are the change's own
+abbrev pub text_len : Kind → ChangeFields → ℕ
+text_len k f = if has_text k then f.first else 0
+
+-- the value, if there is one
+abbrev pub in_range : {A : Type 0} → Option A → Result A Failure
+in_range (Some x) = Ok x
+in_range None = Err Range
+
+-- the text, if the bytes are one
+abbrev pub text_in : List ℕ → Result (List ℕ) Failure
+text_in bytes = if is_utf8 bytes then Ok bytes else Err Unreadable
+
+-- a link to this uri
+abbrev pub link_to : List ℕ → Link
+link_to uri = record { uri = uri; params = []; implicit = false }
+
+-- the attributes with a link to this uri, unless it is empty
+abbrev pub with_link : List ℕ → Attributes → Attributes
+with_link [] a = a
+with_link (b ∷ bs) a = record a { hyperlink = Some (link_to (b ∷ bs)) }
+
+-- a pen, with a link to this uri unless it is empty, or why there is none
+abbrev pub pen_in : AttributeFields → List ℕ → Result Attributes Failure
+pen_in f uri = in_range (attributes_in f) >>= λ a. text_in uri >>= λ t. Ok (with_link t a)
+
+-- a column or a row: counted from the first one, from the cursor, or from the end
+abbrev pub position_in : ℕ → ℕ → Option Position
+position_in from n =
+    if from == 0 then Some (Absolute n)
+    else if from == 1 then Some (Relative (cast_signed w64 n))
+    else if from == 2 then Some (EndRelative n)
+    else None
+
+-- the move to a column and a row, if there are both
+abbrev pub moved : Option Position → Option Position → Option ChangeValue
+moved (Some x) (Some y) = Some (change.CursorPosition x y)
+moved _ _ = None
+
+-- a change of one attribute, if that is in its range
+abbrev pub attribute_in : Kind → AttributeFields → Option AttributeChangeValue
+attribute_in kind.NoLink f = Some (attribute.Hyperlink None)
+attribute_in kind.Intensity f = option_map attribute.Intensity (intensity_in f.intensity)
+attribute_in kind.Underline f = option_map attribute.Underline (underline_in f.underline)
+attribute_in kind.Blink f = option_map attribute.Blink (blink_in f.blink)
+attribute_in kind.Italic f = Some (attribute.Italic f.italic)
+attribute_in kind.Reverse f = Some (attribute.Reverse f.reverse)
+attribute_in kind.Strikethrough f = Some (attribute.StrikeThrough f.strikethrough)
+attribute_in kind.Invisible f = Some (attribute.Invisible f.invisible)
+attribute_in kind.Foreground f = option_map attribute.Foreground (color_in f.foreground)
+attribute_in kind.Background f = option_map attribute.Background (color_in f.background)
+attribute_in _ f = None
+
+-- a change of a kind, with its text, or why there is none
+abbrev pub change_in : Kind → ChangeFields → List ℕ → Result ChangeValue Failure
+change_in kind.Text f text = text_in text >>= λ t. Ok (change.Text t)
+change_in kind.Title f text = text_in text >>= λ t. Ok (change.Title t)
+change_in kind.Link f text = text_in text >>= λ t. Ok (change.Attribute (attribute.Hyperlink (Some (link_to t))))
+change_in kind.Pen f text = pen_in f.attributes text >>= λ a. Ok (change.AllAttributes a)
+change_in kind.Move f text = in_range (moved (position_in (f.third % 4) f.first) (position_in (f.third / 4) f.second))
+change_in kind.ClearScreen f text = in_range (option_map change.ClearScreen (color_in f.attributes.background))
+change_in kind.ClearToEndOfLine f text = in_range (option_map change.ClearToEndOfLine (color_in f.attributes.background))
+change_in kind.ClearToEndOfScreen f text = in_range (option_map change.ClearToEndOfScreen (color_in f.attributes.background))
+change_in kind.ScrollUp f text = Ok (change.ScrollRegionUp f.first f.second f.third)
+change_in kind.ScrollDown f text = Ok (change.ScrollRegionDown f.first f.second f.third)
+change_in kind.CursorVisibility f text = Ok (change.CursorVisibility (visibility_of (not (f.first == 0))))
+change_in kind.CursorShape f text = in_range (option_map change.CursorShape (shape_in f.first))
+change_in kind.CursorColor f text = in_range (option_map change.CursorColor (color_in f.attributes.foreground))
+change_in kind.LineAttribute f text = in_range (option_map change.LineAttribute (line_in f.first))
+change_in k f text = in_range (option_map change.Attribute (attribute_in k f.attributes))
+
+-- the first change of a list, and the texts of the others, or why there is none
+abbrev pub first_in : ChangeFields → List ℕ → Result (ChangeValue × List ℕ) Failure
+first_in f texts = in_range (kind_in f.kind) >>= λ k.
+    if nat_lt (length texts) (text_len k f) then Err Range
+    else (change_in k f (take (text_len k f) texts) >>= λ c. Ok (c, drop (text_len k f) texts))
+
+-- the changes of a list, whose texts are behind one another with nothing after them, or the first fault
+pub listed_in : List ChangeFields → List ℕ → Result (List ChangeValue) Failure
+listed_in [] [] = Ok []
+listed_in [] (b ∷ bs) = Err Range
+listed_in (f ∷ fs) texts = first_in f texts >>= λ x. listed_in fs x.1 >>= λ cs. Ok (x.0 ∷ cs)
+
+-- the listed changes are added, or the list is refused by its first fault, unless memory was refused
+abbrev pub AddsListed : List ChangeFields → List ℕ → SourceValue ChosenWidths → Outcome → SourceValue ChosenWidths → Type 0
+AddsListed fs texts = of (listed_in fs texts)
+  where
+    of : Result (List ChangeValue) Failure → SourceValue ChosenWidths → Outcome → SourceValue ChosenWidths → Type 0
+    of (Ok cs) = OrNoMemory (AddsList cs)
+    of (Err failure) = OrNoMemory (Refused failure)

@@ -1,0 +1,313 @@
+//! Lists of changes, as structs.
+ghost use Rattle.std.specs.Prelude.{◌≡◌, ◌≤◌, ◌⊎◌, Err, IfErr, IfOk, None, Ok, Some, map};
+ghost use Rattle.termwiz_cell.specs.AttributeChangeValue.{attribute_change_value};
+ghost use Rattle.termwiz_cell.specs.ChangeValue.{change_value};
+ghost use Rattle.tikeburo_c.specs.Fields as colors;
+ghost use Rattle.tikeburo_c.specs.Handles.{kept_of};
+ghost use Rattle.tikeburo_c.specs.Lists as listed;
+ghost use Rattle.tikeburo_c.specs.Lists.{AddsListed};
+ghost use Rattle.tikeburo_c.specs.Outcomes.{Reports};
+ghost use Rattle.tikeburo_c.specs.Results.{OnSurface};
+ghost use Rattle.tikeburo_c.specs.declared.failure.Failure.TheVariants.{Memory, Range};
+
+use crate::access::on_surface;
+use crate::changes::add_list;
+use crate::failure::{Failure, status};
+use crate::fields::{AttributeFields, ColorFields, attributes_in, color_in, in_range};
+use crate::handle::Handle;
+use crate::reading::visibility_of;
+use crate::widths::ChosenWidths;
+use std::alloc::Global;
+use std::rc::Rc;
+use termwiz_share::Source;
+use termwiz_surface::cell::{Blink, Intensity, Underline};
+use termwiz_surface::change::LineAttribute;
+use termwiz_surface::{
+    AttributeChange, CellAttributes, Change, ColorAttribute, CursorShape, Hyperlink, Position,
+};
+
+/// A change. What its kind doesn't name is not read.
+#[repr(C)]
+#[derive(Clone, Copy)]
+pub struct ChangeFields {
+    pub kind: u8,
+    pub attributes: AttributeFields,
+    pub first: usize,
+    pub second: usize,
+    pub third: usize,
+}
+
+/// What a change is, and what of its fields it names.
+#[derive(Clone, Copy)]
+pub(crate) enum Kind {
+    Text,
+    Title,
+    Link,
+    NoLink,
+    Pen,
+    Intensity,
+    Underline,
+    Blink,
+    Italic,
+    Reverse,
+    Strikethrough,
+    Invisible,
+    Foreground,
+    Background,
+    Move,
+    ClearScreen,
+    ClearToEndOfLine,
+    ClearToEndOfScreen,
+    ScrollUp,
+    ScrollDown,
+    CursorVisibility,
+    CursorShape,
+    CursorColor,
+    LineAttribute,
+}
+
+fn kind_in(number: u8) -> Result<Kind, Failure>
+    ensures found { IfOk result (λ kind. listed.kind_in number ≡ Some kind) }
+    ensures missing { IfErr result (λ failure.
+        (failure ≡ Range) × (listed.kind_in number ≡ None)) }
+{
+    match number {
+        0 => Ok(Kind::Text),
+        1 => Ok(Kind::Title),
+        2 => Ok(Kind::Link),
+        3 => Ok(Kind::NoLink),
+        4 => Ok(Kind::Pen),
+        5 => Ok(Kind::Intensity),
+        6 => Ok(Kind::Underline),
+        7 => Ok(Kind::Blink),
+        8 => Ok(Kind::Italic),
+        9 => Ok(Kind::Reverse),
+        10 => Ok(Kind::Strikethrough),
+        11 => Ok(Kind::Invisible),
+        12 => Ok(Kind::Foreground),
+        13 => Ok(Kind::Background),
+        14 => Ok(Kind::Move),
+        15 => Ok(Kind::ClearScreen),
+        16 => Ok(Kind::ClearToEndOfLine),
+        17 => Ok(Kind::ClearToEndOfScreen),
+        18 => Ok(Kind::ScrollUp),
+        19 => Ok(Kind::ScrollDown),
+        20 => Ok(Kind::CursorVisibility),
+        21 => Ok(Kind::CursorShape),
+        22 => Ok(Kind::CursorColor),
+        23 => Ok(Kind::LineAttribute),
+        _ => Err(Failure::Range),
+    }
+}
+
+// How many bytes of the list's texts are the change's own.
+fn text_len(kind: Kind, fields: &ChangeFields) -> usize
+    ensures { result ≡ listed.text_len kind fields.now }
+{
+    match kind {
+        Kind::Text | Kind::Title | Kind::Link | Kind::Pen => fields.first,
+        _ => 0,
+    }
+}
+
+fn text_in(bytes: &[u8]) -> Result<&str, Failure>
+    ensures found { IfOk result (λ text. listed.text_in bytes.now ≡ Ok text.now) }
+    ensures missing { IfErr result (λ failure. listed.text_in bytes.now ≡ Err failure) }
+{
+    match str::from_utf8(bytes) {
+        Ok(text) => Ok(text),
+        Err(_) => Err(Failure::Unreadable),
+    }
+}
+
+fn link_to(alloc: Global, uri: &str) -> Result<Rc<Hyperlink>, Failure>
+    ensures found { IfOk result (λ link. link.value ≡ listed.link_to uri.now) }
+    ensures missing { IfErr result (λ failure. failure ≡ Memory) }
+{
+    let uri = String::from_str(alloc, uri)?;
+    Ok(Rc::new(alloc, Hyperlink::new(alloc, uri))?)
+}
+
+// A pen, with a link to this uri unless it is empty.
+fn pen_in(alloc: Global, fields: &AttributeFields, uri: &[u8]) -> Result<CellAttributes, Failure>
+    ensures found { IfOk result (λ pen. listed.pen_in fields.now uri.now ≡ Ok pen) }
+    ensures missing { IfErr result (λ failure. (failure ≡ Memory)
+        ⊎ (listed.pen_in fields.now uri.now ≡ Err failure)) }
+{
+    let mut pen = attributes_in(alloc, fields)?;
+    let uri = text_in(uri)?;
+    if !uri.is_empty() {
+        pen.change_hyperlink(alloc, Some(link_to(alloc, uri)?))?;
+    }
+    Ok(pen)
+}
+
+fn color_of(fields: &ColorFields) -> Result<ColorAttribute, Failure>
+    ensures found { IfOk result (λ color. colors.color_in fields.now ≡ Some color) }
+    ensures missing { IfErr result (λ failure.
+        (failure ≡ Range) × (colors.color_in fields.now ≡ None)) }
+{
+    in_range(color_in(fields))
+}
+
+fn small(number: usize) -> Result<u8, Failure>
+    ensures found { IfOk result (λ small. small ≡ number) }
+    ensures missing { IfErr result (λ failure. (failure ≡ Range) × (256 ≤ number)) }
+{
+    if number < 256 {
+        Ok(number as u8)
+    } else {
+        Err(Failure::Range)
+    }
+}
+
+// A column or a row: counted from the first one, from the cursor, or from the end.
+fn position_in(from: usize, number: usize) -> Result<Position, Failure>
+    ensures found { IfOk result (λ position. listed.position_in from number ≡ Some position) }
+    ensures missing { IfErr result (λ failure.
+        (failure ≡ Range) × (listed.position_in from number ≡ None)) }
+{
+    match from {
+        0 => Ok(Position::Absolute(number)),
+        1 => Ok(Position::Relative(number.cast_signed())),
+        2 => Ok(Position::EndRelative(number)),
+        _ => Err(Failure::Range),
+    }
+}
+
+// A change of one attribute.
+fn attribute_in(kind: Kind, fields: &AttributeFields) -> Result<AttributeChange, Failure>
+    ensures found { IfOk result (λ change.
+        listed.attribute_in kind fields.now ≡ Some (attribute_change_value change)) }
+    ensures missing { IfErr result (λ failure.
+        (failure ≡ Range) × (listed.attribute_in kind fields.now ≡ None)) }
+{
+    let change = match kind {
+        Kind::NoLink => AttributeChange::Hyperlink(None),
+        Kind::Intensity => AttributeChange::Intensity(Intensity::try_from(fields.intensity)?),
+        Kind::Underline => AttributeChange::Underline(Underline::try_from(fields.underline)?),
+        Kind::Blink => AttributeChange::Blink(Blink::try_from(fields.blink)?),
+        Kind::Italic => AttributeChange::Italic(fields.italic),
+        Kind::Reverse => AttributeChange::Reverse(fields.reverse),
+        Kind::Strikethrough => AttributeChange::StrikeThrough(fields.strikethrough),
+        Kind::Invisible => AttributeChange::Invisible(fields.invisible),
+        Kind::Foreground => AttributeChange::Foreground(color_of(&fields.foreground)?),
+        Kind::Background => AttributeChange::Background(color_of(&fields.background)?),
+        _ => return Err(Failure::Range),
+    };
+    Ok(change)
+}
+
+fn change_in(alloc: Global, kind: Kind, f: &ChangeFields, text: &[u8]) -> Result<Change, Failure>
+    ensures found { IfOk result (λ change.
+        listed.change_in kind f.now text.now ≡ Ok (change_value change)) }
+    ensures missing { IfErr result (λ failure. (failure ≡ Memory)
+        ⊎ (listed.change_in kind f.now text.now ≡ Err failure)) }
+{
+    let change = match kind {
+        Kind::Text => Change::text_from(alloc, text_in(text)?)?,
+        Kind::Title => Change::Title(String::from_str(alloc, text_in(text)?)?),
+        Kind::Link => {
+            let link = link_to(alloc, text_in(text)?)?;
+            Change::Attribute(AttributeChange::Hyperlink(Some(link)))
+        }
+        Kind::Pen => Change::AllAttributes(pen_in(alloc, &f.attributes, text)?),
+        Kind::Move => Change::CursorPosition {
+            x: position_in(f.third % 4, f.first)?,
+            y: position_in(f.third / 4, f.second)?,
+        },
+        Kind::ClearScreen => Change::ClearScreen(color_of(&f.attributes.background)?),
+        Kind::ClearToEndOfLine => Change::ClearToEndOfLine(color_of(&f.attributes.background)?),
+        Kind::ClearToEndOfScreen => {
+            Change::ClearToEndOfScreen(color_of(&f.attributes.background)?)
+        }
+        Kind::ScrollUp => Change::ScrollRegionUp {
+            first_row: f.first,
+            region_size: f.second,
+            scroll_count: f.third,
+        },
+        Kind::ScrollDown => Change::ScrollRegionDown {
+            first_row: f.first,
+            region_size: f.second,
+            scroll_count: f.third,
+        },
+        Kind::CursorVisibility => Change::CursorVisibility(visibility_of(f.first != 0)),
+        Kind::CursorShape => Change::CursorShape(CursorShape::try_from(small(f.first)?)?),
+        Kind::CursorColor => Change::CursorColor(color_of(&f.attributes.foreground)?),
+        Kind::LineAttribute => Change::LineAttribute(LineAttribute::try_from(small(f.first)?)?),
+        _ => Change::Attribute(attribute_in(kind, &f.attributes)?),
+    };
+    Ok(change)
+}
+
+// The first change of a list, and the texts of the others.
+fn first_in<'a>(
+    alloc: Global,
+    fields: &ChangeFields,
+    texts: &'a [u8],
+) -> Result<(Change, &'a [u8]), Failure>
+    ensures found { IfOk result (λ x.
+        listed.first_in fields.now texts.now ≡ Ok (change_value x.0, x.1.now)) }
+    ensures missing { IfErr result (λ failure. (failure ≡ Memory)
+        ⊎ (listed.first_in fields.now texts.now ≡ Err failure)) }
+{
+    let kind = kind_in(fields.kind)?;
+    let len = text_len(kind, fields);
+    if texts.len() < len {
+        return Err(Failure::Range);
+    }
+    let (text, others) = texts.split_at(len);
+    let change = change_in(alloc, kind, fields, text)?;
+    Ok((change, others))
+}
+
+// The changes of a list, whose texts are behind one another.
+fn listed_in(alloc: Global, list: &[ChangeFields], texts: &[u8]) -> Result<Vec<Change>, Failure>
+    ensures found { IfOk result (λ changes.
+        listed.listed_in list.now texts.now ≡ Ok (map change_value changes.items)) }
+    ensures missing { IfErr result (λ failure. (failure ≡ Memory)
+        ⊎ (listed.listed_in list.now texts.now ≡ Err failure)) }
+{
+    let mut changes = Vec::with_capacity(alloc, list.len())?;
+    let mut rest = texts;
+    for fields in list {
+        let (change, others) = first_in(alloc, fields, rest)?;
+        changes.push(change)?;
+        rest = others;
+    }
+    if !rest.is_empty() {
+        return Err(Failure::Range);
+    }
+    Ok(changes)
+}
+
+fn add_listed(
+    alloc: Global,
+    surface: &mut Source<ChosenWidths>,
+    list: &[ChangeFields],
+    texts: &[u8],
+) -> Result<(), Failure>
+    ensures { AddsListed list.now texts.now surface.old result surface.new }
+{
+    let changes = listed_in(alloc, list, texts)?;
+    add_list(surface, changes)
+}
+
+/// Makes a list of changes, whose texts are behind one another.
+#[unsafe(no_mangle)]
+pub extern "C" fn tk_add_changes(
+    alloc: Global,
+    handle: &mut Handle,
+    list: &[ChangeFields],
+    texts: &[u8],
+) -> i32
+    ensures { Reports result (λ outcome. OnSurface (AddsListed list.now texts.now)
+        (kept_of handle.old) outcome (kept_of handle.new)) }
+{
+    let outcome = on_surface(
+        alloc,
+        handle,
+        |surface| add_listed(alloc, surface, list, texts),
+    );
+    status(outcome)
+}

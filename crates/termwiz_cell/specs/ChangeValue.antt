@@ -2,8 +2,8 @@
 use Rattle.std.specs.Prelude.{◌≡◌, ℕ, Bool, true, false, List, string_bytes, refl}
 use Rattle.std.specs.Bool.{Decides}
 use Rattle.termwiz_cell.specs.declared.color.ColorAttribute.{ColorAttribute}
-use Rattle.termwiz_cell.specs.Attributes.{Attributes}
-use Rattle.termwiz_cell.specs.AttributeChangeValue.{AttributeChangeValue, attribute_change_value}
+use Rattle.termwiz_cell.specs.Attributes.{Attributes, needs_box}
+use Rattle.termwiz_cell.specs.AttributeChangeValue.{AttributeChangeValue, attribute_change_value, is_link}
 use Rattle.termwiz_cell.specs.declared.change.Position.{Position}
 use Rattle.termwiz_cell.specs.declared.change.CursorVisibility as cursor
 use Rattle.termwiz_cell.specs.declared.change.CursorVisibility.TheVariants.{Hidden, Visible}
@@ -48,6 +48,14 @@ change_value (code.LineAttribute attribute) = LineAttribute attribute
 abbrev pub is_text : ChangeValue → Bool
 is_text (Text text) = true
 is_text _ = false
+
+-- a copy of the change may find no memory: at a text, a title, a link, and attributes that need a box
+abbrev pub copy_takes_memory : ChangeValue → Bool
+copy_takes_memory (Attribute change) = is_link change
+copy_takes_memory (AllAttributes attrs) = needs_box attrs
+copy_takes_memory (Text text) = true
+copy_takes_memory (Title title) = true
+copy_takes_memory _ = false
 
 -- `==` of visibilities
 abbrev pub visibility_eq : cursor.CursorVisibility → cursor.CursorVisibility → Bool

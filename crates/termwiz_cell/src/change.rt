@@ -1,8 +1,8 @@
 //! The changes of a surface, the positions in them, and their numbers.
-ghost use Rattle.std.specs.Prelude.{◌≡◌, ◌<◌, IfOk, IsTrue, string_bytes};
+ghost use Rattle.std.specs.Prelude.{◌≡◌, ◌<◌, IfOk, IsTrue, false, string_bytes};
 ghost use Rattle.termwiz_cell.specs.{Attribute, LineAttribute, Text, attribute_change_value};
-ghost use Rattle.termwiz_cell.specs.{IsNumbered, change_value, is_blinking_shape, is_text, line_at};
-ghost use Rattle.termwiz_cell.specs.{line_number, shape_at, shape_number};
+ghost use Rattle.termwiz_cell.specs.{IsNumbered, change_value, copy_takes_memory, is_blinking_shape};
+ghost use Rattle.termwiz_cell.specs.{is_text, line_at, line_number, shape_at, shape_number};
 
 mod sequence;
 
@@ -153,7 +153,7 @@ pub const SEQ_ZERO: SequenceNo = 0;
 ///
 /// Two changes are equal where all their parts are: texts are compared by their bytes, and links as
 /// values. A clone can only fail at a text, a title, a link, or attributes that take memory.
-#[derive(Drop, Clone, PartialEq, Eq, Debug)]
+#[derive(Drop, PartialEq, Eq, Debug)]
 pub enum Change {
     /// Sets one attribute of the pen, and leaves the others unchanged.
     Attribute(AttributeChange),
@@ -206,6 +206,59 @@ pub enum Change {
     Title(String),
     /// Sets how large the cursor's line is shown.
     LineAttribute(LineAttribute),
+}
+
+impl Clone for Change {
+    ghost is_clone = { λ a b. change_value b ≡ change_value a };
+
+    ghost is_infallible = { λ change. copy_takes_memory (change_value change) ≡ false };
+
+    fn clone(&self) -> Result<Change, AllocError> {
+        match self {
+            Change::Attribute(change) => {
+                let copy = change.clone()?;
+                Ok(Change::Attribute(copy))
+            }
+            Change::AllAttributes(attrs) => {
+                let copy = attrs.clone()?;
+                Ok(Change::AllAttributes(copy))
+            }
+            Change::Text(text) => {
+                let copy = text.clone()?;
+                Ok(Change::Text(copy))
+            }
+            Change::ClearScreen(color) => Ok(Change::ClearScreen(*color)),
+            Change::ClearToEndOfLine(color) => Ok(Change::ClearToEndOfLine(*color)),
+            Change::ClearToEndOfScreen(color) => Ok(Change::ClearToEndOfScreen(*color)),
+            Change::CursorPosition { x, y } => Ok(Change::CursorPosition { x: *x, y: *y }),
+            Change::CursorColor(color) => Ok(Change::CursorColor(*color)),
+            Change::CursorShape(shape) => Ok(Change::CursorShape(*shape)),
+            Change::CursorVisibility(visibility) => Ok(Change::CursorVisibility(*visibility)),
+            Change::ScrollRegionUp {
+                first_row,
+                region_size,
+                scroll_count,
+            } => Ok(Change::ScrollRegionUp {
+                first_row: *first_row,
+                region_size: *region_size,
+                scroll_count: *scroll_count,
+            }),
+            Change::ScrollRegionDown {
+                first_row,
+                region_size,
+                scroll_count,
+            } => Ok(Change::ScrollRegionDown {
+                first_row: *first_row,
+                region_size: *region_size,
+                scroll_count: *scroll_count,
+            }),
+            Change::Title(title) => {
+                let copy = title.clone()?;
+                Ok(Change::Title(copy))
+            }
+            Change::LineAttribute(line) => Ok(Change::LineAttribute(*line)),
+        }
+    }
 }
 
 impl Change {

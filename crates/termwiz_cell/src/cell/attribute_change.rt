@@ -1,12 +1,17 @@
 //! Changes of one attribute.
+ghost use Rattle.std.specs.Prelude.{◌≡◌, false};
+ghost use Rattle.termwiz_cell.specs.{attribute_change_value, is_link};
+
+use super::form::clone_link;
 use super::style::{Blink, Intensity, Underline};
 use crate::color::ColorAttribute;
 use crate::hyperlink::Hyperlink;
+use std::alloc::AllocError;
 use std::rc::Rc;
 
 /// One attribute and its new value. The other attributes are unchanged. Two changes are equal where
 /// attribute and value are; links are compared as values. A clone can only fail at a link.
-#[derive(Drop, Clone, PartialEq, Eq, Debug)]
+#[derive(Drop, PartialEq, Eq, Debug)]
 pub enum AttributeChange {
     Intensity(Intensity),
     Underline(Underline),
@@ -18,4 +23,28 @@ pub enum AttributeChange {
     Foreground(ColorAttribute),
     Background(ColorAttribute),
     Hyperlink(Option<Rc<Hyperlink>>),
+}
+
+impl Clone for AttributeChange {
+    ghost is_clone = { λ a b. attribute_change_value b ≡ attribute_change_value a };
+
+    ghost is_infallible = { λ change. is_link (attribute_change_value change) ≡ false };
+
+    fn clone(&self) -> Result<AttributeChange, AllocError> {
+        match self {
+            AttributeChange::Intensity(value) => Ok(AttributeChange::Intensity(*value)),
+            AttributeChange::Underline(value) => Ok(AttributeChange::Underline(*value)),
+            AttributeChange::Italic(value) => Ok(AttributeChange::Italic(*value)),
+            AttributeChange::Blink(value) => Ok(AttributeChange::Blink(*value)),
+            AttributeChange::Reverse(value) => Ok(AttributeChange::Reverse(*value)),
+            AttributeChange::StrikeThrough(value) => Ok(AttributeChange::StrikeThrough(*value)),
+            AttributeChange::Invisible(value) => Ok(AttributeChange::Invisible(*value)),
+            AttributeChange::Foreground(value) => Ok(AttributeChange::Foreground(*value)),
+            AttributeChange::Background(value) => Ok(AttributeChange::Background(*value)),
+            AttributeChange::Hyperlink(value) => {
+                let copy = clone_link(value)?;
+                Ok(AttributeChange::Hyperlink(copy))
+            }
+        }
+    }
 }

@@ -1,8 +1,8 @@
 -- Rows that grow where they stand, and are brought back or cut.
-use Rattle.std.proofs.Common.{◌≡◌, ℕ, ◌+◌, ◌-◌, ◌<◌, ◌≤◌, min, inl, inr, true, false, Bool, List, [], ◌∷◌, ◌++◌, length, take, drop, get_or, set, map, refl, sym, ◌∙◌, ap, ap₂, subst, arith, length-append, length-take, le-leb}
+use Rattle.std.proofs.Common.{◌≡◌, ℕ, ◌+◌, ◌-◌, ◌<◌, ◌≤◌, inl, inr, true, false, Bool, List, [], ◌∷◌, ◌++◌, length, take, drop, get_or, set, map, refl, sym, ◌∙◌, ap, ap₂, subst, arith, length-append, length-take, le-leb}
 use Rattle.std.specs.List.{list_all}
 use Rattle.std.proofs.lemmas.Bool.{cases_Bool, cases_lt, leb-false}
-use Rattle.std.proofs.lemmas.List.{append-nil, drop_all, get_or_append_left, get_or-append_right, get_or_at, get_or-drop, get_or-set_same, get_or_default, length-drop, length-map, length-replicate, set-get_or, set-set, take_all, take-append-le}
+use Rattle.std.proofs.lemmas.List.{get_or_append_left, get_or-append_right, get_or_at, get_or-drop, get_or-set_same, get_or_default, length-drop, length-map, length-replicate, set-get_or, set-set, take_all, take-append-le}
 use Rattle.std.proofs.lemmas.List.Edits.{map_over_more}
 use Rattle.termwiz_cell.specs.CellValue.{CellValue, blank}
 use Rattle.termwiz_storage.specs.Stored.{padded, hides}

@@ -1,8 +1,8 @@
 -- Rows that grow where they stand, and are brought back or cut.
-use Rattle.std.proofs.Common.{◌≡◌, ℕ, ◌+◌, ◌-◌, ◌<◌, ◌≤◌, min, inl, inr, true, false, Bool, List, [], ◌∷◌, ◌++◌, length, take, drop, get_or, set, map, refl, sym, ◌∙◌, ap, ap₂, subst, arith, length-append, length-take, le-leb}
+use Rattle.std.proofs.Common.{◌≡◌, ℕ, ◌+◌, ◌-◌, ◌<◌, ◌≤◌, inl, inr, true, false, Bool, List, [], ◌∷◌, ◌++◌, length, take, drop, get_or, set, map, refl, sym, ◌∙◌, ap, ap₂, subst, arith, length-append, length-take, le-leb}
 use Rattle.std.specs.List.{list_all}
 use Rattle.std.proofs.lemmas.Bool.{cases_Bool, cases_lt, leb-false}
-use Rattle.std.proofs.lemmas.List.{append-nil, drop_all, get_or_append_left, get_or-append_right, get_or_at, get_or-drop, get_or-set_same, get_or_default, length-drop, length-map, length-replicate, set-get_or, set-set, take_all, take-append-le}
+use Rattle.std.proofs.lemmas.List.{get_or_append_left, get_or-append_right, get_or_at, get_or-drop, get_or-set_same, get_or_default, length-drop, length-map, length-replicate, set-get_or, set-set, take_all, take-append-le}
 use Rattle.std.proofs.lemmas.List.Edits.{map_over_more}
 use Rattle.termwiz_cell.specs.CellValue.{CellValue, blank}
 use Rattle.termwiz_storage.specs.Stored.{padded, hides}
@@ -20,7 +20,7 @@ length-missing_half cs = elim (cases_Bool (hides cs (length cs))) [
 ]
 
 -- cells in a width are as many
-length-resized : (w : ℕ) (cs : List CellValue) → length (resized w cs) ≡ w
+pub length-resized : (w : ℕ) (cs : List CellValue) → length (resized w cs) ≡ w
 length-resized w cs = elim (cases_lt (length cs) w) [
   | inl l ↦
       let long : length (cs ++ missing_half cs) ≤ w = omega (arith, length-append cs (missing_half cs), length-missing_half cs) in
@@ -28,14 +28,14 @@ length-resized w cs = elim (cases_lt (length cs) w) [
   | inr g ↦ ap length (sym (resized-cut w cs g)) ∙ length-take w cs ∙ omega arith
 ]
 
-resized-all : (cs : List CellValue) (n : ℕ) → n ≡ length cs → resized n cs ≡ cs
+pub resized-all : (cs : List CellValue) (n : ℕ) → n ≡ length cs → resized n cs ≡ cs
 resized-all cs n e = sym (resized-cut n cs (omega arith)) ∙ take_all n cs (omega arith)
 
 resized-same : (w : ℕ) (cs : List CellValue) → resized w (resized w cs) ≡ resized w cs
 resized-same w cs = resized-all (resized w cs) w (sym (length-resized w cs))
 
 -- cells that have grown, cut back
-resized-back : (w : ℕ) (cs : List CellValue) → length cs < w → resized (length cs) (resized w cs) ≡ cs
+pub resized-back : (w : ℕ) (cs : List CellValue) → length cs < w → resized (length cs) (resized w cs) ≡ cs
 resized-back w cs l =
     let grew : resized w cs ≡ padded w (cs ++ missing_half cs) = sym (resized-grown w cs (cs ++ missing_half cs) l refl) in
     sym (resized-cut (length cs) (resized w cs) (omega (arith, length-resized w cs)))
@@ -44,7 +44,7 @@ resized-back w cs l =
     ∙ take-append-le (length cs) cs (missing_half cs) (omega arith)
     ∙ take_all (length cs) cs (omega arith)
 
-cuts : (k : ℕ) (l : LineValue) → l.is_vector ≡ true → k ≤ length l.cells → cuts_in_place k l ≡ true
+pub cuts : (k : ℕ) (l : LineValue) → l.is_vector ≡ true → k ≤ length l.cells → cuts_in_place k l ≡ true
 cuts k l v e = rw v (le-leb k (length l.cells) e)
 
 -- a vector that isn't cut in place is shorter
@@ -172,21 +172,7 @@ module _ (w : ℕ) (old rows : List LineValue) (undos us : List Undo) (n : ℕ) 
 pub undone_all : (w : ℕ) (old rows : List LineValue) (undos : List Undo) → HaveGrown w old undos rows → length undos ≡ 0 → rows ≡ old
 undone_all w old rows undos h e = h.rows ∙ ap (λ k. map (grown w) (take k old) ++ drop k old) e
 
--- the rows that are kept have grown, and can all be cut
-module _ (w h : ℕ) (old rows : List LineValue) (k : ℕ) (e : k ≡ min h (length old)) (is : rows ≡ map (grown w) (take k old) ++ drop k old) where
-  pub kept-grown_rows : take h rows ≡ map (grown w) (take h old)
-  kept-grown_rows = elim (cases_lt h (length old)) [
-    | inl l ↦
-        let same : k ≡ h = omega arith in
-        let long : length (map (grown w) (take h old)) ≡ h = length-first w h old l in
-        ap (take h) (is ∙ ap (λ j. map (grown w) (take j old) ++ drop j old) same) ∙ take-append-le h (map (grown w) (take h old)) (drop h old) (omega arith) ∙ take_all h (map (grown w) (take h old)) (omega arith)
-    | inr g ↦
-        let same : k ≡ length old = omega arith in
-        let all : rows ≡ map (grown w) old =
-        is ∙ ap₂ (λ (xs ys : List LineValue). map (grown w) xs ++ ys) (take_all k old (omega arith)) (drop_all k old (omega arith)) ∙ append-nil (map (grown w) old) in
-        ap (take h) all ∙ take_all h (map (grown w) old) (omega (arith, length-map old (grown w))) ∙ ap (map (grown w)) (sym (take_all h old g))
-  ]
-
+-- rows that have grown can all be cut
 all-cut : (w : ℕ) (ls : List LineValue) → list_all (cuts_in_place w) (map (grown w) ls) ≡ true
 all-cut w [] = refl
 all-cut w (l ∷ ls) = rw (cuts-grown w l) (all-cut w ls)

@@ -26,6 +26,7 @@ pub mod ReversedRegions
 pub mod ScrolledRows
 pub mod ResizedRows
 mod GrownRows
+mod AlikeRows
 pub mod LogRegions
 pub mod RepaintRegions
 mod WalkedRows

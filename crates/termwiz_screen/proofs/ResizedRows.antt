@@ -1,8 +1,8 @@
 -- Rows in another size.
-use Rattle.std.proofs.Common.{◌≡◌, ℕ, zero, suc, true, ◌-◌, ◌<◌, ◌≤◌, min, inl, inr, List, [], ◌∷◌, ◌++◌, length, take, get_or, map, replicate, refl, sym, ◌∙◌, ap, ap₂, subst, arith, length-append, length-take}
+use Rattle.std.proofs.Common.{◌≡◌, ℕ, zero, suc, true, ◌-◌, ◌<◌, ◌≤◌, min, inl, inr, List, [], ◌∷◌, ◌++◌, length, take, drop, get_or, map, replicate, refl, sym, ◌∙◌, ap, ap₂, subst, arith, length-append, length-take}
 use Rattle.std.specs.List.{All}
 use Rattle.std.proofs.lemmas.Bool.{cases_Bool, cases_lt}
-use Rattle.std.proofs.lemmas.List.{ext_get_or, get_or-map, get_or_past, get_or-replicate, length-map, length-replicate, map-append, take-map, take_all}
+use Rattle.std.proofs.lemmas.List.{append-nil, ext_get_or, get_or-map, get_or_past, get_or-replicate, length-map, length-replicate, map-append, take-map, take_all, take-append-le}
 use Rattle.std.proofs.lemmas.List.Elements.{All-append, All-map, All-take, All-replicate, All-get_or, All-from_get_or}
 use Rattle.termwiz_cell.specs.CellValue.{CellValue, blank}
 use Rattle.termwiz_cell.specs.Attributes.{default_attributes}
@@ -21,12 +21,6 @@ use Rattle.termwiz_screen.specs.Sides.{row_flags, AreVectors}
 use Rattle.termwiz_screen.specs.Measured.{IsMeasured, IsStored}
 use Rattle.termwiz_screen.proofs.Regions.{map-replicate}
 use Rattle.termwiz_screen.proofs.Stored.{IsLawful, IsMeasured-blank, IsStored-blank, halved}
-
-pub take_upto : {X : Type 0} (n h : ℕ) (xs : List X) → n ≡ min h (length xs) → take n xs ≡ take h xs
-take_upto n h xs e = elim (cases_lt h (length xs)) [
-  | inl l ↦ let same : n ≡ h = omega arith in ap (λ k. take k xs) same
-  | inr g ↦ take_all n xs (omega arith) ∙ sym (take_all h xs g)
-]
 
 map-map : {X Y Z : Type 0} (g : Y → Z) (k : X → Y) (xs : List X) → map g (map k xs) ≡ map (λ x. g (k x)) xs
 map-map g k [] = refl
@@ -63,6 +57,31 @@ module _ (w h : ℕ) (xs : List LineValue) where
         (All-map (λ (l : LineValue). l.is_vector ≡ true) (in_width w) (take h xs) (All-from_get_or (λ (l : LineValue). true ≡ true) (take h xs) (numberless []) (λ i l. refl)))
         (All-replicate (λ (l : LineValue). l.is_vector ≡ true) count (numberless (replicate w blank)) refl);
   }
+
+-- the rows that are kept, in the width, and default ones
+module _ (w h count : ℕ) (old new : List LineValue) (c : count ≡ h - length old) (is : new ≡ map (in_width w) (take h old) ++ replicate count (numberless (replicate w blank))) where
+  missing : count ≡ h - length (map (in_width w) (take h old))
+  missing = omega (arith, length-map (take h old) (in_width w), length-take h old)
+
+  pub fitted-cells : cells_of new ≡ resized_stored w h (cells_of old)
+  fitted-cells = added-cells w h count old (map (in_width w) (take h old)) new missing is (cells-in_width w h old)
+
+  pub fitted-flags : row_flags new ≡ resized_flags h (row_flags old)
+  fitted-flags = added-flags w h count old (map (in_width w) (take h old)) new missing is (flags-in_width w h old)
+
+  pub fitted-vectors : AreVectors new
+  fitted-vectors = rw is (vectors-in_width w h old count)
+
+-- all rows are kept, in the width, and rows come below them
+pub fitted-longer : (w h count : ℕ) (old new : List LineValue) → length old ≤ h → new ≡ map (in_width w) old ++ replicate count (numberless (replicate w blank)) → new ≡ map (in_width w) (take h old) ++ replicate count (numberless (replicate w blank))
+fitted-longer w h count old new short is = rw (take_all h old short) is
+
+-- the first rows are in the width, and the others go
+pub fitted-shorter : (w h : ℕ) (old rows new : List LineValue) → h ≤ length old → rows ≡ map (in_width w) (take h old) ++ drop h old → new ≡ take h rows → new ≡ map (in_width w) (take h old) ++ replicate 0 (numberless (replicate w blank))
+fitted-shorter w h old rows new long fitted cut =
+    let many : length (map (in_width w) (take h old)) ≡ h = length-map (take h old) (in_width w) ∙ length-take h old ∙ omega arith in
+    cut ∙ ap (take h) fitted ∙ take-append-le h (map (in_width w) (take h old)) (drop h old) (omega (arith, many))
+    ∙ take_all h (map (in_width w) (take h old)) (omega (arith, many)) ∙ sym (append-nil (map (in_width w) (take h old)))
 
 -- a stored row of width v in another width
 module _ (f : List ℕ → ℕ) (v w : ℕ) (cs : List CellValue) (lawful : IsLawful f) (s : IsStored f v cs) where

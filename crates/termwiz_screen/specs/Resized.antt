@@ -1,5 +1,5 @@
 -- What another size makes of rows, of a screen, and of what is kept beside it.
-use Rattle.std.specs.Prelude.{ℕ, ◌-◌, Bool, ◌&&◌, nat_le, List, ◌++◌, map, take, drop, length, replicate, slice_index_or, pos, true, ◌≡◌, ◌<◌, if◌then◌else◌}
+use Rattle.std.specs.Prelude.{ℕ, ◌-◌, Bool, ◌&&◌, ◌==◌, nat_le, List, ◌++◌, map, take, drop, length, replicate, slice_index_or, pos, true, ◌≡◌, ◌<◌, if◌then◌else◌}
 use Rattle.termwiz_cell.specs.CellValue.{CellValue, blank}
 use Rattle.termwiz_storage.specs.Halves.{resized}
 use Rattle.termwiz_line.specs.LineFlags.{LineFlags, no_flags}
@@ -34,6 +34,10 @@ cuts_in_place w l = l.is_vector && nat_le w (length l.cells)
 -- what comes before it is cut: any other line takes the width
 abbrev pub grown : ℕ → LineValue → LineValue
 grown w l = if cuts_in_place w l then l else in_width w l
+
+-- whether a line is a vector of k cells
+abbrev pub is_vector_of : ℕ → LineValue → Bool
+is_vector_of k l = l.is_vector && length l.cells == k
 
 -- what brings a line back that has grown: a vector's length, or the text that it was
 abbrev pub Undoes : LineValue → Undo → Type 0

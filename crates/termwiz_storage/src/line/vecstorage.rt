@@ -1,5 +1,6 @@
 //! Cells stored one by one.
-ghost use Rattle.std.specs.Prelude.{◌≡◌, ◌↔◌, ◌<◌, ◌≤◌, ◌+◌, ◌-◌, ◌*◌, [], option_map, replicate};
+ghost use Rattle.std.specs.Prelude.{◌≡◌, ◌↔◌, ◌<◌, ◌≤◌, ◌+◌, ◌-◌, ◌*◌, ◌++◌, ◌∷◌, [], option_map};
+ghost use Rattle.std.specs.Prelude.{replicate, vec_capacity};
 ghost use Rattle.termwiz_storage.specs.{AreLetters, IsBlanked, IsFilledTo, LendsCells, set_letters};
 ghost use Rattle.termwiz_storage.specs.{IfOk, IsOfCell, is_linked, needs_box, ref_index, slice_set};
 ghost use Rattle.termwiz_storage.specs.{IfSome, IsKept, IsTrue, length, padded, vec_len, visible};
@@ -17,7 +18,10 @@ mod wrapped;
 use crate::line::cellref::CellRef;
 pub(crate) use edits::hides_next;
 pub use edits::push_with_half;
-use lists::{blank_cells, copied_cells, cut, own_nothing, pad_cells, put_cells, put_letter_cells};
+use lists::{
+    blank_cells, copied_cells, cut, own_nothing, pad_cells, pad_in_room, put_cells,
+    put_letter_cells,
+};
 use std::alloc::{AllocError, Global};
 use std::marker::Model;
 use std::mem;
@@ -393,11 +397,10 @@ impl VecStorage {
         }
         self.cells.reserve(len - have)?;
         if self.lacks_half() {
-            let half = half_behind(&self.cells)?;
-            self.cells.push(half)?;
+            push_half(&mut self.cells)?;
             self.used = self.cells.len();
         }
-        pad_cells(&mut self.cells, len)?;
+        pad_in_room(&mut self.cells, len);
         Ok(())
     }
 
@@ -492,13 +495,20 @@ fn end_of(i: usize, columns: usize) -> Result<usize, AllocError>
     i.checked_add(columns).ok_or(AllocError)
 }
 
-// The half of the last cell.
-fn half_behind(cells: &Vec<Cell>) -> Result<Cell, AllocError>
-    requires { 0 < vec_len cells.now }
-    ensures { IfOk result (λ made.
-        made ≡ half (stored cells.now.items (length cells.now.items - 1))) }
+// Appends the half of the last cell. It is kept out of line, so that the path of other cells is
+// short.
+#[inline(never)]
+fn push_half(cells: &mut Vec<Cell>) -> Result<(), AllocError>
+    requires { 0 < vec_len cells.old }
+    ensures ok { OnOk result (
+        cells.new.items
+        ≡ cells.old.items ++ half (stored cells.old.items (length cells.old.items - 1)) ∷ []) }
+    ensures err { OnErr result (cells.new.items ≡ cells.old.items) }
+    ensures capacity { vec_capacity cells.old ≤ vec_capacity cells.new }
 {
-    half_of(&cells[cells.len() - 1])
+    let half = half_of(&cells[cells.len() - 1])?;
+    cells.push(half)?;
+    Ok(())
 }
 
 // The half of a cell.

@@ -30,6 +30,20 @@ pub(super) fn pad_cells(cells: &mut Vec<Cell>, len: usize) -> Result<(), AllocEr
     Ok(())
 }
 
+// Pads with default blanks, for which the list has room. Where one is missing, as where a line gets
+// a column, it is appended without a call.
+#[inline(always)]
+pub(super) fn pad_in_room(cells: &mut Vec<Cell>, len: usize)
+    requires { len ≤ vec_capacity cells.old }
+    ensures { cells.new.items ≡ padded len cells.old.items }
+{
+    if cells.len() + 1 == len {
+        cells.push_reserved(Cell::blank());
+    } else {
+        pad_cells(cells, len).unwrap();
+    }
+}
+
 // Pads with default blanks. The list has room for them.
 fn with_blanks(cells: Vec<Cell>, len: usize) -> Vec<Cell>
     requires longer { vec_len cells ≤ len }

@@ -1,2 +1,3 @@
 pub mod Decoded
 pub mod Delivered
+pub mod Listed

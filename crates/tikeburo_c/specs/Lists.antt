@@ -1,9 +1,9 @@
 -- Lists of changes, as the structs that C has of them.
 use Rattle.cbor.specs.Decoding.{◌>>=◌}
 use Rattle.core.specs.Str.{is_utf8}
-use Rattle.std.specs.Int.{w64}
+use Rattle.std.specs.Int.{cast_signed, w64}
 use Rattle.std.specs.Option.{option_map}
-use Rattle.std.specs.Prelude.{ℕ, Bool, true, false, List, [], ◌∷◌, Option, Some, None, Result, Ok, Err, ◌==◌, ◌/◌, ◌%◌, not, nat_lt, length, take, drop, cast_signed, if◌then◌else◌}
+use Rattle.std.specs.Prelude.{ℕ, Bool, true, false, List, [], ◌∷◌, Option, Some, None, Result, Ok, Err, ◌==◌, ◌/◌, ◌%◌, not, nat_lt, length, take, drop, if◌then◌else◌}
 use Rattle.termwiz_cell.specs.AttributeChangeValue as attribute
 use Rattle.termwiz_cell.specs.Attributes.{Attributes}
 use Rattle.termwiz_cell.specs.AttributeChangeValue.{AttributeChangeValue}
@@ -144,7 +144,7 @@ first_in f texts = in_range (kind_in f.kind) >>= λ k.
     else (change_in k f (take (text_len k f) texts) >>= λ c. Ok (c, drop (text_len k f) texts))
 
 -- the changes of a list, whose texts are behind one another with nothing after them, or the first fault
-pub listed_in : List ChangeFields → List ℕ → Result (List ChangeValue) Failure
+unfoldable pub listed_in : List ChangeFields → List ℕ → Result (List ChangeValue) Failure
 listed_in [] [] = Ok []
 listed_in [] (b ∷ bs) = Err Range
 listed_in (f ∷ fs) texts = first_in f texts >>= λ x. listed_in fs x.1 >>= λ cs. Ok (x.0 ∷ cs)

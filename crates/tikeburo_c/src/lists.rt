@@ -110,6 +110,7 @@ fn text_len(kind: Kind, fields: &ChangeFields) -> usize
     }
 }
 
+#[tactic(auto, using(crate::proofs::Listed::text_read, crate::proofs::Listed::no_text))]
 fn text_in(bytes: &[u8]) -> Result<&str, Failure>
     ensures found { IfOk result (λ text. listed.text_in bytes.now ≡ Ok text.now) }
     ensures missing { IfErr result (λ failure. listed.text_in bytes.now ≡ Err failure) }
@@ -148,6 +149,15 @@ fn color_of(fields: &ColorFields) -> Result<ColorAttribute, Failure>
         (failure ≡ Range) × (colors.color_in fields.now ≡ None)) }
 {
     in_range(color_in(fields))
+}
+
+fn background_of(fields: &ChangeFields) -> Result<ColorAttribute, Failure>
+    ensures found { IfOk result (λ color.
+        colors.color_in fields.now.attributes.background ≡ Some color) }
+    ensures missing { IfErr result (λ failure. (failure ≡ Range)
+        × (colors.color_in fields.now.attributes.background ≡ None)) }
+{
+    color_of(&fields.attributes.background)
 }
 
 fn small(number: usize) -> Result<u8, Failure>
@@ -204,40 +214,40 @@ fn change_in(alloc: Global, kind: Kind, f: &ChangeFields, text: &[u8]) -> Result
     ensures missing { IfErr result (λ failure. (failure ≡ Memory)
         ⊎ (listed.change_in kind f.now text.now ≡ Err failure)) }
 {
-    let change = match kind {
-        Kind::Text => Change::text_from(alloc, text_in(text)?)?,
-        Kind::Title => Change::Title(String::from_str(alloc, text_in(text)?)?),
+    match kind {
+        Kind::Text => Ok(Change::text_from(alloc, text_in(text)?)?),
+        Kind::Title => Ok(Change::Title(String::from_str(alloc, text_in(text)?)?)),
         Kind::Link => {
             let link = link_to(alloc, text_in(text)?)?;
-            Change::Attribute(AttributeChange::Hyperlink(Some(link)))
+            Ok(Change::Attribute(AttributeChange::Hyperlink(Some(link))))
         }
-        Kind::Pen => Change::AllAttributes(pen_in(alloc, &f.attributes, text)?),
-        Kind::Move => Change::CursorPosition {
+        Kind::Pen => Ok(Change::AllAttributes(pen_in(alloc, &f.attributes, text)?)),
+        Kind::Move => Ok(Change::CursorPosition {
             x: position_in(f.third % 4, f.first)?,
             y: position_in(f.third / 4, f.second)?,
-        },
-        Kind::ClearScreen => Change::ClearScreen(color_of(&f.attributes.background)?),
-        Kind::ClearToEndOfLine => Change::ClearToEndOfLine(color_of(&f.attributes.background)?),
-        Kind::ClearToEndOfScreen => {
-            Change::ClearToEndOfScreen(color_of(&f.attributes.background)?)
+        }),
+        Kind::ClearScreen => Ok(Change::ClearScreen(background_of(f)?)),
+        Kind::ClearToEndOfLine => Ok(Change::ClearToEndOfLine(background_of(f)?)),
+        Kind::ClearToEndOfScreen => Ok(Change::ClearToEndOfScreen(background_of(f)?)),
+        Kind::ScrollUp => Ok(Change::ScrollRegionUp {
+            first_row: f.first,
+            region_size: f.second,
+            scroll_count: f.third,
+        }),
+        Kind::ScrollDown => Ok(Change::ScrollRegionDown {
+            first_row: f.first,
+            region_size: f.second,
+            scroll_count: f.third,
+        }),
+        Kind::CursorVisibility => Ok(Change::CursorVisibility(visibility_of(f.first != 0))),
+        Kind::CursorShape => Ok(Change::CursorShape(CursorShape::try_from(small(f.first)?)?)),
+        Kind::CursorColor => Ok(Change::CursorColor(color_of(&f.attributes.foreground)?)),
+        Kind::LineAttribute => {
+            let attribute = LineAttribute::try_from(small(f.first)?)?;
+            Ok(Change::LineAttribute(attribute))
         }
-        Kind::ScrollUp => Change::ScrollRegionUp {
-            first_row: f.first,
-            region_size: f.second,
-            scroll_count: f.third,
-        },
-        Kind::ScrollDown => Change::ScrollRegionDown {
-            first_row: f.first,
-            region_size: f.second,
-            scroll_count: f.third,
-        },
-        Kind::CursorVisibility => Change::CursorVisibility(visibility_of(f.first != 0)),
-        Kind::CursorShape => Change::CursorShape(CursorShape::try_from(small(f.first)?)?),
-        Kind::CursorColor => Change::CursorColor(color_of(&f.attributes.foreground)?),
-        Kind::LineAttribute => Change::LineAttribute(LineAttribute::try_from(small(f.first)?)?),
-        _ => Change::Attribute(attribute_in(kind, &f.attributes)?),
-    };
-    Ok(change)
+        _ => Ok(Change::Attribute(attribute_in(kind, &f.attributes)?)),
+    }
 }
 
 // The first change of a list, and the texts of the others.
@@ -262,6 +272,7 @@ fn first_in<'a>(
 }
 
 // The changes of a list, whose texts are behind one another.
+#[tactic(auto, using(crate::proofs::Listed::from_first))]
 fn listed_in(alloc: Global, list: &[ChangeFields], texts: &[u8]) -> Result<Vec<Change>, Failure>
     ensures found { IfOk result (λ changes.
         listed.listed_in list.now texts.now ≡ Ok (map change_value changes.items)) }

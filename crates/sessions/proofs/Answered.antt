@@ -12,7 +12,7 @@ use Rattle.termwiz_cell.specs.declared.emoji.UnicodeWidths.{UnicodeWidths}
 use Rattle.termwiz_screen.specs.Picture.{screens}
 use Rattle.termwiz_surface.specs.Answer.{AnswerValue}
 use Rattle.termwiz_surface.specs.Carried.{IsGivenBy}
-use Rattle.termwiz_surface.specs.SurfaceValue.{SurfaceValue}
+use Rattle.termwiz_surface.specs.Surface.{SurfaceValue}
 use Rattle.termwiz_wire.specs.Sent.{answer}
 use Rattle.sessions.specs.Answering.{AnswersAll, Ended, IsAnswered, MayAnswer, Next, WritesAnswers}
 use Rattle.sessions.specs.Requests.{MaySay, SaysRequest}

@@ -21,7 +21,7 @@ use Rattle.termwiz_surface.specs.Answer.{AnswerValue, is_repaint}
 use Rattle.termwiz_surface.specs.Carried.{IsGivenBy}
 use Rattle.termwiz_surface.specs.Following.{LeadsTo}
 use Rattle.termwiz_surface.specs.History.{KeepsNames}
-use Rattle.termwiz_surface.specs.SurfaceValue.{SurfaceValue, screen_of}
+use Rattle.termwiz_surface.specs.Surface.{SurfaceValue, screen_of}
 use Rattle.termwiz_wire.specs.Sent.{IsSent}
 use Rattle.termwiz_wire.specs.declared.sent.SentAnswer.{SentAnswer}
 use Rattle.sessions.specs.Frames.{Frame, TakesFrame, TakesFrames, viewing_of}

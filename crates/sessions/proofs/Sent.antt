@@ -11,7 +11,7 @@ use Rattle.termwiz_surface.specs.declared.view.Outcome.{Outcome}
 use Rattle.termwiz_surface.specs.Answer.{AnswerValue}
 use Rattle.termwiz_surface.specs.Carried.{IsGivenBy}
 use Rattle.termwiz_surface.specs.History.{KeepsNames}
-use Rattle.termwiz_surface.specs.SurfaceValue.{SurfaceValue, screen_of}
+use Rattle.termwiz_surface.specs.Surface.{SurfaceValue, screen_of}
 use Rattle.termwiz_wire.specs.Sent.{IsSent, answer}
 use Rattle.sessions.specs.Frames.{Frame, TakesFrames, IsChain, encoded, viewing_of}
 use Rattle.sessions.specs.SendSteps.{HasNamed, Steps}

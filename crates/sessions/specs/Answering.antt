@@ -9,7 +9,7 @@ use Rattle.termwiz_screen.specs.Picture.{screens}
 use Rattle.termwiz_surface.specs.Schedule.{Acts}
 use Rattle.termwiz_surface.specs.Answer.{AnswerValue}
 use Rattle.termwiz_surface.specs.Carried.{IsGivenBy}
-use Rattle.termwiz_surface.specs.SurfaceValue.{SurfaceValue}
+use Rattle.termwiz_surface.specs.Surface.{SurfaceValue}
 use Rattle.termwiz_wire.specs.Sent.{answer}
 use Rattle.termwiz_wire.specs.declared.sent.Ask.{Ask}
 use Rattle.sessions.specs.Requests.{SaysRequest}

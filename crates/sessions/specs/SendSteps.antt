@@ -6,7 +6,7 @@ use Rattle.termwiz_screen.specs.Picture.{screens}
 use Rattle.termwiz_screen.specs.Screen.{Screen}
 use Rattle.termwiz_surface.specs.Carried.{IsPastOf}
 use Rattle.termwiz_surface.specs.History.{Names}
-use Rattle.termwiz_surface.specs.SurfaceValue.{SurfaceValue}
+use Rattle.termwiz_surface.specs.Surface.{SurfaceValue}
 use Rattle.sessions.specs.Frames.{Frame, TakesFrames}
 use Rattle.sessions.specs.Sending.{columns, Sends}
 use Rattle.sessions.specs.Viewing.{Viewing}

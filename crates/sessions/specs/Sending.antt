@@ -13,7 +13,7 @@ use Rattle.termwiz_surface.specs.declared.view.Event.TheVariants as event
 use Rattle.termwiz_surface.specs.declared.view.Outcome.{Outcome}
 use Rattle.termwiz_surface.specs.Answer.{AnswerValue}
 use Rattle.termwiz_surface.specs.Carried.{IsGivenBy}
-use Rattle.termwiz_surface.specs.SurfaceValue.{SurfaceValue, blank_surface, screen_of}
+use Rattle.termwiz_surface.specs.Surface.{SurfaceValue, blank_surface, screen_of}
 use Rattle.termwiz_wire.specs.Sent.{answer}
 use Rattle.sessions.specs.Frames.{Frame}
 use Rattle.sessions.specs.declared.send.runs.SendEvent.{SendEvent}

@@ -6,7 +6,7 @@ use Rattle.termwiz_cell.specs.Width.{unicode_columns}
 use Rattle.termwiz_screen.specs.Screen.{Screen}
 use Rattle.termwiz_screen.specs.Step.{replay}
 use Rattle.termwiz_surface.specs.Answer.{AnswerValue, is_repaint}
-use Rattle.termwiz_surface.specs.SurfaceValue.{blank_surface, screen_of}
+use Rattle.termwiz_surface.specs.Surface.{blank_surface, screen_of}
 use Rattle.termwiz_wire.specs.declared.sent.SentAnswer.{SentAnswer}
 use Rattle.sessions.specs.declared.watch.viewer.AnswerFault.{AnswerFault}
 use Rattle.sessions.specs.declared.watch.viewer.AnswerFault.TheVariants.{Stale, Size}

@@ -13,7 +13,7 @@ use Rattle.termwiz_screen.proofs.Logs.{flushed_number}
 use Rattle.termwiz_surface.specs.Answer.{AnswerValue, is_repaint}
 use Rattle.termwiz_surface.specs.Asking.{knows, own_repaint}
 use Rattle.termwiz_surface.specs.Carried.{IsGivenBy}
-use Rattle.termwiz_surface.specs.SurfaceValue.{SurfaceValue, full_of}
+use Rattle.termwiz_surface.specs.Surface.{SurfaceValue, full_of}
 use Rattle.termwiz_surface.proofs.Remembering.{given-carries}
 use Rattle.termwiz_wire.specs.Lengths.{capped}
 use Rattle.termwiz_wire.specs.Sent.{IsSent, answer}

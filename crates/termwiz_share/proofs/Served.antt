@@ -10,7 +10,7 @@ use Rattle.termwiz_screen.specs.Picture.{full_screens}
 use Rattle.termwiz_surface.specs.Answer.{AnswerValue, Carries}
 use Rattle.termwiz_surface.specs.Following.{KeepsViewers, ViewerValue}
 use Rattle.termwiz_surface.specs.History.{KeepsNames, Names}
-use Rattle.termwiz_surface.specs.SurfaceValue.{SurfaceValue, full_of}
+use Rattle.termwiz_surface.specs.Surface.{SurfaceValue, full_of}
 use Rattle.termwiz_surface.proofs.Remembering.{past-first}
 use Rattle.termwiz_surface.specs.Following as following
 use Rattle.termwiz_wire.specs.Answers.{answer_at}

@@ -4,7 +4,7 @@ use Rattle.cbor.specs.Encoding.{unsigned}
 use Rattle.termwiz_screen.specs.FullScreen.{FullScreen}
 use Rattle.termwiz_screen.specs.Picture.{full_screens, played}
 use Rattle.termwiz_surface.specs.Answer.{is_repaint, suits}
-use Rattle.termwiz_surface.specs.SurfaceValue.{SurfaceValue, blank_surface, full_of}
+use Rattle.termwiz_surface.specs.Surface.{SurfaceValue, blank_surface, full_of}
 use Rattle.termwiz_wire.specs.declared.fault.Limits.{Limits}
 use Rattle.termwiz_wire.specs.declared.sent.Ask.{Ask}
 use Rattle.termwiz_wire.specs.declared.sent.SentAnswer.{SentAnswer}

@@ -5,7 +5,7 @@ use Rattle.termwiz_screen.specs.Log.{next_number}
 use Rattle.termwiz_screen.specs.Picture.{full_screens}
 use Rattle.termwiz_surface.specs.Carried.{IsPastOf}
 use Rattle.termwiz_surface.specs.History.{Names}
-use Rattle.termwiz_surface.specs.SurfaceValue.{full_of}
+use Rattle.termwiz_surface.specs.Surface.{full_of}
 use Rattle.termwiz_share.specs.Client.{ClientValue}
 use Rattle.termwiz_share.specs.Source.{SourceValue}
 

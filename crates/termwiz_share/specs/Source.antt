@@ -7,7 +7,7 @@ use Rattle.termwiz_surface.specs.Adding.{with_log}
 use Rattle.termwiz_surface.specs.Answer.{AnswerValue}
 use Rattle.termwiz_surface.specs.Asking.{forgotten, own_repaint}
 use Rattle.termwiz_surface.specs.Carried.{CarriesTo, IsGivenBy, IsPastOf}
-use Rattle.termwiz_surface.specs.SurfaceValue.{SurfaceValue, full_of}
+use Rattle.termwiz_surface.specs.Surface.{SurfaceValue, full_of}
 use Rattle.termwiz_wire.specs.Sent.{IsSent, answer}
 use Rattle.termwiz_wire.specs.declared.sent.Ask.{Ask}
 use Rattle.termwiz_wire.specs.declared.sent.SentAnswer.{SentAnswer}

@@ -5,7 +5,7 @@ use Rattle.termwiz_surface.specs.Accepting.{MayTake}
 use Rattle.termwiz_surface.specs.Answer.{AnswerValue, Carries}
 use Rattle.termwiz_surface.specs.Following.{ViewerValue}
 use Rattle.termwiz_screen.specs.FullScreen.{FullScreen, HasFullSize}
-use Rattle.termwiz_surface.specs.SurfaceValue.{full_of, SurfaceValue, screen_of}
+use Rattle.termwiz_surface.specs.Surface.{full_of, SurfaceValue, screen_of}
 use Rattle.termwiz_surface.specs.History.{Names}
 use Rattle.termwiz_screen.specs.Picture.{screens, full_screens}
 use Rattle.termwiz_screen.specs.Screen.{Screen}

@@ -8,7 +8,7 @@ use Rattle.termwiz_cell.specs.CellValue.{CellValue, blank_of}
 use Rattle.termwiz_storage.specs.Stored.{fill, IsPruned}
 use Rattle.termwiz_line.specs.Row.{row_of, clear}
 use Rattle.termwiz_screen.specs.Screen.{row_at}
-use Rattle.termwiz_surface.specs.SurfaceValue.{SurfaceValue, IsSound, screen_of}
+use Rattle.termwiz_surface.specs.Surface.{SurfaceValue, IsSound, screen_of}
 use Rattle.termwiz_screen.specs.Measured.{IsStored}
 use Rattle.termwiz_screen.specs.Clear.{pruned_length, cleared_row, cleared_row_length, cleared_length}
 use Rattle.termwiz_screen.specs.Rows.{IsPartly, ArePartly, AreFilled}

@@ -11,7 +11,7 @@ use Rattle.termwiz_screen.specs.Diff.{all_diff_entries, restoring}
 use Rattle.termwiz_screen.specs.Log.{next_number}
 use Rattle.termwiz_screen.specs.Screen.{Screen}
 use Rattle.termwiz_screen.specs.Step.{replay, regions_fit}
-use Rattle.termwiz_surface.specs.SurfaceValue.{SurfaceValue, IsSound, screen_of}
+use Rattle.termwiz_surface.specs.Surface.{SurfaceValue, IsSound, screen_of}
 use Rattle.termwiz_surface.specs.declared.surface.SurfaceError.{SurfaceError}
 use Rattle.termwiz_surface.specs.declared.surface.SurfaceError.TheVariants.{ScrollRegion}
 use Rattle.termwiz_screen.proofs.Restoring.{drawing_restores, drawings_fit, restoring_fits}

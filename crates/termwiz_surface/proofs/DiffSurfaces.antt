@@ -9,7 +9,7 @@ use Rattle.termwiz_line.specs.Row.{IsRow, row_of}
 use Rattle.termwiz_line.proofs.RowOf.{row_of_row}
 use Rattle.termwiz_screen.specs.Step.{replay}
 use Rattle.termwiz_screen.specs.Screen.{Screen, row_at}
-use Rattle.termwiz_surface.specs.SurfaceValue.{SurfaceValue, screen_of, IsSound}
+use Rattle.termwiz_surface.specs.Surface.{SurfaceValue, screen_of, IsSound}
 use Rattle.termwiz_screen.specs.Printable.{ArePrintable, IsPrintableRow}
 use Rattle.termwiz_screen.specs.Diff.{Region, cut, need, diff, band}
 use Rattle.termwiz_screen.specs.DiffLists.{IsDiff}

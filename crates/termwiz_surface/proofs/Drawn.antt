@@ -12,7 +12,7 @@ use Rattle.termwiz_screen.specs.Log.{LogValue, next_number}
 use Rattle.termwiz_screen.specs.Screen.{row_at}
 use Rattle.termwiz_screen.specs.Step.{regions_fit}
 use Rattle.termwiz_screen.specs.Print.{scrolled}
-use Rattle.termwiz_surface.specs.SurfaceValue.{SurfaceValue, IsSound}
+use Rattle.termwiz_surface.specs.Surface.{SurfaceValue, IsSound}
 use Rattle.termwiz_screen.specs.Measured.{IsMeasured, IsStored}
 use Rattle.termwiz_line.proofs.StoredRows.{row_blank}
 use Rattle.termwiz_screen.proofs.Regions.{length-region_up, length-region_down}

@@ -12,7 +12,7 @@ use Rattle.termwiz_screen.specs.ScreenValue.{screen_value}
 use Rattle.termwiz_screen.specs.declared.full.FullScreen as full_code
 use Rattle.termwiz_screen.specs.declared.screen.Screen as code
 use Rattle.termwiz_surface.specs.Following.{ViewerValue, Follows, Accepts, IsFitted, IsAnswer}
-use Rattle.termwiz_surface.specs.SurfaceValue.{SurfaceValue, screen_of, full_of}
+use Rattle.termwiz_surface.specs.Surface.{SurfaceValue, screen_of, full_of}
 use Rattle.termwiz_surface.specs.Schedule.{CatchesUp, HasUnmarkedRows, Views}
 use Rattle.termwiz_surface.specs.declared.view.Outcome.TheVariants.{Followed, FollowedFull}
 use Rattle.termwiz_surface.proofs.Viewing.{accepted_shows, accepted_shows_fully}

@@ -10,14 +10,14 @@ use Rattle.std.proofs.Math.Seq.{drop-length}
 use Rattle.termwiz_cell.specs.CellValue.{CellValue}
 use Rattle.termwiz_cell.specs.ChangeValue.{ChangeValue}
 use Rattle.termwiz_screen.specs.Diff.{Region}
-use Rattle.termwiz_surface.specs.Adding.{Adds, Makes, with_log}
+use Rattle.termwiz_surface.specs.Adding.{Adds, Makes}
 use Rattle.termwiz_surface.specs.Copies.{AddsDiff, AddsNothing}
 use Rattle.termwiz_surface.specs.Following.{ViewerValue, LeadsTo, Follows, has_size_of, asks_with, number_in_size, IsFitted}
 use Rattle.termwiz_screen.specs.Log.{LogValue, next_number, due, reaches, is_known, delta_limit, appended, flushed, restarted}
 use Rattle.termwiz_screen.specs.Printable.{HasSize}
 use Rattle.termwiz_surface.specs.Resizing.{HasResized, Resizes}
 use Rattle.termwiz_screen.specs.FullScreen.{full_screen, full_replay, HasFullSize}
-use Rattle.termwiz_surface.specs.SurfaceValue.{SurfaceValue, screen_of, kept_of, full_of}
+use Rattle.termwiz_surface.specs.Surface.{SurfaceValue, screen_of, kept_of, full_of}
 use Rattle.termwiz_screen.specs.Picture.{Pictures, screens, full_screens, played}
 use Rattle.termwiz_screen.specs.Step.{replay}
 use Rattle.termwiz_screen.specs.Stream.{Brings, IsStream, IsFullStream}
@@ -25,7 +25,6 @@ use Rattle.termwiz_surface.specs.declared.surface.SurfaceError.{SurfaceError}
 use Rattle.termwiz_surface.specs.declared.surface.SurfaceError.TheVariants.{ScrollRegion, Numbers, Memory}
 use Rattle.termwiz_screen.proofs.FullScreens.{full-replayed}
 use Rattle.termwiz_screen.proofs.Logs.{reached, restarted_number}
-use Rattle.termwiz_surface.proofs.ResizedSize.{resized_size}
 
 pub known_tells : (most : ℕ) (log : LogValue) (n : ℕ) → is_known most log n ≡ true → (n ≡ 0 → ⊥) × (log.first ≤ n)
 known_tells most log n h = (grind (arith, nat_tests), grind (arith, nat_tests))
@@ -126,13 +125,6 @@ module _ {W : Type 0} (f : W → List ℕ → ℕ) where
   pub Follows-resized : (v : ViewerValue W) (s t : SurfaceValue W) (width height : ℕ) → Follows f v s → HasResized s width height t → Follows f v t
   Follows-resized v s t width height h r = Follows-restarted v s t h r.widths r.full r.log
 
-  pub Follows-flushed : (v : ViewerValue W) (s : SurfaceValue W) (n : ℕ) → Follows f v s → Follows f v (with_log s (flushed s.log n))
-  Follows-flushed v s n h = record {
-    one_measure = h.one_measure;
-    leads = Leads-flushed screens (f s.widths) (screen_of v.surface) (screen_of s) v.last n s.log h.leads;
-    full = λ e. Leads-flushed full_screens (f s.widths) (full_of v.surface) (full_of s) v.last n s.log (h.full e);
-  }
-
   -- after a list of changes, whatever was answered
   pub Follows-adds : (v : ViewerValue W) (s t : SurfaceValue W) (cs : List ChangeValue) (told : ℕ) (result : Result ℕ SurfaceError) → Follows f v s → Adds (f s.widths) s cs told result t → Follows f v t
   Follows-adds v s t cs told (Ok n) h a = Follows-makes v s t cs h a.3
@@ -186,15 +178,6 @@ module _ {W : Type 0} (f : W → List ℕ → ℕ) where
   fully_caught_up v s cs h e size a = Leads-stream full_screens (f s.widths) (full_of v.surface) (full_of s) v.last s.log cs size (h.full e) a
 
 module _ {W : Type 0} where
-  -- a viewer that takes the surface's size has it
-  pub fitted_size : (old : ViewerValue W) (s : SurfaceValue W) (new : ViewerValue W) → HasSize old.surface.width old.surface.height (screen_of old.surface) → IsFitted old s new → HasSize s.width s.height (screen_of new.surface)
-  fitted_size old s new size k = elim (cases_Bool (has_size_of old s)) [
-    | inl e ↦
-        let parts = and_parts (old.surface.width == s.width) (old.surface.height == s.height) e in
-        rw (k.same e, ← eqb-true old.surface.width s.width parts.0, ← eqb-true old.surface.height s.height parts.1) size
-    | inr e ↦ rw ((k.other e).1.screen_is) (resized_size (screen_of old.surface) s.width s.height)
-  ]
-
   pub fitted_widths : (old : ViewerValue W) (s : SurfaceValue W) (new : ViewerValue W) → IsFitted old s new → new.surface.widths ≡ old.surface.widths
   fitted_widths old s new k = elim (cases_Bool (has_size_of old s)) [
     | inl e ↦ ap (λ (v : ViewerValue W). v.surface.widths) (k.same e)

@@ -12,7 +12,7 @@ use Rattle.termwiz_surface.specs.ManySchedule.{Held, ManyState, Receives, Resize
 use Rattle.termwiz_surface.specs.ManySteps.{many_state, IsNamed, IsHeld, Remembers, AnswersTo, TakesAs, DeliversTo, Serves}
 use Rattle.termwiz_surface.specs.Schedule.{Acts}
 use Rattle.termwiz_screen.specs.Screen.{Screen}
-use Rattle.termwiz_surface.specs.SurfaceValue.{SurfaceValue, screen_of}
+use Rattle.termwiz_surface.specs.Surface.{SurfaceValue, screen_of}
 use Rattle.termwiz_surface.specs.declared.surface.SurfaceError.TheVariants as refused
 use Rattle.termwiz_surface.specs.declared.view.Event.{Event}
 use Rattle.termwiz_surface.specs.declared.view.Outcome.{Outcome}

@@ -20,7 +20,7 @@ use Rattle.termwiz_screen.specs.Print.{print_one, put_at_cursor, put_kept, print
 use Rattle.termwiz_screen.specs.Runs.{AreNarrow, AreWide}
 use Rattle.termwiz_surface.specs.Printing.{PrintsGraphemes, PrintsFirst}
 use Rattle.termwiz_screen.specs.Rows.{painted_in}
-use Rattle.termwiz_surface.specs.SurfaceValue.{SurfaceValue, IsSound, Becomes, screen_of, kept_of}
+use Rattle.termwiz_surface.specs.Surface.{SurfaceValue, IsSound, Becomes, screen_of, kept_of}
 use Rattle.termwiz_screen.proofs.Stored.{IsLawful}
 use Rattle.termwiz_screen.proofs.Runs.{PrintsCell, PrintsCell-plain, screen-from_wrap, kept-from_wrap, kept_after-append}
 use Rattle.termwiz_screen.proofs.LetterRuns.{PrintsCell-letter}

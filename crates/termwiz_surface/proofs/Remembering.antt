@@ -13,7 +13,7 @@ use Rattle.termwiz_cell.specs.ChangeValue.{ChangeValue}
 use Rattle.termwiz_surface.specs.Adding.{Makes, with_log}
 use Rattle.termwiz_surface.specs.Answer.{AnswerValue, IsGiven, Carries, is_stale}
 use Rattle.termwiz_surface.specs.Following.{LeadsTo}
-use Rattle.termwiz_surface.specs.SurfaceValue.{full_of, SameFrame, SurfaceValue, screen_of}
+use Rattle.termwiz_surface.specs.Surface.{full_of, SameFrame, SurfaceValue, screen_of}
 use Rattle.termwiz_surface.specs.History.{Names, IsPast, GoesOn, KeepsNames}
 use Rattle.termwiz_screen.specs.Log.{LogValue, next_number, due, is_known, delta_limit, appended, flushed, restarted}
 use Rattle.termwiz_screen.specs.Picture.{Pictures, screens, full_screens, played}

@@ -7,7 +7,7 @@ use Rattle.termwiz_line.specs.Row.{row_of}
 use Rattle.termwiz_screen.specs.Printable.{HasSize}
 use Rattle.termwiz_line.specs.LineFlags.{no_flags}
 use Rattle.termwiz_screen.specs.FullScreen.{HasFullSize, line_attribute}
-use Rattle.termwiz_surface.specs.SurfaceValue.{SurfaceValue, screen_of, full_of}
+use Rattle.termwiz_surface.specs.Surface.{SurfaceValue, screen_of, full_of}
 use Rattle.termwiz_screen.specs.Kept.{Kept}
 use Rattle.termwiz_surface.specs.Resizing.{HasResized}
 use Rattle.termwiz_screen.specs.Resized.{resized_screen}

@@ -2,7 +2,7 @@
 use Rattle.std.proofs.Common.{◌≡◌, ℕ, List, [], ◌∷◌, ◌++◌, refl, sym, subst}
 use Rattle.std.specs.Prelude.{Result}
 use Rattle.termwiz_surface.specs.Following.{ViewerValue, Follows}
-use Rattle.termwiz_surface.specs.SurfaceValue.{SurfaceValue}
+use Rattle.termwiz_surface.specs.Surface.{SurfaceValue}
 use Rattle.termwiz_surface.specs.declared.surface.SurfaceError.{SurfaceError}
 use Rattle.termwiz_surface.specs.Schedule.{Reports, Acts, Views, Allows, Runs, Ended, Next, with_empty_log}
 use Rattle.termwiz_surface.specs.declared.view.Event.{Event}

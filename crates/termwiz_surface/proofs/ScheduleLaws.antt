@@ -12,7 +12,7 @@ use Rattle.termwiz_surface.proofs.Following.{known_tells, fitted_last, fitted_ro
 use Rattle.termwiz_surface.proofs.SoundRepaint.{sound_has_size, sound_is_printable}
 use Rattle.termwiz_surface.specs.Asking.{knows, most_own_entries}
 use Rattle.termwiz_surface.specs.Following.{ViewerValue, Follows, IsLost, HasNoRoom, HasRoom, has_size_of, asks_with, number_in_size}
-use Rattle.termwiz_surface.specs.SurfaceValue.{SurfaceValue, screen_of, full_of}
+use Rattle.termwiz_surface.specs.Surface.{SurfaceValue, screen_of, full_of}
 use Rattle.termwiz_surface.specs.Schedule.{CatchesUp, with_empty_log}
 use Rattle.termwiz_surface.specs.ScheduleLaws.{LeadOn, FollowedLeadOn, FollowedFullLeadOn, Loses, LackNumbers, LackMemory, BrokenListsLeaveForm}
 

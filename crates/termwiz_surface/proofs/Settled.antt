@@ -10,7 +10,7 @@ use Rattle.termwiz_line.specs.LineValue.{LineValue}
 use Rattle.termwiz_line.specs.Row.{row_of}
 use Rattle.termwiz_screen.specs.Screen.{row_at}
 use Rattle.termwiz_screen.specs.ScreenValue.{cells_of, numberless}
-use Rattle.termwiz_surface.specs.SurfaceValue.{SurfaceValue, IsSound}
+use Rattle.termwiz_surface.specs.Surface.{SurfaceValue, IsSound}
 use Rattle.termwiz_screen.specs.Measured.{IsStored}
 use Rattle.termwiz_line.proofs.StoredRows.{row_ext}
 use Rattle.termwiz_screen.proofs.Stored.{halved}

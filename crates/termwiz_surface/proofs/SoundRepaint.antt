@@ -9,7 +9,7 @@ use Rattle.termwiz_screen.specs.Screen.{Screen, row_at}
 use Rattle.termwiz_screen.specs.Step.{replay, regions_fit}
 use Rattle.termwiz_screen.specs.Repaint.{repaint_in, full_repaint}
 use Rattle.termwiz_screen.specs.FullScreen.{FullScreen, line_attribute, full_screen, full_replay, HasFullSize}
-use Rattle.termwiz_surface.specs.SurfaceValue.{SurfaceValue, screen_of, kept_of, full_of, IsSound}
+use Rattle.termwiz_surface.specs.Surface.{SurfaceValue, screen_of, kept_of, full_of, IsSound}
 use Rattle.termwiz_screen.specs.Kept.{Kept}
 use Rattle.termwiz_screen.specs.Stream.{most_entries}
 use Rattle.termwiz_screen.specs.Measured.{IsMeasured, IsStored}

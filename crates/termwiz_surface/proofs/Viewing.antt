@@ -10,7 +10,7 @@ use Rattle.termwiz_screen.specs.Picture.{Pictures, screens, full_screens}
 use Rattle.termwiz_surface.specs.Adding.{Makes}
 use Rattle.termwiz_screen.specs.FullScreen.{HasFullSize, full_replay}
 use Rattle.termwiz_surface.specs.History.{GoesOn, KeepsNames}
-use Rattle.termwiz_surface.specs.SurfaceValue.{SurfaceValue, screen_of, full_of}
+use Rattle.termwiz_surface.specs.Surface.{SurfaceValue, screen_of, full_of}
 use Rattle.termwiz_screen.specs.Step.{replay, regions_fit}
 use Rattle.termwiz_surface.specs.declared.surface.SurfaceError.{SurfaceError}
 use Rattle.termwiz_surface.specs.declared.surface.SurfaceError.TheVariants.{ScrollRegion, Numbers, Memory}

@@ -4,7 +4,7 @@ use Rattle.termwiz_surface.specs.Adding.{Makes, with_log}
 use Rattle.termwiz_surface.specs.Answer.{AnswerValue, suits, is_stale}
 use Rattle.termwiz_surface.specs.Following.{ViewerValue, forgetful}
 use Rattle.termwiz_screen.specs.Log.{next_number, restarted}
-use Rattle.termwiz_surface.specs.SurfaceValue.{IsSound, SameFrame}
+use Rattle.termwiz_surface.specs.Surface.{IsSound, SameFrame}
 use Rattle.termwiz_surface.specs.declared.view.viewer.AcceptError.{AcceptError}
 use Rattle.termwiz_surface.specs.declared.view.viewer.AcceptError.TheVariants.{Size, Stale, Numbers, Memory}
 

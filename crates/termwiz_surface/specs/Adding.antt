@@ -2,7 +2,7 @@
 use Rattle.std.specs.Prelude.{◌≡◌, ℕ, ◌+◌, ◌<◌, ◌≤◌, ◌^◌, true, false, List, length, Result, Ok, Err}
 use Rattle.termwiz_cell.specs.ChangeValue.{ChangeValue}
 use Rattle.termwiz_screen.specs.Log.{LogValue, next_number, appended, restarted}
-use Rattle.termwiz_surface.specs.SurfaceValue.{SurfaceValue, screen_of, kept_of, IsSound, SameFrame, Becomes}
+use Rattle.termwiz_surface.specs.Surface.{SurfaceValue, screen_of, kept_of, IsSound, SameFrame, Becomes}
 use Rattle.termwiz_screen.specs.Step.{replay, replay_kept, regions_fit}
 use Rattle.termwiz_surface.specs.declared.surface.SurfaceError.{SurfaceError}
 use Rattle.termwiz_surface.specs.declared.surface.SurfaceError.TheVariants.{ScrollRegion, Numbers, Memory}

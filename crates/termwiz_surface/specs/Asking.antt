@@ -7,7 +7,7 @@ use Rattle.termwiz_screen.specs.Repaint.{repaint_in}
 use Rattle.termwiz_screen.specs.Screen.{Screen}
 use Rattle.termwiz_screen.specs.Step.{replay}
 use Rattle.termwiz_screen.specs.Stream.{IsStream, IsFullStream, most_entries}
-use Rattle.termwiz_surface.specs.SurfaceValue.{SurfaceValue, screen_of, kept_of, full_of}
+use Rattle.termwiz_surface.specs.Surface.{SurfaceValue, screen_of, kept_of, full_of}
 
 -- the log with at most so many changes, the last ones
 abbrev pub forgotten : ℕ → LogValue → LogValue

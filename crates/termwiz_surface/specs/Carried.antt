@@ -3,7 +3,7 @@ use Rattle.std.specs.Prelude.{ℕ, List}
 use Rattle.termwiz_screen.specs.Picture.{Pictures}
 use Rattle.termwiz_surface.specs.Answer.{AnswerValue, IsGiven, Carries}
 use Rattle.termwiz_surface.specs.History.{IsPast}
-use Rattle.termwiz_surface.specs.SurfaceValue.{SurfaceValue, full_of}
+use Rattle.termwiz_surface.specs.Surface.{SurfaceValue, full_of}
 
 module _ {P : Type 0} (pictures : Pictures P) {W : Type 0} (measure_of : W → List ℕ → ℕ) where
   -- past says which pictures its numbers name

@@ -7,7 +7,7 @@ use Rattle.termwiz_screen.specs.Diff.{Region, cut, diff, need, restoring}
 use Rattle.termwiz_screen.specs.DiffLists.{IsDiff}
 use Rattle.termwiz_screen.specs.Log.{next_number}
 use Rattle.termwiz_screen.specs.Screen.{Screen}
-use Rattle.termwiz_surface.specs.SurfaceValue.{SurfaceValue, screen_of}
+use Rattle.termwiz_surface.specs.Surface.{SurfaceValue, screen_of}
 use Rattle.termwiz_surface.specs.declared.surface.SurfaceError.{SurfaceError}
 use Rattle.termwiz_surface.specs.declared.surface.SurfaceError.TheVariants.{Memory}
 

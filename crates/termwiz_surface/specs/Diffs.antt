@@ -9,7 +9,7 @@ use Rattle.termwiz_screen.specs.DiffRegions.{CrossNone, HaveRegion}
 use Rattle.termwiz_screen.specs.Screen.{Screen, row_at}
 use Rattle.termwiz_screen.specs.Step.{replay}
 use Rattle.termwiz_surface.specs.Copies.{drawn_region}
-use Rattle.termwiz_surface.specs.SurfaceValue.{SurfaceValue, screen_of}
+use Rattle.termwiz_surface.specs.Surface.{SurfaceValue, screen_of}
 
 module _ {W : Type 0} (measure_of : W → List ℕ → ℕ) where
   -- both surfaces measure texts alike

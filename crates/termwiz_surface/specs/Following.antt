@@ -12,7 +12,7 @@ use Rattle.termwiz_screen.specs.Screen.{Screen}
 use Rattle.termwiz_screen.specs.Step.{regions_fit}
 use Rattle.termwiz_screen.specs.Stream.{IsStream, IsFullStream, most_entries, stream_of}
 use Rattle.termwiz_screen.specs.FullScreen.{FullScreen}
-use Rattle.termwiz_surface.specs.SurfaceValue.{SurfaceValue, blank_surface, screen_of, full_of}
+use Rattle.termwiz_surface.specs.Surface.{SurfaceValue, blank_surface, screen_of, full_of}
 use Rattle.termwiz_screen.specs.Picture.{Pictures, screens, full_screens, played}
 use Rattle.termwiz_surface.specs.declared.surface.SurfaceError.{SurfaceError}
 use Rattle.termwiz_surface.specs.declared.surface.SurfaceError.TheVariants.{ScrollRegion, Numbers, Memory}

@@ -1,7 +1,7 @@
 -- What the numbers of a surface name: above 0 each number that it had names one picture, since whatever changes the picture takes new numbers. At 0 it may have had many.
 use Rattle.std.specs.Prelude.{◌≡◌, ℕ, ◌≤◌, List}
 use Rattle.termwiz_surface.specs.Following.{LeadsTo}
-use Rattle.termwiz_surface.specs.SurfaceValue.{full_of, SurfaceValue}
+use Rattle.termwiz_surface.specs.Surface.{full_of, SurfaceValue}
 use Rattle.termwiz_screen.specs.Log.{LogValue, next_number}
 use Rattle.termwiz_screen.specs.Picture.{Pictures, screens, full_screens}
 

@@ -1,4 +1,4 @@
-pub mod SurfaceValue
+pub mod Surface
 pub mod Printing
 pub mod Adding
 pub mod Resizing
@@ -47,7 +47,7 @@ pub use Rattle.termwiz_screen.specs.Fewest
 pub use Rattle.termwiz_screen.specs.SequenceLaws
 pub use Rattle.termwiz_cell.specs.ChangeValue
 -- what callers cite, by its name alone: surfaces, viewers and answers,
-pub use Rattle.termwiz_surface.specs.SurfaceValue.{SurfaceValue, blank_surface, screen_of, kept_of, full_of, IsSound, IsSurfaceSize, SameFrame}
+pub use Rattle.termwiz_surface.specs.Surface.{SurfaceValue, blank_surface, screen_of, kept_of, full_of, IsSound, IsSurfaceSize, SameFrame}
 pub use Rattle.termwiz_surface.specs.Adding.{Adds, Makes, with_log}
 pub use Rattle.termwiz_surface.specs.Resizing.{HasResized, Resizes}
 pub use Rattle.termwiz_surface.specs.Copies.{IsDrawn, IsCopied, drawn_region, copied_region}
@@ -150,5 +150,5 @@ pub use Rattle.termwiz_surface.specs.ManySteps.{AnswersTo, DeliversTo, Remembers
 pub use Rattle.termwiz_surface.specs.Printing.{PrintsFirst, PrintsGraphemes}
 pub use Rattle.termwiz_surface.specs.Schedule.{Acts, Allows, IsInRange, IsScheduleOf, Reports, Views, with_empty_log}
 pub use Rattle.termwiz_surface.specs.ScheduleLaws.{BrokenListsLeaveForm, FollowedFullLeadOn, FollowedLeadOn, LackMemory, LackNumbers}
-pub use Rattle.termwiz_surface.specs.SurfaceValue.{Becomes, lengths_of}
+pub use Rattle.termwiz_surface.specs.Surface.{Becomes, lengths_of}
 pub use Rattle.unicode_segmentation.specs.Grapheme.{graphemes}

@@ -9,7 +9,7 @@ use Rattle.termwiz_surface.specs.Asking.{knows, own_repaint}
 use Rattle.termwiz_surface.specs.Carried.{IsGivenBy}
 use Rattle.termwiz_surface.specs.Following.{ViewerValue, blank_viewer}
 use Rattle.termwiz_surface.specs.Resizing.{Resizes}
-use Rattle.termwiz_surface.specs.SurfaceValue.{IsSurfaceSize, SurfaceValue, blank_surface, screen_of}
+use Rattle.termwiz_surface.specs.Surface.{IsSurfaceSize, SurfaceValue, blank_surface, screen_of}
 use Rattle.termwiz_surface.specs.declared.surface.SurfaceError.TheVariants as refused
 use Rattle.termwiz_surface.specs.Accepting.{Takes}
 use Rattle.termwiz_surface.specs.Schedule.{Acts, HasUnmarkedRows, IsInRange}

@@ -13,7 +13,7 @@ use Rattle.termwiz_screen.specs.Picture.{screens}
 use Rattle.termwiz_surface.specs.Schedule.{HasUnmarkedRows}
 use Rattle.termwiz_screen.specs.Screen.{Screen}
 use Rattle.termwiz_screen.specs.ScreenValue.{screen_value}
-use Rattle.termwiz_surface.specs.SurfaceValue.{SurfaceValue, screen_of}
+use Rattle.termwiz_surface.specs.Surface.{SurfaceValue, screen_of}
 use Rattle.termwiz_surface.specs.declared.surface.SurfaceError.TheVariants as refused
 use Rattle.termwiz_surface.specs.declared.view.many.ManyEvent.{ManyEvent}
 use Rattle.termwiz_surface.specs.declared.view.many.ManyOutcome.{ManyOutcome}

@@ -3,7 +3,7 @@ use Rattle.std.specs.Prelude.{◌≡◌, ℕ, ◌<◌, true, List, ◌++◌, fol
 use Rattle.std.specs.Str.{IsUtf8}
 use Rattle.unicode_segmentation.specs.Grapheme.{graphemes}
 use Rattle.termwiz_screen.specs.Print.{print_one, kept_after}
-use Rattle.termwiz_surface.specs.SurfaceValue.{SurfaceValue, screen_of, kept_of, Becomes}
+use Rattle.termwiz_surface.specs.Surface.{SurfaceValue, screen_of, kept_of, Becomes}
 
 module _ {W : Type 0} where
   -- the graphemes are printed

@@ -2,7 +2,7 @@
 use Rattle.std.specs.Prelude.{◌≡◌, ℕ, ◌+◌, ◌<◌, ◌≤◌, ◌^◌, Result, Ok, Err}
 use Rattle.termwiz_screen.specs.Log.{next_number, restarted}
 use Rattle.termwiz_screen.specs.Resized.{resized_screen, resized_kept}
-use Rattle.termwiz_surface.specs.SurfaceValue.{SurfaceValue, screen_of, kept_of, Becomes}
+use Rattle.termwiz_surface.specs.Surface.{SurfaceValue, screen_of, kept_of, Becomes}
 use Rattle.termwiz_surface.specs.declared.surface.SurfaceError.{SurfaceError}
 use Rattle.termwiz_surface.specs.declared.surface.SurfaceError.TheVariants.{ScrollRegion, Numbers, Memory}
 

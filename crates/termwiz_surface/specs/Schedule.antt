@@ -15,7 +15,7 @@ use Rattle.termwiz_surface.specs.Adding.{Adds, with_log}
 use Rattle.termwiz_surface.specs.Copies.{IsDrawn, IsCopied}
 use Rattle.termwiz_surface.specs.Following.{ViewerValue, Follows, FollowsTo, IsAnswer, blank_viewer}
 use Rattle.termwiz_surface.specs.Resizing.{Resizes}
-use Rattle.termwiz_surface.specs.SurfaceValue.{IsSurfaceSize, SurfaceValue, blank_surface, screen_of, lengths_of, full_of}
+use Rattle.termwiz_surface.specs.Surface.{IsSurfaceSize, SurfaceValue, blank_surface, screen_of, lengths_of, full_of}
 use Rattle.termwiz_surface.specs.declared.surface.SurfaceError.{SurfaceError}
 use Rattle.termwiz_surface.specs.declared.surface.SurfaceError.TheVariants.{Memory}
 use Rattle.termwiz_surface.specs.declared.view.Event.{Event}

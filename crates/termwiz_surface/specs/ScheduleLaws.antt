@@ -13,7 +13,7 @@ use Rattle.termwiz_screen.specs.declared.screen.Screen as code
 use Rattle.termwiz_surface.specs.Adding.{Adds}
 use Rattle.termwiz_surface.specs.Asking.{knows, own_repaint, most_own_entries}
 use Rattle.termwiz_surface.specs.Following.{ViewerValue, number_in_size}
-use Rattle.termwiz_surface.specs.SurfaceValue.{SurfaceValue, screen_of, full_of}
+use Rattle.termwiz_surface.specs.Surface.{SurfaceValue, screen_of, full_of}
 use Rattle.termwiz_surface.specs.declared.surface.SurfaceError.TheVariants.{Numbers, Memory}
 use Rattle.termwiz_surface.specs.Schedule.{Allows}
 use Rattle.termwiz_surface.specs.declared.view.Event.TheVariants.{Follow}

@@ -5,7 +5,7 @@ use Rattle.termwiz_screen.specs.Picture.{Pictures}
 use Rattle.termwiz_surface.specs.Answer.{AnswerValue, Carries}
 use Rattle.termwiz_surface.specs.Following.{ViewerValue}
 use Rattle.termwiz_surface.specs.History.{Names}
-use Rattle.termwiz_surface.specs.SurfaceValue.{SurfaceValue, screen_of, full_of}
+use Rattle.termwiz_surface.specs.Surface.{SurfaceValue, screen_of, full_of}
 use Rattle.termwiz_surface.specs.declared.view.viewer.AcceptError.{AcceptError}
 
 -- the surface's screen, and it has the surface's number

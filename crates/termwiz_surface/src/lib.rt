@@ -6,7 +6,7 @@
 //! lines and shaper clusters. `specs/Lib.antt` re-exports the definitions that callers cite, each
 //! by its name alone.
 //!
-//! - `specs/SurfaceValue.antt` defines a surface in contracts, and its invariant.
+//! - `specs/Surface.antt` defines a surface in contracts, and its invariant.
 //! - `specs/Adding.antt`, `specs/Resizing.antt` and `specs/Copies.antt` define what a list of
 //!   changes, a resize, and draws and copies do to a surface (`surface.rt`).
 //! - `specs/Asking.antt` defines what answers viewers get, and `specs/Diffs.antt` what a diff of

@@ -135,7 +135,7 @@ pub struct Surface<W: Widths> {
 impl<W: Widths> Model for Surface<W> {
     ghost use Rattle.std.specs.Prelude.{string_bytes};
     ghost use Rattle.termwiz_screen.specs.{AreVectors, cells_of, measure, row_flags};
-    ghost use Rattle.termwiz_surface.specs.SurfaceValue.{IsSound, SurfaceValue};
+    ghost use Rattle.termwiz_surface.specs.Surface.{IsSound, SurfaceValue};
 
     ghost Value = { SurfaceValue W };
 

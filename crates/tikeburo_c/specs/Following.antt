@@ -4,7 +4,7 @@ use Rattle.termwiz_screen.specs.Log.{flushed, next_number}
 use Rattle.termwiz_surface.specs.Showing.{HasCaughtUp}
 use Rattle.termwiz_surface.specs.Adding.{with_log}
 use Rattle.termwiz_surface.specs.Following.{Follows, FollowsTo, ViewerValue, blank_viewer}
-use Rattle.termwiz_surface.specs.SurfaceValue.{SurfaceValue, full_of}
+use Rattle.termwiz_surface.specs.Surface.{SurfaceValue, full_of}
 use Rattle.termwiz_surface.specs.declared.surface.SurfaceError.{SurfaceError}
 use Rattle.tikeburo_c.specs.Kept.{number_of, shown_of}
 use Rattle.tikeburo_c.specs.Outcomes.{Outcome, changing_failure, outcome_of}

@@ -1,6 +1,6 @@
 -- What a handle may have.
 use Rattle.std.specs.Prelude.{ℕ}
-use Rattle.termwiz_surface.specs.SurfaceValue.{SurfaceValue}
+use Rattle.termwiz_surface.specs.Surface.{SurfaceValue}
 use Rattle.tikeburo_c.specs.declared.kept.Kept.{Kept}
 use Rattle.tikeburo_c.specs.declared.kept.Kept.TheVariants.{Surface, Viewer, Client}
 use Rattle.tikeburo_c.specs.declared.widths.ChosenWidths.{ChosenWidths}

@@ -3,7 +3,7 @@ use Rattle.std.specs.Prelude.{◌≡◌, ℕ, ◌^◌, Bool, true, ◌&&◌, nat
 use Rattle.termwiz_share.specs.Client.{ClientValue}
 use Rattle.termwiz_share.specs.Source.{SourceValue}
 use Rattle.termwiz_surface.specs.Resizing.{Resizes}
-use Rattle.termwiz_surface.specs.SurfaceValue.{blank_surface}
+use Rattle.termwiz_surface.specs.Surface.{blank_surface}
 use Rattle.termwiz_surface.specs.declared.surface.SurfaceError.{SurfaceError}
 use Rattle.termwiz_wire.specs.declared.fault.Limits.{Limits}
 use Rattle.tikeburo_c.specs.Changes.{GoesOn}

@@ -3,7 +3,7 @@ use Rattle.std.specs.Prelude.{ℕ, ℤ, Bool, true, false, List}
 use Rattle.termwiz_cell.specs.declared.change.CursorVisibility.{CursorVisibility}
 use Rattle.termwiz_cell.specs.declared.change.CursorVisibility.TheVariants.{Hidden, Visible}
 use Rattle.termwiz_screen.specs.ShownChars.{shown_chars}
-use Rattle.termwiz_surface.specs.SurfaceValue.{SurfaceValue, lengths_of, screen_of}
+use Rattle.termwiz_surface.specs.Surface.{SurfaceValue, lengths_of, screen_of}
 use Rattle.tikeburo_c.specs.Handles.{kept_of}
 use Rattle.tikeburo_c.specs.Outcomes.{Reports}
 use Rattle.tikeburo_c.specs.Results.{Reads, Returns}

@@ -1,6 +1,6 @@
 //! Surfaces: how they are made and freed, and take another size.
 ghost use Rattle.std.specs.Prelude.{◌≡◌, IfErr, IfOk, IsTrue, None, ◌<◌};
-ghost use Rattle.termwiz_surface.specs.SurfaceValue.{IsSurfaceSize};
+ghost use Rattle.termwiz_surface.specs.Surface.{IsSurfaceSize};
 ghost use Rattle.tikeburo_c.specs.Handles.{kept_of};
 ghost use Rattle.tikeburo_c.specs.Making.{MakesSurface, ResizesIn, TakesSize, blank_source};
 ghost use Rattle.tikeburo_c.specs.Making.{is_size, widths_for};

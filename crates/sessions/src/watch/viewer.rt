@@ -102,7 +102,7 @@ pub struct StreamViewer {
 
 impl Model for StreamViewer {
     ghost use Rattle.sessions.specs.Viewing.{Viewing};
-    ghost use Rattle.termwiz_surface.specs.SurfaceValue.{screen_of};
+    ghost use Rattle.termwiz_surface.specs.Surface.{screen_of};
 
     ghost Value = { Viewing };
 

@@ -3,7 +3,7 @@ use Rattle.std.proofs.lemmas.List.{append_assoc, append-nil}
 use Rattle.std.proofs.lemmas.List.Elements.{All-head, All-tail}
 use Rattle.std.specs.List.{All}
 use Rattle.termwiz_surface.specs.Following.{blank_viewer}
-use Rattle.termwiz_surface.specs.SurfaceValue.{blank_surface}
+use Rattle.termwiz_surface.specs.Surface.{blank_surface}
 use Rattle.termwiz_surface.specs.Schedule.{Ended, IsInRange}
 use Rattle.termwiz_surface.proofs.Following.{Follows-same}
 use Rattle.termwiz_surface.proofs.Running.{Runs-push}

@@ -2,7 +2,7 @@ use Rattle.std.proofs.Common.{◌≡◌, List, ◌++◌, length}
 use Rattle.std.specs.List.{All}
 use Rattle.termwiz_cell.specs.Measure.{measure}
 use Rattle.termwiz_surface.specs.Following.{Follows, blank_viewer}
-use Rattle.termwiz_surface.specs.SurfaceValue.{blank_surface}
+use Rattle.termwiz_surface.specs.Surface.{blank_surface}
 use Rattle.termwiz_surface.specs.Schedule.{IsInRange, Runs}
 use Rattle.termwiz_surface.specs.declared.view.Event.{Event}
 use Rattle.termwiz_surface.proofs.view.run_on.Given as goal

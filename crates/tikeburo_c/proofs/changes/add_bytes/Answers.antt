@@ -5,7 +5,7 @@ use Rattle.std.specs.declared.vec.Vec.{Vec}
 use Rattle.termwiz_cell.specs.ChangeValue.{ChangeValue, change_value}
 use Rattle.termwiz_cell.specs.declared.change.Change.{Change}
 use Rattle.termwiz_share.specs.Source.{SourceValue}
-use Rattle.termwiz_surface.specs.SurfaceValue.{SurfaceValue}
+use Rattle.termwiz_surface.specs.Surface.{SurfaceValue}
 use Rattle.tikeburo_c.proofs.Decoded.{failed_by}
 use Rattle.tikeburo_c.specs.Changes.{AddsBytes, AddsList, IsOnlyList}
 use Rattle.tikeburo_c.specs.Outcomes.{Outcome}

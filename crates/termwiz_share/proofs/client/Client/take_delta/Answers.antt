@@ -1,6 +1,6 @@
 use Rattle.std.proofs.Common.{List, ℕ, sym, refl, ◌∙◌}
 use Rattle.termwiz_cell.specs.Measure.{measure}
-use Rattle.termwiz_surface.specs.SurfaceValue.{full_of}
+use Rattle.termwiz_surface.specs.Surface.{full_of}
 use Rattle.termwiz_share.proofs.Taking.{delta_taken, made_of}
 use Rattle.termwiz_share.proofs.client.Client.take_delta.Goals as goal
 

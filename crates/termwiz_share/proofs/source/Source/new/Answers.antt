@@ -1,6 +1,6 @@
 use Rattle.std.proofs.Common.{sym, ap, ◌∙◌}
 use Rattle.termwiz_cell.specs.Measure.{measure}
-use Rattle.termwiz_surface.specs.SurfaceValue.{SurfaceValue}
+use Rattle.termwiz_surface.specs.Surface.{SurfaceValue}
 use Rattle.termwiz_share.proofs.Served.{serves_first}
 use Rattle.termwiz_share.proofs.source.Source.new.Goals as goal
 

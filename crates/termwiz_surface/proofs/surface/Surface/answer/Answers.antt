@@ -7,7 +7,7 @@ use Rattle.std.proofs.lemmas.Bool.{cases_Bool}
 use Rattle.termwiz_cell.proofs.Lists.{map-clone}
 use Rattle.termwiz_cell.specs.ChangeValue.{change_value}
 use Rattle.termwiz_screen.specs.Log.{is_known, delta_limit}
-use Rattle.termwiz_surface.specs.SurfaceValue.{full_of, SurfaceValue, screen_of}
+use Rattle.termwiz_surface.specs.Surface.{full_of, SurfaceValue, screen_of}
 use Rattle.termwiz_screen.specs.Picture.{screens, full_screens}
 use Rattle.termwiz_screen.specs.Step.{regions_fit}
 use Rattle.termwiz_screen.specs.Stream.{IsStream, IsFullStream, stream_of}

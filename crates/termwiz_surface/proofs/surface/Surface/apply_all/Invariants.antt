@@ -2,7 +2,7 @@ use Rattle.std.proofs.Common.{◌≡◌, true, drop, map}
 use Rattle.termwiz_cell.specs.ChangeValue.{change_value}
 use Rattle.termwiz_cell.specs.Measure.{measure}
 use Rattle.termwiz_screen.specs.Step.{regions_fit, replay, replay_kept}
-use Rattle.termwiz_surface.specs.SurfaceValue.{SameFrame, screen_of, kept_of}
+use Rattle.termwiz_surface.specs.Surface.{SameFrame, screen_of, kept_of}
 use Rattle.termwiz_surface.proofs.surface.Surface.apply_all.Given as goal
 
 -- what is left to do leads to the whole

@@ -3,7 +3,7 @@ use Rattle.std.specs.Prelude.{None, string_bytes}
 use Rattle.termwiz_cell.specs.Measure.{measure}
 use Rattle.termwiz_screen.specs.ScreenValue.{cells_of}
 use Rattle.termwiz_screen.specs.Log.{next_number}
-use Rattle.termwiz_surface.specs.SurfaceValue.{SurfaceValue}
+use Rattle.termwiz_surface.specs.Surface.{SurfaceValue}
 use Rattle.termwiz_screen.proofs.Logs.{restarted_fits}
 use Rattle.termwiz_screen.proofs.Sides.{sides-full}
 use Rattle.termwiz_screen.proofs.ResizedRows.{length-resized_stored, stored-resized, lengths-resized, shown-resized}

@@ -4,7 +4,7 @@ use Rattle.termwiz_cell.specs.Measure.{measure}
 use Rattle.termwiz_surface.specs.Copies.{copied_region}
 use Rattle.termwiz_screen.specs.DiffRegions.{CrossNone, HaveRegion}
 use Rattle.termwiz_screen.specs.Screen.{Screen}
-use Rattle.termwiz_surface.specs.SurfaceValue.{screen_of}
+use Rattle.termwiz_surface.specs.Surface.{screen_of}
 use Rattle.termwiz_surface.proofs.Copying.{Adds-values, added_screen, copied_no_scroll}
 use Rattle.termwiz_surface.proofs.surface.Surface.copy_region.Goals as goal
 

@@ -8,7 +8,7 @@ use Rattle.termwiz_line.specs.Row.{row_of}
 use Rattle.termwiz_screen.specs.Diff.{band, diff, need}
 use Rattle.termwiz_screen.specs.DiffLists.{IsDiff}
 use Rattle.termwiz_screen.specs.ScreenValue.{cells_of}
-use Rattle.termwiz_surface.specs.SurfaceValue.{SurfaceValue, IsSound, screen_of}
+use Rattle.termwiz_surface.specs.Surface.{SurfaceValue, IsSound, screen_of}
 use Rattle.termwiz_surface.proofs.DiffSurfaces.{sound_rows, line_diff, line_gives}
 use Rattle.termwiz_screen.proofs.Lines.{length-cells_of}
 use Rattle.termwiz_surface.proofs.surface.Surface.diff_against_numbered_line.Goals as goal

@@ -7,7 +7,7 @@ use Rattle.termwiz_screen.specs.Diff.{cut, diff, need}
 use Rattle.termwiz_screen.specs.DiffLists.{IsDiff}
 use Rattle.termwiz_screen.specs.RegionValue.{region_value}
 use Rattle.termwiz_screen.specs.ScreenValue.{cells_of}
-use Rattle.termwiz_surface.specs.SurfaceValue.{SurfaceValue, IsSound, screen_of}
+use Rattle.termwiz_surface.specs.Surface.{SurfaceValue, IsSound, screen_of}
 use Rattle.termwiz_surface.proofs.DiffSurfaces.{sound_rows, sound_diff}
 use Rattle.termwiz_screen.proofs.Lines.{length-cells_of}
 use Rattle.termwiz_surface.proofs.surface.Surface.diff_of.Goals as goal

@@ -5,7 +5,7 @@ use Rattle.termwiz_cell.specs.Measure.{measure}
 use Rattle.termwiz_screen.specs.Diff.{cut, diff, need, whole}
 use Rattle.termwiz_screen.specs.DiffLists.{IsDiff}
 use Rattle.termwiz_screen.specs.RegionValue.{region_value}
-use Rattle.termwiz_surface.specs.SurfaceValue.{SurfaceValue, screen_of}
+use Rattle.termwiz_surface.specs.Surface.{SurfaceValue, screen_of}
 use Rattle.termwiz_screen.proofs.DiffCalls.{same_rows, equal_rows}
 use Rattle.termwiz_surface.proofs.surface.Surface.diff_screens.Goals as goal
 

@@ -1,7 +1,7 @@
 use Rattle.std.proofs.Common.{subst}
 use Rattle.termwiz_cell.specs.Measure.{measure}
 use Rattle.termwiz_screen.specs.FullScreen.{HasFullSize}
-use Rattle.termwiz_surface.specs.SurfaceValue.{SurfaceValue, screen_of, full_of}
+use Rattle.termwiz_surface.specs.Surface.{SurfaceValue, screen_of, full_of}
 use Rattle.termwiz_screen.specs.Printable.{HasSize, IsPrintable}
 use Rattle.termwiz_surface.proofs.SoundRepaint.{sound_has_size, sound_has_full_size, sound_is_printable}
 use Rattle.termwiz_surface.proofs.surface.Surface.dimensions.Goals as goal

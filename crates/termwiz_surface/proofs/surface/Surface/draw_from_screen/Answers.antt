@@ -4,7 +4,7 @@ use Rattle.termwiz_cell.specs.Measure.{measure}
 use Rattle.termwiz_surface.specs.Copies.{drawn_region}
 use Rattle.termwiz_screen.specs.DiffRegions.{CrossNone, HaveRegion}
 use Rattle.termwiz_screen.specs.Screen.{Screen}
-use Rattle.termwiz_surface.specs.SurfaceValue.{SurfaceValue, IsSound, screen_of}
+use Rattle.termwiz_surface.specs.Surface.{SurfaceValue, IsSound, screen_of}
 use Rattle.termwiz_surface.proofs.Copying.{Adds-restoring, drawn_screen, drawn_no_scroll}
 use Rattle.termwiz_surface.proofs.surface.Surface.draw_from_screen.Goals as goal
 

@@ -1,7 +1,7 @@
 use Rattle.std.proofs.Common.{◌≡◌, ◌-◌, ap, ◌∙◌, arith}
 use Rattle.termwiz_screen.specs.Log.{next_number, delta_limit, flushed}
 use Rattle.termwiz_surface.specs.Adding.{with_log}
-use Rattle.termwiz_surface.specs.SurfaceValue.{SurfaceValue}
+use Rattle.termwiz_surface.specs.Surface.{SurfaceValue}
 use Rattle.termwiz_surface.specs.Asking.{forgotten}
 use Rattle.termwiz_surface.proofs.Forgetting.{forgotten_alike, forgotten_few}
 use Rattle.termwiz_surface.proofs.surface.Surface.forget_unneeded.Given as given

@@ -8,7 +8,7 @@ use Rattle.termwiz_screen.specs.FullScreen.{line_attribute, shape_of, full_scree
 use Rattle.termwiz_screen.specs.Repaint.{started_entries, full_entries, full_shown_entries, all_rows, repaint_of, full_repaint}
 use Rattle.termwiz_screen.specs.ScreenValue.{cells_of}
 use Rattle.termwiz_screen.specs.Sides.{row_flags}
-use Rattle.termwiz_surface.specs.SurfaceValue.{SurfaceValue, screen_of, kept_of}
+use Rattle.termwiz_surface.specs.Surface.{SurfaceValue, screen_of, kept_of}
 use Rattle.termwiz_screen.proofs.JoinedRows.{before_rows, none_drawn}
 use Rattle.termwiz_screen.proofs.LastChanges.{full_apart}
 use Rattle.termwiz_surface.proofs.surface.Surface.full_repaint.Goals as goal

@@ -5,7 +5,7 @@ use Rattle.termwiz_cell.specs.ChangeValue.{change_value}
 use Rattle.termwiz_cell.specs.Measure.{measure}
 use Rattle.termwiz_screen.specs.Log.{due, is_known, delta_limit}
 use Rattle.termwiz_screen.specs.Step.{replay, regions_fit}
-use Rattle.termwiz_surface.specs.SurfaceValue.{SurfaceValue, IsSound, screen_of, kept_of}
+use Rattle.termwiz_surface.specs.Surface.{SurfaceValue, IsSound, screen_of, kept_of}
 use Rattle.termwiz_screen.specs.FullScreen.{full_replay}
 use Rattle.termwiz_screen.specs.Repaint.{repaint_in}
 use Rattle.termwiz_screen.specs.Stream.{most_entries}

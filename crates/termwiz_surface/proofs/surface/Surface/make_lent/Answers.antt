@@ -3,7 +3,7 @@ use Rattle.std.proofs.lemmas.List.{length-map}
 use Rattle.termwiz_cell.specs.ChangeValue.{change_value}
 use Rattle.termwiz_screen.specs.Log.{next_number}
 use Rattle.termwiz_screen.specs.Step.{regions_fit}
-use Rattle.termwiz_surface.specs.SurfaceValue.{SurfaceValue}
+use Rattle.termwiz_surface.specs.Surface.{SurfaceValue}
 use Rattle.termwiz_surface.proofs.Drawn.{any_log}
 use Rattle.termwiz_screen.proofs.LogRegions.{regions-append}
 use Rattle.termwiz_surface.proofs.surface.Surface.make_lent.Goals as goal

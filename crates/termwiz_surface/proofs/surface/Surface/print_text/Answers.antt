@@ -5,7 +5,7 @@ use Rattle.unicode_segmentation.specs.Grapheme.{graphemes}
 use Rattle.termwiz_cell.specs.Measure.{measure}
 use Rattle.termwiz_screen.specs.Print.{print_one, kept_after}
 use Rattle.termwiz_surface.specs.Printing.{PrintsFirst}
-use Rattle.termwiz_surface.specs.SurfaceValue.{screen_of, kept_of}
+use Rattle.termwiz_surface.specs.Surface.{screen_of, kept_of}
 use Rattle.termwiz_cell.proofs.Graphemes.{graphemes-nothing}
 use Rattle.termwiz_surface.proofs.Printing.{screen-left, kept-left}
 use Rattle.termwiz_surface.proofs.surface.Surface.print_text.Goals as goal

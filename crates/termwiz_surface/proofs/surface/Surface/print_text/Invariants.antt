@@ -3,7 +3,7 @@ use Rattle.std.specs.Str.{IsUtf8}
 use Rattle.unicode_segmentation.specs.Grapheme.{graphemes}
 use Rattle.termwiz_cell.specs.Measure.{measure}
 use Rattle.termwiz_screen.specs.Print.{print, print_one, kept_after, print_kept}
-use Rattle.termwiz_surface.specs.SurfaceValue.{SameFrame, screen_of, kept_of}
+use Rattle.termwiz_surface.specs.Surface.{SameFrame, screen_of, kept_of}
 use Rattle.termwiz_surface.proofs.surface.Surface.print_text.Given as goal
 
 -- what is left to print leads to the whole print

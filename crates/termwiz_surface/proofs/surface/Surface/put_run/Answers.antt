@@ -2,7 +2,7 @@ use Rattle.std.proofs.Common.{◌+◌, ◌≤◌, length, refl, sym, subst}
 use Rattle.std.specs.Prelude.{None}
 use Rattle.termwiz_cell.specs.Measure.{measure}
 use Rattle.termwiz_screen.specs.Runs.{AreNarrow}
-use Rattle.termwiz_surface.specs.SurfaceValue.{SurfaceValue}
+use Rattle.termwiz_surface.specs.Surface.{SurfaceValue}
 use Rattle.termwiz_surface.proofs.Printing.{IsPrinted-plain}
 use Rattle.termwiz_surface.proofs.surface.Surface.put_run.Goals as goal
 

@@ -8,7 +8,7 @@ use Rattle.termwiz_line.specs.LineFlags.{no_flags}
 use Rattle.termwiz_line.specs.LineValue.{LineValue}
 use Rattle.termwiz_line.specs.Row.{row_of}
 use Rattle.termwiz_screen.specs.ScreenValue.{cells_of, numberless}
-use Rattle.termwiz_surface.specs.SurfaceValue.{screen_of}
+use Rattle.termwiz_surface.specs.Surface.{screen_of}
 use Rattle.termwiz_surface.proofs.Settled.{rows-resized}
 use Rattle.termwiz_surface.proofs.surface.Surface.screen.Given as given
 use Rattle.termwiz_surface.proofs.surface.Surface.screen.Goals as goal

@@ -4,7 +4,7 @@ use Rattle.termwiz_cell.specs.ChangeValue.{change_value}
 use Rattle.termwiz_line.specs.PennedValue.{penned_value}
 use Rattle.termwiz_line.specs.Row.{row_of}
 use Rattle.termwiz_screen.specs.ScreenValue.{cells_of}
-use Rattle.termwiz_surface.specs.SurfaceValue.{SurfaceValue, screen_of}
+use Rattle.termwiz_surface.specs.Surface.{SurfaceValue, screen_of}
 use Rattle.termwiz_line.specs.Writing.{behind}
 use Rattle.termwiz_screen.specs.Repaint.{started_entries, title_entry, all_rows, repaint}
 use Rattle.termwiz_screen.proofs.JoinedRows.{before_rows, none_drawn}

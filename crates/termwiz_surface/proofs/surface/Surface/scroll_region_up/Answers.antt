@@ -2,7 +2,7 @@ use Rattle.std.proofs.Common.{◌+◌, ◌≤◌, length, ap, refl, sym, subst}
 use Rattle.std.specs.Prelude.{None, string_bytes}
 use Rattle.termwiz_cell.specs.Measure.{measure}
 use Rattle.termwiz_screen.specs.ScreenValue.{cells_of}
-use Rattle.termwiz_surface.specs.SurfaceValue.{SurfaceValue}
+use Rattle.termwiz_surface.specs.Surface.{SurfaceValue}
 use Rattle.termwiz_screen.proofs.Sides.{sides-full}
 use Rattle.termwiz_surface.proofs.Drawn.{any_flags, IsSound-partly_reset, IsSound-up}
 use Rattle.termwiz_screen.proofs.ScrolledRows.{rows-up, lengths-up}

@@ -1,5 +1,5 @@
 use Rattle.std.proofs.Common.{ap, ◌∙◌}
-use Rattle.termwiz_surface.specs.SurfaceValue.{screen_of}
+use Rattle.termwiz_surface.specs.Surface.{screen_of}
 use Rattle.termwiz_surface.proofs.view.many.deliver.Goals as goal
 
 pub returns-in_ok-screen-in-Ok : goal.returns-in_ok-screen-in-Ok

@@ -3,7 +3,7 @@ use Rattle.std.specs.Prelude.{Ok, Err}
 use Rattle.termwiz_cell.specs.ChangeValue.{change_value}
 use Rattle.termwiz_cell.specs.Measure.{measure}
 use Rattle.termwiz_screen.specs.Stream.{stream_of}
-use Rattle.termwiz_surface.specs.SurfaceValue.{screen_of, full_of}
+use Rattle.termwiz_surface.specs.Surface.{screen_of, full_of}
 use Rattle.termwiz_surface.proofs.FollowedRuns.{Views-followed, Views-followed_full}
 use Rattle.termwiz_surface.proofs.Viewing.{FollowsTo-accepted, Follows-accepted}
 use Rattle.termwiz_surface.proofs.view.serving.follow.Goals as goal

@@ -36,21 +36,15 @@ fn style_change(alloc: Global, word: &str) -> Result<AttributeChange, PlayError>
         "double" => Ok(AttributeChange::Underline(Underline::Double)),
         "slow" => Ok(AttributeChange::Blink(Blink::Slow)),
         "link" => link_change(alloc),
-        _ => flag_change(word),
-    }
-}
-
-fn link_change(alloc: Global) -> Result<AttributeChange, PlayError> {
-    let link = link(alloc)?;
-    Ok(AttributeChange::Hyperlink(Some(link)))
-}
-
-fn flag_change(word: &str) -> Result<AttributeChange, PlayError> {
-    match word {
         "italic" => Ok(AttributeChange::Italic(true)),
         "reverse" => Ok(AttributeChange::Reverse(true)),
         "strike" => Ok(AttributeChange::StrikeThrough(true)),
         "invisible" => Ok(AttributeChange::Invisible(true)),
         _ => Err(PlayError::Bad),
     }
+}
+
+fn link_change(alloc: Global) -> Result<AttributeChange, PlayError> {
+    let link = link(alloc)?;
+    Ok(AttributeChange::Hyperlink(Some(link)))
 }

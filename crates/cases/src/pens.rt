@@ -116,22 +116,18 @@ fn set_link(alloc: Global, pen: &mut CellAttributes) -> Result<(), PlayError> {
     Ok(())
 }
 
+// What the word names in the tables, or a flag.
 fn set_style(pen: &mut CellAttributes, word: &str) -> Result<(), PlayError> {
     if let Ok(intensity) = named(&INTENSITIES, word) {
         pen.set_intensity(intensity);
     } else if let Ok(underline) = named(&UNDERLINES, word) {
         pen.set_underline(underline);
-    } else {
-        return set_rarer_style(pen, word);
-    }
-    Ok(())
-}
-
-fn set_rarer_style(pen: &mut CellAttributes, word: &str) -> Result<(), PlayError> {
-    if let Ok(blink) = named(&BLINKS, word) {
+    } else if let Ok(blink) = named(&BLINKS, word) {
         pen.set_blink(blink);
     } else if let Ok(align) = named(&VERTICAL_ALIGNS, word) {
         pen.set_vertical_align(align);
+    } else if let Ok(semantic_type) = semantic_type(word) {
+        pen.set_semantic_type(semantic_type);
     } else {
         return set_flag(pen, word);
     }
@@ -146,7 +142,7 @@ fn set_flag(pen: &mut CellAttributes, word: &str) -> Result<(), PlayError> {
         "invisible" => pen.set_invisible(true),
         "wrapped" => pen.set_wrapped(true),
         "overline" => pen.set_overline(true),
-        _ => pen.set_semantic_type(semantic_type(word)?),
+        _ => return Err(PlayError::Bad),
     };
     Ok(())
 }

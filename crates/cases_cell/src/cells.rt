@@ -56,20 +56,14 @@ fn cell(alloc: Global, words: &str) -> Result<Cell, PlayError> {
 }
 
 fn made(alloc: Global, words: &str) -> Result<Cell, PlayError> {
-    match words {
+    let (how, word) = words.split_once(' ').unwrap_or((words, ""));
+    match how {
         "blank" => Ok(Cell::blank()),
         "default" => Ok(Cell::default()),
-        _ => of_text(alloc, words),
-    }
-}
-
-fn of_text(alloc: Global, words: &str) -> Result<Cell, PlayError> {
-    let (how, word) = first(words)?;
-    match how {
         "grapheme" => of_grapheme(alloc, text(word)),
         "char" => of_char(alloc, text(word), &UnicodeWidths),
         "one" => of_char(alloc, text(word), &OneColumn),
-        _ => of_width(alloc, text(word), how),
+        width => of_width(alloc, text(word), width),
     }
 }
 

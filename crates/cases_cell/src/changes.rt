@@ -47,10 +47,23 @@ fn change(alloc: Global, words: &str) -> Result<Change, PlayError> {
 }
 
 fn made(alloc: Global, words: &str) -> Result<Change, PlayError> {
-    match words {
+    let (kind, words) = words.split_once(' ').unwrap_or((words, ""));
+    match kind {
         "visible" => Ok(Change::CursorVisibility(CursorVisibility::default())),
         "up" => Ok(up()),
-        _ => of_words(alloc, words),
+        "text" => Ok(Change::text_from(alloc, text(words))?),
+        "from" => Ok(Change::from(text(words).to_owned(alloc)?)),
+        "title" => Ok(Change::Title(text(words).to_owned(alloc)?)),
+        "pen" => Ok(Change::AllAttributes(pen(alloc, words)?)),
+        "set" => Ok(Change::from(attribute(alloc, words)?)),
+        "line" => Ok(Change::LineAttribute(line_attribute(words)?)),
+        "size" => Ok(Change::from(line_attribute(words)?)),
+        "color" => Ok(Change::CursorColor(color(words)?)),
+        "clear" => Ok(Change::ClearScreen(color(words)?)),
+        "shape" => Ok(Change::CursorShape(shape(words)?)),
+        "scroll-up" => Ok(scrolled_up(numbers(words)?)),
+        "scroll-down" => Ok(scrolled_down(numbers(words)?)),
+        _ => Err(PlayError::Bad),
     }
 }
 
@@ -62,36 +75,6 @@ fn up() -> Change {
     }
 }
 
-fn of_words(alloc: Global, words: &str) -> Result<Change, PlayError> {
-    let (kind, words) = first(words)?;
-    match kind {
-        "text" => Ok(Change::text_from(alloc, text(words))?),
-        "pen" => Ok(Change::AllAttributes(pen(alloc, words)?)),
-        "set" => Ok(Change::from(attribute(alloc, words)?)),
-        "scroll-up" | "scroll-down" => scroll(kind, numbers(words)?),
-        _ => of_word(alloc, kind, words),
-    }
-}
-
-fn of_word(alloc: Global, kind: &str, word: &str) -> Result<Change, PlayError> {
-    match kind {
-        "from" => Ok(Change::from(text(word).to_owned(alloc)?)),
-        "title" => Ok(Change::Title(text(word).to_owned(alloc)?)),
-        "line" => Ok(Change::LineAttribute(line_attribute(word)?)),
-        "size" => Ok(Change::from(line_attribute(word)?)),
-        _ => of_name(kind, word),
-    }
-}
-
-fn of_name(kind: &str, word: &str) -> Result<Change, PlayError> {
-    match kind {
-        "color" => Ok(Change::CursorColor(color(word)?)),
-        "clear" => Ok(Change::ClearScreen(color(word)?)),
-        "shape" => Ok(Change::CursorShape(shape(word)?)),
-        _ => Err(PlayError::Bad),
-    }
-}
-
 /// First row, size and count.
 fn numbers(words: &str) -> Result<(usize, usize, usize), PlayError> {
     let (first_row, words) = first(words)?;
@@ -99,19 +82,20 @@ fn numbers(words: &str) -> Result<(usize, usize, usize), PlayError> {
     Ok((given(first_row)?, given(size)?, given(count)?))
 }
 
-fn scroll(way: &str, numbers: (usize, usize, usize)) -> Result<Change, PlayError> {
+fn scrolled_up(numbers: (usize, usize, usize)) -> Change {
     let (first_row, region_size, scroll_count) = numbers;
-    match way {
-        "scroll-up" => Ok(Change::ScrollRegionUp {
-            first_row,
-            region_size,
-            scroll_count,
-        }),
-        "scroll-down" => Ok(Change::ScrollRegionDown {
-            first_row,
-            region_size,
-            scroll_count,
-        }),
-        _ => Err(PlayError::Bad),
+    Change::ScrollRegionUp {
+        first_row,
+        region_size,
+        scroll_count,
+    }
+}
+
+fn scrolled_down(numbers: (usize, usize, usize)) -> Change {
+    let (first_row, region_size, scroll_count) = numbers;
+    Change::ScrollRegionDown {
+        first_row,
+        region_size,
+        scroll_count,
     }
 }

@@ -1,4 +1,5 @@
 //! Lines of the cases, and their answers by topic.
+use crate::words::text;
 use crate::{cells, changes, colors, links, pens, widths};
 use cases::error::PlayError;
 use cases::play::Play;
@@ -25,6 +26,9 @@ fn answer(alloc: Global, topic: &str, rest: &str) -> Result<String, PlayError> {
         "pen" => pens::answer(alloc, rest),
         "cell" => cells::answer(alloc, rest),
         "change" => changes::answer(alloc, rest),
-        _ => widths::answer(alloc, topic, rest),
+        "columns" => widths::columns(alloc, rest),
+        "form" => widths::form(alloc, text(rest)),
+        "white" => widths::white(alloc, text(rest)),
+        _ => Err(PlayError::Bad),
     }
 }

@@ -8,16 +8,8 @@ use termwiz_cell::emoji::{
     is_white_space_char, is_white_space_grapheme, unicode_column_width,
 };
 
-pub fn answer(alloc: Global, topic: &str, words: &str) -> Result<String, PlayError> {
-    match topic {
-        "columns" => columns(alloc, words),
-        "form" => form(alloc, text(words)),
-        "white" => white(alloc, text(words)),
-        _ => Err(PlayError::Bad),
-    }
-}
-
-fn columns(alloc: Global, words: &str) -> Result<String, PlayError> {
+/// The columns of a text, by the measure that the first word names.
+pub fn columns(alloc: Global, words: &str) -> Result<String, PlayError> {
     let (how, word) = first(words)?;
     let (text, latest) = (text(word), Some(LATEST_UNICODE_VERSION));
     let columns = match how {
@@ -29,14 +21,17 @@ fn columns(alloc: Global, words: &str) -> Result<String, PlayError> {
     Ok(format!(in alloc; "{columns}")?)
 }
 
-fn form(alloc: Global, text: &str) -> Result<String, PlayError> {
+/// How a text is shown by default, the form that it asks for, and how its first character is shown
+/// alone.
+pub fn form(alloc: Global, text: &str) -> Result<String, PlayError> {
     let (shown, asked) = Presentation::for_grapheme(&UnicodeWidths, text);
     let c = text.chars().next().ok_or(PlayError::Bad)?;
     let alone = Presentation::for_char(&UnicodeWidths, c);
     Ok(format!(in alloc; "{shown:?}, asked {asked:?}, first alone {alone:?}")?)
 }
 
-fn white(alloc: Global, text: &str) -> Result<String, PlayError> {
+/// Whether a text is white space, and its first character.
+pub fn white(alloc: Global, text: &str) -> Result<String, PlayError> {
     let all = is_white_space_grapheme(text);
     let first = text.chars().next().map(is_white_space_char);
     Ok(format!(in alloc; "{all}, first {first:?}")?)

@@ -5,7 +5,7 @@ ghost use Rattle.termwiz_storage.specs.CellsLeft.{IsOfCell};
 use crate::pens::{change_words, pen_words, text_lengths};
 use crate::{clicks, clusters, words};
 use cases::error::PlayError;
-use cases::words::{given, number_word, push_barred, truth_word};
+use cases::words::{given, number_word, pair, push_barred, truth_word};
 use std::alloc::Global;
 use std::borrow::CowStr;
 use termwiz_cell::cell::{Cell, CellAttributes};
@@ -15,69 +15,35 @@ use termwiz_storage::line::cellref::CellRef;
 
 pub fn answer(alloc: Global, line: &Line, words: &[&str]) -> Result<String, PlayError> {
     match words {
-        [name] => named(alloc, line, name),
-        [name, number] => by_number(alloc, line, name, given(number)?),
+        ["stored"] => stored(alloc, line),
+        ["pens"] => pens(alloc, line),
+        ["pen", column] => pen(alloc, line, given(column)?),
+        ["shown"] => shown(alloc, line),
+        ["cells"] => cells(alloc, line),
+        ["visible"] => visible(alloc, line),
+        ["cell", column] => cell(alloc, line, given(column)?),
+        ["alike", column, other] => alike(alloc, line, pair(column, other)?),
         ["copied", column, word] => copied(alloc, line, given(column)?, word),
-        [name, first, second] => by_two(alloc, line, name, given(first)?, given(second)?),
+        ["text"] => text(alloc, line),
+        ["columns", from, to] => columns(alloc, line, pair(from, to)?),
+        ["len"] => number_word(alloc, line.len()),
+        ["number"] => number_word(alloc, line.current_seqno()),
+        ["changed", seqno] => truth_word(alloc, line.changed_since(given(seqno)?)),
+        ["spaces"] => truth_word(alloc, line.is_whitespace()),
+        ["link"] => truth_word(alloc, line.has_hyperlink()),
+        ["size"] => size(alloc, line),
+        ["bidi"] => bidi(alloc, line),
+        ["marked"] => truth_word(alloc, line.last_cell_was_wrapped()),
+        ["click", column] => click(alloc, line, given(column)?),
+        ["turning-click", column] => clicks::turning(alloc, line, given(column)?),
+        ["changes"] => changes(alloc, line),
+        ["lengths"] => lengths(alloc, line),
+        ["clusters"] => clusters::shown(alloc, line),
+        ["cell-clusters"] => clusters::of_cells(alloc, line),
+        ["bytes"] => clusters::bytes(alloc, line),
+        ["looks"] => clusters::looks(alloc, line),
+        ["cluster-copies"] => clusters::copies(alloc, line),
         _ => Err(PlayError::Bad),
-    }
-}
-
-fn by_number(alloc: Global, line: &Line, name: &str, number: usize) -> Result<String, PlayError> {
-    match name {
-        "cell" => cell(alloc, line, number),
-        "pen" => pen(alloc, line, number),
-        "click" => click(alloc, line, number),
-        "turning-click" => clicks::turning(alloc, line, number),
-        "changed" => truth_word(alloc, line.changed_since(number)),
-        _ => Err(PlayError::Bad),
-    }
-}
-
-fn by_two(
-    alloc: Global,
-    line: &Line,
-    name: &str,
-    first: usize,
-    second: usize,
-) -> Result<String, PlayError> {
-    match name {
-        "columns" => columns(alloc, line, first, second),
-        "alike" => alike(alloc, line, first, second),
-        _ => Err(PlayError::Bad),
-    }
-}
-
-fn named(alloc: Global, line: &Line, name: &str) -> Result<String, PlayError> {
-    match name {
-        "stored" => stored(alloc, line),
-        "pens" => pens(alloc, line),
-        "shown" => shown(alloc, line),
-        "cells" => cells(alloc, line),
-        "visible" => visible(alloc, line),
-        _ => value(alloc, line, name),
-    }
-}
-
-fn value(alloc: Global, line: &Line, name: &str) -> Result<String, PlayError> {
-    match name {
-        "len" => number_word(alloc, line.len()),
-        "number" => number_word(alloc, line.current_seqno()),
-        "spaces" => truth_word(alloc, line.is_whitespace()),
-        "link" => truth_word(alloc, line.has_hyperlink()),
-        "marked" => truth_word(alloc, line.last_cell_was_wrapped()),
-        _ => reading(alloc, line, name),
-    }
-}
-
-fn reading(alloc: Global, line: &Line, name: &str) -> Result<String, PlayError> {
-    match name {
-        "text" => text(alloc, line),
-        "size" => size(alloc, line),
-        "bidi" => bidi(alloc, line),
-        "changes" => changes(alloc, line),
-        "lengths" => lengths(alloc, line),
-        _ => clusters::answer(alloc, line, name),
     }
 }
 
@@ -176,8 +142,8 @@ fn cell(alloc: Global, line: &Line, column: usize) -> Result<String, PlayError> 
 }
 
 // Whether the visible cells at two columns show the same.
-fn alike(alloc: Global, line: &Line, column: usize, other: usize) -> Result<String, PlayError> {
-    let (cell, other) = (visible_at(line, column)?, visible_at(line, other)?);
+fn alike(alloc: Global, line: &Line, columns: (usize, usize)) -> Result<String, PlayError> {
+    let (cell, other) = (visible_at(line, columns.0)?, visible_at(line, columns.1)?);
     truth_word(alloc, cell.same_contents(&other))
 }
 
@@ -210,8 +176,8 @@ fn text(alloc: Global, line: &Line) -> Result<String, PlayError> {
     }
 }
 
-fn columns(alloc: Global, line: &Line, from: usize, to: usize) -> Result<String, PlayError> {
-    let text = line.columns_as_str(from..to)?;
+fn columns(alloc: Global, line: &Line, range: (usize, usize)) -> Result<String, PlayError> {
+    let text = line.columns_as_str(range.0..range.1)?;
     Ok(format!(in alloc; "|{text}|")?)
 }
 

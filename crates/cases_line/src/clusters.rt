@@ -7,20 +7,13 @@ use termwiz_cell::emoji::UnicodeWidths;
 use termwiz_line::cellcluster::CellCluster;
 use termwiz_line::line::line::Line;
 
-pub fn answer(alloc: Global, line: &Line, name: &str) -> Result<String, PlayError> {
+/// The texts of the line's clusters, each behind its column and its width, as `0:2か|2:1a|`.
+pub fn shown(alloc: Global, line: &Line) -> Result<String, PlayError> {
     let clusters = line.cluster(&UnicodeWidths)?;
-    match name {
-        "clusters" => shown(alloc, clusters.as_slice()),
-        "cell-clusters" => of_cells(alloc, line),
-        "bytes" => bytes(alloc, clusters.as_slice()),
-        "looks" => looks(alloc, clusters.as_slice()),
-        "cluster-copies" => copies(alloc, clusters.as_slice()),
-        _ => Err(PlayError::Bad),
-    }
+    listed(alloc, clusters.as_slice())
 }
 
-// The texts of the clusters, each behind its column and its width, as `0:2か|2:1a|`.
-fn shown(alloc: Global, clusters: &[CellCluster]) -> Result<String, PlayError> {
+fn listed(alloc: Global, clusters: &[CellCluster]) -> Result<String, PlayError> {
     let mut words = String::new(alloc);
     for cluster in clusters {
         let column = cluster.first_cell_idx;
@@ -31,13 +24,15 @@ fn shown(alloc: Global, clusters: &[CellCluster]) -> Result<String, PlayError> {
     Ok(words)
 }
 
-fn of_cells(alloc: Global, line: &Line) -> Result<String, PlayError> {
+/// The same of those that are made of the visible cells.
+pub fn of_cells(alloc: Global, line: &Line) -> Result<String, PlayError> {
     let clusters = CellCluster::make_cluster(alloc, &UnicodeWidths, line.visible_cells())?;
-    shown(alloc, clusters.as_slice())
+    listed(alloc, clusters.as_slice())
 }
 
-// The cells of the bytes of the first cluster.
-fn bytes(alloc: Global, clusters: &[CellCluster]) -> Result<String, PlayError> {
+/// The cells of the bytes of the first cluster.
+pub fn bytes(alloc: Global, line: &Line) -> Result<String, PlayError> {
+    let clusters = line.cluster(&UnicodeWidths)?;
     cells_of_bytes(alloc, clusters.first().ok_or(PlayError::Bad)?)
 }
 
@@ -53,10 +48,11 @@ fn cells_of_bytes(alloc: Global, cluster: &CellCluster) -> Result<String, PlayEr
     Ok(words)
 }
 
-// The pen of each cluster, how it is shown and where to.
-fn looks(alloc: Global, clusters: &[CellCluster]) -> Result<String, PlayError> {
+/// The pen of each cluster, how it is shown and where to.
+pub fn looks(alloc: Global, line: &Line) -> Result<String, PlayError> {
+    let clusters = line.cluster(&UnicodeWidths)?;
     let mut words = String::new(alloc);
-    for cluster in clusters {
+    for cluster in &clusters {
         let pen = pen_words(alloc, &cluster.attrs)?;
         let (presentation, direction) = (cluster.presentation, cluster.direction);
         write!(words, "pen {pen}, {presentation:?}, {direction:?}|")?;
@@ -64,10 +60,11 @@ fn looks(alloc: Global, clusters: &[CellCluster]) -> Result<String, PlayError> {
     Ok(words)
 }
 
-// Whether the copy of each cluster has the same cells of its bytes.
-fn copies(alloc: Global, clusters: &[CellCluster]) -> Result<String, PlayError> {
+/// Whether the copy of each cluster has the same cells of its bytes.
+pub fn copies(alloc: Global, line: &Line) -> Result<String, PlayError> {
+    let clusters = line.cluster(&UnicodeWidths)?;
     let mut words = String::new(alloc);
-    for cluster in clusters {
+    for cluster in &clusters {
         let same = is_copied(alloc, cluster)?;
         push_barred(&mut words, if same { "true" } else { "false" })?;
     }

@@ -1,6 +1,4 @@
 //! Edits of a line by the words of a line of the script.
-//! Edits with the same kinds of words are chosen once the words are values, so that each word is
-//! read in one place for many edits.
 use crate::words::{cell, direction, hint, pen, text};
 use cases::error::PlayError;
 use cases::pens::semantic_type;
@@ -17,7 +15,7 @@ pub fn edit(alloc: Global, line: &mut Line, words: &[&str]) -> Result<(), PlayEr
     match words {
         ["compress"] => done(line.compress_for_scrollback()),
         ["retype", name] => retype(line, name),
-        [name, words @ .., seqno] => numbered(alloc, line, name, words, given(seqno)?),
+        [words @ .., seqno] => numbered(alloc, line, words, given(seqno)?),
         _ => Err(PlayError::Bad),
     }
 }
@@ -36,44 +34,51 @@ fn retype(line: &mut Line, name: &str) -> Result<(), PlayError> {
     Ok(())
 }
 
-// The edits that give the line a number.
-fn numbered(
-    alloc: Global,
-    line: &mut Line,
-    name: &str,
-    words: &[&str],
-    seqno: usize,
-) -> Result<(), PlayError> {
+// The edits that give the line a number, which is their last word.
+fn numbered(alloc: Global, line: &mut Line, words: &[&str], seqno: usize) -> Result<(), PlayError> {
     match words {
-        [] => whole(line, name, seqno),
-        [word] => by_one(line, name, word, seqno),
-        [first, second] => by_two(alloc, line, name, first, second, seqno),
-        [first, second, third] => by_three(alloc, line, name, first, second, third, seqno),
-        [column, word, width, pen] if name == "grapheme" => {
-            set_grapheme(alloc, line, pair(column, width)?, word, pen, seqno)
+        ["set", column, word] => set(alloc, line, given(column)?, word, seqno),
+        ["grapheme", column, text, width] => {
+            set_grapheme(alloc, line, pair(column, width)?, text, "-", seqno)
         }
+        ["grapheme", column, text, width, pen] => {
+            set_grapheme(alloc, line, pair(column, width)?, text, pen, seqno)
+        }
+        ["within", column, word, width] => {
+            set_within(alloc, line, pair(column, width)?, word, seqno)
+        }
+        ["insert", column, word, margin] => {
+            insert(alloc, line, pair(column, margin)?, word, seqno)
+        }
+        ["fill", from, to, word] => fill(alloc, line, pair(from, to)?, word, seqno),
+        ["run", column] => {
+            done(line.set_run(given(column)?, "xy", &CellAttributes::blank(), seqno))
+        }
+        ["letters", column] => done(set_letters(line, given(column)?, seqno)),
+        ["erase", column] => done(line.erase_cell(given(column)?, seqno)),
+        ["remove", column] => done(line.remove_cell(given(column)?, seqno)),
+        ["erase-within", column, margin] => {
+            erase_within(alloc, line, pair(column, margin)?, "-", seqno)
+        }
+        ["erase-within", column, margin, pen] => {
+            erase_within(alloc, line, pair(column, margin)?, pen, seqno)
+        }
+        ["prune"] => done(line.prune_trailing_blanks(seqno)),
+        ["resize", width] => done(line.resize(given(width)?, seqno)),
+        ["clear", width, pen] => clear(alloc, line, given(width)?, pen, seqno),
+        ["blank-out", width] => done(line.blank_out(given(width)?, seqno)),
+        ["overlay", column, text, pen] => { overlay(alloc, line, given(column)?, text, pen, seqno) }
+        ["mark", wrapped] => done(line.set_last_cell_was_wrapped(truth(wrapped)?, seqno)),
+        ["size", size] => Ok(set_size(line, line_attribute(size)?, seqno)),
+        ["take-number"] => Ok(line.update_last_change_seqno(seqno)),
+        ["bidi", enabled, way] => Ok(line.set_bidi_info(truth(enabled)?, hint(way)?, seqno)),
+        ["enable", enabled] => Ok(line.set_bidi_enabled(truth(enabled)?, seqno)),
+        ["direction", way, auto] => { Ok(line.set_direction(direction(way)?, truth(auto)?, seqno)) }
         _ => Err(PlayError::Bad),
     }
 }
 
-fn whole(line: &mut Line, name: &str, seqno: usize) -> Result<(), PlayError> {
-    match name {
-        "prune" => done(line.prune_trailing_blanks(seqno)),
-        "take-number" => Ok(line.update_last_change_seqno(seqno)),
-        _ => Err(PlayError::Bad),
-    }
-}
-
-fn by_one(line: &mut Line, name: &str, word: &str, seqno: usize) -> Result<(), PlayError> {
-    match name {
-        "size" => Ok(size(line, line_attribute(word)?, seqno)),
-        "mark" => done(line.set_last_cell_was_wrapped(truth(word)?, seqno)),
-        "enable" => Ok(line.set_bidi_enabled(truth(word)?, seqno)),
-        _ => by_number(line, name, given(word)?, seqno),
-    }
-}
-
-fn size(line: &mut Line, size: LineAttribute, seqno: usize) {
+fn set_size(line: &mut Line, size: LineAttribute, seqno: usize) {
     match size {
         LineAttribute::SingleWidthLine => line.set_single_width(seqno),
         LineAttribute::DoubleWidthLine => line.set_double_width(seqno),
@@ -82,40 +87,9 @@ fn size(line: &mut Line, size: LineAttribute, seqno: usize) {
     }
 }
 
-// At a column, or to a width.
-fn by_number(line: &mut Line, name: &str, number: usize, seqno: usize) -> Result<(), PlayError> {
-    match name {
-        "run" => done(line.set_run(number, "xy", &CellAttributes::blank(), seqno)),
-        "letters" => done(set_letters(line, number, seqno)),
-        "erase" => done(line.erase_cell(number, seqno)),
-        "remove" => done(line.remove_cell(number, seqno)),
-        "resize" => done(line.resize(number, seqno)),
-        "blank-out" => done(line.blank_out(number, seqno)),
-        _ => Err(PlayError::Bad),
-    }
-}
-
 fn set_letters(line: &mut Line, column: usize, seqno: usize) -> Result<(), AllocError> {
     let (letters, _) = split_letter_run("かき", 2);
     line.set_letters(column, letters, &CellAttributes::blank(), seqno)
-}
-
-fn by_two(
-    alloc: Global,
-    line: &mut Line,
-    name: &str,
-    first: &str,
-    second: &str,
-    seqno: usize,
-) -> Result<(), PlayError> {
-    match name {
-        "bidi" => Ok(line.set_bidi_info(truth(first)?, hint(second)?, seqno)),
-        "direction" => Ok(line.set_direction(direction(first)?, truth(second)?, seqno)),
-        "set" => set(alloc, line, given(first)?, second, seqno),
-        "clear" => clear(alloc, line, given(first)?, second, seqno),
-        "erase-within" => erase_within(alloc, line, pair(first, second)?, "-", seqno),
-        _ => Err(PlayError::Bad),
-    }
 }
 
 fn set(
@@ -154,24 +128,6 @@ fn erase_within(
         return Err(PlayError::Bad);
     }
     done(line.erase_cell_with_margin(column, end, seqno, attrs))
-}
-
-fn by_three(
-    alloc: Global,
-    line: &mut Line,
-    name: &str,
-    first: &str,
-    second: &str,
-    third: &str,
-    seqno: usize,
-) -> Result<(), PlayError> {
-    match name {
-        "fill" => fill(alloc, line, pair(first, second)?, third, seqno),
-        "overlay" => overlay(alloc, line, given(first)?, second, third, seqno),
-        "grapheme" => set_grapheme(alloc, line, pair(first, third)?, second, "-", seqno),
-        "erase-within" => erase_within(alloc, line, pair(first, second)?, third, seqno),
-        _ => put_cell(alloc, line, name, pair(first, third)?, second, seqno),
-    }
 }
 
 fn fill(
@@ -222,20 +178,30 @@ fn set_grapheme(
     done(line.set_cell_grapheme(column, text.as_str(), width.min(2), attrs, seqno))
 }
 
-// At a column, and within a width or a margin.
-fn put_cell(
+// At a column, and within a width.
+fn set_within(
     alloc: Global,
     line: &mut Line,
-    name: &str,
+    place: (usize, usize),
+    word: &str,
+    seqno: usize,
+) -> Result<(), PlayError> {
+    let cell = cell(alloc, word)?;
+    done(line.set_cell_within(place.0, cell, place.1, seqno))
+}
+
+// At a column, and within a margin, which is at least 1.
+fn insert(
+    alloc: Global,
+    line: &mut Line,
     place: (usize, usize),
     word: &str,
     seqno: usize,
 ) -> Result<(), PlayError> {
     let (column, end) = place;
     let cell = cell(alloc, word)?;
-    match name {
-        "within" => done(line.set_cell_within(column, cell, end, seqno)),
-        "insert" if end > 0 => done(line.insert_cell(column, cell, end, seqno)),
-        _ => Err(PlayError::Bad),
+    if end == 0 {
+        return Err(PlayError::Bad);
     }
+    done(line.insert_cell(column, cell, end, seqno))
 }

@@ -63,6 +63,8 @@ impl Player {
         Ok(answer)
     }
 
+    // What each call does. Some are edits of the scripts under other names, or with their words in
+    // another order.
     fn answer(&mut self, own: usize, words: &[&str]) -> Result<String, PlayError> {
         match words {
             ["?"] => readings(self.alloc, self.get(own)?),
@@ -73,24 +75,61 @@ impl Player {
             }
             ["split", column, seqno, to] => self.split(own, pair(column, seqno)?, given(to)?),
             ["columns", from, end, to] => self.columns(own, pair(from, end)?, given(to)?),
-            _ => self.summarized(own, words),
+            ["copy", to] => self.copy(own, given(to)?),
+            ["append", other, seqno] => self.append(own, given(other)?, given(seqno)?),
+            ["cells" | "plain" | "text", ..] => self.make(own, words),
+            ["new", seqno] => self.make(own, &["empty", seqno]),
+            ["blank", width, seqno] => self.make(own, &["blanks", width, seqno]),
+            ["repeat", width, cell, seqno] => self.make(own, &["many", width, cell, seqno]),
+            ["wrappedtext", text, pen, seqno] => self.make(own, &["wrapping", text, pen, seqno]),
+            ["write", column, cell] => self.write(own, given(column)?, cell),
+            ["paint", column, pen] => self.paint(own, given(column)?, pen),
+            ["put", column, text, width, pen, seqno] => {
+                self.edit(own, &["grapheme", column, text, width, pen, seqno])
+            }
+            ["margin", column, end, seqno, pen] => {
+                self.edit(own, &["erase-within", column, end, pen, seqno])
+            }
+            ["clear", width, seqno, pen] => self.edit(own, &["clear", width, pen, seqno]),
+            ["wrapped", wrapped, seqno] => self.edit(own, &["mark", wrapped, seqno]),
+            ["number", seqno] => self.edit(own, &["take-number", seqno]),
+            ["single" | "double" | "top" | "bottom", seqno] => {
+                self.edit(own, &["size", words[0], seqno])
+            }
+            ["bidi", enabled, seqno] => self.edit(own, &["enable", enabled, seqno]),
+            ["bidiinfo", enabled, hint, seqno] => {
+                self.edit(own, &["bidi", enabled, hint, seqno])
+            }
+            _ => self.edit(own, words),
         }
     }
 
-    fn summarized(&mut self, own: usize, words: &[&str]) -> Result<String, PlayError> {
-        match words {
-            ["copy", to] => self.copy(own, given(to)?)?,
-            ["append", other, seqno] => self.append(own, given(other)?, given(seqno)?)?,
-            _ => self.make_or_edit(own, words)?,
-        }
+    // The summary of a line.
+    fn summary(&self, own: usize) -> Result<String, PlayError> {
         summary(self.alloc, self.get(own)?)
     }
 
-    fn make_or_edit(&mut self, own: usize, words: &[&str]) -> Result<(), PlayError> {
-        match made(self.alloc, words)? {
-            Some(line) => self.put(own, line),
-            None => change(self.alloc, self.get_mut(own)?, words),
-        }
+    fn make(&mut self, own: usize, words: &[&str]) -> Result<String, PlayError> {
+        let line = make(self.alloc, words)?;
+        self.put(own, line)?;
+        self.summary(own)
+    }
+
+    fn edit(&mut self, own: usize, words: &[&str]) -> Result<String, PlayError> {
+        edit(self.alloc, self.get_mut(own)?, words)?;
+        self.summary(own)
+    }
+
+    fn write(&mut self, own: usize, column: usize, word: &str) -> Result<String, PlayError> {
+        let cell = cell(self.alloc, word)?;
+        write_cell(self.get_mut(own)?, column, cell)?;
+        self.summary(own)
+    }
+
+    fn paint(&mut self, own: usize, column: usize, word: &str) -> Result<String, PlayError> {
+        let attrs = pen(self.alloc, word)?;
+        paint_cell(self.get_mut(own)?, column, attrs)?;
+        self.summary(own)
     }
 
     fn equal(&self, own: usize, other: usize) -> Result<String, PlayError> {
@@ -103,15 +142,16 @@ impl Player {
         Ok(String::new(self.alloc))
     }
 
-    fn copy(&mut self, own: usize, to: usize) -> Result<(), PlayError> {
+    fn copy(&mut self, own: usize, to: usize) -> Result<String, PlayError> {
         let copy = self.get(own)?.clone()?;
-        self.put(to, copy)
+        self.put(to, copy)?;
+        self.summary(own)
     }
 
-    fn append(&mut self, own: usize, other: usize, seqno: usize) -> Result<(), PlayError> {
+    fn append(&mut self, own: usize, other: usize, seqno: usize) -> Result<String, PlayError> {
         let other = self.get(other)?.clone()?;
         self.get_mut(own)?.append_line(other, seqno)?;
-        Ok(())
+        self.summary(own)
     }
 
     // At a column and with a number.
@@ -188,60 +228,6 @@ fn chosen(pieces: &[Line], number: usize) -> Result<Line, PlayError> {
     }
     let piece = pieces.get(number % pieces.len()).ok_or(PlayError::Bad)?;
     Ok(piece.clone()?)
-}
-
-// The line that a call makes, unless it changes one.
-fn made(alloc: Global, words: &[&str]) -> Result<Option<Line>, PlayError> {
-    match words {
-        ["cells" | "plain" | "text", ..] => Ok(Some(make(alloc, words)?)),
-        ["new", seqno] => Ok(Some(make(alloc, &["empty", seqno])?)),
-        ["blank", width, seqno] => Ok(Some(make(alloc, &["blanks", width, seqno])?)),
-        ["repeat", width, cell, seqno] => { Ok(Some(make(alloc, &["many", width, cell, seqno])?)) }
-        ["wrappedtext", text, pen, seqno] => {
-            Ok(Some(make(alloc, &["wrapping", text, pen, seqno])?))
-        }
-        _ => Ok(None),
-    }
-}
-
-fn change(alloc: Global, line: &mut Line, words: &[&str]) -> Result<(), PlayError> {
-    match words {
-        ["write", column, word] => {
-            let cell = cell(alloc, word)?;
-            write_cell(line, given(column)?, cell)
-        }
-        ["paint", column, word] => {
-            let attrs = pen(alloc, word)?;
-            paint_cell(line, given(column)?, attrs)
-        }
-        ["wrapped", wrapped, seqno] => edit(alloc, line, &["mark", wrapped, seqno]),
-        ["number", seqno] => edit(alloc, line, &["take-number", seqno]),
-        _ => other_change(alloc, line, words),
-    }
-}
-
-fn other_change(alloc: Global, line: &mut Line, words: &[&str]) -> Result<(), PlayError> {
-    match words {
-        ["single" | "double" | "top" | "bottom", seqno] => {
-            edit(alloc, line, &["size", words[0], seqno])
-        }
-        ["bidi", enabled, seqno] => edit(alloc, line, &["enable", enabled, seqno]),
-        ["bidiinfo", enabled, hint, seqno] => { edit(alloc, line, &["bidi", enabled, hint, seqno]) }
-        _ => change_cells(alloc, line, words),
-    }
-}
-
-fn change_cells(alloc: Global, line: &mut Line, words: &[&str]) -> Result<(), PlayError> {
-    match words {
-        ["clear", width, seqno, pen] => edit(alloc, line, &["clear", width, pen, seqno]),
-        ["margin", column, end, seqno, pen] => {
-            edit(alloc, line, &["erase-within", column, end, pen, seqno])
-        }
-        ["put", column, text, width, pen, seqno] => {
-            edit(alloc, line, &["grapheme", column, text, width, pen, seqno])
-        }
-        _ => edit(alloc, line, words),
-    }
 }
 
 // Writes over a cell that the line lends, if it has one there.

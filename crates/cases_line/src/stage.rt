@@ -22,7 +22,7 @@ impl Play for Stage {
     fn line(&mut self, line: &str) -> Result<String, PlayError> {
         if line.starts_with("case ") {
             *self = Stage::new(self.alloc);
-            return Ok(String::new(self.alloc));
+            return self.silent();
         }
         let words: Vec<&str> = line.split(' ').collect(self.alloc)?;
         self.command(words.as_slice())
@@ -42,22 +42,19 @@ impl Stage {
         match words {
             ["ask", words @ ..] => self.asked(words),
             ["wrap", width, seqno] => self.wrap(width, seqno),
-            _ => self.step(words),
-        }
-    }
-
-    // An edit that finds no memory is answered by `refused`, and no other step has an answer.
-    fn step(&mut self, words: &[&str]) -> Result<String, PlayError> {
-        let made = match words {
             ["new", words @ ..] => self.add_made(words),
             ["on", number] => self.go_on(number),
             ["clone"] => self.add_clone(),
             ["part", from, to] => self.add_part(from, to),
             ["split", column, seqno] => self.split(column, seqno),
             ["append", number, seqno] => self.append(number, seqno),
-            _ => return self.edited(words),
-        };
-        made.map(|()| String::new(self.alloc))
+            _ => self.edited(words),
+        }
+    }
+
+    // No answer.
+    fn silent(&self) -> Result<String, PlayError> {
+        Ok(String::new(self.alloc))
     }
 
     fn own(&self) -> Result<&Line, PlayError> {
@@ -72,48 +69,49 @@ impl Stage {
         self.lines.get(given(word)?).ok_or(PlayError::Bad)
     }
 
-    fn go_on(&mut self, number: &str) -> Result<(), PlayError> {
+    fn go_on(&mut self, number: &str) -> Result<String, PlayError> {
         self.on = given(number)?;
-        Ok(())
+        self.silent()
     }
 
     // Adds the line, and goes on with it.
-    fn add(&mut self, line: Line) -> Result<(), PlayError> {
+    fn add(&mut self, line: Line) -> Result<String, PlayError> {
         self.on = self.lines.len();
         self.lines.push(line)?;
-        Ok(())
+        self.silent()
     }
 
-    fn add_made(&mut self, words: &[&str]) -> Result<(), PlayError> {
+    fn add_made(&mut self, words: &[&str]) -> Result<String, PlayError> {
         let line = make(self.alloc, words)?;
         self.add(line)
     }
 
-    fn add_clone(&mut self) -> Result<(), PlayError> {
+    fn add_clone(&mut self) -> Result<String, PlayError> {
         let clone = self.own()?.clone()?;
         self.add(clone)
     }
 
-    fn add_part(&mut self, from: &str, to: &str) -> Result<(), PlayError> {
+    fn add_part(&mut self, from: &str, to: &str) -> Result<String, PlayError> {
         let (from, to) = pair(from, to)?;
         let part = self.own()?.columns_as_line(from..to)?;
         self.add(part)
     }
 
-    fn split(&mut self, column: &str, seqno: &str) -> Result<(), PlayError> {
+    fn split(&mut self, column: &str, seqno: &str) -> Result<String, PlayError> {
         let (column, seqno) = pair(column, seqno)?;
         let rest = self.own_mut()?.split_off(column, seqno)?;
         self.add(rest)
     }
 
     // Appends a copy of another line.
-    fn append(&mut self, number: &str, seqno: &str) -> Result<(), PlayError> {
+    fn append(&mut self, number: &str, seqno: &str) -> Result<String, PlayError> {
         let seqno = given(seqno)?;
         let other = self.other(number)?.clone()?;
         self.own_mut()?.append_line(other, seqno)?;
-        Ok(())
+        self.silent()
     }
 
+    // An edit that finds no memory is answered by `refused`.
     fn edited(&mut self, words: &[&str]) -> Result<String, PlayError> {
         let alloc = self.alloc;
         match edit(alloc, self.own_mut()?, words) {

@@ -43,12 +43,6 @@ pub fn play(alloc: Global, name: &str) -> Result<(), Stop> {
         "values" => values::play(alloc),
         "setters" => setters::play(alloc),
         "sequences" => sequences::play(alloc),
-        _ => play_lines(alloc, name),
-    }
-}
-
-fn play_lines(alloc: Global, name: &str) -> Result<(), Stop> {
-    match name {
         "made-lines" => made_lines::play(alloc),
         "set-vectors" => edits::play(alloc, Form::Vector, &CELL_EDITS),
         "set-texts" => edits::play(alloc, Form::Text, &CELL_EDITS),
@@ -56,23 +50,11 @@ fn play_lines(alloc: Global, name: &str) -> Result<(), Stop> {
         "edited-texts" => edits::play(alloc, Form::Text, &OTHER_EDITS),
         "read-vectors" => reads::play(alloc, Form::Vector),
         "read-texts" => reads::play(alloc, Form::Text),
-        _ => play_surfaces(alloc, name),
-    }
-}
-
-fn play_surfaces(alloc: Global, name: &str) -> Result<(), Stop> {
-    match name {
         "changed-surface" => turns::play(alloc, Kind::Plain),
         "changed-rich" => turns::play(alloc, Kind::Rich),
         "changed-full" => turns::play(alloc, Kind::Full),
         "first-changes" => turns::play_first(alloc, Kind::Plain),
         "first-full-changes" => turns::play_first(alloc, Kind::Full),
-        _ => play_readings(alloc, name),
-    }
-}
-
-fn play_readings(alloc: Global, name: &str) -> Result<(), Stop> {
-    match name {
         "read-surface" => surface_reads::play(alloc, Kind::Plain),
         "read-rich" => surface_reads::play(alloc, Kind::Rich),
         "read-full" => surface_reads::play(alloc, Kind::Full),

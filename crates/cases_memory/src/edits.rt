@@ -80,12 +80,6 @@ fn name(edit: Edit) -> &'static str {
         Edit::RemoveCell => "remove_cell",
         Edit::EraseCellWithMargin => "erase_cell_with_margin",
         Edit::Prune => "prune_trailing_blanks",
-        _ => other_name(edit),
-    }
-}
-
-fn other_name(edit: Edit) -> &'static str {
-    match edit {
         Edit::Resize => "resize of a line",
         Edit::ResizeAndClear => "resize_and_clear",
         Edit::BlankOut => "blank_out",
@@ -97,7 +91,7 @@ fn other_name(edit: Edit) -> &'static str {
         Edit::SplitOff => "split_off",
         Edit::AppendLine => "append_line",
         Edit::AppendText => "append_line of a text",
-        _ => "semantic_zone_ranges",
+        Edit::Zones => "semantic_zone_ranges",
     }
 }
 
@@ -145,18 +139,6 @@ fn is_edited(line: &mut Line, edit: Edit, gift: Gift) -> bool {
         Edit::SetLetters => has_letters(line),
         Edit::InsertCell => line.insert_cell(1, gift.cell, 40, 2).is_ok(),
         Edit::FillRange => line.fill_range(2..40, &gift.cell, 2).is_ok(),
-        _ => is_cut(line, edit, gift),
-    }
-}
-
-fn has_letters(line: &mut Line) -> bool {
-    let (letters, _) = split_letter_run("かき", 2);
-    line.set_letters(40, letters, &CellAttributes::blank(), 2)
-        .is_ok()
-}
-
-fn is_cut(line: &mut Line, edit: Edit, gift: Gift) -> bool {
-    match edit {
         Edit::EraseCell => line.erase_cell(1, 2).is_ok(),
         Edit::RemoveCell => line.remove_cell(1, 2).is_ok(),
         Edit::EraseCellWithMargin => line.erase_cell_with_margin(1, 40, 2, gift.pen).is_ok(),
@@ -164,12 +146,6 @@ fn is_cut(line: &mut Line, edit: Edit, gift: Gift) -> bool {
         Edit::Resize => line.resize(40, 2).is_ok(),
         Edit::ResizeAndClear => line.resize_and_clear(40, 2, gift.pen).is_ok(),
         Edit::BlankOut => line.blank_out(40, 2).is_ok(),
-        _ => is_changed(line, edit, gift),
-    }
-}
-
-fn is_changed(line: &mut Line, edit: Edit, gift: Gift) -> bool {
-    match edit {
         Edit::Overlay => is_overlaid(line, &gift.pen),
         Edit::SetLastWrapped => line.set_last_cell_was_wrapped(true, 2).is_ok(),
         Edit::CellsMut => line.cells_mut().is_ok(),
@@ -178,8 +154,14 @@ fn is_changed(line: &mut Line, edit: Edit, gift: Gift) -> bool {
         Edit::SplitOff => line.split_off(2, 2).is_ok(),
         Edit::AppendLine => line.append_line(gift.line, 2).is_ok(),
         Edit::AppendText => is_appended_as_text(line, gift.line),
-        _ => line.semantic_zone_ranges().is_ok(),
+        Edit::Zones => line.semantic_zone_ranges().is_ok(),
     }
+}
+
+fn has_letters(line: &mut Line) -> bool {
+    let (letters, _) = split_letter_run("かき", 2);
+    line.set_letters(40, letters, &CellAttributes::blank(), 2)
+        .is_ok()
 }
 
 fn is_appended_as_text(line: &mut Line, other: Line) -> bool {

@@ -79,16 +79,20 @@ fn is_set(alloc: Global, setter: Setter, attrs: &mut CellAttributes, link: Rc<Hy
         Setter::Background => attrs.set_background(alloc, boxed_color()).is_ok(),
         Setter::UnderlineColor => attrs.set_underline_color(alloc, boxed_color()).is_ok(),
         Setter::Hyperlink => attrs.set_hyperlink(alloc, Some(link)).is_ok(),
-        _ => attrs.apply_change(alloc, &change(setter, link)).is_ok(),
+        Setter::ForegroundChange => {
+            is_applied(alloc, attrs, AttributeChange::Foreground(boxed_color()))
+        }
+        Setter::BackgroundChange => {
+            is_applied(alloc, attrs, AttributeChange::Background(boxed_color()))
+        }
+        Setter::HyperlinkChange => {
+            is_applied(alloc, attrs, AttributeChange::Hyperlink(Some(link)))
+        }
     }
 }
 
-fn change(setter: Setter, link: Rc<Hyperlink>) -> AttributeChange {
-    match setter {
-        Setter::ForegroundChange => AttributeChange::Foreground(boxed_color()),
-        Setter::BackgroundChange => AttributeChange::Background(boxed_color()),
-        _ => AttributeChange::Hyperlink(Some(link)),
-    }
+fn is_applied(alloc: Global, attrs: &mut CellAttributes, change: AttributeChange) -> bool {
+    attrs.apply_change(alloc, &change).is_ok()
 }
 
 // Whether the attributes have what the setter gives.

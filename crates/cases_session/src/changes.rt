@@ -13,12 +13,6 @@ pub fn change(alloc: Global, words: &[&str]) -> Result<Change, PlayError> {
         ["title", title] => titled(alloc, title),
         ["hidden"] => Ok(Change::CursorVisibility(CursorVisibility::Hidden)),
         ["visible"] => Ok(Change::CursorVisibility(CursorVisibility::Visible)),
-        _ => rarer(words),
-    }
-}
-
-fn rarer(words: &[&str]) -> Result<Change, PlayError> {
-    match words {
         ["eol", "red"] => Ok(Change::ClearToEndOfLine(red())),
         ["cursor", "red"] => Ok(Change::CursorColor(red())),
         ["shape", "bar"] => Ok(Change::CursorShape(CursorShape::SteadyBar)),

@@ -59,17 +59,10 @@ impl Stage {
             "alone" => self.run_alone(text),
             "bad" => self.run_bad(text),
             "made" => made(self.alloc, text),
-            _ => self.add_text(name, text),
+            "part" => self.add_part(text),
+            "word" => self.add_word(text),
+            _ => Err(PlayError::Bad),
         }
-    }
-
-    fn add_text(&mut self, name: &str, text: &str) -> Result<String, PlayError> {
-        match name {
-            "part" => self.trial.add(text.as_bytes())?,
-            "word" => self.trial.add_word(text)?,
-            _ => return Err(PlayError::Bad),
-        }
-        self.silent()
     }
 
     fn command(&mut self, words: &[&str]) -> Result<String, PlayError> {
@@ -78,35 +71,22 @@ impl Stage {
             ["count"] => self.count(),
             ["report"] => self.report(),
             ["events"] => self.events(),
-            _ => self.outcome(words),
-        }
-    }
-
-    fn outcome(&mut self, words: &[&str]) -> Result<String, PlayError> {
-        match words {
             ["answered", number] => self.answered(number),
             ["refused", word] => self.refused(word),
             ["shown", x, y] => self.shown(x, y),
             ["asked", number] => self.asked(number),
             ["unaccepted", word] => self.unaccepted(word),
             ["unanswered", word] => self.unanswered(word),
-            _ => self.step(words),
-        }
-    }
-
-    fn step(&mut self, words: &[&str]) -> Result<String, PlayError> {
-        match words {
             ["case", ..] => self.begin(),
-            ["words", words @ ..] => self.trial.set_words(words)?,
-            ["bytes", bytes @ ..] => self.add_bytes(bytes)?,
-            ["change", words @ ..] => self.add_change(words)?,
-            ["fails", words @ ..] => self.fail(words)?,
-            _ => return Err(PlayError::Bad),
+            ["words", words @ ..] => self.set_words(words),
+            ["bytes", bytes @ ..] => self.add_bytes(bytes),
+            ["change", words @ ..] => self.add_change(words),
+            ["fails", words @ ..] => self.fail(words),
+            _ => Err(PlayError::Bad),
         }
-        self.silent()
     }
 
-    fn fail(&mut self, words: &[&str]) -> Result<(), PlayError> {
+    fn fail(&mut self, words: &[&str]) -> Result<String, PlayError> {
         match words {
             ["read"] => self.trial.fail_to_read(ErrorKind::Other),
             ["read", "memory"] => self.trial.fail_to_read(ErrorKind::OutOfMemory),
@@ -115,12 +95,28 @@ impl Stage {
             ["error", writes] => self.trial.err.fail_after(given(writes)?),
             _ => return Err(PlayError::Bad),
         }
-        Ok(())
+        self.silent()
     }
 
-    fn begin(&mut self) {
+    fn begin(&mut self) -> Result<String, PlayError> {
         self.trial = Trial::new(self.alloc);
         self.changes = Vec::new(self.alloc);
+        self.silent()
+    }
+
+    fn set_words(&mut self, words: &[&str]) -> Result<String, PlayError> {
+        self.trial.set_words(words)?;
+        self.silent()
+    }
+
+    fn add_word(&mut self, word: &str) -> Result<String, PlayError> {
+        self.trial.add_word(word)?;
+        self.silent()
+    }
+
+    fn add_part(&mut self, text: &str) -> Result<String, PlayError> {
+        self.trial.add(text.as_bytes())?;
+        self.silent()
     }
 
     fn add_line(&mut self, text: &str) -> Result<(), PlayError> {
@@ -128,17 +124,17 @@ impl Stage {
         self.trial.add(b"\n")
     }
 
-    fn add_bytes(&mut self, bytes: &[&str]) -> Result<(), PlayError> {
+    fn add_bytes(&mut self, bytes: &[&str]) -> Result<String, PlayError> {
         for digits in bytes {
             self.trial.add_byte(digits)?;
         }
-        Ok(())
+        self.silent()
     }
 
-    fn add_change(&mut self, words: &[&str]) -> Result<(), PlayError> {
+    fn add_change(&mut self, words: &[&str]) -> Result<String, PlayError> {
         let change = change(self.alloc, words)?;
         self.changes.push(change)?;
-        Ok(())
+        self.silent()
     }
 
     fn run(&mut self) -> Result<String, PlayError> {

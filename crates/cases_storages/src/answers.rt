@@ -22,18 +22,11 @@ pub fn ask_at(one: &Line, other: &Line, x: usize, ask: AskAt) -> Result<(), Comp
         AskAt::TextBefore => texts(one, other, 0, x),
         AskAt::Part => parts(one, other, x, x.saturating_add(2)),
         AskAt::PartFrom => parts(one, other, x, usize::MAX),
-        _ => ask_more(one, other, x, ask),
-    }
-}
-
-fn ask_more(one: &Line, other: &Line, x: usize, ask: AskAt) -> Result<(), CompareError> {
-    match ask {
         AskAt::Click => expect_alike(clicked(one, x) == clicked(other, x)),
         AskAt::TurningClick => expect_alike(clicked_by_turns(one, x) == clicked_by_turns(other, x)),
         AskAt::Changed => expect_alike(one.changed_since(x) == other.changed_since(x)),
         AskAt::Wrap => pieces(one, other, x),
         AskAt::Resized => resized(one, other, x),
-        _ => Ok(()),
     }
 }
 
@@ -45,17 +38,10 @@ pub fn ask_whole(alloc: Global, one: &Line, other: &Line, ask: Ask) -> Result<()
         Ask::Link => expect_alike(one.has_hyperlink() == other.has_hyperlink()),
         Ask::Marked => expect_alike(one.last_cell_was_wrapped() == other.last_cell_was_wrapped()),
         Ask::Changes(pen) => changes(alloc, one, other, pen),
-        _ => ask_long(alloc, one, other, ask),
-    }
-}
-
-fn ask_long(alloc: Global, one: &Line, other: &Line, ask: Ask) -> Result<(), CompareError> {
-    match ask {
         Ask::Clusters => clusters(one, other),
         Ask::CellClusters => cell_clusters(alloc, one, other),
         Ask::Stored => stored(one, other),
         Ask::Copy => copies(one, other),
-        _ => Ok(()),
     }
 }
 

@@ -85,21 +85,31 @@ impl Beginning {
             Beginning::Plain => Line::from_plain(alloc, "aか b", &UnicodeWidths),
             Beginning::GoesOn => going_on(alloc),
             Beginning::Long => long(alloc),
-            _ => self.flagged(alloc),
+            Beginning::Marked => self.marked(alloc),
+            Beginning::Flags => self.flagged(alloc),
+            _ => self.of_pieces(alloc),
         }
     }
 
-    fn flagged(self, alloc: Global) -> Result<Line, AllocError> {
+    fn of_pieces(self, alloc: Global) -> Result<Line, AllocError> {
         let cells = cells(alloc, self.pieces())?;
-        let mut line = Line::from_cells(cells, NUMBER);
-        match self {
-            Beginning::Marked => line.set_last_cell_was_wrapped(true, NUMBER)?,
-            Beginning::Flags => set_flags(&mut line),
-            _ => {}
-        }
+        Ok(Line::from_cells(cells, NUMBER))
+    }
+
+    fn marked(self, alloc: Global) -> Result<Line, AllocError> {
+        let mut line = self.of_pieces(alloc)?;
+        line.set_last_cell_was_wrapped(true, NUMBER)?;
         Ok(line)
     }
 
+    fn flagged(self, alloc: Global) -> Result<Line, AllocError> {
+        let mut line = self.of_pieces(alloc)?;
+        line.set_double_height_bottom(NUMBER);
+        line.set_bidi_info(true, ParagraphDirectionHint::AutoRightToLeft, NUMBER);
+        Ok(line)
+    }
+
+    // The cells of those that are made of them.
     fn pieces(self) -> &'static [Piece] {
         match self {
             Beginning::Letters | Beginning::Flags => {
@@ -122,12 +132,6 @@ impl Beginning {
             }
             Beginning::CutWide => &[Piece::Letter, Piece::PlainWide, Piece::Space, Piece::Wide],
             Beginning::Marked => &[Piece::Letter, Piece::Wide, Piece::ItalicSpace],
-            _ => self.joining_pieces(),
-        }
-    }
-
-    fn joining_pieces(self) -> &'static [Piece] {
-        match self {
             Beginning::Marks => &[
                 Piece::Letter,
                 Piece::Mark,
@@ -139,12 +143,6 @@ impl Beginning {
             Beginning::Hidden => &[Piece::Wide, Piece::Letter, Piece::PlainWide, Piece::Wide],
             Beginning::OddHalf => &[Piece::Wide, Piece::Space, Piece::Letter],
             Beginning::WideSpace => &[Piece::WideSpace, Piece::Space, Piece::Letter, Piece::Space],
-            _ => self.odd_pieces(),
-        }
-    }
-
-    fn odd_pieces(self) -> &'static [Piece] {
-        match self {
             Beginning::HiddenWideSpace => &[Piece::PlainWide, Piece::WideSpace, Piece::Letter],
             Beginning::LongTexts => &[Piece::Seven, Piece::Eight, Piece::WideEight, Piece::Space],
             Beginning::Colors => &[Piece::Colored, Piece::Colored, Piece::Letter],
@@ -163,7 +161,12 @@ impl Beginning {
                 Piece::ItalicSpace,
                 Piece::ItalicSpace,
             ],
-            _ => &[],
+            Beginning::Empty
+            | Beginning::Blanks
+            | Beginning::Copies
+            | Beginning::Plain
+            | Beginning::GoesOn
+            | Beginning::Long => &[],
         }
     }
 }
@@ -182,9 +185,4 @@ fn long(alloc: Global) -> Result<Line, AllocError> {
     let mut line = copies(alloc, Piece::Letter, 70_000)?;
     line.set_cell(69_998, Piece::Wide.cell(alloc)?, NUMBER)?;
     Ok(line)
-}
-
-fn set_flags(line: &mut Line) {
-    line.set_double_height_bottom(NUMBER);
-    line.set_bidi_info(true, ParagraphDirectionHint::AutoRightToLeft, NUMBER);
 }

@@ -21,69 +21,38 @@ pub fn edit_at(
         Edit::Within(piece, width) => line.set_cell_within(x, piece.cell(alloc)?, width, seqno),
         Edit::WithinItself(piece) => set_at_end(alloc, line, x, piece, seqno),
         Edit::Insert(piece, margin) => insert(alloc, line, x, piece, margin, seqno),
-        _ => write(alloc, line, x, edit, seqno),
-    }
-}
-
-fn write(
-    alloc: Global,
-    line: &mut Line,
-    x: usize,
-    edit: Edit,
-    seqno: usize,
-) -> Result<(), AllocError> {
-    match edit {
         Edit::Run => line.set_run(x, "xy", &CellAttributes::blank(), seqno),
         Edit::Letters => set_letters(line, x, seqno),
         Edit::Overlay(text) => overlay(alloc, line, x, text, seqno),
         Edit::Fill(piece) => fill(
             alloc,
             line,
-            x.saturating_sub(1),
-            x.saturating_add(1),
+            (x.saturating_sub(1), x.saturating_add(1)),
             piece,
             seqno,
         ),
-        Edit::FillFrom(piece, count) => fill(alloc, line, x, x.saturating_add(count), piece, seqno),
+        Edit::FillFrom(piece, count) => fill(
+            alloc,
+            line,
+            (x, x.saturating_add(count)),
+            piece,
+            seqno,
+        ),
         Edit::Write(piece) => write_cell(alloc, line, x, piece),
-        _ => take_away(alloc, line, x, edit, seqno),
+        Edit::Erase => line.erase_cell(x, seqno),
+        Edit::Remove => line.remove_cell(x, seqno),
+        Edit::EraseWithin(margin, pen) => erase_within(alloc, line, x, margin, pen, seqno),
+        Edit::Reverse => reverse(line, x),
+        Edit::Resize => line.resize(x, seqno),
+        Edit::Clear(pen) => line.resize_and_clear(x, seqno, attributes(alloc, pen)?),
+        Edit::BlankOut => line.blank_out(x, seqno),
+        Edit::Split => Ok(()),
     }
 }
 
 fn set_letters(line: &mut Line, x: usize, seqno: usize) -> Result<(), AllocError> {
     let (letters, _) = split_letter_run("かき", 2);
     line.set_letters(x, letters, &CellAttributes::blank(), seqno)
-}
-
-fn take_away(
-    alloc: Global,
-    line: &mut Line,
-    x: usize,
-    edit: Edit,
-    seqno: usize,
-) -> Result<(), AllocError> {
-    match edit {
-        Edit::Erase => line.erase_cell(x, seqno),
-        Edit::Remove => line.remove_cell(x, seqno),
-        Edit::EraseWithin(margin, pen) => erase_within(alloc, line, x, margin, pen, seqno),
-        Edit::Reverse => reverse(line, x),
-        _ => resize(alloc, line, x, edit, seqno),
-    }
-}
-
-fn resize(
-    alloc: Global,
-    line: &mut Line,
-    width: usize,
-    edit: Edit,
-    seqno: usize,
-) -> Result<(), AllocError> {
-    match edit {
-        Edit::Resize => line.resize(width, seqno),
-        Edit::Clear(pen) => line.resize_and_clear(width, seqno, attributes(alloc, pen)?),
-        Edit::BlankOut => line.blank_out(width, seqno),
-        _ => Ok(()),
-    }
 }
 
 fn set_grapheme(
@@ -132,13 +101,12 @@ fn overlay(
 fn fill(
     alloc: Global,
     line: &mut Line,
-    from: usize,
-    to: usize,
+    columns: (usize, usize),
     piece: Piece,
     seqno: usize,
 ) -> Result<(), AllocError> {
     let cell = piece.cell(alloc)?;
-    line.fill_range(from..to, &cell, seqno)
+    line.fill_range(columns.0..columns.1, &cell, seqno)
 }
 
 fn erase_within(
@@ -185,10 +153,15 @@ pub fn edit_whole(
         Whole::AppendCompressed(text) => line.append_line(compressed(alloc, text)?, seqno),
         Whole::Mark(wrapped) => line.set_last_cell_was_wrapped(wrapped, seqno),
         Whole::Clone => replace_by_copy(line),
-        _ => {
-            set_flag(line, edit, seqno);
-            Ok(())
-        }
+        Whole::SingleWidth => Ok(line.set_single_width(seqno)),
+        Whole::DoubleWidth => Ok(line.set_double_width(seqno)),
+        Whole::DoubleHeightTop => Ok(line.set_double_height_top(seqno)),
+        Whole::DoubleHeightBottom => Ok(line.set_double_height_bottom(seqno)),
+        Whole::BidiEnabled(enabled) => Ok(line.set_bidi_enabled(enabled, seqno)),
+        Whole::Direction(direction, auto) => Ok(line.set_direction(direction, auto, seqno)),
+        Whole::BidiInfo(enabled, hint) => Ok(line.set_bidi_info(enabled, hint, seqno)),
+        Whole::TakeNumber => Ok(line.update_last_change_seqno(seqno)),
+        Whole::AppendOther | Whole::Zones | Whole::Lend | Whole::LendForAttributes => Ok(()),
     }
 }
 
@@ -202,24 +175,4 @@ fn replace_by_copy(line: &mut Line) -> Result<(), AllocError> {
     let copy = line.clone()?;
     *line = copy;
     Ok(())
-}
-
-fn set_flag(line: &mut Line, edit: Whole, seqno: usize) {
-    match edit {
-        Whole::SingleWidth => line.set_single_width(seqno),
-        Whole::DoubleWidth => line.set_double_width(seqno),
-        Whole::DoubleHeightTop => line.set_double_height_top(seqno),
-        Whole::DoubleHeightBottom => line.set_double_height_bottom(seqno),
-        _ => set_direction(line, edit, seqno),
-    }
-}
-
-fn set_direction(line: &mut Line, edit: Whole, seqno: usize) {
-    match edit {
-        Whole::BidiEnabled(enabled) => line.set_bidi_enabled(enabled, seqno),
-        Whole::Direction(direction, auto) => line.set_direction(direction, auto, seqno),
-        Whole::BidiInfo(enabled, hint) => line.set_bidi_info(enabled, hint, seqno),
-        Whole::TakeNumber => line.update_last_change_seqno(seqno),
-        _ => {}
-    }
 }

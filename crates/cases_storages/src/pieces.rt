@@ -66,18 +66,12 @@ impl Piece {
             Piece::Mark => "\u{301}",
             Piece::Region => "🇸",
             Piece::Flag => "🇺🇸",
-            _ => self.long_text(),
-        }
-    }
-
-    fn long_text(self) -> &'static str {
-        match self {
             Piece::Seven => "e\u{301}\u{302}\u{303}",
             Piece::Eight => "é\u{301}\u{302}\u{303}",
             Piece::WideEight => "🤷\u{1f3fb}",
             Piece::Control => "\u{7f}",
             Piece::Prompt => "$",
-            _ => "a",
+            Piece::Letter | Piece::Linked | Piece::Colored | Piece::Marked => "a",
         }
     }
 
@@ -112,17 +106,9 @@ impl Piece {
 
 /// The attributes of a pen.
 pub fn attributes(alloc: Global, pen: Pen) -> Result<CellAttributes, AllocError> {
-    match pen {
-        Pen::Default => Ok(CellAttributes::blank()),
-        Pen::Link => linked(alloc),
-        Pen::Color => colored(alloc),
-        _ => Ok(flagged(pen)),
-    }
-}
-
-fn flagged(pen: Pen) -> CellAttributes {
     let mut attrs = CellAttributes::blank();
     match pen {
+        Pen::Default => {}
         Pen::Italic => {
             attrs.set_italic(true);
         }
@@ -132,24 +118,23 @@ fn flagged(pen: Pen) -> CellAttributes {
         Pen::Wrapped => {
             attrs.set_wrapped(true);
         }
-        _ => {}
+        Pen::Link => {
+            attrs.set_hyperlink(alloc, Some(link(alloc)?))?;
+        }
+        Pen::Color => {
+            attrs.set_foreground(alloc, color())?;
+        }
     }
-    attrs
+    Ok(attrs)
 }
 
-fn linked(alloc: Global) -> Result<CellAttributes, AllocError> {
-    let mut attrs = CellAttributes::blank();
+fn color() -> ColorAttribute {
+    ColorAttribute::TrueColorWithPaletteFallback(RgbColor::new_8bpc(1, 2, 3), 4)
+}
+
+fn link(alloc: Global) -> Result<Rc<Hyperlink>, AllocError> {
     let uri = "http://a".to_owned(alloc)?;
-    let link = Rc::new(alloc, Hyperlink::new(alloc, uri))?;
-    attrs.set_hyperlink(alloc, Some(link))?;
-    Ok(attrs)
-}
-
-fn colored(alloc: Global) -> Result<CellAttributes, AllocError> {
-    let mut attrs = CellAttributes::blank();
-    let color = ColorAttribute::TrueColorWithPaletteFallback(RgbColor::new_8bpc(1, 2, 3), 4);
-    attrs.set_foreground(alloc, color)?;
-    Ok(attrs)
+    Ok(Rc::new(alloc, Hyperlink::new(alloc, uri))?)
 }
 
 /// The cells of these pieces.

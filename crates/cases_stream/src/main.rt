@@ -4,8 +4,12 @@
 //!
 //! - `watch HEX`: what `surfwatch` prints of the stream of these bytes, its error and its status.
 //!   `-` stands for no bytes.
+//! - `piped WIDTH HEIGHT COMMAND; ..`: what a watcher shows of the stream that a surface of this
+//!   size sends, after each answer. The commands are those of a script of `surfsend`.
+//! - `piped-last WIDTH HEIGHT COMMAND; ..`: the same after the last answer alone.
 #![tactic(auto)]
 
+mod sent;
 mod stage;
 
 use cases::error::PlayError;

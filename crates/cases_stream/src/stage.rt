@@ -1,4 +1,6 @@
-//! Streams as lines of hex digits, and what is printed of them.
+//! Streams as lines of hex digits, and what is printed of them; and what is shown of those that
+//! scripts send.
+use crate::sent::{shown, shown_last};
 use cases::error::PlayError;
 use cases::hex::bytes_of;
 use cases::play::Play;
@@ -34,6 +36,8 @@ impl Play for Stage {
         match line.split_once(' ') {
             Some(("case", _)) => Ok(String::new(self.alloc)),
             Some(("watch", word)) => self.watched(word),
+            Some(("piped", words)) => shown(self.alloc, words),
+            Some(("piped-last", words)) => shown_last(self.alloc, words),
             _ => Err(PlayError::Bad),
         }
     }

@@ -221,11 +221,9 @@ pub fn region_diff(
 pub fn line_diff(
     alloc: Global,
     surface: &Surface<Measure>,
-    words: &[&str],
+    row: &str,
+    text: &str,
 ) -> Result<String, PlayError> {
-    let [row, text] = words else {
-        return Err(PlayError::Bad);
-    };
     let row = given(row)?;
     let line = Line::from_plain(alloc, text, &UnicodeWidths)?;
     let changes = surface.diff_against_numbered_line(row, &line)?;

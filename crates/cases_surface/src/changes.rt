@@ -10,62 +10,43 @@ use std::alloc::Global;
 use termwiz_cell::cell::CellAttributes;
 use termwiz_cell::change::{Change, CursorVisibility};
 
-/// The change of a line, unless the line is another command.
+/// The change of a line, unless the line is another command: that of a name and what follows it, or
+/// of a name alone.
 pub fn change(alloc: Global, line: &str) -> Result<Option<Change>, PlayError> {
-    match line.split_once(' ') {
-        Some((name, rest)) => written(alloc, name, rest),
-        None => Ok(bare(alloc, line)),
+    let (name, rest) = match line.split_once(' ') {
+        Some((name, rest)) => (name, Some(rest)),
+        None => (line, None),
+    };
+    match (name, rest) {
+        ("hidden", None) => made(Change::CursorVisibility(CursorVisibility::Hidden)),
+        ("visible", None) => made(Change::CursorVisibility(CursorVisibility::Visible)),
+        ("pen", None) => made(Change::AllAttributes(CellAttributes::blank())),
+        ("title", None) => made(Change::Title(String::new(alloc))),
+        ("text", Some(text)) => made(Change::Text(unescaped(alloc, text, ' ')?)),
+        ("title", Some(title)) => made(Change::Title(unescaped(alloc, title, ' ')?)),
+        ("pen", Some(words)) => made(Change::AllAttributes(pen(alloc, words, ' ')?)),
+        ("set", Some(word)) => made(Change::Attribute(attribute(alloc, word)?)),
+        ("move", Some(place)) => moved(place),
+        ("up", Some(region)) => scroll_up(alloc, region),
+        ("down", Some(region)) => scroll_down(alloc, region),
+        ("shape", Some(word)) => made(Change::CursorShape(shape(word)?)),
+        ("color", Some(word)) => made(Change::CursorColor(color(word)?)),
+        ("clear", Some(word)) => made(Change::ClearScreen(color(word)?)),
+        ("eol", Some(word)) => made(Change::ClearToEndOfLine(color(word)?)),
+        ("eos", Some(word)) => made(Change::ClearToEndOfScreen(color(word)?)),
+        ("row", Some(word)) => made(Change::LineAttribute(line_attribute(word)?)),
+        _ => Ok(None),
     }
 }
 
-// The change of a name without words.
-fn bare(alloc: Global, name: &str) -> Option<Change> {
-    match name {
-        "hidden" => Some(Change::CursorVisibility(CursorVisibility::Hidden)),
-        "visible" => Some(Change::CursorVisibility(CursorVisibility::Visible)),
-        "pen" => Some(Change::AllAttributes(CellAttributes::blank())),
-        "title" => Some(Change::Title(String::new(alloc))),
-        _ => None,
-    }
-}
-
-// The change of a name and what follows it.
-fn written(alloc: Global, name: &str, rest: &str) -> Result<Option<Change>, PlayError> {
-    match name {
-        "text" => text(alloc, rest),
-        "title" => title(alloc, rest),
-        "pen" => all_attributes(alloc, rest),
-        "move" => moved(rest),
-        _ => scrolled(alloc, name, rest),
-    }
-}
-
-fn text(alloc: Global, rest: &str) -> Result<Option<Change>, PlayError> {
-    Ok(Some(Change::Text(unescaped(alloc, rest, ' ')?)))
-}
-
-fn title(alloc: Global, rest: &str) -> Result<Option<Change>, PlayError> {
-    Ok(Some(Change::Title(unescaped(alloc, rest, ' ')?)))
-}
-
-fn all_attributes(alloc: Global, rest: &str) -> Result<Option<Change>, PlayError> {
-    Ok(Some(Change::AllAttributes(pen(alloc, rest, ' ')?)))
+fn made(change: Change) -> Result<Option<Change>, PlayError> {
+    Ok(Some(change))
 }
 
 fn moved(rest: &str) -> Result<Option<Change>, PlayError> {
     let (x, y) = rest.split_once(' ').ok_or(PlayError::Bad)?;
     let (x, y) = (position(x)?, position(y)?);
     Ok(Some(Change::CursorPosition { x, y }))
-}
-
-fn scrolled(alloc: Global, name: &str, rest: &str) -> Result<Option<Change>, PlayError> {
-    match name {
-        "up" => scroll_up(alloc, rest),
-        "down" => scroll_down(alloc, rest),
-        "set" => set(alloc, rest),
-        "shape" => cursor_shape(rest),
-        _ => cleared(name, rest),
-    }
 }
 
 // The first row of a region, its size and a count.
@@ -93,24 +74,4 @@ fn scroll_down(alloc: Global, rest: &str) -> Result<Option<Change>, PlayError> {
         region_size,
         scroll_count,
     }))
-}
-
-fn set(alloc: Global, rest: &str) -> Result<Option<Change>, PlayError> {
-    Ok(Some(Change::Attribute(attribute(alloc, rest)?)))
-}
-
-fn cursor_shape(rest: &str) -> Result<Option<Change>, PlayError> {
-    Ok(Some(Change::CursorShape(shape(rest)?)))
-}
-
-// The change of a name and one word, if it is one.
-fn cleared(name: &str, rest: &str) -> Result<Option<Change>, PlayError> {
-    match name {
-        "clear" => Ok(Some(Change::ClearScreen(color(rest)?))),
-        "eol" => Ok(Some(Change::ClearToEndOfLine(color(rest)?))),
-        "eos" => Ok(Some(Change::ClearToEndOfScreen(color(rest)?))),
-        "row" => Ok(Some(Change::LineAttribute(line_attribute(rest)?))),
-        "color" => Ok(Some(Change::CursorColor(color(rest)?))),
-        _ => Ok(None),
-    }
 }

@@ -31,10 +31,7 @@ impl Sequence {
     }
 
     /// Moves to a column and a row.
-    pub fn goto(&mut self, words: &[&str]) -> Result<String, PlayError> {
-        let [x, y] = words else {
-            return Err(PlayError::Bad);
-        };
+    pub fn goto(&mut self, x: &str, y: &str) -> Result<String, PlayError> {
         let place = (given(x)?, distance(y)?);
         made_words(self.alloc, self.sequence.move_to(place))
     }

@@ -56,11 +56,52 @@ impl Stage {
         }
     }
 
+    // What each command does that is no change.
     fn command(&mut self, line: &str) -> Result<String, PlayError> {
-        let words: Vec<&str> = line.split(' ').collect(self.alloc)?;
+        let alloc = self.alloc;
+        let words: Vec<&str> = line.split(' ').collect(alloc)?;
         match words.as_slice() {
-            [name, rest @ ..] => self.made(name, rest),
-            [] => Err(PlayError::Bad),
+            ["new", size @ ..] => self.make(size),
+            ["new-full", size @ ..] => self.make_full(size),
+            ["clone"] => self.make_clone(),
+            ["on", number] => self.turn_to(Shown::Surface(given(number)?)),
+            ["viewer"] => self.make_viewer(),
+            ["view", number] => self.turn_to(Shown::Viewer(given(number)?)),
+            ["sequence", size @ ..] => self.make_sequence(size),
+            ["list"] => self.begin_list(),
+            ["end"] => self.end_list(),
+            ["resize", width, height] => self.resize(width, height),
+            ["flush", seq] => self.flush(seq),
+            ["draw", number, x, y] => self.draw(number, x, y),
+            ["copy", place @ ..] => self.copy(place),
+            ["lead", number, seq] => self.lead(number, seq),
+            ["follow", number] => self.follow(given(number)?),
+            ["goto", x, y] => self.goto(x, y),
+            ["rows"] => answers::rows(alloc, self.own()?),
+            ["number"] => answers::number(alloc, self.own()?),
+            ["kept"] => answers::kept(alloc, self.own()?),
+            ["screen"] => answers::screen(alloc, self.own()?),
+            ["flags"] => answers::flags(alloc, self.own()?),
+            ["cells"] => answers::cells(alloc, self.own()?),
+            ["full"] => answers::full(alloc, self.own()?),
+            ["full-same", number] => answers::full_same(alloc, self.own()?, self.other(number)?),
+            ["has", seq] => answers::has(alloc, self.own()?, seq),
+            ["ask", seq] => answers::answer(alloc, self.own()?, seq),
+            ["same", number] => answers::same(alloc, self.own()?, self.other(number)?),
+            ["diff", number] => answers::diff(alloc, self.own()?, self.other(number)?),
+            ["diff-region", place @ .., number, x, y] => self.region_diff(
+                place,
+                number,
+                pair(x, y)?,
+            ),
+            ["diff-line", row, text] => answers::line_diff(alloc, self.own()?, row, text),
+            ["diff-lines", texts @ ..] => answers::lines_diff(alloc, self.own()?, texts),
+            ["place"] => self.place(),
+            ["consume"] => self.consume(),
+            ["cell", words @ ..] => answers::cell(alloc, words),
+            ["refusals"] => answers::refusals(alloc),
+            ["sequence-refusals"] => sequence_refusals(alloc),
+            _ => Err(PlayError::Bad),
         }
     }
 
@@ -69,98 +110,13 @@ impl Stage {
         Ok(String::new(self.alloc))
     }
 
-    fn made(&mut self, name: &str, words: &[&str]) -> Result<String, PlayError> {
-        match name {
-            "new" => self.make(words),
-            "new-full" => self.make_full(words),
-            "clone" => self.make_clone(),
-            "viewer" => self.make_viewer(),
-            "sequence" => self.make_sequence(words),
-            _ => self.turned(name, words),
-        }
-    }
-
-    fn turned(&mut self, name: &str, words: &[&str]) -> Result<String, PlayError> {
-        match name {
-            "on" => self.turn_to(words),
-            "view" => self.turn_to_viewer(words),
-            "list" => self.begin_list(),
-            "end" => self.end_list(),
-            _ => self.drawn(name, words),
-        }
-    }
-
-    fn drawn(&mut self, name: &str, words: &[&str]) -> Result<String, PlayError> {
-        match name {
-            "resize" => self.resize(words),
-            "flush" => self.flush(words),
-            "draw" => self.draw(words),
-            "copy" => self.copy(words),
-            _ => self.followed(name, words),
-        }
-    }
-
-    fn followed(&mut self, name: &str, words: &[&str]) -> Result<String, PlayError> {
-        match name {
-            "lead" => self.lead(words),
-            "follow" => self.follow(words),
-            "goto" => self.goto(words),
-            "consume" => self.consume(),
-            _ => self.answer(name, words),
-        }
-    }
-
-    // The answer of a command that changes nothing.
-    fn answer(&self, name: &str, words: &[&str]) -> Result<String, PlayError> {
-        match name {
-            "place" => self.place(),
-            "cell" => answers::cell(self.alloc, words),
-            "refusals" => answers::refusals(self.alloc),
-            "sequence-refusals" => sequence_refusals(self.alloc),
-            _ => self.read(name, words),
-        }
-    }
-
-    fn read(&self, name: &str, words: &[&str]) -> Result<String, PlayError> {
-        let own = self.own()?;
-        match words {
-            [] => named(self.alloc, own, name),
-            [word] => self.asked(own, name, word),
-            _ => self.compared(own, name, words),
-        }
-    }
-
-    fn asked(&self, own: &Surface<Measure>, name: &str, word: &str) -> Result<String, PlayError> {
-        match name {
-            "has" => answers::has(self.alloc, own, word),
-            "ask" => answers::answer(self.alloc, own, word),
-            "same" => answers::same(self.alloc, own, self.other(word)?),
-            "full-same" => answers::full_same(self.alloc, own, self.other(word)?),
-            "diff" => answers::diff(self.alloc, own, self.other(word)?),
-            _ => Err(PlayError::Bad),
-        }
-    }
-
-    fn compared(
+    fn region_diff(
         &self,
-        own: &Surface<Measure>,
-        name: &str,
-        words: &[&str],
+        place: &[&str],
+        number: &str,
+        corner: (usize, usize),
     ) -> Result<String, PlayError> {
-        match name {
-            "diff-line" => answers::line_diff(self.alloc, own, words),
-            "diff-lines" => answers::lines_diff(self.alloc, own, words),
-            "diff-region" => self.region_diff(own, words),
-            _ => Err(PlayError::Bad),
-        }
-    }
-
-    fn region_diff(&self, own: &Surface<Measure>, words: &[&str]) -> Result<String, PlayError> {
-        let [place @ .., number, x, y] = words else {
-            return Err(PlayError::Bad);
-        };
-        let corner = pair(x, y)?;
-        answers::region_diff(self.alloc, own, place, self.other(number)?, corner)
+        answers::region_diff(self.alloc, self.own()?, place, self.other(number)?, corner)
     }
 
     fn own(&self) -> Result<&Surface<Measure>, PlayError> {
@@ -251,20 +207,12 @@ impl Stage {
         self.silent()
     }
 
-    fn turn_to(&mut self, words: &[&str]) -> Result<String, PlayError> {
-        self.shown = Shown::Surface(one(words)?);
+    fn turn_to(&mut self, shown: Shown) -> Result<String, PlayError> {
+        self.shown = shown;
         self.silent()
     }
 
-    fn turn_to_viewer(&mut self, words: &[&str]) -> Result<String, PlayError> {
-        self.shown = Shown::Viewer(one(words)?);
-        self.silent()
-    }
-
-    fn resize(&mut self, words: &[&str]) -> Result<String, PlayError> {
-        let [width, height] = words else {
-            return Err(PlayError::Bad);
-        };
+    fn resize(&mut self, width: &str, height: &str) -> Result<String, PlayError> {
         let (width, height) = size(width, height)?;
         match self.own_mut()?.resize(width, height) {
             Ok(()) => self.silent(),
@@ -272,16 +220,13 @@ impl Stage {
         }
     }
 
-    fn flush(&mut self, words: &[&str]) -> Result<String, PlayError> {
-        let seq = one(words)?;
+    fn flush(&mut self, seq: &str) -> Result<String, PlayError> {
+        let seq = given(seq)?;
         self.own_mut()?.flush_changes_older_than(seq);
         self.silent()
     }
 
-    fn draw(&mut self, words: &[&str]) -> Result<String, PlayError> {
-        let [number, x, y] = words else {
-            return Err(PlayError::Bad);
-        };
+    fn draw(&mut self, number: &str, x: &str, y: &str) -> Result<String, PlayError> {
         let place = pair(x, y)?;
         let other = self.other(number)?.clone()?;
         self.draw_other(&other, place)
@@ -307,10 +252,7 @@ impl Stage {
     }
 
     // Another surface makes what is due from a number on.
-    fn lead(&mut self, words: &[&str]) -> Result<String, PlayError> {
-        let [number, seq] = words else {
-            return Err(PlayError::Bad);
-        };
+    fn lead(&mut self, number: &str, seq: &str) -> Result<String, PlayError> {
         let (number, seq) = pair(number, seq)?;
         let (next, changes) = self.due(seq)?;
         let other = self.surfaces.get_mut(number).ok_or(PlayError::Bad)?;
@@ -325,8 +267,7 @@ impl Stage {
         Ok((number, changes.into_owned(self.alloc)?))
     }
 
-    fn follow(&mut self, words: &[&str]) -> Result<String, PlayError> {
-        let number = one(words)?;
+    fn follow(&mut self, number: usize) -> Result<String, PlayError> {
         let source = self.own()?.clone()?;
         self.follow_source(number, &source)
     }
@@ -343,9 +284,9 @@ impl Stage {
         }
     }
 
-    fn goto(&mut self, words: &[&str]) -> Result<String, PlayError> {
+    fn goto(&mut self, x: &str, y: &str) -> Result<String, PlayError> {
         match &mut self.sequence {
-            Some(sequence) => sequence.goto(words),
+            Some(sequence) => sequence.goto(x, y),
             None => Err(PlayError::Bad),
         }
     }
@@ -362,28 +303,6 @@ impl Stage {
             Some(sequence) => answers::listed(self.alloc, sequence.into_changes().as_slice()),
             None => Err(PlayError::Bad),
         }
-    }
-}
-
-// The only number of the words.
-fn one(words: &[&str]) -> Result<usize, PlayError> {
-    match words {
-        [word] => given(word),
-        _ => Err(PlayError::Bad),
-    }
-}
-
-// What is asked of a surface by a name alone.
-fn named(alloc: Global, own: &Surface<Measure>, name: &str) -> Result<String, PlayError> {
-    match name {
-        "rows" => answers::rows(alloc, own),
-        "number" => answers::number(alloc, own),
-        "kept" => answers::kept(alloc, own),
-        "full" => answers::full(alloc, own),
-        "screen" => answers::screen(alloc, own),
-        "flags" => answers::flags(alloc, own),
-        "cells" => answers::cells(alloc, own),
-        _ => Err(PlayError::Bad),
     }
 }
 

@@ -32,26 +32,24 @@ impl Stage {
     }
 
     // What the bytes of a line encode.
-    fn decoded(&mut self, kind: &str, word: &str) -> Result<String, PlayError> {
+    fn decoded(&mut self, kind: Kind, word: &str) -> Result<String, PlayError> {
         let bytes = bytes_of(self.alloc, word)?;
         let bytes = bytes.as_slice();
         let mut lines = String::new(self.alloc);
         match kind {
-            "change" => {
-                self.change(&UnicodeWidths, bytes, &mut lines)?;
-                self.damage(Kind::Change, bytes)?;
-            }
-            "narrow" => self.change(&OneColumn, bytes, &mut lines)?,
-            "answer" => {
-                self.answer(bytes, &mut lines)?;
-                self.damage(Kind::Answer, bytes)?;
-            }
-            "ask" => {
-                self.ask(bytes, &mut lines)?;
-                self.damage(Kind::Ask, bytes)?;
-            }
-            _ => return Err(PlayError::Bad),
+            Kind::Change => self.change(&UnicodeWidths, bytes, &mut lines)?,
+            Kind::Answer => self.answer(bytes, &mut lines)?,
+            Kind::Ask => self.ask(bytes, &mut lines)?,
         }
+        self.damage(kind, bytes)?;
+        Ok(lines)
+    }
+
+    // The change that the bytes of a line encode where each text has one column.
+    fn narrow(&self, word: &str) -> Result<String, PlayError> {
+        let bytes = bytes_of(self.alloc, word)?;
+        let mut lines = String::new(self.alloc);
+        self.change(&OneColumn, bytes.as_slice(), &mut lines)?;
         Ok(lines)
     }
 
@@ -131,7 +129,11 @@ impl Play for Stage {
             "case" => Ok(String::new(self.alloc)),
             "damaged" => self.count(),
             "client" => self.followed(word),
-            _ => self.decoded(kind, word),
+            "change" => self.decoded(Kind::Change, word),
+            "narrow" => self.narrow(word),
+            "answer" => self.decoded(Kind::Answer, word),
+            "ask" => self.decoded(Kind::Ask, word),
+            _ => Err(PlayError::Bad),
         }
     }
 }

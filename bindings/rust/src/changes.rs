@@ -30,13 +30,17 @@ use std::fmt;
 /// assert_eq!(surface.row(0).text()?.trim_end(), "100 %");
 /// # Ok::<(), Error>(())
 /// ```
-#[derive(Clone, PartialEq, Eq, Default)]
+#[derive(Clone, Default)]
 pub struct Changes {
     /// Behind one another, what the runs have.
     out: Encoder,
     runs: Vec<Stretch>,
     len: usize,
     rows: usize,
+    /// A text behind them, which may still grow, and is counted.
+    open: String,
+    /// The pen after them, where the last one that changed it was `use_pen`.
+    pen: Option<Attributes>,
     /// Where a text is formatted. It is empty between calls.
     formatted: String,
 }
@@ -102,6 +106,8 @@ impl Changes {
         self.runs.clear();
         self.len = 0;
         self.rows = 0;
+        self.open.clear();
+        self.pen = None;
     }
 
     /// Appends a change.
@@ -109,6 +115,11 @@ impl Changes {
         self.rows = self.rows.max(change.rows());
         match change {
             Change::Text(text) => self.text(text),
+            Change::Attribute(change) => self.attribute(change),
+            Change::AllAttributes(attributes) => self.pen(attributes),
+            Change::ClearScreen(_)
+            | Change::ClearToEndOfLine(_)
+            | Change::ClearToEndOfScreen(_) => self.pen_item(|out| out.change(change)),
             _ => self.item(|out| out.change(change)),
         }
     }
@@ -118,11 +129,45 @@ impl Changes {
         if text.bytes().all(has_one_column) {
             return self.item(|out| out.print(text));
         }
+        self.close();
         let begin = self.out.0.len();
         self.runs.push(Stretch::Text { begin });
         self.out.0.extend_from_slice(text.as_bytes());
         self.len += 1;
         self
+    }
+
+    /// Prints a text as one with the texts that were appended just before it: so a text may come in
+    /// parts, and what is a grapheme together is printed as one.
+    ///
+    /// ```
+    /// use tikeburo::{Changes, Error, Surface};
+    ///
+    /// let mut surface = Surface::new(10, 1)?;
+    /// let mut changes = Changes::new();
+    /// for character in "cafe\u{301}".chars() {
+    ///     changes.append(character.encode_utf8(&mut [0; 4]));
+    /// }
+    /// assert_eq!(changes.len(), 1);
+    /// surface.add(&changes)?;
+    /// assert_eq!(surface.cursor_position(), (4, 0));
+    /// # Ok::<(), Error>(())
+    /// ```
+    pub fn append(&mut self, text: &str) -> &mut Changes {
+        self.len += usize::from(self.open.is_empty() && !text.is_empty());
+        self.open.push_str(text);
+        self
+    }
+
+    /// Ends the text that may grow.
+    fn close(&mut self) {
+        if !self.open.is_empty() {
+            let mut text = std::mem::take(&mut self.open);
+            self.len -= 1;
+            self.text(&text);
+            text.clear();
+            self.open = text;
+        }
     }
 
     /// Prints a text, as `write!` passes it.
@@ -158,12 +203,32 @@ impl Changes {
 
     /// Sets the whole pen, the attributes of coming texts.
     pub fn pen(&mut self, attributes: &Attributes) -> &mut Changes {
-        self.item(|out| out.attributes_change(attributes))
+        self.pen_item(|out| out.attributes_change(attributes))
+    }
+
+    /// Sets the whole pen, unless that is what the list did to it last: then it is this one, and
+    /// nothing is appended. So each of many texts can say its pen.
+    ///
+    /// ```
+    /// use tikeburo::{Attributes, Changes};
+    ///
+    /// let mut changes = Changes::new();
+    /// let pen = Attributes { italic: true, ..Attributes::default() };
+    /// for row in 0..3 {
+    ///     changes.move_to(0, row).use_pen(&pen).text("slanted");
+    /// }
+    /// assert_eq!(changes.len(), 3 + 1 + 3);
+    /// ```
+    pub fn use_pen(&mut self, attributes: &Attributes) -> &mut Changes {
+        if self.pen.as_ref() != Some(attributes) {
+            self.pen(attributes).pen = Some(attributes.clone());
+        }
+        self
     }
 
     /// Sets one attribute of the pen.
     pub fn attribute(&mut self, change: &AttributeChange) -> &mut Changes {
-        self.item(|out| out.attribute_change(change))
+        self.pen_item(|out| out.attribute_change(change))
     }
 
     /// Sets how bold coming texts are.
@@ -213,12 +278,12 @@ impl Changes {
 
     /// Gives them a link to this uri.
     pub fn link(&mut self, uri: &str) -> &mut Changes {
-        self.item(|out| out.link_change(Some(uri)))
+        self.pen_item(|out| out.link_change(Some(uri)))
     }
 
     /// Gives them no link.
     pub fn no_link(&mut self) -> &mut Changes {
-        self.item(|out| out.link_change(None))
+        self.pen_item(|out| out.link_change(None))
     }
 
     /// Clears all and goes home. What is cleared, and the pen, have this background and no other
@@ -230,6 +295,28 @@ impl Changes {
     /// Clears from the cursor to its row's end.
     pub fn clear_to_end_of_line(&mut self, background: ColorAttribute) -> &mut Changes {
         self.push(&Change::ClearToEndOfLine(background))
+    }
+
+    /// Clears so many columns from the cursor on, and goes behind them. All is as after the other
+    /// clears, but they may end anywhere: blanks of this background are printed.
+    ///
+    /// ```
+    /// use tikeburo::{Changes, ColorAttribute, Error, Surface};
+    ///
+    /// let mut surface = Surface::new(8, 1)?;
+    /// let mut changes = Changes::new();
+    /// changes.text("abcdef").move_to(1, 0);
+    /// changes.clear_columns(3, ColorAttribute::PaletteIndex(4));
+    /// surface.add(&changes)?;
+    /// assert_eq!(surface.row(0).text()?.trim_end(), "a   ef");
+    /// # Ok::<(), Error>(())
+    /// ```
+    pub fn clear_columns(&mut self, count: usize, background: ColorAttribute) -> &mut Changes {
+        let pen = Attributes {
+            background,
+            ..Attributes::default()
+        };
+        self.use_pen(&pen).text(&" ".repeat(count))
     }
 
     /// Clears from the cursor to the last row's end.
@@ -281,8 +368,15 @@ impl Changes {
         self.push(&Change::LineAttribute(attribute))
     }
 
+    /// Appends what encodes a change of the pen.
+    fn pen_item(&mut self, encode: impl FnOnce(&mut Encoder)) -> &mut Changes {
+        self.pen = None;
+        self.item(encode)
+    }
+
     /// Appends what encodes one change, to the list that the last run is or to a new one.
     fn item(&mut self, encode: impl FnOnce(&mut Encoder)) -> &mut Changes {
+        self.close();
         if !matches!(self.runs.last(), Some(Stretch::List { .. })) {
             let (begin, head, count) = (self.out.0.len(), 0, 0);
             self.out.0.extend_from_slice(&[0; head::ROOM]);
@@ -309,7 +403,9 @@ impl Changes {
         let ends = self.runs.iter().skip(1).map(Stretch::begin);
         let ends = ends.chain([bytes.len()]);
         let runs = self.runs.iter().zip(ends);
+        let open = (!self.open.is_empty()).then_some(Run::Text(self.open.as_bytes()));
         runs.map(|(stretch, end)| stretch.run(bytes, end))
+            .chain(open)
     }
 }
 
@@ -350,6 +446,15 @@ impl FromIterator<Change> for Changes {
         list
     }
 }
+
+/// Lists are equal that have the same changes, made by calls of the same kinds.
+impl PartialEq for Changes {
+    fn eq(&self, other: &Changes) -> bool {
+        self.runs == other.runs && self.out == other.out && self.open == other.open
+    }
+}
+
+impl Eq for Changes {}
 
 impl fmt::Debug for Changes {
     fn fmt(&self, f: &mut fmt::Formatter<'_>) -> fmt::Result {
@@ -441,9 +546,23 @@ mod tests {
     }
 
     #[test]
+    fn appended_texts_are_one() {
+        let (mut parts, mut whole) = (Changes::new(), Changes::new());
+        parts.append("").append("a").append("b").italic(true);
+        parts.append("e").append("\u{301}").text("c");
+        whole.text("ab").italic(true).text("e\u{301}").text("c");
+        assert_eq!(parts, whole);
+        assert_eq!(parts.append("x").append("か").len(), 5);
+        assert_eq!(runs(&parts)[3], "Txか".as_bytes());
+        assert_eq!(parts.move_to(0, 0).len(), 6);
+        assert_eq!(runs(&parts)[3], "Txか".as_bytes());
+    }
+
+    #[test]
     fn a_cleared_list_is_a_new_one() {
         let mut changes = Changes::new();
         changes.scroll_up(1, usize::MAX, 1).text("か").text("x");
+        changes.use_pen(&Attributes::default()).append("x");
         assert_eq!(changes.rows(), usize::MAX);
         changes.clear();
         assert_eq!(changes, Changes::new());

@@ -73,6 +73,7 @@ mod head;
 mod recording;
 mod rows;
 mod screen;
+mod sgr;
 mod surface;
 mod viewer;
 

@@ -1,9 +1,9 @@
 //! A terminal: escape sequences become changes of a surface.
 
 use std::{mem, ops::Range};
-use tikeburo::{graphemes, Attributes, Blink, Change, Changes, ColorAttribute, CursorShape, Error};
-use tikeburo::{Hyperlink, Intensity, RgbColor, Surface, Underline, Widths};
-use vte::{Params, ParamsIter, Parser, Perform};
+use tikeburo::{graphemes, Attributes, Change, Changes, ColorAttribute, CursorShape, Error};
+use tikeburo::{Hyperlink, Surface, Widths};
+use vte::{Params, Parser, Perform};
 
 const LONGEST_GRAPHEME: usize = 128; // bytes; what joins it behind them is left out
 /// What the set of characters for drawings has for '`' to '~'.
@@ -240,7 +240,7 @@ impl Perform for Terminal {
             (b"", 'b') => before.repeat(count).chars().for_each(|c| self.print(c)),
             (b"", 'd') => self.move_to(x, count - 1),
             (b"?", 'h' | 'l') => params.iter().for_each(|it| self.set_mode(it[0], is_on)),
-            (b"", 'm') => set_pen(&mut self.cursor.pen, params),
+            (b"", 'm') => self.cursor.pen.apply_sgr(params),
             (b" ", 'q') => self.changes.extend(shape.map(Change::CursorShape)),
             (b"", 'r') if count < bottom => {
                 self.region = count - 1..bottom;
@@ -279,56 +279,4 @@ impl Perform for Terminal {
             _ => {}
         }
     }
-}
-
-/// Sets what the parameters of `CSI .. m` say. Links stay.
-fn set_pen(pen: &mut Attributes, params: &Params) {
-    let mut params = params.iter();
-    while let Some(param) = params.next() {
-        let (number, kind) = (param[0], *param.get(1).unwrap_or(&1) as u8);
-        match number {
-            0 => pen.hyperlink = mem::take(pen).hyperlink,
-            1 => pen.intensity = Intensity::Bold,
-            2 => pen.intensity = Intensity::Half,
-            22 => pen.intensity = Intensity::Normal,
-            3 | 23 => pen.italic = number == 3,
-            4 => pen.underline = kind.try_into().unwrap_or_default(),
-            21 => pen.underline = Underline::Double,
-            24 => pen.underline = Underline::None,
-            5 => pen.blink = Blink::Slow,
-            6 => pen.blink = Blink::Rapid,
-            25 => pen.blink = Blink::None,
-            7 | 27 => pen.reverse = number == 7,
-            8 | 28 => pen.invisible = number == 8,
-            9 | 29 => pen.strikethrough = number == 9,
-            53 | 55 => pen.overline = number == 53,
-            30..=39 | 90..=97 => set_color(&mut pen.foreground, param, &mut params),
-            40..=49 | 100..=107 => set_color(&mut pen.background, param, &mut params),
-            58 | 59 => set_color(&mut pen.underline_color, param, &mut params),
-            _ => {}
-        }
-    }
-}
-
-/// Sets a colour by the last digit: 0 to 7 are the palette's, which has the bright ones from 8 on,
-/// 8 is that of `38:5:N`, `38:2:R:G:B` or `38:2::R:G:B`, or of the same with semicolons.
-fn set_color(color: &mut ColorAttribute, param: &[u16], rest: &mut ParamsIter) {
-    let mut values = match param[0] % 10 {
-        8 => param[1..].to_vec(),
-        9 => return *color = ColorAttribute::Default,
-        digit => vec![5, digit + if param[0] < 90 { 0 } else { 8 }],
-    };
-    if values.is_empty() {
-        values.extend(rest.next().map(|kind| kind[0]));
-        let count = if values == [2] { 3 } else { 1 };
-        values.extend(rest.take(count).map(|value| value[0]));
-    }
-    let byte = |value: u16| value.min(255) as u8;
-    *color = match values[..] {
-        [5, index] => ColorAttribute::PaletteIndex(byte(index)),
-        [2, red, green, blue] | [2, _, red, green, blue, ..] => {
-            RgbColor::new_8bpc(byte(red), byte(green), byte(blue)).into()
-        }
-        _ => return,
-    };
 }

@@ -35,32 +35,11 @@ impl<W: Write> Renderer<W> {
         write!(self.out, "\x1b[{};1H", row + 1)?;
         for (index, cell) in cells.iter().enumerate() {
             if index == 0 || cell.attrs() != cells[index - 1].attrs() {
-                self.write_pen(cell.attrs())?;
+                write!(self.out, "\x1b[{}m", cell.attrs().to_sgr())?;
             }
             self.out.write_all(cell.str().as_bytes())?;
         }
         self.out.write_all(b"\x1b[0m")
-    }
-
-    fn write_pen(&mut self, pen: &Attributes) -> io::Result<()> {
-        let intensity = match pen.intensity {
-            Intensity::Normal => 22,
-            Intensity::Bold => 1,
-            Intensity::Half => 2,
-        };
-        write!(self.out, "\x1b[0;{intensity}")?;
-        for (place, color) in [(38, pen.foreground), (48, pen.background)] {
-            match color {
-                ColorAttribute::Default => {}
-                ColorAttribute::PaletteIndex(index) => write!(self.out, ";{place};5;{index}")?,
-                ColorAttribute::TrueColorWithDefaultFallback(color)
-                | ColorAttribute::TrueColorWithPaletteFallback(color, _) => {
-                    let (red, green, blue) = color.to_tuple_rgb8();
-                    write!(self.out, ";{place};2;{red};{green};{blue}")?;
-                }
-            }
-        }
-        self.out.write_all(b"m")
     }
 }
 

@@ -1,7 +1,31 @@
 //! Attributes of texts.
 
 use crate::color::ColorAttribute;
+use crate::error::Error;
 use crate::ffi::tk_attributes;
+
+/// Finds the variants of an enum by their numbers, which the header for C has in this order.
+macro_rules! number_variants {
+    ($name:ident: $($variant:ident),+) => {
+        /// The variant of this number, from 0 on in their order, or else [`Error::Range`].
+        impl TryFrom<u8> for $name {
+            type Error = Error;
+
+            fn try_from(number: u8) -> Result<$name, Error> {
+                let all = [$($name::$variant),+];
+                all.get(usize::from(number)).copied().ok_or(Error::Range)
+            }
+        }
+    };
+}
+
+pub(crate) use number_variants;
+
+number_variants!(Intensity: Normal, Bold, Half);
+number_variants!(Underline: None, Single, Double, Curly, Dotted, Dashed);
+number_variants!(Blink: None, Slow, Rapid);
+number_variants!(SemanticType: Output, Input, Prompt);
+number_variants!(VerticalAlign: BaseLine, SuperScript, SubScript);
 
 /// How bold a text is.
 #[derive(Clone, Copy, PartialEq, Eq, Hash, Debug, Default)]
@@ -13,10 +37,6 @@ pub enum Intensity {
     Bold,
     /// Dim.
     Half,
-}
-
-impl Intensity {
-    const ALL: [Intensity; 3] = [Intensity::Normal, Intensity::Bold, Intensity::Half];
 }
 
 /// How a text is underlined.
@@ -37,17 +57,6 @@ pub enum Underline {
     Dashed,
 }
 
-impl Underline {
-    const ALL: [Underline; 6] = [
-        Underline::None,
-        Underline::Single,
-        Underline::Double,
-        Underline::Curly,
-        Underline::Dotted,
-        Underline::Dashed,
-    ];
-}
-
 /// How a text blinks.
 #[derive(Clone, Copy, PartialEq, Eq, Hash, Debug, Default)]
 pub enum Blink {
@@ -58,10 +67,6 @@ pub enum Blink {
     Slow,
     /// Fast.
     Rapid,
-}
-
-impl Blink {
-    const ALL: [Blink; 3] = [Blink::None, Blink::Slow, Blink::Rapid];
 }
 
 /// What a text is to a shell.
@@ -76,14 +81,6 @@ pub enum SemanticType {
     Prompt,
 }
 
-impl SemanticType {
-    const ALL: [SemanticType; 3] = [
-        SemanticType::Output,
-        SemanticType::Input,
-        SemanticType::Prompt,
-    ];
-}
-
 /// Where a text is placed on its line.
 #[derive(Clone, Copy, PartialEq, Eq, Hash, Debug, Default)]
 pub enum VerticalAlign {
@@ -94,14 +91,6 @@ pub enum VerticalAlign {
     SuperScript,
     /// Lowered.
     SubScript,
-}
-
-impl VerticalAlign {
-    const ALL: [VerticalAlign; 3] = [
-        VerticalAlign::BaseLine,
-        VerticalAlign::SuperScript,
-        VerticalAlign::SubScript,
-    ];
 }
 
 /// The attributes of a text: `termwiz`'s `CellAttributes`, as fields.
@@ -154,11 +143,11 @@ impl Attributes {
     /// The attributes that the library wrote, and this link.
     pub(crate) fn new(read: &tk_attributes, hyperlink: Option<Hyperlink>) -> Attributes {
         Attributes {
-            intensity: at(&Intensity::ALL, read.intensity),
-            underline: at(&Underline::ALL, read.underline),
-            blink: at(&Blink::ALL, read.blink),
-            semantic_type: at(&SemanticType::ALL, read.semantic_type),
-            vertical_align: at(&VerticalAlign::ALL, read.vertical_align),
+            intensity: read.intensity.try_into().unwrap_or_default(),
+            underline: read.underline.try_into().unwrap_or_default(),
+            blink: read.blink.try_into().unwrap_or_default(),
+            semantic_type: read.semantic_type.try_into().unwrap_or_default(),
+            vertical_align: read.vertical_align.try_into().unwrap_or_default(),
             italic: read.italic,
             reverse: read.reverse,
             strikethrough: read.strikethrough,
@@ -193,11 +182,6 @@ impl From<&Attributes> for tk_attributes {
             underline_color: attributes.underline_color.into(),
         }
     }
-}
-
-/// The value of this number in the header, which counts them in this order.
-fn at<T: Copy + Default>(all: &[T], number: u8) -> T {
-    all.get(usize::from(number)).copied().unwrap_or_default()
 }
 
 /// A link, which a text may have.

@@ -1,7 +1,8 @@
 //! Changes of surfaces.
 
-use crate::attributes::{AttributeChange, Attributes};
+use crate::attributes::{number_variants, AttributeChange, Attributes};
 use crate::color::ColorAttribute;
+use crate::error::Error;
 
 /// The number of a change.
 pub type SequenceNo = usize;
@@ -27,7 +28,17 @@ pub enum CursorVisibility {
     Visible,
 }
 
-/// How the cursor is drawn.
+impl From<bool> for CursorVisibility {
+    fn from(is_visible: bool) -> CursorVisibility {
+        if is_visible {
+            CursorVisibility::Visible
+        } else {
+            CursorVisibility::Hidden
+        }
+    }
+}
+
+/// How the cursor is drawn. The numbers of the shapes are those of `CSI Ps SP q`.
 #[derive(Clone, Copy, PartialEq, Eq, Hash, Debug, Default)]
 pub enum CursorShape {
     /// As the terminal does by itself.
@@ -47,6 +58,16 @@ pub enum CursorShape {
     SteadyBar,
 }
 
+number_variants!(
+    CursorShape: Default,
+    BlinkingBlock,
+    SteadyBlock,
+    BlinkingUnderline,
+    SteadyUnderline,
+    BlinkingBar,
+    SteadyBar
+);
+
 /// How large a line is shown.
 #[derive(Clone, Copy, PartialEq, Eq, Hash, Debug)]
 pub enum LineAttribute {
@@ -59,6 +80,13 @@ pub enum LineAttribute {
     /// As usual.
     SingleWidthLine,
 }
+
+number_variants!(
+    LineAttribute: DoubleHeightTopHalfLine,
+    DoubleHeightBottomHalfLine,
+    DoubleWidthLine,
+    SingleWidthLine
+);
 
 /// A change of a surface. It acts at the cursor and with the pen, which is the attributes of coming
 /// texts, that the changes before it left.

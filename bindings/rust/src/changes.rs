@@ -28,11 +28,15 @@ use std::fmt;
 /// assert_eq!(surface.row(0).text()?.trim_end(), "100 %");
 /// # Ok::<(), Error>(())
 /// ```
-#[derive(Clone, PartialEq, Eq, Default)]
+#[derive(Clone, Default)]
 pub struct Changes {
     list: Vec<tk_change>,
     /// The texts of all changes, behind one another.
     texts: String,
+    /// Whether the last change is a text that may still grow.
+    is_open: bool,
+    /// The pen after them, where the last one that changed it was `use_pen`.
+    pen: Option<Attributes>,
 }
 
 impl Changes {
@@ -58,6 +62,8 @@ impl Changes {
     pub fn clear(&mut self) {
         self.list.clear();
         self.texts.clear();
+        self.is_open = false;
+        self.pen = None;
     }
 
     /// Appends a change.
@@ -91,6 +97,37 @@ impl Changes {
     /// Prints a text at the cursor, as [`Change::Text`].
     pub fn text(&mut self, text: &str) -> &mut Changes {
         self.with_text(ffi::CHANGE_TEXT, text)
+    }
+
+    /// Prints a text as one with the texts that were appended just before it: so a text may come in
+    /// parts, and what is a grapheme together is printed as one.
+    ///
+    /// ```
+    /// use tikeburo::{Changes, Error, Surface};
+    ///
+    /// let mut surface = Surface::new(10, 1)?;
+    /// let mut changes = Changes::new();
+    /// for character in "cafe\u{301}".chars() {
+    ///     changes.append(character.encode_utf8(&mut [0; 4]));
+    /// }
+    /// assert_eq!(changes.len(), 1);
+    /// surface.add(&changes)?;
+    /// assert_eq!(surface.cursor_position(), (4, 0));
+    /// # Ok::<(), Error>(())
+    /// ```
+    pub fn append(&mut self, text: &str) -> &mut Changes {
+        match self.list.last_mut() {
+            Some(last) if self.is_open => {
+                last.first += text.len();
+                self.texts.push_str(text);
+            }
+            _ if text.is_empty() => {}
+            _ => {
+                self.text(text);
+                self.is_open = true;
+            }
+        }
+        self
     }
 
     /// Prints a text, as `write!` passes it.
@@ -131,12 +168,31 @@ impl Changes {
     pub fn pen(&mut self, attributes: &Attributes) -> &mut Changes {
         let uri = attributes.hyperlink.as_ref().map_or("", Hyperlink::uri);
         self.texts.push_str(uri);
-        self.list.push(tk_change {
+        self.item(tk_change {
             kind: ffi::CHANGE_PEN,
             attributes: attributes.into(),
             first: uri.len(),
             ..tk_change::default()
-        });
+        })
+    }
+
+    /// Sets the whole pen, unless that is what the list did to it last: then it is this one, and
+    /// nothing is appended. So each of many texts can say its pen.
+    ///
+    /// ```
+    /// use tikeburo::{Attributes, Changes};
+    ///
+    /// let mut changes = Changes::new();
+    /// let pen = Attributes { italic: true, ..Attributes::default() };
+    /// for row in 0..3 {
+    ///     changes.move_to(0, row).use_pen(&pen).text("slanted");
+    /// }
+    /// assert_eq!(changes.len(), 3 + 1 + 3);
+    /// ```
+    pub fn use_pen(&mut self, attributes: &Attributes) -> &mut Changes {
+        if self.pen.as_ref() != Some(attributes) {
+            self.pen(attributes).pen = Some(attributes.clone());
+        }
         self
     }
 
@@ -252,6 +308,28 @@ impl Changes {
         self.with_background(ffi::CHANGE_CLEAR_TO_END_OF_LINE, background)
     }
 
+    /// Clears so many columns from the cursor on, and goes behind them. All is as after the other
+    /// clears, but they may end anywhere: blanks of this background are printed.
+    ///
+    /// ```
+    /// use tikeburo::{Changes, ColorAttribute, Error, Surface};
+    ///
+    /// let mut surface = Surface::new(8, 1)?;
+    /// let mut changes = Changes::new();
+    /// changes.text("abcdef").move_to(1, 0);
+    /// changes.clear_columns(3, ColorAttribute::PaletteIndex(4));
+    /// surface.add(&changes)?;
+    /// assert_eq!(surface.row(0).text()?.trim_end(), "a   ef");
+    /// # Ok::<(), Error>(())
+    /// ```
+    pub fn clear_columns(&mut self, count: usize, background: ColorAttribute) -> &mut Changes {
+        let pen = Attributes {
+            background,
+            ..Attributes::default()
+        };
+        self.use_pen(&pen).text(&" ".repeat(count))
+    }
+
     /// Clears from the cursor to the last row's end.
     pub fn clear_to_end_of_screen(&mut self, background: ColorAttribute) -> &mut Changes {
         self.with_background(ffi::CHANGE_CLEAR_TO_END_OF_SCREEN, background)
@@ -298,29 +376,41 @@ impl Changes {
         self.with_numbers(ffi::CHANGE_LINE_ATTRIBUTE, [attribute as usize, 0, 0])
     }
 
+    /// Appends a change, whose text is there.
+    fn item(&mut self, change: tk_change) -> &mut Changes {
+        self.is_open = false;
+        if matches!(
+            change.kind,
+            ffi::CHANGE_LINK..=ffi::CHANGE_BACKGROUND
+                | ffi::CHANGE_CLEAR_SCREEN..=ffi::CHANGE_CLEAR_TO_END_OF_SCREEN
+        ) {
+            self.pen = None;
+        }
+        self.list.push(change);
+        self
+    }
+
     fn with_text(&mut self, kind: u8, text: &str) -> &mut Changes {
         self.texts.push_str(text);
         self.with_numbers(kind, [text.len(), 0, 0])
     }
 
     fn with_numbers(&mut self, kind: u8, [first, second, third]: [usize; 3]) -> &mut Changes {
-        self.list.push(tk_change {
+        self.item(tk_change {
             kind,
             first,
             second,
             third,
             ..tk_change::default()
-        });
-        self
+        })
     }
 
     fn with_attributes(&mut self, kind: u8, attributes: tk_attributes) -> &mut Changes {
-        self.list.push(tk_change {
+        self.item(tk_change {
             kind,
             attributes,
             ..tk_change::default()
-        });
-        self
+        })
     }
 
     fn with_background(&mut self, kind: u8, background: ColorAttribute) -> &mut Changes {
@@ -377,6 +467,15 @@ impl FromIterator<Change> for Changes {
         list
     }
 }
+
+/// Lists are equal that have the same changes.
+impl PartialEq for Changes {
+    fn eq(&self, other: &Changes) -> bool {
+        self.list == other.list && self.texts == other.texts
+    }
+}
+
+impl Eq for Changes {}
 
 impl fmt::Debug for Changes {
     fn fmt(&self, f: &mut fmt::Formatter<'_>) -> fmt::Result {

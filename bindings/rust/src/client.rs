@@ -4,6 +4,7 @@ use crate::error::Error;
 use crate::fault::Fault;
 use crate::ffi::{self, tk_fault};
 use crate::handle::{self, Handle};
+use crate::head::{self, ARRAY, UNSIGNED};
 use crate::screen::Screen;
 use crate::surface::Widths;
 
@@ -15,6 +16,16 @@ pub struct Ask {
 }
 
 impl Ask {
+    /// The ask of who shows what this number names of a surface, by the number of that.
+    pub(crate) fn new(source: u64, number: u64) -> Ask {
+        let mut bytes = Vec::new();
+        head::put(&mut bytes, ARRAY, 3);
+        for value in [2, source, number] {
+            head::put(&mut bytes, UNSIGNED, value);
+        }
+        Ask { bytes }
+    }
+
     /// Its bytes: one ask of `docs/stream.cddl`, 20 at most.
     #[must_use]
     pub fn as_bytes(&self) -> &[u8] {
@@ -25,6 +36,13 @@ impl Ask {
     #[must_use]
     pub fn into_bytes(self) -> Vec<u8> {
         self.bytes
+    }
+}
+
+/// The ask of who shows nothing yet, as a new [`Client`].
+impl Default for Ask {
+    fn default() -> Ask {
+        Ask::new(0, 0)
     }
 }
 

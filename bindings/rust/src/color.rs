@@ -41,6 +41,13 @@ pub enum ColorAttribute {
     Default,
 }
 
+/// This colour, or else the default one.
+impl From<RgbColor> for ColorAttribute {
+    fn from(color: RgbColor) -> ColorAttribute {
+        ColorAttribute::TrueColorWithDefaultFallback(color)
+    }
+}
+
 impl From<tk_color> for ColorAttribute {
     fn from(color: tk_color) -> ColorAttribute {
         let rgb = RgbColor::new_8bpc(color.red, color.green, color.blue);

@@ -20,7 +20,7 @@ pub enum Error {
     ScrollRegion,
     /// The numbers of changes are used up.
     Numbers,
-    /// A row, a column, a size or a limit is outside of its range.
+    /// A row, a column, a size, a limit or the number of a variant is outside of its range.
     Range,
     /// The library returned a number that this crate has no name for.
     Unknown(i32),

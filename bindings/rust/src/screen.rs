@@ -45,11 +45,7 @@ impl Screen {
         let mut is_visible = true;
         // Safety: the handle is live, and then the call doesn't fail.
         unsafe { ffi::tk_cursor_is_visible(self.handle.get(), &mut is_visible) };
-        if is_visible {
-            CursorVisibility::Visible
-        } else {
-            CursorVisibility::Hidden
-        }
+        is_visible.into()
     }
 
     /// The title, which is empty at first.

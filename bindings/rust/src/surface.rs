@@ -69,6 +69,7 @@ impl Options {
 /// ```
 pub struct Surface {
     screen: Screen,
+    source: usize,
 }
 
 impl Surface {
@@ -88,14 +89,50 @@ impl Surface {
     ///
     /// Those of [`Surface::new`].
     pub fn with_options(width: usize, height: usize, options: Options) -> Result<Surface, Error> {
-        let widths = options.widths as u8;
-        let source = source_number();
+        Surface::with_source(width, height, options.widths, source_number())
+    }
+
+    /// A blank surface of this number, which is another one's too only where nothing follows it.
+    pub(crate) fn with_source(
+        width: usize,
+        height: usize,
+        widths: Widths,
+        source: usize,
+    ) -> Result<Surface, Error> {
+        let widths = widths as u8;
         // Safety: the handle is all zero before.
         let handle = Handle::made(|handle| unsafe {
             ffi::tk_surface_new(handle, width, height, widths, source)
         })?;
         let screen = Screen { handle };
-        Ok(Surface { screen })
+        Ok(Surface { screen, source })
+    }
+
+    /// A surface that shows the rows that another screen shows now, as a copy to be drawn later, and
+    /// measures texts by Unicode. Cursor, pen and title are those of a new one.
+    ///
+    /// # Errors
+    ///
+    /// [`Error::Memory`].
+    ///
+    /// # Examples
+    ///
+    /// ```
+    /// use tikeburo::{ColorAttribute, Change, Error, Surface};
+    ///
+    /// let mut surface = Surface::new(8, 2)?;
+    /// surface.add_change("one\r\ntwo")?;
+    /// let copy = Surface::copy_of(&surface)?;
+    /// surface.add_change(Change::ClearScreen(ColorAttribute::Default))?;
+    /// surface.draw_from_screen(&copy, 0, 0)?;
+    /// assert_eq!(surface.row(1).text()?.trim_end(), "two");
+    /// # Ok::<(), Error>(())
+    /// ```
+    pub fn copy_of(screen: &Screen) -> Result<Surface, Error> {
+        let (width, height) = screen.dimensions();
+        let mut surface = Surface::new(width, height)?;
+        surface.draw_from_screen(screen, 0, 0)?;
+        Ok(surface)
     }
 
     /// Makes a change, and returns its number.
@@ -237,6 +274,25 @@ impl Surface {
     #[must_use]
     pub fn current_seqno(&self) -> SequenceNo {
         self.handle.number(ffi::tk_number).unwrap_or_default()
+    }
+
+    /// What a client asks that shows all that the surface shows now. So an answer has something new
+    /// for whoever asks anything else, and who asks this can wait.
+    ///
+    /// ```
+    /// use tikeburo::{Client, Error, Surface};
+    ///
+    /// let mut surface = Surface::new(8, 2)?;
+    /// let mut client = Client::new()?;
+    /// surface.add_change("one")?;
+    /// assert_ne!(client.ask()?, surface.current_ask());
+    /// client.feed(&surface.respond(&client.ask()?)?)?;
+    /// assert_eq!(client.ask()?, surface.current_ask());
+    /// # Ok::<(), Error>(())
+    /// ```
+    #[must_use]
+    pub fn current_ask(&self) -> Ask {
+        Ask::new(self.source as u64, self.current_seqno() as u64)
     }
 
     /// The answer to what a client asks, as bytes for [`Client::feed`](crate::Client::feed): the

@@ -197,3 +197,39 @@ fn a_list_is_used_again() {
     assert_eq!(surface.row(0).text().unwrap().trim_end(), "100 か");
     assert_eq!(format!("{list:?}"), "Changes { len: 2, .. }");
 }
+
+#[test]
+fn a_pen_is_set_where_it_may_differ() {
+    let pen = Attributes {
+        italic: true,
+        ..Attributes::default()
+    };
+    let default = ColorAttribute::Default;
+    let changers: [fn(&mut Changes) -> &mut Changes; 9] = [
+        |changes| changes.italic(false),
+        |changes| changes.link("か"),
+        |changes| changes.no_link(),
+        |changes| changes.pen(&Attributes::default()),
+        |changes| changes.clear_screen(ColorAttribute::Default),
+        |changes| changes.clear_to_end_of_line(ColorAttribute::Default),
+        |changes| changes.clear_to_end_of_screen(ColorAttribute::Default),
+        |changes| changes.push(&Change::Attribute(AttributeChange::Italic(false))),
+        |changes| changes.push(&Change::AllAttributes(Attributes::default())),
+    ];
+    for change in changers {
+        let mut changes = Changes::new();
+        changes
+            .use_pen(&pen)
+            .text("x")
+            .use_pen(&pen)
+            .title("x")
+            .use_pen(&pen);
+        assert_eq!(changes.len(), 3);
+        change(&mut changes).use_pen(&pen).use_pen(&pen);
+        assert_eq!(changes.len(), 5);
+        changes.clear_columns(2, default).clear_columns(2, default);
+        assert_eq!(changes.len(), 8);
+        changes.clear();
+        assert_eq!(changes.use_pen(&pen).len(), 1);
+    }
+}

@@ -211,3 +211,26 @@ fn an_answer_goes_to_another_thread() {
     });
     assert_eq!(there.join().unwrap(), seen(&surface));
 }
+
+#[test]
+fn who_lacks_nothing_asks_what_is_current() {
+    let mut surface = Surface::new(4, 2).unwrap();
+    let mut client = Client::new().unwrap();
+    assert_eq!(client.ask().unwrap(), Ask::default());
+    let acts: [fn(&mut Surface); 6] = [
+        |_| {},
+        |surface| assert_eq!(surface.add_change("か"), Ok(0)),
+        |surface| surface.resize(6, 3).unwrap(),
+        |surface| surface.copy_region(0, 0, 2, 1, 2, 1).unwrap(),
+        |surface| assert!(surface.add_change(Change::Title("x".into())).is_ok()),
+        |surface| assert!(surface.add_changes(&vec!["x\r\n".into(); 1000]).is_ok()),
+    ];
+    for act in acts {
+        act(&mut surface);
+        assert_ne!(client.ask().unwrap(), surface.current_ask());
+        client.feed(&answer(&mut surface, &client)).unwrap();
+        assert_eq!(client.ask().unwrap(), surface.current_ask());
+    }
+    let other = Surface::new(6, 3).unwrap();
+    assert_ne!(client.ask().unwrap(), other.current_ask());
+}

@@ -316,3 +316,42 @@ fn surfaces_and_errors_are_displayed() {
         "a row, a column, a size or a limit is outside of its range"
     );
 }
+
+#[test]
+fn variants_have_the_numbers_of_their_order() {
+    assert_eq!(Intensity::try_from(2), Ok(Intensity::Half));
+    assert_eq!(Blink::try_from(1), Ok(Blink::Slow));
+    assert_eq!(SemanticType::try_from(2), Ok(SemanticType::Prompt));
+    assert_eq!(VerticalAlign::try_from(0), Ok(VerticalAlign::BaseLine));
+    for number in 0..=255 {
+        let underline = Underline::try_from(number).map(|it| it as u8);
+        assert_eq!(underline.ok(), Some(number).filter(|number| *number < 6));
+        let shape = CursorShape::try_from(number).map(|it| it as u8);
+        assert_eq!(shape.ok(), Some(number).filter(|number| *number < 7));
+        let attribute = LineAttribute::try_from(number).map(|it| it as u8);
+        assert_eq!(attribute.ok(), Some(number).filter(|number| *number < 4));
+    }
+    assert_eq!(Underline::try_from(6), Err(Error::Range));
+}
+
+#[test]
+fn what_is_short_stands_for_its_variant() {
+    assert_eq!(CursorVisibility::from(true), CursorVisibility::Visible);
+    assert_eq!(CursorVisibility::from(false), CursorVisibility::Hidden);
+    let orange = ColorAttribute::TrueColorWithDefaultFallback(ORANGE);
+    assert_eq!(ColorAttribute::from(ORANGE), orange);
+}
+
+#[test]
+fn a_copy_shows_what_the_screen_showed() {
+    let mut surface = printed(6, 2, "ab\r\nか");
+    let copy = Surface::copy_of(&surface).unwrap();
+    surface.add_change("cd").unwrap();
+    assert_eq!(rows(&copy), ["ab", "か"]);
+    assert_eq!(rows(&surface), ["ab", "かcd"]);
+    assert_eq!(copy.dimensions(), (6, 2));
+    assert_eq!(copy.cursor_position(), (0, 0));
+    let mut narrow = Surface::new(2, 1).unwrap();
+    narrow.draw_from_screen(&copy, 0, 0).unwrap();
+    assert_eq!(rows(&narrow), ["ab"]);
+}

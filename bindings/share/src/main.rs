@@ -9,11 +9,11 @@ use server::Server;
 use std::io::{self, Read, Write};
 use std::os::unix::process::ExitStatusExt;
 use std::process::{Command, ExitCode};
-use std::sync::mpsc::{self, Receiver, Sender};
+use std::sync::{atomic::Ordering::Relaxed, mpsc, mpsc::Receiver, mpsc::Sender, Arc};
 use std::time::{Duration, Instant};
-use std::{collections::HashMap, env, error, fs::File, sync::Arc, thread};
+use std::{collections::HashMap, env, error, fs::File, thread};
 use terminal::Terminal;
-use tikeburo::{Ask, Client, Error};
+use tikeburo::{Ask, Error, Recorder};
 
 const USAGE: &str = "usage: share [--port N] [--record FILE] [--] PROGRAM [WORD..]";
 const FRAME: Duration = Duration::from_millis(16); // no answers come faster
@@ -30,15 +30,14 @@ pub enum Event {
 
 /// Shows what the program writes, until it has ended and viewers have the last screen.
 fn show(pty: File, events: Receiver<Event>, server: Arc<Server>, record: Option<File>) -> Outcome {
+    let mut recorder = record.map(Recorder::new);
     let (mut terminal, mut parser) = (Terminal::new(1, 1)?, vte::Parser::new());
-    let (mut newest, began, mut ended) = (Client::new()?, Instant::now(), None::<Instant>);
-    let mut waiting = HashMap::<Ask, Vec<_>>::new();
+    let (mut waiting, mut ended) = (HashMap::<Ask, Vec<_>>::new(), None::<Instant>);
     // A connection has the server too.
     let is_seen = |end: Instant| end.elapsed() < LAST && Arc::strong_count(&server) > 2;
-    while !pty::is_stopped() && ended.map_or(true, is_seen) {
-        let size = pty::window_size();
+    while !pty::IS_STOPPED.load(Relaxed) && ended.map_or(true, is_seen) {
+        let size = pty::fit(&pty)?;
         if terminal.surface.dimensions() != size {
-            pty::resize(&pty, size)?;
             terminal.resize(size)?;
         }
         let first = events.recv_timeout(LOOK);
@@ -49,18 +48,15 @@ fn show(pty: File, events: Receiver<Event>, server: Arc<Server>, record: Option<
                 Event::Asked(ask, reply) => waiting.entry(ask).or_default().push(reply),
             }
         }
-        let before = newest.ask()?;
-        let answer = terminal.surface.respond(&before)?;
-        newest.feed(&answer)?;
-        let now = newest.ask()?;
-        if let Some(file) = record.as_ref().filter(|_| now != before) {
-            keep(file, began.elapsed(), &answer)?;
+        if let Some(recorder) = &mut recorder {
+            recorder.record(&mut terminal.surface)?;
         }
         // Who has it all waits on, or is told the end.
-        let same = waiting.remove_entry(&now).filter(|_| ended.is_none());
+        let same = waiting.remove_entry(&terminal.surface.current_ask());
+        let same = same.filter(|_| ended.is_none());
         for (ask, replies) in waiting.drain() {
             let answer = terminal.surface.respond(&ask);
-            replies.iter().for_each(|reply| drop(reply.send(answer.clone())));
+            replies.iter().for_each(|it| drop(it.send(answer.clone())));
         }
         waiting.extend(same);
         thread::sleep(FRAME);
@@ -68,31 +64,24 @@ fn show(pty: File, events: Receiver<Event>, server: Arc<Server>, record: Option<
     Ok(())
 }
 
-/// Keeps `[milliseconds, answer]`, as CBOR: heads have their shortest form.
-fn keep(mut file: &File, time: Duration, answer: &[u8]) -> io::Result<()> {
-    let mut entry = vec![0x82];
-    for (kind, value) in [(0x00, time.as_millis() as u64), (0x40, answer.len() as u64)] {
-        let (info, size) = match value {
-            0..=23 => (value as u8, 0),
-            24..=0xff => (24, 1),
-            0x100..=0xffff => (25, 2),
-            0x1_0000..=0xffff_ffff => (26, 4),
-            _ => (27, 8),
-        };
-        entry.push(kind | info);
-        entry.extend_from_slice(&value.to_be_bytes()[8 - size..]);
+/// Runs the program in a terminal, and returns its status.
+fn run() -> Outcome<ExitCode> {
+    let (mut port, mut record, mut words) = (0, None, env::args_os().skip(1).peekable());
+    while let Some(word) = words.next_if(|word| word.as_encoded_bytes().starts_with(b"--")) {
+        match word.to_str() {
+            Some("--") => break,
+            Some("--port") => port = words.next().ok_or(USAGE)?.to_str().ok_or(USAGE)?.parse()?,
+            Some("--record") => record = Some(File::create(words.next().ok_or(USAGE)?)?),
+            _ => return Err(USAGE.into()),
+        }
     }
-    file.write_all(&[&entry, answer].concat())
-}
-
-/// Runs the program, and returns its status.
-fn share(port: u16, record: Option<File>, command: Command) -> Outcome<ExitCode> {
+    let name = words.next().ok_or(USAGE)?;
     let (sender, events) = mpsc::sync_channel(64);
-    let (server, address) = Server::start(port, sender.clone())?;
-    eprintln!("{address}\nPress Enter to start.");
+    let server = Server::start(port, sender.clone())?;
+    eprintln!("Press Enter to start.");
     io::stdin().read_line(&mut String::new())?;
-    let name = command.get_program().to_owned();
-    let (pty, mut child) = pty::spawn(command).map_err(|error| format!("{name:?}: {error}"))?;
+    let spawned = pty::spawn(Command::new(&name).args(words));
+    let (pty, mut child) = spawned.map_err(|error| format!("{name:?}: {error}"))?;
     let (mut output, mut keys) = (pty.try_clone()?, pty.try_clone()?);
     thread::spawn(move || {
         let (mut room, mut window) = ([0; 1 << 16], io::stdout());
@@ -105,27 +94,12 @@ fn share(port: u16, record: Option<File>, command: Command) -> Outcome<ExitCode>
     });
     thread::spawn(move || io::copy(&mut io::stdin(), &mut keys));
     pty::with_raw_window(|| show(pty, events, server, record))?;
-    if pty::is_stopped() {
+    if pty::IS_STOPPED.load(Relaxed) {
         child.kill()?;
     }
     let status = child.wait()?;
     let code = status.code().or_else(|| Some(128 + status.signal()?));
     Ok(ExitCode::from(code.unwrap_or(1) as u8))
-}
-
-fn run() -> Outcome<ExitCode> {
-    let (mut port, mut record, mut words) = (0, None, env::args_os().skip(1).peekable());
-    while let Some(word) = words.next_if(|word| word.as_encoded_bytes().starts_with(b"--")) {
-        match word.to_str() {
-            Some("--") => break,
-            Some("--port") => port = words.next().ok_or(USAGE)?.to_str().ok_or(USAGE)?.parse()?,
-            Some("--record") => record = Some(File::create(words.next().ok_or(USAGE)?)?),
-            _ => return Err(USAGE.into()),
-        }
-    }
-    let mut command = Command::new(words.next().ok_or(USAGE)?);
-    command.args(words);
-    share(port, record, command)
 }
 
 fn main() -> ExitCode {

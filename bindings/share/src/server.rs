@@ -13,32 +13,30 @@ const LONGEST_BODY: usize = 64; // an ask has 20 bytes at most
 const HEADERS: &str = "cache-control: no-store\r\nreferrer-policy: no-referrer\r\n\
     content-security-policy: default-src 'self'; frame-ancestors 'none'\r\n";
 const SEQUENCE: &str = "application/cbor-seq";
-const MODULE: &str = "text/javascript";
+const HTML: &str = "text/html; charset=utf-8";
+const JS: &str = "text/javascript";
 const FILES: [(&str, &str, &str); 11] = [
-    ("", "text/html; charset=utf-8", include_str!("../../js/index.html")),
+    ("", HTML, include_str!("../../js/index.html")),
     ("page.css", "text/css", include_str!("../../js/page.css")),
-    ("page.mjs", MODULE, include_str!("../../js/page.mjs")),
-    ("answer.mjs", MODULE, include_str!("../../js/answer.mjs")),
-    ("element.mjs", MODULE, include_str!("../../js/element.mjs")),
-    ("grid.mjs", MODULE, include_str!("../../js/grid.mjs")),
-    ("look.mjs", MODULE, include_str!("../../js/look.mjs")),
-    ("reader.mjs", MODULE, include_str!("../../js/reader.mjs")),
-    ("recording.mjs", MODULE, include_str!("../../js/recording.mjs")),
-    ("screen.mjs", MODULE, include_str!("../../js/screen.mjs")),
-    ("tikeburo.mjs", MODULE, include_str!("../../js/tikeburo.mjs")),
+    ("page.mjs", JS, include_str!("../../js/page.mjs")),
+    ("answer.mjs", JS, include_str!("../../js/answer.mjs")),
+    ("element.mjs", JS, include_str!("../../js/element.mjs")),
+    ("grid.mjs", JS, include_str!("../../js/grid.mjs")),
+    ("look.mjs", JS, include_str!("../../js/look.mjs")),
+    ("reader.mjs", JS, include_str!("../../js/reader.mjs")),
+    ("recording.mjs", JS, include_str!("../../js/recording.mjs")),
+    ("screen.mjs", JS, include_str!("../../js/screen.mjs")),
+    ("tikeburo.mjs", JS, include_str!("../../js/tikeburo.mjs")),
 ];
 
 /// Reads a request's head and body. There is none where it ends too early, or is too long.
 fn read_request(input: &mut impl BufRead) -> io::Result<(String, Vec<u8>)> {
     let (mut head, mut lines) = (String::new(), input.by_ref().take(LONGEST_HEAD));
-    while !head.ends_with("\r\n\r\n") {
-        if lines.read_line(&mut head)? == 0 {
-            return Ok(Default::default());
-        }
-    }
+    while !head.ends_with("\r\n\r\n") && lines.read_line(&mut head)? > 0 {}
     let fields = head.to_ascii_lowercase();
-    let length = fields.lines().find_map(|line| line.strip_prefix("content-length:"));
-    let Ok(length @ 0..=LONGEST_BODY) = length.map_or(Ok(0), |length| length.trim().parse()) else {
+    let length = fields.split("\r\ncontent-length:").nth(1).unwrap_or("0");
+    let length = length.lines().next().map(|length| length.trim().parse());
+    let (true, Some(Ok(length @ 0..=LONGEST_BODY))) = (head.ends_with("\r\n\r\n"), length) else {
         return Ok(Default::default());
     };
     let mut body = vec![0; length];
@@ -48,19 +46,19 @@ fn read_request(input: &mut impl BufRead) -> io::Result<(String, Vec<u8>)> {
 
 /// What all connections share.
 pub struct Server {
-    token: String,
+    token: u128,
     events: SyncSender<Event>,
 }
 
 impl Server {
-    /// Listens, and returns the address too. The thread that listens has the server, and so has
-    /// that of each connection, while it is open.
-    pub fn start(port: u16, events: SyncSender<Event>) -> Outcome<(Arc<Server>, String)> {
+    /// Listens, and prints the address. The thread that listens has the server, and so has that of
+    /// each connection, while it is open.
+    pub fn start(port: u16, events: SyncSender<Event>) -> Outcome<Arc<Server>> {
         let mut random = [0; 16];
         File::open("/dev/urandom")?.read_exact(&mut random)?;
-        let token = format!("{:032x}", u128::from_ne_bytes(random));
+        let token = u128::from_ne_bytes(random);
         let listener = TcpListener::bind((Ipv4Addr::LOCALHOST, port))?;
-        let address = format!("http://{}/{token}/?pull", listener.local_addr()?);
+        eprintln!("http://{}/{token:032x}/?pull", listener.local_addr()?);
         let server = Arc::new(Server { token, events });
         let shared = Arc::clone(&server);
         thread::spawn(move || {
@@ -73,7 +71,7 @@ impl Server {
                 }
             }
         });
-        Ok((server, address))
+        Ok(server)
     }
 
     /// Answers one request after another, until one is refused.
@@ -96,15 +94,16 @@ impl Server {
     /// The status, kind and body of a response, or nothing where the stream is asked for.
     fn respond(&self, (head, body): (String, Vec<u8>)) -> Option<(&str, &str, Vec<u8>)> {
         let refuse = |status| Some((status, "text/plain", Vec::new()));
-        let first: Vec<_> = head.lines().next().unwrap_or_default().split(' ').collect();
-        let &[method, path, "HTTP/1.1"] = &*first else { return refuse("400 Bad Request") };
-        let path = path.split('?').next().unwrap_or_default();
-        let (token, name) = path.trim_start_matches('/').split_once('/').unwrap_or_default();
+        let first = head.lines().next().unwrap_or_default();
+        let first = first.strip_suffix(" HTTP/1.1").unwrap_or_default();
+        let (method, path) = first.split_once(" /").unwrap_or_default();
+        let (token, name) = path.split_once('/').unwrap_or_default();
+        let name = name.split('?').next().unwrap_or_default();
         // The tokens are compared in a time that doesn't say where they differ.
-        let pairs = token.bytes().chain([0; 32]).zip(self.token.bytes());
-        let differ = |sum, (a, b): (u8, u8)| black_box(sum | usize::from(a ^ b));
+        let token = u128::from_str_radix(token, 16).unwrap_or(!self.token);
         match (method, name, FILES.iter().find(|file| file.0 == name)) {
-            _ if pairs.fold(token.len() ^ 32, differ) != 0 => refuse("404 Not Found"),
+            ("", _, _) => refuse("400 Bad Request"),
+            _ if black_box(token ^ self.token) != 0 => refuse("404 Not Found"),
             ("GET", _, Some((_, kind, text))) => Some(("200 OK", kind, text.as_bytes().to_vec())),
             ("GET", "stream", None) => None,
             ("POST", "stream", None) => match self.ask(body.into()) {
@@ -128,8 +127,7 @@ impl Server {
         let mut client = Client::new()?;
         let kind = format!("content-type: {SEQUENCE}\r\ntransfer-encoding: chunked");
         stream.write_all(format!("HTTP/1.1 200 OK\r\n{HEADERS}{kind}\r\n\r\n").as_bytes())?;
-        while let Some(answer) = self.ask(client.ask()?) {
-            let answer = answer?;
+        while let Some(answer) = self.ask(client.ask()?).transpose()? {
             client.feed(&answer)?;
             let size = format!("{:x}\r\n", answer.len());
             stream.write_all(&[size.as_bytes(), &answer, b"\r\n"].concat())?;

@@ -4,10 +4,18 @@
 // The types of items. The bools and null are known by their first byte.
 export const UINT = 0, NEGATIVE = 1, BYTES = 2, TEXT = 3, ARRAY = 4;
 export const FALSE = 0xf4, TRUE = 0xf5, NULL = 0xf6;
-// By its bytes behind the first one: what reads an argument, and the least that wants so many.
-const GETTERS = { 1: 'getUint8', 2: 'getUint16', 4: 'getUint32', 8: 'getBigUint64' };
-const LEAST = { 1: 24, 2: 256, 4: 65536, 8: 4294967296 };
+// Of arguments of 1, 2, 4 and 8 bytes: what reads one, and the least that wants so many.
+const GETTERS = ['getUint8', 'getUint16', 'getUint32', 'getBigUint64'];
+const LEAST = [24, 256, 65536, 4294967296];
 const utf8 = new TextDecoder('utf-8', { fatal: true, ignoreBOM: true }); // U+FEFF stays
+
+/** The head of an item, in the shortest form. */
+export function encodeHead(type, argument) {
+    const log = LEAST.findLastIndex(least => argument >= least);
+    if (log < 0) return [type << 5 | Number(argument)];
+    const byte = (_, k) => Number(BigInt(argument) >> BigInt(8 * k) & 255n);
+    return [type << 5 | 24 + log, ...Array.from({ length: 1 << log }, byte).reverse()];
+}
 
 /** Why an answer can't be taken, and where in its bytes that shows. */
 export class Fault extends Error {
@@ -32,42 +40,53 @@ export class Reader {
         throw new Fault(kind, at, this.change, why);
     }
 
-    /** Makes sure that the bytes before `end` are there. */
-    need(end) {
+    /** Goes on by so many bytes, from the place that it returns. */
+    skip(count) {
+        const begin = this.next, end = begin + count;
         if (end > this.limit) this.fail('limit', `an answer of more than ${this.limit} bytes`);
-        if (end <= this.bytes.length) return;
-        this.wanted = Math.min(end + this.following, this.limit);
-        this.fail('truncated', 'the bytes end');
+        if (end > this.bytes.length) {
+            this.wanted = Math.min(end + this.following, this.limit);
+            this.fail('truncated', 'the bytes end');
+        }
+        this.next = end;
+        return begin;
     }
 
-    /** An item's type, which is one of these, and its argument: from 2^32 on it is a BigInt. */
-    head(...types) {
-        const begin = this.at = this.next;
-        this.need(begin + 1);
-        const first = this.bytes[begin], type = first < 0xe0 ? first >> 5 : first;
-        const info = first & 31, size = info < 24 ? 0 : 1 << (info - 24);
-        if (!types.includes(type) || info > 27) this.fail('type', `a first byte of ${first}`);
-        this.next = begin + 1 + size;
-        this.need(this.next);
-        const value = size ? this.view[GETTERS[size]](begin + 1) : info;
-        if (value < LEAST[size]) this.fail('range', "a head that isn't the shortest");
-        return [type, value];
+    /** Whether the next item is of this type. */
+    is(type) {
+        const first = this.bytes[this.next];
+        return type === (first < 0xe0 ? first >> 5 : first);
     }
 
-    uint(least = 0, most = Infinity, kind = 'range', type = UINT) {
-        const value = this.head(type)[1];
+    /** The argument of an item of this type, in this range: from 2^32 on it is a BigInt. */
+    item(type, least = 0, most = Infinity, kind = type === ARRAY ? 'type' : 'range') {
+        this.at = this.next;
+        const isRight = this.is(type), first = this.bytes[this.skip(1)];
+        const info = first & 31, log = info - 24;
+        if (!isRight || log > 3) this.fail('type', `a first byte of ${first}`);
+        const value = log < 0 ? info : this.view[GETTERS[log]](this.skip(1 << log));
+        if (log >= 0 && value < LEAST[log]) this.fail('range', "a head that isn't the shortest");
         if (value < least || value > most) this.fail(kind, `${value}, not ${least} to ${most}`);
         return value;
     }
 
-    /** The count of an array, in this range. */
-    array(least, most = least) {
-        return this.uint(least, most, 'type', ARRAY);
+    /** Whether an item of this type comes, which is read then. */
+    takes(type) {
+        return this.is(type) && this.item(type) >= 0;
+    }
+
+    text() {
+        const begin = this.skip(Number(this.item(TEXT)));
+        try {
+            return utf8.decode(this.bytes.subarray(begin, this.next));
+        } catch {
+            return this.fail('utf-8', 'a text that is no UTF-8');
+        }
     }
 
     /** The count of a list, whose items come by `each`. */
     count(each = 1) {
-        const count = this.array(0, Infinity);
+        const count = this.item(ARRAY);
         if (BigInt(count) % BigInt(each)) this.fail('type', `${count} items, and not by ${each}`);
         if (count > this.limit - this.next) this.fail('limit', `a list of ${count}`);
         return Number(count);
@@ -81,17 +100,5 @@ export class Reader {
             values.push(read(values.at(-1)));
         }
         return values;
-    }
-
-    text() {
-        const end = Number(this.head(TEXT)[1]) + this.next;
-        this.need(end);
-        const bytes = this.bytes.subarray(this.next, end);
-        this.next = end;
-        try {
-            return utf8.decode(bytes);
-        } catch {
-            return this.fail('utf-8', 'a text that is no UTF-8');
-        }
     }
 }

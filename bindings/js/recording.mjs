@@ -5,8 +5,8 @@
 // whose times count from the beginning and never descend, and whose bytes, one behind another, are
 // a stream of answers, cut anywhere. An answer is an array of seven, so a stream that was kept
 // without times is known by its first byte.
-import { encodeHead, readChanges, readHead } from './answer.mjs';
-import { BYTES, Fault, Reader, UINT } from './reader.mjs';
+import { readChanges, readHead } from './answer.mjs';
+import { ARRAY, BYTES, encodeHead, Fault, Reader, UINT } from './reader.mjs';
 import { Client } from './tikeburo.mjs';
 
 const ENTRY = 0x82; // an array of two
@@ -23,11 +23,9 @@ export function encodeEntry(milliseconds, bytes) {
 }
 
 function readEntry(reader) {
-    reader.array(2);
-    const time = Number(reader.uint()), length = reader.head(BYTES)[1];
-    reader.need(reader.next + Number(length));
-    reader.next += Number(length);
-    return { time, bytes: reader.bytes.subarray(reader.next - Number(length), reader.next) };
+    reader.item(ARRAY, 2, 2);
+    const time = Number(reader.item(UINT)), begin = reader.skip(Number(reader.item(BYTES)));
+    return { time, bytes: reader.bytes.subarray(begin, reader.next) };
 }
 
 /** A whole answer's bytes, after those that came before. */

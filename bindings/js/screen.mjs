@@ -1,27 +1,20 @@
-// What a viewer keeps, and what the changes of docs/VIEWER.md do to it.
+// What a viewer keeps, and what the changes of docs/VIEWER.md do to it. What a program sees of it
+// is in tikeburo.d.ts.
 
 export const DEFAULT_ATTRIBUTES = Object.freeze({
     style: 0, foreground: null, background: null, underlineColor: null, link: null,
 });
-const SINGLE_WIDTH = 3;
 
 export const isBreak = piece => piece === '\n' || piece === '\r' || piece === '\r\n';
 const blank = attributes => Object.freeze({ text: ' ', columns: 1, attributes });
 const DEFAULT_BLANK = blank(DEFAULT_ATTRIBUTES);
-const newRow = width => ({ cells: Array(width).fill(DEFAULT_BLANK), attribute: SINGLE_WIDTH });
-const newRows = (count, width) => Array.from({ length: count }, () => newRow(width));
+/** A row of cells of single width. */
+const newRow = width => ({ cells: Array(width).fill(DEFAULT_BLANK), attribute: 3 });
 
 /** Of a cell of two columns before `x`, only a blank is left. */
 function halve(cells, x) {
     const cell = cells[x - 1];
     if (cell?.columns === 2) cells[x - 1] = blank(cell.attributes);
-}
-
-/** Where a move leads from `at`. What is past `last` becomes the last place before `size`. */
-function moved(at, [which, value], size, last) {
-    const to = [at + value, value, size - value][which];
-    if (to < 0) return 0;
-    return to > (which === 0 ? size - 1 : last) ? size - 1 : to;
 }
 
 export class Screen {
@@ -35,29 +28,26 @@ export class Screen {
     /** All as new, in this size. */
     reset(width, height) {
         const cursor = { x: 0, y: 0, visible: true, shape: 0, color: null };
-        const rows = newRows(height, width), pen = DEFAULT_ATTRIBUTES;
-        Object.assign(this, { width, height, rows, cursor, pen, title: '' });
+        const rows = Array.from({ length: height }, () => newRow(width));
+        Object.assign(this, { width, height, rows, cursor, pen: DEFAULT_ATTRIBUTES, title: '' });
     }
 
-    /** What a row shows: `[column, cell]`, without the cells that one of two columns hides. */
     *cells(y) {
         const { cells } = this.rows[y];
         for (let x = 0; x < this.width; x += cells[x].columns) yield [x, cells[x]];
     }
 
-    /** A row's text, with its blanks. */
     text(y) {
         return Array.from(this.cells(y), ([, cell]) => cell.text).join('');
     }
 
-    /** The screen as the program `surfwatch` prints it. */
     toString() {
         const rows = this.rows.map((_, y) => `|${this.text(y)}|\n`).join('');
         return `viewer ${this.number}\n${rows}cursor ${this.cursor.x} ${this.cursor.y}\n`;
     }
 
     /** Clears row `y` from column `x` on, and the rows below it that are before row `end`. */
-    clear(background, { x, y }, end) {
+    clear(background, { x, y }, end = this.height) {
         this.pen = Object.freeze({ ...DEFAULT_ATTRIBUTES, background });
         const { cells } = this.rows[y], rest = blank(this.pen);
         if (x < this.width) halve(cells, x);
@@ -65,17 +55,20 @@ export class Screen {
         for (const row of this.rows.slice(y + 1, end)) row.cells.fill(rest);
     }
 
+    /** Moves to what `x` and `y` give for the cursor's place. A column may be the width itself. */
     move(x, y) {
-        this.cursor.x = moved(this.cursor.x, x, this.width, this.width);
-        this.cursor.y = moved(this.cursor.y, y, this.height, this.height - 1);
+        const { cursor, width, height } = this, column = x(cursor.x, width);
+        cursor.x = Math.max(0, column > width ? width - 1 : column);
+        cursor.y = Math.max(0, Math.min(y(cursor.y, height), height - 1));
     }
 
-    /** Scrolls `size` rows from row `first` on. */
-    scroll(isUp, first, size, count) {
-        const { rows, width } = this, by = count < size ? count : size, end = first + size;
-        const kept = rows.slice(isUp ? first + by : first, isUp ? end : end - by);
-        const fresh = newRows(by, width), region = isUp ? [kept, fresh] : [fresh, kept];
-        this.rows = rows.slice(0, first).concat(...region, rows.slice(end));
+    /** Scrolls `size` rows from row `first` on up by `count`, or down where that is below 0. */
+    scroll(first, size, count) {
+        const isInside = y => y >= first && y < first + size;
+        this.rows = this.rows.map((row, y, rows) => {
+            if (!isInside(y)) return row;
+            return isInside(y + count) ? rows[y + count] : newRow(this.width);
+        });
     }
 
     /** Prints runs of pieces. Without these each character is a piece of one column. */
@@ -86,15 +79,11 @@ export class Screen {
     }
 
     #break(piece) {
-        const { cursor, rows, width } = this;
+        const { cursor, height } = this;
         if (piece !== '\n') cursor.x = 0;
         if (piece === '\r') return;
-        if (cursor.y + 1 < rows.length) {
-            cursor.y++;
-        } else {
-            rows.shift();
-            rows.push(newRow(width));
-        }
+        if (cursor.y + 1 < height) cursor.y++;
+        else this.scroll(0, height, 1);
     }
 
     #print(piece, columns) {

@@ -1,5 +1,6 @@
 // A viewer of a surface's answers: docs/VIEWER.md, version 2 of the stream. It has no dependencies
 // and no Unicode tables, since texts come cut and measured. It runs in node and in browsers.
+// tikeburo.d.ts says what each call does.
 import { encodeAsk, readChanges, readHead } from './answer.mjs';
 import { Fault, Reader } from './reader.mjs';
 import { Screen } from './screen.mjs';
@@ -24,17 +25,14 @@ export class Client {
         Object.assign(this, { limits: { cells, bytes }, onanswer, onstale });
     }
 
-    /** How many bytes of the coming answer are there. */
     get pending() {
         return this.#bytes.length;
     }
 
-    /** The bytes that ask for what the screen lacks. */
     ask() {
         return encodeAsk(this.screen.surface, this.screen.number);
     }
 
-    /** Begins with a new connection. After a damaged stream the next ask is for a repaint. */
     restart() {
         const isDamaged = this.fault && this.fault.kind !== 'truncated';
         if (isDamaged) Object.assign(this.screen, { surface: 0n, number: 0n });
@@ -42,7 +40,6 @@ export class Client {
         this.#begin(this.pending);
     }
 
-    /** Takes the stream's next bytes, cut anywhere. */
     feed(bytes) {
         for (let at = 0; at < bytes.length && !this.fault; at += AT_ONCE) {
             this.#append(bytes.subarray(at, at + AT_ONCE));
@@ -50,7 +47,6 @@ export class Client {
         }
     }
 
-    /** The stream ends: a fault where that is within an answer. */
     end() {
         if (!this.fault && this.pending) this.#read(true);
         return this.fault;
@@ -59,10 +55,11 @@ export class Client {
     /** Puts bytes behind those that are there, in a greater buffer where this one is full. */
     #append(bytes) {
         const { buffer, byteOffset, length } = this.#bytes, end = length + bytes.length;
-        const isFull = byteOffset + end > buffer.byteLength;
-        const room = isFull ? new Uint8Array(2 * end + AT_ONCE)
-            : new Uint8Array(buffer, byteOffset);
-        if (isFull) room.set(this.#bytes);
+        let room = new Uint8Array(buffer, byteOffset);
+        if (end > room.length) {
+            room = new Uint8Array(2 * end + AT_ONCE);
+            room.set(this.#bytes);
+        }
         room.set(bytes, length);
         this.#bytes = room.subarray(0, end);
     }
@@ -77,6 +74,7 @@ export class Client {
     /** Reads on from what is read, and takes the answer where it is whole. */
     #read(isEnd) {
         const reader = new Reader(this.#bytes, this.limits.bytes, this.#answer?.next);
+        let stale = null;
         try {
             const answer = this.#answer ??= readHead(reader, this.limits.cells);
             readChanges(reader, answer);
@@ -85,26 +83,24 @@ export class Client {
         } catch (fault) {
             if (!(fault instanceof Fault)) throw fault;
             this.#wanted = reader.wanted;
-            return fault.kind === 'truncated' && !isEnd ? null : this.#judge(fault);
+            if (fault.kind === 'truncated' && !isEnd) return;
+            fault.answer = this.answers + 1;
+            if (fault.kind === 'stale') stale = fault;
+            else this.fault = fault;
         }
+        if (this.fault) return;
         this.answers++;
-        return this.onanswer?.(this);
-    }
-
-    #judge(fault) {
-        fault.answer = this.answers + 1;
-        if (fault.kind !== 'stale') return this.fault = fault;
-        this.answers++;
-        return this.onstale?.(fault, this);
+        if (stale) this.onstale?.(stale, this);
+        else this.onanswer?.(this);
     }
 
     #take(answer) {
-        const { screen } = this, { surface, number, base, width, height, changes } = answer;
+        const { screen } = this, { surface, number, base, width, height } = answer;
         if (base === 0n) screen.reset(width, height);
-        const shown = name => (name === 'base' ? screen.number : screen[name]);
-        const other = base && Object.keys(SHARED).find(name => answer[name] !== shown(name));
+        const shown = { ...screen, base: screen.number };
+        const other = base && Object.keys(SHARED).find(name => answer[name] !== shown[name]);
         if (other) throw new Fault(SHARED[other], answer.places[other], null, `another ${other}`);
-        for (const { apply, values } of changes) apply(screen, ...values);
+        for (const change of answer.changes) change(screen);
         Object.assign(screen, { surface, number });
     }
 }

@@ -57,7 +57,6 @@ pub use Rattle.termwiz_surface.specs.Asking.{knows, own_repaint, most_own_entrie
 pub use Rattle.termwiz_surface.specs.Diffs.{MeasureAlike, screen_after, HasDrawn, HasCopied, region_at, cut_to, PrintsRegion, GivesRegion, region_diff, rows_of, top_rows, one_row, PrintsRows, HaveTopRows, HaveRow}
 pub use Rattle.termwiz_surface.specs.Answer.{AnswerValue, IsGiven, Carries}
 pub use Rattle.termwiz_surface.specs.Carried.{IsPastOf, IsGivenBy, CarriesTo}
-pub use Rattle.termwiz_surface.specs.declared.surface.SurfaceError.TheVariants.{ScrollRegion}
 pub use Rattle.termwiz_storage.specs.Clustered.{IsWhole}
 pub use Rattle.termwiz_surface.specs.Accepting.{Takes}
 pub use Rattle.termwiz_surface.specs.Showing.{HasCaughtUp, ShowsNamed, KeepsShowing, ShowsCarried, StaysNamed}
@@ -151,4 +150,5 @@ pub use Rattle.termwiz_surface.specs.Printing.{PrintsFirst, PrintsGraphemes}
 pub use Rattle.termwiz_surface.specs.Schedule.{Acts, Allows, IsInRange, IsScheduleOf, Reports, Views, with_empty_log}
 pub use Rattle.termwiz_surface.specs.ScheduleLaws.{BrokenListsLeaveForm, FollowedFullLeadOn, FollowedLeadOn, LackMemory, LackNumbers}
 pub use Rattle.termwiz_surface.specs.Surface.{Becomes, lengths_of}
+pub use Rattle.termwiz_surface.specs.declared.surface.SurfaceError.TheVariants.{ScrollRegion}
 pub use Rattle.unicode_segmentation.specs.Grapheme.{graphemes}

@@ -1,5 +1,5 @@
 //! What is shown of the streams that scripts send.
-ghost use Rattle.std.specs.Prelude.{◌×◌, ◌≤◌, IfOk};
+ghost use Rattle.std.specs.Prelude.{◌≤◌, IfOk};
 ghost use Rattle.std.specs.List.{All};
 ghost use Rattle.sessions.specs.Sending.{IsSendInRange};
 

@@ -6,7 +6,7 @@ mod Deciding
 mod Fresh
 mod Leading
 mod Lines
-mod Printed
+mod StreamPrinted
 mod Requested
 mod Sent
 mod Taking

@@ -4,7 +4,7 @@ use Rattle.sessions.specs.declared.watch.viewer.View.{View}
 use Rattle.sessions.specs.declared.watch.WatchEnd.{WatchEnd}
 use Rattle.sessions.specs.declared.watch.WatchEnd.TheVariants.{Session}
 use Rattle.sessions.specs.declared.watch.viewer.WatchError.{WatchError}
-use Rattle.sessions.proofs.Printed.{so_far_first, so_far_on, prints_all, prints_fault, prints_refused}
+use Rattle.sessions.proofs.StreamPrinted.{so_far_first, so_far_on, prints_all, prints_fault, prints_refused}
 use Rattle.sessions.proofs.watch.print_all.Goals as goal
 
 pub loop-count-init : goal.loop-count-init

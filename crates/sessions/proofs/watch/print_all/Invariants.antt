@@ -1,4 +1,4 @@
-use Rattle.sessions.proofs.Printed.{IsSoFar}
+use Rattle.sessions.proofs.StreamPrinted.{IsSoFar}
 use Rattle.sessions.proofs.watch.print_all.Given as goal
 
 abbrev pub invariant-loop-count : goal.invariant-loop-count

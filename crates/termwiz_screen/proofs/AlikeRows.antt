@@ -9,7 +9,7 @@ use Rattle.std.proofs.lemmas.Slice.{drop-append-drop}
 use Rattle.termwiz_cell.specs.CellValue.{CellValue}
 use Rattle.termwiz_line.specs.LineValue.{LineValue}
 use Rattle.termwiz_screen.specs.Resized.{cuts_in_place, in_width, is_vector_of}
-use Rattle.termwiz_screen.proofs.Rows.Grown.{cuts, length-resized, resized-all, resized-back}
+use Rattle.termwiz_screen.proofs.RowChanges.Grown.{cuts, length-resized, resized-all, resized-back}
 
 -- one line
 module _ (k w : ℕ) (l : LineValue) (a : is_vector_of k l ≡ true) where

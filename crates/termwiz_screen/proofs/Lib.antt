@@ -12,6 +12,6 @@ mod AlikeRows
 pub mod LogRegions
 pub mod TextScrolls
 pub mod FullScreens
-pub mod Repaint
-pub mod Diff
-pub mod Rows
+pub mod Repaints
+pub mod Diffs
+pub mod RowChanges

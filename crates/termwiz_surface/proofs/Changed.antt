@@ -12,9 +12,9 @@ use Rattle.termwiz_surface.specs.Surface.{SurfaceValue, IsSound, screen_of}
 use Rattle.termwiz_screen.specs.Measured.{IsStored}
 use Rattle.termwiz_screen.specs.Clear.{pruned_length, cleared_row, cleared_row_length, cleared_length}
 use Rattle.termwiz_screen.specs.Rows.{IsPartly, ArePartly, AreFilled}
-use Rattle.termwiz_screen.proofs.Rows.Filling.{filled-others}
+use Rattle.termwiz_screen.proofs.RowChanges.Filling.{filled-others}
 use Rattle.termwiz_screen.proofs.Stored.{IsLawful}
-use Rattle.termwiz_screen.proofs.Rows.Clear.{IsStored-fill, length-filled, row-fill, row-pruned, length-pruned, IsStored-pruned}
+use Rattle.termwiz_screen.proofs.RowChanges.Clear.{IsStored-fill, length-filled, row-fill, row-pruned, length-pruned, IsStored-pruned}
 
 -- one row
 module _ (f : List ℕ → ℕ) (w x : ℕ) (a : Attributes) (cs new : List CellValue) (h : IsLawful f) (s : IsStored f w cs) (l : x ≤ w) (p : IsPruned (fill (w - x) x (blank_of a) cs) new) where

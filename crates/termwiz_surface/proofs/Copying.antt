@@ -14,7 +14,7 @@ use Rattle.termwiz_screen.specs.Step.{replay, regions_fit}
 use Rattle.termwiz_surface.specs.Surface.{SurfaceValue, IsSound, screen_of}
 use Rattle.termwiz_surface.specs.declared.surface.SurfaceError.{SurfaceError}
 use Rattle.termwiz_surface.specs.declared.surface.SurfaceError.TheVariants.{ScrollRegion}
-use Rattle.termwiz_screen.proofs.Diff.Restoring.{drawing_restores, drawings_fit, restoring_fits}
+use Rattle.termwiz_screen.proofs.Diffs.Restoring.{drawing_restores, drawings_fit, restoring_fits}
 
 module _ {W : Type 0} (f : List ℕ → ℕ) (old new : SurfaceValue W) where
   -- the number that is returned counts the values of the changes

@@ -15,9 +15,9 @@ use Rattle.termwiz_screen.specs.Diff.{Region, cut, need, diff, band}
 use Rattle.termwiz_screen.specs.DiffLists.{IsDiff}
 use Rattle.termwiz_screen.specs.DiffRegions.{AreRows}
 use Rattle.termwiz_surface.proofs.SoundRepaint.{sound_is_printable}
-use Rattle.termwiz_screen.proofs.Repaint.LineEntries.{line_printable}
-use Rattle.termwiz_screen.proofs.Diff.Screens.{cut_inside, band_inside}
-use Rattle.termwiz_screen.proofs.Diff.Lists.{region_diff, band_diff, gives_band}
+use Rattle.termwiz_screen.proofs.Repaints.LineEntries.{line_printable}
+use Rattle.termwiz_screen.proofs.Diffs.Screens.{cut_inside, band_inside}
+use Rattle.termwiz_screen.proofs.Diffs.Lists.{region_diff, band_diff, gives_band}
 
 module _ {W : Type 0} (g : List ℕ → ℕ) (v : SurfaceValue W) (sound : IsSound g v) where
   pub sound_row : (j : ℕ) → j < v.height → IsPrintableRow g v.width (row_at (screen_of v).rows j)

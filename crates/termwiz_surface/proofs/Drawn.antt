@@ -16,7 +16,7 @@ use Rattle.termwiz_surface.specs.Surface.{SurfaceValue, IsSound}
 use Rattle.termwiz_screen.specs.Measured.{IsMeasured, IsStored}
 use Rattle.termwiz_line.proofs.StoredRows.{row_blank}
 use Rattle.termwiz_screen.proofs.Regions.{length-region_up, length-region_down}
-use Rattle.termwiz_screen.proofs.Rows.Scrolled.{stored-up, stored-down, stored-partly_reset}
+use Rattle.termwiz_screen.proofs.RowChanges.Scrolled.{stored-up, stored-down, stored-partly_reset}
 use Rattle.termwiz_screen.proofs.Stored.{IsLawful, halved, length-painted_in, IsStored-blank, IsStored-painted_in, row-painted_in}
 
 -- of the flags of rows the form says how many they are

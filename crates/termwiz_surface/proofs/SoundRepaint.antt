@@ -15,11 +15,11 @@ use Rattle.termwiz_screen.specs.Stream.{most_entries}
 use Rattle.termwiz_screen.specs.Measured.{IsMeasured, IsStored}
 use Rattle.termwiz_screen.specs.Printable.{IsPrintableRow, IsPrintable, HasSize}
 use Rattle.termwiz_line.proofs.RowOf.{row_of_row, row_shows, length-row_of}
-use Rattle.termwiz_screen.proofs.Repaint.Full.{full_repaint_gives}
+use Rattle.termwiz_screen.proofs.Repaints.Full.{full_repaint_gives}
 use Rattle.termwiz_screen.proofs.FullScreens.{screen-replayed}
-use Rattle.termwiz_screen.proofs.Repaint.Length.{repaint_short, full_repaint_short}
-use Rattle.termwiz_screen.proofs.Repaint.Regions.{repaint_fits, full_repaint_fits}
-use Rattle.termwiz_screen.proofs.Repaint.Screen.{repaint_gives}
+use Rattle.termwiz_screen.proofs.Repaints.Length.{repaint_short, full_repaint_short}
+use Rattle.termwiz_screen.proofs.Repaints.Regions.{repaint_fits, full_repaint_fits}
+use Rattle.termwiz_screen.proofs.Repaints.Screen.{repaint_gives}
 
 -- the row of a form that is stored
 pub stored_is_printable : (f : List ℕ → ℕ) (w : ℕ) (cells : List CellValue) → IsStored f w cells → IsPrintableRow f w (row_of w cells)

@@ -1,6 +1,6 @@
-use Rattle.termwiz_screen.proofs.Diff.Lists.{prints_diff, region_diff, gives_rows, gives_region, gives_band}
-use Rattle.termwiz_screen.proofs.Repaint.LineEntries.{line_printable}
-use Rattle.termwiz_screen.proofs.Diff.Restoring.{drawing_restores}
+use Rattle.termwiz_screen.proofs.Diffs.Lists.{prints_diff, region_diff, gives_rows, gives_region, gives_band}
+use Rattle.termwiz_screen.proofs.Repaints.LineEntries.{line_printable}
+use Rattle.termwiz_screen.proofs.Diffs.Restoring.{drawing_restores}
 use Rattle.termwiz_screen.proofs.laws.diff_laws.Goals as goal
 
 pub returns : goal.returns

@@ -1,4 +1,4 @@
-use Rattle.termwiz_screen.proofs.Diff.FewestPrints.{fewest_prints, fewest_narrow}
+use Rattle.termwiz_screen.proofs.Diffs.FewestPrints.{fewest_prints, fewest_narrow}
 use Rattle.termwiz_screen.proofs.laws.fewest_prints.Goals as goal
 
 pub returns : goal.returns

@@ -1,5 +1,5 @@
-use Rattle.termwiz_screen.proofs.Diff.Screens.{cut_inside, have_region, whole_gives, need_nothing}
-use Rattle.termwiz_screen.proofs.Diff.NeedWords.{need_is}
+use Rattle.termwiz_screen.proofs.Diffs.Screens.{cut_inside, have_region, whole_gives, need_nothing}
+use Rattle.termwiz_screen.proofs.Diffs.NeedWords.{need_is}
 use Rattle.termwiz_screen.proofs.laws.need_laws.Goals as goal
 
 pub returns : goal.returns

@@ -1,6 +1,6 @@
-use Rattle.termwiz_screen.proofs.Repaint.Screen.{repaint_gives}
-use Rattle.termwiz_screen.proofs.Repaint.Length.{repaint_short}
-use Rattle.termwiz_screen.proofs.Repaint.LineEntries.{line_done}
+use Rattle.termwiz_screen.proofs.Repaints.Screen.{repaint_gives}
+use Rattle.termwiz_screen.proofs.Repaints.Length.{repaint_short}
+use Rattle.termwiz_screen.proofs.Repaints.LineEntries.{line_done}
 use Rattle.termwiz_screen.proofs.laws.repaint_laws.Goals as goal
 
 pub returns : goal.returns

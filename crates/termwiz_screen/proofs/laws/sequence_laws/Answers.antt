@@ -1,4 +1,4 @@
-use Rattle.termwiz_screen.proofs.Rows.CursorColumns.{texts_alike, moves_lead}
+use Rattle.termwiz_screen.proofs.RowChanges.CursorColumns.{texts_alike, moves_lead}
 use Rattle.termwiz_screen.proofs.laws.sequence_laws.Goals as goal
 
 pub returns : goal.returns

@@ -9,7 +9,7 @@ use Rattle.termwiz_screen.specs.ScreenValue.{cells_of}
 use Rattle.termwiz_screen.specs.Drawing.{AreApart, IsWrittenUpto}
 use Rattle.termwiz_screen.specs.Repaint.{rows_upto, all_rows}
 use Rattle.termwiz_screen.proofs.Lines.{length-cells_of}
-use Rattle.termwiz_screen.proofs.Rows.Joined.{not_clearable}
+use Rattle.termwiz_screen.proofs.RowChanges.Joined.{not_clearable}
 use Rattle.termwiz_screen.proofs.repaint.all_rows.Goals as goal
 
 pub returns : goal.returns

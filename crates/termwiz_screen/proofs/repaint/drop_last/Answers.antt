@@ -1,6 +1,6 @@
 use Rattle.std.proofs.Common.{vec_len, arith}
 use Rattle.termwiz_cell.specs.ChangeValue.{change_value}
-use Rattle.termwiz_screen.proofs.Repaint.LastChanges.{front_popped}
+use Rattle.termwiz_screen.proofs.Repaints.LastChanges.{front_popped}
 use Rattle.termwiz_screen.proofs.repaint.drop_last.Goals as goal
 
 pub returns : goal.returns

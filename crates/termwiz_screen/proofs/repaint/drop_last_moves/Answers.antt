@@ -3,8 +3,8 @@ use Rattle.std.proofs.lemmas.List.{length-map}
 use Rattle.termwiz_cell.specs.ChangeValue.{change_value}
 use Rattle.termwiz_line.specs.LastChange.{last_is}
 use Rattle.termwiz_screen.specs.Repaint.{is_move, without_last_moves}
-use Rattle.termwiz_screen.proofs.Repaint.LastChanges.{some_change, no_last_move, move_dropped}
-use Rattle.termwiz_screen.proofs.Repaint.Bottom.{length-front_of}
+use Rattle.termwiz_screen.proofs.Repaints.LastChanges.{some_change, no_last_move, move_dropped}
+use Rattle.termwiz_screen.proofs.Repaints.Bottom.{length-front_of}
 use Rattle.termwiz_screen.proofs.repaint.drop_last_moves.Goals as goal
 
 pub returns : goal.returns

@@ -2,7 +2,7 @@ use Rattle.std.proofs.Common.{sym, ap, ◌∙◌}
 use Rattle.termwiz_cell.specs.Attributes.{color_eq}
 use Rattle.termwiz_cell.specs.ChangeValue.{change_value}
 use Rattle.termwiz_screen.specs.Repaint.{is_clear_of}
-use Rattle.termwiz_screen.proofs.Repaint.LastChanges.{plain_clear}
+use Rattle.termwiz_screen.proofs.Repaints.LastChanges.{plain_clear}
 use Rattle.termwiz_screen.proofs.repaint.is_clear_of.Goals as goal
 
 pub returns-in-ClearToEndOfLine : goal.returns-in-ClearToEndOfLine

@@ -14,9 +14,9 @@ use Rattle.termwiz_screen.specs.ScreenValue.{cells_of}
 use Rattle.termwiz_screen.specs.Drawing.{clears, AreApart, IsWrittenUpto}
 use Rattle.termwiz_screen.specs.Repaint.{first_blank, ends_with, is_clear_of, rows_upto, all_rows}
 use Rattle.termwiz_screen.proofs.Lines.{length-cells_of}
-use Rattle.termwiz_screen.proofs.Repaint.LastChanges.{clears_is, ends_behind_first}
-use Rattle.termwiz_screen.proofs.Repaint.Bottom.{first_blank_same, joined_ends}
-use Rattle.termwiz_screen.proofs.Rows.Joined.{row_before, cleared_below, cleared_behind, joined, apart}
+use Rattle.termwiz_screen.proofs.Repaints.LastChanges.{clears_is, ends_behind_first}
+use Rattle.termwiz_screen.proofs.Repaints.Bottom.{first_blank_same, joined_ends}
+use Rattle.termwiz_screen.proofs.RowChanges.Joined.{row_before, cleared_below, cleared_behind, joined, apart}
 use Rattle.termwiz_screen.proofs.repaint.joined_rows.Goals as goal
 use Rattle.termwiz_screen.proofs.repaint.joined_rows.Goals.{else-above-len-via-then-above-len+else-joined-len, else-above-len-via-else-above-len}
 

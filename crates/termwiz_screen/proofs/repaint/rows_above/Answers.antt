@@ -6,7 +6,7 @@ use Rattle.termwiz_screen.specs.Padding.{IsPaddable}
 use Rattle.termwiz_screen.specs.Screen.{row_at}
 use Rattle.termwiz_screen.specs.ScreenValue.{cells_of}
 use Rattle.termwiz_screen.proofs.Lines.{length-cells_of, cells-read, row-read}
-use Rattle.termwiz_screen.proofs.Rows.Joined.{first_blank-above, first_blank-here}
+use Rattle.termwiz_screen.proofs.RowChanges.Joined.{first_blank-above, first_blank-here}
 use Rattle.termwiz_screen.proofs.repaint.rows_above.Goals as goal
 
 pub is_blank_row-requires-clause-paddable : goal.is_blank_row-requires-clause-paddable

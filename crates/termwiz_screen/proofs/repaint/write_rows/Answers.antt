@@ -4,7 +4,7 @@ use Rattle.termwiz_screen.specs.ScreenValue.{cells_of}
 use Rattle.termwiz_screen.specs.Drawing.{IsWrittenUpto}
 use Rattle.termwiz_screen.specs.Padding.{IsPaddable}
 use Rattle.termwiz_screen.proofs.Lines.{length-cells_of, cells-read, row-read}
-use Rattle.termwiz_screen.proofs.Rows.Joined.{no_text, row_drawn}
+use Rattle.termwiz_screen.proofs.RowChanges.Joined.{no_text, row_drawn}
 use Rattle.termwiz_screen.proofs.repaint.write_rows.Goals as goal
 
 pub write_row-requires-clause-between : goal.write_row-requires-clause-between

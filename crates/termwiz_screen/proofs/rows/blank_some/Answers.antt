@@ -8,7 +8,7 @@ use Rattle.termwiz_screen.specs.ScreenValue.{cells_of, numberless}
 use Rattle.termwiz_screen.specs.Sides.{row_flags}
 use Rattle.termwiz_screen.proofs.Lines.{length-cells_of, cells-set_same}
 use Rattle.termwiz_screen.proofs.Regions.{blank_step}
-use Rattle.termwiz_screen.proofs.Rows.Scrolled.{map-reset, partly_reset, vectors-set}
+use Rattle.termwiz_screen.proofs.RowChanges.Scrolled.{map-reset, partly_reset, vectors-set}
 use Rattle.termwiz_screen.proofs.Sides.{side-unchanged, sides-set}
 use Rattle.std.proofs.lemmas.List.{length-map}
 use Rattle.termwiz_screen.proofs.rows.blank_some.Goals as goal

@@ -1,5 +1,5 @@
 use Rattle.termwiz_line.proofs.Fills.{on_err}
-use Rattle.termwiz_screen.proofs.Rows.Fills.{IsPartly-part}
+use Rattle.termwiz_screen.proofs.RowChanges.Fills.{IsPartly-part}
 use Rattle.termwiz_screen.proofs.rows.fill_line.Goals as goal
 
 pub returns-in_err-fill_range-clause-err : goal.returns-in_err-fill_range-clause-err

@@ -4,7 +4,7 @@ use Rattle.termwiz_screen.specs.Rows.{ArePartly}
 use Rattle.termwiz_screen.specs.Screen.{row_at}
 use Rattle.termwiz_screen.specs.ScreenValue.{cells_of}
 use Rattle.termwiz_screen.proofs.Lines.{length-cells_of, cells-read, cells-set}
-use Rattle.termwiz_screen.proofs.Rows.Filling.{filling-more, filling-partly, filling-all}
+use Rattle.termwiz_screen.proofs.RowChanges.Filling.{filling-more, filling-partly, filling-all}
 use Rattle.termwiz_screen.proofs.Sides.{sides-set, sides-more}
 use Rattle.termwiz_screen.proofs.rows.fill_rows.Goals as goal
 

@@ -1,6 +1,6 @@
 use Rattle.std.proofs.Common.{◌≡◌, ◌+◌, ◌-◌, ◌≤◌, refl, sym, ◌∙◌, ap, ap₂, arith}
 use Rattle.termwiz_screen.specs.ScrollRegions.{region_reversed}
-use Rattle.termwiz_screen.proofs.Rows.Reversed.{reversed_few, reversed_more}
+use Rattle.termwiz_screen.proofs.RowChanges.Reversed.{reversed_few, reversed_more}
 use Rattle.termwiz_screen.proofs.rows.reverse_region.Goals as goal
 
 pub loop-i-init : goal.loop-i-init

@@ -3,7 +3,7 @@ use Rattle.termwiz_cell.specs.CellValue.{blank}
 use Rattle.termwiz_screen.specs.ScrollRegions.{region_down}
 use Rattle.termwiz_screen.specs.ScreenValue.{numberless}
 use Rattle.termwiz_screen.proofs.Regions.{scrolled_down}
-use Rattle.termwiz_screen.proofs.Rows.Scrolled.{cells-down, flags-down, vectors-down}
+use Rattle.termwiz_screen.proofs.RowChanges.Scrolled.{cells-down, flags-down, vectors-down}
 use Rattle.termwiz_screen.proofs.rows.scroll_region_down.Goals as goal
 
 pub returns : goal.returns

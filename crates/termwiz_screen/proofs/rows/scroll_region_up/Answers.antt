@@ -3,7 +3,7 @@ use Rattle.termwiz_cell.specs.CellValue.{blank}
 use Rattle.termwiz_screen.specs.ScrollRegions.{region_up}
 use Rattle.termwiz_screen.specs.ScreenValue.{numberless}
 use Rattle.termwiz_screen.proofs.Regions.{scrolled_up}
-use Rattle.termwiz_screen.proofs.Rows.Scrolled.{cells-up, flags-up, vectors-up}
+use Rattle.termwiz_screen.proofs.RowChanges.Scrolled.{cells-up, flags-up, vectors-up}
 use Rattle.termwiz_screen.proofs.rows.scroll_region_up.Goals as goal
 
 pub returns : goal.returns

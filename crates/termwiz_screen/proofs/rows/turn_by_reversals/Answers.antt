@@ -1,6 +1,6 @@
 use Rattle.std.proofs.Common.{◌+◌, ◌-◌, refl, ◌∙◌, ap, arith}
 use Rattle.termwiz_screen.specs.ScrollRegions.{region_reversed}
-use Rattle.termwiz_screen.proofs.Rows.Reversed.{turned_by_three}
+use Rattle.termwiz_screen.proofs.RowChanges.Reversed.{turned_by_three}
 use Rattle.termwiz_screen.proofs.rows.turn_by_reversals.Goals as goal
 
 pub returns : goal.returns

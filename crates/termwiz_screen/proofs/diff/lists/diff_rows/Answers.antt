@@ -5,7 +5,7 @@ use Rattle.std.specs.VecDeque.{deque_len}
 use Rattle.termwiz_screen.specs.Diff.{Region, cut}
 use Rattle.termwiz_screen.specs.RegionValue.{region_value}
 use Rattle.termwiz_screen.specs.ScreenValue.{cells_of}
-use Rattle.termwiz_screen.proofs.Diff.Calls.{nothing_there}
+use Rattle.termwiz_screen.proofs.Diffs.Calls.{nothing_there}
 use Rattle.termwiz_screen.proofs.diff.lists.diff_rows.Goals as goal
 
 pub returns-then-is_empty : goal.returns-then-is_empty

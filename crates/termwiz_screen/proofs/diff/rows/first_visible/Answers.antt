@@ -2,7 +2,7 @@ use Rattle.std.proofs.Common.{◌≡◌, ◌+◌, arith, ap, ◌∙◌}
 use Rattle.std.proofs.lemmas.List.{get_or_read}
 use Rattle.termwiz_cell.specs.CellValue.{blank, columns}
 use Rattle.termwiz_storage.specs.Stored.{stored, hides}
-use Rattle.termwiz_screen.proofs.Rows.Walked.{starts_behind, hidden_behind}
+use Rattle.termwiz_screen.proofs.RowChanges.Walked.{starts_behind, hidden_behind}
 use Rattle.termwiz_screen.proofs.diff.rows.first_visible.Goals as goal
 
 pub loop-next-preserved : goal.loop-next-preserved

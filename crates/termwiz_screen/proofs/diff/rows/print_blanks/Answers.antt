@@ -1,4 +1,4 @@
-use Rattle.termwiz_screen.proofs.Rows.Walked.{blank_next}
+use Rattle.termwiz_screen.proofs.RowChanges.Walked.{blank_next}
 use Rattle.termwiz_screen.proofs.diff.rows.print_blanks.Goals as goal
 
 pub loop-k-preserved : goal.loop-k-preserved

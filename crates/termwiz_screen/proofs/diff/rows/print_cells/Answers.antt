@@ -1,6 +1,6 @@
 use Rattle.std.proofs.Common.{◌≡◌, ◌+◌, ◌-◌, length, min, arith}
 use Rattle.termwiz_line.specs.Row.{row_of}
-use Rattle.termwiz_screen.proofs.Diff.NeededRows.{needed_whole}
+use Rattle.termwiz_screen.proofs.Diffs.NeededRows.{needed_whole}
 use Rattle.termwiz_screen.proofs.diff.rows.print_cells.Goals as goal
 
 pub returns : goal.returns

@@ -6,7 +6,7 @@ use Rattle.termwiz_screen.specs.Diff.{Region, band, in_row, print_out, row_need}
 use Rattle.termwiz_screen.specs.Screen.{row_at}
 use Rattle.termwiz_screen.specs.ScreenValue.{cells_of}
 use Rattle.termwiz_screen.proofs.Lines.{cells-read, row-read, length-cells_of}
-use Rattle.termwiz_screen.proofs.Diff.NeededRows.{more_rows}
+use Rattle.termwiz_screen.proofs.Diffs.NeededRows.{more_rows}
 use Rattle.termwiz_screen.proofs.diff.rows.print_lines.Goals as goal
 
 pub loop-row-preserved : goal.loop-row-preserved

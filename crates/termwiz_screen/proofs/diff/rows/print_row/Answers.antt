@@ -3,7 +3,7 @@ use Rattle.termwiz_cell.specs.CellValue.{CellValue}
 use Rattle.termwiz_storage.specs.CellLists.{cells_eq-Decides}
 use Rattle.termwiz_line.specs.Row.{row_of}
 use Rattle.termwiz_screen.specs.Diff.{in_row, print_out, row_need}
-use Rattle.termwiz_screen.proofs.Diff.NeededRows.{nothing_needed, own_row}
+use Rattle.termwiz_screen.proofs.Diffs.NeededRows.{nothing_needed, own_row}
 use Rattle.termwiz_screen.proofs.diff.rows.print_row.Goals as goal
 
 pub returns-then-has_same_cells : goal.returns-then-has_same_cells

@@ -4,7 +4,7 @@ use Rattle.termwiz_screen.specs.Diff.{in_row, print_out, row_need}
 use Rattle.termwiz_screen.specs.RegionValue.{region_value}
 use Rattle.termwiz_screen.specs.ScreenValue.{cells_of}
 use Rattle.termwiz_screen.proofs.Lines.{cells-read, row-read, length-cells_of}
-use Rattle.termwiz_screen.proofs.Diff.NeededRows.{more_rows}
+use Rattle.termwiz_screen.proofs.Diffs.NeededRows.{more_rows}
 use Rattle.termwiz_screen.proofs.diff.rows.print_rows.Goals as goal
 
 pub loop-i-preserved : goal.loop-i-preserved

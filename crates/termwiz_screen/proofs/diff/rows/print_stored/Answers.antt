@@ -5,7 +5,7 @@ use Rattle.termwiz_storage.specs.Stored.{stored}
 use Rattle.termwiz_storage.specs.VisibleCell.{at_column}
 use Rattle.termwiz_screen.specs.Diff.{PrintedOut, end_of, in_row, print_out}
 use Rattle.termwiz_screen.specs.Walked.{IsPrintedTo}
-use Rattle.termwiz_screen.proofs.Rows.Walked.{ends_blank, printed_to_next, printed_to_run, printed_to_start, shown_narrow}
+use Rattle.termwiz_screen.proofs.RowChanges.Walked.{ends_blank, printed_to_next, printed_to_run, printed_to_start, shown_narrow}
 use Rattle.termwiz_screen.proofs.diff.rows.print_stored.Goals as goal
 use Rattle.termwiz_screen.proofs.diff.rows.print_stored.Goals.{then-shown, else-shown+in_ok-next}
 

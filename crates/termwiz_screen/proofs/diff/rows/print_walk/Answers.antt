@@ -6,7 +6,7 @@ use Rattle.termwiz_storage.specs.Stored.{visible}
 use Rattle.termwiz_screen.specs.Diff.{in_row, print_out, row_need}
 use Rattle.termwiz_line.specs.Row.{row_of}
 use Rattle.termwiz_storage.proofs.Widths.{columns_bounds}
-use Rattle.termwiz_screen.proofs.Rows.Walked.{IsAt, IsNext, at_next, at_end, printed_next, skipped_next}
+use Rattle.termwiz_screen.proofs.RowChanges.Walked.{IsAt, IsNext, at_next, at_end, printed_next, skipped_next}
 use Rattle.termwiz_screen.proofs.diff.rows.print_walk.Goals as goal
 use Rattle.termwiz_screen.proofs.diff.rows.print_walk.Goals.{then-next-region+in_ok-print_unless_shown, else-next-region}
 

@@ -4,7 +4,7 @@ use Rattle.termwiz_storage.specs.CellsLeft.{cells_left}
 use Rattle.termwiz_storage.specs.Stored.{visible}
 use Rattle.termwiz_line.specs.Row.{row_of}
 use Rattle.termwiz_screen.specs.Diff.{in_row, print_out, row_need}
-use Rattle.termwiz_screen.proofs.Rows.Walked.{IsAt}
+use Rattle.termwiz_screen.proofs.RowChanges.Walked.{IsAt}
 use Rattle.termwiz_screen.proofs.diff.rows.print_walk.Given as goal
 
 -- what the columns so far need is printed, and the walk stands at the next

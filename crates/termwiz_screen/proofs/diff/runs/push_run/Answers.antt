@@ -11,8 +11,8 @@ use Rattle.termwiz_line.proofs.JoinedTexts.{ends_with_plain}
 use Rattle.termwiz_screen.specs.Diff.{PrintedOut, in_row, print_out, shows}
 use Rattle.termwiz_screen.specs.Ends.{ended_at}
 use Rattle.termwiz_screen.specs.Walked.{IsPrintedTo}
-use Rattle.termwiz_screen.proofs.Repaint.PlainRuns.{plain_behind}
-use Rattle.termwiz_screen.proofs.Rows.Walked.{printed_to_next}
+use Rattle.termwiz_screen.proofs.Repaints.PlainRuns.{plain_behind}
+use Rattle.termwiz_screen.proofs.RowChanges.Walked.{printed_to_next}
 use Rattle.termwiz_screen.proofs.diff.runs.push_run.Goals as goal
 
 pub loop-k-preserved : goal.loop-k-preserved

@@ -2,7 +2,7 @@ use Rattle.std.proofs.Common.{◌++◌, sym, ap, ◌∙◌}
 use Rattle.termwiz_line.specs.Entries.{pen_entry}
 use Rattle.termwiz_screen.specs.FullScreen.{shape_of}
 use Rattle.termwiz_screen.specs.Repaint.{started_entries, without_last_moves, cursor_entry, full_shown_entries}
-use Rattle.termwiz_screen.proofs.Repaint.LastChanges.{all_pushed}
+use Rattle.termwiz_screen.proofs.Repaints.LastChanges.{all_pushed}
 use Rattle.termwiz_screen.proofs.repaint.full.fully_framed.Goals as goal
 
 pub returns : goal.returns

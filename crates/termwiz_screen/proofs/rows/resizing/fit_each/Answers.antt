@@ -1,6 +1,6 @@
 use Rattle.std.proofs.Common.{◌∙◌, ap, map}
 use Rattle.termwiz_screen.specs.Resized.{in_width}
-use Rattle.termwiz_screen.proofs.Rows.Grown.{all_cut, cut-grown}
+use Rattle.termwiz_screen.proofs.RowChanges.Grown.{all_cut, cut-grown}
 use Rattle.termwiz_screen.proofs.rows.resizing.fit_each.Goals as goal
 
 pub cut_rows-requires : goal.cut_rows-requires

@@ -1,6 +1,6 @@
 use Rattle.std.proofs.Common.{◌≡◌, ◌<◌, ◌++◌, ◌∷◌, [], get_or, length, length-append, ap, arith}
 use Rattle.std.proofs.lemmas.List.{get_or_default}
-use Rattle.termwiz_screen.proofs.Rows.Grown.{can_undo_last, undo_last}
+use Rattle.termwiz_screen.proofs.RowChanges.Grown.{can_undo_last, undo_last}
 use Rattle.termwiz_screen.proofs.rows.resizing.grow_rows.Goals as goal
 
 pub undo_row-requires : goal.undo_row-requires

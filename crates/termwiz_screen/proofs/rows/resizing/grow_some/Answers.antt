@@ -1,6 +1,6 @@
 use Rattle.std.proofs.Common.{◌≡◌, ◌<◌, get_or, length, arith}
 use Rattle.std.proofs.lemmas.List.{get_or_default}
-use Rattle.termwiz_screen.proofs.Rows.Grown.{grow_more}
+use Rattle.termwiz_screen.proofs.RowChanges.Grown.{grow_more}
 use Rattle.termwiz_screen.proofs.rows.resizing.grow_some.Goals as goal
 
 pub loop-i-preserved : goal.loop-i-preserved

@@ -3,7 +3,7 @@ use Rattle.termwiz_cell.specs.CellValue.{blank}
 use Rattle.termwiz_line.specs.LineValue.{LineValue}
 use Rattle.termwiz_screen.specs.Resized.{in_width}
 use Rattle.termwiz_screen.specs.ScreenValue.{numberless}
-use Rattle.termwiz_screen.proofs.Rows.Resized.{fitted-cells, fitted-flags, fitted-longer, fitted-shorter, fitted-vectors}
+use Rattle.termwiz_screen.proofs.RowChanges.Resized.{fitted-cells, fitted-flags, fitted-longer, fitted-shorter, fitted-vectors}
 use Rattle.termwiz_screen.proofs.rows.resizing.resize_rows.Goals as goal
 
 pub returns-then-have-height : goal.returns-then-have-height

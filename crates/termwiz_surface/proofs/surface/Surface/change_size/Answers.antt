@@ -6,7 +6,7 @@ use Rattle.termwiz_screen.specs.Log.{next_number}
 use Rattle.termwiz_surface.specs.Surface.{SurfaceValue}
 use Rattle.termwiz_screen.proofs.Logs.{restarted_fits}
 use Rattle.termwiz_screen.proofs.Sides.{sides-full}
-use Rattle.termwiz_screen.proofs.Rows.Resized.{length-resized_stored, stored-resized, lengths-resized, shown-resized}
+use Rattle.termwiz_screen.proofs.RowChanges.Resized.{length-resized_stored, stored-resized, lengths-resized, shown-resized}
 use Rattle.termwiz_surface.proofs.surface.Surface.change_size.Goals as goal
 
 pub invariant_of-self-2 : goal.invariant_of-self-2

@@ -4,7 +4,7 @@ use Rattle.termwiz_cell.specs.ChangeValue.{change_value}
 use Rattle.termwiz_cell.specs.Measure.{measure}
 use Rattle.termwiz_screen.specs.Diff.{Region}
 use Rattle.termwiz_surface.specs.Surface.{screen_of}
-use Rattle.termwiz_screen.proofs.Diff.Calls.{cut_region}
+use Rattle.termwiz_screen.proofs.Diffs.Calls.{cut_region}
 use Rattle.termwiz_surface.proofs.surface.Surface.diff_region.Goals as goal
 
 pub returns-clause-region : goal.returns-clause-region

@@ -6,7 +6,7 @@ use Rattle.termwiz_screen.specs.Diff.{cut, diff, need, whole}
 use Rattle.termwiz_screen.specs.DiffLists.{IsDiff}
 use Rattle.termwiz_screen.specs.RegionValue.{region_value}
 use Rattle.termwiz_surface.specs.Surface.{SurfaceValue, screen_of}
-use Rattle.termwiz_screen.proofs.Diff.Calls.{same_rows, equal_rows}
+use Rattle.termwiz_screen.proofs.Diffs.Calls.{same_rows, equal_rows}
 use Rattle.termwiz_surface.proofs.surface.Surface.diff_screens.Goals as goal
 
 pub returns-clause-rows : goal.returns-clause-rows

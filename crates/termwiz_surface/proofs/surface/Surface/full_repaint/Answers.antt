@@ -9,8 +9,8 @@ use Rattle.termwiz_screen.specs.Repaint.{started_entries, full_entries, full_sho
 use Rattle.termwiz_screen.specs.ScreenValue.{cells_of}
 use Rattle.termwiz_screen.specs.Sides.{row_flags}
 use Rattle.termwiz_surface.specs.Surface.{SurfaceValue, screen_of, kept_of}
-use Rattle.termwiz_screen.proofs.Rows.Joined.{before_rows, none_drawn}
-use Rattle.termwiz_screen.proofs.Repaint.LastChanges.{full_apart}
+use Rattle.termwiz_screen.proofs.RowChanges.Joined.{before_rows, none_drawn}
+use Rattle.termwiz_screen.proofs.Repaints.LastChanges.{full_apart}
 use Rattle.termwiz_surface.proofs.surface.Surface.full_repaint.Goals as goal
 
 pub all_rows-requires-clause-before : goal.all_rows-requires-clause-before

@@ -7,8 +7,8 @@ use Rattle.termwiz_screen.specs.ScreenValue.{cells_of}
 use Rattle.termwiz_surface.specs.Surface.{SurfaceValue, screen_of}
 use Rattle.termwiz_line.specs.Writing.{behind}
 use Rattle.termwiz_screen.specs.Repaint.{started_entries, title_entry, all_rows, repaint}
-use Rattle.termwiz_screen.proofs.Rows.Joined.{before_rows, none_drawn}
-use Rattle.termwiz_screen.proofs.Repaint.LastChanges.{first_apart}
+use Rattle.termwiz_screen.proofs.RowChanges.Joined.{before_rows, none_drawn}
+use Rattle.termwiz_screen.proofs.Repaints.LastChanges.{first_apart}
 use Rattle.termwiz_surface.proofs.surface.Surface.screen_repaint.Goals as goal
 
 pub all_rows-requires-clause-before : goal.all_rows-requires-clause-before

@@ -5,7 +5,7 @@ use Rattle.termwiz_screen.specs.ScreenValue.{cells_of}
 use Rattle.termwiz_surface.specs.Surface.{SurfaceValue}
 use Rattle.termwiz_screen.proofs.Sides.{sides-full}
 use Rattle.termwiz_surface.proofs.Drawn.{any_flags, IsSound-partly_reset, IsSound-down}
-use Rattle.termwiz_screen.proofs.Rows.Scrolled.{rows-down, lengths-down}
+use Rattle.termwiz_screen.proofs.RowChanges.Scrolled.{rows-down, lengths-down}
 use Rattle.termwiz_surface.proofs.surface.Surface.scroll_region_down.Goals as goal
 
 pub invariant_of-self : goal.invariant_of-self

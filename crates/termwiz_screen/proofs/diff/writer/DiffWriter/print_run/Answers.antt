@@ -2,7 +2,7 @@ use Rattle.std.proofs.Common.{◌≡◌, ◌+◌, Some, ap, sym, ◌∙◌, subs
 use Rattle.termwiz_screen.specs.Diff.{End, PrintedOut}
 use Rattle.termwiz_screen.specs.Ends.{end_value, ended_at}
 use Rattle.termwiz_screen.specs.Walked.{IsPrintedTo}
-use Rattle.termwiz_screen.proofs.Repaint.PlainRuns.{one_end}
+use Rattle.termwiz_screen.proofs.Repaints.PlainRuns.{one_end}
 use Rattle.termwiz_screen.proofs.diff.writer.DiffWriter.print_run.Goals as goal
 
 pub returns-clause-printed : goal.returns-clause-printed

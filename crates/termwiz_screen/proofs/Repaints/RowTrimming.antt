@@ -12,7 +12,7 @@ use Rattle.termwiz_line.proofs.EntryLists.{all_spaces_push, trimmed_push, untrim
 use Rattle.termwiz_screen.specs.Measured.{IsMeasured}
 use Rattle.termwiz_screen.specs.Printable.{IsPrintableRow}
 use Rattle.termwiz_line.proofs.RowVisible.{visible_hidden, visible_shown, hidden_narrow}
-use Rattle.termwiz_screen.proofs.Rows.Tails.{TailIs}
+use Rattle.termwiz_screen.proofs.RowChanges.Tails.{TailIs}
 
 -- where the last cell is a plain space, something is left out
 pub trimmed_shorter : (a : Attributes) (ps : List VisibleCell) → ends_plain ps ≡ true → length (trimmed (pen_behind a ps) ps) < length ps

@@ -14,9 +14,9 @@ use Rattle.termwiz_screen.specs.Place.{placed, cursor_at}
 use Rattle.termwiz_screen.specs.Step.{step, replay}
 use Rattle.termwiz_screen.specs.Repaint.{all_rows, all_moves, without_last_moves, is_nil, cursor_entry, shown_entries, title_entry, repaint_of, repaint}
 use Rattle.termwiz_screen.specs.Printable.{IsPrintable, HasSize}
-use Rattle.termwiz_screen.proofs.Repaint.EntryTexts.{replay_pen}
-use Rattle.termwiz_screen.proofs.Repaint.Rows.{emptied, HasRows}
-use Rattle.termwiz_screen.proofs.Repaint.Bottom.{all_rows_give}
+use Rattle.termwiz_screen.proofs.Repaints.EntryTexts.{replay_pen}
+use Rattle.termwiz_screen.proofs.Repaints.Rows.{emptied, HasRows}
+use Rattle.termwiz_screen.proofs.Repaints.Bottom.{all_rows_give}
 
 -- the same but for the cursor's place
 pub record SameButPlace (s t : Screen) : Type 0 where

@@ -12,7 +12,7 @@ use Rattle.termwiz_line.proofs.StoredRows.{row_stored}
 use Rattle.termwiz_screen.specs.Diff.{Region, shows, row_need, need_upto, in_row, PrintedOut, print_out}
 use Rattle.termwiz_screen.specs.Screen.{row_at}
 use Rattle.termwiz_screen.specs.Walked.{EndsBlank}
-use Rattle.termwiz_screen.proofs.Rows.Walked.{needed_shown, needed_nothing, one_more}
+use Rattle.termwiz_screen.proofs.RowChanges.Walked.{needed_shown, needed_nothing, one_more}
 
 -- behind a column where the other ends in blanks, blanks are needed
 blanks_behind : (own : List CellValue) (x : ℕ) (b : List CellValue) (q w k m t : ℕ) → EndsBlank w b k → k ≤ q + m → q + (m + t) ≤ w → row_need own x b q (m + t) ≡ row_need own x b q m ++ row_need own (x + m) [] 0 t

@@ -15,9 +15,9 @@ use Rattle.termwiz_screen.specs.Print.{put_at_cursor}
 use Rattle.termwiz_screen.specs.Step.{step, replay}
 use Rattle.termwiz_screen.specs.Printable.{IsPrintableRow, LeavesRow}
 use Rattle.termwiz_line.proofs.RowVisible.{paint_all, visible_hidden, visible_shown, reach, reach_hidden, reach_visible, hidden_narrow, painted_whole}
-use Rattle.termwiz_screen.proofs.Rows.Tails.{TailIs, painted_cleared, painted_trimmed, blank_row}
-use Rattle.termwiz_screen.proofs.Repaint.EntryTexts.{replay_pen, replay_cell}
-use Rattle.termwiz_screen.proofs.Repaint.RowTrimming.{IsTrimmed, trimmed_columns, trimmed_tail, last_is_plain}
+use Rattle.termwiz_screen.proofs.RowChanges.Tails.{TailIs, painted_cleared, painted_trimmed, blank_row}
+use Rattle.termwiz_screen.proofs.Repaints.EntryTexts.{replay_pen, replay_cell}
+use Rattle.termwiz_screen.proofs.Repaints.RowTrimming.{IsTrimmed, trimmed_columns, trimmed_tail, last_is_plain}
 
 -- the screen s after the texts of r before column k, in the row of its cursor
 abbrev pub texts_before : Screen → List CellValue → ℕ → Attributes → Screen

@@ -9,8 +9,8 @@ use Rattle.termwiz_screen.specs.DiffRegions.{AreRows, CrossNone, HaveRegion}
 use Rattle.termwiz_screen.specs.Prints.{Print}
 use Rattle.termwiz_screen.specs.Screen.{Screen, row_at}
 use Rattle.termwiz_screen.specs.Step.{replay}
-use Rattle.termwiz_screen.proofs.Diff.Lists.{gives_rows, gives_region}
-use Rattle.termwiz_screen.proofs.Diff.Screens.{cut_inside, need_nothing}
+use Rattle.termwiz_screen.proofs.Diffs.Lists.{gives_rows, gives_region}
+use Rattle.termwiz_screen.proofs.Diffs.Screens.{cut_inside, need_nothing}
 
 -- regions that are cut to nothing
 no_columns : (a b : List (List CellValue)) (r : Region) (i : ℕ) → r.width ≡ 0 → need_upto a b r i ≡ []

@@ -21,7 +21,7 @@ use Rattle.termwiz_screen.specs.Printable.{IsPrintableRow, HasSize}
 use Rattle.termwiz_line.proofs.RowPainting.{clear_whole}
 use Rattle.termwiz_line.proofs.RowVisible.{visible_shown}
 use Rattle.termwiz_line.proofs.EntryLists.{all_spaces_push}
-use Rattle.termwiz_screen.proofs.Repaint.Rows.{emptied, IsUpto, HasRows, rows_stand, rows_give}
+use Rattle.termwiz_screen.proofs.Repaints.Rows.{emptied, IsUpto, HasRows, rows_stand, rows_give}
 
 -- the rows at the bottom that are found blank are blank
 pub first_blank_same : (w : ℕ) (a : Attributes) (rows : List (List CellValue)) (n j : ℕ) → first_blank w a rows n ≤ j → j < n → row_at rows j ≡ replicate w (blank_of a)

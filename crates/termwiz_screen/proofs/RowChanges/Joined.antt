@@ -12,7 +12,7 @@ use Rattle.termwiz_line.specs.LastChange.{last_is}
 use Rattle.termwiz_line.specs.Writing.{Writing, behind}
 use Rattle.termwiz_line.proofs.LastChange.{last_pushed}
 use Rattle.termwiz_screen.specs.Drawing.{IsBeforeRow, AreApart, IsWrittenUpto}
-use Rattle.termwiz_screen.proofs.Repaint.LastChanges.{front_behind_first}
+use Rattle.termwiz_screen.proofs.Repaints.LastChanges.{front_behind_first}
 use Rattle.termwiz_screen.specs.Screen.{row_at}
 use Rattle.termwiz_screen.specs.Repaint.{next_line, ends_with, rows_upto, bottom_attrs, first_blank, front_of, joined_row, bottom, joins_rows, all_rows}
 

@@ -19,8 +19,8 @@ use Rattle.termwiz_screen.specs.Place.{cursor_at}
 use Rattle.termwiz_screen.specs.FullScreen.{FullScreen}
 use Rattle.termwiz_cell.specs.declared.change.LineAttribute.{LineAttribute}
 use Rattle.termwiz_cell.specs.declared.change.LineAttribute.TheVariants.{SingleWidthLine}
-use Rattle.termwiz_screen.proofs.Repaint.RowTrimming.{trimmed_shorter}
-use Rattle.termwiz_screen.proofs.Repaint.Bottom.{length-front_of}
+use Rattle.termwiz_screen.proofs.Repaints.RowTrimming.{trimmed_shorter}
+use Rattle.termwiz_screen.proofs.Repaints.Bottom.{length-front_of}
 
 -- an entry that may be left out
 pub length_optional : {A : Type 0} (b : Bool) (x : A) → length (cond b [] (x ∷ [])) ≤ 1

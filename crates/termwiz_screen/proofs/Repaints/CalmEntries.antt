@@ -20,13 +20,13 @@ use Rattle.termwiz_screen.specs.Step.{step, replay, step_kept, replay_kept}
 use Rattle.termwiz_screen.specs.Measured.{IsMeasured}
 use Rattle.termwiz_screen.specs.declared.print.Piece.TheVariants.{Cell}
 use Rattle.termwiz_line.proofs.RowVisible.{visible_hidden, visible_shown, reach_visible}
-use Rattle.termwiz_screen.proofs.Repaint.EntryTexts.{texts_eq-Decides, replay_pen, no_break}
+use Rattle.termwiz_screen.proofs.Repaints.EntryTexts.{texts_eq-Decides, replay_pen, no_break}
 use Rattle.termwiz_screen.proofs.FullScreens.{ShowAlike, alike-refl, alike-more}
 use Rattle.termwiz_screen.proofs.Runs.{kept_after-append}
-use Rattle.termwiz_screen.proofs.Repaint.Bottom.{joined_ends, ends_with_is, first_blank_same}
-use Rattle.termwiz_screen.proofs.Repaint.Rows.{emptied, row_start, IsUpto, to_row, rows_stand}
-use Rattle.termwiz_screen.proofs.Repaint.RowEntries.{row_texts}
-use Rattle.termwiz_screen.proofs.Repaint.RowTrimming.{IsTrimmed, trimmed_columns}
+use Rattle.termwiz_screen.proofs.Repaints.Bottom.{joined_ends, ends_with_is, first_blank_same}
+use Rattle.termwiz_screen.proofs.Repaints.Rows.{emptied, row_start, IsUpto, to_row, rows_stand}
+use Rattle.termwiz_screen.proofs.Repaints.RowEntries.{row_texts}
+use Rattle.termwiz_screen.proofs.Repaints.RowTrimming.{IsTrimmed, trimmed_columns}
 
 -- the changes, made on this screen, leave what is kept as it is shown
 abbrev pub Calm : (List ℕ → ℕ) → Screen → List ChangeValue → Type 0

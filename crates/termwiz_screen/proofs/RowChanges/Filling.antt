@@ -6,7 +6,7 @@ use Rattle.termwiz_cell.specs.CellValue.{CellValue}
 use Rattle.termwiz_storage.specs.Stored.{fill, IsPruned}
 use Rattle.termwiz_screen.specs.Screen.{row_at}
 use Rattle.termwiz_screen.specs.Rows.{AreFilled, IsPartly, ArePartly}
-use Rattle.termwiz_screen.proofs.Rows.Fills.{IsPartly-same, ArePartly-during}
+use Rattle.termwiz_screen.proofs.RowChanges.Fills.{IsPartly-same, ArePartly-during}
 
 -- one row is filled
 pub filled-set : (w x y : ℕ) (c : CellValue) (old : List (List CellValue)) (r : List CellValue) → y < length old

@@ -13,7 +13,7 @@ use Rattle.termwiz_screen.specs.Screen.{row_at}
 use Rattle.termwiz_screen.specs.DiffRegions.{AreRows}
 use Rattle.termwiz_line.proofs.RowPainting.{paint_here, paint_other}
 use Rattle.termwiz_line.proofs.RowShows.{paint_row}
-use Rattle.termwiz_screen.proofs.Diff.Rows.{shows_is}
+use Rattle.termwiz_screen.proofs.Diffs.Rows.{shows_is}
 
 -- what is needed of the first n columns
 abbrev first_need : List CellValue → List CellValue → ℕ → List VisibleCell

@@ -19,9 +19,9 @@ use Rattle.termwiz_screen.specs.Prints.{Print, print_on, print_all, piece_prints
 use Rattle.termwiz_screen.specs.Diff.{End, end_of, PrintedOut, nothing_printed, move_to, pen_to, print_out, prints_out}
 use Rattle.termwiz_screen.specs.Place.{cursor_at}
 use Rattle.termwiz_screen.specs.DiffLaws.{CanPrint}
-use Rattle.termwiz_screen.proofs.Repaint.Screen.{replay_cursor}
-use Rattle.termwiz_screen.proofs.Repaint.EntryTexts.{replay_text, replay_pen, print_cell, printed_is, no_break}
-use Rattle.termwiz_screen.proofs.Repaint.Length.{length_optional, length-add_text}
+use Rattle.termwiz_screen.proofs.Repaints.Screen.{replay_cursor}
+use Rattle.termwiz_screen.proofs.Repaints.EntryTexts.{replay_text, replay_pen, print_cell, printed_is, no_break}
+use Rattle.termwiz_screen.proofs.Repaints.Length.{length_optional, length-add_text}
 
 module _ (f : List ℕ → ℕ) where
   printed-append : (s : Screen) (es fs : List ChangeValue) → printed f s (es ++ fs) ≡ printed f s es ++ printed f (replay f s es) fs

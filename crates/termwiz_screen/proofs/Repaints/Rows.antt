@@ -14,7 +14,7 @@ use Rattle.termwiz_screen.specs.Step.{step, replay}
 use Rattle.termwiz_screen.specs.Repaint.{next_line, rows_upto}
 use Rattle.termwiz_screen.specs.Printable.{IsPrintableRow, HasSize, LeavesRow}
 use Rattle.termwiz_line.proofs.RowPainting.{clear_whole}
-use Rattle.termwiz_screen.proofs.Repaint.RowEntries.{row_done}
+use Rattle.termwiz_screen.proofs.Repaints.RowEntries.{row_done}
 
 -- after the entries of a repaint before those of its rows
 abbrev pub emptied : Screen → Screen

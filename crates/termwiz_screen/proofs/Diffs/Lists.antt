@@ -20,9 +20,9 @@ use Rattle.termwiz_screen.specs.DiffLists.{IsDiff}
 use Rattle.termwiz_screen.specs.Printable.{IsPrintableRow}
 use Rattle.termwiz_screen.specs.DiffRegions.{IsInside, HaveRegion}
 use Rattle.termwiz_line.proofs.JoinedTexts.{ends_with_added}
-use Rattle.termwiz_screen.proofs.Diff.Screens.{band_inside, have_region, band_rows, band_outside, whole_gives, need_nothing, need_printable}
-use Rattle.termwiz_screen.proofs.Repaint.EntryTexts.{no_break}
-use Rattle.termwiz_screen.proofs.Diff.Streams.{printed_before, printed_text, entries_replay, entries_print, length_out}
+use Rattle.termwiz_screen.proofs.Diffs.Screens.{band_inside, have_region, band_rows, band_outside, whole_gives, need_nothing, need_printable}
+use Rattle.termwiz_screen.proofs.Repaints.EntryTexts.{no_break}
+use Rattle.termwiz_screen.proofs.Diffs.Streams.{printed_before, printed_text, entries_replay, entries_print, length_out}
 
 -- moves, pens and texts
 drawing-append : (es fs : List ChangeValue) → all_diff_entries es ≡ true → all_diff_entries fs ≡ true → all_diff_entries (es ++ fs) ≡ true

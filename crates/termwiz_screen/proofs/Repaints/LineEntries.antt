@@ -13,7 +13,7 @@ use Rattle.termwiz_screen.specs.Measured.{IsMeasured}
 use Rattle.termwiz_screen.specs.Printable.{ArePrintable, IsPrintableRow, IsAtBlankRow, LeavesRow}
 use Rattle.termwiz_line.proofs.RowOf.{row_of_row, row_shows, hidden_row, visible_row}
 use Rattle.termwiz_screen.proofs.Stored.{IsMeasured-blank}
-use Rattle.termwiz_screen.proofs.Repaint.RowEntries.{row_done}
+use Rattle.termwiz_screen.proofs.Repaints.RowEntries.{row_done}
 
 -- the row of printable cells is printable, be it cut or filled
 pub line_printable : (f : List ℕ → ℕ) → f space ≡ 1 → (w : ℕ) (cells : List CellValue) → ArePrintable f cells → IsPrintableRow f w (row_of w cells)

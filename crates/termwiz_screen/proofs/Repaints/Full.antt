@@ -21,11 +21,11 @@ use Rattle.termwiz_screen.specs.Step.{step, replay, step_kept, replay_kept}
 use Rattle.termwiz_screen.specs.Repaint.{next_line, all_rows, is_nil, all_moves, without_last_moves, cursor_entry, started_entries, lines_upto, full_entries, full_shown_entries, full_repaint}
 use Rattle.termwiz_screen.specs.Place.{placed, cursor_at}
 use Rattle.termwiz_screen.specs.Printable.{IsPrintable}
-use Rattle.termwiz_screen.proofs.Repaint.CalmEntries.{kept-append, calm-optional, calm-pen, calm-all_rows}
+use Rattle.termwiz_screen.proofs.Repaints.CalmEntries.{kept-append, calm-optional, calm-pen, calm-all_rows}
 use Rattle.termwiz_screen.proofs.FullScreens.{ShowAlike, alike-refl, alike-more, attribute-set, full-split}
-use Rattle.termwiz_screen.proofs.Repaint.Rows.{emptied}
-use Rattle.termwiz_screen.proofs.Repaint.Bottom.{all_rows_give}
-use Rattle.termwiz_screen.proofs.Repaint.Screen.{replay_cursor, repaint_of_gives}
+use Rattle.termwiz_screen.proofs.Repaints.Rows.{emptied}
+use Rattle.termwiz_screen.proofs.Repaints.Bottom.{all_rows_give}
+use Rattle.termwiz_screen.proofs.Repaints.Screen.{replay_cursor, repaint_of_gives}
 
 module _ (f : List ℕ → ℕ) where
   -- moves, and so the moves at the end of a list, leave what is kept

@@ -15,7 +15,7 @@ use Rattle.termwiz_screen.specs.DiffLaws.{CanPrint, CutIsInside}
 use Rattle.termwiz_screen.specs.DiffRegions.{IsIn, BothEnd, CrossesNone, HasRegion, AreRows, IsInside, CrossNone, HaveRegion}
 use Rattle.termwiz_line.proofs.RowPainting.{length-paint}
 use Rattle.termwiz_line.proofs.RowVisible.{paint_all}
-use Rattle.termwiz_screen.proofs.Diff.Rows.{row_region}
+use Rattle.termwiz_screen.proofs.Diffs.Rows.{row_region}
 
 length_paints : (s : List CellValue) (ps : List VisibleCell) → length (paint_all s ps) ≡ length s
 length_paints s [] = refl

@@ -15,3 +15,4 @@ mod FollowedRuns
 mod Running
 mod ScheduleLaws
 mod ManyRuns
+mod Equality

@@ -1,12 +1,17 @@
 //! Laws of the definitions that contracts cite. Each is stated on a function that does nothing.
+ghost use Rattle.std.specs.Bool.{Decides};
+ghost use Rattle.std.specs.Prelude.{◌≡◌};
 ghost use Rattle.termwiz_surface.specs.{AnswersStay, BrokenListsLeaveForm, CarriedLead, GivenCarry};
 ghost use Rattle.termwiz_surface.specs.{ChangesGoOn, ChangesLeadOn, FlushesKeepLeading, LackMemory};
 ghost use Rattle.termwiz_surface.specs.{FlushesKeepPast, FollowedFullLeadOn, FollowedLeadOn};
 ghost use Rattle.termwiz_surface.specs.{LackNumbers, LeadsWhereItIs, NamedAreLed, NamesStay};
 ghost use Rattle.termwiz_surface.specs.{NothingIsNamedAtFirst, NumberNamesPicture, RestartsGoOn};
 ghost use Rattle.termwiz_surface.specs.{RestartsKeepLeading, StreamsLeadOn, full_screens, measure};
-ghost use Rattle.termwiz_surface.specs.{FullScreen, Screen, screens};
+ghost use Rattle.termwiz_surface.specs.{FullScreen, Screen, attribute_change_value, change_value};
+ghost use Rattle.termwiz_surface.specs.{screens};
 
+use termwiz_cell::cell::AttributeChange;
+use termwiz_cell::change::Change;
 use termwiz_cell::emoji::Widths;
 pub use termwiz_line::laws::{
     click_laws, cluster_laws, cut_laws, edit_laws, row_laws, storage_laws, stored_row_laws,
@@ -76,4 +81,13 @@ pub fn schedule_laws<W: Widths>()
     ensures numbers { LackNumbers (measure W.width_of) }
     ensures memory { LackMemory (measure W.width_of) }
     ensures broken { BrokenListsLeaveForm W }
+{}
+
+/// Changes, and changes of one attribute, are equal exactly where their values are.
+pub fn equality_laws()
+    ensures attributes { (a b : AttributeChange) → Decides
+        (⟦<AttributeChange as PartialEq>⟧.eq a b)
+        (attribute_change_value a ≡ attribute_change_value b) }
+    ensures changes { (a b : Change) → Decides
+        (⟦<Change as PartialEq>⟧.eq a b) (change_value a ≡ change_value b) }
 {}

@@ -1,9 +1,8 @@
 -- What adding changes makes of a surface.
-use Rattle.std.specs.Prelude.{◌≡◌, ◌⊎◌, ℕ, ℤ, Result, Ok, Err, Option, Some, None, List, [], ◌∷◌, false, map}
+use Rattle.std.specs.Prelude.{◌≡◌, ◌⊎◌, ℕ, Result, Ok, Err, List, map}
 use Rattle.std.specs.declared.alloc.Global.{Global}
 use Rattle.std.specs.declared.vec.Vec.{Vec}
-use Rattle.termwiz_cell.specs.AttributeChangeValue.{Hyperlink}
-use Rattle.termwiz_cell.specs.ChangeValue.{Attribute, ChangeValue, change_value}
+use Rattle.termwiz_cell.specs.ChangeValue.{ChangeValue, change_value}
 use Rattle.termwiz_cell.specs.declared.change.Change.{Change}
 use Rattle.termwiz_share.specs.Serving.{KeepsClients}
 use Rattle.termwiz_share.specs.Source.{SourceValue, trimmed}
@@ -13,13 +12,11 @@ use Rattle.termwiz_surface.specs.declared.surface.SurfaceError.{SurfaceError}
 use Rattle.termwiz_wire.specs.Answers.{changes_at}
 use Rattle.termwiz_wire.specs.Encoding.{changes}
 use Rattle.termwiz_wire.specs.Forms.{AreChanges}
-use Rattle.tikeburo_c.specs.Handles.{kept_of}
-use Rattle.tikeburo_c.specs.Outcomes.{Outcome, Reports, status_of, outcome_of, changing_failure, unread_as}
-use Rattle.tikeburo_c.specs.Results.{OnSurface, OrNoMemory, Refused}
+use Rattle.tikeburo_c.specs.Outcomes.{Outcome, outcome_of, changing_failure, unread_as}
+use Rattle.tikeburo_c.specs.Results.{OrNoMemory, Refused}
 use Rattle.tikeburo_c.specs.Widths.{columns_by}
 use Rattle.tikeburo_c.specs.declared.failure.Failure.{Failure}
-use Rattle.tikeburo_c.specs.declared.failure.Failure.TheVariants.{Memory, Range}
-use Rattle.tikeburo_c.specs.declared.handle.Handle.{Handle}
+use Rattle.tikeburo_c.specs.declared.failure.Failure.TheVariants.{Memory}
 use Rattle.tikeburo_c.specs.declared.widths.ChosenWidths.{ChosenWidths}
 
 -- what stays with each change, whatever comes of it: the number, the clients that show the surface, and the viewers that follow it

@@ -1,5 +1,5 @@
 -- Colours, attributes and cells, as the structs that C has of them.
-use Rattle.std.specs.Prelude.{◌≡◌, Option, Some, None, is_some, ◌==◌, if◌then◌else◌}
+use Rattle.std.specs.Prelude.{Option, Some, None, is_some, ◌==◌, if◌then◌else◌}
 use Rattle.termwiz_cell.specs.Attributes.{Attributes, default_attributes}
 use Rattle.termwiz_cell.specs.CellValue.{CellValue, columns}
 use Rattle.termwiz_cell.specs.Rgb.{rgb}

@@ -1,5 +1,5 @@
 -- Viewers that follow what a handle has.
-use Rattle.std.specs.Prelude.{◌≡◌, ℕ, true, not, ◌==◌, ◌||◌, Result, Ok, OnOk, OnErr, Option, Some, None, if◌then◌else◌}
+use Rattle.std.specs.Prelude.{◌≡◌, ℕ, true, not, ◌==◌, ◌||◌, Result, OnOk, OnErr, Option, Some, None, if◌then◌else◌}
 use Rattle.termwiz_screen.specs.Log.{flushed, next_number}
 use Rattle.termwiz_surface.specs.Showing.{HasCaughtUp}
 use Rattle.termwiz_surface.specs.Adding.{with_log}

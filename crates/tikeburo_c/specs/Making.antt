@@ -1,5 +1,5 @@
 -- How surfaces and clients are made, and how surfaces take another size.
-use Rattle.std.specs.Prelude.{◌≡◌, ℕ, ◌^◌, Bool, true, ◌&&◌, nat_lt, Result, Ok, Option, Some, None, [], if◌then◌else◌, MatchBool}
+use Rattle.std.specs.Prelude.{◌≡◌, ℕ, ◌^◌, Bool, true, ◌&&◌, nat_lt, Result, Option, Some, None, [], if◌then◌else◌, MatchBool}
 use Rattle.termwiz_share.specs.Client.{ClientValue}
 use Rattle.termwiz_share.specs.Source.{SourceValue}
 use Rattle.termwiz_surface.specs.Resizing.{Resizes}

@@ -12,7 +12,6 @@ use Rattle.termwiz_share.specs.declared.error.ClientError.TheVariants as errors
 use Rattle.termwiz_screen.specs.FullScreen.{FullScreen}
 use Rattle.termwiz_wire.specs.Answers.{ask_at}
 use Rattle.termwiz_wire.specs.Sent.{IsAsk, ask}
-use Rattle.termwiz_wire.specs.declared.fault.Fault.{Fault}
 use Rattle.termwiz_wire.specs.declared.sent.Ask.{Ask}
 use Rattle.tikeburo_c.specs.Changes.{GoesOn}
 use Rattle.tikeburo_c.specs.Outcomes.{Outcome, unread_as}

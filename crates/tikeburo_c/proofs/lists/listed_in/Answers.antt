@@ -1,14 +1,13 @@
-use Rattle.std.proofs.Common.{◌≡◌, ◌⊎◌, inl, inr, map, subst, ap, ◌∙◌, sym, length, Err, Ok, List, [], ◌∷◌, ◌++◌, ℕ, rules}
+use Rattle.std.proofs.Common.{◌≡◌, ◌⊎◌, inl, inr, map, ap, ◌∙◌, sym, length, Err, [], ◌∷◌, ◌++◌}
 use Rattle.std.proofs.lemmas.List.{map-append}
 use Rattle.std.proofs.lemmas.Bool.{eqb-true}
-use Rattle.std.specs.Prelude.{IfErr, Result}
+use Rattle.std.specs.Prelude.{IfErr}
 use Rattle.std.specs.declared.alloc.Global.{Global}
 use Rattle.std.specs.declared.vec.Vec.{Vec}
-use Rattle.termwiz_cell.specs.ChangeValue.{ChangeValue, change_value}
+use Rattle.termwiz_cell.specs.ChangeValue.{change_value}
 use Rattle.termwiz_cell.specs.declared.change.Change.{Change}
 use Rattle.tikeburo_c.specs.Lists.{listed_in}
-use Rattle.tikeburo_c.specs.declared.failure.Failure.{Failure}
-use Rattle.tikeburo_c.specs.declared.failure.Failure.TheVariants.{Memory, Range}
+use Rattle.tikeburo_c.specs.declared.failure.Failure.TheVariants.{Memory}
 use Rattle.tikeburo_c.proofs.Decoded.{failed_by}
 use Rattle.tikeburo_c.proofs.Listed.{ends, goes_on, has_texts, is_done}
 use Rattle.tikeburo_c.proofs.lists.listed_in.Goals as goal

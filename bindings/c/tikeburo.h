@@ -297,10 +297,10 @@ enum {
     TK_LINE_SINGLE_WIDTH = 3
 };
 
-/* Makes a list of changes in order, or none of them. Their texts stand behind one another in
- * `texts`. By the first change that has a fault: TK_RANGE, its kind or another number is out of its
- * range, or its text goes past the end of the texts; TK_UNREADABLE, its text is no UTF-8. After
- * that TK_RANGE: texts are left. TK_REGION. */
+/* Makes a list of changes in order, whose texts stand behind one another in `texts`. A list that
+ * has a fault changes nothing, and its first fault is returned. TK_RANGE: a change's kind or
+ * another of its numbers is out of its range, its text goes past the end of the texts, or bytes of
+ * these are left after the last change. TK_UNREADABLE: a text is no UTF-8. TK_REGION. */
 tk_status tk_add_changes(tk_handle *surface, const tk_change *changes, size_t count,
                          const char *texts, size_t len);
 
@@ -310,8 +310,8 @@ tk_status tk_add_changes(tk_handle *surface, const tk_change *changes, size_t co
  * TK_UNREADABLE: they are wrong at a byte, or more follow the list. TK_REGION. */
 tk_status tk_add_encoded(tk_handle *surface, const uint8_t *bytes, size_t len);
 
-/* The calls from here on make one change each, of the kind above that has their name. A text may be
- * NULL where its length is 0. */
+/* The calls from here on make one change each, of the kind above that has their name, and return
+ * what tk_add_changes does. A text may be NULL where its length is 0. */
 
 static inline tk_status tk_add_change(tk_handle *surface, tk_change change) {
     return tk_add_changes(surface, &change, 1, "", 0);

@@ -164,7 +164,8 @@ impl Changes {
         self.position(Position::Relative(columns), Position::Relative(rows))
     }
 
-    /// Sets the whole pen, the attributes of coming texts.
+    /// Sets the whole pen, the attributes of coming texts. A link to an empty uri is none here:
+    /// [`Changes::link`] gives one.
     pub fn pen(&mut self, attributes: &Attributes) -> &mut Changes {
         let uri = attributes.hyperlink.as_ref().map_or("", Hyperlink::uri);
         self.texts.push_str(uri);

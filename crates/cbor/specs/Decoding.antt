@@ -1,4 +1,6 @@
--- How items are decoded, from left to right, with the first fault that is met. Room is how many more bytes may follow those at hand: where bytes end, more may come while there is room, and past it is the limit.
+-- How items are decoded, from left to right, with the first fault that is met. Room is how many
+-- more bytes may follow those at hand: where bytes end, more may come while there is room, and past
+-- it is the limit.
 use Rattle.std.specs.Prelude.{◌≡◌, ℕ, ℤ, pos, negsuc, ◌+◌, ◌-◌, ◌*◌, ◌^◌, Bool, true, false, List, [], ◌∷◌, length, get_or, ◌<◌, take, drop, Option, Some, None, IfSome, Result, Ok, Err, nat_lt, ◌==◌, if◌then◌else◌}
 use Rattle.core.specs.Str.{is_utf8}
 use Rattle.std.specs.Int.{Width, w16, w32, w64, byte_len, from_be_bytes}
@@ -10,7 +12,8 @@ use Rattle.cbor.specs.declared.error.ReadError.TheVariants as errors
 use Rattle.cbor.specs.declared.kind.Kind.{Kind}
 use Rattle.cbor.specs.declared.kind.Kind.TheVariants as kinds
 
--- where decoding ends without a value: the fault, and how many bytes are allowed from the item on that shows it
+-- where decoding ends without a value: the fault, and how many bytes are allowed from the item on
+-- that shows it
 pub record Stop : Type 0 where
   pub fault : FaultKind
   pub left : ℕ
@@ -41,9 +44,11 @@ abbrev pub Finds : {X Y : Type 0} → (X → Y) → Result X ReadError → Resul
 Finds view (Ok x) read = read ≡ Ok (view x)
 Finds view (Err e) read = Fails e read
 
--- a call fails with the fault that decoding gives, with so many bytes allowed from the item on that shows it, unless memory was refused
+-- a call fails with the fault that decoding gives, with so many bytes allowed from the item on that
+-- shows it, unless memory was refused
 abbrev pub Stops : {Y : Type 0} → ℕ → ReadError → Result Y Stop → Type 0
-Stops left error read = IfSome (fault_of error) (λ f. read ≡ Err (record { fault = f; left = left }))
+Stops left error read =
+    IfSome (fault_of error) (λ f. read ≡ Err (record { fault = f; left = left }))
 
 -- a call returns what decoding gives, seen by view, or fails so
 abbrev pub Gives : {X Y : Type 0} → ℕ → (X → Y) → Result X ReadError → Result Y Stop → Type 0
@@ -96,7 +101,13 @@ wide_in room w least bytes =
 
 -- the argument, by the low bits of the head's first byte
 unfoldable pub argument_in : ℕ → ℕ → List ℕ → Result (ℕ × List ℕ) FaultKind
-argument_in room info rest = if info == 24 then short_in room rest else if info == 25 then wide_in room w16 (2 ^ 8) rest else if info == 26 then wide_in room w32 (2 ^ 16) rest else if info == 27 then wide_in room w64 (2 ^ 32) rest else if nat_lt info 24 then Ok (info, rest) else Err faults.Type
+argument_in room info rest =
+    if info == 24 then short_in room rest
+    else if info == 25 then wide_in room w16 (2 ^ 8) rest
+    else if info == 26 then wide_in room w32 (2 ^ 16) rest
+    else if info == 27 then wide_in room w64 (2 ^ 32) rest
+    else if nat_lt info 24 then Ok (info, rest)
+    else Err faults.Type
 
 -- the argument of a head of this major type
 unfoldable pub head_in : ℕ → ℕ → List ℕ → Result (ℕ × List ℕ) FaultKind
@@ -114,7 +125,8 @@ limited_in room major limit bytes = do
 unfoldable pub signed_in : ℕ → List ℕ → Result (ℤ × List ℕ) FaultKind
 signed_in room bytes = do
   b ← first_in room bytes
-  if nat_lt b 32 then (limited_in room 0 (2 ^ 63) bytes >>= λ n. Ok (pos n.0, n.1)) else (limited_in room 1 (2 ^ 63) bytes >>= λ n. Ok (negsuc n.0, n.1))
+  if nat_lt b 32 then (limited_in room 0 (2 ^ 63) bytes >>= λ n. Ok (pos n.0, n.1))
+      else (limited_in room 1 (2 ^ 63) bytes >>= λ n. Ok (negsuc n.0, n.1))
 
 unfoldable pub boolean_in : ℕ → List ℕ → Result (Bool × List ℕ) FaultKind
 boolean_in room bytes = do
@@ -133,7 +145,8 @@ utf8_in bytes = if is_utf8 bytes then Ok bytes else Err Utf8
 unfoldable pub text_in : ℕ → List ℕ → Result (List ℕ × List ℕ) FaultKind
 text_in room bytes = do
   n ← head_in room 3 bytes
-  if nat_lt (length n.1) n.0 then Err (lack room n.0 n.1) else (utf8_in (take n.0 n.1) >>= λ t. Ok (t, drop n.0 n.1))
+  if nat_lt (length n.1) n.0 then Err (lack room n.0 n.1)
+      else (utf8_in (take n.0 n.1) >>= λ t. Ok (t, drop n.0 n.1))
 
 -- how many items follow, each of one byte at least
 unfoldable pub list_in : ℕ → List ℕ → Result (ℕ × List ℕ) FaultKind
@@ -149,7 +162,16 @@ array_of_in room count bytes = do
 
 -- what the first byte says of the item
 unfoldable pub kind_of : ℕ → Kind
-kind_of b = if nat_lt b 32 then kinds.Unsigned else if nat_lt b 64 then kinds.Negative else if nat_lt b 96 then kinds.Other else if nat_lt b 128 then kinds.Text else if nat_lt b 160 then kinds.Array else if b == 244 then kinds.Boolean else if b == 245 then kinds.Boolean else if b == 246 then kinds.Null else kinds.Other
+kind_of b =
+    if nat_lt b 32 then kinds.Unsigned
+    else if nat_lt b 64 then kinds.Negative
+    else if nat_lt b 96 then kinds.Other
+    else if nat_lt b 128 then kinds.Text
+    else if nat_lt b 160 then kinds.Array
+    else if b == 244 then kinds.Boolean
+    else if b == 245 then kinds.Boolean
+    else if b == 246 then kinds.Null
+    else kinds.Other
 
 abbrev pub kind_in : ℕ → List ℕ → Result Kind FaultKind
 kind_in room bytes = first_in room bytes >>= λ b. Ok (kind_of b)

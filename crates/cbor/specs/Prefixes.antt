@@ -24,8 +24,10 @@ itself f = f
 abbrev pub fault : Stop → FaultKind
 fault s = s.fault
 
--- what decoding gave, and what it gives with more bytes: but for `Truncated` it is the same, at the same place
-abbrev pub Stays : {Y E : Type 0} → (E → FaultKind) → (Y → List ℕ → Y) → List ℕ → Result Y E → Result Y E → Type 0
+-- what decoding gave, and what it gives with more bytes: but for `Truncated` it is the same, at the
+-- same place
+abbrev pub Stays :
+    {Y E : Type 0} → (E → FaultKind) → (Y → List ℕ → Y) → List ℕ → Result Y E → Result Y E → Type 0
 Stays fault grow more (Ok y) later = later ≡ Ok (grow y more)
 Stays fault grow more (Err e) later = (fault e ≡ Truncated) ⊎ (later ≡ Err e)
 
@@ -34,9 +36,13 @@ abbrev pub Decides : {Y E : Type 0} → (E → FaultKind) → Result Y E → Typ
 Decides fault (Ok y) = Unit {0}
 Decides fault (Err e) = fault e ≢ Truncated
 
--- a decoding from left to right: a value or a fault stays as it is, whatever comes behind within the limit, and at the limit there is one
-pub record Reads {Y E : Type 0} (fault : E → FaultKind) (grow : Y → List ℕ → Y) (read : ℕ → List ℕ → Result Y E) : Type 0 where
-  pub stays : (room : ℕ) (bytes more : List ℕ) → Stays fault grow more (read (length more + room) bytes) (read room (bytes ++ more))
+-- a decoding from left to right: a value or a fault stays as it is, whatever comes behind within
+-- the limit, and at the limit there is one
+pub record Reads {Y E : Type 0} (fault : E → FaultKind) (grow : Y → List ℕ → Y)
+    (read : ℕ → List ℕ → Result Y E) : Type 0 where
+  pub stays :
+      (room : ℕ) (bytes more : List ℕ) →
+      Stays fault grow more (read (length more + room) bytes) (read room (bytes ++ more))
   pub ends : (bytes : List ℕ) → Decides fault (read 0 bytes)
 
 -- it fails so
@@ -44,6 +50,10 @@ abbrev pub FailsBy : {Y E : Type 0} → (E → FaultKind) → FaultKind → Resu
 FailsBy fault f (Ok y) = ⊥
 FailsBy fault f (Err e) = fault e ≡ f
 
--- each beginning of a value's bytes that is not all of them is truncated, where they are within the limit
-abbrev pub BeginningsOf : {A E : Type 0} → (E → FaultKind) → (ℕ → List ℕ → Result (A × List ℕ) E) → List ℕ → Type 0
-BeginningsOf fault read bytes = (room k : ℕ) → k < length bytes → length bytes ≤ room + k → FailsBy fault Truncated (read room (take k bytes))
+-- each beginning of a value's bytes that is not all of them is truncated, where they are within the
+-- limit
+abbrev pub BeginningsOf :
+    {A E : Type 0} → (E → FaultKind) → (ℕ → List ℕ → Result (A × List ℕ) E) → List ℕ → Type 0
+BeginningsOf fault read bytes =
+    (room k : ℕ) → k < length bytes → length bytes ≤ room + k →
+    FailsBy fault Truncated (read room (take k bytes))

@@ -51,6 +51,7 @@ abbrev pub is_link : AttributeChangeValue → Bool
 is_link (Hyperlink link) = is_some link
 is_link _ = false
 
--- the change may find no memory: at a link, which is copied, and where attributes that needed no box come to need one
+-- the change may find no memory: at a link, which is copied, and where attributes that needed no
+-- box come to need one
 abbrev pub takes_memory : Attributes → AttributeChangeValue → Bool
 takes_memory a change = is_link change || (not (needs_box a) && needs_box (with_attribute a change))

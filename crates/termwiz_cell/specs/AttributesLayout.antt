@@ -12,7 +12,8 @@ use Rattle.termwiz_cell.specs.Link.{Link, linked}
 use Rattle.termwiz_cell.specs.Style.{Style}
 use Rattle.termwiz_cell.specs.Attributes.{Attributes, is_default, has_palette_fallback, color_eq, option_link_eq}
 
--- the attributes that few cells have: the underline colour, the link, and true colours with a palette's fallback
+-- the attributes that few cells have: the underline colour, the link, and true colours with a
+-- palette's fallback
 pub record Rare : Type 0 where
   pub foreground : ColorAttribute
   pub background : ColorAttribute
@@ -20,14 +21,29 @@ pub record Rare : Type 0 where
   pub hyperlink : Option Link
 
 abbrev pub rare_default : Rare
-rare_default = record { foreground = color.Default; background = color.Default; underline_color = color.Default; hyperlink = None }
+rare_default =
+    record {
+      foreground = color.Default;
+      background = color.Default;
+      underline_color = color.Default;
+      hyperlink = None;
+    }
 
 -- `==` of rare attributes
 abbrev pub rare_eq : Rare → Rare → Bool
-rare_eq a b = color_eq a.foreground b.foreground && (color_eq a.background b.background && (color_eq a.underline_color b.underline_color && option_link_eq a.hyperlink b.hyperlink))
+rare_eq a b =
+    color_eq a.foreground b.foreground &&
+    (color_eq a.background b.background &&
+    (color_eq a.underline_color b.underline_color && option_link_eq a.hyperlink b.hyperlink))
 
 abbrev pub full_rare : Full → Rare
-full_rare f = record { foreground = f.foreground; background = f.background; underline_color = f.underline_color; hyperlink = linked f.hyperlink }
+full_rare f =
+    record {
+      foreground = f.foreground;
+      background = f.background;
+      underline_color = f.underline_color;
+      hyperlink = linked f.hyperlink;
+    }
 
 -- the small attributes of either form
 abbrev pub style_in : Form → Style
@@ -49,7 +65,8 @@ is_boxed (form.Plain _) = false
 is_boxed (form.Boxed _) = true
 
 abbrev pub has_default_colors : Rare → Bool
-has_default_colors r = is_default r.foreground && (is_default r.background && is_default r.underline_color)
+has_default_colors r =
+    is_default r.foreground && (is_default r.background && is_default r.underline_color)
 
 abbrev pub is_rare_default : Rare → Bool
 is_rare_default r = has_default_colors r && is_none r.hyperlink
@@ -75,8 +92,8 @@ abbrev pub rare_part : ColorAttribute → ColorAttribute
 rare_part (color.TrueColorWithPaletteFallback c index) = color.TrueColorWithPaletteFallback c index
 rare_part _ = color.Default
 
--- a rare colour is the default, or a true one with a palette's fallback, beside which the word has the default; and the
--- word has none of those
+-- a rare colour is the default, or a true one with a palette's fallback, beside which the word has
+-- the default; and the word has none of those
 abbrev pub is_apart : ColorAttribute → ColorAttribute → Bool
 is_apart color.Default word = not (has_palette_fallback word)
 is_apart (color.TrueColorWithPaletteFallback _ _) word = is_default word
@@ -104,7 +121,8 @@ attributes_from style rare = record {
 abbrev pub attributes_of : Inside → Attributes
 attributes_of a = attributes_from (style_in a.form) (rare_in a.form)
 
--- the box is there only while it is needed, and a colour stands in one place: so attributes have one form
+-- the box is there only while it is needed, and a colour stands in one place: so attributes have
+-- one form
 pub record IsCanonical (a : Inside) : Type 0 where
   pub needed : IsNeeded a.form
   pub foreground : is_apart (rare_in a.form).foreground (style_in a.form).foreground ≡ true

@@ -21,7 +21,9 @@ wide_in (Long b) = b.value.wide
 abbrev pub HasTextForm : CellText → Type 0
 HasTextForm (Narrow short) = (clean short.bytes ≡ short.bytes) × (length short.bytes ≤ 7)
 HasTextForm (Wide short) = (clean short.bytes ≡ short.bytes) × (length short.bytes ≤ 7)
-HasTextForm (Long b) = (clean (string_bytes b.value.text) ≡ string_bytes b.value.text) × (8 ≤ length (string_bytes b.value.text))
+HasTextForm (Long b) =
+    (clean (string_bytes b.value.text) ≡ string_bytes b.value.text) ×
+    (8 ≤ length (string_bytes b.value.text))
 
 abbrev pub cell_value : Inside → CellValue
 cell_value c = record { text = text_in c.text; wide = wide_in c.text; attrs = c.attrs }

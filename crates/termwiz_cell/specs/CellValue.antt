@@ -46,13 +46,15 @@ columns c = if c.wide then 2 else 1
 abbrev pub is_control : ℕ → Bool
 is_control b = nat_lt b 32 || b == 127
 
--- the text of a cell: the empty text, CR LF and a single control character of ASCII become a space, and any other text stays
+-- the text of a cell: the empty text, CR LF and a single control character of ASCII become a space,
+-- and any other text stays
 abbrev pub clean : List ℕ → List ℕ
 clean [] = space
 clean (b ∷ []) = if is_control b then space else b ∷ []
 clean (b ∷ (c ∷ t)) = if bytes_eq (b ∷ (c ∷ t)) (13 ∷ 10 ∷ []) then space else b ∷ (c ∷ t)
 
--- the cell of a text that was given a width: a width of zero becomes one, and one above two becomes two
+-- the cell of a text that was given a width: a width of zero becomes one, and one above two becomes
+-- two
 abbrev pub cell_of : List ℕ → ℕ → Attributes → CellValue
 cell_of text width attrs = record { text = clean text; wide = nat_lt 1 width; attrs = attrs }
 

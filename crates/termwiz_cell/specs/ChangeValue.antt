@@ -49,7 +49,8 @@ abbrev pub is_text : ChangeValue → Bool
 is_text (Text text) = true
 is_text _ = false
 
--- a copy of the change may find no memory: at a text, a title, a link, and attributes that need a box
+-- a copy of the change may find no memory: at a text, a title, a link, and attributes that need a
+-- box
 abbrev pub copy_takes_memory : ChangeValue → Bool
 copy_takes_memory (Attribute change) = is_link change
 copy_takes_memory (AllAttributes attrs) = needs_box attrs

@@ -1,4 +1,5 @@
--- The texts that write a colour, `#` and hex digits or X11's form `rgb:`, and the colour that each of them writes.
+-- The texts that write a colour, `#` and hex digits or X11's form `rgb:`, and the colour that each
+-- of them writes.
 use Rattle.std.specs.Prelude.{◌≡◌, ℕ, ◌+◌, ◌*◌, ◌/◌, ◌%◌, ◌⊎◌, List, [], ◌∷◌, ◌++◌, Option, Some, None, slice_get, slice_index, codes}
 use Rattle.termwiz_cell.specs.Rgb.{Rgb, rgb}
 
@@ -24,7 +25,8 @@ twice_text n = byte_text n ++ byte_text n
 -- `rgb:rrrr/gggg/bbbb`
 abbrev pub x11_text : Rgb → List ℕ
 x11_text c =
-    codes "rgb:" ++ twice_text c.red ++ codes "/" ++ twice_text c.green ++ codes "/" ++ twice_text c.blue
+    codes "rgb:" ++ twice_text c.red ++ codes "/" ++ twice_text c.green ++ codes "/" ++
+    twice_text c.blue
 
 -- a hex digit of either case, and its value
 abbrev pub IsDigit : ℕ → ℕ → Type 0
@@ -57,8 +59,11 @@ pub data IsX11Color (text : List ℕ) (color : Rgb) : Type 0 where
 
 -- the text writes this colour
 pub data IsColorText (text : List ℕ) (color : Rgb) : Type 0 where
-  hex : (digits : List ℕ) → text ≡ codes "#" ++ digits → IsHexColor digits color → IsColorText text color
-  x11 : (rest : List ℕ) → text ≡ codes "rgb:" ++ rest → IsX11Color rest color → IsColorText text color
+  hex :
+      (digits : List ℕ) → text ≡ codes "#" ++ digits → IsHexColor digits color →
+      IsColorText text color
+  x11 :
+      (rest : List ℕ) → text ≡ codes "rgb:" ++ rest → IsX11Color rest color → IsColorText text color
 
 -- the colour of three parts, where each of them was read
 abbrev pub color_of : Option ℕ → Option ℕ → Option ℕ → Option Rgb

@@ -10,6 +10,7 @@ is_single text = length (graphemes true text) == 1
 abbrev pub replacement : List ℕ
 replacement = 239 ∷ 191 ∷ 189 ∷ []
 
--- the text that is stored for a grapheme of a longer text: itself where it is one grapheme by itself
+-- the text that is stored for a grapheme of a longer text: itself where it is one grapheme by
+-- itself
 abbrev pub single : List ℕ → List ℕ
 single g = if is_single g then g else replacement

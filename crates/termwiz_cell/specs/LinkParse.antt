@@ -1,4 +1,5 @@
--- What the parts of a hyperlink sequence, OSC 8, say: one that is not looked at, a params text and a uri.
+-- What the parts of a hyperlink sequence, OSC 8, say: one that is not looked at, a params text and
+-- a uri.
 use Rattle.std.specs.Prelude.{◌≡◌, ℕ, zero, suc, List, [], ◌∷◌, length, Option, Some, None, Result, Ok, Err, IsUtf8}
 use Rattle.termwiz_cell.specs.Link.{Link}
 use Rattle.termwiz_cell.specs.LinkText.{SpellsLink, SpellsPairs, params_text}
@@ -39,7 +40,8 @@ pub record ArePrinted (osc : List (Bor (List ℕ))) (link : Link) : Type 0 where
 -- what holds of a params text and a uri at each outcome of their reading
 abbrev pub ReadsLink : List ℕ → List ℕ → Result (Option Link) LinkError → Type 0
 ReadsLink params uri (Ok None) = AreEmpty params uri
-ReadsLink params uri (Ok (Some link)) = ¬ (AreEmpty params uri) × AreTexts params uri × SpellsOnly params uri link
+ReadsLink params uri (Ok (Some link)) =
+    ¬ (AreEmpty params uri) × AreTexts params uri × SpellsOnly params uri link
 ReadsLink params uri (Err WrongParamCount) = ⊥
 ReadsLink params uri (Err NotUtf8) = ¬ (AreTexts params uri)
 ReadsLink params uri (Err BadParams) = AreTexts params uri × ¬ (HasPairs params)

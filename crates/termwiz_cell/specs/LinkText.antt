@@ -1,6 +1,6 @@
--- The texts of links, as the hyperlink sequence OSC 8 carries them.
--- A params text is empty, or pairs `key=value` between `:`, each cut at its first `=`.
--- Where a key comes again, its last value stands; a link keeps and prints its params in the order of their keys.
+-- The texts of links, as the hyperlink sequence OSC 8 carries them. A params text is empty, or
+-- pairs `key=value` between `:`, each cut at its first `=`. Where a key comes again, its last value
+-- stands; a link keeps and prints its params in the order of their keys.
 use Rattle.std.specs.Prelude.{◌≡◌, ◌≢◌, ℕ, ◌⊎◌, ◌==◌, false, List, [], ◌∷◌, ◌++◌, map, reverse, bytes_eq, codes}
 use Rattle.std.specs.Cmp.Lexicographic.{slice_cmp}
 use Rattle.std.specs.List.{All, AllZip, Contains, slice_split, join_with_byte}
@@ -68,7 +68,8 @@ pub record IsPlainParam (param : List ℕ × List ℕ) : Type 0 where
   pub key_no_colon : ¬ Contains param.0 colon
   pub value_no_colon : ¬ Contains param.1 colon
 
--- a link that is read back from what it prints: no rule made it, it has params or a uri, and its params are plain and in order
+-- a link that is read back from what it prints: no rule made it, it has params or a uri, and its
+-- params are plain and in order
 pub record IsReadable (link : Link) : Type 0 where
   pub explicit : link.implicit ≡ false
   pub some : (link.params ≢ []) ⊎ (link.uri ≢ [])

@@ -1,4 +1,5 @@
--- A sequence of changes: what contracts see of it, and where each change takes its cursor. Its rows have no bound: the first is 0, and those above it are below 0.
+-- A sequence of changes: what contracts see of it, and where each change takes its cursor. Its rows
+-- have no bound: the first is 0, and those above it are below 0.
 use Rattle.std.specs.Prelude.{◌≡◌, ℕ, ◌+◌, ◌<◌, ◌≤◌, ◌^◌, ℤ, pos, ◌+ℤ◌, ◌-ℤ◌, ◌≤ℤ◌, unsigned_abs, min, true, ◌==◌, List, [], ◌∷◌, ◌++◌, fold, bytes_eq, Result, Ok, Err, if◌then◌else◌}
 use Rattle.std.specs.Int.{int_rem_euclid, int_max, int_min, w64}
 use Rattle.std.specs.Int.RustNames.{FitsSigned, int_rem}
@@ -51,12 +52,16 @@ aim (EndRelative d) from n = pos n -ℤ pos d
 
 -- the column is the Euclidean remainder, and the row the one with the sign of what is asked for
 abbrev pub position_place : ℕ → ℕ → ℕ × ℤ → Position → Position → ℕ × ℤ
-position_place rows columns at x y = (unsigned_abs (int_rem_euclid (aim x (pos at.0) columns) (pos columns)), int_rem (aim y at.1 rows) (pos rows))
+position_place rows columns at x y = (
+  unsigned_abs (int_rem_euclid (aim x (pos at.0) columns) (pos columns)),
+  int_rem (aim y at.1 rows) (pos rows),
+)
 
 -- where a change takes a cursor
 abbrev pub change_place : (List ℕ → ℕ) → ℕ → ℕ → ℕ × ℤ → ChangeValue → ℕ × ℤ
 change_place measure rows columns at (change.Text text) = text_place measure columns at text
-change_place measure rows columns at (change.CursorPosition x y) = position_place rows columns at x y
+change_place measure rows columns at (change.CursorPosition x y) =
+    position_place rows columns at x y
 change_place measure rows columns at (change.ClearScreen color) = (0, pos 0)
 change_place measure rows columns at (change.ScrollRegionUp first size count) = (0, pos 0)
 change_place measure rows columns at (change.ScrollRegionDown first size count) = (0, pos 0)
@@ -83,9 +88,12 @@ module _ {W : Type 0} where
   RowFits measure s c = FitsSigned w64 (place_after measure s c).1
 
   -- a change is added, or refused: then nothing has changed
-  abbrev pub AddsOne : (List ℕ → ℕ) → SequenceValue W → ChangeValue → Result (Unit {0}) SequenceError → SequenceValue W → Type 0
+  abbrev pub AddsOne :
+      (List ℕ → ℕ) → SequenceValue W → ChangeValue → Result (Unit {0}) SequenceError →
+      SequenceValue W → Type 0
   AddsOne measure old c (Ok u) new = RowFits measure old c × (new ≡ added measure old c)
-  AddsOne measure old c (Err Range) new = (is_text c ≡ true) × (RowFits measure old c → ⊥) × (new ≡ old)
+  AddsOne measure old c (Err Range) new =
+      (is_text c ≡ true) × (RowFits measure old c → ⊥) × (new ≡ old)
   AddsOne measure old c (Err Memory) new = RowFits measure old c × (new ≡ old)
 
   -- each row on the way is an `isize`
@@ -94,7 +102,8 @@ module _ {W : Type 0} where
   RowsFit measure s (c ∷ cs) = RowFits measure s c × RowsFit measure (added measure s c) cs
 
   -- the changes before the one that is refused are added
-  pub record StopsAt (measure : List ℕ → ℕ) (old : SequenceValue W) (cs : List ChangeValue) (error : SequenceError) (new : SequenceValue W) : Type 0 where
+  pub record StopsAt (measure : List ℕ → ℕ) (old : SequenceValue W) (cs : List ChangeValue)
+      (error : SequenceError) (new : SequenceValue W) : Type 0 where
     pub before : List ChangeValue
     pub refused : ChangeValue
     pub behind : List ChangeValue
@@ -103,21 +112,28 @@ module _ {W : Type 0} where
     pub refuses : AddsOne measure (all_added measure old before) refused (Err error) new
 
   -- changes are added in order, up to the first that is refused
-  abbrev pub AddsAll : (List ℕ → ℕ) → SequenceValue W → List ChangeValue → Result (Unit {0}) SequenceError → SequenceValue W → Type 0
+  abbrev pub AddsAll :
+      (List ℕ → ℕ) → SequenceValue W → List ChangeValue → Result (Unit {0}) SequenceError →
+      SequenceValue W → Type 0
   AddsAll measure old cs (Ok u) new = RowsFit measure old cs × (new ≡ all_added measure old cs)
   AddsAll measure old cs (Err e) new = StopsAt measure old cs e new
 
   -- the move from the cursor to a column and a row
   abbrev pub move_by : SequenceValue W → ℕ × ℤ → ChangeValue
-  move_by s to = change.CursorPosition (Relative (pos to.0 -ℤ pos s.cursor.0)) (Relative (to.1 -ℤ s.cursor.1))
+  move_by s to =
+      change.CursorPosition (Relative (pos to.0 -ℤ pos s.cursor.0)) (Relative (to.1 -ℤ s.cursor.1))
 
   -- both distances are an `isize`
   abbrev pub DistancesFit : SequenceValue W → ℕ × ℤ → Type 0
-  DistancesFit s to = FitsSigned w64 (pos to.0 -ℤ pos s.cursor.0) × FitsSigned w64 (to.1 -ℤ s.cursor.1)
+  DistancesFit s to =
+      FitsSigned w64 (pos to.0 -ℤ pos s.cursor.0) × FitsSigned w64 (to.1 -ℤ s.cursor.1)
 
   -- the move is added, or refused: then nothing has changed
-  abbrev pub MovesTo : (List ℕ → ℕ) → SequenceValue W → ℕ × ℤ → Result (Unit {0}) SequenceError → SequenceValue W → Type 0
-  MovesTo measure old to (Ok u) new = DistancesFit old to × (new ≡ added measure old (move_by old to))
+  abbrev pub MovesTo :
+      (List ℕ → ℕ) → SequenceValue W → ℕ × ℤ → Result (Unit {0}) SequenceError → SequenceValue W →
+      Type 0
+  MovesTo measure old to (Ok u) new =
+      DistancesFit old to × (new ≡ added measure old (move_by old to))
   MovesTo measure old to (Err Range) new = (DistancesFit old to → ⊥) × (new ≡ old)
   MovesTo measure old to (Err Memory) new = DistancesFit old to × (new ≡ old)
 

@@ -1,7 +1,5 @@
--- The shapes of a cursor and the sizes of a line: their numbers, which compare them, and which shapes blink.
-use Rattle.std.specs.Prelude.{◌≡◌, ℕ, Bool, true, false, ◌==◌, if◌then◌else◌, refl}
-use Rattle.std.specs.Bool.{Decides}
-use Rattle.termwiz_cell.specs.Style.{numbers-Decide}
+-- The shapes of a cursor and the sizes of a line: their numbers, and which shapes blink.
+use Rattle.std.specs.Prelude.{ℕ, Bool, true, false, ◌==◌, if◌then◌else◌}
 use Rattle.termwiz_cell.specs.declared.change.CursorShape.{CursorShape}
 use Rattle.termwiz_cell.specs.declared.change.CursorShape.TheVariants.{Default, BlinkingBlock, SteadyBlock, BlinkingUnderline, SteadyUnderline, BlinkingBar, SteadyBar}
 use Rattle.termwiz_cell.specs.declared.change.LineAttribute.{LineAttribute}
@@ -33,22 +31,6 @@ shape_at n =
     else if n == 5 then BlinkingBar
     else SteadyBar
 
--- `==` of shapes
-abbrev pub shape_eq : CursorShape → CursorShape → Bool
-shape_eq a b = shape_number a == shape_number b
-
-shape-back : (v : CursorShape) → shape_at (shape_number v) ≡ v
-shape-back Default = refl
-shape-back BlinkingBlock = refl
-shape-back SteadyBlock = refl
-shape-back BlinkingUnderline = refl
-shape-back SteadyUnderline = refl
-shape-back BlinkingBar = refl
-shape-back SteadyBar = refl
-
-pub shape_eq-Decides : (a b : CursorShape) → Decides (shape_eq a b) (a ≡ b)
-shape_eq-Decides = numbers-Decide shape_number shape_at shape-back
-
 abbrev pub line_number : LineAttribute → ℕ
 line_number DoubleHeightTopHalfLine = 0
 line_number DoubleHeightBottomHalfLine = 1
@@ -61,16 +43,3 @@ line_at n =
     else if n == 1 then DoubleHeightBottomHalfLine
     else if n == 2 then DoubleWidthLine
     else SingleWidthLine
-
--- `==` of the sizes of lines
-abbrev pub line_attribute_eq : LineAttribute → LineAttribute → Bool
-line_attribute_eq a b = line_number a == line_number b
-
-line-back : (v : LineAttribute) → line_at (line_number v) ≡ v
-line-back DoubleHeightTopHalfLine = refl
-line-back DoubleHeightBottomHalfLine = refl
-line-back DoubleWidthLine = refl
-line-back SingleWidthLine = refl
-
-pub line_attribute_eq-Decides : (a b : LineAttribute) → Decides (line_attribute_eq a b) (a ≡ b)
-line_attribute_eq-Decides = numbers-Decide line_number line_at line-back

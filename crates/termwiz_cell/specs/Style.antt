@@ -1,8 +1,5 @@
 -- The small attributes: their numbers, which compare them, and whether they are on.
 use Rattle.std.specs.Prelude.{◌≡◌, ℕ, Bool, true, false, ◌==◌, if◌then◌else◌, refl}
-use Rattle.std.specs.Bool.{Decides}
-use Rattle.std.proofs.Common.{ap, sym, ◌∙◌}
-use Rattle.std.proofs.lemmas.Bool.Decides.{Decides-like, Decides-eqb}
 use Rattle.termwiz_cell.specs.declared.cell.style.Intensity.{Intensity}
 use Rattle.termwiz_cell.specs.declared.cell.style.Intensity.TheVariants.{Normal, Bold, Half}
 use Rattle.termwiz_cell.specs.declared.cell.style.Underline.{Underline}
@@ -15,7 +12,8 @@ use Rattle.termwiz_cell.specs.declared.cell.style.VerticalAlign.{VerticalAlign}
 use Rattle.termwiz_cell.specs.declared.cell.style.VerticalAlign.TheVariants.{BaseLine, SuperScript, SubScript}
 use Rattle.termwiz_cell.specs.declared.color.ColorAttribute.{ColorAttribute}
 
--- the attributes that one word holds: all but the underline colour, the link and true colours with a palette's fallback
+-- the attributes that one word holds: all but the underline colour, the link and true colours with
+-- a palette's fallback
 pub record Style : Type 0 where
   pub intensity : Intensity
   pub underline : Underline
@@ -128,7 +126,3 @@ vertical-back SubScript = refl
 pub flag-back : (v : Bool) → flag_at (flag_number v) ≡ v
 flag-back true = refl
 flag-back false = refl
-
--- values that differ in their numbers are compared by them
-pub numbers-Decide : {T : Type 0} (number : T → ℕ) (at : ℕ → T) (back : (v : T) → at (number v) ≡ v) (a b : T) → Decides (number a == number b) (a ≡ b)
-numbers-Decide number at back a b = Decides-like (number a == number b) (λ e. sym (back a) ∙ ap at e ∙ back b) (ap number) (Decides-eqb (number a) (number b))

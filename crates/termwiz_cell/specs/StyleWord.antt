@@ -15,8 +15,9 @@ rgb_number c = c.red * 65536 + c.green * 256 + c.blue
 abbrev pub rgb_at : ℕ → Rgb
 rgb_at n = rgb (n / 65536) (n / 256 % 256) (n % 256)
 
--- the digit of a colour, below 16777473: 0 for the default, the index plus 1 for one of the palette, and from 257 on the
--- true ones. True ones with a palette's fallback have none of their own
+-- the digit of a colour, below 16777473: 0 for the default, the index plus 1 for one of the
+-- palette, and from 257 on the true ones. True ones with a palette's fallback have none of their
+-- own
 abbrev pub color_number : ColorAttribute → ℕ
 color_number color.Default = 0
 color_number (color.PaletteIndex index) = index + 1
@@ -54,14 +55,24 @@ pub record IsStyleWord (w : ℕ) : Type 0 where
   pub background : w / 927727147008 < 16777473
 
 -- the word with these digits, the lowest first
-abbrev pub word_of_digits : (intensity underline italic reverse strikethrough invisible wrapped overline blink semantic vertical foreground background : ℕ) → ℕ
-word_of_digits intensity underline italic reverse strikethrough invisible wrapped overline blink semantic vertical foreground background = intensity + underline * 2 ^ 2 + italic * 2 ^ 5 + reverse * 2 ^ 6 + strikethrough * 2 ^ 7 + invisible * 2 ^ 8 + wrapped * 2 ^ 9 + overline * 2 ^ 10 + blink * 2 ^ 11 + semantic * 6144 + vertical * 18432 + foreground * 55296 + background * 927727147008
+abbrev pub word_of_digits :
+    (intensity underline italic reverse strikethrough invisible wrapped overline blink semantic
+    vertical foreground background : ℕ)
+    →
+    ℕ
+word_of_digits intensity underline italic reverse strikethrough invisible wrapped overline blink
+    semantic vertical foreground background =
+    intensity + underline * 2 ^ 2 + italic * 2 ^ 5 + reverse * 2 ^ 6 + strikethrough * 2 ^ 7 +
+    invisible * 2 ^ 8 + wrapped * 2 ^ 9 + overline * 2 ^ 10 + blink * 2 ^ 11 + semantic * 6144 + vertical * 18432 +
+    foreground * 55296 + background * 927727147008
 
 -- the word that spells a style
 abbrev pub word_of : Style → ℕ
 word_of s = word_of_digits (intensity_number s.intensity) (underline_number s.underline)
-    (flag_number s.italic) (flag_number s.reverse) (flag_number s.strikethrough) (flag_number s.invisible)
-    (flag_number s.wrapped) (flag_number s.overline) (blink_number s.blink) (semantic_number s.semantic_type)
+    (flag_number s.italic) (flag_number s.reverse) (flag_number s.strikethrough)
+    (flag_number s.invisible)
+    (flag_number s.wrapped) (flag_number s.overline) (blink_number s.blink)
+    (semantic_number s.semantic_type)
     (vertical_number s.vertical_align) (color_number s.foreground) (color_number s.background)
 
 -- a true colour has bytes
@@ -87,8 +98,18 @@ HasColors s = FitsWord s.foreground × FitsWord s.background
 
 -- the attributes that are no colour and no link, as numbers
 abbrev pub bits_at : Style → List ℕ
-bits_at a = intensity_number a.intensity ∷ underline_number a.underline ∷ blink_number a.blink ∷ flag_number a.italic ∷ flag_number a.reverse ∷ flag_number a.strikethrough ∷ flag_number a.invisible ∷ flag_number a.wrapped ∷ flag_number a.overline ∷ semantic_number a.semantic_type ∷ vertical_number a.vertical_align ∷ []
+bits_at a =
+    intensity_number a.intensity ∷ underline_number a.underline ∷ blink_number a.blink ∷
+    flag_number a.italic ∷ flag_number a.reverse ∷ flag_number a.strikethrough ∷
+    flag_number a.invisible ∷ flag_number a.wrapped ∷ flag_number a.overline ∷
+    semantic_number a.semantic_type ∷ vertical_number a.vertical_align ∷ []
 
 -- the style with the semantic type Output, and no underline, overline and strike through
 abbrev pub style_sgr_only : Style → Style
-style_sgr_only a = record a { semantic_type = Output; underline = underline.None; overline = false; strikethrough = false }
+style_sgr_only a =
+    record a {
+      semantic_type = Output;
+      underline = underline.None;
+      overline = false;
+      strikethrough = false;
+    }

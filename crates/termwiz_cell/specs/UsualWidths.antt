@@ -1,4 +1,5 @@
--- Two facts that spare a measurement: printable ASCII is narrow, and the letters that need no table are wide.
+-- Two facts that spare a measurement: printable ASCII is narrow, and the letters that need no table
+-- are wide.
 use Rattle.std.specs.Prelude.{◌≡◌, ℕ, ◌≤◌, true, List, [], ◌∷◌, encode_utf8}
 use Rattle.termwiz_text.specs.Plain.{is_plain}
 use Rattle.termwiz_text.specs.Letter.{is_letter}

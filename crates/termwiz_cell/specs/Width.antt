@@ -1,5 +1,5 @@
--- How wide a text is, and how it is shown: by the extended grapheme clusters of UAX 29, the widths of UAX 11, and the
--- variation selectors U+FE0E and U+FE0F of UTS 51.
+-- How wide a text is, and how it is shown: by the extended grapheme clusters of UAX 29, the widths
+-- of UAX 11, and the variation selectors U+FE0E and U+FE0F of UTS 51.
 use Rattle.std.specs.Prelude.{ℕ, ◌+◌, List, Option, Some, None, true, false, min, ◌==◌, nat_lt, sum_by, [], ◌∷◌, if◌then◌else◌}
 use Rattle.std.specs.Option.{option_or}
 use Rattle.std.specs.Str.{chars}
@@ -21,7 +21,8 @@ unversioned width text = width text None
 abbrev pub columns_of : (List ℕ → ℕ) → List ℕ → ℕ
 columns_of width text = sum_by width (graphemes true text)
 
--- the number of a version's kind, of four: 2 above version 9, and 1 more where characters of ambiguous width are wide
+-- the number of a version's kind, of four: 2 above version 9, and 1 more where characters of
+-- ambiguous width are wide
 abbrev pub version_index : UnicodeVersion → ℕ
 version_index v = (if nat_lt 9 v.version then 2 else 0) + (if v.ambiguous_are_wide then 1 else 0)
 

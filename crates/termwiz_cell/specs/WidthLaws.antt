@@ -11,7 +11,9 @@ chars-space = refl
 
 pub unicode_columns-space : unicode_columns (32 ∷ []) ≡ 1
 unfolding unicode_columns
-unicode_columns-space = ap (λ cs. min (str_width false cs) 2) chars-space ∙ ap (λ n. min n 2) (str_width-printable false (32 ∷ []) refl)
+unicode_columns-space =
+    ap (λ cs. min (str_width false cs) 2) chars-space ∙
+    ap (λ n. min n 2) (str_width-printable false (32 ∷ []) refl)
 
 pub unicode_columns-le : (text : List ℕ) → unicode_columns text ≤ 2
 unfolding unicode_columns

@@ -1,8 +1,9 @@
 //! The changes of a surface, the positions in them, and their numbers.
 ghost use Rattle.std.specs.Prelude.{◌≡◌, ◌<◌, IfOk, IsTrue, false, string_bytes};
 ghost use Rattle.termwiz_cell.specs.{Attribute, LineAttribute, Text, attribute_change_value};
-ghost use Rattle.termwiz_cell.specs.{IsNumbered, change_value, copy_takes_memory, is_blinking_shape};
-ghost use Rattle.termwiz_cell.specs.{is_text, line_at, line_number, shape_at, shape_number};
+ghost use Rattle.termwiz_cell.specs.{IsNumbered, change_value, copy_takes_memory};
+ghost use Rattle.termwiz_cell.specs.{is_blinking_shape, is_text, line_at, line_number};
+ghost use Rattle.termwiz_cell.specs.{shape_at, shape_number};
 
 mod sequence;
 

@@ -8,12 +8,16 @@ use Rattle.termwiz_cell.specs.CellValue.{space}
 use Rattle.termwiz_cell.specs.ChangeValue as change
 use Rattle.termwiz_cell.specs.ChangeValue.{ChangeValue}
 
--- a text joins the text before it where no grapheme runs over the seam: cut together, they are the graphemes from before, and then the text as one grapheme
+-- a text joins the text before it where no grapheme runs over the seam: cut together, they are the
+-- graphemes from before, and then the text as one grapheme
 abbrev pub joins : List ℕ → List ℕ → Bool
-joins before text = pointwise bytes_eq (graphemes true (before ++ text)) (graphemes true before ++ text ∷ [])
+joins before text =
+    pointwise bytes_eq (graphemes true (before ++ text)) (graphemes true before ++ text ∷ [])
 
 abbrev pub join : ChangeValue → List ℕ → List ChangeValue
-join (change.Text before) text = if joins before text then change.Text (before ++ text) ∷ [] else change.Text before ∷ change.Text text ∷ []
+join (change.Text before) text =
+    if joins before text then change.Text (before ++ text) ∷ []
+    else change.Text before ∷ change.Text text ∷ []
 join entry text = entry ∷ change.Text text ∷ []
 
 -- the entries with a text behind them
@@ -33,7 +37,11 @@ pen_entry old new = if attributes_eq old new then [] else change.AllAttributes n
 
 -- a visible cell is printed
 abbrev pub cell_out : Penned → VisibleCell → Penned
-cell_out d p = record { entries = add_text (d.entries ++ pen_entry d.pen p.cell.attrs) p.cell.text; pen = p.cell.attrs }
+cell_out d p =
+    record {
+      entries = add_text (d.entries ++ pen_entry d.pen p.cell.attrs) p.cell.text;
+      pen = p.cell.attrs;
+    }
 
 abbrev pub cells_out : Attributes → List VisibleCell → Penned
 cells_out pen cells = fold cell_out (record { entries = []; pen = pen }) cells
@@ -61,9 +69,11 @@ is_empty [] = true
 is_empty (p ∷ ps) = false
 
 abbrev pub clear_entry : Attributes → List ChangeValue
-clear_entry a = if attributes_eq a default_attributes then [] else change.ClearToEndOfLine a.background ∷ []
+clear_entry a =
+    if attributes_eq a default_attributes then [] else change.ClearToEndOfLine a.background ∷ []
 
--- what follows the entries d of the kept cells, where spaces with attributes a were left out behind them
+-- what follows the entries d of the kept cells, where spaces with attributes a were left out behind
+-- them
 abbrev pub with_tail : Penned → List VisibleCell → Attributes → Penned
 with_tail d kept a = record {
   entries = (d.entries ++ (if is_empty kept then [] else pen_entry d.pen a)) ++ clear_entry a;
@@ -76,8 +86,9 @@ ends_plain [] = false
 ends_plain (p ∷ []) = is_space_of p.cell.attrs p && has_only_background p.cell.attrs
 ends_plain (p ∷ (q ∷ ps)) = ends_plain (q ∷ ps)
 
--- the changes that print these visible cells from a pen on: a pen for each run of equal attributes, then the run's texts;
--- spaces at the end whose attributes are default but for the background are left out, and the background, where it isn't the default one, is cleared to the end of the line
+-- the changes that print these visible cells from a pen on: a pen for each run of equal attributes,
+-- then the run's texts; spaces at the end whose attributes are default but for the background are
+-- left out, and the background, where it isn't the default one, is cleared to the end of the line
 abbrev pub row_entries : Attributes → List VisibleCell → Penned
 row_entries pen cells =
     let a = pen_behind pen cells in

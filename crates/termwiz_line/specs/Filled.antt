@@ -10,33 +10,41 @@ abbrev pub taken : ℕ → ℕ → ℕ → ℕ
 taken count old seqno = if nat_lt 0 count then max old seqno else old
 
 -- the cell is set in this many columns, in order; the line takes the number with the first
-pub record Fills (old : LineValue) (count from : ℕ) (c : CellValue) (seqno : ℕ) (new : LineValue) : Type 0 where
+pub record Fills (old : LineValue) (count from : ℕ) (c : CellValue) (seqno : ℕ) (new : LineValue) :
+    Type 0 where
   pub cells : new.cells ≡ fill count from c old.cells
   pub number : new.seqno ≡ taken count old.seqno seqno
   pub flags : new.flags ≡ old.flags
   pub vector : old.is_vector ≡ true → new.is_vector ≡ true
 
--- the cell is set in each column from a to b - 1, which leaves what the form says, and then the line is pruned
-pub record FillsAndPrunes (old : LineValue) (a b : ℕ) (c : CellValue) (seqno : ℕ) (new : LineValue) : Type 0 where
+-- the cell is set in each column from a to b - 1, which leaves what the form says, and then the
+-- line is pruned
+pub record FillsAndPrunes (old : LineValue) (a b : ℕ) (c : CellValue) (seqno : ℕ)
+    (new : LineValue) : Type 0 where
   pub full : LineValue
   pub fills : Fills old (b - a) a c seqno full
   pub form : a < b → IsFilledAs a b c old.cells full.cells
   pub prunes : Prunes full seqno new
 
 -- an empty line stays where the cell is a default blank, and is filled otherwise
-pub record IsFilled (old : LineValue) (a b : ℕ) (c : CellValue) (seqno : ℕ) (new : LineValue) : Type 0 where
+pub record IsFilled (old : LineValue) (a b : ℕ) (c : CellValue) (seqno : ℕ) (new : LineValue) :
+    Type 0 where
   pub nothing : old.cells ≡ [] → c ≡ blank → new ≡ old
   pub filled : ((old.cells ≡ []) × (c ≡ blank) → ⊥) → FillsAndPrunes old a b c seqno new
 
 -- the cell is set in some first ones of the columns from a to b - 1
-pub record IsPartlyFilled (old : LineValue) (a b : ℕ) (c : CellValue) (seqno : ℕ) (new : LineValue) : Type 0 where
+pub record IsPartlyFilled (old : LineValue) (a b : ℕ) (c : CellValue) (seqno : ℕ)
+    (new : LineValue) : Type 0 where
   pub count : ℕ
   pub within : count ≤ b - a
   pub fills : Fills old count a c seqno new
 
--- cells that aren't default blanks, set in the columns from a to b - 1, right behind the last cell of a text, are appended to the text; of wide ones a single one
+-- cells that aren't default blanks, set in the columns from a to b - 1, right behind the last cell
+-- of a text, are appended to the text; of wide ones a single one
 abbrev pub AppendsCells : LineValue → ℕ → ℕ → CellValue → LineValue → Type 0
-AppendsCells old a b c new = old.is_vector ≡ false → a ≡ length old.cells → a < b → (is_wide c ≡ true → b ≡ suc a) → c ≢ blank → new.is_vector ≡ false
+AppendsCells old a b c new =
+    old.is_vector ≡ false → a ≡ length old.cells → a < b → (is_wide c ≡ true → b ≡ suc a) →
+    c ≢ blank → new.is_vector ≡ false
 
 -- what is set in the columns from a to b - 1 makes a vector, where it is
 pub record MakesVector (old : LineValue) (a b : ℕ) (c : CellValue) (new : LineValue) : Type 0 where

@@ -17,5 +17,7 @@ ends_printable _ = false
 
 -- the last of the entries, or nothing where there is none or it is a text
 abbrev pub IsLastOf : List ChangeValue → Option Change → Type 0
-IsLastOf es None = (test : ChangeValue → Bool) → ((text : List ℕ) → test (change.Text text) ≡ false) → last_is test es ≡ false
+IsLastOf es None =
+    (test : ChangeValue → Bool) → ((text : List ℕ) → test (change.Text text) ≡ false) →
+    last_is test es ≡ false
 IsLastOf es (Some e) = (test : ChangeValue → Bool) → last_is test es ≡ test (change_value e)

@@ -10,8 +10,11 @@ use Rattle.termwiz_line.specs.LineValue.{LineValue}
 
 -- the line ends as a vector with what was last written, and with its number and its flags
 abbrev pub LendsLine : MutBor LineValue → Result (MutBor (List CellValue)) AllocError → Fml
-LendsLine s r = LendsIfOk line.the_row vec_storage.the_row s r (λ w. record s.now { cells = w; is_vector = true }) s.now
+LendsLine s r =
+    LendsIfOk line.the_row vec_storage.the_row s r
+    (λ w. record s.now { cells = w; is_vector = true }) s.now
 
 -- the line ends as it was, once what was lent from it is given back
 abbrev pub KeepsLine : MutBor LineValue → Fml
-KeepsLine s = follows_so line.the_row line.the_row s.ghost_name maybe.none (λ _ _. ⊤) (λ n. n ≡ s.now)
+KeepsLine s =
+    follows_so line.the_row line.the_row s.ghost_name maybe.none (λ _ _. ⊤) (λ n. n ≡ s.now)

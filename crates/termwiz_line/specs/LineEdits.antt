@@ -19,13 +19,16 @@ pub record HasCells (old : LineValue) (cells : List CellValue) (new : LineValue)
   pub vector : old.is_vector ≡ true → new.is_vector ≡ true
 
 -- these cells come out of the line with its flags and this number; out of a vector comes one
-pub record IsTakenFrom (old : LineValue) (cells : List CellValue) (seqno : ℕ) (part : LineValue) : Type 0 where
+pub record IsTakenFrom (old : LineValue) (cells : List CellValue) (seqno : ℕ) (part : LineValue) :
+    Type 0 where
   pub cells_are : part.cells ≡ cells
   pub number : part.seqno ≡ seqno
   pub flags : part.flags ≡ old.flags
   pub vector : old.is_vector ≡ true → part.is_vector ≡ true
 
--- where a cell stands at column x the line has these cells now and takes the number; past its end nothing changes
-pub record IsEditedAt (x : ℕ) (old : LineValue) (cells : List CellValue) (seqno : ℕ) (new : LineValue) : Type 0 where
+-- where a cell stands at column x the line has these cells now and takes the number; past its end
+-- nothing changes
+pub record IsEditedAt (x : ℕ) (old : LineValue) (cells : List CellValue) (seqno : ℕ)
+    (new : LineValue) : Type 0 where
   pub inside : x < length old.cells → IsEdited old cells seqno new
   pub past_end : length old.cells ≤ x → new ≡ old

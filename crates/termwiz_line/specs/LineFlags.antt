@@ -11,7 +11,15 @@ pub record LineFlags : Type 0 where
   pub auto_detect : Bool
 
 abbrev pub no_flags : LineFlags
-no_flags = record { bidi_enabled = false; double_width = false; double_height_top = false; double_height_bottom = false; right_to_left = false; auto_detect = false }
+no_flags =
+    record {
+      bidi_enabled = false;
+      double_width = false;
+      double_height_top = false;
+      double_height_bottom = false;
+      right_to_left = false;
+      auto_detect = false;
+    }
 
 -- the flags whose bits a number has
 abbrev pub flags_of : ℕ → LineFlags
@@ -33,9 +41,11 @@ flag_bits f =
     + ((if f.double_height_bottom then 64 else 0)
     + ((if f.right_to_left then 128 else 0) + (if f.auto_detect then 256 else 0)))))
 
--- how large the cells are shown: twice as wide, and then also two rows high, of which this is the upper or the lower one
+-- how large the cells are shown: twice as wide, and then also two rows high, of which this is the
+-- upper or the lower one
 abbrev pub with_sizes : Bool → Bool → Bool → LineFlags → LineFlags
-with_sizes double_width top bottom f = record f { double_width = double_width; double_height_top = top; double_height_bottom = bottom }
+with_sizes double_width top bottom f =
+    record f { double_width = double_width; double_height_top = top; double_height_bottom = bottom }
 
 abbrev pub with_direction : Bool → Bool → LineFlags → LineFlags
 with_direction right_to_left auto f = record f { right_to_left = right_to_left; auto_detect = auto }

@@ -1,4 +1,5 @@
--- A line, as contracts see it: its stored cells, its number, its flags, and whether the cells are stored as a vector.
+-- A line, as contracts see it: its stored cells, its number, its flags, and whether the cells are
+-- stored as a vector.
 use Rattle.std.specs.Prelude.{◌≡◌, ◌≢◌, ℕ, ◌<◌, max, Bool, true, false, List, length}
 use Rattle.termwiz_cell.specs.CellValue.{CellValue}
 use Rattle.termwiz_storage.specs.Stored.{IsPruned}
@@ -18,7 +19,8 @@ pub record IsUnchanged (old new : LineValue) : Type 0 where
   pub vector : old.is_vector ≡ true → new.is_vector ≡ true
 
 -- the line has these cells now, and takes the number; its flags stay, and a vector stays one
-pub record IsEdited (old : LineValue) (cells : List CellValue) (seqno : ℕ) (new : LineValue) : Type 0 where
+pub record IsEdited (old : LineValue) (cells : List CellValue) (seqno : ℕ) (new : LineValue) :
+    Type 0 where
   pub cells_are : new.cells ≡ cells
   pub number : new.seqno ≡ max old.seqno seqno
   pub flags : new.flags ≡ old.flags
@@ -32,7 +34,8 @@ AppendsAt x old new = old.is_vector ≡ false → x ≡ length old.cells → new
 abbrev pub EditsElsewhere : ℕ → LineValue → LineValue → Type 0
 EditsElsewhere x old new = x ≢ length old.cells → new.is_vector ≡ true
 
--- trailing default blanks are cut, unless that leaves nothing; where that changes the line it takes the number and is a vector, and otherwise it keeps its form; its flags stay
+-- trailing default blanks are cut, unless that leaves nothing; where that changes the line it takes
+-- the number and is a vector, and otherwise it keeps its form; its flags stay
 pub record Prunes (old : LineValue) (seqno : ℕ) (new : LineValue) : Type 0 where
   pub cells : IsPruned old.cells new.cells
   pub shorter : length new.cells < length old.cells → new.seqno ≡ max old.seqno seqno

@@ -16,10 +16,13 @@ pub record IsLongest {A : Type 0} (IsPiece : List A → Type 0) (p rest : List A
 -- each piece is the longest beginning of what it and the pieces after it join to
 pub data AreLongest {A : Type 0} (IsPiece : List A → Type 0) : List (List A) → Type 0 where
   none : AreLongest IsPiece []
-  one_more : {p : List A} {ps : List (List A)} → IsLongest IsPiece p (joined ps) → AreLongest IsPiece ps → AreLongest IsPiece (p ∷ ps)
+  one_more :
+      {p : List A} {ps : List (List A)} → IsLongest IsPiece p (joined ps) → AreLongest IsPiece ps →
+      AreLongest IsPiece (p ∷ ps)
 
 -- the list is cut, from the left, into the longest pieces
-pub record IsCut {A : Type 0} (IsPiece : List A → Type 0) (xs : List A) (ps : List (List A)) : Type 0 where
+pub record IsCut {A : Type 0} (IsPiece : List A → Type 0) (xs : List A) (ps : List (List A)) :
+    Type 0 where
   pub whole : joined ps ≡ xs
   pub longest : AreLongest IsPiece ps
 

@@ -25,9 +25,12 @@ cells_of_text measure a text = map (λ g. measured measure g a) (graphemes true 
 abbrev pub stored_text : (List ℕ → ℕ) → Attributes → List ℕ → List CellValue
 stored_text measure a text = with_halves (at_columns 0 (cells_of_text measure a text))
 
--- the cells of a text that goes on in the next line, the last one marked; an empty text has no cell to mark
+-- the cells of a text that goes on in the next line, the last one marked; an empty text has no cell
+-- to mark
 abbrev pub wrapped_text : (List ℕ → ℕ) → Attributes → List ℕ → List CellValue
-wrapped_text measure a text = if length (stored_text measure a text) == 0 then [] else set_last_wrapped true (stored_text measure a text)
+wrapped_text measure a text =
+    if length (stored_text measure a text) == 0 then []
+    else set_last_wrapped true (stored_text measure a text)
 
 -- the text of a visible cell that begins in the columns from a to b - 1
 abbrev pub text_within : ℕ → ℕ → VisibleCell → List ℕ
@@ -43,14 +46,16 @@ overlaid [] cs = cs
 overlaid (p ∷ ps) cs = overlaid ps (set_cell p.column p.cell cs)
 
 -- the cells are set at their columns, in order; the line takes the number with the first
-pub record Overlays (old : LineValue) (cells : List VisibleCell) (seqno : ℕ) (new : LineValue) : Type 0 where
+pub record Overlays (old : LineValue) (cells : List VisibleCell) (seqno : ℕ) (new : LineValue) :
+    Type 0 where
   pub cells_are : new.cells ≡ overlaid cells old.cells
   pub number : new.seqno ≡ taken (length cells) old.seqno seqno
   pub flags : new.flags ≡ old.flags
   pub vector : old.is_vector ≡ true → new.is_vector ≡ true
 
 -- some first ones of the cells are set
-pub record IsPartlyOverlaid (old : LineValue) (cells : List VisibleCell) (seqno : ℕ) (new : LineValue) : Type 0 where
+pub record IsPartlyOverlaid (old : LineValue) (cells : List VisibleCell) (seqno : ℕ)
+    (new : LineValue) : Type 0 where
   pub set : List VisibleCell
   pub left : List VisibleCell
   pub whole : set ++ left ≡ cells

@@ -43,12 +43,14 @@ abbrev pub line_of : ℕ → List VisibleCell → LineValue
 line_of seqno p = new_line seqno (with_halves p)
 
 -- the lines of the longest pieces that fit the width
-pub record AreLinesOf (width seqno : ℕ) (cells : List VisibleCell) (lines : List LineValue) : Type 0 where
+pub record AreLinesOf (width seqno : ℕ) (cells : List VisibleCell) (lines : List LineValue) :
+    Type 0 where
   pub pieces : List (List VisibleCell)
   pub cut : IsCut (FitsOrAlone width) cells pieces
   pub lines_are : lines ≡ map (line_of seqno) (marked_pieces pieces)
 
--- a line is wrapped: the visible cells up to the last that isn't a space, or the line comes back alone where there is none
+-- a line is wrapped: the visible cells up to the last that isn't a space, or the line comes back
+-- alone where there is none
 pub record IsWrapped (width seqno : ℕ) (line : LineValue) (lines : List LineValue) : Type 0 where
   pub kept : List VisibleCell
   pub trimmed : IsTrimmed IsSpace (visible line.cells) kept
@@ -59,7 +61,8 @@ pub record IsWrapped (width seqno : ℕ) (line : LineValue) (lines : List LineVa
 abbrev pub unmarked : List VisibleCell → List CellValue
 unmarked cells = map (λ p. with_wrapped false p.cell) cells
 
--- where a line is cut, no line is longer than the width, and the lines show one after another what it shows up to the last cell that isn't a space, apart from the marks
+-- where a line is cut, no line is longer than the width, and the lines show one after another what
+-- it shows up to the last cell that isn't a space, apart from the marks
 pub record FitsWidth (width : ℕ) (line : LineValue) (lines : List LineValue) : Type 0 where
   pub kept : List VisibleCell
   pub trimmed : IsTrimmed IsSpace (visible line.cells) kept

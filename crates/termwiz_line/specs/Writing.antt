@@ -1,4 +1,5 @@
--- Rows of entries that are written cell by cell: spaces at the end of what was written are held back until it is known whether they end the row.
+-- Rows of entries that are written cell by cell: spaces at the end of what was written are held
+-- back until it is known whether they end the row.
 use Rattle.std.specs.Prelude.{◌≡◌, ℕ, Bool, true, false, ◌&&◌, nat_lt, List, [], ◌∷◌, ◌++◌, fold, replicate}
 use Rattle.termwiz_storage.specs.VisibleCell.{VisibleCell, at_column}
 use Rattle.termwiz_cell.specs.Attributes.{Attributes, attributes_eq}
@@ -32,11 +33,14 @@ ends_in_space a (p ∷ (q ∷ ps)) = ends_in_space a (q ∷ ps)
 abbrev pub spaces_of : ℕ → Attributes → List VisibleCell
 spaces_of n a = replicate n (at_column 0 (blank_of a))
 
--- these cells of a row were written since `from`: those without their last spaces are printed, and with the held spaces it is all of them
+-- these cells of a row were written since `from`: those without their last spaces are printed, and
+-- with the held spaces it is all of them
 pub record IsWritten (from : Penned) (cells : List VisibleCell) (w : Writing) : Type 0 where
   pub printed : w.printed ≡ and_cells from (trimmed w.space_attrs cells)
   pub whole : and_cells w.printed (spaces_of w.spaces w.space_attrs) ≡ and_cells from cells
-  pub held : (a : Attributes) → ends_in_space a cells ≡ (nat_lt 0 w.spaces && attributes_eq w.space_attrs a)
+  pub held :
+      (a : Attributes) →
+      ends_in_space a cells ≡ (nat_lt 0 w.spaces && attributes_eq w.space_attrs a)
 
 -- of all these visible cells of a row, those that aren't left were written since `from`
 pub record IsUnderWay (from : Penned) (all left : List VisibleCell) (w : Writing) : Type 0 where

@@ -23,7 +23,11 @@ semantic_of (c ∷ cs) = semantic c
 
 -- from the index of a piece's first cell to that of its last
 abbrev pub zone_of : List VisibleCell → ZoneRange
-zone_of p = record { semantic_type = semantic_of p; range = record { start = first_index p; end = last_index p } }
+zone_of p =
+    record {
+      semantic_type = semantic_of p;
+      range = record { start = first_index p; end = last_index p };
+    }
 
 -- the zones of the longest pieces of one semantic type
 pub record AreZonesOf (cells : List VisibleCell) (zones : List ZoneRange) : Type 0 where
@@ -34,7 +38,8 @@ pub record AreZonesOf (cells : List VisibleCell) (zones : List ZoneRange) : Type
 abbrev pub IsBlank : VisibleCell → Type 0
 IsBlank c = c.cell ≡ blank
 
--- the zones of visible cells: of those up to the last that isn't a default blank, or of all where all are
+-- the zones of visible cells: of those up to the last that isn't a default blank, or of all where
+-- all are
 pub record AreZones (cells : List VisibleCell) (zones : List ZoneRange) : Type 0 where
   pub kept : List VisibleCell
   pub trimmed : IsTrimmed IsBlank cells kept

@@ -1,4 +1,5 @@
--- What a borrowed visible cell stands for: its column and the cell, and the width and text that it has.
+-- What a borrowed visible cell stands for: its column and the cell, and the width and text that it
+-- has.
 use Rattle.std.specs.Prelude.{ℕ, List, nat_lt}
 use Rattle.termwiz_cell.specs.Attributes.{Attributes}
 use Rattle.termwiz_cell.specs.CellValue.{CellValue, columns}
@@ -8,7 +9,8 @@ use Rattle.termwiz_storage.specs.VisibleCell.{VisibleCell, at_column}
 
 abbrev pub indexed_cell : CellRef → VisibleCell
 indexed_cell (StoredRef i c) = at_column i c.now
-indexed_cell (ClusterRef i t w a) = at_column i (record { text = t.now; wide = nat_lt 1 w; attrs = a.now })
+indexed_cell (ClusterRef i t w a) =
+    at_column i (record { text = t.now; wide = nat_lt 1 w; attrs = a.now })
 
 abbrev pub ref_index : CellRef → ℕ
 ref_index r = (indexed_cell r).column

@@ -11,7 +11,8 @@ abbrev pub cells_left : VisibleCellIter → List VisibleCell
 cells_left (V s) = s
 cells_left (Cluster s) = s
 
--- what a borrowed cell has is true of a cell: its width is the cell's, and its text is one that cells have
+-- what a borrowed cell has is true of a cell: its width is the cell's, and its text is one that
+-- cells have
 pub record IsOfCell (r : CellRef) : Type 0 where
   pub width : ref_width r ≡ columns (ref_cell r)
   pub clean : clean (ref_cell r).text ≡ (ref_cell r).text

@@ -9,9 +9,11 @@ use Rattle.termwiz_storage.specs.Edits.{with_half}
 use Rattle.termwiz_storage.specs.Stored.{hides, stored, visible}
 use Rattle.termwiz_storage.specs.VisibleCell.{VisibleCell, at_column}
 
--- each hidden cell is a blank with the attributes of the cell that hides it, and no visible wide cell lacks its half
+-- each hidden cell is a blank with the attributes of the cell that hides it, and no visible wide
+-- cell lacks its half
 pub record IsWhole (cs : List CellValue) : Type 0 where
-  pub halves : (k : ℕ) → suc k < length cs → hides cs (suc k) ≡ true → stored cs (suc k) ≡ half (stored cs k)
+  pub halves :
+      (k : ℕ) → suc k < length cs → hides cs (suc k) ≡ true → stored cs (suc k) ≡ half (stored cs k)
   pub complete : hides cs (length cs) ≡ false
 
 -- each cell takes one column, and one byte
@@ -35,13 +37,16 @@ first_cell t s a = record { text = take (cell_len s t) t; wide = s.wide; attrs =
 abbrev pub cells_from : List ℕ → List Shape → List Attributes → List CellValue
 cells_from t [] ps = []
 cells_from t (s ∷ ss) [] = []
-cells_from t (s ∷ ss) (a ∷ ps) = with_half (first_cell t s a) ++ cells_from (drop (cell_len s t) t) ss ps
+cells_from t (s ∷ ss) (a ∷ ps) =
+    with_half (first_cell t s a) ++ cells_from (drop (cell_len s t) t) ss ps
 
 -- the cells without the halves, each at its column, the first at column i
 abbrev pub shown_cells : ℕ → List ℕ → List Shape → List Attributes → List VisibleCell
 shown_cells i t [] ps = []
 shown_cells i t (s ∷ ss) [] = []
-shown_cells i t (s ∷ ss) (a ∷ ps) = at_column i (first_cell t s a) ∷ shown_cells (i + columns (first_cell t s a)) (drop (cell_len s t) t) ss ps
+shown_cells i t (s ∷ ss) (a ∷ ps) =
+    at_column i (first_cell t s a) ∷
+    shown_cells (i + columns (first_cell t s a)) (drop (cell_len s t) t) ss ps
 
 -- the first n bytes of a text are whole characters, and a text that cells have
 pub record IsCellText (t : List ℕ) (n : ℕ) : Type 0 where
@@ -54,7 +59,8 @@ AreCuts t [] = t ≡ []
 AreCuts t (s ∷ ss) = IsCellText t (cell_len s t) × AreCuts (drop (cell_len s t) t) ss
 
 -- a text, with the shapes and the attributes of cells that take n columns, fewer than 2^64
-pub record IsClusteredText (t : List ℕ) (ss : List Shape) (ps : List Attributes) (n : ℕ) : Type 0 where
+pub record IsClusteredText (t : List ℕ) (ss : List Shape) (ps : List Attributes) (n : ℕ) :
+    Type 0 where
   pub cuts : AreCuts t ss
   pub aligned : length ss ≡ length ps
   pub len : n ≡ length (cells_from t ss ps)

@@ -1,4 +1,5 @@
--- What edits that move stored cells make of them: cells are removed, inserted, appended with their halves, and taken out by their columns.
+-- What edits that move stored cells make of them: cells are removed, inserted, appended with their
+-- halves, and taken out by their columns.
 use Rattle.std.specs.Prelude.{ℕ, ◌+◌, ◌-◌, nat_lt, nat_le, ◌&&◌, Bool, List, [], ◌∷◌, ◌++◌, length, if◌then◌else◌}
 use Rattle.std.specs.List.{filter, insert, insert_slice, remove}
 use Rattle.termwiz_cell.specs.Attributes.{Attributes}
@@ -6,7 +7,8 @@ use Rattle.termwiz_cell.specs.CellValue.{CellValue, blank, blank_of, half, is_wi
 use Rattle.termwiz_storage.specs.Stored.{padded, torn, visible}
 use Rattle.termwiz_storage.specs.VisibleCell.{VisibleCell}
 
--- the cell at column x is removed, where there is one; a wide cell before it that this cuts becomes a blank with its attributes
+-- the cell at column x is removed, where there is one; a wide cell before it that this cuts becomes
+-- a blank with its attributes
 abbrev pub removed : ℕ → List CellValue → List CellValue
 removed x cs = if nat_lt x (length cs) then remove (torn x cs) x else cs
 
@@ -18,7 +20,8 @@ erased x cs = if nat_lt x (length cs) then remove (torn x cs) x ++ blank ∷ [] 
 abbrev pub inserted_at_margin : ℕ → CellValue → List CellValue → List CellValue
 inserted_at_margin m c cs = if nat_le m (length cs + 1) then insert cs (m - 1) c else cs
 
--- the cell at column x is removed, where there is one, and a blank with attributes a comes to the last column before margin m, where the list reaches up to it
+-- the cell at column x is removed, where there is one, and a blank with attributes a comes to the
+-- last column before margin m, where the list reaches up to it
 abbrev pub erased_within : ℕ → ℕ → Attributes → List CellValue → List CellValue
 erased_within x m a cs = inserted_at_margin m (blank_of a) (removed x cs)
 
@@ -30,7 +33,8 @@ removed_at_margin m cs = if nat_le m (length cs) then remove cs (m - 1) else cs
 abbrev pub with_half : CellValue → List CellValue
 with_half c = if is_wide c then c ∷ half c ∷ [] else c ∷ []
 
--- c, and the half of a wide c, are inserted at column x, up to which the list is padded once the cell in the last column before margin m is removed
+-- c, and the half of a wide c, are inserted at column x, up to which the list is padded once the
+-- cell in the last column before margin m is removed
 abbrev pub inserted : ℕ → CellValue → ℕ → List CellValue → List CellValue
 inserted x c m cs = insert_slice (padded x (removed_at_margin m cs)) x (with_half c)
 

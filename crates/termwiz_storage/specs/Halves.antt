@@ -7,6 +7,7 @@ use Rattle.termwiz_storage.specs.Stored.{stored, padded, hides}
 abbrev pub missing_half : List CellValue → List CellValue
 missing_half cs = if hides cs (length cs) then half (stored cs (length cs - 1)) ∷ [] else []
 
--- cut to k cells, or grown to k cells: by the half that the last visible cell lacks, and then by default blanks
+-- cut to k cells, or grown to k cells: by the half that the last visible cell lacks, and then by
+-- default blanks
 abbrev pub resized : ℕ → List CellValue → List CellValue
 resized k cs = if nat_le k (length cs) then take k cs else padded k (cs ++ missing_half cs)

@@ -19,8 +19,10 @@ abbrev pub begins_plain : Attributes → List VisibleCell → Bool
 begins_plain a [] = false
 begins_plain a (p ∷ ps) = is_plain_with a p.cell
 
--- the first of these visible cells is that of one character of printable ASCII, with these attributes, and the rest follows
-pub record IsPlainFirst (a : Attributes) (cells : List VisibleCell) (byte : ℕ) (rest : List VisibleCell) : Type 0 where
+-- the first of these visible cells is that of one character of printable ASCII, with these
+-- attributes, and the rest follows
+pub record IsPlainFirst (a : Attributes) (cells : List VisibleCell) (byte : ℕ)
+    (rest : List VisibleCell) : Type 0 where
   pub column : ℕ
   pub plain : is_plain byte ≡ true
   pub first : cells ≡ at_column column (plain_cell byte a) ∷ rest

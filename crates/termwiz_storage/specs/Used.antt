@@ -12,7 +12,8 @@ pub record IsUsedTo (used : ℕ) (cs : List CellValue) : Type 0 where
 abbrev pub OwnNothing : List CellValue → Type 0
 OwnNothing cs = All (λ c. owns_memory c ≡ false) cs
 
--- what a storage knows of its cells: all from this column on are default blanks, and whether one may own memory
+-- what a storage knows of its cells: all from this column on are default blanks, and whether one
+-- may own memory
 pub record IsMarked (used : ℕ) (owns : Bool) (cs : List CellValue) : Type 0 where
   pub blanks : IsUsedTo used cs
   pub unowned : owns ≡ false → OwnNothing cs

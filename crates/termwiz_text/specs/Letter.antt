@@ -8,14 +8,16 @@ use Rattle.unicode_segmentation.specs.Grapheme.{graphemes}
 
 -- a letter of hiragana or katakana, or an ideograph from U+4E00 to U+9FFF
 abbrev pub is_letter : ℕ → Bool
-is_letter c = is_in_range 0x3041 0x3096 c || is_in_range 0x30A1 0x30FA c || is_in_range 0x4E00 0x9FFF c
+is_letter c =
+    is_in_range 0x3041 0x3096 c || is_in_range 0x30A1 0x30FA c || is_in_range 0x4E00 0x9FFF c
 
 -- the characters are one such letter
 abbrev pub is_one_letter : List ℕ → Bool
 is_one_letter (c ∷ []) = is_letter c
 is_one_letter _ = false
 
--- a character of ASCII, or such a letter: between two of these there is a boundary, but for a CR before an LF
+-- a character of ASCII, or such a letter: between two of these there is a boundary, but for a CR
+-- before an LF
 abbrev pub is_simple : ℕ → Bool
 is_simple c = is_ascii c || is_letter c
 
@@ -50,5 +52,6 @@ pub record IsLetterRun (text : List ℕ) (limit : ℕ) (run rest : List ℕ) : T
   pub within : length (chars run) ≤ limit
   -- each letter of the run is a grapheme by itself, and the rest is cut as a text of its own
   pub graphemes_are : graphemes true text ≡ map encode_utf8 (chars run) ++ graphemes true rest
-  -- the run is shorter than the limit only where the rest does not begin with one more that stands alone
+  -- the run is shorter than the limit only where the rest does not begin with one more that stands
+  -- alone
   pub longest : length (chars run) < limit → begins_lone_letter (chars rest) ≡ false

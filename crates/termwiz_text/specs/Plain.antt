@@ -14,7 +14,8 @@ abbrev pub begins_ascii : List ℕ → Bool
 begins_ascii [] = true
 begins_ascii (c ∷ cs) = is_ascii c
 
--- the text begins with printable ASCII, behind which it ends or goes on with a simple character, which is no mark on it
+-- the text begins with printable ASCII, behind which it ends or goes on with a simple character,
+-- which is no mark on it
 abbrev pub begins_alone : List ℕ → Bool
 begins_alone [] = false
 begins_alone (c ∷ cs) = is_plain c && begins_simple (chars cs)
@@ -37,5 +38,6 @@ pub record IsPlainRun (text : List ℕ) (limit : ℕ) (run rest : List ℕ) : Ty
   pub within : length run ≤ limit
   -- each byte of the run is a grapheme by itself, and the rest is cut as a text of its own
   pub graphemes_are : graphemes true text ≡ map (λ c. c ∷ []) run ++ graphemes true rest
-  -- the run is shorter than the limit only where the rest does not begin with one more that stands alone
+  -- the run is shorter than the limit only where the rest does not begin with one more that stands
+  -- alone
   pub longest : length run < limit → begins_alone rest ≡ false

@@ -12,6 +12,7 @@ mod AlikeRows
 pub mod LogRegions
 pub mod TextScrolls
 pub mod FullScreens
+mod Equality
 pub mod Repaints
 pub mod Diffs
 pub mod RowChanges

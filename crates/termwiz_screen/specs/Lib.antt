@@ -48,7 +48,6 @@ pub use Rattle.termwiz_cell.specs.Attributes.{attributes_eq, color_eq, default_a
 pub use Rattle.termwiz_cell.specs.CellValue.{CellValue, blank, blank_of, cell_eq, columns, is_wide, measured, plain_cell}
 pub use Rattle.termwiz_cell.specs.ChangeValue.{ChangeValue, change_value, is_text, visibility_eq}
 pub use Rattle.termwiz_cell.specs.Measure.{measure}
-pub use Rattle.termwiz_cell.specs.Shapes.{line_attribute_eq, shape_eq}
 pub use Rattle.termwiz_line.specs.GrowingText.{ends_printable}
 pub use Rattle.termwiz_line.specs.LastChange.{last_is}
 pub use Rattle.termwiz_line.specs.LineFlags.{no_flags}
@@ -63,7 +62,7 @@ pub use Rattle.termwiz_screen.specs.Ends.{end_value, ended_at}
 pub use Rattle.termwiz_screen.specs.Fewest.{FewestNarrowPrints, FewestPrints}
 pub use Rattle.termwiz_screen.specs.FullLaws.{ChangesMakeFullScreens, FullRepaintGivesScreen, FullRepaintIsShort, FullStepsAreSo, ResizedKeepsLines, TextsScrollRows}
 pub use Rattle.termwiz_screen.specs.FullScreen.{line_attribute, shape_of}
-pub use Rattle.termwiz_screen.specs.FullScreenValue.{full_eq, full_eq-Decides, full_value}
+pub use Rattle.termwiz_screen.specs.FullScreenValue.{full_value}
 pub use Rattle.termwiz_screen.specs.Kept.{with_line_attribute}
 pub use Rattle.termwiz_screen.specs.Log.{appended, delta_limit, due, flushed, is_known, next_number, reaches, restarted}
 pub use Rattle.termwiz_screen.specs.Measured.{IsMeasured}

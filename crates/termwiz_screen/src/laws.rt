@@ -1,4 +1,6 @@
 //! Laws of the definitions that contracts cite. Each is stated on a function that does nothing.
+ghost use Rattle.std.specs.Bool.{Decides};
+ghost use Rattle.std.specs.Prelude.{◌≡◌};
 ghost use Rattle.termwiz_screen.specs.{ChangesMakeFullScreens, CutIsInside, FullRepaintGivesScreen};
 ghost use Rattle.termwiz_screen.specs.{FewestNarrowPrints, FullRepaintIsShort, LineEntriesGiveRow};
 ghost use Rattle.termwiz_screen.specs.{LinesArePrintable, RepaintGivesScreen, ResizedKeepsLines};
@@ -6,6 +8,9 @@ ghost use Rattle.termwiz_screen.specs.{DiffGivesRegion, DrawingRestores, NeedGiv
 ghost use Rattle.termwiz_screen.specs.{FullStepsAreSo, MovesLeadThere, TextsScrollRows};
 ghost use Rattle.termwiz_screen.specs.{DiffGivesBand, FewestPrints, RepaintIsShort, TextsMoveAlike};
 ghost use Rattle.termwiz_screen.specs.{DiffGivesRows, NeedGivesRows, PrintsAreDiff, RegionIsDiff};
+ghost use Rattle.termwiz_screen.specs.{full_value};
+
+use crate::full::FullScreen;
 
 /// What a repaint and the entries of a line do when they are replayed.
 pub fn repaint_laws()
@@ -56,4 +61,10 @@ pub fn fewest_prints()
 pub fn sequence_laws()
     ensures texts { TextsMoveAlike }
     ensures moves { MovesLeadThere }
+{}
+
+/// Full screens are equal exactly where their values are.
+pub fn full_equality_laws()
+    ensures screens { (a b : FullScreen) → Decides
+        (⟦<FullScreen as PartialEq>⟧.eq a b) (full_value a ≡ full_value b) }
 {}

@@ -17,7 +17,8 @@ pub use termwiz_line::laws::{
     click_laws, cluster_laws, cut_laws, edit_laws, row_laws, storage_laws, stored_row_laws,
 };
 pub use termwiz_screen::laws::{
-    diff_laws, fewest_prints, full_repaint_laws, need_laws, repaint_laws, sequence_laws,
+    diff_laws, fewest_prints, full_equality_laws, full_repaint_laws, need_laws, repaint_laws,
+    sequence_laws,
 };
 
 /// A viewer that follows a surface still follows it whatever happens to the surface: changes,

@@ -3,7 +3,8 @@ ghost use Rattle.std.specs.Prelude.{◌≡◌, ◌<◌, ◌≤◌, ◌++◌, [],
 ghost use Rattle.termwiz_screen.specs.{AreVectors, HaveGrown, IfOk, OnErr, OnOk, Undoes, can_undo};
 ghost use Rattle.termwiz_screen.specs.{blank, cells_of, cuts_in_place, drop, grown, in_width};
 ghost use Rattle.termwiz_screen.specs.{is_vector_of, length, list_all, map, numberless, replicate};
-ghost use Rattle.termwiz_screen.specs.{resized_flags, resized_stored, row_flags, take, true, undone};
+ghost use Rattle.termwiz_screen.specs.{resized_flags, resized_stored, row_flags, take, true};
+ghost use Rattle.termwiz_screen.specs.{undone};
 
 use super::add_blank_rows;
 use std::alloc::{AllocError, Global};

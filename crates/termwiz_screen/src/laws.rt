@@ -65,6 +65,6 @@ pub fn sequence_laws()
 
 /// Full screens are equal exactly where their values are.
 pub fn full_equality_laws()
-    ensures screens { (a b : FullScreen) → Decides
+    ensures { (a b : FullScreen) → Decides
         (⟦<FullScreen as PartialEq>⟧.eq a b) (full_value a ≡ full_value b) }
 {}

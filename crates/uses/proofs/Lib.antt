@@ -1,5 +1,7 @@
 mod ClearedRow
 mod Followed
 mod HeadingRow
+mod MadeFully
 mod RowsOfForm
+mod SameLists
 mod Served

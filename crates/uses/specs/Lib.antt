@@ -7,10 +7,10 @@ pub mod FirstLetters
 pub mod Late
 pub mod Serving
 -- what the contracts of this crate use, by its name alone
-pub use Rattle.termwiz_surface.specs.{Adds, All, Any, AreRows, CellValue, DoubleWidthLine, Follows, FullScreen, HasDrawn, IsDiff, IsLower, IsPastOf, IsSurfaceSize, IsUnchanged, IsUpper, IsWhole, IsWrapped, KeepsNames, KeepsShowing, LineValue, MeasureAlike, Print, PrintsWithin, Screen, ShowsNamed, SingleWidthLine, SurfaceValue, ViewerValue, appended, blank_surface, blank_viewer, change_value, default_attributes, flushed, full_of, full_screens, is_known, line_contents, line_eq, measure, need, next_number, no_flags, print_all, printed, row_at, screen_after, screen_of, screens, stored, stored_text, texts_of, visible, whole, with_sizes}
+pub use Rattle.termwiz_surface.specs.{Adds, All, Any, AreRows, CellValue, DoubleWidthLine, Follows, FullScreen, HasDrawn, IsDiff, IsLower, IsPastOf, IsSurfaceSize, IsUnchanged, IsUpper, IsWhole, IsWrapped, KeepsNames, KeepsShowing, LineValue, MeasureAlike, Print, PrintsWithin, Screen, ShowsNamed, SingleWidthLine, SurfaceValue, ViewerValue, appended, blank_surface, blank_viewer, change_value, default_attributes, flushed, full_of, full_screens, full_value, is_known, line_contents, line_eq, measure, need, next_number, no_flags, print_all, printed, row_at, screen_after, screen_of, screens, stored, stored_text, texts_of, visible, whole, with_sizes}
 pub use Rattle.termwiz_surface.specs.declared.surface.SurfaceError.TheVariants.{ScrollRegion}
-pub use Rattle.termwiz_share.specs.{IsReady, KeepsClients, Serves, trimmed}
-pub use Rattle.uses.specs.Serving.{ShowsAll}
+pub use Rattle.termwiz_share.specs.{IsReady, IsResponse, KeepsClients, Serves, ask_of, trimmed}
+pub use Rattle.uses.specs.Serving.{Shares, ShowsAll, Stands, full_after}
 pub use Rattle.uses.specs.FirstLetters.{SetsFirstLetters}
 pub use Rattle.uses.specs.Headings.{heading_changes}
 pub use Rattle.uses.specs.LastRow.{blank_in, last_row_cleared}

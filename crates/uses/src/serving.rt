@@ -1,13 +1,45 @@
 //! A screen that is shared with three clients: each asks, is answered, and shows what it is sent.
-ghost use Rattle.std.specs.Prelude.{◌≡◌, ◌<◌, ◌∷◌, [], IfOk, OnOk, true};
-ghost use Rattle.uses.specs.{Adds, IsReady, IsSurfaceSize, KeepsClients, Serves, ShowsAll};
-ghost use Rattle.uses.specs.{blank_surface, change_value, full_of, measure, next_number, trimmed};
+ghost use Rattle.std.specs.Prelude.{◌≡◌, ◌<◌, ◌∷◌, [], IfErr, IfOk, OnOk, map, true};
+ghost use Rattle.uses.specs.{Adds, IsReady, IsResponse, IsSurfaceSize, KeepsClients, Serves};
+ghost use Rattle.uses.specs.{Shares, ShowsAll, Stands, ask_of, blank_surface, change_value};
+ghost use Rattle.uses.specs.{full_after, full_of, measure, next_number, trimmed};
 
 use std::alloc::{AllocError, Global};
 use std::marker::Model;
 use termwiz_share::{Client, ClientError, Source};
+use termwiz_surface::laws::full_repaint_laws;
 use termwiz_surface::{Change, SequenceNo, SurfaceError, Widths};
 use termwiz_wire::{Limits, SourceNo};
+
+/// Why changes weren't all made, or not all clients show them.
+#[derive(Debug, Drop, Clone, Copy, PartialEq, Eq)]
+pub enum ShareError {
+    /// A change was refused. Those before it are made, and no others. The screen is the one that
+    /// they make, or where memory was refused, any one of that size.
+    Refused(SurfaceError),
+    /// All changes are made, but a client can't be served.
+    Unserved(ClientError),
+}
+
+impl From<SurfaceError> for ShareError {
+    ghost use Rattle.uses.specs.declared.serving.ShareError.TheVariants.{Refused};
+
+    ghost from_gives = { λ error made. made ≡ Refused error };
+
+    fn from(error: SurfaceError) -> ShareError {
+        ShareError::Refused(error)
+    }
+}
+
+impl From<ClientError> for ShareError {
+    ghost use Rattle.uses.specs.declared.serving.ShareError.TheVariants.{Unserved};
+
+    ghost from_gives = { λ error made. made ≡ Unserved error };
+
+    fn from(error: ClientError) -> ShareError {
+        ShareError::Unserved(error)
+    }
+}
 
 /// A screen, and three clients of it. Whatever happens, each client can be served.
 #[derive(Drop)]
@@ -88,9 +120,15 @@ impl<W: Widths> Room<W> {
         ensures adds { Adds (measure W.width_of self.old.source.surface.widths)
             (trimmed self.old.source.surface) (change_value change ∷ [])
             (next_number (trimmed self.old.source.surface).log) result self.new.source.surface }
+        // The change is made, or the screen stands as the error says.
+        ensures shows { OnOk result (full_of self.new.source.surface
+            ≡ full_after (measure W.width_of) self.old.source.surface (change_value change ∷ [])) }
+        ensures stands { IfErr result (λ error. Stands error
+            (full_of self.old.source.surface) (full_of self.new.source.surface)) }
+        ensures widths { self.new.source.surface.widths ≡ self.old.source.surface.widths }
         ensures clients { self.new ≡ record self.old { source = self.new.source } }
     {
-        self.source.add_change(change)
+        make(&mut self.source, change)
     }
 
     /// Serves each client: all of them show the screen then. After an error some may show another
@@ -98,24 +136,48 @@ impl<W: Widths> Room<W> {
     pub fn serve_all(&mut self) -> Result<(), ClientError>
         ensures shows { OnOk result (ShowsAll self.new) }
         ensures same { full_of self.new.source.surface ≡ full_of self.old.source.surface }
+        ensures widths { self.new.source.surface.widths ≡ self.old.source.surface.widths }
     {
         serve(self.alloc, &mut self.source, &mut self.first)?;
         serve(self.alloc, &mut self.source, &mut self.second)?;
         serve(self.alloc, &mut self.source, &mut self.third)
     }
 
-    /// Makes the changes, and serves each client after each of them: so all of them show the screen
-    /// in the end. What can't be made or served for want of memory is passed over, and the next
-    /// change is served whole.
-    pub fn share(&mut self, changes: Vec<Change>) -> Result<(), ClientError>
-        ensures { OnOk result (ShowsAll self.new) }
+    /// Makes the changes in order, and serves each client after each of them: so all of them show
+    /// the screen that the changes make. A client that can't be served in between is passed over,
+    /// and the next change is served whole.
+    ///
+    /// It stops at a change that is refused, and fails where a client can't be served in the end;
+    /// `ShareError` says what the screen is then. Each client can be served anew.
+    pub fn share(&mut self, changes: Vec<Change>) -> Result<(), ShareError>
+        ensures shows { OnOk result (ShowsAll self.new) }
+        ensures shares { Shares (measure W.width_of) self.old.source.surface
+            (map change_value changes.items) result self.new.source.surface }
     {
         for change in changes {
-            let _ = self.make(change);
+            self.make(change)?;
             let _ = self.serve_all();
         }
-        self.serve_all()
+        self.serve_all()?;
+        Ok(())
     }
+}
+
+// Makes one change on what a source shows.
+fn make<W: Widths>(source: &mut Source<W>, change: Change) -> Result<SequenceNo, SurfaceError>
+    ensures adds { Adds (measure W.width_of source.old.surface.widths)
+        (trimmed source.old.surface) (change_value change ∷ [])
+        (next_number (trimmed source.old.surface).log) result source.new.surface }
+    ensures shows { OnOk result (full_of source.new.surface
+        ≡ full_after (measure W.width_of) source.old.surface (change_value change ∷ [])) }
+    ensures stands { IfErr result (λ error.
+        Stands error (full_of source.old.surface) (full_of source.new.surface)) }
+    ensures widths { source.new.surface.widths ≡ source.old.surface.widths }
+    ensures others { KeepsClients (measure W.width_of) source.old source.new }
+{
+    // Changes make a full screen of a full screen.
+    full_repaint_laws();
+    source.add_change(change)
 }
 
 /// Lets a client ask a source, and show what it has. After an error the client can be served anew.
@@ -131,13 +193,30 @@ pub fn serve<W: Widths>(
     ensures ready { IsReady client.new }
     // The source shows what it did, and serves its other clients.
     ensures same { full_of source.new.surface ≡ full_of source.old.surface }
+    ensures widths { source.new.surface.widths ≡ source.old.surface.widths }
     ensures others { KeepsClients (measure W.width_of) source.old source.new }
 {
-    let mut bytes = Vec::new(alloc);
-    source.respond(client.ask(), &mut bytes)?;
+    let bytes = response(alloc, source, client)?;
     if let Err(error) = client.feed(&bytes) {
         client.reset();
         return Err(error);
     }
     Ok(())
+}
+
+// The bytes of the source's answer to what the client asks.
+fn response<W: Widths>(
+    alloc: Global,
+    source: &mut Source<W>,
+    client: &Client<W>,
+) -> Result<Vec<u8>, AllocError>
+    ensures response { IfOk result (λ bytes.
+        IsResponse (measure W.width_of) source.new (ask_of client.now) bytes.items) }
+    ensures same { full_of source.new.surface ≡ full_of source.old.surface }
+    ensures widths { source.new.surface.widths ≡ source.old.surface.widths }
+    ensures others { KeepsClients (measure W.width_of) source.old source.new }
+{
+    let mut bytes = Vec::new(alloc);
+    source.respond(client.ask(), &mut bytes)?;
+    Ok(bytes)
 }

@@ -1,11 +1,11 @@
 //! A patch: a diff that is made where both surfaces are, and applied where only one of them is.
-ghost use Rattle.std.specs.Prelude.{◌≡◌, ◌≤◌, ◌*◌, IfOk, List, OnOk, length, map};
+ghost use Rattle.std.specs.Prelude.{◌≡◌, ◌≤◌, ◌*◌, ◌↔◌, IfOk, IsTrue, List, OnOk, length, map};
 ghost use Rattle.uses.specs.{AreRows, CellValue, IsDiff, MeasureAlike, Print, PrintsWithin, need};
 ghost use Rattle.uses.specs.{change_value, measure, print_all, printed, screen_after, screen_of};
 ghost use Rattle.uses.specs.{whole};
 
 use std::alloc::AllocError;
-use termwiz_surface::laws::{diff_laws, fewest_prints};
+use termwiz_surface::laws::{diff_laws, equality_laws, fewest_prints};
 use termwiz_surface::{Change, Surface, SurfaceError, Widths};
 
 /// The patch that makes a surface show the rows of another one of its size that measures texts as
@@ -55,4 +55,15 @@ pub fn apply_patch<W: Widths>(
     let _form = surface.dimensions();
     surface.add_changes(patch)?;
     Ok(())
+}
+
+/// Whether a patch is the one that was sent last. Texts, links and attributes are compared by what
+/// they say: so where it is, both patches do the same to any surface.
+#[tactic(auto, using(crate::proofs::SameLists::lists_decide))]
+pub fn is_sent(last: &[Change], patch: &[Change]) -> bool
+    ensures { IsTrue result ↔ (map change_value last.now ≡ map change_value patch.now) }
+{
+    // Changes are equal exactly where their values are.
+    equality_laws();
+    last == patch
 }

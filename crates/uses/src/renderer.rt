@@ -1,8 +1,11 @@
 //! A renderer: what it does in each turn of its loop.
-ghost use Rattle.std.specs.Prelude.{◌≡◌, [], Err, OnErr, OnOk};
-ghost use Rattle.uses.specs.{All, Follows, ScrollRegion, flushed, measure, next_number, screen_of};
+ghost use Rattle.std.specs.Prelude.{◌≡◌, ◌↔◌, [], Err, IfOk, IsTrue, OnErr, OnOk};
+ghost use Rattle.uses.specs.{All, Follows, ScrollRegion, flushed, full_of, full_value, measure};
+ghost use Rattle.uses.specs.{next_number, screen_of};
 
-use termwiz_surface::{Surface, SurfaceError, Viewer, Widths};
+use std::alloc::AllocError;
+use termwiz_surface::laws::full_equality_laws;
+use termwiz_surface::{FullScreen, Surface, SurfaceError, Viewer, Widths};
 
 /// Shows on its one viewer what the surface shows, and lets both forget the changes that they have
 /// in common.
@@ -55,4 +58,24 @@ pub fn refresh_all<W: Widths>(
     }
     surface.flush_changes_older_than(surface.current_seqno());
     Ok(())
+}
+
+/// Takes what the surface shows as the frame to paint, and returns whether that is the last frame
+/// again, of which nothing has to be painted anew: title, the cursor's colour and shape, and the
+/// size of each row are compared too. After an error the last frame stays.
+pub fn take_frame<W: Widths>(
+    surface: &Surface<W>,
+    frame: &mut FullScreen,
+) -> Result<bool, AllocError>
+    ensures shows { OnOk result (full_value frame.new ≡ full_of surface.now) }
+    ensures again { IfOk result (λ again.
+        IsTrue again ↔ (full_of surface.now ≡ full_value frame.old)) }
+    ensures kept { OnErr result (frame.new ≡ frame.old) }
+{
+    // Full screens are equal exactly where nothing that they show differs.
+    full_equality_laws();
+    let next = surface.full_screen()?;
+    let again = next == *frame;
+    *frame = next;
+    Ok(again)
 }

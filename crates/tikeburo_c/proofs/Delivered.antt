@@ -12,7 +12,7 @@ use Rattle.termwiz_wire.specs.Sent.{IsAsk, ask}
 use Rattle.termwiz_wire.specs.declared.sent.Ask.{Ask}
 use Rattle.tikeburo_c.specs.Outcomes.{Outcome, Reports, status_of}
 use Rattle.tikeburo_c.specs.Results.{Buffer, OnClient}
-use Rattle.tikeburo_c.specs.Streams.{AnswersAsk, AnswersIn, FeedsIn, GivesAsk, Reaches, Resets, ServesIn, ShowsIn, named_ask}
+use Rattle.tikeburo_c.specs.Streams.{AnswersAsk, AnswersIn, FeedsIn, GivesAsk, Reaches, Resets, RespondsIn, ServesIn, ShowsIn, named_ask}
 use Rattle.tikeburo_c.specs.Widths.{columns_by}
 use Rattle.tikeburo_c.specs.declared.clients.FaultFields.{FaultFields}
 use Rattle.tikeburo_c.specs.declared.failure.Failure.{Failure}
@@ -111,13 +111,8 @@ serves_answered bytes (Some (Viewer f)) client new old_room new_room outcome non
 serves_answered bytes (Some (Client c)) client new old_room new_room outcome none answers = absurd none
 serves_answered bytes None client new old_room new_room outcome none answers = absurd none
 
--- these are the bytes of an answer of the surface to what the client asks by
-abbrev pub RespondsIn : Option Kept → Option Kept → List ℕ → Type 0
-RespondsIn (Some (Surface s)) (Some (Client c)) bytes = IsResponse columns_by s (ask_of c) bytes
-RespondsIn _ _ bytes = ⊥
-
 -- an answer to no source is a repaint
-named_response : (s : SourceValue ChosenWidths) (a : Ask) (bytes : List ℕ) → IsResponse columns_by s (named_ask a) bytes → IsResponse columns_by s a bytes
+pub named_response : (s : SourceValue ChosenWidths) (a : Ask) (bytes : List ℕ) → IsResponse columns_by s (named_ask a) bytes → IsResponse columns_by s a bytes
 named_response s a bytes r = elim (cases_Bool (a.source == 0)) [
   | inr some ↦ (let same : named_ask a ≡ a = rw some refl in subst (λ (b : Ask). IsResponse columns_by s b bytes) same r)
   | inl none ↦

@@ -1,3 +1,4 @@
+pub mod Brought
 pub mod Decoded
 pub mod Delivered
 pub mod Listed

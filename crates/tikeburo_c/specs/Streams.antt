@@ -1,5 +1,5 @@
 -- What goes between surfaces and clients as bytes.
-use Rattle.std.specs.Prelude.{◌≡◌, ◌⊎◌, ℕ, true, false, Result, Ok, Err, OnOk, Option, Some, None, List, [], ◌++◌, ◌==◌, if◌then◌else◌}
+use Rattle.std.specs.Prelude.{◌≡◌, ◌⊎◌, ℕ, ◌<◌, true, false, Result, Ok, Err, OnOk, Option, Some, None, List, [], ◌++◌, length, ◌==◌, if◌then◌else◌}
 use Rattle.cbor.specs.declared.error.FaultKind.{FaultKind}
 use Rattle.cbor.specs.declared.error.FaultKind.TheVariants as faults
 use Rattle.termwiz_share.specs.Client.{ClientValue, IsReady, ask_of}
@@ -10,6 +10,7 @@ use Rattle.termwiz_share.specs.Source.{IsResponse, SourceValue, trimmed}
 use Rattle.termwiz_share.specs.declared.error.ClientError.{ClientError}
 use Rattle.termwiz_share.specs.declared.error.ClientError.TheVariants as errors
 use Rattle.termwiz_screen.specs.FullScreen.{FullScreen}
+use Rattle.termwiz_surface.specs.Surface.{full_of}
 use Rattle.termwiz_wire.specs.Answers.{ask_at}
 use Rattle.termwiz_wire.specs.Sent.{IsAsk, ask}
 use Rattle.termwiz_wire.specs.declared.sent.Ask.{Ask}
@@ -19,7 +20,7 @@ use Rattle.tikeburo_c.specs.Results.{Buffer, Gives, OrNoMemory, Refused}
 use Rattle.tikeburo_c.specs.Widths.{columns_by}
 use Rattle.tikeburo_c.specs.declared.clients.FaultFields.{FaultFields}
 use Rattle.tikeburo_c.specs.declared.failure.Failure.{Failure}
-use Rattle.tikeburo_c.specs.declared.failure.Failure.TheVariants.{Memory, NoHandle, Numbers, Unreadable, WrongKind}
+use Rattle.tikeburo_c.specs.declared.failure.Failure.TheVariants.{Memory, NoHandle, Numbers, Short, Unreadable, WrongKind}
 use Rattle.tikeburo_c.specs.declared.kept.Kept.{Kept}
 use Rattle.tikeburo_c.specs.declared.kept.Kept.TheVariants.{Surface, Viewer, Client}
 use Rattle.tikeburo_c.specs.declared.widths.ChosenWidths.{ChosenWidths}
@@ -146,3 +147,33 @@ ServesIn _ _ = ⊥
 abbrev pub ShowsIn : Option Kept → Option Kept → Type 0
 ShowsIn (Some (Surface s)) (Some (Client c)) = Shows s c
 ShowsIn _ _ = ⊥
+
+-- the surface shows what it showed, and anything else is as it was
+abbrev pub ShowsAsBefore : Option Kept → Option Kept → Type 0
+ShowsAsBefore (Some (Surface s)) (Some (Surface t)) = full_of t.surface ≡ full_of s.surface
+ShowsAsBefore (Some (Surface s)) _ = ⊥
+ShowsAsBefore (Some (Viewer f)) new = new ≡ Some (Viewer f)
+ShowsAsBefore (Some (Client c)) new = new ≡ Some (Client c)
+ShowsAsBefore None new = new ≡ None
+
+-- these are the bytes of an answer of the surface to what the client asks by
+abbrev pub RespondsIn : Option Kept → Option Kept → List ℕ → Type 0
+RespondsIn (Some (Surface s)) (Some (Client c)) bytes = IsResponse columns_by s (ask_of c) bytes
+RespondsIn _ _ bytes = ⊥
+
+-- the surface's answer to the client has more bytes than these
+pub record IsLonger (surface client : Option Kept) (room : ℕ) : Type 0 where
+  pub bytes : List ℕ
+  pub response : RespondsIn surface client bytes
+  pub longer : room < length bytes
+
+-- what may come of bringing an answer to a client by a buffer of so many bytes: it is taken, memory
+-- is refused, the client doesn't take it or has no more numbers for it, or it is longer than the
+-- buffer
+abbrev pub MayCarry : Option Kept → Option Kept → ℕ → Outcome → Type 0
+MayCarry surface client room (Ok u) = Unit {0}
+MayCarry surface client room (Err Memory) = Unit {0}
+MayCarry surface client room (Err Unreadable) = Unit {0}
+MayCarry surface client room (Err Numbers) = Unit {0}
+MayCarry surface client room (Err Short) = IsLonger surface client room
+MayCarry surface client room (Err _) = ⊥

@@ -19,6 +19,16 @@ pub struct Handle {
 }
 
 impl Handle {
+    /// A handle on none.
+    pub(crate) fn none(alloc: Global) -> Handle
+        ensures { result.loose.value ≡ None }
+    {
+        Handle {
+            loose: Loose::empty(alloc),
+            is_live: false,
+        }
+    }
+
     /// The value, which the handle has no longer.
     pub(crate) fn take(&mut self, alloc: Global) -> Option<Box<Kept>>
         ensures taken { in_box result ≡ self.old.loose.value }
@@ -27,11 +37,7 @@ impl Handle {
         if !self.is_live {
             return None;
         }
-        let empty = Handle {
-            loose: Loose::empty(alloc),
-            is_live: false,
-        };
-        let Handle { loose, is_live: _ } = std::mem::replace(self, empty);
+        let Handle { loose, is_live: _ } = std::mem::replace(self, Handle::none(alloc));
         Some(loose.into_box())
     }
 
@@ -45,6 +51,15 @@ impl Handle {
             is_live: true,
         };
         let Handle { loose, is_live: _ } = std::mem::replace(self, full);
+        loose.end();
+    }
+
+    /// The handle is let go, and has nothing.
+    #[cfg(test)]
+    pub(crate) fn end(self)
+        requires { self.loose.value ≡ None }
+    {
+        let Handle { loose, is_live: _ } = self;
         loose.end();
     }
 }

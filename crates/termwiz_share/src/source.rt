@@ -227,8 +227,11 @@ impl<W: Widths> Source<W> {
     {
         let answer = self.surface.answer(from)?;
         let (width, height) = self.surface.dimensions();
+        if answer.is_repaint() {
+            return Ok(answer);
+        }
         let bytes = encoded_len(&self.surface.widths(), self.number, &answer);
-        if answer.is_repaint() || bytes <= most_bytes(width, height) {
+        if bytes <= most_bytes(width, height) {
             return Ok(answer);
         }
         self.surface.answer(SEQ_ZERO)

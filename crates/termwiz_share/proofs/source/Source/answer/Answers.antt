@@ -2,7 +2,6 @@ use Rattle.std.proofs.Common.{sym, ◌∙◌}
 use Rattle.termwiz_cell.specs.Measure.{measure}
 use Rattle.termwiz_share.proofs.Answering.{answers_none, answers_repaint, answers_short}
 use Rattle.termwiz_share.proofs.source.Source.answer.Goals as goal
-use Rattle.termwiz_share.proofs.source.Source.answer.Goals.{then-is_repaint-via-then-is_repaint, then-is_repaint-via-else-is_repaint+then-bytes-most_bytes}
 
 pub returns-then-is_repaint : goal.returns-then-is_repaint
 returns-then-is_repaint g c =
@@ -10,13 +9,17 @@ returns-then-is_repaint g c =
     let h = c.in_ok-answer.ensures in
     let given = h.given_fully c.self.invariant.0 in
     let sized = c.dimensions-width.ensures.fully_sized in
-    elim c.then-is_repaint.branch [
-      | then-is_repaint-via-then-is_repaint w ↦ rw (← c.self.view_is) (answers_repaint f (record { surface = c.self.inside.surface; number = c.self.inside.number }) c.args.from c.in_ok-answer.answer given sized h.entries (sym c.is_repaint.ensures ∙ w.if-is_repaint.true))
-      | then-is_repaint-via-else-is_repaint+then-bytes-most_bytes w ↦
-          let len = rw c.widths.ensures at c.encoded_len-bytes.ensures in
-          let most = rw (c.dimensions-width.ensures.width, c.dimensions-width.ensures.height) at w.most_bytes.ensures in
-          rw (← c.self.view_is) (answers_short f (record { surface = c.self.inside.surface; number = c.self.inside.number }) c.args.from c.in_ok-answer.answer given sized (rw (← len, ← most) w.if-bytes-most_bytes.true))
-    ]
+    rw (← c.self.view_is) (answers_repaint f (record { surface = c.self.inside.surface; number = c.self.inside.number }) c.args.from c.in_ok-answer.answer given sized h.entries (sym c.is_repaint.ensures ∙ c.if-is_repaint.true))
+
+pub returns-then-bytes-most_bytes : goal.returns-then-bytes-most_bytes
+returns-then-bytes-most_bytes g c =
+    let f = measure g.W.Widths.width_of in
+    let h = c.in_ok-answer.ensures in
+    let given = h.given_fully c.self.invariant.0 in
+    let sized = c.dimensions-width.ensures.fully_sized in
+    let len = rw c.widths.ensures at c.encoded_len-bytes.ensures in
+    let most = rw (c.dimensions-width.ensures.width, c.dimensions-width.ensures.height) at c.most_bytes.ensures in
+    rw (← c.self.view_is) (answers_short f (record { surface = c.self.inside.surface; number = c.self.inside.number }) c.args.from c.in_ok-answer.answer given sized (rw (← len, ← most) c.if-bytes-most_bytes.true))
 
 pub returns : goal.returns
 returns g c =

@@ -5,7 +5,7 @@ use termwiz_cell::cell::CellAttributes;
 use termwiz_cell::change::{Change, ChangeSequence, LineAttribute, SequenceNo};
 use termwiz_cell::color::ColorAttribute;
 use termwiz_cell::emoji::UnicodeWidths;
-use termwiz_surface::surface::Surface;
+use termwiz_surface::surface::{Surface, SurfaceError};
 use termwiz_surface::view::Viewer;
 use uses::damage::show_the_same;
 use uses::follower::{Follower, make_and_show};
@@ -13,11 +13,12 @@ use uses::last_row::{clear_last_row, draw_status};
 use uses::lines::{heading, word_at};
 use uses::mirror::Mirror;
 use uses::one_by_one::make_one_by_one;
+use uses::patch::is_sent;
 use uses::prompt::show_prompt;
 use uses::relay::relay;
 use uses::remote::show_heading;
-use uses::renderer::{refresh, refresh_all};
-use uses::serving::Room;
+use uses::renderer::{refresh, refresh_all, take_frame};
+use uses::serving::{Room, ShareError};
 use uses::sharing::{join, reconnect};
 use uses::window::show_widget;
 
@@ -225,4 +226,38 @@ fn three_clients_show_a_screen(rt: HostRuntime) {
         assert_rows(&rt, client.surface(), "w00t\n");
         assert_eq!(rt; client.number(), 2);
     }
+    // Of these the first is made, the second refused, and the third left out.
+    let refused = Change::ScrollRegionUp {
+        first_row: 0,
+        region_size: 2,
+        scroll_count: 1,
+    };
+    let changes = vec![in alloc; text(&rt, alloc, "\rn"), refused, text(&rt, alloc, "xx")];
+    let shared = room.share(changes.expect(&rt, "three changes"));
+    assert_eq!(rt;
+        shared,
+        Err(ShareError::Refused(SurfaceError::ScrollRegion))
+    );
+    for client in [room.first(), room.second(), room.third()] {
+        assert_rows(&rt, client.surface(), "n00t\n");
+    }
+}
+
+#[test]
+fn what_is_shown_again_is_known(rt: HostRuntime) {
+    let alloc = rt.alloc();
+    let mut surface = Surface::new(alloc, 4, 1, UnicodeWidths).expect(&rt, "a surface");
+    let mut frame = surface.full_screen().expect(&rt, "a frame");
+    assert!(rt; take_frame(&surface, &mut frame).expect(&rt, "a frame"));
+    // A title isn't part of the screen, but of the frame.
+    let title = String::from_str(alloc, "w00t").expect(&rt, "a title");
+    surface
+        .add_change(Change::Title(title))
+        .expect(&rt, "a title is set");
+    assert!(rt; !take_frame(&surface, &mut frame).expect(&rt, "a frame"));
+    assert!(rt; take_frame(&surface, &mut frame).expect(&rt, "a frame"));
+    let patch = vec![in alloc; text(&rt, alloc, "か")].expect(&rt, "a patch");
+    let same = vec![in alloc; text(&rt, alloc, "か")].expect(&rt, "a patch");
+    assert!(rt; is_sent(patch.as_slice(), same.as_slice()));
+    assert!(rt; !is_sent(patch.as_slice(), &[]));
 }

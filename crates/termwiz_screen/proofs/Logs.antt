@@ -1,10 +1,11 @@
 -- What a log has from a number on.
-use Rattle.std.proofs.Common.{◌≡◌, ℕ, ◌+◌, ◌-◌, ◌≤◌, ◌<◌, ◌^◌, min, true, false, inl, inr, List, [], length, take, drop, map, refl, sym, ◌∙◌, ap, arith, length-drop}
+use Rattle.std.proofs.Common.{◌≡◌, ℕ, ◌+◌, ◌-◌, ◌≤◌, ◌<◌, ◌^◌, min, true, false, inl, inr, List, [], length, take, drop, map, refl, sym, ◌∙◌, ap, arith, length-append, length-drop}
 use Rattle.std.specs.Prelude.{◌==◌, if◌then◌else◌}
+use Rattle.termwiz_cell.specs.ChangeValue.{ChangeValue}
 use Rattle.std.proofs.lemmas.Bool.{cases_Bool, cases_lt, ne_eqb, le-leb}
 use Rattle.std.proofs.lemmas.Bool.Decides.{nat_tests}
 use Rattle.std.proofs.lemmas.List.{take_all, drop_all, drop-map, drop-drop}
-use Rattle.termwiz_screen.specs.Log.{LogValue, due, reaches, is_known, next_number, flushed, restarted}
+use Rattle.termwiz_screen.specs.Log.{LogValue, due, reaches, is_known, next_number, appended, flushed, passed, restarted}
 
 module _ (l : LogValue) (n : ℕ) (from : l.first ≤ n) (upto : n ≤ next_number l) where
   pub reaches_it : reaches l n ≡ true
@@ -41,6 +42,22 @@ pub flushed_whole : (l : LogValue) → (flushed l (next_number l)).changes ≡ [
 flushed_whole l =
     rw (le-leb l.first (next_number l) (omega arith), le-leb (next_number l) (next_number l) (omega arith))
     (drop_all (next_number l - l.first) l.changes (omega arith))
+
+-- and is one under the coming number
+pub flushed_all : (l : LogValue) → flushed l (next_number l) ≡ record { first = next_number l; changes = [] }
+flushed_all l =
+    rw (le-leb l.first (next_number l) (omega arith), le-leb (next_number l) (next_number l) (omega arith))
+    (λ i. record { first = next_number l; changes = drop_all (next_number l - l.first) l.changes (omega arith) i })
+
+-- changes that pass leave what is left where they are logged and all is flushed
+pub passed-flushed : (l : LogValue) (cs : List ChangeValue) → passed l (length cs) ≡ flushed (appended l cs) (next_number (appended l cs))
+passed-flushed l cs =
+    let number : next_number l + length cs ≡ next_number (appended l cs) = omega (arith, length-append l.changes cs) in
+    (λ i. record { first = number i; changes = [] }) ∙ sym (flushed_all (appended l cs))
+
+-- where all is flushed, no other number is known
+pub passed-unknown : (l : LogValue) (count most n : ℕ) → (n ≡ next_number (passed l count) → ⊥) → is_known most (passed l count) n ≡ false
+passed-unknown l count most n other = grind (arith, nat_tests)
 
 -- a flush leaves the number
 pub flushed_number : (l : LogValue) (n : ℕ) → next_number (flushed l n) ≡ next_number l

@@ -64,7 +64,7 @@ pub use Rattle.termwiz_screen.specs.FullLaws.{ChangesMakeFullScreens, FullRepain
 pub use Rattle.termwiz_screen.specs.FullScreen.{line_attribute, shape_of}
 pub use Rattle.termwiz_screen.specs.FullScreenValue.{full_value}
 pub use Rattle.termwiz_screen.specs.Kept.{with_line_attribute}
-pub use Rattle.termwiz_screen.specs.Log.{appended, delta_limit, due, flushed, is_known, next_number, reaches, restarted}
+pub use Rattle.termwiz_screen.specs.Log.{appended, delta_limit, due, flushed, is_known, next_number, passed, reaches, restarted}
 pub use Rattle.termwiz_screen.specs.Measured.{IsMeasured}
 pub use Rattle.termwiz_screen.specs.Padding.{ArePaddable, IsPaddable}
 pub use Rattle.termwiz_screen.specs.Place.{cursor_at, moved, place_column, place_row}

@@ -34,6 +34,10 @@ appended l changes = record l { changes = l.changes ++ changes }
 abbrev pub flushed : LogValue → ℕ → LogValue
 flushed l n = record { first = if reaches l n then n else l.first; changes = if reaches l n then due l n else l.changes }
 
+-- an empty log under the number that so many more changes would give it
+abbrev pub passed : LogValue → ℕ → LogValue
+passed l count = record { first = next_number l + count; changes = [] }
+
 -- an empty log under a new number, or under 0 where that was the number
 abbrev pub restarted : LogValue → LogValue
 restarted l = record { first = if next_number l == 0 then 0 else next_number l + 1; changes = [] }

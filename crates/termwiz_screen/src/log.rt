@@ -2,7 +2,7 @@
 ghost use Rattle.std.specs.Prelude.{◌≡◌, ◌+◌, ◌-◌, ◌^◌, ◌<◌, ◌≤◌, ◌∷◌, [], length, nat_lt, vec_len};
 ghost use Rattle.termwiz_screen.specs.{IfSome, IsNone, IsOk, OnErr, OnOk, appended, change_value};
 ghost use Rattle.termwiz_screen.specs.{delta_limit, drop, due, false, flushed, is_known, map, min};
-ghost use Rattle.termwiz_screen.specs.{next_number, reaches, restarted, true};
+ghost use Rattle.termwiz_screen.specs.{next_number, passed, reaches, restarted, true};
 
 use std::alloc::{AllocError, Global};
 use std::marker::Model;
@@ -173,6 +173,19 @@ impl Log {
                 self.take_out();
             }
         }
+    }
+
+    /// Adds `count` to the number of the next change, and forgets all changes, as if that many were
+    /// appended and all then flushed.
+    #[inline(always)]
+    pub fn pass(&mut self, count: usize)
+        requires { next_number self.old + count < 2 ^ 64 }
+        ensures { self.new ≡ passed self.old count }
+    {
+        let number = self.next_number() + count;
+        self.stored.clear();
+        self.gone = 0;
+        self.base = number;
     }
 
     /// Forgets all changes, and adds 1 to the number of the next change, unless that is 0.

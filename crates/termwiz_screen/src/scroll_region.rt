@@ -16,7 +16,8 @@ pub fn regions_fit(changes: &[Change], height: usize) -> bool
     true
 }
 
-fn region_fits(change: &Change, height: usize) -> bool
+/// Whether the change is no scroll whose region goes past the last row.
+pub fn region_fits(change: &Change, height: usize) -> bool
     ensures { result ≡ region_fits height (change_value change.now) }
 {
     match change {

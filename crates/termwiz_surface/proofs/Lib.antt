@@ -9,6 +9,7 @@ mod Copying
 mod DiffSurfaces
 pub mod Remembering
 mod Forgetting
+mod Unlogged
 mod Viewing
 mod Accepting
 mod FollowedRuns

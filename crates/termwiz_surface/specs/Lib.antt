@@ -1,6 +1,7 @@
 pub mod Surface
 pub mod Printing
 pub mod Adding
+pub mod Unlogged
 pub mod Resizing
 pub mod Following
 pub mod Copies
@@ -49,6 +50,7 @@ pub use Rattle.termwiz_cell.specs.ChangeValue
 -- what callers cite, by its name alone: surfaces, viewers and answers,
 pub use Rattle.termwiz_surface.specs.Surface.{SurfaceValue, blank_surface, screen_of, kept_of, full_of, IsSound, IsSurfaceSize, SameFrame}
 pub use Rattle.termwiz_surface.specs.Adding.{Adds, Makes, with_log}
+pub use Rattle.termwiz_surface.specs.Unlogged.{AddsUnlogged, MakesUnlogged, lent_value}
 pub use Rattle.termwiz_surface.specs.Resizing.{HasResized, Resizes}
 pub use Rattle.termwiz_surface.specs.Copies.{IsDrawn, IsCopied, drawn_region, copied_region}
 pub use Rattle.termwiz_surface.specs.Following.{ViewerValue, Follows, FollowsTo, KeepsViewers, Leads, FullLeads, blank_viewer}
@@ -72,7 +74,7 @@ pub use Rattle.termwiz_screen.specs.Picture.{screens, full_screens}
 pub use Rattle.termwiz_screen.specs.Step.{step, step_kept, replay, replay_kept, regions_fit}
 pub use Rattle.termwiz_screen.specs.TextScrolls.{rows_scrolled}
 pub use Rattle.termwiz_screen.specs.Resized.{resized_screen, resized_kept}
-pub use Rattle.termwiz_screen.specs.Log.{LogValue, next_number, due, delta_limit, is_known, appended, flushed, restarted}
+pub use Rattle.termwiz_screen.specs.Log.{LogValue, next_number, due, delta_limit, is_known, appended, flushed, passed, restarted}
 pub use Rattle.termwiz_screen.specs.Stream.{IsStream, IsFullStream, Lends, most_entries, stream_of}
 pub use Rattle.termwiz_screen.specs.Repaint.{repaint_in}
 pub use Rattle.termwiz_screen.specs.Printable.{HasSize, IsPrintable, ArePrintable}

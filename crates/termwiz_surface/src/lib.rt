@@ -28,7 +28,7 @@ pub mod laws;
 pub mod surface;
 pub mod view;
 
-pub use surface::{Answer, FullScreen, NewSurfaceError, Screen, Surface, SurfaceError};
+pub use surface::{Answer, FullScreen, LentChange, NewSurfaceError, Screen, Surface, SurfaceError};
 pub use termwiz_cell::cell::{AttributeChange, Cell, CellAttributes};
 pub use termwiz_cell::change::{
     Change, CursorShape, CursorVisibility, Position, SEQ_ZERO, SequenceNo,

@@ -17,6 +17,7 @@ mod readings;
 mod resizing;
 mod sized;
 mod steps;
+mod unlogged;
 
 pub use answer::Answer;
 use std::alloc::{AllocError, Global};
@@ -35,6 +36,7 @@ use termwiz_screen::rows::blank_rows;
 pub use termwiz_screen::screen::Screen;
 use termwiz_screen::scroll_region::regions_fit;
 use thiserror::Error;
+pub use unlogged::LentChange;
 
 /// Why a list of changes, or a resize, is refused. The first applicable error is returned, in this
 /// order.

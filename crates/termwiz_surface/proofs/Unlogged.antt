@@ -1,0 +1,78 @@
+-- Changes that are made without being logged keep what changes keep that are logged and then flushed.
+use Rattle.std.proofs.Common.{◌≡◌, ℕ, ◌≤◌, true, false, List, length, refl, sym, ap, subst, ◌∙◌, arith}
+use Rattle.std.specs.Prelude.{Result, Ok, Err, OnOk}
+use Rattle.std.specs.Result.{is_err}
+use Rattle.std.proofs.lemmas.Bool.{true≢false}
+use Rattle.termwiz_cell.specs.ChangeValue.{ChangeValue}
+use Rattle.termwiz_screen.specs.Log.{LogValue, next_number, appended, flushed, passed}
+use Rattle.termwiz_screen.specs.Picture.{Pictures, screens, full_screens}
+use Rattle.termwiz_screen.specs.Step.{replay, replay_kept}
+use Rattle.termwiz_screen.proofs.Logs.{passed-flushed, passed-unknown}
+use Rattle.termwiz_surface.specs.Adding.{with_log}
+use Rattle.termwiz_surface.specs.Asking.{knows}
+use Rattle.termwiz_surface.specs.Following.{ViewerValue, Follows}
+use Rattle.termwiz_surface.specs.History.{KeepsNames, NamesGoOn}
+use Rattle.termwiz_surface.specs.Surface.{SurfaceValue, Becomes, screen_of, kept_of, full_of}
+use Rattle.termwiz_surface.specs.Unlogged.{MakesUnlogged}
+use Rattle.termwiz_surface.proofs.Following.{Follows-makes, Leads-flushed}
+use Rattle.termwiz_surface.proofs.Remembering.{keeps_makes, keeps_flushed}
+
+-- a call succeeded, and this holds then
+pub on-ok : {E A : Type 0} (result : Result (Unit {0}) E) → is_err result ≡ false → OnOk result A → A
+on-ok (Ok u) e a = a
+on-ok (Err x) e a = absurd (true≢false e)
+
+-- two steps that leave what numbers name
+names-then : {P : Type 0} (pictures : Pictures P) {W : Type 0} (f : List ℕ → ℕ) (s t u : SurfaceValue W) → NamesGoOn pictures f s t → NamesGoOn pictures f t u → NamesGoOn pictures f s u
+names-then pictures f s t u first second = λ past is.
+    let one = first past is in
+    let two = second one.later one.is_past in
+    record {
+      later = two.later;
+      alike = λ k le. two.alike k (omega (arith, le, one.grows)) ∙ one.alike k le;
+      grows = omega (arith, one.grows, two.grows);
+      is_past = two.is_past;
+    }
+
+module _ {W : Type 0} where
+  keeps-then : (f : List ℕ → ℕ) (s t u : SurfaceValue W) → KeepsNames f s t → KeepsNames f t u → KeepsNames f s u
+  keeps-then f s t u first second = record {
+    screen = names-then screens f s t u first.screen second.screen;
+    full = names-then full_screens f s t u first.full second.full;
+  }
+
+  -- the changes were made, and then counted
+  pub makes-unlogged : (f : List ℕ → ℕ) (s m : SurfaceValue W) (cs : List ChangeValue) → Becomes s (replay f (screen_of s) cs) (replay_kept f (screen_of s) (kept_of s) cs) m → MakesUnlogged f s cs (with_log m (passed m.log (length cs)))
+  makes-unlogged f s m cs b = (
+    with_log m (appended s.log cs),
+    record {
+      widths = b.widths;
+      width = b.width;
+      height = b.height;
+      full = b.full;
+      log = refl;
+      screen_is = b.screen_is;
+      kept_is = b.kept_is;
+    },
+    ap (λ (l : LogValue). with_log m l) (ap (λ (l : LogValue). passed l (length cs)) b.log ∙ passed-flushed s.log cs),
+  )
+
+  module _ (f : List ℕ → ℕ) (s t : SurfaceValue W) (cs : List ChangeValue) (m : MakesUnlogged f s cs t) where
+    pub unlogged-log : t.log ≡ passed s.log (length cs)
+    unlogged-log = ap (λ (v : SurfaceValue W). v.log) m.2 ∙ ap (λ (l : LogValue). flushed l (next_number l)) m.1.log ∙ sym (passed-flushed s.log cs)
+
+    pub unlogged-unknown : (n : ℕ) → (n ≡ next_number t.log → ⊥) → knows t n ≡ false
+    unlogged-unknown n = rw unlogged-log (passed-unknown s.log (length cs) _ n)
+
+    pub keeps-unlogged : KeepsNames f s t
+    keeps-unlogged = subst (KeepsNames f s) (sym m.2) (keeps-then f s m.0 _ (keeps_makes f s m.0 cs m.1) (keeps_flushed f m.0 (next_number m.0.log)))
+
+  Follows-flushed : (f : W → List ℕ → ℕ) (v : ViewerValue W) (s : SurfaceValue W) (n : ℕ) → Follows f v s → Follows f v (with_log s (flushed s.log n))
+  Follows-flushed f v s n h = record {
+    one_measure = h.one_measure;
+    leads = Leads-flushed screens (f s.widths) (screen_of v.surface) (screen_of s) v.last n s.log h.leads;
+    full = λ e. Leads-flushed full_screens (f s.widths) (full_of v.surface) (full_of s) v.last n s.log (h.full e);
+  }
+
+  pub Follows-unlogged : (f : W → List ℕ → ℕ) (v : ViewerValue W) (s t : SurfaceValue W) (cs : List ChangeValue) → MakesUnlogged (f s.widths) s cs t → Follows f v s → Follows f v t
+  Follows-unlogged f v s t cs m h = subst (Follows f v) (sym m.2) (Follows-flushed f v m.0 (next_number m.0.log) (Follows-makes f v s m.0 cs h m.1))

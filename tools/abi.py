@@ -1,6 +1,7 @@
 #!/usr/bin/env python3
 """Writes the declarations of `bindings/c/tikeburo.h` and `bindings/rust/src/ffi.rs` from what
-`crates/tikeburo_c` exports, and the header's version from `bindings/rust/Cargo.toml`.
+`crates/tikeburo_c` exports, and the version of the header and of `tk_version_number` from
+`bindings/rust/Cargo.toml`.
 
     tools/abi.py           writes them
     tools/abi.py --check   fails where one differs from the exports
@@ -22,8 +23,10 @@ HEADER = TOP / "bindings" / "c" / "tikeburo.h"
 MANIFEST = TOP / "bindings" / "rust" / "Cargo.toml"
 RUST = TOP / "bindings" / "rust" / "src"
 FFI = RUST / "ffi.rs"
+VERSION = TOP / "crates" / "tikeburo_c" / "src" / "version.rt"
 STRUCTS = {"Handle": "tk_handle", "ColorFields": "tk_color", "AttributeFields": "tk_attributes",
-           "CellFields": "tk_cell", "ChangeFields": "tk_change", "FaultFields": "tk_fault"}
+           "CellFields": "tk_cell", "ChangeFields": "tk_change", "FaultFields": "tk_fault",
+           "StateFields": "tk_settings"}
 PLAIN = {"usize": "size_t", "isize": "ptrdiff_t", "u8": "uint8_t", "i32": "tk_status",
          "bool": "bool"}
 IN_RUST = {"size_t": "usize", "ptrdiff_t": "isize", "uint8_t": "u8", "char": "u8", "void": "c_void",
@@ -35,7 +38,7 @@ ENUMS = {"Failure": "", "Intensity": "INTENSITY_", "Underline": "UNDERLINE_", "B
          "Kind": "CHANGE_"}
 NAMES = {"PaletteIndex": "PALETTE", "TrueColorWithDefaultFallback": "TRUE",
          "TrueColorWithPaletteFallback": "TRUE_OR_PALETTE"}
-DECLARATION = re.compile(r"^(tk_status|void) (tk_\w+)\(([^;{]*)\);", re.M)
+DECLARATION = re.compile(r"^(tk_status|void|size_t) (tk_\w+)\(([^;{]*)\);", re.M)
 
 
 def items(kind):
@@ -62,8 +65,8 @@ def parameters(item):
     inside, result = match.groups()
     found = []
     for parameter in re.split(r", (?=\w+: )", inside):
-        name, rust = parameter.strip().split(": ", 1)
-        if rust == "Global":
+        name, _, rust = parameter.strip().partition(": ")
+        if rust in ("", "Global"):
             continue
         if rust in PLAIN:
             found.append((PLAIN[rust], name))
@@ -99,6 +102,8 @@ def in_c(kind, name):
 
 def declared(result, name, found):
     """A declaration, laid out in 100 columns."""
+    if not found:
+        return f"{result} {name}(void);"
     line, lines = f"{result} {name}(", []
     indent = " " * len(line)
     for k, parameter in enumerate(found):
@@ -212,17 +217,29 @@ def numbered(header, known):
     return header
 
 
+def current_version():
+    """The version of the Rust crate, and as one number."""
+    version = re.search(r'^version = "(.*)"$', MANIFEST.read_text(), re.M).group(1)
+    major, minor, patch = map(int, version.split("."))
+    return version, 1000000 * major + 1000 * minor + patch
+
+
 def versioned(header):
     """The header with the version of the Rust crate."""
-    version = re.search(r'^version = "(.*)"$', MANIFEST.read_text(), re.M).group(1)
+    version, number = current_version()
     words = [f'VERSION "{version}"', *(f"VERSION_{part} {number}" for part, number in zip(
-        ("MAJOR", "MINOR", "PATCH"), version.split(".")))]
+        ("MAJOR", "MINOR", "PATCH"), version.split("."))), f"VERSION_NUMBER {number}"]
     for word in words:
         name = word.split()[0]
         header, count = re.subn(rf"(?m)^#define TK_{name} .*$", f"#define TK_{word}", header)
         if count != 1:
             sys.exit(f"tools/abi.py: tikeburo.h defines TK_{name} {count} times")
     return header
+
+
+def numbered_version(text):
+    """The file of `tk_version_number` with the version of the Rust crate."""
+    return re.sub(r"(?m)( ≡ |^    )\d+", rf"\g<1>{current_version()[1]}", text)
 
 
 def check_texts(header):
@@ -282,6 +299,7 @@ def main():
     header = versioned(numbered(header, known))
     check_texts(header)
     write(HEADER, header, check, Path(__file__).name)
+    write(VERSION, numbered_version(VERSION.read_text()), check, Path(__file__).name)
     write(FFI, ffi(FFI.read_text(), made, known), check, Path(__file__).name)
 
 

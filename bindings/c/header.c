@@ -1,5 +1,5 @@
-/* Tests what tikeburo.h has itself: its version, and the texts of statuses. It prints the version,
- * and ends with status 1 where anything is wrong. */
+/* Tests the versions of tikeburo.h and of the library, and the texts of statuses. It prints the
+ * version, and ends with status 1 where anything is wrong. */
 #include "tikeburo.h"
 #include <stdio.h>
 #include <string.h>
@@ -23,6 +23,9 @@ static void test_versions(void) {
              TK_VERSION_PATCH);
     CHECK(same(version, TK_VERSION));
     CHECK(same(tk_version(), TK_VERSION));
+    CHECK(TK_VERSION_NUMBER ==
+          1000000 * TK_VERSION_MAJOR + 1000 * TK_VERSION_MINOR + TK_VERSION_PATCH);
+    CHECK(tk_version_number() == TK_VERSION_NUMBER);
 }
 
 /* Each status has a text of its own, and all other numbers have one. */

@@ -105,6 +105,27 @@ static bool same_cells(tk_handle *a, tk_handle *b, size_t column, size_t row) {
            memcmp(&cell_a, &cell_b, sizeof cell_a) == 0;
 }
 
+static bool same_settings(tk_handle *a, tk_handle *b) {
+    tk_settings of_a, of_b;
+    char uri_a[64], uri_b[64];
+    size_t len_a = 0, len_b = 0;
+    EXPECT(tk_state(a, &of_a) == TK_DONE && tk_state(b, &of_b) == TK_DONE);
+    EXPECT(tk_pen_link(a, uri_a, sizeof uri_a, &len_a) == TK_DONE);
+    EXPECT(tk_pen_link(b, uri_b, sizeof uri_b, &len_b) == TK_DONE);
+    return of_a.source == of_b.source && of_a.number == of_b.number && of_a.is_full &&
+           of_b.is_full && of_a.has_link == of_b.has_link && len_a == len_b &&
+           memcmp(uri_a, uri_b, len_a) == 0 && of_a.cursor_shape == of_b.cursor_shape &&
+           memcmp(&of_a.cursor_color, &of_b.cursor_color, sizeof of_a.cursor_color) == 0 &&
+           memcmp(&of_a.pen, &of_b.pen, sizeof of_a.pen) == 0;
+}
+
+static bool same_lines(tk_handle *a, tk_handle *b, size_t row) {
+    uint8_t line_a, line_b;
+    EXPECT(tk_line_attribute(a, row, &line_a) == TK_DONE);
+    EXPECT(tk_line_attribute(b, row, &line_b) == TK_DONE);
+    return line_a == line_b && line_a <= TK_LINE_SINGLE_WIDTH;
+}
+
 static bool same_screens(tk_handle *a, tk_handle *b) {
     size_t width, height, x_a, y_a, x_b, y_b;
     bool visible_a, visible_b;
@@ -113,9 +134,12 @@ static bool same_screens(tk_handle *a, tk_handle *b) {
     EXPECT(tk_cursor_is_visible(a, &visible_a) == TK_DONE);
     EXPECT(tk_cursor_is_visible(b, &visible_b) == TK_DONE);
     bool same = x_a == x_b && y_a == y_b && visible_a == visible_b && x_a <= width && y_a < height;
-    for (size_t row = 0; row < height; row++)
+    same = same && same_settings(a, b);
+    for (size_t row = 0; row < height; row++) {
+        same = same && same_lines(a, b, row);
         for (size_t column = 0; column < width; column++)
             same = same && same_cells(a, b, column, row);
+    }
     return same;
 }
 
@@ -171,6 +195,20 @@ static tk_status add_random_structs(tk_handle *surface) {
     return tk_add_changes(surface, list, count, (const char *)texts, len - left * below(2));
 }
 
+/* Bytes of any kind are a text, which is cut and measured, or refused. */
+static void cut_random_bytes(void) {
+    uint8_t bytes[16];
+    const char *text = (const char *)bytes;
+    size_t len = fill(bytes, sizeof bytes), columns = SIZE_MAX, first = SIZE_MAX;
+    uint8_t widths = (uint8_t)below(3);
+    tk_status measured = tk_text_width(text, len, widths, &columns);
+    tk_status cut = tk_first_grapheme(text, len, &first);
+    EXPECT(cut == TK_DONE || cut == TK_UNREADABLE);
+    EXPECT(measured == (widths > TK_WIDTHS_ONE_COLUMN ? TK_RANGE : cut));
+    EXPECT(measured == TK_DONE ? columns <= 2 * len : columns == SIZE_MAX);
+    EXPECT(cut == TK_DONE ? first <= len && (first > 0) == (len > 0) : first == SIZE_MAX);
+}
+
 static void random_bytes(tk_handle *surface, tk_handle *client, size_t rounds) {
     uint8_t bytes[64], answer[1024];
     size_t answer_len;
@@ -183,6 +221,7 @@ static void random_bytes(tk_handle *surface, tk_handle *client, size_t rounds) {
         len = random_answer(bytes);
         EXPECT(is_answered(feed(client, bytes, len)));
         EXPECT(is_answered(tk_add_encoded(surface, bytes + 7, len - 7)));
+        cut_random_bytes();
         status = add_random_structs(surface);
         EXPECT(is_answered(status) || status == TK_RANGE);
         if (round % 64 == 0)
@@ -238,6 +277,7 @@ static void great_claims(tk_handle *surface, tk_handle *client) {
 static void freed_handles(void) {
     tk_handle handle = TK_NONE, other = TK_NONE;
     tk_color color = {0};
+    tk_settings settings;
     tk_fault fault;
     char text[4];
     uint8_t bytes[20];
@@ -257,6 +297,9 @@ static void freed_handles(void) {
         EXPECT(tk_client_ask(&handle, bytes, sizeof bytes, &len) == TK_NO_HANDLE);
         EXPECT(tk_client_reset(&handle) == TK_NO_HANDLE);
         EXPECT(tk_number(&handle, &number) == TK_NO_HANDLE);
+        EXPECT(tk_state(&handle, &settings) == TK_NO_HANDLE);
+        EXPECT(tk_pen_link(&handle, text, sizeof text, &len) == TK_NO_HANDLE);
+        EXPECT(tk_line_attribute(&handle, 0, bytes) == TK_NO_HANDLE);
         EXPECT(tk_viewer_new(&other, &handle) == TK_NO_HANDLE);
         EXPECT(tk_follow(&other, &handle) == TK_NO_HANDLE);
         EXPECT(tk_draw(&other, &handle, 0, 0) == TK_NO_HANDLE);
@@ -305,9 +348,21 @@ static void random_pen(tk_handle *surface) {
     }
 }
 
+/* Cursor and pen are as before. */
+static void draw_random_region(tk_handle *surface) {
+    size_t x, y, column, row;
+    tk_settings before, after;
+    EXPECT(tk_cursor(surface, &x, &y) == TK_DONE && tk_state(surface, &before) == TK_DONE);
+    EXPECT(tk_draw_region(surface, place(), place(), place(), place(), place(), place()) ==
+           TK_DONE);
+    EXPECT(tk_cursor(surface, &column, &row) == TK_DONE && column == x && row == y);
+    EXPECT(tk_state(surface, &after) == TK_DONE && after.has_link == before.has_link);
+    EXPECT(memcmp(&after.pen, &before.pen, sizeof after.pen) == 0);
+}
+
 static void random_change(tk_handle *surface, tk_handle *source) {
     tk_color color = {(uint8_t)below(5), 1, 2, 3, 4};
-    switch (below(10)) {
+    switch (below(11)) {
     case 0:
         EXPECT(tk_move_to(surface, place(), place()) == TK_DONE);
         break;
@@ -334,6 +389,9 @@ static void random_change(tk_handle *surface, tk_handle *source) {
         EXPECT(tk_draw(surface, source, place(), place()) == TK_DONE);
         break;
     case 8:
+        draw_random_region(surface);
+        break;
+    case 9:
         random_pen(surface);
         break;
     default:

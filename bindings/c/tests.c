@@ -1,5 +1,6 @@
-/* Calls every function of tikeburo.h but those for lists of changes (lists.c): what it does, and each error that it names and that can be
- * brought about. It ends with `N checks`, and with status 1 where any of them failed.
+/* Calls every function of tikeburo.h but those of lists.c and settings.c: what it does, and each
+ * error that it names and that can be brought about. It ends with `N checks`, and with status 1
+ * where any of them failed.
  *
  * Not brought about are TK_NUMBERS, for which 2^64 changes would be needed, and TK_MEMORY, which
  * example.c meets where its memory is refused. */
@@ -23,6 +24,7 @@ static void test_structs(void) {
     CHECK(sizeof(tk_attributes) == 26);
     CHECK(sizeof(tk_cell) == 28);
     CHECK(sizeof(tk_change) == 56);
+    CHECK(sizeof(tk_settings) == 56);
     CHECK(sizeof(tk_fault) == 24);
 }
 
@@ -285,31 +287,6 @@ static void test_scrolls(void) {
     tk_free(&surface);
 }
 
-static void test_states(void) {
-    tk_handle surface = made(4, 2), none = TK_NONE;
-    char text[4];
-    size_t len = 99;
-    CHECK(tk_set_title(&surface, "notes", 5) == TK_DONE && title_is(&surface, "notes"));
-    CHECK(tk_title(&surface, text, sizeof text, &len) == TK_SHORT && len == 5);
-    CHECK(tk_set_title(&surface, "\xc3", 1) == TK_UNREADABLE && title_is(&surface, "notes"));
-    CHECK(tk_set_title(&surface, "", 0) == TK_DONE && title_is(&surface, ""));
-    CHECK(tk_set_title(&none, "x", 1) == TK_NO_HANDLE);
-    CHECK(tk_show_cursor(&surface, false) == TK_DONE && is_visible(&surface, false));
-    CHECK(tk_show_cursor(&surface, true) == TK_DONE && is_visible(&surface, true));
-    CHECK(tk_show_cursor(&none, true) == TK_NO_HANDLE);
-    CHECK(tk_set_cursor_shape(&surface, TK_CURSOR_STEADY_BAR) == TK_DONE);
-    CHECK(tk_set_cursor_shape(&surface, 7) == TK_RANGE);
-    CHECK(tk_set_cursor_shape(&none, 0) == TK_NO_HANDLE);
-    CHECK(tk_set_cursor_color(&surface, &ORANGE) == TK_DONE);
-    CHECK(tk_set_cursor_color(&surface, &NO_SUCH_COLOR) == TK_RANGE);
-    CHECK(tk_set_cursor_color(&none, &ORANGE) == TK_NO_HANDLE);
-    CHECK(tk_set_line_attribute(&surface, TK_LINE_DOUBLE_WIDTH) == TK_DONE);
-    CHECK(tk_set_line_attribute(&surface, 4) == TK_RANGE);
-    CHECK(tk_set_line_attribute(&none, 3) == TK_NO_HANDLE);
-    CHECK(number_is(&surface, 7));
-    tk_free(&surface);
-}
-
 static void test_draws(void) {
     tk_handle screen = made(6, 2), widget = made(2, 2), viewer = TK_NONE, none = TK_NONE;
     CHECK(print(&widget, "abcd") == TK_DONE);
@@ -327,6 +304,8 @@ static void test_draws(void) {
     CHECK(screen_is(&screen, " abab\n cdcda\n"));
     CHECK(tk_copy(&screen, 0, 0, SIZE_MAX, SIZE_MAX, SIZE_MAX, SIZE_MAX) == TK_DONE);
     CHECK(tk_copy(&viewer, 0, 0, 1, 1, 0, 0) == TK_WRONG_KIND);
+    CHECK(tk_draw_region(&viewer, 0, 0, 1, 1, 0, 0) == TK_WRONG_KIND);
+    CHECK(tk_draw_region(&none, 0, 0, 1, 1, 0, 0) == TK_NO_HANDLE);
     CHECK(tk_copy(&none, 0, 0, 1, 1, 0, 0) == TK_NO_HANDLE);
     CHECK(screen_is(&screen, " abab\n cdcda\n"));
     tk_free(&viewer);
@@ -593,7 +572,6 @@ int main(void) {
     test_links();
     test_clears();
     test_scrolls();
-    test_states();
     test_draws();
     test_reads();
     test_streams();

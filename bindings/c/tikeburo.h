@@ -40,6 +40,7 @@
 #define TK_VERSION_MAJOR 0
 #define TK_VERSION_MINOR 9
 #define TK_VERSION_PATCH 0
+#define TK_VERSION_NUMBER 9000
 
 #include <stdbool.h>
 #include <stddef.h>
@@ -93,8 +94,13 @@ static inline const char *tk_strerror(tk_status status) {
     }
 }
 
-/* TK_VERSION, of the header that a program is compiled with: a shared library may be another. */
+/* TK_VERSION, of the header that a program is compiled with. */
 static inline const char *tk_version(void) { return TK_VERSION; }
+
+/* The version of the library that a program runs with, as TK_VERSION_NUMBER is that of its header:
+ * 1000000 times the first of its numbers, 1000 times the second, and the third. A shared library
+ * may be another than the one that the program was made with. */
+size_t tk_version_number(void);
 
 /* A handle on a surface, a viewer or a client, or on none. */
 typedef struct tk_handle {
@@ -159,6 +165,19 @@ typedef struct tk_cell {
     tk_attributes attributes;
 } tk_cell;
 
+/* What is set beside the rows. `source` is the number of the surface, or of the one that a viewer or
+ * a client shows, and `number` that of its coming change when it was as it is shown: 0 where it
+ * isn't shown yet. Both are 0 where none is shown that has a number. */
+typedef struct tk_settings {
+    size_t source;
+    size_t number;
+    bool is_full;          /* whether answers carry all of this too, as all of this library's do */
+    bool has_link;         /* whether the pen has a link, which tk_pen_link reads */
+    uint8_t cursor_shape;  /* TK_CURSOR_DEFAULT .. */
+    tk_color cursor_color; /* the default one where the cursor has none of its own */
+    tk_attributes pen;     /* the attributes of coming texts */
+} tk_settings;
+
 /* ---- Surfaces ---- */
 
 /* How texts are measured. */
@@ -198,12 +217,21 @@ tk_status tk_cursor_is_visible(tk_handle *handle, bool *is_visible);
 /* The title, empty at first. TK_SHORT. */
 tk_status tk_title(tk_handle *handle, char *text, size_t room, size_t *len);
 
+/* What is set beside the rows: the pen, and the cursor's shape and colour. */
+tk_status tk_state(tk_handle *handle, tk_settings *state);
+
+/* The uri of the pen's link, which is empty where it has none. TK_SHORT. */
+tk_status tk_pen_link(tk_handle *handle, char *uri, size_t room, size_t *len);
+
 /* The texts of all rows' visible cells within their stored lengths, with a line feed after each
  * row. TK_SHORT. */
 tk_status tk_screen_text(tk_handle *handle, char *text, size_t room, size_t *len);
 
 /* The texts of a row's visible cells within its stored length. TK_RANGE: the row. TK_SHORT. */
 tk_status tk_row_text(tk_handle *handle, size_t row, char *text, size_t room, size_t *len);
+
+/* How large a row is shown: TK_LINE_DOUBLE_HEIGHT_TOP_HALF .. TK_RANGE: the row. */
+tk_status tk_line_attribute(tk_handle *handle, size_t row, uint8_t *attribute);
 
 /* The cell at a column of a row: its text into the buffer, and the rest into *cell. The next
  * cell is `cell->columns` further: the second column of a wide cell holds a blank one.
@@ -215,6 +243,17 @@ tk_status tk_cell_at(tk_handle *handle, size_t column, size_t row, tk_cell *cell
  * TK_RANGE: the row or the column. TK_SHORT. */
 tk_status tk_link_at(tk_handle *handle, size_t column, size_t row, char *uri, size_t room,
                      size_t *len);
+
+/* ---- Texts, as surfaces cut and measure them. They are read whole, at each call. ---- */
+
+/* The columns of a text by these widths: the sum over its graphemes, each of which has 0 to 2. A
+ * cell has at least 1, also where its grapheme has none, as a combining mark by itself.
+ * TK_RANGE: widths. TK_UNREADABLE: the text is no UTF-8. */
+tk_status tk_text_width(const char *text, size_t len, uint8_t widths, size_t *columns);
+
+/* The length of the first grapheme of a text, 0 of the empty one. What follows it is cut as a text
+ * of its own. TK_UNREADABLE: the text is no UTF-8. */
+tk_status tk_first_grapheme(const char *text, size_t len, size_t *bytes);
 
 /* ---- Changes of a surface ----
  *
@@ -450,9 +489,14 @@ static inline tk_status tk_set_line_attribute(tk_handle *surface, uint8_t attrib
 tk_status tk_draw(tk_handle *surface, tk_handle *source, size_t column, size_t row);
 
 /* Copies what the region of this column, row, width and height shows to the region of this size at
- * another column and row. Both are cut to what fits. It is logged as a list of changes. */
+ * another column and row. Both are cut to what fits. It is logged as a list of changes: where they
+ * print anything, the cursor is behind what they printed last, and the pen is the one of that. */
 tk_status tk_copy(tk_handle *surface, size_t column, size_t row, size_t width, size_t height,
                   size_t to_column, size_t to_row);
+
+/* Copies as tk_copy does, and leaves cursor and pen as before. */
+tk_status tk_draw_region(tk_handle *surface, size_t column, size_t row, size_t width,
+                         size_t height, size_t to_column, size_t to_row);
 
 /* ---- Viewers: in one process ---- */
 

@@ -91,6 +91,18 @@ pub struct tk_change {
 
 #[repr(C)]
 #[derive(Default)]
+pub struct tk_settings {
+    pub source: usize,
+    pub number: usize,
+    pub is_full: bool,
+    pub has_link: bool,
+    pub cursor_shape: u8,
+    pub cursor_color: tk_color,
+    pub pen: tk_attributes,
+}
+
+#[repr(C)]
+#[derive(Default)]
 pub struct tk_fault {
     pub kind: u8,
     pub has_change: bool,
@@ -113,6 +125,8 @@ extern "C" {
     pub fn tk_cursor(handle: *mut tk_handle, column: *mut usize, row: *mut usize) -> i32;
     pub fn tk_cursor_is_visible(handle: *mut tk_handle, is_visible: *mut bool) -> i32;
     pub fn tk_title(handle: *mut tk_handle, text: *mut u8, room: usize, len: *mut usize) -> i32;
+    pub fn tk_state(handle: *mut tk_handle, state: *mut tk_settings) -> i32;
+    pub fn tk_pen_link(handle: *mut tk_handle, uri: *mut u8, room: usize, len: *mut usize) -> i32;
     pub fn tk_screen_text(
         handle: *mut tk_handle,
         text: *mut u8,
@@ -126,6 +140,7 @@ extern "C" {
         room: usize,
         len: *mut usize,
     ) -> i32;
+    pub fn tk_line_attribute(handle: *mut tk_handle, row: usize, attribute: *mut u8) -> i32;
     pub fn tk_cell_at(
         handle: *mut tk_handle,
         column: usize,
@@ -143,6 +158,7 @@ extern "C" {
         room: usize,
         len: *mut usize,
     ) -> i32;
+    pub fn tk_text_width(text: *const u8, len: usize, widths: u8, columns: *mut usize) -> i32;
     pub fn tk_add_changes(
         surface: *mut tk_handle,
         changes: *const tk_change,
@@ -157,6 +173,15 @@ extern "C" {
         row: usize,
     ) -> i32;
     pub fn tk_copy(
+        surface: *mut tk_handle,
+        column: usize,
+        row: usize,
+        width: usize,
+        height: usize,
+        to_column: usize,
+        to_row: usize,
+    ) -> i32;
+    pub fn tk_draw_region(
         surface: *mut tk_handle,
         column: usize,
         row: usize,
@@ -204,6 +229,7 @@ mod tests {
         assert_eq!(size_of::<tk_attributes>(), 26);
         assert_eq!(size_of::<tk_cell>(), 28);
         assert_eq!(size_of::<tk_change>(), 56);
+        assert_eq!(size_of::<tk_settings>(), 56);
         assert_eq!(size_of::<tk_fault>(), 24);
     }
 }

@@ -1,7 +1,28 @@
 //! Texts, as surfaces cut and measure them.
 
 use crate::error::Error;
+use crate::ffi;
 use crate::surface::{Surface, Widths};
+
+/// The columns of a text: the sum over its graphemes, each of which has 0 to 2. A cell has at least
+/// 1, also where its grapheme has none, as a combining mark by itself; [`graphemes`] has the
+/// columns of cells.
+///
+/// # Examples
+///
+/// ```
+/// use tikeburo::{text_width, Widths};
+///
+/// assert_eq!(text_width("か x", Widths::Unicode), 4);
+/// assert_eq!(text_width("か x", Widths::OneColumn), 3);
+/// ```
+#[must_use]
+pub fn text_width(text: &str, widths: Widths) -> usize {
+    let mut columns = 0;
+    // Safety: the text is only read, and then the call doesn't fail: it is UTF-8.
+    unsafe { ffi::tk_text_width(text.as_ptr(), text.len(), widths as u8, &mut columns) };
+    columns
+}
 
 /// The graphemes of a text and their columns, as a surface cuts and measures them: 1 or 2 each. A
 /// control character, which no surface prints, has 0.
@@ -94,6 +115,14 @@ mod tests {
             (" ", 1),
         ];
         assert_eq!(unicode(text), wanted);
+    }
+
+    #[test]
+    fn the_columns_of_a_text_are_those_of_its_graphemes() {
+        assert_eq!(text_width("", Widths::Unicode), 0);
+        assert_eq!(text_width("e\u{301}か👩‍🚀🇩🇪☂️ x ", Widths::Unicode), 12);
+        assert_eq!(text_width("e\u{301}か👩‍🚀🇩🇪☂️ x ", Widths::OneColumn), 8);
+        assert_eq!(text_width("\u{301}", Widths::Unicode), 0);
     }
 
     #[test]

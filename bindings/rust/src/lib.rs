@@ -91,7 +91,7 @@ pub use client::{Ask, Client, Limits};
 pub use color::{ColorAttribute, PaletteIndex, RgbColor};
 pub use error::Error;
 pub use fault::{Fault, FaultKind};
-pub use graphemes::graphemes;
+pub use graphemes::{graphemes, text_width};
 pub use recording::Recorder;
 pub use rows::{Cell, Cells, Row, Rows};
 pub use screen::Screen;

@@ -1,6 +1,7 @@
 //! Rows and cells that are shown.
 
 use crate::attributes::{Attributes, Hyperlink};
+use crate::change::LineAttribute;
 use crate::error::Error;
 use crate::ffi::{self, tk_cell};
 use crate::handle;
@@ -76,6 +77,20 @@ impl<'a> Row<'a> {
         handle::text(|text, room, len| unsafe {
             ffi::tk_row_text(handle, self.number, text, room, len)
         })
+    }
+
+    /// How large it is shown.
+    ///
+    /// # Errors
+    ///
+    /// [`Error::Range`]: the screen has no such row.
+    pub fn line_attribute(&self) -> Result<LineAttribute, Error> {
+        let mut number = 0;
+        // Safety: the screen's handle is live, and the call writes the number alone.
+        Error::check(unsafe {
+            ffi::tk_line_attribute(self.screen.handle.get(), self.number, &mut number)
+        })?;
+        number.try_into()
     }
 
     /// Its visible cells from the left, up to the screen's width: after a wide cell comes the one

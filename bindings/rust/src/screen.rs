@@ -1,8 +1,10 @@
 //! What is shown, and how it is read.
 
-use crate::change::CursorVisibility;
+use crate::attributes::{Attributes, Hyperlink};
+use crate::change::{CursorShape, CursorVisibility};
+use crate::color::ColorAttribute;
 use crate::error::Error;
-use crate::ffi;
+use crate::ffi::{self, tk_settings};
 use crate::handle::{self, Handle};
 use crate::rows::{Row, Rows};
 use std::fmt;
@@ -46,6 +48,65 @@ impl Screen {
         // Safety: the handle is live, and then the call doesn't fail.
         unsafe { ffi::tk_cursor_is_visible(self.handle.get(), &mut is_visible) };
         is_visible.into()
+    }
+
+    /// The cursor's shape, which is the default one where none was set.
+    #[must_use]
+    pub fn cursor_shape(&self) -> CursorShape {
+        self.settings().cursor_shape.try_into().unwrap_or_default()
+    }
+
+    /// The cursor's colour, which is the default one where none was set.
+    #[must_use]
+    pub fn cursor_color(&self) -> ColorAttribute {
+        self.settings().cursor_color.into()
+    }
+
+    /// The pen: the attributes of coming texts.
+    ///
+    /// # Errors
+    ///
+    /// [`Error::Memory`].
+    ///
+    /// # Examples
+    ///
+    /// Prints a word in bold, and goes on as before:
+    ///
+    /// ```
+    /// use tikeburo::{AttributeChange, Change, Error, Intensity, Surface};
+    ///
+    /// let mut surface = Surface::new(12, 1)?;
+    /// surface.add_change(AttributeChange::Italic(true))?;
+    /// let pen = surface.pen()?;
+    /// surface.add_change(AttributeChange::Intensity(Intensity::Bold))?;
+    /// surface.add_change("word")?;
+    /// surface.add_change(Change::AllAttributes(pen.clone()))?;
+    /// assert_eq!(surface.pen()?, pen);
+    /// # Ok::<(), Error>(())
+    /// ```
+    pub fn pen(&self) -> Result<Attributes, Error> {
+        let settings = self.settings();
+        let hyperlink = if settings.has_link {
+            Some(self.pen_link()?)
+        } else {
+            None
+        };
+        Ok(Attributes::new(&settings.pen, hyperlink))
+    }
+
+    fn pen_link(&self) -> Result<Hyperlink, Error> {
+        let handle = self.handle.get();
+        // Safety: the handle is live, and the buffer has the room that is named.
+        let uri =
+            handle::text(|uri, room, len| unsafe { ffi::tk_pen_link(handle, uri, room, len) })?;
+        Ok(Hyperlink::new(uri))
+    }
+
+    fn settings(&self) -> tk_settings {
+        let mut settings = tk_settings::default();
+        // Safety: the handle is live, and then the call doesn't fail.
+        unsafe { ffi::tk_state(self.handle.get(), &mut settings) };
+        settings
     }
 
     /// The title, which is empty at first.

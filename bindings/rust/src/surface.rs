@@ -240,7 +240,8 @@ impl Surface {
     }
 
     /// Copies what the region of this column, row, width and height shows to the region of this
-    /// size at another column and row. Both are cut to what fits.
+    /// size at another column and row. Both are cut to what fits. Where it prints anything, the
+    /// cursor is behind what it printed last, and the pen is the one of that.
     ///
     /// # Errors
     ///
@@ -257,6 +258,27 @@ impl Surface {
         let handle = self.handle.get();
         // Safety: the handle is live.
         Error::check(unsafe { ffi::tk_copy(handle, src_x, src_y, width, height, dest_x, dest_y) })
+    }
+
+    /// Copies a region as [`Surface::copy_region`] does, and leaves cursor and pen as before.
+    ///
+    /// # Errors
+    ///
+    /// [`Error::Numbers`] and [`Error::Memory`], as of [`Surface::add_change`].
+    pub fn draw_region(
+        &mut self,
+        src_x: usize,
+        src_y: usize,
+        width: usize,
+        height: usize,
+        dest_x: usize,
+        dest_y: usize,
+    ) -> Result<(), Error> {
+        let handle = self.handle.get();
+        // Safety: the handle is live.
+        Error::check(unsafe {
+            ffi::tk_draw_region(handle, src_x, src_y, width, height, dest_x, dest_y)
+        })
     }
 
     /// Takes another size, as [`Surface::new`] has it: rows are cut or filled with blanks, and the

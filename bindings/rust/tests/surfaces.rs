@@ -273,11 +273,35 @@ fn states_beside_the_screen_are_kept() {
         Change::CursorVisibility(CursorVisibility::Hidden),
         Change::CursorShape(CursorShape::SteadyBar),
         Change::CursorColor(ColorAttribute::TrueColorWithDefaultFallback(ORANGE)),
-        Change::LineAttribute(LineAttribute::SingleWidthLine),
+        Change::LineAttribute(LineAttribute::DoubleWidthLine),
     ];
+    let orange = ColorAttribute::TrueColorWithDefaultFallback(ORANGE);
+    assert_eq!(surface.cursor_shape(), CursorShape::Default);
+    assert_eq!(surface.cursor_color(), ColorAttribute::Default);
     assert_eq!(surface.add_changes(&changes), Ok(5));
     assert_eq!(surface.title().unwrap(), "notes か");
     assert_eq!(surface.cursor_visibility(), CursorVisibility::Hidden);
+    assert_eq!(surface.cursor_shape(), CursorShape::SteadyBar);
+    assert_eq!(surface.cursor_color(), orange);
+    let line = surface.row(0).line_attribute();
+    assert_eq!(line, Ok(LineAttribute::DoubleWidthLine));
+    assert_eq!(surface.row(1).line_attribute(), Err(Error::Range));
+}
+
+#[test]
+fn the_pen_is_read_as_it_was_set() {
+    let mut surface = Surface::new(4, 1).unwrap();
+    assert_eq!(surface.pen(), Ok(Attributes::default()));
+    let pen = Attributes {
+        underline: Underline::Curly,
+        overline: true,
+        background: ColorAttribute::PaletteIndex(4),
+        hyperlink: Some(Hyperlink::new("uri:a")),
+        ..Attributes::default()
+    };
+    let change = Change::AllAttributes(pen.clone());
+    surface.add_change(change).unwrap();
+    assert_eq!(surface.pen(), Ok(pen));
 }
 
 #[test]
@@ -302,6 +326,10 @@ fn a_surface_is_drawn_and_copied() {
     assert_eq!(rows(&screen), [" ab", " cd"]);
     screen.copy_region(1, 0, 2, 1, 3, 1).unwrap();
     assert_eq!(rows(&screen), [" ab", " cdab"]);
+    assert_eq!(screen.cursor_position(), (5, 1));
+    screen.draw_region(1, 1, 1, 1, 4, 0).unwrap();
+    assert_eq!(rows(&screen), [" ab c", " cdab"]);
+    assert_eq!(screen.cursor_position(), (5, 1));
 }
 
 #[test]

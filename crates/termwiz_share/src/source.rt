@@ -2,9 +2,9 @@
 ghost use Rattle.std.specs.Prelude.{◌≡◌, ◌≢◌, ◌+◌, ◌-◌, ◌<◌, ◌^◌, ◌∷◌, ◌++◌, [], Err, IfOk, List};
 ghost use Rattle.std.specs.Prelude.{OnErr, OnOk, ℕ, min, vec_len};
 ghost use Rattle.termwiz_share.specs.{Adds, Answers, ClientValue, HasCopied, HasDrawn, IsCopied};
-ghost use Rattle.termwiz_share.specs.{IsDrawn, IsResponse, IsSurfaceSize, KeepsClients};
-ghost use Rattle.termwiz_share.specs.{KeepsViewers, Resizes, Responds, ScrollRegion, Serves};
-ghost use Rattle.termwiz_share.specs.{SourceValue, blank_surface};
+ghost use Rattle.termwiz_share.specs.{IsDrawn, IsRegionDrawn, IsResponse, IsSurfaceSize};
+ghost use Rattle.termwiz_share.specs.{KeepsClients, KeepsViewers, Resizes, Responds};
+ghost use Rattle.termwiz_share.specs.{ScrollRegion, Serves, SourceValue, blank_surface};
 ghost use Rattle.termwiz_share.specs.{change_value, copied_region, length, map, measure};
 ghost use Rattle.termwiz_share.specs.{most_bytes, next_number, screen_of, trimmed, true};
 
@@ -176,6 +176,38 @@ impl<W: Widths> Source<W> {
         self.surface.forget_unneeded();
         self.surface
             .copy_region(src_x, src_y, width, height, dest_x, dest_y)
+    }
+
+    /// Draws a region within the surface, as `Surface::draw_region` does.
+    pub fn draw_region(
+        &mut self,
+        src_x: usize,
+        src_y: usize,
+        width: usize,
+        height: usize,
+        dest_x: usize,
+        dest_y: usize,
+    ) -> Result<SequenceNo, SurfaceError>
+        ensures draws { IsRegionDrawn (measure W.width_of) (trimmed self.old.surface)
+            src_x src_y width height dest_x dest_y result self.new.surface }
+        // All but the rows is as before.
+        ensures restores { OnOk result (screen_of self.new.surface
+            ≡ record (screen_of self.old.surface) { rows = (screen_of self.new.surface).rows }) }
+        // What the region showed before, overlapping or not, where no wide grapheme crosses an
+        // edge.
+        ensures region { OnOk result (
+            let old = screen_of self.old.surface in
+            let r = copied_region old src_x src_y width height dest_x dest_y in
+            HasCopied self.old.surface r (screen_of self.new.surface)) }
+        ensures no_scroll { result ≡ Err ScrollRegion → ⊥ }
+        ensures number { self.new.number ≡ self.old.number }
+        ensures serves { KeepsClients (measure W.width_of) self.old self.new }
+        // Each viewer that follows the surface goes on to, also after an error.
+        ensures followed { KeepsViewers (measure W.width_of) self.old.surface self.new.surface }
+    {
+        self.surface.forget_unneeded();
+        self.surface
+            .draw_region(src_x, src_y, width, height, dest_x, dest_y)
     }
 
     /// Takes another size, as `Surface::resize` does.

@@ -44,3 +44,9 @@ module _ {W : Type 0} where
   IsCopied measure_of old from_x from_y w h x y result new =
       AddsDiff (measure_of old.widths) (measure_of old.widths ≡ measure_of old.widths) (screen_of old).rows (copied_region (screen_of old) from_x from_y w h x y) (λ l. l) old result new
       ⊎ AddsNothing old result new
+
+  -- a region of a surface is copied within it, and where anything is printed, the cursor and the pen are set as they were behind it
+  abbrev pub IsRegionDrawn : (W → List ℕ → ℕ) → SurfaceValue W → ℕ → ℕ → ℕ → ℕ → ℕ → ℕ → Result ℕ SurfaceError → SurfaceValue W → Type 0
+  IsRegionDrawn measure_of old from_x from_y w h x y result new =
+      AddsDiff (measure_of old.widths) (measure_of old.widths ≡ measure_of old.widths) (screen_of old).rows (copied_region (screen_of old) from_x from_y w h x y) (restoring old.x old.y old.pen) old result new
+      ⊎ AddsNothing old result new

@@ -52,7 +52,7 @@ pub use Rattle.termwiz_surface.specs.Surface.{SurfaceValue, blank_surface, scree
 pub use Rattle.termwiz_surface.specs.Adding.{Adds, Makes, with_log}
 pub use Rattle.termwiz_surface.specs.Unlogged.{AddsUnlogged, MakesUnlogged, lent_value}
 pub use Rattle.termwiz_surface.specs.Resizing.{HasResized, Resizes}
-pub use Rattle.termwiz_surface.specs.Copies.{IsDrawn, IsCopied, drawn_region, copied_region}
+pub use Rattle.termwiz_surface.specs.Copies.{IsDrawn, IsCopied, IsRegionDrawn, drawn_region, copied_region}
 pub use Rattle.termwiz_surface.specs.Following.{ViewerValue, Follows, FollowsTo, KeepsViewers, Leads, FullLeads, blank_viewer}
 pub use Rattle.termwiz_surface.specs.History.{Names, IsPast, KeepsNames}
 pub use Rattle.termwiz_surface.specs.Asking.{knows, own_repaint, most_own_entries, Repaints, StreamsFrom, StreamsFullyFrom}

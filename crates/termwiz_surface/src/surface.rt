@@ -94,8 +94,7 @@ impl From<AllocError> for NewSurfaceError {
 ///
 /// `add_change` adds one change, and `add_changes` a list of them: texts, pens, clears, moves and
 /// scrolls. The surface applies them in order, and logs them by their numbers. It also keeps a
-/// title, the cursor's shape and colour, and how large each line is shown; only `full_screen`
-/// returns the colour.
+/// title, the cursor's shape and colour, and how large each line is shown.
 ///
 /// `get_changes` returns what a viewer lacks: the changes since the number that it was last given,
 /// or, where the log no longer has them or they are too many, a repaint, which leads from any

@@ -2,11 +2,12 @@
 use Rattle.std.specs.Prelude.{◌≡◌, ℕ, Option, Some, None, List, [], OnOk, OnErr, nat_lt, slice_get, if◌then◌else◌}
 use Rattle.termwiz_cell.specs.CellValue.{CellValue}
 use Rattle.termwiz_cell.specs.Link.{Link}
-use Rattle.termwiz_surface.specs.{stored, texts_of, visible}
+use Rattle.termwiz_cell.specs.{line_number}
+use Rattle.termwiz_surface.specs.{LineFlags, line_attribute, stored, texts_of, visible}
 use Rattle.termwiz_surface.specs.Surface.{SurfaceValue}
 use Rattle.tikeburo_c.specs.Fields.{cell_fields}
 use Rattle.tikeburo_c.specs.Outcomes.{Outcome}
-use Rattle.tikeburo_c.specs.Results.{Buffer, Gives, OrNoMemory, Refused}
+use Rattle.tikeburo_c.specs.Results.{Buffer, Gives, OrNoMemory, Refused, Returns}
 use Rattle.tikeburo_c.specs.declared.failure.Failure.TheVariants.{Range}
 use Rattle.tikeburo_c.specs.declared.fields.CellFields.{CellFields}
 use Rattle.tikeburo_c.specs.declared.widths.ChosenWidths.{ChosenWidths}
@@ -17,6 +18,14 @@ GivesRow row s = of_row (slice_get s.lines row)
   where
     of_row : Option (List CellValue) → Buffer → Outcome → Buffer → Type 0
     of_row (Some cells) = OrNoMemory (Gives (texts_of (visible cells)))
+    of_row None = Refused Range
+
+-- how large a row that there is is shown
+abbrev pub ReadsLine : ℕ → SurfaceValue ChosenWidths → ℕ → Outcome → ℕ → Type 0
+ReadsLine row s = of_row (slice_get s.flags row)
+  where
+    of_row : Option LineFlags → ℕ → Outcome → ℕ → Type 0
+    of_row (Some flags) = Returns (line_number (line_attribute flags))
     of_row None = Refused Range
 
 -- the cell at a column of a row, if there is one: a default blank stands behind the stored ones

@@ -1,7 +1,7 @@
 -- How surfaces are drawn on others, and regions copied.
 use Rattle.std.specs.Prelude.{◌≡◌, ℕ, Result, Err, OnOk, Option, Some, None}
 use Rattle.termwiz_share.specs.Source.{SourceValue, trimmed}
-use Rattle.termwiz_surface.specs.{HasCopied, HasDrawn, IsCopied, IsDrawn, SurfaceValue, copied_region, screen_of}
+use Rattle.termwiz_surface.specs.{HasCopied, HasDrawn, IsCopied, IsDrawn, IsRegionDrawn, SurfaceValue, copied_region, screen_of}
 use Rattle.termwiz_surface.specs.declared.surface.SurfaceError.{SurfaceError}
 use Rattle.termwiz_surface.specs.declared.surface.SurfaceError.TheVariants.{ScrollRegion}
 use Rattle.tikeburo_c.specs.Changes.{GoesOn}
@@ -40,3 +40,16 @@ pub record CopiesAs (from_x from_y width height x y : ℕ) (old : SourceValue Ch
 
 abbrev pub Copies : (from_x from_y width height x y : ℕ) → SourceValue ChosenWidths → Outcome → SourceValue ChosenWidths → Type 0
 Copies from_x from_y width height x y old outcome new = (result : Result ℕ SurfaceError) × (outcome ≡ outcome_of changing_failure result) × CopiesAs from_x from_y width height x y old result new
+
+-- a region is drawn at another place of its surface as the library draws it
+pub record DrawsRegionAs (from_x from_y width height x y : ℕ) (old : SourceValue ChosenWidths) (result : Result ℕ SurfaceError) (new : SourceValue ChosenWidths) : Type 0 where
+  pub drawn : IsRegionDrawn columns_by (trimmed old.surface) from_x from_y width height x y result new.surface
+  -- all but the rows is as before
+  pub restores : OnOk result (screen_of new.surface ≡ record (screen_of old.surface) { rows = (screen_of new.surface).rows })
+  -- what the region showed before, where no wide grapheme crosses an edge
+  pub region : OnOk result (HasCopied old.surface (copied_region (screen_of old.surface) from_x from_y width height x y) (screen_of new.surface))
+  pub no_scroll : result ≡ Err ScrollRegion → ⊥
+  pub goes_on : GoesOn old new
+
+abbrev pub DrawsRegion : (from_x from_y width height x y : ℕ) → SourceValue ChosenWidths → Outcome → SourceValue ChosenWidths → Type 0
+DrawsRegion from_x from_y width height x y old outcome new = (result : Result ℕ SurfaceError) × (outcome ≡ outcome_of changing_failure result) × DrawsRegionAs from_x from_y width height x y old result new

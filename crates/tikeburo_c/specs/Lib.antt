@@ -13,6 +13,8 @@ pub mod Numbers
 pub mod Outcomes
 pub mod Reading
 pub mod Results
+pub mod States
 pub mod Streams
+pub mod Texts
 pub mod WidthLaws
 pub mod Widths

@@ -3,7 +3,7 @@ ghost use Rattle.std.specs.Prelude.{◌≡◌, ◌⊎◌, IfErr, IfOk, None, Som
 ghost use Rattle.termwiz_cell.specs.CellValue as cell_value;
 ghost use Rattle.termwiz_surface.specs.{texts_of, visible};
 ghost use Rattle.tikeburo_c.specs.Cells.{CellPlace, GivesCell, GivesLink, GivesRow, cell_in};
-ghost use Rattle.tikeburo_c.specs.Cells.{uri_of};
+ghost use Rattle.tikeburo_c.specs.Cells.{ReadsLine, uri_of};
 ghost use Rattle.tikeburo_c.specs.Handles.{kept_of};
 ghost use Rattle.tikeburo_c.specs.Outcomes.{Reports};
 ghost use Rattle.tikeburo_c.specs.Results.{Gives, OrNoMemory, Reads};
@@ -16,7 +16,8 @@ use crate::fields::{CellFields, cell_fields};
 use crate::handle::Handle;
 use crate::widths::ChosenWidths;
 use std::alloc::Global;
-use termwiz_surface::{Cell, Line, Surface};
+use termwiz_screen::full::attribute_of;
+use termwiz_surface::{Cell, CellAttributes, Line, Surface};
 
 fn give_line(line: &Line, room: &mut [u8], len: &mut usize) -> Result<(), Failure>
     ensures { OrNoMemory (Gives (texts_of (visible line.now.cells)))
@@ -31,6 +32,9 @@ fn line_at(surface: &Surface<ChosenWidths>, row: usize) -> Result<&Line, Failure
         slice_get surface.now.lines row ≡ Some line.now.cells) }
     ensures missing { IfErr result (λ failure.
         (failure ≡ Range) × (slice_get surface.now.lines row ≡ None)) }
+    ensures flags { IfOk result (λ line.
+        slice_get surface.now.flags row ≡ Some line.now.flags) }
+    ensures no_flags { IfErr result (λ _. slice_get surface.now.flags row ≡ None) }
 {
     match surface.screen_line(row) {
         Some(line) => Ok(line),
@@ -66,6 +70,41 @@ pub extern "C" fn tk_row_text(
     let outcome = fill(alloc, handle, room, len, |surface, room, len| {
         give_row(surface, row, room, len)
     });
+    status(outcome)
+}
+
+fn read_attribute(
+    surface: &Surface<ChosenWidths>,
+    row: usize,
+    attribute: &mut u8,
+) -> Result<(), Failure>
+    ensures { ReadsLine row surface.now attribute.old result attribute.new }
+{
+    let line = line_at(surface, row)?;
+    *attribute = attribute_of(line).number();
+    Ok(())
+}
+
+/// How large a row is shown, by its number.
+#[unsafe(no_mangle)]
+pub extern "C" fn tk_line_attribute(
+    alloc: Global,
+    handle: &mut Handle,
+    row: usize,
+    attribute: &mut u8,
+) -> i32
+    ensures read { Reports result (λ outcome. Reads (λ s. ReadsLine row s)
+        (kept_of handle.old) attribute.old outcome attribute.new) }
+    ensures same { kept_of handle.new ≡ kept_of handle.old }
+{
+    let outcome = match handle.take(alloc) {
+        Some(kept) => {
+            let outcome = read_attribute(kept.shown(), row, attribute);
+            handle.put(alloc, kept);
+            outcome
+        }
+        None => Err(Failure::NoHandle),
+    };
     status(outcome)
 }
 
@@ -152,10 +191,11 @@ pub extern "C" fn tk_cell_at(
     status(outcome)
 }
 
-fn uri_of(cell: &Cell) -> &str
-    ensures { result.now ≡ uri_of cell.now.attrs.hyperlink }
+/// The target of the attributes' link, or nothing.
+pub(crate) fn uri_of(attrs: &CellAttributes) -> &str
+    ensures { result.now ≡ uri_of attrs.now.hyperlink }
 {
-    match cell.attrs().hyperlink() {
+    match attrs.hyperlink() {
         Some(link) => link.uri(),
         None => "",
     }
@@ -173,7 +213,7 @@ fn read_link(
 {
     let blank = Cell::blank();
     let cell = cell_at(surface, column, row, &blank)?;
-    give(uri_of(cell).as_bytes(), room, len)
+    give(uri_of(cell.attrs()).as_bytes(), room, len)
 }
 
 /// The uri of the link that the cell at a column of a row has, or nothing.

@@ -1,6 +1,6 @@
 //! Surfaces drawn on others, and regions copied within one.
 ghost use Rattle.std.specs.Prelude.{◌≡◌};
-ghost use Rattle.tikeburo_c.specs.Drawing.{Copies, Draws, DrawsSource};
+ghost use Rattle.tikeburo_c.specs.Drawing.{Copies, Draws, DrawsRegion, DrawsSource};
 ghost use Rattle.tikeburo_c.specs.Handles.{kept_of};
 ghost use Rattle.tikeburo_c.specs.Outcomes.{Reports};
 ghost use Rattle.tikeburo_c.specs.Results.{OnSurface};
@@ -85,6 +85,43 @@ pub extern "C" fn tk_copy(
 {
     let outcome = on_surface(alloc, handle, |surface| {
         copy_within(surface, column, row, width, height, to_column, to_row)
+    });
+    status(outcome)
+}
+
+fn draw_within(
+    surface: &mut Source<ChosenWidths>,
+    column: usize,
+    row: usize,
+    width: usize,
+    height: usize,
+    to_column: usize,
+    to_row: usize,
+) -> Result<(), Failure>
+    ensures { DrawsRegion column row width height to_column to_row surface.old result surface.new }
+{
+    surface.draw_region(column, row, width, height, to_column, to_row)?;
+    Ok(())
+}
+
+/// Copies what a region shows to another column and row, and leaves cursor and pen as before.
+#[unsafe(no_mangle)]
+pub extern "C" fn tk_draw_region(
+    alloc: Global,
+    handle: &mut Handle,
+    column: usize,
+    row: usize,
+    width: usize,
+    height: usize,
+    to_column: usize,
+    to_row: usize,
+) -> i32
+    ensures { Reports result (λ outcome.
+        OnSurface (DrawsRegion column row width height to_column to_row)
+        (kept_of handle.old) outcome (kept_of handle.new)) }
+{
+    let outcome = on_surface(alloc, handle, |surface| {
+        draw_within(surface, column, row, width, height, to_column, to_row)
     });
     status(outcome)
 }

@@ -2,7 +2,9 @@
 ghost use Rattle.std.specs.Prelude.{◌≡◌, IfOk, OnErr, OnOk};
 ghost use Rattle.tikeburo_c.specs.Following.{FollowsOne, HasTurned, HasViewer, StepsTo};
 ghost use Rattle.tikeburo_c.specs.Following.{turned_to};
+ghost use Rattle.tikeburo_c.specs.Kept.{number_reached};
 ghost use Rattle.tikeburo_c.specs.Results.{OrNoMemory};
+ghost use Rattle.tikeburo_c.specs.declared.kept.Kept.TheVariants as kinds;
 
 use crate::failure::Failure;
 use crate::widths::ChosenWidths;
@@ -35,6 +37,24 @@ impl Follower {
         ensures { result.now ≡ self.now.viewer.surface }
     {
         self.viewer.surface()
+    }
+
+    /// The number of the surface that it follows, or 0.
+    pub(crate) fn source(&self) -> usize
+        ensures { result ≡ self.now.source }
+    {
+        self.source
+    }
+
+    /// The number of that surface when the viewer followed it last, or 0.
+    pub(crate) fn reached(&self) -> usize
+        ensures { result ≡ number_reached (kinds.Viewer self.now) }
+    {
+        if self.source == 0 {
+            0
+        } else {
+            self.viewer.last()
+        }
     }
 
     /// Shows what the surface of this number shows: what changed since, where it followed that one,

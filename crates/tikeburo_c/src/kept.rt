@@ -1,6 +1,6 @@
 //! What a handle may have.
 ghost use Rattle.std.specs.Prelude.{◌≡◌};
-ghost use Rattle.tikeburo_c.specs.Kept.{number_of, shown_of};
+ghost use Rattle.tikeburo_c.specs.Kept.{number_of, number_reached, shown_of, source_shown};
 
 use crate::followers::Follower;
 use crate::widths::ChosenWidths;
@@ -34,6 +34,28 @@ impl Kept {
         match self {
             Kept::Surface(source) => source.number(),
             Kept::Viewer(_) | Kept::Client(_) => 0,
+        }
+    }
+
+    /// The number of the surface that it shows, which may be itself, or 0 where it shows none.
+    pub(crate) fn source(&self) -> usize
+        ensures { result ≡ source_shown self.now }
+    {
+        match self {
+            Kept::Surface(source) => source.number(),
+            Kept::Viewer(follower) => follower.source(),
+            Kept::Client(client) => client.source(),
+        }
+    }
+
+    /// The number of that surface's coming change when it showed this, or 0.
+    pub(crate) fn reached(&self) -> usize
+        ensures { result ≡ number_reached self.now }
+    {
+        match self {
+            Kept::Surface(source) => source.surface().current_seqno(),
+            Kept::Viewer(follower) => follower.reached(),
+            Kept::Client(client) => client.number(),
         }
     }
 }

@@ -18,5 +18,8 @@ mod kept;
 mod lists;
 mod loose;
 mod reading;
+mod states;
 mod surfaces;
+mod texts;
+mod version;
 mod widths;

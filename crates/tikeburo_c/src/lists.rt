@@ -110,8 +110,9 @@ fn text_len(kind: Kind, fields: &ChangeFields) -> usize
     }
 }
 
+/// The text that these bytes are.
 #[tactic(auto, using(crate::proofs::Listed::text_read, crate::proofs::Listed::no_text))]
-fn text_in(bytes: &[u8]) -> Result<&str, Failure>
+pub(crate) fn text_in(bytes: &[u8]) -> Result<&str, Failure>
     ensures found { IfOk result (λ text. listed.text_in bytes.now ≡ Ok text.now) }
     ensures missing { IfErr result (λ failure. listed.text_in bytes.now ≡ Err failure) }
 {

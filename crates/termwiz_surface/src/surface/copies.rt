@@ -2,7 +2,7 @@
 ghost use Rattle.std.specs.Prelude.{◌≡◌, Err, IfOk, OnOk, map};
 ghost use Rattle.termwiz_surface.specs.{HasCopied, HasDrawn, IsCopied, IsDrawn, KeepsNames};
 ghost use Rattle.termwiz_surface.specs.{KeepsViewers, ScrollRegion, change_value, measure};
-ghost use Rattle.termwiz_surface.specs.{copied_region, restoring, screen_of};
+ghost use Rattle.termwiz_surface.specs.{IsRegionDrawn, copied_region, restoring, screen_of};
 
 use super::{Surface, SurfaceError};
 use std::alloc::AllocError;
@@ -89,6 +89,44 @@ impl<W: Widths> Surface<W> {
     {
         let copies = self.diff_region(dest_x, dest_y, width, height, self, src_x, src_y)?;
         self.add_changes(copies)
+    }
+
+    /// Copies a region within the surface, as `copy_region` does, and draws it there as
+    /// `draw_from_screen` does: cursor and pen are as before, a pending wrap too. Where anything is
+    /// printed, the last two changes restore them.
+    ///
+    /// The changes are applied and logged as one list, and the result is that of `add_changes`.
+    /// `Numbers`: the surface is unchanged. `Memory`: the surface is unchanged, or as after that
+    /// error of `add_changes`. It never fails with `ScrollRegion`.
+    pub fn draw_region(
+        &mut self,
+        src_x: usize,
+        src_y: usize,
+        width: usize,
+        height: usize,
+        dest_x: usize,
+        dest_y: usize,
+    ) -> Result<SequenceNo, SurfaceError>
+        ensures drawn { IsRegionDrawn (measure W.width_of)
+            self.old src_x src_y width height dest_x dest_y result self.new }
+        // All parts of the screen but the rows are unchanged.
+        ensures restores { OnOk result (
+            screen_of self.new ≡ record (screen_of self.old) { rows = (screen_of self.new).rows }) }
+        // The second region shows what the first one showed before, overlapping or not, where no
+        // wide grapheme crosses an edge.
+        ensures region { OnOk result (
+            let r = copied_region (screen_of self.old) src_x src_y width height dest_x dest_y in
+            HasCopied self.old r (screen_of self.new)) }
+        ensures no_scroll { result ≡ Err ScrollRegion → ⊥ }
+        // Each viewer that follows the surface still follows it, even after an error.
+        ensures followed { KeepsViewers (measure W.width_of) self.old self.new }
+        // Its numbers still name what they named, even after an error.
+        ensures remembered { KeepsNames (measure W.width_of self.old.widths) self.old self.new }
+    {
+        let cursor = (self.x, self.y);
+        let printed = self.diff_region(dest_x, dest_y, width, height, self, src_x, src_y)?;
+        let drawn = restored(printed, cursor, &self.pen)?;
+        self.add_changes(drawn)
     }
 }
 

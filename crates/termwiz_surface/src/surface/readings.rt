@@ -6,7 +6,9 @@ ghost use Rattle.termwiz_surface.specs.{screen_of, screen_value, shown_chars};
 
 use super::Surface;
 use std::alloc::AllocError;
+use termwiz_cell::cell::CellAttributes;
 use termwiz_cell::change::{CursorShape, CursorVisibility, SequenceNo};
+use termwiz_cell::color::ColorAttribute;
 use termwiz_cell::emoji::Widths;
 use termwiz_screen::rows::{chars_of, resized_lines};
 use termwiz_screen::screen::Screen;
@@ -71,6 +73,20 @@ impl<W: Widths> Surface<W> {
         ensures { result ≡ self.now.shape }
     {
         self.shape
+    }
+
+    /// The cursor's colour, which is the default one at first.
+    pub fn cursor_color(&self) -> ColorAttribute
+        ensures { result ≡ self.now.color }
+    {
+        self.color
+    }
+
+    /// The pen: the attributes of the next text, which are the default ones at first.
+    pub fn pen(&self) -> &CellAttributes
+        ensures { result.now ≡ self.now.pen }
+    {
+        &self.pen
     }
 
     /// The number of the next change, which is the number of a viewer that has all changes.

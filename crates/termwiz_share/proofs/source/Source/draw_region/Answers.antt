@@ -1,0 +1,10 @@
+use Rattle.termwiz_cell.specs.Measure.{measure}
+use Rattle.termwiz_share.proofs.Served.{keeps_after}
+use Rattle.termwiz_share.proofs.source.Source.draw_region.Goals as goal
+
+pub returns-clause-serves : goal.returns-clause-serves
+returns-clause-serves g c =
+    rw (← c.self.view_is) (keeps_after (measure g.W.Widths.width_of) c.self.inside.number c.self.inside.surface _ _ c.forget_unneeded.ensures.followed c.forget_unneeded.ensures.remembered c.draw_region.ensures.followed c.draw_region.ensures.remembered)
+
+pub returns-clause-followed : goal.returns-clause-followed
+returns-clause-followed g c = rw (← c.self.view_is) (λ v follows. c.draw_region.ensures.followed v (c.forget_unneeded.ensures.followed v follows))

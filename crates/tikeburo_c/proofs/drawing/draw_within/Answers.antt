@@ -1,0 +1,31 @@
+use Rattle.std.proofs.Common.{refl, rules}
+use Rattle.std.specs.Prelude.{Ok, Err}
+use Rattle.tikeburo_c.proofs.drawing.draw_within.Goals as goal
+
+pub returns-in_err-draw_region : goal.returns-in_err-draw_region
+returns-in_err-draw_region c =
+    let e = c.in_err-draw_region.ensures in (
+      Err c.in_err-draw_region.field-0.0,
+      search rules,
+      record {
+        drawn = e.draws;
+        restores = e.restores;
+        region = e.region;
+        no_scroll = e.no_scroll;
+        goes_on = record { number = e.number; serves = e.serves; followed = e.followed };
+      },
+    )
+
+pub returns : goal.returns
+returns c =
+    let e = c.in_ok-draw_region.ensures in (
+      Ok c.in_ok-draw_region.field-0,
+      refl,
+      record {
+        drawn = e.draws;
+        restores = e.restores;
+        region = e.region;
+        no_scroll = e.no_scroll;
+        goes_on = record { number = e.number; serves = e.serves; followed = e.followed };
+      },
+    )

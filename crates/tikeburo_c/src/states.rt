@@ -1,0 +1,83 @@
+//! What is set beside the rows.
+ghost use Rattle.std.specs.Prelude.{◌≡◌};
+ghost use Rattle.tikeburo_c.specs.Cells.{uri_of};
+ghost use Rattle.tikeburo_c.specs.Handles.{kept_of};
+ghost use Rattle.tikeburo_c.specs.Outcomes.{Reports};
+ghost use Rattle.tikeburo_c.specs.Results.{Gives, Reads};
+ghost use Rattle.tikeburo_c.specs.States as specs_of;
+ghost use Rattle.tikeburo_c.specs.States.{ReadsKept};
+
+use crate::access::fill;
+use crate::buffers::give;
+use crate::cells::uri_of;
+use crate::failure::{Failure, status};
+use crate::fields::{AttributeFields, ColorFields, attribute_fields, color_fields};
+use crate::handle::Handle;
+use crate::kept::Kept;
+use std::alloc::Global;
+use termwiz_screen::full::shape_or_default;
+
+/// What is set beside the rows, and what is shown: the state of this number of this surface.
+#[repr(C)]
+#[derive(Clone, Copy)]
+pub struct StateFields {
+    pub source: usize,
+    pub number: usize,
+    pub is_full: bool,
+    pub has_link: bool,
+    pub cursor_shape: u8,
+    pub cursor_color: ColorFields,
+    pub pen: AttributeFields,
+}
+
+fn state_fields(kept: &Kept) -> StateFields
+    ensures { result ≡ specs_of.state_fields kept.now }
+{
+    let surface = kept.shown();
+    let pen = surface.pen();
+    StateFields {
+        source: kept.source(),
+        number: kept.reached(),
+        is_full: surface.is_full(),
+        has_link: pen.hyperlink().is_some(),
+        cursor_shape: shape_or_default(surface.cursor_shape()).number(),
+        cursor_color: color_fields(surface.cursor_color()),
+        pen: attribute_fields(pen),
+    }
+}
+
+/// What is set beside the rows: the pen, and the cursor's shape and colour.
+#[unsafe(no_mangle)]
+pub extern "C" fn tk_state(alloc: Global, handle: &mut Handle, state: &mut StateFields) -> i32
+    ensures read { Reports result (λ outcome. ReadsKept specs_of.state_fields
+        (kept_of handle.old) state.old outcome state.new) }
+    ensures same { kept_of handle.new ≡ kept_of handle.old }
+{
+    let outcome = match handle.take(alloc) {
+        Some(kept) => {
+            *state = state_fields(&kept);
+            handle.put(alloc, kept);
+            Ok(())
+        }
+        None => Err(Failure::NoHandle),
+    };
+    status(outcome)
+}
+
+/// The uri of the pen's link, or nothing.
+#[unsafe(no_mangle)]
+pub extern "C" fn tk_pen_link(
+    alloc: Global,
+    handle: &mut Handle,
+    room: &mut [u8],
+    len: &mut usize,
+) -> i32
+    ensures read { Reports result (λ outcome. Reads (λ s. Gives (uri_of s.pen.hyperlink))
+        (kept_of handle.old) (room.old, len.old) outcome (room.new, len.new)) }
+    ensures same { kept_of handle.new ≡ kept_of handle.old }
+{
+    let outcome = fill(alloc, handle, room, len, |surface, room, len| {
+        give(uri_of(surface.pen()).as_bytes(), room, len)
+    });
+    status(outcome)
+}

@@ -13,6 +13,7 @@ pub mod Numbers
 pub mod Outcomes
 pub mod Reading
 pub mod Results
+pub mod Rows
 pub mod Streams
 pub mod WidthLaws
 pub mod Widths

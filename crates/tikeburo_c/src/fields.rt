@@ -97,7 +97,8 @@ pub(crate) fn color_in(fields: &ColorFields) -> Option<ColorAttribute>
     }
 }
 
-fn attribute_fields(attrs: &CellAttributes) -> AttributeFields
+/// The fields of attributes.
+pub(crate) fn attribute_fields(attrs: &CellAttributes) -> AttributeFields
     ensures { result ≡ specs_of.attribute_fields attrs.now }
 {
     AttributeFields {

@@ -18,5 +18,6 @@ mod kept;
 mod lists;
 mod loose;
 mod reading;
+mod rows;
 mod surfaces;
 mod widths;

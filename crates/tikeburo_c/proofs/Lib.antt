@@ -1,3 +1,5 @@
 pub mod Decoded
 pub mod Delivered
 pub mod Listed
+pub mod ReadBack
+pub mod Since

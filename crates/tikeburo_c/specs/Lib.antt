@@ -4,9 +4,11 @@ pub mod Changes
 pub mod Drawing
 pub mod Fields
 pub mod Following
+pub mod Getting
 pub mod Handles
 pub mod Held
 pub mod Kept
+pub mod Listing
 pub mod Lists
 pub mod Making
 pub mod Numbers

@@ -68,7 +68,8 @@ fn true_color_fields(kind: u8, color: RgbColor, index: u8) -> ColorFields
     }
 }
 
-fn color_fields(color: ColorAttribute) -> ColorFields
+/// The fields of a colour.
+pub(crate) fn color_fields(color: ColorAttribute) -> ColorFields
     ensures { result ≡ specs_of.color_fields color }
 {
     match color {

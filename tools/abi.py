@@ -23,7 +23,9 @@ MANIFEST = TOP / "bindings" / "rust" / "Cargo.toml"
 RUST = TOP / "bindings" / "rust" / "src"
 FFI = RUST / "ffi.rs"
 STRUCTS = {"Handle": "tk_handle", "ColorFields": "tk_color", "AttributeFields": "tk_attributes",
-           "CellFields": "tk_cell", "ChangeFields": "tk_change", "FaultFields": "tk_fault"}
+           "CellFields": "tk_cell", "ChangeFields": "tk_change", "FaultFields": "tk_fault",
+           "RowCellFields": "tk_row_cell", "RowCounts": "tk_row_counts",
+           "ListCounts": "tk_list_counts"}
 PLAIN = {"usize": "size_t", "isize": "ptrdiff_t", "u8": "uint8_t", "i32": "tk_status",
          "bool": "bool"}
 IN_RUST = {"size_t": "usize", "ptrdiff_t": "isize", "uint8_t": "u8", "char": "u8", "void": "c_void",

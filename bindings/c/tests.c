@@ -26,6 +26,9 @@ static void test_structs(void) {
     CHECK(sizeof(tk_change) == 56);
     CHECK(sizeof(tk_settings) == 56);
     CHECK(sizeof(tk_fault) == 24);
+    CHECK(sizeof(tk_row_cell) == 32);
+    CHECK(sizeof(tk_row_counts) == 24);
+    CHECK(sizeof(tk_list_counts) == 24);
 }
 
 static void test_surfaces(void) {

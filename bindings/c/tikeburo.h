@@ -244,6 +244,31 @@ tk_status tk_cell_at(tk_handle *handle, size_t column, size_t row, tk_cell *cell
 tk_status tk_link_at(tk_handle *handle, size_t column, size_t row, char *uri, size_t room,
                      size_t *len);
 
+/* A visible cell of a row that is read at once. */
+typedef struct tk_row_cell {
+    size_t begin;    /* where its text begins in the row's text */
+    size_t len;      /* how long its text is */
+    size_t run;      /* which of the row's attributes it has */
+    uint8_t columns; /* 1 or 2 */
+    bool has_link;
+} tk_row_cell;
+
+/* How many of each a row has. */
+typedef struct tk_row_counts {
+    size_t cells;
+    size_t attributes;
+    size_t text;
+} tk_row_counts;
+
+/* A row at once: its visible cells from the left, within its stored length; the attributes of each
+ * run of cells that have the same ones and the same link; and the texts of the cells behind one
+ * another. Behind the last cell the row shows default blanks. *counts says how many there are of
+ * each. TK_RANGE: the row. TK_SHORT: one of the three is too short, and nothing is written but
+ * *counts. After any other error *counts is as it was too. */
+tk_status tk_row_cells(tk_handle *handle, size_t row, tk_row_cell *cells, size_t cell_room,
+                       tk_attributes *attributes, size_t attribute_room, char *text, size_t room,
+                       tk_row_counts *counts);
+
 /* ---- Texts, as surfaces cut and measure them. They are read whole, at each call. ---- */
 
 /* The columns of a text by these widths: the sum over its graphemes, each of which has 0 to 2. A
@@ -342,6 +367,23 @@ enum {
  * these are left after the last change. TK_UNREADABLE: a text is no UTF-8. TK_REGION. */
 tk_status tk_add_changes(tk_handle *surface, const tk_change *changes, size_t count,
                          const char *texts, size_t len);
+
+/* How many changes and bytes of texts a list has, and the number that it leads to. */
+typedef struct tk_list_counts {
+    size_t changes;
+    size_t texts;
+    size_t number;
+} tk_list_counts;
+
+/* The changes that a viewer of your own lacks which was last given the number `since`, 0 at first,
+ * as tk_add_changes takes them: those since then, or changes that draw all anew on any screen of
+ * this size, where the number is 0, is no longer known, or too many changes came since. It reads a
+ * surface, or what a viewer or a client shows. What a change's kind doesn't name is 0. A link has
+ * its uri alone, and a pen no link to an empty uri. counts->number is what to ask with next.
+ * TK_SHORT: one of the two is too short, and nothing is written but *counts. After any other error
+ * *counts is as it was too. */
+tk_status tk_get_changes(tk_handle *handle, size_t since, tk_change *changes, size_t change_room,
+                         char *texts, size_t room, tk_list_counts *counts);
 
 /* Makes a list of changes, which these bytes encode: the array `[* change]` of docs/stream.cddl
  * and nothing after it. A text in it has the pieces that the surface cuts and measures: where they

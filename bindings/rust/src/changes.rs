@@ -3,7 +3,8 @@
 use crate::attributes::{AttributeChange, Attributes, Blink, Hyperlink, Intensity, Underline};
 use crate::change::{Change, CursorShape, CursorVisibility, LineAttribute, Position};
 use crate::color::ColorAttribute;
-use crate::ffi::{self, tk_attributes, tk_change};
+use crate::error::Error;
+use crate::ffi::{self, tk_attributes, tk_change, tk_list_counts};
 use std::fmt;
 
 /// A list of changes that is made in place: each call appends one, and
@@ -420,6 +421,42 @@ impl Changes {
             ..tk_attributes::default()
         };
         self.with_attributes(kind, fields)
+    }
+
+    /// Becomes the list that this call writes, and returns the number that it leads to. The call is
+    /// passed a buffer of changes and its room, one of texts and its room, and where it writes how
+    /// many there are. Where they are too short, it is made anew with as much as it says.
+    pub(crate) fn read(
+        &mut self,
+        mut write: impl FnMut(*mut tk_change, usize, *mut u8, usize, *mut tk_list_counts) -> i32,
+    ) -> Result<usize, Error> {
+        let mut list = std::mem::take(&mut self.list);
+        let mut texts = std::mem::take(&mut self.texts).into_bytes();
+        self.clear();
+        list.resize(list.capacity(), tk_change::default());
+        texts.resize(texts.capacity(), 0);
+        let mut counts = tk_list_counts::default();
+        loop {
+            let (room, len) = (list.len(), texts.len());
+            let status = write(
+                list.as_mut_ptr(),
+                room,
+                texts.as_mut_ptr(),
+                len,
+                &mut counts,
+            );
+            if status != ffi::SHORT {
+                Error::check(status)?;
+                break;
+            }
+            list.resize(room.max(counts.changes), tk_change::default());
+            texts.resize(len.max(counts.texts), 0);
+        }
+        list.truncate(counts.changes);
+        texts.truncate(counts.texts);
+        self.texts = String::from_utf8(texts).map_err(|_| Error::Unreadable)?;
+        self.list = list;
+        Ok(counts.number)
     }
 
     /// What the library takes: the changes, and their texts behind one another.

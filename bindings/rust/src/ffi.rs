@@ -110,6 +110,32 @@ pub struct tk_fault {
     pub change: usize,
 }
 
+#[repr(C)]
+#[derive(Clone, Copy, Default)]
+pub struct tk_row_cell {
+    pub begin: usize,
+    pub len: usize,
+    pub run: usize,
+    pub columns: u8,
+    pub has_link: bool,
+}
+
+#[repr(C)]
+#[derive(Clone, Copy, Default)]
+pub struct tk_row_counts {
+    pub cells: usize,
+    pub attributes: usize,
+    pub text: usize,
+}
+
+#[repr(C)]
+#[derive(Default)]
+pub struct tk_list_counts {
+    pub changes: usize,
+    pub texts: usize,
+    pub number: usize,
+}
+
 extern "C" {
     pub fn tk_surface_new(
         surface: *mut tk_handle,
@@ -158,6 +184,17 @@ extern "C" {
         room: usize,
         len: *mut usize,
     ) -> i32;
+    pub fn tk_row_cells(
+        handle: *mut tk_handle,
+        row: usize,
+        cells: *mut tk_row_cell,
+        cell_room: usize,
+        attributes: *mut tk_attributes,
+        attribute_room: usize,
+        text: *mut u8,
+        room: usize,
+        counts: *mut tk_row_counts,
+    ) -> i32;
     pub fn tk_text_width(text: *const u8, len: usize, widths: u8, columns: *mut usize) -> i32;
     pub fn tk_add_changes(
         surface: *mut tk_handle,
@@ -165,6 +202,15 @@ extern "C" {
         count: usize,
         texts: *const u8,
         len: usize,
+    ) -> i32;
+    pub fn tk_get_changes(
+        handle: *mut tk_handle,
+        since: usize,
+        changes: *mut tk_change,
+        change_room: usize,
+        texts: *mut u8,
+        room: usize,
+        counts: *mut tk_list_counts,
     ) -> i32;
     pub fn tk_draw(
         surface: *mut tk_handle,
@@ -231,5 +277,8 @@ mod tests {
         assert_eq!(size_of::<tk_change>(), 56);
         assert_eq!(size_of::<tk_settings>(), 56);
         assert_eq!(size_of::<tk_fault>(), 24);
+        assert_eq!(size_of::<tk_row_cell>(), 32);
+        assert_eq!(size_of::<tk_row_counts>(), 24);
+        assert_eq!(size_of::<tk_list_counts>(), 24);
     }
 }

@@ -3,7 +3,7 @@
 use crate::attributes::{Attributes, Hyperlink};
 use crate::change::LineAttribute;
 use crate::error::Error;
-use crate::ffi::{self, tk_cell};
+use crate::ffi::{self, tk_attributes, tk_cell, tk_row_cell, tk_row_counts};
 use crate::handle;
 use crate::screen::Screen;
 use std::iter::FusedIterator;
@@ -101,6 +101,28 @@ impl<'a> Row<'a> {
             row: *self,
             columns: 0..width,
         }
+    }
+
+    /// Reads the whole row by one call of the library, into a buffer that keeps its memory for the
+    /// next rows: for a renderer, which reads many cells.
+    ///
+    /// ```
+    /// use tikeburo::{RowBuffer, Surface};
+    ///
+    /// let mut surface = Surface::new(20, 1)?;
+    /// surface.add_change("か and x")?;
+    /// let mut row = RowBuffer::new();
+    /// surface.row(0).read(&mut row)?;
+    /// let first = row.cells().next().unwrap();
+    /// assert_eq!((first.str(), first.width()), ("か", 2));
+    /// # Ok::<(), tikeburo::Error>(())
+    /// ```
+    ///
+    /// # Errors
+    ///
+    /// [`Error::Range`]: the screen has no such row. [`Error::Memory`]. The buffer is empty then.
+    pub fn read(&self, buffer: &mut RowBuffer) -> Result<(), Error> {
+        buffer.fill(self)
     }
 
     /// The cell at this column. At the second column of a wide cell it is a blank.
@@ -207,5 +229,137 @@ impl Cell {
     #[must_use]
     pub fn attrs(&self) -> &Attributes {
         &self.attributes
+    }
+}
+
+/// A row as [`Row::read`] reads it: its visible cells from the left. Behind the last one the row
+/// shows default blanks.
+#[derive(Clone, Default)]
+pub struct RowBuffer {
+    cells: Vec<tk_row_cell>,
+    attributes: Vec<tk_attributes>,
+    text: Vec<u8>,
+    /// The attributes of each run of cells, without their links.
+    runs: Vec<Attributes>,
+    counts: tk_row_counts,
+}
+
+impl RowBuffer {
+    /// A buffer that has no row yet.
+    #[must_use]
+    pub fn new() -> RowBuffer {
+        RowBuffer::default()
+    }
+
+    /// The texts of its cells.
+    #[must_use]
+    pub fn text(&self) -> &str {
+        std::str::from_utf8(&self.text[..self.counts.text]).unwrap_or_default()
+    }
+
+    /// Its cells from the left.
+    #[must_use]
+    pub fn cells(&self) -> impl ExactSizeIterator<Item = RowCell<'_>> + DoubleEndedIterator {
+        let text = self.text();
+        let cells = &self.cells[..self.counts.cells];
+        cells.iter().map(move |cell| RowCell {
+            text: &text[cell.begin..cell.begin + cell.len],
+            run: cell.run,
+            attributes: &self.runs[cell.run],
+            width: cell.columns.into(),
+            has_link: cell.has_link,
+        })
+    }
+
+    fn fill(&mut self, row: &Row<'_>) -> Result<(), Error> {
+        let read = self.read(row);
+        if read.is_err() {
+            self.counts = tk_row_counts::default();
+        }
+        self.runs.clear();
+        let attributes = &self.attributes[..self.counts.attributes];
+        let runs = attributes.iter().map(|read| Attributes::new(read, None));
+        self.runs.extend(runs);
+        read
+    }
+
+    /// Makes the call, anew with more room where that is too little.
+    fn read(&mut self, row: &Row<'_>) -> Result<(), Error> {
+        loop {
+            // Safety: the handle is live, and the buffers have the rooms that are named.
+            let status = unsafe {
+                ffi::tk_row_cells(
+                    row.screen.handle.get(),
+                    row.number,
+                    self.cells.as_mut_ptr(),
+                    self.cells.len(),
+                    self.attributes.as_mut_ptr(),
+                    self.attributes.len(),
+                    self.text.as_mut_ptr(),
+                    self.text.len(),
+                    &mut self.counts,
+                )
+            };
+            if status != ffi::SHORT {
+                return Error::check(status);
+            }
+            let (cells, runs) = (self.counts.cells, self.counts.attributes);
+            let cells = self.cells.len().max(cells);
+            self.cells.resize(cells, tk_row_cell::default());
+            let runs = self.attributes.len().max(runs);
+            self.attributes.resize(runs, tk_attributes::default());
+            self.text.resize(self.text.len().max(self.counts.text), 0);
+        }
+    }
+}
+
+impl std::fmt::Debug for RowBuffer {
+    fn fmt(&self, f: &mut std::fmt::Formatter<'_>) -> std::fmt::Result {
+        f.debug_struct("RowBuffer")
+            .field("text", &self.text())
+            .finish_non_exhaustive()
+    }
+}
+
+/// A cell of a row that was read at once.
+#[derive(Clone, Copy, Debug)]
+pub struct RowCell<'a> {
+    text: &'a str,
+    run: usize,
+    attributes: &'a Attributes,
+    width: usize,
+    has_link: bool,
+}
+
+impl<'a> RowCell<'a> {
+    /// Its text.
+    #[must_use]
+    pub fn str(&self) -> &'a str {
+        self.text
+    }
+
+    /// How many columns it takes, 1 or 2.
+    #[must_use]
+    pub fn width(&self) -> usize {
+        self.width
+    }
+
+    /// Its attributes, without its link, which [`Row::cell`] reads.
+    #[must_use]
+    pub fn attrs(&self) -> &'a Attributes {
+        self.attributes
+    }
+
+    /// The number of its run, from 0: cells beside one another have one run where they have the
+    /// same attributes and the same link.
+    #[must_use]
+    pub fn run(&self) -> usize {
+        self.run
+    }
+
+    /// Whether it has a link.
+    #[must_use]
+    pub fn has_link(&self) -> bool {
+        self.has_link
     }
 }

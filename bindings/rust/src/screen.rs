@@ -1,7 +1,8 @@
 //! What is shown, and how it is read.
 
 use crate::attributes::{Attributes, Hyperlink};
-use crate::change::{CursorShape, CursorVisibility};
+use crate::change::{CursorShape, CursorVisibility, SequenceNo};
+use crate::changes::Changes;
 use crate::color::ColorAttribute;
 use crate::error::Error;
 use crate::ffi::{self, tk_settings};
@@ -145,6 +146,55 @@ impl Screen {
     pub fn rows(&self) -> Rows<'_> {
         let (_, height) = self.dimensions();
         Rows::new(self, height)
+    }
+
+    /// The changes that a viewer of your own lacks which was last given the number `since`, 0 at
+    /// first, and the number to ask with next. They are those since then, or changes that draw all
+    /// anew on any screen of this size: where the number is 0, is no longer known, or too many
+    /// changes came since.
+    ///
+    /// A link has its uri alone, and the pen of a [`Change::AllAttributes`](crate::Change) no link
+    /// to an empty uri.
+    ///
+    /// ```
+    /// use tikeburo::{Change, Surface};
+    ///
+    /// let mut surface = Surface::new(20, 1)?;
+    /// let mut copy = Surface::new(20, 1)?;
+    /// surface.add_change("hello")?;
+    /// let (number, changes) = surface.get_changes(0)?;
+    /// copy.add(&changes)?;
+    /// assert_eq!(copy.to_string(), surface.to_string());
+    /// surface.add_change(", world")?;
+    /// let (_, changes) = surface.get_changes(number)?;
+    /// assert_eq!(changes.iter().next(), Some(Change::Text(", world".into())));
+    /// # Ok::<(), tikeburo::Error>(())
+    /// ```
+    ///
+    /// # Errors
+    ///
+    /// [`Error::Memory`].
+    pub fn get_changes(&self, since: SequenceNo) -> Result<(SequenceNo, Changes), Error> {
+        let mut changes = Changes::new();
+        let number = self.read_changes(since, &mut changes)?;
+        Ok((number, changes))
+    }
+
+    /// As [`Screen::get_changes`], into a list that keeps its memory for the next ones. What it had
+    /// is dropped.
+    ///
+    /// # Errors
+    ///
+    /// [`Error::Memory`]: the list is empty then.
+    pub fn read_changes(
+        &self,
+        since: SequenceNo,
+        changes: &mut Changes,
+    ) -> Result<SequenceNo, Error> {
+        changes.read(|list, room, texts, len, counts| {
+            // Safety: the handle is live, and the buffers have the rooms that are named.
+            unsafe { ffi::tk_get_changes(self.handle.get(), since, list, room, texts, len, counts) }
+        })
     }
 
     /// A row by its number from 0. Its calls fail with [`Error::Range`] where there is none.

@@ -27,7 +27,8 @@ fn give_line(line: &Line, room: &mut [u8], len: &mut usize) -> Result<(), Failur
     give(text.as_str().as_bytes(), room, len)
 }
 
-fn line_at(surface: &Surface<ChosenWidths>, row: usize) -> Result<&Line, Failure>
+/// The row at this index from the top, if there is one.
+pub(crate) fn line_at(surface: &Surface<ChosenWidths>, row: usize) -> Result<&Line, Failure>
     ensures found { IfOk result (λ line.
         slice_get surface.now.lines row ≡ Some line.now.cells) }
     ensures missing { IfErr result (λ failure.

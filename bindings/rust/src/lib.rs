@@ -58,22 +58,27 @@
 #![deny(unsafe_op_in_unsafe_fn)]
 #![warn(clippy::missing_errors_doc, clippy::must_use_candidate)]
 
+mod ansi;
 mod attributes;
+pub mod cell;
 mod change;
 mod changes;
 mod client;
-mod color;
+pub mod color;
 mod error;
 mod fault;
 mod ffi;
 mod graphemes;
 mod handle;
 mod head;
+pub mod hyperlink;
 mod recording;
 mod rows;
 mod screen;
+mod sequence;
+mod setters;
 mod sgr;
-mod surface;
+pub mod surface;
 mod viewer;
 
 /// Tests the programs of the crate's page.
@@ -81,13 +86,17 @@ mod viewer;
 #[doc = include_str!("../README.md")]
 struct Readme;
 
+pub use ansi::AnsiColor;
 pub use attributes::{
     AttributeChange, Attributes, Blink, Hyperlink, Intensity, SemanticType, Underline,
     VerticalAlign,
 };
-pub use change::{Change, CursorShape, CursorVisibility, LineAttribute, Position, SequenceNo};
+pub use change::{
+    Change, CursorShape, CursorVisibility, LineAttribute, Position, SequenceNo, SEQ_ZERO,
+};
 pub use changes::Changes;
 pub use client::{Ask, Client, Limits};
+#[doc(inline)]
 pub use color::{ColorAttribute, PaletteIndex, RgbColor};
 pub use error::Error;
 pub use fault::{Fault, FaultKind};
@@ -95,5 +104,8 @@ pub use graphemes::graphemes;
 pub use recording::Recorder;
 pub use rows::{Cell, Cells, Row, Rows};
 pub use screen::Screen;
+pub use sequence::ChangeSequence;
+pub use setters::CellAttributes;
+#[doc(inline)]
 pub use surface::{Options, Surface, Widths};
 pub use viewer::Viewer;

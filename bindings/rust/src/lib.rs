@@ -18,8 +18,9 @@
 //! # Ok::<(), tikeburo::Error>(())
 //! ```
 //!
-//! The names are those of `termwiz`. What does the work is a library for C, which is proved; this
-//! crate calls it, and is tested. It looks for the library in the folder that `TIKEBURO_LIB` names,
+//! The names are those of `termwiz`, and so are the modules; the crate's page has termwiz's calls
+//! beside those here. What does the work is a library for C, which is proved; this crate calls it,
+//! and is tested. It looks for the library in the folder that `TIKEBURO_LIB` names,
 //! in its own checkout, and by `pkg-config`.
 //!
 //! [`Changes`] is a list of changes that is made in place: for those who make many.

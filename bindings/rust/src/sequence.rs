@@ -136,7 +136,7 @@ impl ChangeSequence {
             Change::CursorPosition { x, y } => {
                 let column = aim(*x, self.x as i128, self.columns).rem_euclid(self.columns);
                 let row = aim(*y, self.y as i128, self.rows) % self.rows;
-                Ok((column as usize, row as isize))
+                Ok((in_range(column)?, in_range(row)?))
             }
             Change::ClearScreen(_)
             | Change::ScrollRegionUp { .. }
@@ -146,7 +146,7 @@ impl ChangeSequence {
     }
 
     fn after_text(&self, text: &str) -> Result<(usize, isize), Error> {
-        let columns = self.columns as usize;
+        let columns: usize = in_range(self.columns)?;
         let (mut x, mut y) = (self.x, self.y as i128);
         for (grapheme, width) in graphemes(text, self.widths)? {
             match grapheme {
@@ -169,6 +169,6 @@ fn aim(position: Position, from: i128, count: i128) -> i128 {
     }
 }
 
-fn in_range(value: i128) -> Result<isize, Error> {
-    isize::try_from(value).map_err(|_| Error::Range)
+fn in_range<T: TryFrom<i128>>(value: i128) -> Result<T, Error> {
+    T::try_from(value).map_err(|_| Error::Range)
 }

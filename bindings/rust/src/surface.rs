@@ -121,7 +121,8 @@ impl Surface {
     }
 
     /// A surface that shows the rows that another screen shows now, as a copy to be drawn later, and
-    /// measures texts by Unicode. Cursor, pen and title are those of a new one.
+    /// measures texts by Unicode. Cursor, pen and title are those of a new one. There is no `Clone`,
+    /// since that can't fail.
     ///
     /// # Errors
     ///

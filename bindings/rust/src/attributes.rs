@@ -93,7 +93,8 @@ pub enum VerticalAlign {
     SubScript,
 }
 
-/// The attributes of a text: `termwiz`'s `CellAttributes`, as fields.
+/// The attributes of a text: `termwiz`'s `CellAttributes`, as fields. A later version may have more
+/// of them, so that a literal ends with `..Attributes::default()`.
 ///
 /// ```
 /// use tikeburo::{Attributes, ColorAttribute, Intensity};

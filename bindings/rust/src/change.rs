@@ -7,6 +7,9 @@ use crate::error::Error;
 /// The number of a change.
 pub type SequenceNo = usize;
 
+/// The number of a surface's first change.
+pub const SEQ_ZERO: SequenceNo = 0;
+
 /// A place on one axis of a surface, from 0 on.
 #[derive(Clone, Copy, PartialEq, Eq, Hash, Debug)]
 pub enum Position {
@@ -67,6 +70,15 @@ number_variants!(
     BlinkingBar,
     SteadyBar
 );
+
+impl CursorShape {
+    /// Whether it is one of the shapes that blink.
+    #[must_use]
+    pub fn is_blinking(self) -> bool {
+        use CursorShape::{BlinkingBar, BlinkingBlock, BlinkingUnderline};
+        matches!(self, BlinkingBlock | BlinkingUnderline | BlinkingBar)
+    }
+}
 
 /// How large a line is shown.
 #[derive(Clone, Copy, PartialEq, Eq, Hash, Debug)]
@@ -144,6 +156,14 @@ pub enum Change {
     LineAttribute(LineAttribute),
 }
 
+impl Change {
+    /// Whether it prints a text.
+    #[must_use]
+    pub fn is_text(&self) -> bool {
+        matches!(self, Change::Text(_))
+    }
+}
+
 impl<T: Into<String>> From<T> for Change {
     fn from(text: T) -> Change {
         Change::Text(text.into())
@@ -153,5 +173,11 @@ impl<T: Into<String>> From<T> for Change {
 impl From<AttributeChange> for Change {
     fn from(change: AttributeChange) -> Change {
         Change::Attribute(change)
+    }
+}
+
+impl From<LineAttribute> for Change {
+    fn from(attribute: LineAttribute) -> Change {
+        Change::LineAttribute(attribute)
     }
 }

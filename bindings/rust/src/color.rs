@@ -1,5 +1,7 @@
 //! Colours.
 
+#[doc(no_inline)]
+pub use crate::ansi::AnsiColor;
 use crate::ffi::tk_color;
 
 /// An index of the palette: 0 to 7 are the classic colours, 8 to 15 their bright forms.

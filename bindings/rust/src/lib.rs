@@ -18,8 +18,9 @@
 //! # Ok::<(), tikeburo::Error>(())
 //! ```
 //!
-//! The names are those of `termwiz`. What does the work is a library for C, which is proved; this
-//! crate calls it, and is tested. It looks for the library in the folder that `TIKEBURO_LIB` names,
+//! The names are those of `termwiz`, and so are the modules; the crate's page has termwiz's calls
+//! beside those here. What does the work is a library for C, which is proved; this crate calls it,
+//! and is tested. It looks for the library in the folder that `TIKEBURO_LIB` names,
 //! in its own checkout, and by `pkg-config`.
 //!
 //! [`Changes`] is a list of changes that is made in place: for those who make many.
@@ -58,23 +59,28 @@
 #![deny(unsafe_op_in_unsafe_fn)]
 #![warn(clippy::missing_errors_doc, clippy::must_use_candidate)]
 
+mod ansi;
 mod attributes;
+pub mod cell;
 mod change;
 mod changes;
 mod client;
-mod color;
+pub mod color;
 mod error;
 mod fault;
 mod ffi;
 mod graphemes;
 mod handle;
 mod head;
+pub mod hyperlink;
 mod listed;
 mod recording;
 mod rows;
 mod screen;
+mod sequence;
+mod setters;
 mod sgr;
-mod surface;
+pub mod surface;
 mod viewer;
 
 /// Tests the programs of the crate's page.
@@ -82,13 +88,17 @@ mod viewer;
 #[doc = include_str!("../README.md")]
 struct Readme;
 
+pub use ansi::AnsiColor;
 pub use attributes::{
     AttributeChange, Attributes, Blink, Hyperlink, Intensity, SemanticType, Underline,
     VerticalAlign,
 };
-pub use change::{Change, CursorShape, CursorVisibility, LineAttribute, Position, SequenceNo};
+pub use change::{
+    Change, CursorShape, CursorVisibility, LineAttribute, Position, SequenceNo, SEQ_ZERO,
+};
 pub use changes::Changes;
 pub use client::{Ask, Client, Limits};
+#[doc(inline)]
 pub use color::{ColorAttribute, PaletteIndex, RgbColor};
 pub use error::Error;
 pub use fault::{Fault, FaultKind};
@@ -96,5 +106,8 @@ pub use graphemes::{graphemes, text_width};
 pub use recording::Recorder;
 pub use rows::{Cell, Cells, Row, RowBuffer, RowCell, Rows};
 pub use screen::Screen;
+pub use sequence::ChangeSequence;
+pub use setters::CellAttributes;
+#[doc(inline)]
 pub use surface::{Options, Surface, Widths};
 pub use viewer::Viewer;

@@ -1,6 +1,9 @@
-//! Surfaces.
+//! Surfaces, and at the paths that termwiz has for them, changes.
 
-use crate::change::{Change, SequenceNo};
+#[doc(no_inline)]
+pub use crate::change::{
+    Change, CursorShape, CursorVisibility, LineAttribute, Position, SequenceNo, SEQ_ZERO,
+};
 use crate::changes::Changes;
 use crate::client::Ask;
 use crate::error::Error;
@@ -13,8 +16,17 @@ use std::fmt;
 use std::hash::{BuildHasher, Hasher};
 use std::ops::Deref;
 
+/// Changes, and sequences of them.
+pub mod change {
+    #[doc(no_inline)]
+    pub use crate::change::{Change, LineAttribute};
+    #[doc(no_inline)]
+    pub use crate::sequence::ChangeSequence;
+}
+
 /// How texts are measured.
 #[derive(Clone, Copy, PartialEq, Eq, Hash, Debug, Default)]
+#[non_exhaustive]
 pub enum Widths {
     /// By the Unicode tables: a grapheme has one column or two.
     #[default]
@@ -109,7 +121,8 @@ impl Surface {
     }
 
     /// A surface that shows the rows that another screen shows now, as a copy to be drawn later, and
-    /// measures texts by Unicode. Cursor, pen and title are those of a new one.
+    /// measures texts by Unicode. Cursor, pen and title are those of a new one. There is no `Clone`,
+    /// since that can't fail.
     ///
     /// # Errors
     ///
@@ -229,19 +242,28 @@ impl Surface {
     }
 
     /// Draws what another surface shows, a viewer or a client, from column `x` and row `y` on. What
-    /// doesn't fit is left out. Cursor and pen are as before.
+    /// doesn't fit is left out. Cursor and pen are as before. Returns the number of the last change
+    /// that this takes, as [`Surface::add_changes`] does.
     ///
     /// # Errors
     ///
     /// [`Error::Numbers`] and [`Error::Memory`], as of [`Surface::add_change`].
-    pub fn draw_from_screen(&mut self, other: &Screen, x: usize, y: usize) -> Result<(), Error> {
+    pub fn draw_from_screen(
+        &mut self,
+        other: &Screen,
+        x: usize,
+        y: usize,
+    ) -> Result<SequenceNo, Error> {
+        let number = self.current_seqno();
         // Safety: both handles are live, and they are two, since one is borrowed alone.
-        Error::check(unsafe { ffi::tk_draw(self.handle.get(), other.handle.get(), x, y) })
+        Error::check(unsafe { ffi::tk_draw(self.handle.get(), other.handle.get(), x, y) })?;
+        Ok(self.last_since(number))
     }
 
     /// Copies what the region of this column, row, width and height shows to the region of this
     /// size at another column and row. Both are cut to what fits. Where it prints anything, the
-    /// cursor is behind what it printed last, and the pen is the one of that.
+    /// cursor is behind what it printed last, and the pen is the one of that. Returns the number of
+    /// the last change that this takes, as [`Surface::add_changes`] does.
     ///
     /// # Errors
     ///
@@ -254,10 +276,16 @@ impl Surface {
         height: usize,
         dest_x: usize,
         dest_y: usize,
-    ) -> Result<(), Error> {
-        let handle = self.handle.get();
+    ) -> Result<SequenceNo, Error> {
+        let (handle, number) = (self.handle.get(), self.current_seqno());
         // Safety: the handle is live.
-        Error::check(unsafe { ffi::tk_copy(handle, src_x, src_y, width, height, dest_x, dest_y) })
+        Error::check(unsafe { ffi::tk_copy(handle, src_x, src_y, width, height, dest_x, dest_y) })?;
+        Ok(self.last_since(number))
+    }
+
+    /// The number of the last change, as termwiz counts it, of those from this number on.
+    fn last_since(&self, number: SequenceNo) -> SequenceNo {
+        number.saturating_sub(1) + (self.current_seqno() - number)
     }
 
     /// Copies a region as [`Surface::copy_region`] does, and leaves cursor and pen as before.
@@ -296,6 +324,12 @@ impl Surface {
     #[must_use]
     pub fn current_seqno(&self) -> SequenceNo {
         self.handle.number(ffi::tk_number).unwrap_or_default()
+    }
+
+    /// Whether a change was made since this was the number of the coming one.
+    #[must_use]
+    pub fn has_changes(&self, number: SequenceNo) -> bool {
+        self.current_seqno() != number
     }
 
     /// What a client asks that shows all that the surface shows now. So an answer has something new

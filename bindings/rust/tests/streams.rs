@@ -221,7 +221,7 @@ fn who_lacks_nothing_asks_what_is_current() {
         |_| {},
         |surface| assert_eq!(surface.add_change("か"), Ok(0)),
         |surface| surface.resize(6, 3).unwrap(),
-        |surface| surface.copy_region(0, 0, 2, 1, 2, 1).unwrap(),
+        |surface| assert!(surface.copy_region(0, 0, 2, 1, 2, 1).is_ok()),
         |surface| assert!(surface.add_change(Change::Title("x".into())).is_ok()),
         |surface| assert!(surface.add_changes(&vec!["x\r\n".into(); 1000]).is_ok()),
     ];

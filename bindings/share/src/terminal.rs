@@ -109,7 +109,8 @@ impl Terminal {
             false => (end, start, start + moved..self.width),
         };
         let made = self.make();
-        self.outcome = made.and(self.surface.copy_region(from, y, moved, 1, to, y));
+        let copied = self.surface.copy_region(from, y, moved, 1, to, y);
+        self.outcome = made.and(copied.map(drop));
         self.erase(y, new);
     }
 
@@ -134,7 +135,7 @@ impl Terminal {
             self.cursor.x = self.cursor.x.min(self.width);
             self.cursor.y = self.cursor.y.min(self.height - 1);
             hidden.resize(self.width, self.height)?;
-            return self.surface.draw_from_screen(&hidden, 0, 0);
+            return self.surface.draw_from_screen(&hidden, 0, 0).map(drop);
         }
         self.hidden = Some((Surface::copy_of(&self.surface)?, self.cursor.clone()));
         self.clear(2, false);

@@ -1,0 +1,27 @@
+//! A small terminal: the bytes that a program writes become changes of a surface, which are made in
+//! place. It prints the screen that its input leaves, and says how long that took.
+//! `python3 examples/terminal/frames.py 100 | cargo run --release --example terminal -- 80 24`
+
+mod parser;
+mod terminal;
+
+use std::error::Error;
+use std::io::{self, Read};
+use std::{env, time::Instant};
+use terminal::Terminal;
+
+fn main() -> Result<(), Box<dyn Error>> {
+    let mut size = env::args().skip(1).map(|word| word.parse());
+    let width = size.next().unwrap_or(Ok(80))?;
+    let height = size.next().unwrap_or(Ok(24))?;
+    let mut bytes = Vec::new();
+    io::stdin().read_to_end(&mut bytes)?;
+    let mut terminal = Terminal::new(width, height)?;
+    let begin = Instant::now();
+    for chunk in bytes.chunks(4096) {
+        terminal.feed(chunk)?;
+    }
+    eprintln!("{} bytes in {:?}", bytes.len(), begin.elapsed());
+    print!("{}", terminal.surface);
+    Ok(())
+}

@@ -1,0 +1,256 @@
+//! A terminal: texts and escape sequences become changes of a surface.
+
+use crate::parser::{Parser, Token};
+use std::mem;
+use std::ops::Range;
+use tikeburo::{graphemes, Attributes, Changes, ColorAttribute, Error, Surface, Widths};
+
+/// Where and how coming texts are printed. The column is the width where a wrap is pending.
+#[derive(Clone, Default)]
+struct Cursor {
+    x: usize,
+    y: usize,
+    pen: Attributes,
+}
+
+/// A surface that shows what a terminal would.
+pub struct Terminal {
+    pub surface: Surface,
+    width: usize,
+    height: usize,
+    cursor: Cursor,
+    saved: Cursor,
+    region: Range<usize>, // the rows that scroll
+    changes: Changes,     // which are still to be made
+    parser: Parser,
+}
+
+impl Terminal {
+    pub fn new(width: usize, height: usize) -> Result<Terminal, Error> {
+        Ok(Terminal {
+            surface: Surface::new(width, height)?,
+            width,
+            height,
+            cursor: Cursor::default(),
+            saved: Cursor::default(),
+            region: 0..height,
+            changes: Changes::new(),
+            parser: Parser::default(),
+        })
+    }
+
+    /// Takes the bytes that a program writes, cut anywhere. The characters of a grapheme that come
+    /// apart are printed apart.
+    pub fn feed(&mut self, bytes: &[u8]) -> Result<(), Error> {
+        let mut parser = mem::take(&mut self.parser);
+        let taken = parser.feed(bytes, &mut |token| self.take(token));
+        self.parser = parser;
+        taken.and_then(|()| self.make())
+    }
+
+    fn take(&mut self, token: Token<'_>) -> Result<(), Error> {
+        match token {
+            Token::Text(text) => return self.print(text),
+            Token::Control(byte) => self.control(byte),
+            Token::Escape(byte) => return self.escape(byte),
+            Token::Csi(params, None, last) => return self.csi(params, last),
+            Token::Csi(params, Some(b'?'), last @ (b'h' | b'l')) if params[0] == [25] => {
+                self.changes.cursor_visibility((last == b'h').into());
+            }
+            Token::Csi(..) => {}
+            Token::Osc(text) => {
+                if let Some(("0" | "2", title)) = text.split_once(';') {
+                    self.changes.title(title);
+                }
+            }
+        }
+        Ok(())
+    }
+
+    fn make(&mut self) -> Result<(), Error> {
+        self.surface.add(&self.changes)?;
+        self.changes.clear();
+        Ok(())
+    }
+
+    /// Prints a text without control characters. What has no room goes to the next row.
+    fn print(&mut self, text: &str) -> Result<(), Error> {
+        let end = self.cursor.x + text.len();
+        let goes_on = self.region.len() == self.height && self.is_plain();
+        if text.is_ascii() && (end <= self.width || goes_on) {
+            self.changes.use_pen(&self.cursor.pen).text(text);
+            if !text.is_empty() {
+                let row = self.cursor.y + (end - 1) / self.width;
+                self.cursor.y = row.min(self.height - 1);
+                self.cursor.x = (end - 1) % self.width + 1;
+            }
+            return Ok(());
+        }
+        let mut part = String::new();
+        let graphemes = graphemes(text, Widths::Unicode)?;
+        for (grapheme, columns) in graphemes.into_iter().filter(|it| it.1 > 0) {
+            if self.cursor.x + columns > self.width {
+                self.changes.use_pen(&self.cursor.pen).text(&part);
+                part.clear();
+                self.go(0, self.cursor.y);
+                self.feed_line();
+            }
+            part.push_str(grapheme);
+            self.cursor.x = self.width.min(self.cursor.x + columns);
+        }
+        self.changes.use_pen(&self.cursor.pen).text(&part);
+        Ok(())
+    }
+
+    /// Whether rows that scroll in have the background of the pen by themselves.
+    fn is_plain(&self) -> bool {
+        self.cursor.pen.background == ColorAttribute::Default
+    }
+
+    fn go(&mut self, x: usize, y: usize) {
+        self.cursor.x = x.min(self.width - 1);
+        self.cursor.y = y.min(self.height - 1);
+        self.changes.move_to(self.cursor.x, self.cursor.y);
+    }
+
+    /// Clears these columns of a row.
+    fn erase(&mut self, y: usize, columns: Range<usize>) {
+        let background = self.cursor.pen.background;
+        let changes = self.changes.move_to(columns.start, y);
+        if columns.end == self.width {
+            changes.clear_to_end_of_line(background);
+        } else {
+            changes.clear_columns(columns.len(), background);
+        }
+    }
+
+    fn scroll(&mut self, rows: Range<usize>, count: usize, up: bool) {
+        let count = count.min(rows.len());
+        let new = if up {
+            self.changes.scroll_up(rows.start, rows.len(), count);
+            rows.end - count..rows.end
+        } else {
+            self.changes.scroll_down(rows.start, rows.len(), count);
+            rows.start..rows.start + count
+        };
+        if !self.is_plain() {
+            new.for_each(|y| self.erase(y, 0..self.width));
+        }
+        self.go(self.cursor.x, self.cursor.y);
+    }
+
+    fn feed_line(&mut self) {
+        let Cursor { x, y, .. } = self.cursor;
+        if self.region.len() == self.height && self.is_plain() && x < self.width {
+            self.changes.append("\n");
+            self.cursor.y = (y + 1).min(self.height - 1);
+        } else if y + 1 == self.region.end {
+            self.scroll(self.region.clone(), 1, true);
+        } else {
+            self.go(x, y + 1);
+        }
+    }
+
+    /// Inserts blanks in these columns of the cursor's row, or deletes the cells there.
+    fn shift(&mut self, Range { start, end }: Range<usize>, inserts: bool) -> Result<(), Error> {
+        let (y, moved) = (self.cursor.y, self.width - end);
+        let (from, to, new) = if inserts {
+            (start, end, start..end)
+        } else {
+            (end, start, start + moved..self.width)
+        };
+        self.make()?;
+        self.surface.copy_region(from, y, moved, 1, to, y)?;
+        self.erase(y, new);
+        self.go(start, y);
+        Ok(())
+    }
+
+    /// Clears from the cursor on, up to it, or all: of its row, or of the screen.
+    fn clear(&mut self, part: usize, is_row: bool) {
+        let (y, width, height) = (self.cursor.y, self.width, self.height);
+        let x = self.cursor.x.min(width - 1);
+        let (columns, rows) = match part {
+            0 => (x..width, y + 1..height),
+            1 => (0..x + 1, 0..y),
+            2 => (0..width, 0..height),
+            _ => return,
+        };
+        self.erase(y, columns);
+        if !is_row {
+            rows.for_each(|y| self.erase(y, 0..width));
+        }
+        self.go(x, y);
+    }
+
+    fn control(&mut self, byte: u8) {
+        let Cursor { x, y, .. } = self.cursor;
+        let x = x.min(self.width - 1);
+        match byte {
+            0x08 => self.go(x.saturating_sub(1), y),
+            b'\t' => self.go((x / 8 + 1) * 8, y),
+            b'\n'..=0x0c => self.feed_line(),
+            b'\r' => {
+                self.changes.append("\r");
+                self.cursor.x = 0;
+            }
+            _ => {}
+        }
+    }
+
+    fn escape(&mut self, byte: u8) -> Result<(), Error> {
+        let (y, Range { start, end }) = (self.cursor.y, self.region.clone());
+        match byte {
+            b'7' => self.saved = self.cursor.clone(),
+            b'8' => {
+                self.cursor = self.saved.clone();
+                self.go(self.cursor.x, self.cursor.y);
+            }
+            b'D' => self.feed_line(),
+            b'E' => b"\r\n".iter().for_each(|byte| self.control(*byte)),
+            b'M' if y == start => self.scroll(start..end, 1, false),
+            b'M' => self.go(self.cursor.x, y.saturating_sub(1)),
+            b'c' => *self = Terminal::new(self.width, self.height)?,
+            _ => {}
+        }
+        Ok(())
+    }
+
+    fn csi(&mut self, params: &[Vec<u16>], last: u8) -> Result<(), Error> {
+        let mut numbers = params.iter().map(|param| usize::from(param[0]));
+        let (first, second) = (numbers.next().unwrap_or(0), numbers.next().unwrap_or(0));
+        let (x, y) = (self.cursor.x.min(self.width - 1), self.cursor.y);
+        let Range { start, end } = self.region;
+        let count = first.max(1);
+        let right = self.width.min(x + count);
+        let top = if y < start { 0 } else { start };
+        let bottom = if y < end { end - 1 } else { self.height - 1 };
+        match last {
+            b'@' | b'P' => self.shift(x..right, last == b'@')?,
+            b'A' => self.go(x, y.saturating_sub(count).max(top)),
+            b'B' => self.go(x, bottom.min(y + count)),
+            b'C' => self.go(x + count, y),
+            b'D' => self.go(x.saturating_sub(count), y),
+            b'G' => self.go(count - 1, y),
+            b'H' | b'f' => self.go(second.max(1) - 1, count - 1),
+            b'J' | b'K' => self.clear(first, last == b'K'),
+            b'L' | b'M' if self.region.contains(&y) => self.scroll(y..end, count, last == b'M'),
+            b'S' | b'T' => self.scroll(start..end, count, last == b'S'),
+            b'X' => {
+                self.erase(y, x..right);
+                self.go(x, y);
+            }
+            b'd' => self.go(x, count - 1),
+            b'm' => self.cursor.pen.apply_sgr(params.iter().map(Vec::as_slice)),
+            b'r' => {
+                let last = if second == 0 { self.height } else { second };
+                if count < last.min(self.height) {
+                    self.region = count - 1..last.min(self.height);
+                    self.go(0, 0);
+                }
+            }
+            _ => {}
+        }
+        Ok(())
+    }
+}

@@ -3,9 +3,10 @@ ghost use Rattle.std.specs.Prelude.{IfOk};
 ghost use Rattle.termwiz_storage.specs.CellsLeft.{IsOfCell};
 
 use crate::pens::{change_words, pen_words, text_lengths};
+use crate::words::{number, numbers, two};
 use crate::{clicks, clusters, words};
 use cases::error::PlayError;
-use cases::words::{given, number_word, pair, push_barred, truth_word};
+use cases::words::{given, number_word, push_barred, truth_word};
 use std::alloc::Global;
 use std::borrow::CowStr;
 use termwiz_cell::cell::{Cell, CellAttributes};
@@ -14,35 +15,38 @@ use termwiz_line::line::line::Line;
 use termwiz_storage::line::cellref::CellRef;
 
 pub fn answer(alloc: Global, line: &Line, words: &[&str]) -> Result<String, PlayError> {
-    match words {
-        ["stored"] => stored(alloc, line),
-        ["pens"] => pens(alloc, line),
-        ["pen", column] => pen(alloc, line, given(column)?),
-        ["shown"] => shown(alloc, line),
-        ["cells"] => cells(alloc, line),
-        ["visible"] => visible(alloc, line),
-        ["cell", column] => cell(alloc, line, given(column)?),
-        ["alike", column, other] => alike(alloc, line, pair(column, other)?),
-        ["copied", column, word] => copied(alloc, line, given(column)?, word),
-        ["text"] => text(alloc, line),
-        ["columns", from, to] => columns(alloc, line, pair(from, to)?),
-        ["len"] => number_word(alloc, line.len()),
-        ["number"] => number_word(alloc, line.current_seqno()),
-        ["changed", seqno] => truth_word(alloc, line.changed_since(given(seqno)?)),
-        ["spaces"] => truth_word(alloc, line.is_whitespace()),
-        ["link"] => truth_word(alloc, line.has_hyperlink()),
-        ["size"] => size(alloc, line),
-        ["bidi"] => bidi(alloc, line),
-        ["marked"] => truth_word(alloc, line.last_cell_was_wrapped()),
-        ["click", column] => click(alloc, line, given(column)?),
-        ["turning-click", column] => clicks::turning(alloc, line, given(column)?),
-        ["changes"] => changes(alloc, line),
-        ["lengths"] => lengths(alloc, line),
-        ["clusters"] => clusters::shown(alloc, line),
-        ["cell-clusters"] => clusters::of_cells(alloc, line),
-        ["bytes"] => clusters::bytes(alloc, line),
-        ["looks"] => clusters::looks(alloc, line),
-        ["cluster-copies"] => clusters::copies(alloc, line),
+    let (&name, words) = words.split_first().ok_or(PlayError::Bad)?;
+    match name {
+        "pen" => pen(alloc, line, number(words)?),
+        "cell" => cell(alloc, line, number(words)?),
+        "alike" => alike(alloc, line, numbers(words)?),
+        "copied" => copied(alloc, line, words),
+        "columns" => columns(alloc, line, numbers(words)?),
+        "changed" => truth_word(alloc, line.changed_since(number(words)?)),
+        "click" => click(alloc, line, number(words)?),
+        "turning-click" => clicks::turning(alloc, line, number(words)?),
+        // The others stand alone.
+        _ if !words.is_empty() => Err(PlayError::Bad),
+        "stored" => stored(alloc, line),
+        "pens" => pens(alloc, line),
+        "shown" => shown(alloc, line),
+        "cells" => cells(alloc, line),
+        "visible" => visible(alloc, line),
+        "text" => text(alloc, line),
+        "len" => number_word(alloc, line.len()),
+        "number" => number_word(alloc, line.current_seqno()),
+        "spaces" => truth_word(alloc, line.is_whitespace()),
+        "link" => truth_word(alloc, line.has_hyperlink()),
+        "size" => size(alloc, line),
+        "bidi" => bidi(alloc, line),
+        "marked" => truth_word(alloc, line.last_cell_was_wrapped()),
+        "changes" => changes(alloc, line),
+        "lengths" => lengths(alloc, line),
+        "clusters" => clusters::shown(alloc, line),
+        "cell-clusters" => clusters::of_cells(alloc, line),
+        "bytes" => clusters::bytes(alloc, line),
+        "looks" => clusters::looks(alloc, line),
+        "cluster-copies" => clusters::copies(alloc, line),
         _ => Err(PlayError::Bad),
     }
 }
@@ -149,8 +153,9 @@ fn alike(alloc: Global, line: &Line, columns: (usize, usize)) -> Result<String, 
 
 // Whether the copy of a visible cell is this cell, whether the visible one is its copy, and whether
 // it is blank.
-fn copied(alloc: Global, line: &Line, column: usize, word: &str) -> Result<String, PlayError> {
-    let visible = visible_at(line, column)?;
+fn copied(alloc: Global, line: &Line, words: &[&str]) -> Result<String, PlayError> {
+    let (column, word) = two(words)?;
+    let visible = visible_at(line, given(column)?)?;
     copy_words(alloc, visible, &words::cell(alloc, word)?)
 }
 

@@ -1,5 +1,5 @@
 //! Lines by the words that make them.
-use crate::words::{cell, cells, pen, text};
+use crate::words::{cell, cells, pen, pen_left, text};
 use cases::error::PlayError;
 use cases::words::given;
 use std::alloc::{AllocError, Global};
@@ -7,12 +7,12 @@ use termwiz_cell::cell::CellAttributes;
 use termwiz_cell::emoji::UnicodeWidths;
 use termwiz_line::line::line::Line;
 
-pub fn make(alloc: Global, words: &[&str]) -> Result<Line, PlayError> {
-    match words {
-        ["set", words @ ..] => set(alloc, words),
-        ["plain", word] => plain(alloc, word),
-        ["cells", seqno, words @ ..] => of_cells(alloc, given(seqno)?, words),
-        [name, words @ .., seqno] => numbered(alloc, name, words, given(seqno)?),
+pub fn make(alloc: Global, name: &str, words: &[&str]) -> Result<Line, PlayError> {
+    match (name, words) {
+        ("set", words) => set(alloc, words),
+        ("plain", [word]) => plain(alloc, word),
+        ("cells", [seqno, words @ ..]) => of_cells(alloc, given(seqno)?, words),
+        (_, [words @ .., seqno]) => numbered(alloc, name, words, given(seqno)?),
         _ => Err(PlayError::Bad),
     }
 }
@@ -53,8 +53,7 @@ fn numbered(alloc: Global, name: &str, words: &[&str], seqno: usize) -> Result<L
         ("blanks", [width]) => done(Line::with_width(alloc, given(width)?, seqno)),
         ("many", [width, word]) => many(alloc, given(width)?, word, seqno),
         ("text", [word, pen]) => of_text(alloc, word, pen, seqno),
-        ("wrapping", [word]) => wrapping(alloc, word, "-", seqno),
-        ("wrapping", [word, pen]) => wrapping(alloc, word, pen, seqno),
+        ("wrapping", [word, rest @ ..]) => wrapping(alloc, word, rest, seqno),
         _ => Err(PlayError::Bad),
     }
 }
@@ -78,9 +77,9 @@ fn in_pen(
     done(Line::from_text(alloc, text, &attrs, seqno, None, &UnicodeWidths))
 }
 
-fn wrapping(alloc: Global, word: &str, pen_word: &str, seqno: usize) -> Result<Line, PlayError> {
+fn wrapping(alloc: Global, word: &str, rest: &[&str], seqno: usize) -> Result<Line, PlayError> {
     let text = text(alloc, word)?;
-    wrapping_text(alloc, text.as_str(), pen(alloc, pen_word)?, seqno)
+    wrapping_text(alloc, text.as_str(), pen_left(alloc, rest)?, seqno)
 }
 
 fn wrapping_text(

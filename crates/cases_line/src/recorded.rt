@@ -5,7 +5,7 @@
 use crate::edits::edit;
 use crate::makes::make;
 use crate::readings::{readings, summary, yes};
-use crate::words::{cell, pen};
+use crate::words::{cell, number, numbers, one, pen, three, two};
 use cases::error::PlayError;
 use cases::play::Play;
 use cases::words::{given, pair};
@@ -66,41 +66,34 @@ impl Player {
     // What each call does. Some are edits of the scripts under other names, or with their words in
     // another order.
     fn answer(&mut self, own: usize, words: &[&str]) -> Result<String, PlayError> {
-        match words {
-            ["?"] => readings(self.alloc, self.get(own)?),
-            ["equal", other] => self.equal(own, given(other)?),
-            ["compress"] => self.compress(own),
-            ["wrap", width, seqno, to, piece] => {
-                self.wrap(own, pair(width, seqno)?, pair(to, piece)?)
+        let (&name, words) = words.split_first().ok_or(PlayError::Bad)?;
+        match name {
+            "?" if words.is_empty() => readings(self.alloc, self.get(own)?),
+            "equal" => self.equal(own, words),
+            "compress" if words.is_empty() => self.compress(own),
+            "wrap" => self.wrap(own, words),
+            "split" => self.split(own, words),
+            "columns" => self.columns(own, words),
+            "copy" => self.copy(own, words),
+            "append" => self.append(own, words),
+            "cells" | "plain" | "text" => self.make(own, name, words),
+            "new" => self.make(own, "empty", words),
+            "blank" => self.make(own, "blanks", words),
+            "repeat" => self.make(own, "many", words),
+            "wrappedtext" => self.make(own, "wrapping", words),
+            "write" => self.write(own, words),
+            "paint" => self.paint(own, words),
+            "put" => self.edit(own, "grapheme", words),
+            "margin" => self.erase_within(own, words),
+            "clear" => self.clear(own, words),
+            "wrapped" => self.edit(own, "mark", words),
+            "number" => self.edit(own, "take-number", words),
+            "single" | "double" | "top" | "bottom" => {
+                self.edit(own, "size", &[name, one(words)?])
             }
-            ["split", column, seqno, to] => self.split(own, pair(column, seqno)?, given(to)?),
-            ["columns", from, end, to] => self.columns(own, pair(from, end)?, given(to)?),
-            ["copy", to] => self.copy(own, given(to)?),
-            ["append", other, seqno] => self.append(own, given(other)?, given(seqno)?),
-            ["cells" | "plain" | "text", ..] => self.make(own, words),
-            ["new", seqno] => self.make(own, &["empty", seqno]),
-            ["blank", width, seqno] => self.make(own, &["blanks", width, seqno]),
-            ["repeat", width, cell, seqno] => self.make(own, &["many", width, cell, seqno]),
-            ["wrappedtext", text, pen, seqno] => self.make(own, &["wrapping", text, pen, seqno]),
-            ["write", column, cell] => self.write(own, given(column)?, cell),
-            ["paint", column, pen] => self.paint(own, given(column)?, pen),
-            ["put", column, text, width, pen, seqno] => {
-                self.edit(own, &["grapheme", column, text, width, pen, seqno])
-            }
-            ["margin", column, end, seqno, pen] => {
-                self.edit(own, &["erase-within", column, end, pen, seqno])
-            }
-            ["clear", width, seqno, pen] => self.edit(own, &["clear", width, pen, seqno]),
-            ["wrapped", wrapped, seqno] => self.edit(own, &["mark", wrapped, seqno]),
-            ["number", seqno] => self.edit(own, &["take-number", seqno]),
-            ["single" | "double" | "top" | "bottom", seqno] => {
-                self.edit(own, &["size", words[0], seqno])
-            }
-            ["bidi", enabled, seqno] => self.edit(own, &["enable", enabled, seqno]),
-            ["bidiinfo", enabled, hint, seqno] => {
-                self.edit(own, &["bidi", enabled, hint, seqno])
-            }
-            _ => self.edit(own, words),
+            "bidi" => self.edit(own, "enable", words),
+            "bidiinfo" => self.edit(own, "bidi", words),
+            _ => self.edit(own, name, words),
         }
     }
 
@@ -109,31 +102,47 @@ impl Player {
         summary(self.alloc, self.get(own)?)
     }
 
-    fn make(&mut self, own: usize, words: &[&str]) -> Result<String, PlayError> {
-        let line = make(self.alloc, words)?;
+    fn make(&mut self, own: usize, name: &str, words: &[&str]) -> Result<String, PlayError> {
+        let line = make(self.alloc, name, words)?;
         self.put(own, line)?;
         self.summary(own)
     }
 
-    fn edit(&mut self, own: usize, words: &[&str]) -> Result<String, PlayError> {
-        edit(self.alloc, self.get_mut(own)?, words)?;
+    fn edit(&mut self, own: usize, name: &str, words: &[&str]) -> Result<String, PlayError> {
+        edit(self.alloc, self.get_mut(own)?, name, words)?;
         self.summary(own)
     }
 
-    fn write(&mut self, own: usize, column: usize, word: &str) -> Result<String, PlayError> {
+    fn erase_within(&mut self, own: usize, words: &[&str]) -> Result<String, PlayError> {
+        let [column, end, seqno, pen] = words else {
+            return Err(PlayError::Bad);
+        };
+        self.edit(own, "erase-within", &[column, end, pen, seqno])
+    }
+
+    fn clear(&mut self, own: usize, words: &[&str]) -> Result<String, PlayError> {
+        let (width, seqno, pen) = three(words)?;
+        self.edit(own, "clear", &[width, pen, seqno])
+    }
+
+    fn write(&mut self, own: usize, words: &[&str]) -> Result<String, PlayError> {
+        let (column, word) = two(words)?;
+        let column = given(column)?;
         let cell = cell(self.alloc, word)?;
         write_cell(self.get_mut(own)?, column, cell)?;
         self.summary(own)
     }
 
-    fn paint(&mut self, own: usize, column: usize, word: &str) -> Result<String, PlayError> {
+    fn paint(&mut self, own: usize, words: &[&str]) -> Result<String, PlayError> {
+        let (column, word) = two(words)?;
+        let column = given(column)?;
         let attrs = pen(self.alloc, word)?;
         paint_cell(self.get_mut(own)?, column, attrs)?;
         self.summary(own)
     }
 
-    fn equal(&self, own: usize, other: usize) -> Result<String, PlayError> {
-        let equal = *self.get(own)? == *self.get(other)?;
+    fn equal(&self, own: usize, words: &[&str]) -> Result<String, PlayError> {
+        let equal = *self.get(own)? == *self.get(number(words)?)?;
         Ok(yes(equal).to_owned(self.alloc)?)
     }
 
@@ -142,32 +151,32 @@ impl Player {
         Ok(String::new(self.alloc))
     }
 
-    fn copy(&mut self, own: usize, to: usize) -> Result<String, PlayError> {
+    fn copy(&mut self, own: usize, words: &[&str]) -> Result<String, PlayError> {
+        let to = number(words)?;
         let copy = self.get(own)?.clone()?;
         self.put(to, copy)?;
         self.summary(own)
     }
 
-    fn append(&mut self, own: usize, other: usize, seqno: usize) -> Result<String, PlayError> {
+    fn append(&mut self, own: usize, words: &[&str]) -> Result<String, PlayError> {
+        let (other, seqno) = numbers(words)?;
         let other = self.get(other)?.clone()?;
         self.get_mut(own)?.append_line(other, seqno)?;
         self.summary(own)
     }
 
-    // At a column and with a number.
-    fn split(&mut self, own: usize, at: (usize, usize), to: usize) -> Result<String, PlayError> {
-        let rest = self.get_mut(own)?.split_off(at.0, at.1)?;
+    fn split(&mut self, own: usize, words: &[&str]) -> Result<String, PlayError> {
+        let (column, seqno, to) = three(words)?;
+        let ((column, seqno), to) = (pair(column, seqno)?, given(to)?);
+        let rest = self.get_mut(own)?.split_off(column, seqno)?;
         self.put(to, rest)?;
         self.summaries(own, to)
     }
 
-    fn columns(
-        &mut self,
-        own: usize,
-        from: (usize, usize),
-        to: usize,
-    ) -> Result<String, PlayError> {
-        let part = self.get(own)?.columns_as_line(from.0..from.1)?;
+    fn columns(&mut self, own: usize, words: &[&str]) -> Result<String, PlayError> {
+        let (from, end, to) = three(words)?;
+        let ((from, end), to) = (pair(from, end)?, given(to)?);
+        let part = self.get(own)?.columns_as_line(from..end)?;
         self.put(to, part)?;
         self.summaries(own, to)
     }
@@ -183,16 +192,15 @@ impl Player {
     }
 
     // Lists the pieces of a copy, at a width and with a number, and puts one into a register.
-    fn wrap(
-        &mut self,
-        own: usize,
-        how: (usize, usize),
-        kept: (usize, usize),
-    ) -> Result<String, PlayError> {
-        let pieces = self.get(own)?.clone()?.wrap(how.0, how.1)?;
+    fn wrap(&mut self, own: usize, words: &[&str]) -> Result<String, PlayError> {
+        let [width, seqno, to, piece] = words else {
+            return Err(PlayError::Bad);
+        };
+        let ((width, seqno), (to, piece)) = (pair(width, seqno)?, pair(to, piece)?);
+        let pieces = self.get(own)?.clone()?.wrap(width, seqno)?;
         let mut answer = listed(self.alloc, pieces.as_slice())?;
-        let piece = chosen(pieces.as_slice(), kept.1)?;
-        self.put(kept.0, piece)?;
+        let kept = chosen(pieces.as_slice(), piece)?;
+        self.put(to, kept)?;
         let line = summary(self.alloc, self.get(own)?)?;
         answer.push_str(line.as_str())?;
         Ok(answer)

@@ -2,9 +2,10 @@
 use crate::asks::{answer, shown, texts_apart};
 use crate::edits::edit;
 use crate::makes::make;
+use crate::words::{number, numbers, two};
 use cases::error::PlayError;
 use cases::play::Play;
-use cases::words::{given, pair, truth_word};
+use cases::words::{given, truth_word};
 use std::alloc::{AllocError, Global};
 use std::mem;
 use termwiz_cell::cell::Cell;
@@ -39,16 +40,17 @@ impl Stage {
     }
 
     fn command(&mut self, words: &[&str]) -> Result<String, PlayError> {
-        match words {
-            ["ask", words @ ..] => self.asked(words),
-            ["wrap", width, seqno] => self.wrap(width, seqno),
-            ["new", words @ ..] => self.add_made(words),
-            ["on", number] => self.go_on(number),
-            ["clone"] => self.add_clone(),
-            ["part", from, to] => self.add_part(from, to),
-            ["split", column, seqno] => self.split(column, seqno),
-            ["append", number, seqno] => self.append(number, seqno),
-            _ => self.edited(words),
+        let (&name, words) = words.split_first().ok_or(PlayError::Bad)?;
+        match name {
+            "ask" => self.asked(words),
+            "wrap" => self.wrap(words),
+            "new" => self.add_made(words),
+            "on" => self.go_on(words),
+            "clone" if words.is_empty() => self.add_clone(),
+            "part" => self.add_part(words),
+            "split" => self.split(words),
+            "append" => self.append(words),
+            _ => self.edited(name, words),
         }
     }
 
@@ -69,8 +71,8 @@ impl Stage {
         self.lines.get(given(word)?).ok_or(PlayError::Bad)
     }
 
-    fn go_on(&mut self, number: &str) -> Result<String, PlayError> {
-        self.on = given(number)?;
+    fn go_on(&mut self, words: &[&str]) -> Result<String, PlayError> {
+        self.on = number(words)?;
         self.silent()
     }
 
@@ -82,7 +84,8 @@ impl Stage {
     }
 
     fn add_made(&mut self, words: &[&str]) -> Result<String, PlayError> {
-        let line = make(self.alloc, words)?;
+        let (&name, words) = words.split_first().ok_or(PlayError::Bad)?;
+        let line = make(self.alloc, name, words)?;
         self.add(line)
     }
 
@@ -91,20 +94,21 @@ impl Stage {
         self.add(clone)
     }
 
-    fn add_part(&mut self, from: &str, to: &str) -> Result<String, PlayError> {
-        let (from, to) = pair(from, to)?;
+    fn add_part(&mut self, words: &[&str]) -> Result<String, PlayError> {
+        let (from, to) = numbers(words)?;
         let part = self.own()?.columns_as_line(from..to)?;
         self.add(part)
     }
 
-    fn split(&mut self, column: &str, seqno: &str) -> Result<String, PlayError> {
-        let (column, seqno) = pair(column, seqno)?;
+    fn split(&mut self, words: &[&str]) -> Result<String, PlayError> {
+        let (column, seqno) = numbers(words)?;
         let rest = self.own_mut()?.split_off(column, seqno)?;
         self.add(rest)
     }
 
     // Appends a copy of another line.
-    fn append(&mut self, number: &str, seqno: &str) -> Result<String, PlayError> {
+    fn append(&mut self, words: &[&str]) -> Result<String, PlayError> {
+        let (number, seqno) = two(words)?;
         let seqno = given(seqno)?;
         let other = self.other(number)?.clone()?;
         self.own_mut()?.append_line(other, seqno)?;
@@ -112,9 +116,9 @@ impl Stage {
     }
 
     // An edit that finds no memory is answered by `refused`.
-    fn edited(&mut self, words: &[&str]) -> Result<String, PlayError> {
+    fn edited(&mut self, name: &str, words: &[&str]) -> Result<String, PlayError> {
         let alloc = self.alloc;
-        match edit(alloc, self.own_mut()?, words) {
+        match edit(alloc, self.own_mut()?, name, words) {
             Ok(()) => Ok(String::new(alloc)),
             Err(PlayError::Memory) => Ok("refused".to_owned(alloc)?),
             Err(error) => Err(error),
@@ -122,8 +126,8 @@ impl Stage {
     }
 
     // The pieces into which the line is wrapped, each on a line of its own.
-    fn wrap(&mut self, width: &str, seqno: &str) -> Result<String, PlayError> {
-        let (width, seqno) = pair(width, seqno)?;
+    fn wrap(&mut self, words: &[&str]) -> Result<String, PlayError> {
+        let (width, seqno) = numbers(words)?;
         let empty = Line::new(self.alloc, seqno);
         let line = mem::replace(self.own_mut()?, empty);
         let mut pieces = String::new(self.alloc);

@@ -2,7 +2,7 @@
 use cases::error::PlayError;
 use cases::escapes::unescaped;
 use cases::pens;
-use cases::words::{given, named};
+use cases::words::{given, named, pair};
 use std::alloc::Global;
 use termwiz_cell::cell::{Cell, CellAttributes};
 use termwiz_line::line::bidi::{Direction, ParagraphDirectionHint};
@@ -23,6 +23,41 @@ pub const HINTS: [(&str, ParagraphDirectionHint); 8] = [
     ("AutoLeftToRight", ParagraphDirectionHint::AutoLeftToRight),
     ("AutoRightToLeft", ParagraphDirectionHint::AutoRightToLeft),
 ];
+
+/// The only word.
+pub fn one<'a>(words: &[&'a str]) -> Result<&'a str, PlayError> {
+    match words {
+        [x] => Ok(*x),
+        _ => Err(PlayError::Bad),
+    }
+}
+
+/// The words, if they are two.
+pub fn two<'a>(words: &[&'a str]) -> Result<(&'a str, &'a str), PlayError> {
+    match words {
+        [x, y] => Ok((*x, *y)),
+        _ => Err(PlayError::Bad),
+    }
+}
+
+/// The words, if they are three.
+pub fn three<'a>(words: &[&'a str]) -> Result<(&'a str, &'a str, &'a str), PlayError> {
+    match words {
+        [x, y, z] => Ok((*x, *y, *z)),
+        _ => Err(PlayError::Bad),
+    }
+}
+
+/// The number that the only word writes.
+pub fn number(words: &[&str]) -> Result<usize, PlayError> {
+    given(one(words)?)
+}
+
+/// The numbers that two words write.
+pub fn numbers(words: &[&str]) -> Result<(usize, usize), PlayError> {
+    let (x, y) = two(words)?;
+    pair(x, y)
+}
 
 pub fn direction(word: &str) -> Result<Direction, PlayError> {
     named(&DIRECTIONS, word)
@@ -46,6 +81,14 @@ pub fn pen(alloc: Global, word: &str) -> Result<CellAttributes, PlayError> {
         return Ok(CellAttributes::blank());
     }
     pens::pen(alloc, word, ',')
+}
+
+/// The pen of the only word, or default attributes where there is no word.
+pub fn pen_left(alloc: Global, words: &[&str]) -> Result<CellAttributes, PlayError> {
+    match words {
+        [] => Ok(CellAttributes::blank()),
+        _ => pen(alloc, one(words)?),
+    }
 }
 
 /// A cell: its text alone, or with its width, or with its width and its pen, with `/` or `:`

@@ -304,6 +304,13 @@ enum {
 tk_status tk_add_changes(tk_handle *surface, const tk_change *changes, size_t count,
                          const char *texts, size_t len);
 
+/* Makes a list of changes and logs none of them: no text is copied, and no memory is taken for
+ * answers. It is for a surface that nobody follows: whoever does is sent the whole screen the next
+ * time, unless nothing has changed. What was logged before is forgotten, and the number grows as by
+ * tk_add_changes, which has the same list and the same faults. */
+tk_status tk_add_unlogged(tk_handle *surface, const tk_change *changes, size_t count,
+                          const char *texts, size_t len);
+
 /* Makes a list of changes, which these bytes encode: the array `[* change]` of docs/stream.cddl
  * and nothing after it. A text in it has the pieces that the surface cuts and measures: where they
  * aren't known, tk_print prints it. TK_TRUNCATED: the bytes end before the list does.

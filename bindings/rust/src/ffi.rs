@@ -150,6 +150,13 @@ extern "C" {
         texts: *const u8,
         len: usize,
     ) -> i32;
+    pub fn tk_add_unlogged(
+        surface: *mut tk_handle,
+        changes: *const tk_change,
+        count: usize,
+        texts: *const u8,
+        len: usize,
+    ) -> i32;
     pub fn tk_draw(
         surface: *mut tk_handle,
         source: *mut tk_handle,

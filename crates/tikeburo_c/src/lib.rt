@@ -19,4 +19,5 @@ mod lists;
 mod loose;
 mod reading;
 mod surfaces;
+mod unlogged;
 mod widths;

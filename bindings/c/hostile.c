@@ -192,7 +192,10 @@ static tk_status add_random_structs(tk_handle *surface) {
             list[i].first = SIZE_MAX - below(4);
     }
     memset(texts, 'a', below(2) * sizeof texts);
-    return tk_add_changes(surface, list, count, (const char *)texts, len - left * below(2));
+    len -= left * below(2);
+    if (below(4) == 0)
+        return tk_add_unlogged(surface, list, count, (const char *)texts, len);
+    return tk_add_changes(surface, list, count, (const char *)texts, len);
 }
 
 /* Bytes of any kind are a text, which is cut and measured, or refused. */

@@ -108,6 +108,48 @@ static void test_no_text(void) {
     tk_free(&surface);
 }
 
+/* What isn't logged shows and counts like what is, has the same faults, and is sent as a whole. */
+static void test_unlogged(void) {
+    tk_handle surface = made(8, 2), other = made(8, 2), client = made_client(), none = TK_NONE;
+    const tk_change list[] = {
+        text_of(TK_CHANGE_TEXT, 2),  move_of(3, 1, 0),
+        text_of(TK_CHANGE_TITLE, 3), text_of(TK_CHANGE_LINK, 1),
+        text_of(TK_CHANGE_TEXT, 3),  text_of(TK_CHANGE_NO_LINK, 9),
+    };
+    const char *const texts = "hinewuか";
+    const tk_change past = text_of(TK_CHANGE_TEXT, 2), x = text_of(TK_CHANGE_TEXT, 1);
+    const tk_change region = {.kind = TK_CHANGE_SCROLL_UP, .first = 1, .second = 2, .third = 1};
+    CHECK(tk_add_unlogged(&surface, list, 0, "", 0) == TK_DONE && number_is(&surface, 0));
+    CHECK(tk_add_unlogged(&none, list, COUNT(list), texts, strlen(texts)) == TK_NO_HANDLE);
+    CHECK(tk_add_unlogged(&client, list, COUNT(list), texts, strlen(texts)) == TK_WRONG_KIND);
+    CHECK(tk_add_unlogged(&surface, list, COUNT(list), texts, strlen(texts)) == TK_DONE);
+    CHECK(number_is(&surface, COUNT(list)) && title_is(&surface, "new"));
+    CHECK(screen_is(&surface, "hi\n   か\n") && link_is(&surface, 3, 1, "u"));
+    bytes answer = answer_to(&surface, &client);
+    CHECK(feed(&client, &answer) == TK_DONE && screen_is(&client, "hi\n   か\n"));
+
+    CHECK(tk_add_unlogged(&surface, (tk_change[]){x, past}, 2, "xy", 2) == TK_RANGE);
+    CHECK(tk_add_unlogged(&surface, &x, 1, "\xff", 1) == TK_UNREADABLE);
+    CHECK(tk_add_unlogged(&surface, (tk_change[]){x, region}, 2, "x", 1) == TK_REGION);
+    CHECK(number_is(&surface, COUNT(list)) && screen_is(&surface, "hi\n   か\n"));
+
+    /* Of two surfaces that show the same, one sends the change, and one all. */
+    CHECK(make(&other, list, COUNT(list), texts) == TK_DONE);
+    tk_handle follower = made_client();
+    answer = answer_to(&other, &follower);
+    CHECK(feed(&follower, &answer) == TK_DONE);
+    CHECK(make(&other, &x, 1, "x") == TK_DONE);
+    CHECK(tk_add_unlogged(&surface, &x, 1, "x", 1) == TK_DONE);
+    const bytes delta = answer_to(&other, &follower), repaint = answer_to(&surface, &client);
+    CHECK(delta.len < repaint.len);
+    CHECK(feed(&follower, &delta) == TK_DONE && feed(&client, &repaint) == TK_DONE);
+    CHECK(screen_is(&client, "hi\n   かx\n") && screen_is(&follower, "hi\n   かx\n"));
+    tk_free(&surface);
+    tk_free(&other);
+    tk_free(&client);
+    tk_free(&follower);
+}
+
 static void test_encoded_lists(void) {
     tk_handle surface = made(6, 2), none = TK_NONE;
     const uint8_t nothing[] = {0x80};
@@ -140,6 +182,7 @@ int main(void) {
     test_moves();
     test_pens();
     test_no_text();
+    test_unlogged();
     test_encoded_lists();
     printf("%d checks\n", checks);
     return failures != 0;

@@ -368,6 +368,13 @@ enum {
 tk_status tk_add_changes(tk_handle *surface, const tk_change *changes, size_t count,
                          const char *texts, size_t len);
 
+/* Makes a list of changes and logs none of them: no text is copied, and no memory is taken for
+ * answers. It is for a surface that nobody follows: whoever does is sent the whole screen the next
+ * time, unless nothing has changed. What was logged before is forgotten, and the number grows as by
+ * tk_add_changes, which has the same list and the same faults. */
+tk_status tk_add_unlogged(tk_handle *surface, const tk_change *changes, size_t count,
+                          const char *texts, size_t len);
+
 /* How many changes and bytes of texts a list has, and the number that it leads to. */
 typedef struct tk_list_counts {
     size_t changes;

@@ -203,6 +203,13 @@ extern "C" {
         texts: *const u8,
         len: usize,
     ) -> i32;
+    pub fn tk_add_unlogged(
+        surface: *mut tk_handle,
+        changes: *const tk_change,
+        count: usize,
+        texts: *const u8,
+        len: usize,
+    ) -> i32;
     pub fn tk_get_changes(
         handle: *mut tk_handle,
         since: usize,

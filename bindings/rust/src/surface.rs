@@ -82,6 +82,7 @@ impl Options {
 pub struct Surface {
     screen: Screen,
     source: usize,
+    keeps_changes: bool,
 }
 
 impl Surface {
@@ -117,7 +118,11 @@ impl Surface {
             ffi::tk_surface_new(handle, width, height, widths, source)
         })?;
         let screen = Screen { handle };
-        Ok(Surface { screen, source })
+        Ok(Surface {
+            screen,
+            source,
+            keeps_changes: true,
+        })
     }
 
     /// A surface that shows the rows that another screen shows now, as a copy to be drawn later, and
@@ -146,6 +151,27 @@ impl Surface {
         let mut surface = Surface::new(width, height)?;
         surface.draw_from_screen(screen, 0, 0)?;
         Ok(surface)
+    }
+
+    /// Whether the surface keeps the changes that are added to it, as a new one does, for viewers and
+    /// clients that lack some of them. One that keeps none copies no text, and answers by the whole
+    /// screen whoever lacks a change. Draws and copies are kept either way.
+    ///
+    /// ```
+    /// use tikeburo::{Client, Error, Surface};
+    ///
+    /// let mut surface = Surface::new(8, 2)?;
+    /// surface.keep_changes(false);
+    /// surface.print("one")?;
+    /// surface.print("\r\ntwo")?;
+    /// assert_eq!(surface.current_seqno(), 2);
+    /// let mut client = Client::new()?;
+    /// client.feed(&surface.respond(&client.ask()?)?)?;
+    /// assert_eq!(client.screen().row(1).text()?.trim_end(), "two");
+    /// # Ok::<(), Error>(())
+    /// ```
+    pub fn keep_changes(&mut self, keep: bool) {
+        self.keeps_changes = keep;
     }
 
     /// Makes a change, and returns its number.
@@ -229,9 +255,14 @@ impl Surface {
 
     fn make(&mut self, list: &[tk_change], texts: &str) -> Result<(), Error> {
         let (handle, bytes) = (self.handle.get(), texts.as_bytes());
+        let add = if self.keeps_changes {
+            ffi::tk_add_changes
+        } else {
+            ffi::tk_add_unlogged
+        };
         // Safety: the handle is live, and the list and its texts are only read.
         Error::check(unsafe {
-            ffi::tk_add_changes(
+            add(
                 handle,
                 list.as_ptr(),
                 list.len(),

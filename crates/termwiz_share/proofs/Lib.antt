@@ -3,4 +3,5 @@ pub mod Fed
 pub mod Taking
 pub mod Resumed
 pub mod Served
+mod Unlogged
 pub mod Answering

@@ -12,6 +12,7 @@ pub use Rattle.termwiz_screen.specs.Log.{next_number}
 pub use Rattle.termwiz_surface.specs.Adding.{Adds, with_log}
 pub use Rattle.termwiz_surface.specs.Answer.{is_repaint, suits}
 pub use Rattle.termwiz_surface.specs.Copies.{IsCopied, IsRegionDrawn, IsDrawn, copied_region}
+pub use Rattle.termwiz_surface.specs.Unlogged.{AddsUnlogged, lent_value}
 pub use Rattle.termwiz_surface.specs.Diffs.{HasCopied, HasDrawn}
 pub use Rattle.termwiz_surface.specs.Following.{KeepsViewers}
 pub use Rattle.termwiz_surface.specs.Resizing.{Resizes}

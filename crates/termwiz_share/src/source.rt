@@ -1,10 +1,11 @@
 //! Sources: full surfaces whose answers name them.
 ghost use Rattle.std.specs.Prelude.{◌≡◌, ◌≢◌, ◌+◌, ◌-◌, ◌<◌, ◌^◌, ◌∷◌, ◌++◌, [], Err, IfOk, List};
 ghost use Rattle.std.specs.Prelude.{OnErr, OnOk, ℕ, min, vec_len};
-ghost use Rattle.termwiz_share.specs.{Adds, Answers, ClientValue, HasCopied, HasDrawn, IsCopied};
-ghost use Rattle.termwiz_share.specs.{IsDrawn, IsRegionDrawn, IsResponse, IsSurfaceSize};
-ghost use Rattle.termwiz_share.specs.{KeepsClients, KeepsViewers, Resizes, Responds};
-ghost use Rattle.termwiz_share.specs.{ScrollRegion, Serves, SourceValue, blank_surface};
+ghost use Rattle.termwiz_share.specs.{Adds, AddsUnlogged, Answers, ClientValue, HasCopied};
+ghost use Rattle.termwiz_share.specs.{HasDrawn, IsCopied, IsDrawn, IsRegionDrawn, IsResponse};
+ghost use Rattle.termwiz_share.specs.{IsSurfaceSize, KeepsClients, KeepsViewers, Resizes};
+ghost use Rattle.termwiz_share.specs.{Responds, ScrollRegion, Serves, SourceValue, blank_surface};
+ghost use Rattle.termwiz_share.specs.{lent_value};
 ghost use Rattle.termwiz_share.specs.{change_value, copied_region, length, map, measure};
 ghost use Rattle.termwiz_share.specs.{most_bytes, next_number, screen_of, trimmed, true};
 
@@ -12,7 +13,7 @@ use std::alloc::{AllocError, Global};
 use std::marker::Model;
 use termwiz_cell::change::{Change, SEQ_ZERO, SequenceNo};
 use termwiz_cell::emoji::Widths;
-use termwiz_surface::{Answer, Surface, SurfaceError};
+use termwiz_surface::{Answer, LentChange, Surface, SurfaceError};
 use termwiz_wire::{Ask, SourceNo, encode_answer, encoded_len};
 
 /// A full surface that clients show, with a number that names it among all sources that a client
@@ -121,6 +122,20 @@ impl<W: Widths> Source<W> {
     {
         self.surface.forget_unneeded();
         self.surface.add_lent_changes(changes)
+    }
+
+    /// Makes the changes in order without logging them, as `Surface::add_unlogged` does.
+    pub fn add_unlogged(&mut self, changes: &[LentChange<'_>]) -> Result<SequenceNo, SurfaceError>
+        ensures adds { AddsUnlogged (measure W.width_of self.old.surface.widths)
+            self.old.surface (map lent_value changes.now)
+            (next_number self.old.surface.log - 1 + length changes.now)
+            result self.new.surface }
+        ensures number { self.new.number ≡ self.old.number }
+        ensures serves { KeepsClients (measure W.width_of) self.old self.new }
+        // Each viewer that follows the surface goes on to, also after an error.
+        ensures followed { KeepsViewers (measure W.width_of) self.old.surface self.new.surface }
+    {
+        self.surface.add_unlogged(changes)
     }
 
     /// Draws another surface from this column and this row on, as `Surface::draw_from_screen` does.

@@ -7,7 +7,7 @@ use std::alloc::Global;
 use std::process::Abort;
 use termwiz_cell::change::{Change, SEQ_ZERO, SequenceNo};
 use termwiz_cell::emoji::Widths;
-use termwiz_surface::surface::{Screen, Surface};
+use termwiz_surface::surface::{LentChange, Screen, Surface};
 
 // The most columns of a surface, and its most rows.
 const MOST: usize = u32::MAX as usize;
@@ -81,6 +81,13 @@ impl<W: Widths> Canvas<W> {
     pub fn add_changes(&mut self, rt: &impl Abort, changes: Vec<Change>) {
         self.surface
             .add_changes(changes)
+            .expect(rt, "changes are made");
+    }
+
+    /// Makes changes that aren't logged.
+    pub fn add_unlogged(&mut self, rt: &impl Abort, changes: &[LentChange<'_>]) {
+        self.surface
+            .add_unlogged(changes)
             .expect(rt, "changes are made");
     }
 

@@ -26,4 +26,6 @@ mod steps;
 #[cfg(test)]
 mod texts_cut;
 #[cfg(test)]
+mod unlogged;
+#[cfg(test)]
 mod widths;

@@ -8,6 +8,7 @@ use Rattle.termwiz_share.specs.Serving.{KeepsClients}
 use Rattle.termwiz_share.specs.Source.{SourceValue, trimmed}
 use Rattle.termwiz_surface.specs.Adding.{Adds}
 use Rattle.termwiz_surface.specs.Following.{KeepsViewers}
+use Rattle.termwiz_surface.specs.Unlogged.{AddsUnlogged}
 use Rattle.termwiz_surface.specs.declared.surface.SurfaceError.{SurfaceError}
 use Rattle.termwiz_wire.specs.Answers.{changes_at}
 use Rattle.termwiz_wire.specs.Encoding.{changes}
@@ -29,6 +30,11 @@ pub record GoesOn (old new : SourceValue ChosenWidths) : Type 0 where
 abbrev pub AddsList : List ChangeValue → SourceValue ChosenWidths → Outcome → SourceValue ChosenWidths → Type 0
 AddsList changes old outcome new =
     (number : ℕ) × (added : Result ℕ SurfaceError) × (outcome ≡ outcome_of changing_failure added) × Adds (columns_by old.surface.widths) (trimmed old.surface) changes number added new.surface × GoesOn old new
+
+-- the list of changes is made as the library makes it that logs none of them, whatever number that returns
+abbrev pub AddsListUnlogged : List ChangeValue → SourceValue ChosenWidths → Outcome → SourceValue ChosenWidths → Type 0
+AddsListUnlogged changes old outcome new =
+    (number : ℕ) × (added : Result ℕ SurfaceError) × (outcome ≡ outcome_of changing_failure added) × AddsUnlogged (columns_by old.surface.widths) old.surface changes number added new.surface × GoesOn old new
 
 -- the one list that the bytes encode, with nothing behind it
 abbrev pub IsOnlyList : (List ℕ → ℕ) → List ℕ → Result (Vec Change Global) Failure → Type 0

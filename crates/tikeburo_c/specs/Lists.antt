@@ -13,7 +13,7 @@ use Rattle.termwiz_cell.specs.Link.{Link}
 use Rattle.termwiz_cell.specs.declared.change.Position.{Position}
 use Rattle.termwiz_cell.specs.declared.change.Position.TheVariants.{Absolute, EndRelative, Relative}
 use Rattle.termwiz_share.specs.Source.{SourceValue}
-use Rattle.tikeburo_c.specs.Changes.{AddsList}
+use Rattle.tikeburo_c.specs.Changes.{AddsList, AddsListUnlogged}
 use Rattle.tikeburo_c.specs.Fields.{attributes_in, color_in}
 use Rattle.tikeburo_c.specs.Numbers.{blink_in, intensity_in, line_in, numbered, shape_in, underline_in}
 use Rattle.tikeburo_c.specs.Outcomes.{Outcome}
@@ -155,4 +155,12 @@ AddsListed fs texts = of (listed_in fs texts)
   where
     of : Result (List ChangeValue) Failure → SourceValue ChosenWidths → Outcome → SourceValue ChosenWidths → Type 0
     of (Ok cs) = OrNoMemory (AddsList cs)
+    of (Err failure) = OrNoMemory (Refused failure)
+
+-- or they are made without being logged
+abbrev pub AddsListedUnlogged : List ChangeFields → List ℕ → SourceValue ChosenWidths → Outcome → SourceValue ChosenWidths → Type 0
+AddsListedUnlogged fs texts = of (listed_in fs texts)
+  where
+    of : Result (List ChangeValue) Failure → SourceValue ChosenWidths → Outcome → SourceValue ChosenWidths → Type 0
+    of (Ok cs) = OrNoMemory (AddsListUnlogged cs)
     of (Err failure) = OrNoMemory (Refused failure)

@@ -1,7 +1,8 @@
 //! Changes of surfaces.
 ghost use Rattle.std.specs.Prelude.{map};
 ghost use Rattle.termwiz_cell.specs.ChangeValue.{change_value};
-ghost use Rattle.tikeburo_c.specs.Changes.{AddsBytes, AddsList, IsOnlyList};
+ghost use Rattle.termwiz_surface.specs.Unlogged.{lent_value};
+ghost use Rattle.tikeburo_c.specs.Changes.{AddsBytes, AddsList, AddsListUnlogged, IsOnlyList};
 ghost use Rattle.tikeburo_c.specs.Outcomes.{Reports};
 ghost use Rattle.tikeburo_c.specs.Handles.{kept_of};
 ghost use Rattle.tikeburo_c.specs.Results.{OnSurface};
@@ -13,7 +14,7 @@ use crate::handle::Handle;
 use crate::widths::ChosenWidths;
 use std::alloc::Global;
 use termwiz_share::Source;
-use termwiz_surface::Change;
+use termwiz_surface::{Change, LentChange};
 use termwiz_wire::decode_changes;
 
 // The list of changes that the bytes encode, with nothing after it.
@@ -35,6 +36,17 @@ pub(crate) fn add_list(
     ensures { AddsList (map change_value changes.items) surface.old result surface.new }
 {
     surface.add_changes(changes)?;
+    Ok(())
+}
+
+/// Makes changes on a surface, which doesn't log them.
+pub(crate) fn add_list_unlogged(
+    surface: &mut Source<ChosenWidths>,
+    changes: &[LentChange<'_>],
+) -> Result<(), Failure>
+    ensures { AddsListUnlogged (map lent_value changes.now) surface.old result surface.new }
+{
+    surface.add_unlogged(changes)?;
     Ok(())
 }
 

@@ -24,5 +24,6 @@ mod rows;
 mod states;
 mod surfaces;
 mod texts;
+mod unlogged;
 mod version;
 mod widths;

@@ -66,7 +66,7 @@ pub(crate) enum Kind {
     LineAttribute,
 }
 
-fn kind_in(number: u8) -> Result<Kind, Failure>
+pub(crate) fn kind_in(number: u8) -> Result<Kind, Failure>
     ensures found { IfOk result (λ kind. listed.kind_in number ≡ Some kind) }
     ensures missing { IfErr result (λ failure.
         (failure ≡ Range) × (listed.kind_in number ≡ None)) }
@@ -101,7 +101,7 @@ fn kind_in(number: u8) -> Result<Kind, Failure>
 }
 
 // How many bytes of the list's texts are the change's own.
-fn text_len(kind: Kind, fields: &ChangeFields) -> usize
+pub(crate) fn text_len(kind: Kind, fields: &ChangeFields) -> usize
     ensures { result ≡ listed.text_len kind fields.now }
 {
     match kind {
@@ -209,7 +209,12 @@ fn attribute_in(kind: Kind, fields: &AttributeFields) -> Result<AttributeChange,
     Ok(change)
 }
 
-fn change_in(alloc: Global, kind: Kind, f: &ChangeFields, text: &[u8]) -> Result<Change, Failure>
+pub(crate) fn change_in(
+    alloc: Global,
+    kind: Kind,
+    f: &ChangeFields,
+    text: &[u8],
+) -> Result<Change, Failure>
     ensures found { IfOk result (λ change.
         listed.change_in kind f.now text.now ≡ Ok (change_value change)) }
     ensures missing { IfErr result (λ failure. (failure ≡ Memory)

@@ -1,0 +1,115 @@
+//! Lists of changes that aren't logged: they borrow the texts that they print.
+ghost use Rattle.std.specs.Prelude.{◌≡◌, ◌⊎◌, Err, IfErr, IfOk, Ok, map};
+ghost use Rattle.termwiz_surface.specs.Unlogged.{lent_value};
+ghost use Rattle.tikeburo_c.specs.Handles.{kept_of};
+ghost use Rattle.tikeburo_c.specs.Lists as listed;
+ghost use Rattle.tikeburo_c.specs.Lists.{AddsListedUnlogged};
+ghost use Rattle.tikeburo_c.specs.Outcomes.{Reports};
+ghost use Rattle.tikeburo_c.specs.Results.{OnSurface};
+ghost use Rattle.tikeburo_c.specs.declared.failure.Failure.TheVariants.{Memory};
+
+use crate::access::on_surface;
+use crate::changes::add_list_unlogged;
+use crate::failure::{Failure, status};
+use crate::handle::Handle;
+use crate::lists::{ChangeFields, Kind, change_in, kind_in, text_in, text_len};
+use crate::widths::ChosenWidths;
+use std::alloc::Global;
+use termwiz_share::Source;
+use termwiz_surface::LentChange;
+
+// A change that borrows the text that it prints or the title that it sets.
+fn lent_in<'a>(
+    alloc: Global,
+    kind: Kind,
+    fields: &ChangeFields,
+    text: &'a [u8],
+) -> Result<LentChange<'a>, Failure>
+    ensures found { IfOk result (λ change.
+        listed.change_in kind fields.now text.now ≡ Ok (lent_value change)) }
+    ensures missing { IfErr result (λ failure. (failure ≡ Memory)
+        ⊎ (listed.change_in kind fields.now text.now ≡ Err failure)) }
+{
+    match kind {
+        Kind::Text => Ok(LentChange::Text(text_in(text)?)),
+        Kind::Title => Ok(LentChange::Title(text_in(text)?)),
+        _ => Ok(LentChange::Owned(change_in(alloc, kind, fields, text)?)),
+    }
+}
+
+// The first change of a list, which borrows its text, and the texts of the others.
+fn first_lent_in<'a>(
+    alloc: Global,
+    fields: &ChangeFields,
+    texts: &'a [u8],
+) -> Result<(LentChange<'a>, &'a [u8]), Failure>
+    ensures found { IfOk result (λ x.
+        listed.first_in fields.now texts.now ≡ Ok (lent_value x.0, x.1.now)) }
+    ensures missing { IfErr result (λ failure. (failure ≡ Memory)
+        ⊎ (listed.first_in fields.now texts.now ≡ Err failure)) }
+{
+    let kind = kind_in(fields.kind)?;
+    let len = text_len(kind, fields);
+    if texts.len() < len {
+        return Err(Failure::Range);
+    }
+    let (text, others) = texts.split_at(len);
+    let change = lent_in(alloc, kind, fields, text)?;
+    Ok((change, others))
+}
+
+// The changes of a list, which borrow their texts.
+#[tactic(auto, using(crate::proofs::Listed::from_first))]
+fn listed_lent_in<'a>(
+    alloc: Global,
+    list: &[ChangeFields],
+    texts: &'a [u8],
+) -> Result<Vec<LentChange<'a>>, Failure>
+    ensures found { IfOk result (λ changes.
+        listed.listed_in list.now texts.now ≡ Ok (map lent_value changes.items)) }
+    ensures missing { IfErr result (λ failure. (failure ≡ Memory)
+        ⊎ (listed.listed_in list.now texts.now ≡ Err failure)) }
+{
+    let mut changes = Vec::with_capacity(alloc, list.len())?;
+    let mut rest = texts;
+    for fields in list {
+        let (change, others) = first_lent_in(alloc, fields, rest)?;
+        changes.push(change)?;
+        rest = others;
+    }
+    if !rest.is_empty() {
+        return Err(Failure::Range);
+    }
+    Ok(changes)
+}
+
+fn add_unlogged(
+    alloc: Global,
+    surface: &mut Source<ChosenWidths>,
+    list: &[ChangeFields],
+    texts: &[u8],
+) -> Result<(), Failure>
+    ensures { AddsListedUnlogged list.now texts.now surface.old result surface.new }
+{
+    let changes = listed_lent_in(alloc, list, texts)?;
+    add_list_unlogged(surface, &changes)
+}
+
+/// Makes a list of changes, whose texts are behind one another, and logs none of them.
+#[unsafe(no_mangle)]
+pub extern "C" fn tk_add_unlogged(
+    alloc: Global,
+    handle: &mut Handle,
+    list: &[ChangeFields],
+    texts: &[u8],
+) -> i32
+    ensures { Reports result (λ outcome. OnSurface (AddsListedUnlogged list.now texts.now)
+        (kept_of handle.old) outcome (kept_of handle.new)) }
+{
+    let outcome = on_surface(
+        alloc,
+        handle,
+        |surface| add_unlogged(alloc, surface, list, texts),
+    );
+    status(outcome)
+}

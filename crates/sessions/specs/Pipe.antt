@@ -9,8 +9,10 @@ use Rattle.sessions.specs.declared.send.runs.SendEvent.{SendEvent}
 use Rattle.sessions.specs.declared.send.runs.SendOutcome.{SendOutcome}
 use Rattle.sessions.specs.declared.watch.runs.Watched.{Watched}
 
--- each answer that the events may send is shown by the number and the screen that the source had then, where each is within the limits
-pub record IsPiped (limits : Limits) (source w h : ℕ) (events : List SendEvent) (each : Bool) (shown : Watched) : Type 0 where
+-- each answer that the events may send is shown by the number and the screen that the source had
+-- then, where each is within the limits
+pub record IsPiped (limits : Limits) (source w h : ℕ) (events : List SendEvent) (each : Bool)
+    (shown : Watched) : Type 0 where
   pub outcomes : List SendOutcome
   pub frames : List Frame
   pub sent : AreSent source w h events outcomes frames

@@ -23,4 +23,5 @@ cursor_line x y = codes "cursor " ++ decimal x ++ codes " " ++ decimal y ++ newl
 
 -- a word and a number, the rows, and where the cursor is
 abbrev pub viewed_lines : List ℕ → ℕ → Screen → List ℕ
-viewed_lines word number s = word ++ codes " " ++ decimal number ++ newline ++ row_lines s.rows ++ cursor_line s.x s.y
+viewed_lines word number s =
+    word ++ codes " " ++ decimal number ++ newline ++ row_lines s.rows ++ cursor_line s.x s.y

@@ -33,8 +33,10 @@ end_by number (watching.Fault why) = Fault number why
 end_by number watching.Unreadable = Session session.Unreadable
 end_by number watching.Memory = Session session.Memory
 
--- of these bytes each answer is taken until this end, and what is shown then is printed, or the last of it
-pub record PrintsUpTo (o : WatchOptions) (bytes : List ℕ) (fault : Option (ℕ × AnswerFault)) (old new : Option (List ℕ)) : Type 0 where
+-- of these bytes each answer is taken until this end, and what is shown then is printed, or the
+-- last of it
+pub record PrintsUpTo (o : WatchOptions) (bytes : List ℕ) (fault : Option (ℕ × AnswerFault))
+    (old new : Option (List ℕ)) : Type 0 where
   pub shown : List Viewing
   pub last : Viewing
   pub rest : List ℕ
@@ -43,17 +45,21 @@ pub record PrintsUpTo (o : WatchOptions) (bytes : List ℕ) (fault : Option (ℕ
   pub printed : Appends old new (flat_map shown_lines (kept o.each (map shown_of shown)))
 
 -- all of them, or up to a fault; where memory, a read or a write was refused nothing is said
-abbrev pub Prints : WatchOptions → List ℕ → Result (Unit {0}) WatchEnd → Option (List ℕ) → Option (List ℕ) → Type 0
+abbrev pub Prints :
+    WatchOptions → List ℕ → Result (Unit {0}) WatchEnd → Option (List ℕ) → Option (List ℕ) → Type 0
 Prints o bytes (Ok u) old new = PrintsUpTo o bytes None old new
 Prints o bytes (Err (Fault number why)) old new = PrintsUpTo o bytes (Some (number, why)) old new
 Prints o bytes (Err (Session error)) old new = ⊤
 
 -- as the words ask
-pub record PrintsAll {A : Type 0} (words : List (String A)) (bytes : List ℕ) (old new : Option (List ℕ)) : Type 0 where
+pub record PrintsAll {A : Type 0} (words : List (String A)) (bytes : List ℕ)
+    (old new : Option (List ℕ)) : Type 0 where
   pub options : WatchOptions
   pub asked : AskFor first_options words options
   pub prints : PrintsUpTo options bytes None old new
 
-abbrev pub PrintsAsAsked : {A : Type 0} → List (String A) → List ℕ → Result (Unit {0}) WatchEnd → Option (List ℕ) → Option (List ℕ) → Type 0
+abbrev pub PrintsAsAsked :
+    {A : Type 0} → List (String A) → List ℕ → Result (Unit {0}) WatchEnd → Option (List ℕ) →
+    Option (List ℕ) → Type 0
 PrintsAsAsked words bytes (Ok u) old new = PrintsAll words bytes old new
 PrintsAsAsked words bytes (Err e) old new = ⊤

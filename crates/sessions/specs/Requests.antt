@@ -28,7 +28,8 @@ pub record AreAskWords (words : List ℕ) (ask : Ask) : Type 0 where
 -- a line asks exactly where it is `ask` and these words, and any other is an event's
 abbrev pub SaysRequest : List ℕ → Request → Type 0
 SaysRequest line (request.Event e) = (StartsWith line (codes "ask ") → ⊥) × SaysSend line e
-SaysRequest line (request.Ask ask) = (words : List ℕ) × (line ≡ codes "ask " ++ words) × AreAskWords words ask
+SaysRequest line (request.Ask ask) =
+    (words : List ℕ) × (line ≡ codes "ask " ++ words) × AreAskWords words ask
 
 -- the request that a line says, if it says one
 abbrev pub MaySay : List ℕ → Option Request → Type 0

@@ -1,4 +1,5 @@
--- What comes of a script: the outcomes of its events on a blank surface of the size that the words give, which is the source that they name.
+-- What comes of a script: the outcomes of its events on a blank surface of the size that the words
+-- give, which is the source that they name.
 use Rattle.std.specs.Io.KnownBytes.{Appends}
 use Rattle.std.specs.Prelude.{ℕ, List, Option, IfSome, String}
 use Rattle.sessions.specs.Lines.{Say}
@@ -10,7 +11,8 @@ use Rattle.sessions.specs.declared.send.runs.SendEvent.{SendEvent}
 use Rattle.sessions.specs.declared.send.runs.SendOutcome.{SendOutcome}
 
 -- where the script is known, each of its lines says its event
-pub record IsSendRun {A : Type 0} (words : List (String A)) (script : Option (List ℕ)) (outcomes : List SendOutcome) : Type 0 where
+pub record IsSendRun {A : Type 0} (words : List (String A)) (script : Option (List ℕ))
+    (outcomes : List SendOutcome) : Type 0 where
   pub source : ℕ
   pub width : ℕ
   pub height : ℕ
@@ -21,7 +23,8 @@ pub record IsSendRun {A : Type 0} (words : List (String A)) (script : Option (Li
   pub sent : AreSent source width height events outcomes frames
 
 -- what such a run sends is written
-pub record WritesRun {A : Type 0} (words : List (String A)) (script old new : Option (List ℕ)) : Type 0 where
+pub record WritesRun {A : Type 0} (words : List (String A)) (script old new : Option (List ℕ)) :
+    Type 0 where
   pub outcomes : List SendOutcome
   pub run : IsSendRun words script outcomes
   pub written : Appends old new (stream_of outcomes)

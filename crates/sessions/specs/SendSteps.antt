@@ -14,7 +14,8 @@ use Rattle.sessions.specs.declared.send.runs.SendEvent.{SendEvent}
 use Rattle.sessions.specs.declared.send.runs.SendOutcome.{SendOutcome}
 
 -- the viewer has number n, which was the surface's, and shows what that names
-pub record HasNamed (source : ℕ) (s : SurfaceValue UnicodeWidths) (n : ℕ) (v : Viewing) : Type 0 where
+pub record HasNamed (source : ℕ) (s : SurfaceValue UnicodeWidths) (n : ℕ) (v : Viewing) :
+    Type 0 where
   pub past : ℕ → Screen
   pub is_past : IsPastOf screens columns past s
   pub number : v.number ≡ n
@@ -22,10 +23,15 @@ pub record HasNamed (source : ℕ) (s : SurfaceValue UnicodeWidths) (n : ℕ) (v
   pub not_ahead : n ≤ next_number s.log
   pub names : Names past n v.screen
 
--- from s and n over an event to t and k: a viewer v takes what is sent then, and any run goes on from there
-pub record Steps (source : ℕ) (s : SurfaceValue UnicodeWidths) (n : ℕ) (v : Viewing) (e : SendEvent) (outcome : SendOutcome) (t : SurfaceValue UnicodeWidths) (k : ℕ) : Type 0 where
+-- from s and n over an event to t and k: a viewer v takes what is sent then, and any run goes on
+-- from there
+pub record Steps (source : ℕ) (s : SurfaceValue UnicodeWidths) (n : ℕ) (v : Viewing) (e : SendEvent)
+    (outcome : SendOutcome) (t : SurfaceValue UnicodeWidths) (k : ℕ) : Type 0 where
   pub given : List Frame
   pub next : Viewing
   pub named : HasNamed source t k next
   pub leads : (frames : List Frame) → TakesFrames next frames → TakesFrames v (given ++ frames)
-  pub sends : (events : List SendEvent) (outcomes : List SendOutcome) (frames : List Frame) → Sends source t k events outcomes frames → Sends source s n (e ∷ events) (outcome ∷ outcomes) (given ++ frames)
+  pub sends :
+      (events : List SendEvent) (outcomes : List SendOutcome) (frames : List Frame) →
+      Sends source t k events outcomes frames →
+      Sends source s n (e ∷ events) (outcome ∷ outcomes) (given ++ frames)

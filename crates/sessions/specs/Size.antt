@@ -13,5 +13,7 @@ AreSizes _ = ⊥
 
 -- the words give this width and this height
 abbrev pub GiveSizes : {A : Type 0} → List (String A) → ℕ → ℕ → Type 0
-GiveSizes (width ∷ height ∷ []) w h = IsSize (string_bytes width) × IsSize (string_bytes height) × (w ≡ value_of (string_bytes width)) × (h ≡ value_of (string_bytes height))
+GiveSizes (width ∷ height ∷ []) w h =
+    IsSize (string_bytes width) × IsSize (string_bytes height) ×
+    (w ≡ value_of (string_bytes width)) × (h ≡ value_of (string_bytes height))
 GiveSizes _ w h = ⊥

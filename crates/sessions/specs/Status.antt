@@ -1,4 +1,5 @@
--- The exit status of each way in which a session ends early: 2 for what it was given, 3 for what it was refused.
+-- The exit status of each way in which a session ends early: 2 for what it was given, 3 for what it
+-- was refused.
 use Rattle.std.specs.Prelude.{ℕ}
 use Rattle.sessions.specs.declared.ending.SessionError.{SessionError}
 use Rattle.sessions.specs.declared.script.ScriptError.{ScriptError}

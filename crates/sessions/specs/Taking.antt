@@ -58,22 +58,27 @@ IsTaken v s (Err Memory) u = ⊤
 
 -- the viewer takes the answer at the front, of so many bytes, or stays as it is
 abbrev pub ShowsNext : Limits → Viewing → List ℕ → Result (View × ℕ) WatchError → Viewing → Type 0
-ShowsNext limits v bytes (Ok next) u = TakesNext limits v bytes u (drop next.1 bytes) × (next.1 ≤ length bytes) × IsShown u next.0
+ShowsNext limits v bytes (Ok next) u =
+    TakesNext limits v bytes u (drop next.1 bytes) × (next.1 ≤ length bytes) × IsShown u next.0
 ShowsNext limits v bytes (Err (Fault why)) u = TakesNone limits v bytes why × (u ≡ v)
 ShowsNext limits v bytes (Err Unreadable) u = ⊥
 ShowsNext limits v bytes (Err Memory) u = ⊤
 
 -- of the bytes that came
 abbrev pub ShowsPending : WatcherValue → Result View WatchError → WatcherValue → Type 0
-ShowsPending w (Ok view) new = TakesNext w.limits w.viewing w.pending new.viewing new.pending × IsShown new.viewing view
+ShowsPending w (Ok view) new =
+    TakesNext w.limits w.viewing w.pending new.viewing new.pending × IsShown new.viewing view
 ShowsPending w (Err (Fault why)) new = TakesNone w.limits w.viewing w.pending why × (new ≡ w)
 ShowsPending w (Err Unreadable) new = ⊥
 ShowsPending w (Err Memory) new = ⊤
 
 -- of all the bytes that come the next answer is shown, or there is none, or it isn't taken
-abbrev pub ShowsComing : Limits → Viewing → List ℕ → Result (Option View) WatchError → Viewing → Option (List ℕ) → Type 0
-ShowsComing limits v bytes (Ok (Some view)) u coming = (left : List ℕ) × (coming ≡ Some left) × TakesNext limits v bytes u left × IsShown u view
+abbrev pub ShowsComing :
+    Limits → Viewing → List ℕ → Result (Option View) WatchError → Viewing → Option (List ℕ) → Type 0
+ShowsComing limits v bytes (Ok (Some view)) u coming =
+    (left : List ℕ) × (coming ≡ Some left) × TakesNext limits v bytes u left × IsShown u view
 ShowsComing limits v bytes (Ok None) u coming = bytes ≡ []
-ShowsComing limits v bytes (Err (Fault why)) u coming = (bytes ≡ [] → ⊥) × TakesNone limits v bytes why
+ShowsComing limits v bytes (Err (Fault why)) u coming =
+    (bytes ≡ [] → ⊥) × TakesNone limits v bytes why
 ShowsComing limits v bytes (Err Unreadable) u coming = ⊤
 ShowsComing limits v bytes (Err Memory) u coming = ⊤

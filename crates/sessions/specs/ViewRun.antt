@@ -1,4 +1,5 @@
--- What comes of a script: the outcomes of some events on a blank surface of the size that the words give, with one viewer or with ten.
+-- What comes of a script: the outcomes of some events on a blank surface of the size that the words
+-- give, with one viewer or with ten.
 use Rattle.std.specs.Prelude.{ℕ, List, String}
 use Rattle.termwiz_cell.specs.Width.{unicode_columns}
 use Rattle.termwiz_cell.specs.declared.emoji.UnicodeWidths.{UnicodeWidths}
@@ -16,8 +17,10 @@ unicode = record {}
 
 -- the schedule allows these outcomes for the events, on a blank surface of this width and height
 abbrev pub ComeFrom : ℕ → ℕ → Events → Outcomes → Type 0
-ComeFrom w h (script.OfOne events) (OfOne outcomes) = IsSchedule (λ widths. unicode_columns) unicode w h events.items outcomes.items
-ComeFrom w h (script.OfMany events) (OfMany outcomes) = IsManySchedule (λ widths. unicode_columns) unicode w h 10 events.items outcomes.items
+ComeFrom w h (script.OfOne events) (OfOne outcomes) =
+    IsSchedule (λ widths. unicode_columns) unicode w h events.items outcomes.items
+ComeFrom w h (script.OfMany events) (OfMany outcomes) =
+    IsManySchedule (λ widths. unicode_columns) unicode w h 10 events.items outcomes.items
 ComeFrom _ _ _ _ = ⊥
 
 pub record IsViewRun {A : Type 0} (words : List (String A)) (outcomes : Outcomes) : Type 0 where

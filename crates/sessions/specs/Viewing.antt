@@ -27,13 +27,16 @@ first_viewing = record { source = 0; number = 0; screen = blank_screen 1 1 }
 
 -- the screen that an answer makes of p: a repaint starts from blank
 abbrev pub made_on : Screen → AnswerValue → Screen
-made_on p a = replay unicode_columns (if is_repaint a then blank_screen a.width a.height else p) a.changes
+made_on p a =
+    replay unicode_columns (if is_repaint a then blank_screen a.width a.height else p) a.changes
 
 -- the viewer that has taken an answer
 abbrev pub taken : Viewing → SentAnswer → Viewing
-taken v s = record { source = s.source; number = s.answer.number; screen = made_on v.screen s.answer }
+taken v s =
+    record { source = s.source; number = s.answer.number; screen = made_on v.screen s.answer }
 
--- where the numbers of an answer begin in its bytes: the heads of the array and of the version have one byte each
+-- where the numbers of an answer begin in its bytes: the heads of the array and of the version have
+-- one byte each
 abbrev pub width_at : SentAnswer → ℕ
 width_at s = 2 + length (unsigned s.source)
 

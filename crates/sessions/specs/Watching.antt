@@ -1,4 +1,5 @@
--- What a viewer shows of a stream: it takes each answer that leads on from what it shows, until one doesn't, or the bytes make no answer.
+-- What a viewer shows of a stream: it takes each answer that leads on from what it shows, until one
+-- doesn't, or the bytes make no answer.
 use Rattle.std.specs.List.{All}
 use Rattle.std.specs.Prelude.{◌≡◌, ℕ, ◌+◌, ◌-◌, Bool, List, [], ◌∷◌, map, drop, length, Option, Some, None, Ok, Err, if◌then◌else◌}
 use Rattle.termwiz_cell.specs.Width.{unicode_columns}
@@ -42,21 +43,26 @@ module _ (limits : Limits) where
     pub fresh : refusal v sent ≡ None
     pub is_taken : u ≡ taken v sent
 
-  -- from v on these answers are taken in turn, which leave the viewer at u, and then the rest of the bytes
+  -- from v on these answers are taken in turn, which leave the viewer at u, and then the rest of
+  -- the bytes
   pub data Watches : Viewing → List ℕ → List Viewing → Viewing → List ℕ → Type 0 where
     Ended : (v : Viewing) (bytes : List ℕ) → Watches v bytes [] v bytes
     Taken : (v w u : Viewing) (bytes left rest : List ℕ) (shown : List Viewing)
-        → TakesNext v bytes w left → Watches w left shown u rest → Watches v bytes (w ∷ shown) u rest
+        → TakesNext v bytes w left → Watches w left shown u rest →
+        Watches v bytes (w ∷ shown) u rest
 
   -- no answer is taken from the front of these bytes
   abbrev pub TakesNone : Viewing → List ℕ → AnswerFault → Type 0
   TakesNone v bytes (Bytes fault) = answer_at unicode_columns limits bytes ≡ Err fault
-  TakesNone v bytes why = (sent : SentAnswer) × (left : List ℕ) × (answer_at unicode_columns limits bytes ≡ Ok (sent, left)) × (refusal v sent ≡ Some why)
+  TakesNone v bytes why =
+      (sent : SentAnswer) × (left : List ℕ) ×
+      (answer_at unicode_columns limits bytes ≡ Ok (sent, left)) × (refusal v sent ≡ Some why)
 
   -- so many answers were taken: either the bytes end there, or the next one isn't taken
   abbrev pub Ends : Viewing → List ℕ → ℕ → Option (ℕ × AnswerFault) → Type 0
   Ends v rest count None = rest ≡ []
-  Ends v rest count (Some fault) = (rest ≡ [] → ⊥) × (fault.0 ≡ count + 1) × TakesNone v rest fault.1
+  Ends v rest count (Some fault) =
+      (rest ≡ [] → ⊥) × (fault.0 ≡ count + 1) × TakesNone v rest fault.1
 
   -- what is shown of these bytes, and why no more is
   pub record IsWatched (bytes : List ℕ) (each : Bool) (w : Watched) : Type 0 where

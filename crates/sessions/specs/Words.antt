@@ -17,12 +17,16 @@ pub record IsSourceNo (word : List ℕ) : Type 0 where
 module _ {A : Type 0} where
   -- a size, behind the number of the source where there is one
   abbrev pub AreSendWords : List (String A) → Type 0
-  AreSendWords (option ∷ number ∷ width ∷ height ∷ []) = (string_bytes option ≡ codes "-s") × IsSourceNo (string_bytes number) × AreSizes (width ∷ height ∷ [])
+  AreSendWords (option ∷ number ∷ width ∷ height ∷ []) =
+      (string_bytes option ≡ codes "-s") × IsSourceNo (string_bytes number) ×
+      AreSizes (width ∷ height ∷ [])
   AreSendWords words = AreSizes words
 
   -- the words give this source, which is 1 where they name none, this width and this height
   abbrev pub GiveSending : List (String A) → ℕ → ℕ → ℕ → Type 0
-  GiveSending (option ∷ number ∷ width ∷ height ∷ []) source w h = (string_bytes option ≡ codes "-s") × IsSourceNo (string_bytes number) × (source ≡ value_of (string_bytes number)) × GiveSizes (width ∷ height ∷ []) w h
+  GiveSending (option ∷ number ∷ width ∷ height ∷ []) source w h =
+      (string_bytes option ≡ codes "-s") × IsSourceNo (string_bytes number) ×
+      (source ≡ value_of (string_bytes number)) × GiveSizes (width ∷ height ∷ []) w h
   GiveSending words source w h = (source ≡ 1) × GiveSizes words w h
 
   -- the first word is `-i`
@@ -37,12 +41,30 @@ module _ {A : Type 0} where
   -- the words ask for p, where o is asked for without them
   pub data AskFor : WatchOptions → List (String A) → WatchOptions → Type 0 where
     Asked : (o : WatchOptions) → AskFor o [] o
-    Each : (o p : WatchOptions) (word : String A) (words : List (String A)) → string_bytes word ≡ codes "-a"
+    Each :
+        (o p : WatchOptions) (word : String A) (words : List (String A)) →
+        string_bytes word ≡ codes "-a"
         → AskFor (record o { each = true }) words p → AskFor o (word ∷ words) p
-    Cells : (o p : WatchOptions) (word number : String A) (words : List (String A)) → string_bytes word ≡ codes "--cells" → IsWholeNumber (string_bytes number)
-        → AskFor (record o { limits = record { cells = value_of (string_bytes number); bytes = o.limits.bytes } }) words p → AskFor o (word ∷ number ∷ words) p
-    Bytes : (o p : WatchOptions) (word number : String A) (words : List (String A)) → string_bytes word ≡ codes "--bytes" → IsWholeNumber (string_bytes number)
-        → AskFor (record o { limits = record { cells = o.limits.cells; bytes = value_of (string_bytes number) } }) words p → AskFor o (word ∷ number ∷ words) p
+    Cells :
+        (o p : WatchOptions) (word number : String A) (words : List (String A)) →
+        string_bytes word ≡ codes "--cells" → IsWholeNumber (string_bytes number)
+        → AskFor
+        (record o {
+          limits =
+              record { cells = value_of (string_bytes number); bytes = o.limits.bytes };
+        })
+        words p →
+        AskFor o (word ∷ number ∷ words) p
+    Bytes :
+        (o p : WatchOptions) (word number : String A) (words : List (String A)) →
+        string_bytes word ≡ codes "--bytes" → IsWholeNumber (string_bytes number)
+        → AskFor
+        (record o {
+          limits =
+              record { cells = o.limits.cells; bytes = value_of (string_bytes number) };
+        })
+        words p →
+        AskFor o (word ∷ number ∷ words) p
 
 -- the last view alone is asked for, within the limits that the vectors have
 abbrev pub first_options : WatchOptions

@@ -16,7 +16,8 @@ ends r (suc n) = if is_blank (stored r n) && not (is_hidden r n) then ends r n e
 
 -- the length of n stored cells of the row r, once pruned
 abbrev pub pruned_length : List CellValue → ℕ → ℕ
-pruned_length r n = if nat_lt 0 (ends r (length r)) && nat_lt (ends r (length r)) n then ends r (length r) else n
+pruned_length r n =
+    if nat_lt 0 (ends r (length r)) && nat_lt (ends r (length r)) n then ends r (length r) else n
 
 -- the row of the cursor, cleared from its column on
 abbrev pub cleared_row : Screen → Attributes → List CellValue
@@ -27,14 +28,22 @@ clear_eol s a = record s { rows = set s.rows s.y (cleared_row s a); pen = a }
 
 -- the row of the cursor from its column on, and all rows below
 abbrev pub clear_eos : Screen → Attributes → Screen
-clear_eos s a = record s { rows = take s.y s.rows ++ (cleared_row s a ∷ map (λ r. clear r 0 (blank_of a)) (drop (suc s.y) s.rows)); pen = a }
+clear_eos s a =
+    record s {
+      rows = take s.y s.rows ++
+          (cleared_row s a ∷ map (λ r. clear r 0 (blank_of a)) (drop (suc s.y) s.rows));
+      pen = a;
+    }
 
 -- all rows; the cursor goes home
 abbrev pub clear_screen : Screen → Attributes → Screen
-clear_screen s a = record s { rows = map (λ r. clear r 0 (blank_of a)) s.rows; x = 0; y = 0; pen = a }
+clear_screen s a =
+    record s { rows = map (λ r. clear r 0 (blank_of a)) s.rows; x = 0; y = 0; pen = a }
 
 abbrev pub cleared_row_length : Screen → Attributes → List ℕ → ℕ
-cleared_row_length s a ns = pruned_length (cleared_row s a) (if nat_lt s.x s.width then s.width else slice_index_or ns s.y 0)
+cleared_row_length s a ns =
+    pruned_length (cleared_row s a)
+    (if nat_lt s.x s.width then s.width else slice_index_or ns s.y 0)
 
 -- the length of a row that was cleared whole
 abbrev pub cleared_length : Screen → Attributes → List CellValue → ℕ
@@ -44,7 +53,8 @@ abbrev pub eol_lengths : Screen → Attributes → List ℕ → List ℕ
 eol_lengths s a ns = set ns s.y (cleared_row_length s a ns)
 
 abbrev pub eos_lengths : Screen → Attributes → List ℕ → List ℕ
-eos_lengths s a ns = take s.y ns ++ (cleared_row_length s a ns ∷ map (cleared_length s a) (drop (suc s.y) s.rows))
+eos_lengths s a ns =
+    take s.y ns ++ (cleared_row_length s a ns ∷ map (cleared_length s a) (drop (suc s.y) s.rows))
 
 abbrev pub screen_lengths : Screen → Attributes → List ℕ → List ℕ
 screen_lengths s a ns = map (cleared_length s a) s.rows

@@ -16,10 +16,14 @@ use Rattle.termwiz_screen.specs.Prints.{Print}
 abbrev pub shows : List CellValue → ℕ → CellValue → Bool
 shows r k c = not (is_hidden r k) && cell_eq (stored r k) c
 
--- of the n columns from q on of b: the cells that start there and that a does not show at their places, from column p on
+-- of the n columns from q on of b: the cells that start there and that a does not show at their
+-- places, from column p on
 abbrev pub row_need : List CellValue → ℕ → List CellValue → ℕ → ℕ → List VisibleCell
 row_need a p b q zero = []
-row_need a p b q (suc k) = row_need a p b q k ++ (if is_hidden b (q + k) || shows a (p + k) (stored b (q + k)) then [] else at_column (p + k) (stored b (q + k)) ∷ [])
+row_need a p b q (suc k) =
+    row_need a p b q k ++
+    (if is_hidden b (q + k) || shows a (p + k) (stored b (q + k)) then []
+    else at_column (p + k) (stored b (q + k)) ∷ [])
 
 -- a rectangle of own columns and rows, and as large a one of another's
 pub record Region : Type 0 where
@@ -36,7 +40,11 @@ fitting n v p w q = min n (min (v - p) (w - q))
 
 -- the region that fits in an own v by h and another w by g
 abbrev pub cut : Region → ℕ → ℕ → ℕ → ℕ → Region
-cut r v h w g = record r { width = fitting r.width v r.x w r.other_x; height = fitting r.height h r.y g r.other_y }
+cut r v h w g =
+    record r {
+      width = fitting r.width v r.x w r.other_x;
+      height = fitting r.height h r.y g r.other_y;
+    }
 
 abbrev pub in_row : ℕ → VisibleCell → Print
 in_row i p = record { row = i; column = p.column; cell = p.cell }
@@ -44,7 +52,10 @@ in_row i p = record { row = i; column = p.column; cell = p.cell }
 -- the cells of the region's first rows of b that a does not show at their places, row by row
 abbrev pub need_upto : List (List CellValue) → List (List CellValue) → Region → ℕ → List Print
 need_upto a b r zero = []
-need_upto a b r (suc i) = need_upto a b r i ++ map (in_row (r.y + i)) (row_need (row_at a (r.y + i)) r.x (row_at b (r.other_y + i)) r.other_x r.width)
+need_upto a b r (suc i) =
+    need_upto a b r i ++
+    map (in_row (r.y + i))
+    (row_need (row_at a (r.y + i)) r.x (row_at b (r.other_y + i)) r.other_x r.width)
 
 abbrev pub need : List (List CellValue) → List (List CellValue) → Region → List Print
 need a b r = need_upto a b r r.height
@@ -74,7 +85,11 @@ pen_to None p = change.AllAttributes p.cell.attrs ∷ []
 pen_to (Some e) p = pen_entry e.pen p.cell.attrs
 
 abbrev pub print_out : PrintedOut → Print → PrintedOut
-print_out d p = record { entries = add_text ((d.entries ++ move_to d.end p) ++ pen_to d.end p) p.cell.text; end = Some (end_of p) }
+print_out d p =
+    record {
+      entries = add_text ((d.entries ++ move_to d.end p) ++ pen_to d.end p) p.cell.text;
+      end = Some (end_of p);
+    }
 
 abbrev pub nothing_printed : PrintedOut
 nothing_printed = record { entries = []; end = None }

@@ -13,7 +13,8 @@ abbrev pub clears : Attributes → Option Change → Bool
 clears a None = false
 clears a (Some e) = is_clear_of a (change_value e)
 
--- row i may be written next: nothing is held back, and the first row's text does not grow one before it
+-- row i may be written next: nothing is held back, and the first row's text does not grow one
+-- before it
 pub record IsBeforeRow (i : ℕ) (writer : Writing) : Type 0 where
   pub between : writer.spaces ≡ 0
   pub apart : i ≡ 0 → last_is is_text writer.printed.entries ≡ false
@@ -24,5 +25,6 @@ pub record AreApart (first : List ChangeValue) : Type 0 where
   pub no_clear : (a : Attributes) → last_is (is_clear_of a) first ≡ false
 
 -- the rows above row i are written behind these entries, and nothing of that row
-pub record IsWrittenUpto (first : List ChangeValue) (w : ℕ) (rows : List (List CellValue)) (i : ℕ) (writer : Writing) : Type 0 where
+pub record IsWrittenUpto (first : List ChangeValue) (w : ℕ) (rows : List (List CellValue)) (i : ℕ)
+    (writer : Writing) : Type 0 where
   pub printed : writer.printed ≡ behind first (rows_upto w rows i)

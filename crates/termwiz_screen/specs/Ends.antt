@@ -12,4 +12,5 @@ end_value (Some e) = Some (record { x = e.x; y = e.y; pen = e.pen.now })
 
 -- at column x of row y, with a pen
 abbrev pub ended_at : List ChangeValue → ℕ → ℕ → Attributes → PrintedOut
-ended_at entries x y pen = record { entries = entries; end = Some (record { x = x; y = y; pen = pen }) }
+ended_at entries x y pen =
+    record { entries = entries; end = Some (record { x = x; y = y; pen = pen }) }

@@ -1,4 +1,5 @@
--- Lists of prints, and screens, of narrow cells; and how few prints lead from one screen to another.
+-- Lists of prints, and screens, of narrow cells; and how few prints lead from one screen to
+-- another.
 use Rattle.std.specs.Prelude.{◌≡◌, ℕ, ◌*◌, ◌<◌, ◌≤◌, false, List, [], ◌∷◌, length}
 use Rattle.termwiz_cell.specs.CellValue.{CellValue, is_wide}
 use Rattle.termwiz_storage.specs.Stored.{stored}
@@ -21,10 +22,15 @@ abbrev pub NarrowPrints : List Print → Type 0
 NarrowPrints [] = Unit {0}
 NarrowPrints (p ∷ ps) = (is_wide p.cell ≡ false) × NarrowPrints ps
 
--- no prints that lead from a to b are fewer than a third of what is needed, and where nothing is wide none are fewer than all of it
+-- no prints that lead from a to b are fewer than a third of what is needed, and where nothing is
+-- wide none are fewer than all of it
 abbrev pub FewestPrints : Type 0
-FewestPrints = (w h : ℕ) (a b : List (List CellValue)) (ps : List Print) → AreRows w h a → PrintsWithin w h ps → print_all a ps ≡ b → length (need a b (whole w h)) ≤ 3 * length ps
+FewestPrints =
+    (w h : ℕ) (a b : List (List CellValue)) (ps : List Print) → AreRows w h a →
+    PrintsWithin w h ps → print_all a ps ≡ b → length (need a b (whole w h)) ≤ 3 * length ps
 
 abbrev pub FewestNarrowPrints : Type 0
-FewestNarrowPrints = (w h : ℕ) (a b : List (List CellValue)) (ps : List Print) → AreRows w h a → PrintsWithin w h ps → AreNarrowRows a → NarrowPrints ps → print_all a ps ≡ b →
+FewestNarrowPrints =
+    (w h : ℕ) (a b : List (List CellValue)) (ps : List Print) → AreRows w h a →
+    PrintsWithin w h ps → AreNarrowRows a → NarrowPrints ps → print_all a ps ≡ b →
     length (need a b (whole w h)) ≤ length ps

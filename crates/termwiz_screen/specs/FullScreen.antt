@@ -1,4 +1,5 @@
--- A full screen: a screen, and what is kept beside it that a viewer can see: the title, the cursor's shape and colour, and how each row is shown.
+-- A full screen: a screen, and what is kept beside it that a viewer can see: the title, the
+-- cursor's shape and colour, and how each row is shown.
 use Rattle.std.specs.Prelude.{◌≡◌, ℕ, ◌&&◌, not, if◌then◌else◌, Option, Some, None, List, [], map, length, fold}
 use Rattle.termwiz_cell.specs.ChangeValue.{ChangeValue}
 use Rattle.termwiz_cell.specs.declared.color.ColorAttribute.{ColorAttribute}
@@ -23,9 +24,14 @@ pub record FullScreen : Type 0 where
 -- how a row with these flags is shown
 abbrev pub line_attribute : LineFlags → LineAttribute
 line_attribute f =
-    if f.double_width && f.double_height_top && not f.double_height_bottom then DoubleHeightTopHalfLine
-    else if f.double_width && not f.double_height_top && f.double_height_bottom then DoubleHeightBottomHalfLine
-    else if f.double_width && not f.double_height_top && not f.double_height_bottom then DoubleWidthLine
+    if f.double_width && f.double_height_top && not f.double_height_bottom
+    then DoubleHeightTopHalfLine
+    else if f.double_width &&
+    not f.double_height_top &&
+    f.double_height_bottom then DoubleHeightBottomHalfLine
+    else if f.double_width &&
+    not f.double_height_top &&
+    not f.double_height_bottom then DoubleWidthLine
     else SingleWidthLine
 
 -- a shape that was never set is the default one
@@ -35,15 +41,30 @@ shape_of (Some shape) = shape
 
 -- a screen with what is kept beside it
 abbrev pub full_screen : Screen → Kept → FullScreen
-full_screen s k = record { screen = s; title = k.title; shape = shape_of k.shape; color = k.color; lines = map line_attribute k.flags }
+full_screen s k =
+    record {
+      screen = s;
+      title = k.title;
+      shape = shape_of k.shape;
+      color = k.color;
+      lines = map line_attribute k.flags;
+    }
 
 -- something that is kept beside the screen of f, and shows what f shows
 abbrev pub kept_in : FullScreen → Kept
-kept_in f = record { lengths = []; flags = map (λ a. with_line_attribute a no_flags) f.lines; title = f.title; shape = Some f.shape; color = f.color }
+kept_in f =
+    record {
+      lengths = [];
+      flags = map (λ a. with_line_attribute a no_flags) f.lines;
+      title = f.title;
+      shape = Some f.shape;
+      color = f.color;
+    }
 
 -- the full screen after a change
 abbrev pub full_step : (List ℕ → ℕ) → FullScreen → ChangeValue → FullScreen
-full_step measure f c = full_screen (step measure f.screen c) (step_kept measure f.screen (kept_in f) c)
+full_step measure f c =
+    full_screen (step measure f.screen c) (step_kept measure f.screen (kept_in f) c)
 
 -- the steps in order
 abbrev pub full_replay : (List ℕ → ℕ) → FullScreen → List ChangeValue → FullScreen

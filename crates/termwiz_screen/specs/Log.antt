@@ -22,7 +22,8 @@ reaches l n = nat_le l.first n && nat_le n (next_number l)
 abbrev pub delta_limit : ℕ → ℕ → ℕ
 delta_limit w h = 3 + (6 * (w * h)) / 5
 
--- the log has what is due from number n on, and that is worth sending; 0 is no number that a viewer was given
+-- the log has what is due from number n on, and that is worth sending; 0 is no number that a viewer
+-- was given
 abbrev pub is_known : ℕ → LogValue → ℕ → Bool
 is_known most l n = not (n == 0) && (reaches l n && nat_le (length (due l n)) most)
 
@@ -32,7 +33,11 @@ appended l changes = record l { changes = l.changes ++ changes }
 
 -- the changes before number n are dropped, where the log reaches it
 abbrev pub flushed : LogValue → ℕ → LogValue
-flushed l n = record { first = if reaches l n then n else l.first; changes = if reaches l n then due l n else l.changes }
+flushed l n =
+    record {
+      first = if reaches l n then n else l.first;
+      changes = if reaches l n then due l n else l.changes;
+    }
 
 -- an empty log under the number that so many more changes would give it
 abbrev pub passed : LogValue → ℕ → LogValue

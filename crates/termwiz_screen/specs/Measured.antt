@@ -14,7 +14,8 @@ pub record IsMeasured (measure : List ℕ → ℕ) (c : CellValue) : Type 0 wher
 pub record IsStored (measure : List ℕ → ℕ) (w : ℕ) (cs : List CellValue) : Type 0 where
   pub some : 0 < length cs
   pub within : length cs ≤ w
-  pub halves : (k : ℕ) → suc k < w → is_wide (stored cs k) ≡ true → stored cs (suc k) ≡ half (stored cs k)
+  pub halves :
+      (k : ℕ) → suc k < w → is_wide (stored cs k) ≡ true → stored cs (suc k) ≡ half (stored cs k)
   -- a short row does not end in a wide cell
   pub closed : (k : ℕ) → suc k < w → is_wide (stored cs k) ≡ true → suc k < length cs
   pub measured : (k : ℕ) → IsMeasured measure (stored cs k)

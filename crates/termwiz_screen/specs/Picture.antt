@@ -19,7 +19,8 @@ abbrev pub screens : Pictures Screen
 screens = record { shown = λ f. f.screen; screen = λ s. s; IsSized = HasSize; step = step }
 
 abbrev pub full_screens : Pictures FullScreen
-full_screens = record { shown = λ f. f; screen = λ f. f.screen; IsSized = HasFullSize; step = full_step }
+full_screens =
+    record { shown = λ f. f; screen = λ f. f.screen; IsSized = HasFullSize; step = full_step }
 
 -- the steps in order
 abbrev pub played : {P : Type 0} → Pictures P → (List ℕ → ℕ) → P → List ChangeValue → P

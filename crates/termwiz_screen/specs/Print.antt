@@ -20,13 +20,21 @@ abbrev pub has_below : Screen → Bool
 has_below s = nat_lt (s.y + 1) s.height
 
 abbrev pub down : Screen → Screen
-down s = record s { rows = if has_below s then s.rows else scrolled s.width s.rows; y = if has_below s then s.y + 1 else s.y }
+down s =
+    record s {
+      rows = if has_below s then s.rows else scrolled s.width s.rows;
+      y = if has_below s then s.y + 1 else s.y;
+    }
 
 abbrev pub returned : Screen → Screen
 returned s = record s { x = 0 }
 
 abbrev pub put_at_cursor : Screen → CellValue → Screen
-put_at_cursor s c = record s { rows = set s.rows s.y (paint (row_at s.rows s.y) s.x c); x = min (s.x + columns c) s.width }
+put_at_cursor s c =
+    record s {
+      rows = set s.rows s.y (paint (row_at s.rows s.y) s.x c);
+      x = min (s.x + columns c) s.width;
+    }
 
 abbrev pub wraps : Screen → Bool
 wraps s = s.x == s.width
@@ -65,10 +73,18 @@ print measure s text = fold (print_one measure) s (graphemes true text)
 
 -- what is kept beside it
 abbrev pub down_kept : Screen → Kept → Kept
-down_kept s k = record k { lengths = if has_below s then k.lengths else drop 1 k.lengths ++ s.width ∷ []; flags = if has_below s then k.flags else drop 1 k.flags ++ no_flags ∷ [] }
+down_kept s k =
+    record k {
+      lengths = if has_below s then k.lengths else drop 1 k.lengths ++ s.width ∷ [];
+      flags = if has_below s then k.flags else drop 1 k.flags ++ no_flags ∷ [];
+    }
 
 abbrev pub put_kept : Screen → CellValue → Kept → Kept
-put_kept s c k = record k { lengths = set k.lengths s.y (max (slice_index_or k.lengths s.y 0) (min (s.x + columns c) s.width)) }
+put_kept s c k =
+    record k {
+      lengths = set k.lengths s.y
+          (max (slice_index_or k.lengths s.y 0) (min (s.x + columns c) s.width));
+    }
 
 abbrev pub wrapped_kept : Screen → Kept → Kept
 wrapped_kept s k = if wraps s then down_kept s k else k
@@ -85,7 +101,8 @@ one_kept measure s g k = piece_kept s (piece_of measure s.pen g) k
 -- what is kept after graphemes
 abbrev pub kept_after : (List ℕ → ℕ) → Screen → Kept → List (List ℕ) → Kept
 kept_after measure s k [] = k
-kept_after measure s k (g ∷ gs) = kept_after measure (print_one measure s g) (one_kept measure s g k) gs
+kept_after measure s k (g ∷ gs) =
+    kept_after measure (print_one measure s g) (one_kept measure s g k) gs
 
 abbrev pub print_kept : (List ℕ → ℕ) → Screen → List ℕ → Kept → Kept
 print_kept measure s text k = kept_after measure s k (graphemes true text)

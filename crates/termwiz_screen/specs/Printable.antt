@@ -1,4 +1,5 @@
--- What text can print: stored cells, rows and screens whose visible cells are single graphemes, with the width that is measured for them.
+-- What text can print: stored cells, rows and screens whose visible cells are single graphemes,
+-- with the width that is measured for them.
 -- And the screens that it can be printed on.
 use Rattle.std.specs.Prelude.{◌≡◌, ℕ, ◌<◌, ◌≤◌, false, List, length, set, replicate}
 use Rattle.termwiz_cell.specs.Attributes.{Attributes}
@@ -10,7 +11,8 @@ use Rattle.termwiz_screen.specs.Measured.{IsMeasured}
 
 -- stored cells whose visible ones are measured
 pub record ArePrintable (measure : List ℕ → ℕ) (cells : List CellValue) : Type 0 where
-  pub measured : (k : ℕ) → k < length cells → hides cells k ≡ false → IsMeasured measure (stored cells k)
+  pub measured :
+      (k : ℕ) → k < length cells → hides cells k ≡ false → IsMeasured measure (stored cells k)
 
 -- a row whose visible cells are measured
 pub record IsPrintableRow (measure : List ℕ → ℕ) (w : ℕ) (r : List CellValue) : Type 0 where
@@ -39,6 +41,7 @@ pub record HasSize (w h : ℕ) (s : Screen) : Type 0 where
   pub row_length : (j : ℕ) → j < h → length (row_at s.rows j) ≡ w
 
 -- t is s with the row r in place of the cursor's, another pen, and the cursor anywhere in that row
-pub record LeavesRow (s : Screen) (r : List CellValue) (pen : Attributes) (t : Screen) : Type 0 where
+pub record LeavesRow (s : Screen) (r : List CellValue) (pen : Attributes) (t : Screen) :
+    Type 0 where
   pub x : ℕ
   pub screen_is : t ≡ record s { rows = set s.rows s.y r; x = x; pen = pen }

@@ -1,4 +1,5 @@
--- What a replay paints: a cell at a column of a row for each grapheme that is no line break, in order.
+-- What a replay paints: a cell at a column of a row for each grapheme that is no line break, in
+-- order.
 use Rattle.std.specs.Prelude.{ℕ, true, List, [], ◌∷◌, ◌++◌, fold, set}
 use Rattle.unicode_segmentation.specs.Grapheme.{graphemes}
 use Rattle.termwiz_cell.specs.CellValue.{CellValue}
@@ -32,7 +33,8 @@ piece_prints s _ = []
 -- what graphemes paint
 abbrev pub text_prints : (List ℕ → ℕ) → Screen → List (List ℕ) → List Print
 text_prints measure s [] = []
-text_prints measure s (g ∷ gs) = piece_prints s (piece_of measure s.pen g) ++ text_prints measure (print_one measure s g) gs
+text_prints measure s (g ∷ gs) =
+    piece_prints s (piece_of measure s.pen g) ++ text_prints measure (print_one measure s g) gs
 
 -- what a change paints: only texts do
 abbrev pub step_prints : (List ℕ → ℕ) → Screen → ChangeValue → List Print

@@ -25,11 +25,15 @@ use Rattle.termwiz_screen.specs.Screen.{Screen, row_at}
 abbrev pub next_line : ChangeValue
 next_line = change.CursorPosition (position.Absolute 0) (position.Relative (pos 1))
 
--- the entries of the rows above row i, with a move down before each but the first, on a screen that was cleared
+-- the entries of the rows above row i, with a move down before each but the first, on a screen that
+-- was cleared
 abbrev pub rows_upto : ℕ → List (List CellValue) → ℕ → Penned
 rows_upto w rows zero = record { entries = []; pen = default_attributes }
 rows_upto w rows (suc i) = record {
-  entries = (rows_upto w rows i).entries ++ ((if i == 0 then [] else next_line ∷ []) ++ (row_entries (rows_upto w rows i).pen (visible_upto (row_at rows i) w)).entries);
+  entries =
+      (rows_upto w rows i).entries ++
+      ((if i == 0 then [] else next_line ∷ []) ++
+        (row_entries (rows_upto w rows i).pen (visible_upto (row_at rows i) w)).entries);
   pen = (row_entries (rows_upto w rows i).pen (visible_upto (row_at rows i) w)).pen;
 }
 
@@ -37,13 +41,17 @@ rows_upto w rows (suc i) = record {
 abbrev pub bottom_attrs : ℕ → ℕ → List (List CellValue) → Attributes
 bottom_attrs w h rows = (stored (row_at rows (h - 1)) (w - 1)).attrs
 
--- the first of the rows right above row n that are blanks with attributes a, or n where there is none
+-- the first of the rows right above row n that are blanks with attributes a, or n where there is
+-- none
 abbrev pub first_blank : ℕ → Attributes → List (List CellValue) → ℕ → ℕ
 first_blank w a rows zero = zero
-first_blank w a rows (suc n) = if pointwise cell_eq (row_at rows n) (replicate w (blank_of a)) then first_blank w a rows n else suc n
+first_blank w a rows (suc n) =
+    if pointwise cell_eq (row_at rows n) (replicate w (blank_of a)) then first_blank w a rows n
+    else suc n
 
 abbrev pub is_clear_of : Attributes → ChangeValue → Bool
-is_clear_of a (change.ClearToEndOfLine b) = attributes_eq (record default_attributes { background = b }) a
+is_clear_of a (change.ClearToEndOfLine b) =
+    attributes_eq (record default_attributes { background = b }) a
 is_clear_of a entry = false
 
 -- the last entry clears to the end of the line with attributes a
@@ -58,24 +66,35 @@ front_of [] = []
 front_of (e ∷ []) = []
 front_of (e ∷ (f ∷ es)) = e ∷ front_of (f ∷ es)
 
--- the row whose end clears all below: the one above the blank rows where its entries end with that clear, else the first of them
+-- the row whose end clears all below: the one above the blank rows where its entries end with that
+-- clear, else the first of them
 abbrev pub joined_row : ℕ → Attributes → List (List CellValue) → ℕ → ℕ
 joined_row w a rows i = if ends_with a (rows_upto w rows i).entries then i - 1 else i
 
 abbrev pub bottom : ℕ → ℕ → List (List CellValue) → ℕ
 bottom w h rows = first_blank w (bottom_attrs w h rows) rows h
 
--- there are blank rows at the bottom, in a background that is not the default one, and the row that clears them is not the last
+-- there are blank rows at the bottom, in a background that is not the default one, and the row that
+-- clears them is not the last
 abbrev pub joins_rows : ℕ → ℕ → List (List CellValue) → Bool
 joins_rows w h rows =
-    (has_only_background (bottom_attrs w h rows) && not (attributes_eq (bottom_attrs w h rows) default_attributes))
-    && (nat_lt (bottom w h rows) h && nat_lt (suc (joined_row w (bottom_attrs w h rows) rows (bottom w h rows))) h)
+    (has_only_background (bottom_attrs w h rows) &&
+      not (attributes_eq (bottom_attrs w h rows) default_attributes))
+    &&
+      (nat_lt (bottom w h rows) h &&
+        nat_lt (suc (joined_row w (bottom_attrs w h rows) rows (bottom w h rows))) h)
 
--- the entries of all rows: blank rows at the bottom in one background are left to one clear to the end of the screen
+-- the entries of all rows: blank rows at the bottom in one background are left to one clear to the
+-- end of the screen
 abbrev pub all_rows : ℕ → ℕ → List (List CellValue) → Penned
 all_rows w h rows = if joins_rows w h rows
     then (record {
-      entries = front_of (rows_upto w rows (suc (joined_row w (bottom_attrs w h rows) rows (bottom w h rows)))).entries ++ change.ClearToEndOfScreen (bottom_attrs w h rows).background ∷ [];
+      entries =
+          front_of
+            (rows_upto w rows (suc (joined_row w (bottom_attrs w h rows) rows (bottom w h rows))))
+              .entries
+            ++
+          change.ClearToEndOfScreen (bottom_attrs w h rows).background ∷ [];
       pen = bottom_attrs w h rows;
     })
     else rows_upto w rows h
@@ -120,32 +139,48 @@ title_entry (b ∷ bs) = change.Title (b ∷ bs) ∷ []
 abbrev pub started_entries : List ChangeValue
 started_entries = change.CursorVisibility cursor.Hidden ∷ change.ClearScreen color.Default ∷ []
 
--- the first two entries, those before the rows' and the rows', which leave a pen; the moves at their end are dropped; then the cursor, the pen, and the last entries
+-- the first two entries, those before the rows' and the rows', which leave a pen; the moves at
+-- their end are dropped; then the cursor, the pen, and the last entries
 abbrev pub repaint_of : List ChangeValue → Penned → Screen → List ChangeValue → List ChangeValue
 repaint_of first d s last =
-    started_entries ++ (without_last_moves (first ++ d.entries) ++ (cursor_entry (without_last_moves (first ++ d.entries)) s.x s.y ++ (pen_entry d.pen s.pen ++ last)))
+    started_entries ++
+      (without_last_moves (first ++ d.entries) ++
+        (cursor_entry (without_last_moves (first ++ d.entries)) s.x s.y ++
+          (pen_entry d.pen s.pen ++ last)))
 
 -- the repaint of a screen with this title, and the cursor in this shape
 abbrev pub repaint : Screen → List ℕ → Option CursorShape → List ChangeValue
-repaint s title shape = repaint_of (title_entry title) (all_rows s.width s.height s.rows) s (shown_entries s.visibility shape)
+repaint s title shape =
+    repaint_of (title_entry title) (all_rows s.width s.height s.rows) s
+    (shown_entries s.visibility shape)
 
 -- the attributes of the rows above row i, with a move down before each but the first
 abbrev pub lines_upto : List LineAttribute → ℕ → List ChangeValue
 lines_upto lines zero = []
-lines_upto lines (suc i) = lines_upto lines i ++ ((if i == 0 then [] else next_line ∷ []) ++ change.LineAttribute (slice_index_or lines i SingleWidthLine) ∷ [])
+lines_upto lines (suc i) =
+    lines_upto lines i ++
+    ((if i == 0 then [] else next_line ∷ []) ++
+      change.LineAttribute (slice_index_or lines i SingleWidthLine) ∷ [])
 
--- what a full repaint has before the entries of the rows: the title, be it empty, the cursor's colour, and each row's attribute; then the cursor goes home
+-- what a full repaint has before the entries of the rows: the title, be it empty, the cursor's
+-- colour, and each row's attribute; then the cursor goes home
 abbrev pub full_entries : List ℕ → ColorAttribute → List LineAttribute → List ChangeValue
-full_entries title color lines = change.Title title ∷ change.CursorColor color ∷ (lines_upto lines (length lines) ++ cursor_at 0 0 ∷ [])
+full_entries title color lines =
+    change.Title title ∷ change.CursorColor color ∷
+    (lines_upto lines (length lines) ++ cursor_at 0 0 ∷ [])
 
 -- and at its end: a visible cursor is shown, and the cursor gets its shape
 abbrev pub full_shown_entries : CursorVisibility → CursorShape → List ChangeValue
-full_shown_entries cursor.Visible shape = change.CursorVisibility cursor.Visible ∷ change.CursorShape shape ∷ []
+full_shown_entries cursor.Visible shape =
+    change.CursorVisibility cursor.Visible ∷ change.CursorShape shape ∷ []
 full_shown_entries cursor.Hidden shape = change.CursorShape shape ∷ []
 
 -- the repaint of a full screen
 abbrev pub full_repaint : FullScreen → List ChangeValue
-full_repaint f = repaint_of (full_entries f.title f.color f.lines) (all_rows f.screen.width f.screen.height f.screen.rows) f.screen (full_shown_entries f.screen.visibility f.shape)
+full_repaint f =
+    repaint_of (full_entries f.title f.color f.lines)
+    (all_rows f.screen.width f.screen.height f.screen.rows) f.screen
+    (full_shown_entries f.screen.visibility f.shape)
 
 -- the repaint of a screen with what is kept beside it, in full or not
 abbrev pub repaint_in : Bool → Screen → Kept → List ChangeValue

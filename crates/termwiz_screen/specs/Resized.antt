@@ -13,11 +13,13 @@ use Rattle.termwiz_screen.specs.declared.rows.resizing.Undo.TheVariants.{Cut, Pu
 
 -- the first h rows, each cut or filled to width w, and default ones below
 abbrev pub resized_rows : ℕ → ℕ → List (List CellValue) → List (List CellValue)
-resized_rows w h rows = map (row_of w) (take h rows) ++ replicate (h - length rows) (replicate w blank)
+resized_rows w h rows =
+    map (row_of w) (take h rows) ++ replicate (h - length rows) (replicate w blank)
 
 -- stored cells in another width
 abbrev pub resized_stored : ℕ → ℕ → List (List CellValue) → List (List CellValue)
-resized_stored w h rows = map (resized w) (take h rows) ++ replicate (h - length rows) (replicate w blank)
+resized_stored w h rows =
+    map (resized w) (take h rows) ++ replicate (h - length rows) (replicate w blank)
 
 -- the flags of the first h rows, and none below
 abbrev pub resized_flags : ℕ → List LineFlags → List LineFlags
@@ -55,13 +57,23 @@ undone (Cut k) l = in_width k l
 undone (Put text) l = text.value
 
 -- the first rows have grown to width w, as many as have an undo
-pub record HaveGrown (w : ℕ) (old : List LineValue) (undos : List Undo) (new : List LineValue) : Type 0 where
+pub record HaveGrown (w : ℕ) (old : List LineValue) (undos : List Undo) (new : List LineValue) :
+    Type 0 where
   pub rows : new ≡ map (grown w) (take (length undos) old) ++ drop (length undos) old
-  pub each : (j : ℕ) (l : LineValue) (u : Undo) → j < length undos → Undoes (slice_index_or old j l) (slice_index_or undos j u)
+  pub each :
+      (j : ℕ) (l : LineValue) (u : Undo) → j < length undos →
+      Undoes (slice_index_or old j l) (slice_index_or undos j u)
 
 -- the screen in another size; the cursor is placed as by a move of nothing
 abbrev pub resized_screen : Screen → ℕ → ℕ → Screen
-resized_screen s w h = record s { width = w; height = h; rows = resized_rows w h s.rows; x = moved (pos 0) s.x w; y = moved (pos 0) s.y h }
+resized_screen s w h =
+    record s {
+      width = w;
+      height = h;
+      rows = resized_rows w h s.rows;
+      x = moved (pos 0) s.x w;
+      y = moved (pos 0) s.y h;
+    }
 
 abbrev pub resized_kept : Kept → ℕ → ℕ → Kept
 resized_kept k w h = record k { lengths = replicate h w; flags = resized_flags h k.flags }

@@ -31,4 +31,6 @@ pub record ArePartly (w : ℕ) (c : CellValue) (old new : List (List CellValue))
 -- each element is as it was, or this one
 pub record ArePartlyReset {X : Type 0} (d : X) (old new : List X) : Type 0 where
   pub same_count : length new ≡ length old
-  pub each : (j : ℕ) (e : X) → j < length old → (slice_index_or new j e ≡ slice_index_or old j e) ⊎ (slice_index_or new j e ≡ d)
+  pub each :
+      (j : ℕ) (e : X) → j < length old →
+      (slice_index_or new j e ≡ slice_index_or old j e) ⊎ (slice_index_or new j e ≡ d)

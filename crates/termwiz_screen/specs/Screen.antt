@@ -1,4 +1,5 @@
--- A screen: its size, a row of that width for each line, a cursor, whether it is shown, and the pen, the attributes of coming text.
+-- A screen: its size, a row of that width for each line, a cursor, whether it is shown, and the
+-- pen, the attributes of coming text.
 use Rattle.std.specs.Prelude.{ℕ, List, [], slice_index_or}
 use Rattle.termwiz_cell.specs.Attributes.{Attributes}
 use Rattle.termwiz_cell.specs.CellValue.{CellValue}

@@ -17,7 +17,16 @@ abbrev pub cells_of : List LineValue → List (List CellValue)
 cells_of lines = map (λ l. l.cells) lines
 
 abbrev pub screen_value : code.Screen → Screen
-screen_value s = record { width = s.width; height = s.height; rows = cells_of s.rows.items; x = s.cursor.0; y = s.cursor.1; visibility = s.visibility; pen = s.pen }
+screen_value s =
+    record {
+      width = s.width;
+      height = s.height;
+      rows = cells_of s.rows.items;
+      x = s.cursor.0;
+      y = s.cursor.1;
+      visibility = s.visibility;
+      pen = s.pen;
+    }
 
 -- the line of a row: a vector under the number 0, without flags
 abbrev pub numberless : List CellValue → LineValue
@@ -30,16 +39,40 @@ rows_eq a b = pointwise cells_eq a b
 -- `==` of screens
 abbrev pub screen_eq : Screen → Screen → Bool
 screen_eq a b =
-    (a.width == b.width) && ((a.height == b.height) && ((a.x == b.x) && ((a.y == b.y) && (visibility_eq a.visibility b.visibility && (attributes_eq a.pen b.pen && rows_eq a.rows b.rows)))))
+    (a.width == b.width) &&
+    ((a.height == b.height) &&
+    ((a.x == b.x) &&
+    ((a.y == b.y) &&
+    (visibility_eq a.visibility b.visibility &&
+    (attributes_eq a.pen b.pen && rows_eq a.rows b.rows)))))
 
 pub screen_eq-Decides : (a b : Screen) → Decides (screen_eq a b) (a ≡ b)
 screen_eq-Decides a b =
     Decides-like (screen_eq a b)
-    (λ e i. record { width = e.0 i; height = e.1.0 i; x = e.1.1.0 i; y = e.1.1.1.0 i; visibility = e.1.1.1.1.0 i; pen = e.1.1.1.1.1.0 i; rows = e.1.1.1.1.1.1 i })
-    (λ e. ((λ i. (e i).width), ((λ i. (e i).height), ((λ i. (e i).x), ((λ i. (e i).y), ((λ i. (e i).visibility), ((λ i. (e i).pen), (λ i. (e i).rows))))))))
+    (λ e i.
+    record {
+      width = e.0 i;
+      height = e.1.0 i;
+      x = e.1.1.0 i;
+      y = e.1.1.1.0 i;
+      visibility = e.1.1.1.1.0 i;
+      pen = e.1.1.1.1.1.0 i;
+      rows = e.1.1.1.1.1.1 i;
+    })
+    (λ e. (
+      (λ i. (e i).width),
+      (
+        (λ i. (e i).height),
+        (
+          (λ i. (e i).x),
+          ((λ i. (e i).y), ((λ i. (e i).visibility), ((λ i. (e i).pen), (λ i. (e i).rows)))),
+        ),
+      ),
+    ))
     (Decides-and _ _ (Decides-eqb a.width b.width)
     (Decides-and _ _ (Decides-eqb a.height b.height)
     (Decides-and _ _ (Decides-eqb a.x b.x)
     (Decides-and _ _ (Decides-eqb a.y b.y)
     (Decides-and _ _ (visibility_eq-Decides a.visibility b.visibility)
-    (Decides-and _ _ (attributes_eq-Decides a.pen b.pen) (pointwise_decides cells_eq-Decides a.rows b.rows)))))))
+    (Decides-and _ _ (attributes_eq-Decides a.pen b.pen)
+    (pointwise_decides cells_eq-Decides a.rows b.rows)))))))

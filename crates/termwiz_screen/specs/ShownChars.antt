@@ -1,4 +1,5 @@
--- What a screen says as text: the texts of each row's visible cells within its stored length, each row with a newline behind.
+-- What a screen says as text: the texts of each row's visible cells within its stored length, each
+-- row with a newline behind.
 use Rattle.std.specs.Prelude.{ℕ, List, [], ◌∷◌, ◌++◌}
 use Rattle.termwiz_cell.specs.CellValue.{CellValue}
 use Rattle.termwiz_line.specs.Row.{visible_upto}
@@ -8,4 +9,5 @@ use Rattle.termwiz_screen.specs.Chars.{newline}
 abbrev pub shown_chars : List (List CellValue) → List ℕ → List ℕ
 shown_chars [] lengths = []
 shown_chars (r ∷ rows) [] = []
-shown_chars (r ∷ rows) (n ∷ lengths) = (texts_of (visible_upto r n) ++ newline) ++ shown_chars rows lengths
+shown_chars (r ∷ rows) (n ∷ lengths) =
+    (texts_of (visible_upto r n) ++ newline) ++ shown_chars rows lengths

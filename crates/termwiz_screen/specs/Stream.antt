@@ -18,10 +18,17 @@ pub record Lends (stream : CowSlice Change Global) (changes : List ChangeValue) 
   pub borrowed : IsBorrowedSlice stream
   pub same : stream_of stream ≡ changes
 
--- what brings a viewer to a picture from the number n that it was last given: what is due where that is known, and else changes that bring any picture of that size to this one
-pub record Brings {P : Type 0} (pictures : Pictures P) (measure : List ℕ → ℕ) (p : P) (log : LogValue) (n : ℕ) (changes : List ChangeValue) : Type 0 where
-  pub known : is_known (delta_limit (pictures.screen p).width (pictures.screen p).height) log n ≡ true → changes ≡ due log n
-  pub repaint : is_known (delta_limit (pictures.screen p).width (pictures.screen p).height) log n ≡ false → (t : P) → pictures.IsSized (pictures.screen p).width (pictures.screen p).height t → played pictures measure t changes ≡ p
+-- what brings a viewer to a picture from the number n that it was last given: what is due where
+-- that is known, and else changes that bring any picture of that size to this one
+pub record Brings {P : Type 0} (pictures : Pictures P) (measure : List ℕ → ℕ) (p : P)
+    (log : LogValue) (n : ℕ) (changes : List ChangeValue) : Type 0 where
+  pub known :
+      is_known (delta_limit (pictures.screen p).width (pictures.screen p).height) log n ≡ true →
+      changes ≡ due log n
+  pub repaint :
+      is_known (delta_limit (pictures.screen p).width (pictures.screen p).height) log n ≡ false →
+      (t : P) → pictures.IsSized (pictures.screen p).width (pictures.screen p).height t →
+      played pictures measure t changes ≡ p
 
 -- to a screen
 abbrev pub IsStream : (List ℕ → ℕ) → Screen → LogValue → ℕ → List ChangeValue → Type 0

@@ -21,7 +21,8 @@ module _ (measure : List ℕ → ℕ) where
   -- how many rows graphemes scroll away, and a text
   abbrev pub graphemes_scroll : Screen → List (List ℕ) → ℕ
   graphemes_scroll s [] = 0
-  graphemes_scroll s (g ∷ gs) = piece_scrolls s (piece_of measure s.pen g) + graphemes_scroll (print_one measure s g) gs
+  graphemes_scroll s (g ∷ gs) =
+      piece_scrolls s (piece_of measure s.pen g) + graphemes_scroll (print_one measure s g) gs
 
   abbrev pub rows_scrolled : Screen → List ℕ → ℕ
   rows_scrolled s text = graphemes_scroll s (graphemes true text)

@@ -15,8 +15,12 @@ pub record EndsBlank (w : ℕ) (r : List CellValue) (k : ℕ) : Type 0 where
 pub record AreHalved (w : ℕ) (rows : List (List CellValue)) : Type 0 where
   pub each : (j : ℕ) → j < length rows → HasHalves w (row_at rows j)
 
--- what the columns of cs before k need, of n from q on beside the own ones from x on, is printed in a row since d, and a cell starts at k
-pub record IsPrintedTo (own : List CellValue) (x : ℕ) (cs : List CellValue) (q n row : ℕ) (d e : PrintedOut) (k : ℕ) : Type 0 where
+-- what the columns of cs before k need, of n from q on beside the own ones from x on, is printed in
+-- a row since d, and a cell starts at k
+pub record IsPrintedTo (own : List CellValue) (x : ℕ) (cs : List CellValue) (q n row : ℕ)
+    (d e : PrintedOut) (k : ℕ) : Type 0 where
   pub within : q ≤ k
   pub visible : hides cs k ≡ false
-  pub printed : (w : ℕ) → q + n ≤ w → e ≡ fold print_out d (map (in_row row) (row_need own x (row_of w cs) q (min n (k - q))))
+  pub printed :
+      (w : ℕ) → q + n ≤ w →
+      e ≡ fold print_out d (map (in_row row) (row_need own x (row_of w cs) q (min n (k - q))))

@@ -47,7 +47,8 @@ module _ {W : Type 0} where
     pub limits : new.limits ≡ old.limits
     pub stopped : new.stopped ≡ old.stopped
 
--- default blanks, with the cursor home and shown, and nothing kept beside them: what a blank surface shows, whatever its width value
+-- default blanks, with the cursor home and shown, and nothing kept beside them: what a blank
+-- surface shows, whatever its width value
 abbrev pub blank_screen : ℕ → ℕ → FullScreen
 blank_screen w h = full_of {W = ℕ} (blank_surface 0 w h true)
 
@@ -57,7 +58,9 @@ fits s a = is_repaint a.answer || ((a.source == s.source) && (a.answer.base == s
 
 -- a delta fits, but has another size
 abbrev pub has_other_size : Shown → SentAnswer → Bool
-has_other_size s a = not (is_repaint a.answer) && (fits s a && not (suits s.picture.screen.width s.picture.screen.height a.answer))
+has_other_size s a =
+    not (is_repaint a.answer) &&
+    (fits s a && not (suits s.picture.screen.width s.picture.screen.height a.answer))
 
 -- where its changes begin: a repaint begins with blanks
 abbrev pub start : Shown → SentAnswer → FullScreen
@@ -65,8 +68,19 @@ start s a = if is_repaint a.answer then blank_screen a.answer.width a.answer.hei
 
 -- what is shown after an answer, which changes nothing where it doesn't fit
 abbrev pub taken : (List ℕ → ℕ) → Shown → SentAnswer → Shown
-taken measure s a = if fits s a then record { picture = played full_screens measure (start s a) a.answer.changes; source = a.source; number = a.answer.number } else s
+taken measure s a =
+    if fits s a
+    then
+    record {
+      picture = played full_screens measure (start s a) a.answer.changes;
+      source = a.source;
+      number = a.answer.number;
+    }
+    else s
 
--- where in an answer's bytes its size differs from the one that is shown: at its width, or else at its height
+-- where in an answer's bytes its size differs from the one that is shown: at its width, or else at
+-- its height
 abbrev pub size_place : Shown → SentAnswer → ℕ
-size_place s a = 2 + length (unsigned a.source) + (if s.picture.screen.width == a.answer.width then length (unsigned a.answer.width) else 0)
+size_place s a =
+    2 + length (unsigned a.source) +
+    (if s.picture.screen.width == a.answer.width then length (unsigned a.answer.width) else 0)

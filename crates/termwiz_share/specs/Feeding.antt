@@ -12,10 +12,13 @@ use Rattle.termwiz_share.specs.declared.error.ClientError.{ClientError}
 use Rattle.termwiz_share.specs.declared.error.ClientError.TheVariants as errors
 
 module _ (measure : List ℕ → ℕ) (limits : Limits) where
-  -- whoever shows s takes the answers that are decoded from the front of the bytes, one behind another, each in its size; t is shown then, and these bytes are left
+  -- whoever shows s takes the answers that are decoded from the front of the bytes, one behind
+  -- another, each in its size; t is shown then, and these bytes are left
   abbrev pub TakesAll : Shown → List ℕ → List SentAnswer → Shown → List ℕ → Type 0
   TakesAll s bytes [] t rest = (bytes ≡ rest) × (t ≡ s)
-  TakesAll s bytes (a ∷ more) t rest = (next : List ℕ) × (answer_at measure limits bytes ≡ Ok (a, next)) × (has_other_size s a ≡ false) × TakesAll (taken measure s a) next more t rest
+  TakesAll s bytes (a ∷ more) t rest =
+      (next : List ℕ) × (answer_at measure limits bytes ≡ Ok (a, next)) ×
+      (has_other_size s a ≡ false) × TakesAll (taken measure s a) next more t rest
 
   -- more bytes may make an answer
   pub record AreCut (bytes : List ℕ) : Type 0 where
@@ -51,10 +54,16 @@ module _ {W : Type 0} where
 
   module _ (measure_of : W → List ℕ → ℕ) where
     -- the client takes an answer, whose bytes it has
-    abbrev pub Takes : ClientValue W → SentAnswer → Result (Unit {0}) ClientError → ClientValue W → Type 0
-    Takes old a (Ok u) new = (has_other_size (shown_by old) a ≡ false) × (shown_by new ≡ taken (measure_of old.surface.widths) (shown_by old) a) × (new.kept ≡ old.kept) × SameSettings old new
+    abbrev pub Takes :
+        ClientValue W → SentAnswer → Result (Unit {0}) ClientError → ClientValue W → Type 0
+    Takes old a (Ok u) new =
+        (has_other_size (shown_by old) a ≡ false) ×
+        (shown_by new ≡ taken (measure_of old.surface.widths) (shown_by old) a) ×
+        (new.kept ≡ old.kept) × SameSettings old new
     Takes old a (Err (errors.Fault f)) new = ⊥
-    Takes old a (Err (errors.Size at)) new = (has_other_size (shown_by old) a ≡ true) × (at ≡ size_place (shown_by old) a) × (new ≡ stopped_by old (errors.Size at))
+    Takes old a (Err (errors.Size at)) new =
+        (has_other_size (shown_by old) a ≡ true) × (at ≡ size_place (shown_by old) a) ×
+        (new ≡ stopped_by old (errors.Size at))
     Takes old a (Err errors.Numbers) new = LacksNumbers old a × (new ≡ unnamed old)
     Takes old a (Err errors.Memory) new = (new ≡ old) ⊎ HasForgotten old new
 
@@ -64,17 +73,30 @@ module _ {W : Type 0} where
 
     -- the client takes the next answer, or there is none
     abbrev pub Steps : ClientValue W → Result Bool ClientError → ClientValue W → Type 0
-    Steps old (Ok true) new = (a : SentAnswer) × (read_of old ≡ Ok (a, new.kept)) × (has_other_size (shown_by old) a ≡ false) × (shown_by new ≡ taken (measure_of old.surface.widths) (shown_by old) a) × SameSettings old new
-    Steps old (Ok false) new = AreCut (measure_of old.surface.widths) old.limits old.kept × (new ≡ old)
-    Steps old (Err (errors.Fault f)) new = (read_of old ≡ Err f) × (f.kind ≢ Truncated) × (new ≡ stopped_by old (errors.Fault f))
-    Steps old (Err (errors.Size at)) new = (a : SentAnswer) × (rest : List ℕ) × (read_of old ≡ Ok (a, rest)) × (has_other_size (shown_by old) a ≡ true) × (at ≡ size_place (shown_by old) a) × (new ≡ stopped_by old (errors.Size at))
-    Steps old (Err errors.Numbers) new = (a : SentAnswer) × (rest : List ℕ) × (read_of old ≡ Ok (a, rest)) × LacksNumbers old a × (new ≡ unnamed old)
+    Steps old (Ok true) new =
+        (a : SentAnswer) × (read_of old ≡ Ok (a, new.kept)) ×
+        (has_other_size (shown_by old) a ≡ false) ×
+        (shown_by new ≡ taken (measure_of old.surface.widths) (shown_by old) a) ×
+        SameSettings old new
+    Steps old (Ok false) new =
+        AreCut (measure_of old.surface.widths) old.limits old.kept × (new ≡ old)
+    Steps old (Err (errors.Fault f)) new =
+        (read_of old ≡ Err f) × (f.kind ≢ Truncated) × (new ≡ stopped_by old (errors.Fault f))
+    Steps old (Err (errors.Size at)) new =
+        (a : SentAnswer) × (rest : List ℕ) × (read_of old ≡ Ok (a, rest)) ×
+        (has_other_size (shown_by old) a ≡ true) × (at ≡ size_place (shown_by old) a) ×
+        (new ≡ stopped_by old (errors.Size at))
+    Steps old (Err errors.Numbers) new =
+        (a : SentAnswer) × (rest : List ℕ) × (read_of old ≡ Ok (a, rest)) × LacksNumbers old a ×
+        (new ≡ unnamed old)
     Steps old (Err errors.Memory) new = (new ≡ old) ⊎ HasForgotten old new
 
     -- it has taken the answers of its bytes, up to those that are left
     pub record HasTaken (old new : ClientValue W) : Type 0 where
       pub given : List SentAnswer
-      pub takes : TakesAll (measure_of old.surface.widths) old.limits (shown_by old) old.kept given (shown_by new) new.kept
+      pub takes :
+          TakesAll (measure_of old.surface.widths) old.limits (shown_by old) old.kept given
+          (shown_by new) new.kept
       pub settings : SameSettings old new
 
     -- how it ends, where there is no next one, or that isn't taken
@@ -83,17 +105,21 @@ module _ {W : Type 0} where
     Ends old (Err e) new = Steps old (Err e) new
 
     -- it takes all answers of its bytes, or stops before one
-    pub record Reads (old : ClientValue W) (result : Result (Unit {0}) ClientError) (new : ClientValue W) : Type 0 where
+    pub record Reads (old : ClientValue W) (result : Result (Unit {0}) ClientError)
+        (new : ClientValue W) : Type 0 where
       pub mid : ClientValue W
       pub has_taken : HasTaken old mid
       pub ends : Ends mid result new
 
     -- bytes are fed to it
-    abbrev pub Feeds : ClientValue W → List ℕ → Result (Unit {0}) ClientError → ClientValue W → Type 0
+    abbrev pub Feeds :
+        ClientValue W → List ℕ → Result (Unit {0}) ClientError → ClientValue W → Type 0
     Feeds old piece result new =
         -- it takes none, since it has stopped before
         ((e : ClientError) × (old.stopped ≡ Some e) × (result ≡ Err e) × (new ≡ old))
         -- there is no memory for them, so that it stops
-        ⊎ ((old.stopped ≡ None) × (result ≡ Err errors.Memory) × (new ≡ stopped_by old errors.Memory))
+        ⊎
+        ((old.stopped ≡ None) × (result ≡ Err errors.Memory) ×
+        (new ≡ stopped_by old errors.Memory))
         -- or it reads them
         ⊎ ((old.stopped ≡ None) × Reads (with_bytes old piece) result new)

@@ -1,4 +1,5 @@
--- Streams of answers of many sources, and what a client shows of them. Each source has a history, which says what its numbers name.
+-- Streams of answers of many sources, and what a client shows of them. Each source has a history,
+-- which says what its numbers name.
 use Rattle.std.specs.Prelude.{◌≡◌, ◌⊎◌, ℕ, ◌*◌, ◌<◌, ◌≤◌, List, [], ◌∷◌, ◌++◌, length, None, Result, Ok, Err, fold, if◌then◌else◌}
 use Rattle.std.specs.List.{AllByRecursion, flat_map}
 use Rattle.termwiz_screen.specs.FullScreen.{FullScreen, HasFullSize}
@@ -19,7 +20,10 @@ pub record Given : Type 0 where
 
 -- what is shown after an answer: the screen that its source had then, where it fits
 abbrev pub after : Shown → Given → Shown
-after s g = if fits s g.sent then record { picture = g.shown; source = g.sent.source; number = g.sent.answer.number } else s
+after s g =
+    if fits s g.sent
+    then record { picture = g.shown; source = g.sent.source; number = g.sent.answer.number }
+    else s
 
 -- after some of them: what the last one that fits was given for
 abbrev pub after_all : Shown → List Given → Shown
@@ -36,7 +40,8 @@ module _ (measure : List ℕ → ℕ) where
   HasMore (g ∷ gs) bytes = length bytes < length (answer measure g.sent)
 
   module _ (limits : Limits) (histories : ℕ → ℕ → FullScreen) where
-    -- the source of the answer, whose numbers name this history, gave it when it had that full screen; and it is within the limits
+    -- the source of the answer, whose numbers name this history, gave it when it had that full
+    -- screen; and it is within the limits
     pub record IsGenuine (g : Given) : Type 0 where
       pub is_sent : IsSent measure g.sent
       pub cells : g.sent.answer.width * g.sent.answer.height ≤ limits.cells
@@ -48,7 +53,8 @@ module _ (measure : List ℕ → ℕ) where
 abbrev pub IsNamed : (ℕ → ℕ → FullScreen) → Shown → Type 0
 IsNamed histories s = Names (histories s.source) s.number s.picture
 
-module _ {W : Type 0} (measure_of : W → List ℕ → ℕ) (histories : ℕ → ℕ → FullScreen) (sent : List Given) where
+module _ {W : Type 0} (measure_of : W → List ℕ → ℕ) (histories : ℕ → ℕ → FullScreen)
+    (sent : List Given) where
   -- what a client has and the bytes that come are these answers, and it shows what its number names
   pub record Follows (c : ClientValue W) (bytes : List ℕ) : Type 0 where
     pub reading : c.stopped ≡ None
@@ -56,7 +62,8 @@ module _ {W : Type 0} (measure_of : W → List ℕ → ℕ) (histories : ℕ →
     pub whole : c.kept ++ bytes ≡ stream (measure_of c.surface.widths) sent
     pub named : IsNamed histories (shown_by c)
 
-  -- some are taken, and the client shows what the last one that fits was given for; of the others there is no whole one
+  -- some are taken, and the client shows what the last one that fits was given for; of the others
+  -- there is no whole one
   pub record HasFollowed (future : List ℕ) (old new : ClientValue W) : Type 0 where
     pub given : List Given
     pub others : List Given
@@ -66,7 +73,8 @@ module _ {W : Type 0} (measure_of : W → List ℕ → ℕ) (histories : ℕ →
     pub shows : shown_by new ≡ after_all (shown_by old) given
     pub named : IsNamed histories (shown_by new)
 
-  -- some are taken, and the client shows what the last one that fits was given for, or what it shows has no number
+  -- some are taken, and the client shows what the last one that fits was given for, or what it
+  -- shows has no number
   pub record HasStopped (old new : ClientValue W) : Type 0 where
     pub given : List Given
     pub others : List Given
@@ -75,7 +83,8 @@ module _ {W : Type 0} (measure_of : W → List ℕ → ℕ) (histories : ℕ →
     pub named : IsNamed histories (shown_by new)
 
   -- nothing but want of memory or of numbers keeps it from taking all that are whole
-  abbrev pub FollowsTo : List ℕ → ClientValue W → Result (Unit {0}) ClientError → ClientValue W → Type 0
+  abbrev pub FollowsTo :
+      List ℕ → ClientValue W → Result (Unit {0}) ClientError → ClientValue W → Type 0
   FollowsTo future old (Ok u) new = HasFollowed future old new
   FollowsTo future old (Err errors.Numbers) new = HasStopped old new
   FollowsTo future old (Err errors.Memory) new = HasStopped old new

@@ -16,7 +16,8 @@ pub record Shows {W : Type 0} (s : SourceValue W) (c : ClientValue W) : Type 0 w
   pub number : c.number ≡ next_number s.surface.log
 
 module _ {W : Type 0} (measure_of : W → List ℕ → ℕ) where
-  -- the source measures as the client does, and has a past in which a client of it shows what its number names
+  -- the source measures as the client does, and has a past in which a client of it shows what its
+  -- number names
   pub record Serves (s : SourceValue W) (c : ClientValue W) : Type 0 where
     pub past : ℕ → FullScreen
     pub is_past : IsPastOf full_screens measure_of past s.surface

@@ -22,7 +22,8 @@ pub record SourceValue (W : Type 0) : Type 0 where
 abbrev pub sent_by : ℕ → AnswerValue → SentAnswer
 sent_by source a = record { source = source; answer = a }
 
--- how many bytes a delta has at most that is worth sending where a screen of this size could be repainted
+-- how many bytes a delta has at most that is worth sending where a screen of this size could be
+-- repainted
 abbrev pub most_bytes : ℕ → ℕ → ℕ
 most_bytes w h = 64 + 4 * (w * h)
 
@@ -33,10 +34,18 @@ module _ {W : Type 0} where
 
   -- its repaint
   abbrev pub repaint_of : SurfaceValue W → AnswerValue
-  repaint_of s = record { width = s.width; height = s.height; base = 0; number = next_number s.log; changes = own_repaint s }
+  repaint_of s =
+      record {
+        width = s.width;
+        height = s.height;
+        base = 0;
+        number = next_number s.log;
+        changes = own_repaint s;
+      }
 
   module _ (measure_of : W → List ℕ → ℕ) where
-    -- the bytes are those of an answer for this ask: it leads to the full screen that the source has now, from the picture that the ask names or from none
+    -- the bytes are those of an answer for this ask: it leads to the full screen that the source
+    -- has now, from the picture that the ask names or from none
     pub record IsResponse (s : SourceValue W) (ask : Ask) (bytes : List ℕ) : Type 0 where
       pub given : AnswerValue
       pub encoded : bytes ≡ answer (measure_of s.surface.widths) (sent_by s.number given)
@@ -46,9 +55,13 @@ module _ {W : Type 0} where
       pub sized : HasFullSize given.width given.height (full_of s.surface)
       pub number : given.number ≡ next_number s.surface.log
       pub from : (given.base ≡ 0) ⊎ ((ask.source ≡ s.number) × (given.base ≡ ask.number))
-      pub carries : (past : ℕ → FullScreen) → IsPastOf full_screens measure_of past s.surface → CarriesTo full_screens measure_of past given s.surface
+      pub carries :
+          (past : ℕ → FullScreen) → IsPastOf full_screens measure_of past s.surface →
+          CarriesTo full_screens measure_of past given s.surface
       -- a screen bounds it
-      pub few : length bytes ≤ max (most_bytes s.surface.width s.surface.height) (length (answer (measure_of s.surface.widths) (sent_by s.number (repaint_of s.surface))))
+      pub few :
+          length bytes ≤ max (most_bytes s.surface.width s.surface.height)
+          (length (answer (measure_of s.surface.widths) (sent_by s.number (repaint_of s.surface))))
 
     -- the source gives this answer for a number, or for none
     pub record Answers (s : SourceValue W) (n : ℕ) (given : AnswerValue) : Type 0 where
@@ -57,7 +70,11 @@ module _ {W : Type 0} where
       pub is_given : IsGivenBy full_screens measure_of s.surface asked given
       pub sized : HasFullSize s.surface.width s.surface.height (full_of s.surface)
       -- a screen bounds it, if a buffer can have it
-      pub few : length (answer (measure_of s.surface.widths) (sent_by s.number given)) < 2 ^ 64 → length (answer (measure_of s.surface.widths) (sent_by s.number given)) ≤ max (most_bytes s.surface.width s.surface.height) (length (answer (measure_of s.surface.widths) (sent_by s.number (repaint_of s.surface))))
+      pub few :
+          length (answer (measure_of s.surface.widths) (sent_by s.number given)) < 2 ^ 64 →
+          length (answer (measure_of s.surface.widths) (sent_by s.number given)) ≤ max
+          (most_bytes s.surface.width s.surface.height)
+          (length (answer (measure_of s.surface.widths) (sent_by s.number (repaint_of s.surface))))
 
     -- the response comes behind what the buffer had
     pub record Responds (s : SourceValue W) (ask : Ask) (before after : List ℕ) : Type 0 where

@@ -1,4 +1,5 @@
--- Answers that are carried off: what brings a viewer, whenever it is accepted, to the picture that the surface had when it gave the answer.
+-- Answers that are carried off: what brings a viewer, whenever it is accepted, to the picture that
+-- the surface had when it gave the answer.
 use Rattle.std.specs.Prelude.{◌≡◌, ℕ, ◌<◌, ◌≤◌, ◌^◌, Bool, true, false, not, ◌&&◌, ◌==◌, List}
 use Rattle.termwiz_cell.specs.ChangeValue.{ChangeValue}
 use Rattle.termwiz_surface.specs.History.{Names}
@@ -15,7 +16,8 @@ pub record AnswerValue : Type 0 where
   pub number : ℕ
   pub changes : List ChangeValue
 
--- what each answer has: a size that a surface may have, a number that is at least its base, and no scroll whose region goes past the last row
+-- what each answer has: a size that a surface may have, a number that is at least its base, and no
+-- scroll whose region goes past the last row
 pub record IsWellFormed (a : AnswerValue) : Type 0 where
   pub some_column : 0 < a.width
   pub some_row : 0 < a.height
@@ -24,20 +26,32 @@ pub record IsWellFormed (a : AnswerValue) : Type 0 where
   pub ordered : a.base ≤ a.number
   pub regions : regions_fit a.height a.changes ≡ true
 
--- what a surface with this picture and log gives for number n: a copy of what is due where that is known, and else changes that bring any picture of its size to this one
-pub record IsGiven {P : Type 0} (pictures : Pictures P) (measure : List ℕ → ℕ) (p : P) (log : LogValue) (n : ℕ) (a : AnswerValue) : Type 0 where
+-- what a surface with this picture and log gives for number n: a copy of what is due where that is
+-- known, and else changes that bring any picture of its size to this one
+pub record IsGiven {P : Type 0} (pictures : Pictures P) (measure : List ℕ → ℕ) (p : P)
+    (log : LogValue) (n : ℕ) (a : AnswerValue) : Type 0 where
   pub width : a.width ≡ (pictures.screen p).width
   pub height : a.height ≡ (pictures.screen p).height
   pub number : a.number ≡ next_number log
-  pub delta : is_known (delta_limit (pictures.screen p).width (pictures.screen p).height) log n ≡ true → (a.base ≡ n) × (a.changes ≡ due log n)
-  pub repaint : is_known (delta_limit (pictures.screen p).width (pictures.screen p).height) log n ≡ false
-      → (a.base ≡ 0) × ((t : P) → pictures.IsSized (pictures.screen p).width (pictures.screen p).height t → played pictures measure t a.changes ≡ p)
+  pub delta :
+      is_known (delta_limit (pictures.screen p).width (pictures.screen p).height) log n ≡ true →
+      (a.base ≡ n) × (a.changes ≡ due log n)
+  pub repaint :
+      is_known (delta_limit (pictures.screen p).width (pictures.screen p).height) log n ≡ false
+      → (a.base ≡ 0) ×
+      ((t : P) → pictures.IsSized (pictures.screen p).width (pictures.screen p).height t →
+      played pictures measure t a.changes ≡ p)
 
--- the answer was given when the surface had the picture p: its number names that, and it leads there, a repaint from any picture of its size, a delta from the one that its base names
-pub record Carries {P : Type 0} (pictures : Pictures P) (measure : List ℕ → ℕ) (past : ℕ → P) (a : AnswerValue) (p : P) : Type 0 where
+-- the answer was given when the surface had the picture p: its number names that, and it leads
+-- there, a repaint from any picture of its size, a delta from the one that its base names
+pub record Carries {P : Type 0} (pictures : Pictures P) (measure : List ℕ → ℕ) (past : ℕ → P)
+    (a : AnswerValue) (p : P) : Type 0 where
   pub named : Names past a.number p
-  pub repaint : a.base ≡ 0 → (t : P) → pictures.IsSized a.width a.height t → played pictures measure t a.changes ≡ p
-  pub delta : (a.base ≡ 0 → ⊥) → (a.base ≤ a.number) × (played pictures measure (past a.base) a.changes ≡ p)
+  pub repaint :
+      a.base ≡ 0 → (t : P) → pictures.IsSized a.width a.height t →
+      played pictures measure t a.changes ≡ p
+  pub delta :
+      (a.base ≡ 0 → ⊥) → (a.base ≤ a.number) × (played pictures measure (past a.base) a.changes ≡ p)
 
 -- it brings any picture of its size to the surface's
 abbrev pub is_repaint : AnswerValue → Bool

@@ -29,7 +29,9 @@ module _ {W : Type 0} where
   module _ (measure_of : W → List ℕ → ℕ) (s : SurfaceValue W) where
     -- replayed on any screen of its size, whatever that shows, the changes give its screen
     abbrev pub Repaints : List ChangeValue → Type 0
-    Repaints changes = (t : Screen) → HasSize s.width s.height t → replay (measure_of s.widths) t changes ≡ screen_of s
+    Repaints changes =
+        (t : Screen) → HasSize s.width s.height t →
+        replay (measure_of s.widths) t changes ≡ screen_of s
 
     -- the changes bring whoever was last given number n to its screen, or to its full screen
     abbrev pub StreamsFrom : ℕ → List ChangeValue → Type 0

@@ -22,19 +22,23 @@ module _ {W : Type 0} (measure_of : W → List ℕ → ℕ) where
 
 -- w columns and h rows, own ones from column x and row y on
 abbrev pub region_at : ℕ → ℕ → ℕ → ℕ → ℕ → ℕ → Region
-region_at x y w h other_x other_y = record { x = x; y = y; width = w; height = h; other_x = other_x; other_y = other_y }
+region_at x y w h other_x other_y =
+    record { x = x; y = y; width = w; height = h; other_x = other_x; other_y = other_y }
 
 -- the rows t show the region of b in the place of a's, unless a wide grapheme crosses an edge
 abbrev pub GivesRegion : List (List CellValue) → Screen → Screen → Region → Type 0
-GivesRegion t a b r = CrossNone a.width b.width a.rows b.rows r → HaveRegion a.width t a.rows b.rows r
+GivesRegion t a b r =
+    CrossNone a.width b.width a.rows b.rows r → HaveRegion a.width t a.rows b.rows r
 
 module _ {W : Type 0} where
   -- the region cut to what fits on both surfaces
   abbrev pub cut_to : SurfaceValue W → SurfaceValue W → Region → Region
   cut_to s t r = cut r s.width s.height t.width t.height
 
-  -- the changes are moves, pens and texts; where both measure texts alike they print what the region of t shows and that of s doesn't
-  abbrev pub PrintsRegion : (W → List ℕ → ℕ) → SurfaceValue W → SurfaceValue W → Region → List ChangeValue → Type 0
+  -- the changes are moves, pens and texts; where both measure texts alike they print what the
+  -- region of t shows and that of s doesn't
+  abbrev pub PrintsRegion :
+      (W → List ℕ → ℕ) → SurfaceValue W → SurfaceValue W → Region → List ChangeValue → Type 0
   PrintsRegion measure_of s t r changes =
       IsDiff (measure_of s.widths) (screen_of s) (MeasureAlike measure_of s t)
       (need (screen_of s).rows (screen_of t).rows (cut_to s t r)) changes
@@ -56,23 +60,32 @@ abbrev pub one_row : Screen → ℕ → Region
 one_row a i = band a.width i 0 (min 1 (a.height - i))
 
 -- the changes print what rows show and this region of a doesn't
-abbrev pub PrintsRows : (List ℕ → ℕ) → Screen → List (List CellValue) → Region → List ChangeValue → Type 0
-PrintsRows measure a rows r changes = IsDiff measure a (measure ≡ measure) (need a.rows rows r) changes
+abbrev pub PrintsRows :
+    (List ℕ → ℕ) → Screen → List (List CellValue) → Region → List ChangeValue → Type 0
+PrintsRows measure a rows r changes =
+    IsDiff measure a (measure ≡ measure) (need a.rows rows r) changes
 
 -- so many rows from the top are those of b, and the others are as in a
-abbrev pub HaveTopRows : List (List CellValue) → List (List CellValue) → List (List CellValue) → ℕ → Type 0
-HaveTopRows t a b n = ((i : ℕ) → i < n → row_at t i ≡ row_at b i) × ((j : ℕ) → n ≤ j → row_at t j ≡ row_at a j)
+abbrev pub HaveTopRows :
+    List (List CellValue) → List (List CellValue) → List (List CellValue) → ℕ → Type 0
+HaveTopRows t a b n =
+    ((i : ℕ) → i < n → row_at t i ≡ row_at b i) × ((j : ℕ) → n ≤ j → row_at t j ≡ row_at a j)
 
 -- row i, where there is one of h, is this one, and the others are as in a
 abbrev pub HaveRow : List (List CellValue) → List (List CellValue) → ℕ → ℕ → List CellValue → Type 0
-HaveRow t a h i row = (i < h → row_at t i ≡ row) × ((j : ℕ) → (j < i) ⊎ (i < j) → row_at t j ≡ row_at a j)
+HaveRow t a h i row =
+    (i < h → row_at t i ≡ row) × ((j : ℕ) → (j < i) ⊎ (i < j) → row_at t j ≡ row_at a j)
 
 module _ {W : Type 0} where
-  -- where both measure texts alike and no wide grapheme crosses an edge, the screen shows the other surface drawn there, and elsewhere what the old one showed
+  -- where both measure texts alike and no wide grapheme crosses an edge, the screen shows the other
+  -- surface drawn there, and elsewhere what the old one showed
   abbrev pub HasDrawn : (W → List ℕ → ℕ) → SurfaceValue W → SurfaceValue W → ℕ → ℕ → Screen → Type 0
   HasDrawn measure_of old other x y shown =
-      MeasureAlike measure_of old other → GivesRegion shown.rows (screen_of old) (screen_of other) (drawn_region (screen_of old) (screen_of other) x y)
+      MeasureAlike measure_of old other →
+      GivesRegion shown.rows (screen_of old) (screen_of other)
+      (drawn_region (screen_of old) (screen_of other) x y)
 
-  -- where no wide grapheme crosses an edge of either region, the screen shows the region copied there, and elsewhere what the old one showed
+  -- where no wide grapheme crosses an edge of either region, the screen shows the region copied
+  -- there, and elsewhere what the old one showed
   abbrev pub HasCopied : SurfaceValue W → Region → Screen → Type 0
   HasCopied old r shown = GivesRegion shown.rows (screen_of old) (screen_of old) r

@@ -1,4 +1,5 @@
--- Which outcomes a list of events may have on one surface and several viewers, whose answers are kept, and delivered late, repeatedly, in any order, or never.
+-- Which outcomes a list of events may have on one surface and several viewers, whose answers are
+-- kept, and delivered late, repeatedly, in any order, or never.
 use Rattle.std.specs.Bool.{⊤}
 use Rattle.std.specs.Prelude.{◌≡◌, ◌⊎◌, false, ℕ, ◌<◌, ◌≤◌, List, [], ◌∷◌, ◌++◌, length, slice_index_or, set, replicate, Ok, Err}
 use Rattle.termwiz_screen.specs.Picture.{screens}
@@ -32,7 +33,9 @@ pub record ManyState (W : Type 0) : Type 0 where
 
 -- a blank surface of this size, no full one, and so many blank viewers of it
 abbrev pub first_many : {W : Type 0} → W → ℕ → ℕ → ℕ → ManyState W
-first_many widths w h n = let s = blank_surface widths w h false in record { surface = s; answers = []; viewers = replicate n (blank_viewer s) }
+first_many widths w h n =
+    let s = blank_surface widths w h false in
+    record { surface = s; answers = []; viewers = replicate n (blank_viewer s) }
 
 abbrev pub IsManyInRange : {W : Type 0} → ManyEvent W → Type 0
 IsManyInRange (On e) = IsInRange e
@@ -46,7 +49,8 @@ pub record IsAt {X : Type 0} (xs : List X) (k : ℕ) (x : X) : Type 0 where
 
 module _ {W : Type 0} where
   -- viewer v, and what it is afterwards
-  pub record Turns (v : ℕ) (old : ManyState W) (viewer after : ViewerValue W) (new : ManyState W) : Type 0 where
+  pub record Turns (v : ℕ) (old : ManyState W) (viewer after : ViewerValue W) (new : ManyState W) :
+      Type 0 where
     pub has : IsAt old.viewers v viewer
     pub new_is : new ≡ record old { viewers = set old.viewers v after }
 
@@ -56,7 +60,8 @@ module _ {W : Type 0} where
   ResizesAs old w h (Refused e) new = Resizes old.surface w h (Err e) new.surface × (new ≡ old)
   ResizesAs old w h _ new = ⊥
 
-  pub record TakesOwnSize (old : ManyState W) (v w h : ℕ) (outcome : ManyOutcome) (new : ManyState W) : Type 0 where
+  pub record TakesOwnSize (old : ManyState W) (v w h : ℕ) (outcome : ManyOutcome)
+      (new : ManyState W) : Type 0 where
     pub viewer : ViewerValue W
     pub after : ViewerValue W
     pub resizes : ResizesAs viewer w h outcome after
@@ -71,16 +76,27 @@ module _ {W : Type 0} (measure_of : W → List ℕ → ℕ) where
     pub number : k ≡ length old.answers
     pub given : IsGivenBy screens measure_of old.surface viewer.last answer
     pub entries : knows old.surface viewer.last ≡ false → answer.changes ≡ own_repaint old.surface
-    pub new_is : new ≡ record old { answers = old.answers ++ record { answer = answer; screen = screen_of old.surface } ∷ [] }
+    pub new_is :
+        new ≡
+        record old {
+          answers = old.answers ++
+              record { answer = answer; screen = screen_of old.surface } ∷ [];
+        }
 
-  -- a kept answer is delivered to a viewer; one that accepts it shows what the surface showed when it gave the answer, and the outcome has it
+  -- a kept answer is delivered to a viewer; one that accepts it shows what the surface showed when
+  -- it gave the answer, and the outcome has it
   abbrev pub Receives : ViewerValue W → Held → ManyOutcome → ViewerValue W → Type 0
-  Receives old held (Accepted n screen) new = Takes (measure_of old.surface.widths) old held.answer (Ok n) new × (screen_value screen ≡ held.screen) × (screen_of new.surface ≡ held.screen) × HasUnmarkedRows screen
-  Receives old held (NotAccepted e) new = Takes (measure_of old.surface.widths) old held.answer (Err e) new
+  Receives old held (Accepted n screen) new =
+      Takes (measure_of old.surface.widths) old held.answer (Ok n) new ×
+      (screen_value screen ≡ held.screen) × (screen_of new.surface ≡ held.screen) ×
+      HasUnmarkedRows screen
+  Receives old held (NotAccepted e) new =
+      Takes (measure_of old.surface.widths) old held.answer (Err e) new
   Receives old held _ new = ⊥
 
   -- answer k is delivered to viewer v
-  pub record Delivers (old : ManyState W) (v k : ℕ) (outcome : ManyOutcome) (new : ManyState W) : Type 0 where
+  pub record Delivers (old : ManyState W) (v k : ℕ) (outcome : ManyOutcome) (new : ManyState W) :
+      Type 0 where
     pub viewer : ViewerValue W
     pub after : ViewerValue W
     pub held : Held
@@ -90,13 +106,16 @@ module _ {W : Type 0} (measure_of : W → List ℕ → ℕ) where
 
   -- the event may have this outcome, and go over from old to new
   abbrev pub AllowsMany : ManyState W → ManyEvent W → ManyOutcome → ManyState W → Type 0
-  AllowsMany old (On e) (Of outcome) new = Acts measure_of old.surface e outcome new.surface × (new ≡ record old { surface = new.surface })
+  AllowsMany old (On e) (Of outcome) new =
+      Acts measure_of old.surface e outcome new.surface ×
+      (new ≡ record old { surface = new.surface })
   -- a surface among several viewers has none that follows it
   AllowsMany old (On e) NoSuch new = (e ≡ event.Follow) × (new ≡ old)
   AllowsMany old (AnswerFor v) (Kept k) new = Keeps old v k new
   AllowsMany old (AnswerFor v) (Refused refused.Memory) new = (v < length old.viewers) × (new ≡ old)
   AllowsMany old (AnswerFor v) NoSuch new = (length old.viewers ≤ v) × (new ≡ old)
-  AllowsMany old (Deliver v k) NoSuch new = ((length old.viewers ≤ v) ⊎ (length old.answers ≤ k)) × (new ≡ old)
+  AllowsMany old (Deliver v k) NoSuch new =
+      ((length old.viewers ≤ v) ⊎ (length old.answers ≤ k)) × (new ≡ old)
   AllowsMany old (Deliver v k) outcome new = Delivers old v k outcome new
   AllowsMany old (ResizeViewer v w h) NoSuch new = (length old.viewers ≤ v) × (new ≡ old)
   AllowsMany old (ResizeViewer v w h) outcome new = TakesOwnSize old v w h outcome new
@@ -104,11 +123,17 @@ module _ {W : Type 0} (measure_of : W → List ℕ → ℕ) where
   AllowsMany old _ _ new = ⊥
 
 -- the events may have these outcomes, and go over from old to new
-pub data RunsMany {W : Type 0} (measure_of : W → List ℕ → ℕ) : ManyState W → List (ManyEvent W) → List ManyOutcome → ManyState W → Type 0 where
+pub data RunsMany {W : Type 0} (measure_of : W → List ℕ → ℕ) :
+    ManyState W → List (ManyEvent W) → List ManyOutcome → ManyState W → Type 0 where
   Ended : (s : ManyState W) → RunsMany measure_of s [] [] s
-  Next : (old mid new : ManyState W) (e : ManyEvent W) (outcome : ManyOutcome) (events : List (ManyEvent W)) (outcomes : List ManyOutcome)
-      → AllowsMany measure_of old e outcome mid → RunsMany measure_of mid events outcomes new → RunsMany measure_of old (e ∷ events) (outcome ∷ outcomes) new
+  Next :
+      (old mid new : ManyState W) (e : ManyEvent W) (outcome : ManyOutcome)
+      (events : List (ManyEvent W)) (outcomes : List ManyOutcome)
+      → AllowsMany measure_of old e outcome mid → RunsMany measure_of mid events outcomes new →
+      RunsMany measure_of old (e ∷ events) (outcome ∷ outcomes) new
 
 -- the outcomes are those of some run from a blank surface and blank viewers
-abbrev pub IsManySchedule : {W : Type 0} → (W → List ℕ → ℕ) → W → ℕ → ℕ → ℕ → List (ManyEvent W) → List ManyOutcome → Type 0
-IsManySchedule {W = W} measure_of widths w h n events outcomes = (end : ManyState W) × RunsMany measure_of (first_many widths w h n) events outcomes end
+abbrev pub IsManySchedule :
+    {W : Type 0} → (W → List ℕ → ℕ) → W → ℕ → ℕ → ℕ → List (ManyEvent W) → List ManyOutcome → Type 0
+IsManySchedule {W = W} measure_of widths w h n events outcomes =
+    (end : ManyState W) × RunsMany measure_of (first_many widths w h n) events outcomes end

@@ -7,12 +7,16 @@ use Rattle.termwiz_surface.specs.declared.surface.SurfaceError.{SurfaceError}
 use Rattle.termwiz_surface.specs.declared.surface.SurfaceError.TheVariants.{ScrollRegion, Numbers, Memory}
 
 module _ {W : Type 0} where
-  -- the surface has another size, and an empty log under a new number, or 0 where that was the number
+  -- the surface has another size, and an empty log under a new number, or 0 where that was the
+  -- number
   abbrev pub HasResized : SurfaceValue W → ℕ → ℕ → SurfaceValue W → Type 0
-  HasResized old w h new = Becomes (record old { width = w; height = h; log = restarted old.log }) (resized_screen (screen_of old) w h) (resized_kept (kept_of old) w h) new
+  HasResized old w h new =
+      Becomes (record old { width = w; height = h; log = restarted old.log })
+      (resized_screen (screen_of old) w h) (resized_kept (kept_of old) w h) new
 
   -- the surface takes another size, or nothing has changed
-  abbrev pub Resizes : SurfaceValue W → ℕ → ℕ → Result (Unit {0}) SurfaceError → SurfaceValue W → Type 0
+  abbrev pub Resizes :
+      SurfaceValue W → ℕ → ℕ → Result (Unit {0}) SurfaceError → SurfaceValue W → Type 0
   Resizes old w h (Ok u) new = (next_number old.log + 1 < 2 ^ 64) × HasResized old w h new
   -- the numbers would pass the greatest
   Resizes old w h (Err Numbers) new = (2 ^ 64 ≤ next_number old.log + 1) × (new ≡ old)

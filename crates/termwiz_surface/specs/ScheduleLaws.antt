@@ -21,15 +21,23 @@ use Rattle.termwiz_surface.specs.declared.view.Outcome.TheVariants.{Refused, Fol
 
 -- a viewer that can't follow has no number, and its own has grown by two at most
 abbrev pub Loses : {W : Type 0} → ViewerValue W → ViewerValue W → Type 0
-Loses old new = (new.last ≡ 0) × (next_number old.surface.log ≤ next_number new.surface.log) × (next_number new.surface.log ≤ next_number old.surface.log + 2)
+Loses old new =
+    (new.last ≡ 0) × (next_number old.surface.log ≤ next_number new.surface.log) ×
+    (next_number new.surface.log ≤ next_number old.surface.log + 2)
 
 module _ {W : Type 0} (measure_of : W → List ℕ → ℕ) where
   -- these changes lead from what the viewer showed to this picture, and its own number counts them
-  pub record LeadOn {P : Type 0} (pictures : Pictures P) (s : SurfaceValue W) (old : ViewerValue W) (changes : List ChangeValue) (p : P) (new : ViewerValue W) : Type 0 where
+  pub record LeadOn {P : Type 0} (pictures : Pictures P) (s : SurfaceValue W) (old : ViewerValue W)
+      (changes : List ChangeValue) (p : P) (new : ViewerValue W) : Type 0 where
     -- where its number is known they are what was due
-    pub known : knows s old.last ≡ true → (changes ≡ due s.log old.last) × (played pictures (measure_of s.widths) (pictures.shown (full_of old.surface)) changes ≡ p)
+    pub known :
+        knows s old.last ≡ true →
+        (changes ≡ due s.log old.last) ×
+        (played pictures (measure_of s.widths) (pictures.shown (full_of old.surface)) changes ≡ p)
     -- else they lead there from any picture of that size
-    pub repaint : knows s old.last ≡ false → (q : P) → pictures.IsSized s.width s.height q → played pictures (measure_of s.widths) q changes ≡ p
+    pub repaint :
+        knows s old.last ≡ false → (q : P) → pictures.IsSized s.width s.height q →
+        played pictures (measure_of s.widths) q changes ≡ p
     -- and are its repaint
     pub entries : knows s old.last ≡ false → changes ≡ own_repaint s
     pub own : next_number new.surface.log ≡ number_in_size old s + length changes
@@ -37,29 +45,40 @@ module _ {W : Type 0} (measure_of : W → List ℕ → ℕ) where
   -- the changes of an outcome lead what the viewer showed to the screen of the outcome
   abbrev pub FollowedLeadOn : Type 0
   FollowedLeadOn =
-      (s t : SurfaceValue W) (v u : ViewerValue W) (n : ℕ) (changes : Vec Change Global) (screen : code.Screen) → Allows measure_of s v Follow (Followed n changes screen) t u →
+      (s t : SurfaceValue W) (v u : ViewerValue W) (n : ℕ) (changes : Vec Change Global)
+      (screen : code.Screen) →
+      Allows measure_of s v Follow (Followed n changes screen) t u →
       LeadOn screens s v (map change_value changes.items) (screen_value screen) u
 
   -- and of a full surface to the full screen
   abbrev pub FollowedFullLeadOn : Type 0
   FollowedFullLeadOn =
-      (s t : SurfaceValue W) (v u : ViewerValue W) (n : ℕ) (changes : Vec Change Global) (picture : full_code.FullScreen) → Allows measure_of s v Follow (FollowedFull n changes picture) t u →
+      (s t : SurfaceValue W) (v u : ViewerValue W) (n : ℕ) (changes : Vec Change Global)
+      (picture : full_code.FullScreen) →
+      Allows measure_of s v Follow (FollowedFull n changes picture) t u →
       LeadOn full_screens s v (map change_value changes.items) (full_value picture) u
 
   -- for want of numbers: what was due, or a repaint, would pass the greatest
   abbrev pub LackNumbers : Type 0
   LackNumbers =
-      (s t : SurfaceValue W) (v u : ViewerValue W) → Allows measure_of s v Follow (Refused Numbers) t u →
-      Loses v u × (2 ^ 64 ≤ number_in_size v s + (if knows s v.last then length (due s.log v.last) else most_own_entries s))
+      (s t : SurfaceValue W) (v u : ViewerValue W) →
+      Allows measure_of s v Follow (Refused Numbers) t u →
+      Loses v u ×
+      (2 ^ 64 ≤ number_in_size v s +
+      (if knows s v.last then length (due s.log v.last) else most_own_entries s))
 
   -- for want of memory: what was due would not
   abbrev pub LackMemory : Type 0
   LackMemory =
-      (s t : SurfaceValue W) (v u : ViewerValue W) → Allows measure_of s v Follow (Refused Memory) t u →
-      Loses v u × (number_in_size v s + (if knows s v.last then length (due s.log v.last) else 0) < 2 ^ 64)
+      (s t : SurfaceValue W) (v u : ViewerValue W) →
+      Allows measure_of s v Follow (Refused Memory) t u →
+      Loses v u ×
+      (number_in_size v s + (if knows s v.last then length (due s.log v.last) else 0) < 2 ^ 64)
 
--- a list of changes that ran out of memory, of a draw or a copy too, leaves a screen of that size that texts can print
+-- a list of changes that ran out of memory, of a draw or a copy too, leaves a screen of that size
+-- that texts can print
 abbrev pub BrokenListsLeaveForm : Type 0 → Type 0
 BrokenListsLeaveForm W =
-    (measure : List ℕ → ℕ) (s t : SurfaceValue W) (changes : List ChangeValue) (number : ℕ) → Adds measure s changes number (Err Memory) t →
+    (measure : List ℕ → ℕ) (s t : SurfaceValue W) (changes : List ChangeValue) (number : ℕ) →
+    Adds measure s changes number (Err Memory) t →
     HasSize s.width s.height (screen_of t) × IsPrintable measure (screen_of t)

@@ -25,8 +25,11 @@ module _ {P : Type 0} (pictures : Pictures P) {W : Type 0} where
     -- a viewer that did, and takes an answer that leads to a picture, shows that picture
     abbrev pub ShowsCarried : Result ℕ AcceptError → ViewerValue W → Type 0
     ShowsCarried result new =
-        (past : ℕ → P) (p : P) → Carries pictures (measure_of old.surface.widths) past a p → ShowsNamed past old → OnOk result (pictures.shown (full_of new.surface) ≡ p)
+        (past : ℕ → P) (p : P) → Carries pictures (measure_of old.surface.widths) past a p →
+        ShowsNamed past old → OnOk result (pictures.shown (full_of new.surface) ≡ p)
 
     -- and shows what its number names, whether it takes it or not
     abbrev pub StaysNamed : ViewerValue W → Type 0
-    StaysNamed new = (past : ℕ → P) (p : P) → Carries pictures (measure_of old.surface.widths) past a p → ShowsNamed past old → ShowsNamed past new
+    StaysNamed new =
+        (past : ℕ → P) (p : P) → Carries pictures (measure_of old.surface.widths) past a p →
+        ShowsNamed past old → ShowsNamed past new

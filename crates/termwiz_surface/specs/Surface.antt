@@ -36,7 +36,8 @@ pub record SurfaceValue (W : Type 0) : Type 0 where
   pub log : LogValue
 
 module _ {W : Type 0} where
-  -- a surface of this size before any change: default blanks, with the cursor home and shown, default attributes as pen and the number 0; its repaints are full ones or not
+  -- a surface of this size before any change: default blanks, with the cursor home and shown,
+  -- default attributes as pen and the number 0; its repaints are full ones or not
   abbrev pub blank_surface : W → ℕ → ℕ → Bool → SurfaceValue W
   blank_surface widths width height full = record {
     widths = widths;
@@ -56,14 +57,30 @@ module _ {W : Type 0} where
   }
 
   abbrev pub screen_of : SurfaceValue W → Screen
-  screen_of s = record { width = s.width; height = s.height; rows = map (row_of s.width) s.lines; x = s.x; y = s.y; visibility = s.visibility; pen = s.pen }
+  screen_of s =
+      record {
+        width = s.width;
+        height = s.height;
+        rows = map (row_of s.width) s.lines;
+        x = s.x;
+        y = s.y;
+        visibility = s.visibility;
+        pen = s.pen;
+      }
 
   -- how many cells are stored in each row
   abbrev pub lengths_of : SurfaceValue W → List ℕ
   lengths_of s = map length s.lines
 
   abbrev pub kept_of : SurfaceValue W → Kept
-  kept_of s = record { lengths = lengths_of s; flags = s.flags; title = s.title; shape = s.shape; color = s.color }
+  kept_of s =
+      record {
+        lengths = lengths_of s;
+        flags = s.flags;
+        title = s.title;
+        shape = s.shape;
+        color = s.color;
+      }
 
 -- the full screen of a surface
 abbrev pub full_of : {W : Type 0} → SurfaceValue W → FullScreen
@@ -101,8 +118,10 @@ module _ {W : Type 0} where
     pub full : new.full ≡ old.full
     pub log : new.log ≡ old.log
 
-  -- the surface has this screen now, keeps this beside it, and has its old width value, size, kind and log
-  pub record Becomes (old : SurfaceValue W) (screen : Screen) (kept : Kept) (new : SurfaceValue W) : Type 0 where
+  -- the surface has this screen now, keeps this beside it, and has its old width value, size, kind
+  -- and log
+  pub record Becomes (old : SurfaceValue W) (screen : Screen) (kept : Kept) (new : SurfaceValue W) :
+      Type 0 where
     pub widths : new.widths ≡ old.widths
     pub width : new.width ≡ old.width
     pub height : new.height ≡ old.height

@@ -1,4 +1,5 @@
--- Changes that are made without being logged: what each says, and what a list of them makes of a surface.
+-- Changes that are made without being logged: what each says, and what a list of them makes of a
+-- surface.
 use Rattle.std.specs.Prelude.{◌≡◌, ℕ, ◌+◌, ◌<◌, ◌^◌, true, List, length, Result, Ok, Err}
 use Rattle.termwiz_cell.specs.ChangeValue as change
 use Rattle.termwiz_cell.specs.ChangeValue.{ChangeValue, change_value}
@@ -22,11 +23,17 @@ module _ {W : Type 0} where
   all_flushed s = with_log s (flushed s.log (next_number s.log))
 
   -- the changes are made as if they were logged, and a flush of all changes followed
-  abbrev pub MakesUnlogged : (List ℕ → ℕ) → SurfaceValue W → List ChangeValue → SurfaceValue W → Type 0
-  MakesUnlogged measure old changes new = (made : SurfaceValue W) × Makes measure old changes made × (new ≡ all_flushed made)
+  abbrev pub MakesUnlogged :
+      (List ℕ → ℕ) → SurfaceValue W → List ChangeValue → SurfaceValue W → Type 0
+  MakesUnlogged measure old changes new =
+      (made : SurfaceValue W) × Makes measure old changes made × (new ≡ all_flushed made)
 
   -- the list of changes is made so, and this number returned
-  abbrev pub AddsUnlogged : (List ℕ → ℕ) → SurfaceValue W → List ChangeValue → ℕ → Result ℕ SurfaceError → SurfaceValue W → Type 0
-  AddsUnlogged measure old changes number (Ok n) new = (regions_fit old.height changes ≡ true) × (next_number old.log + length changes < 2 ^ 64) × (n ≡ number) × MakesUnlogged measure old changes new
+  abbrev pub AddsUnlogged :
+      (List ℕ → ℕ) → SurfaceValue W → List ChangeValue → ℕ → Result ℕ SurfaceError →
+      SurfaceValue W → Type 0
+  AddsUnlogged measure old changes number (Ok n) new =
+      (regions_fit old.height changes ≡ true) × (next_number old.log + length changes < 2 ^ 64) ×
+      (n ≡ number) × MakesUnlogged measure old changes new
   -- an error is one that adding them has, and leaves what that leaves
   AddsUnlogged measure old changes number (Err e) new = Adds measure old changes number (Err e) new

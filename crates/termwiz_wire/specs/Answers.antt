@@ -16,7 +16,8 @@ use Rattle.termwiz_wire.specs.declared.sent.SentAnswer.{SentAnswer}
 use Rattle.termwiz_wire.specs.declared.sent.Ask.{Ask}
 use Rattle.termwiz_wire.specs.declared.decode.heads.Head.{Head}
 
--- a call returns what decoding gives, seen by view, or fails with its fault, unless memory was refused
+-- a call returns what decoding gives, seen by view, or fails with its fault, unless memory was
+-- refused
 abbrev pub Decodes : {X Y : Type 0} → (X → Y) → Result X WireError → Result Y Fault → Type 0
 Decodes view (Ok x) read = read ≡ Ok (view x)
 Decodes view (Err (errors.Fault f)) read = read ≡ Err f
@@ -24,7 +25,9 @@ Decodes view (Err errors.Memory) read = Unit {0}
 
 -- the error of a call, whose item begins at this byte
 abbrev pub error_of : ReadError → ℕ → Option ℕ → WireError
-error_of error at change = option_map_or (λ f. errors.Fault (record { kind = f; at = at; change = change })) (fault_of error) errors.Memory
+error_of error at change =
+    option_map_or (λ f. errors.Fault (record { kind = f; at = at; change = change }))
+    (fault_of error) errors.Memory
 
 -- ---- heads
 
@@ -36,7 +39,8 @@ version_at room bytes = do
 
 -- the bytes after the version of an array of some items
 unfoldable pub body_at : ℕ → ℕ → List ℕ → List ℕ → Result (List ℕ) Stop
-body_at room count start bytes = if count == 0 then refused faults.Type room start else version_at room bytes
+body_at room count start bytes =
+    if count == 0 then refused faults.Type room start else version_at room bytes
 
 -- the bytes after the version of an array of so many items: another version may have another count
 unfoldable pub opened_at : ℕ → ℕ → List ℕ → Result (List ℕ) Stop
@@ -110,23 +114,39 @@ halted change (Err s) = Err (record { stop = s; change = change })
 -- a call returns what decoding gives, seen by view, or halts so, unless memory was refused
 abbrev pub Halts : {X Y : Type 0} → ℕ → (X → Y) → Result X Halted → Result Y Halt → Type 0
 Halts left view (Ok x) read = read ≡ Ok (view x)
-Halts left view (Err h) read = IfSome (fault_of h.error) (λ f. read ≡ Err (record { stop = record { fault = f; left = left }; change = h.change }))
+Halts left view (Err h) read =
+    IfSome (fault_of h.error)
+    (λ f. read ≡ Err (record { stop = record { fault = f; left = left }; change = h.change }))
 
 -- so many changes behind these
-unfoldable pub each_at : (List ℕ → ℕ) → ℕ → Option ℕ → List ChangeValue → ℕ → List ℕ → Result (List ChangeValue × List ℕ) Halt
+unfoldable pub each_at :
+    (List ℕ → ℕ) → ℕ → Option ℕ → List ChangeValue → ℕ → List ℕ →
+    Result (List ChangeValue × List ℕ) Halt
 each_at measure room rows made zero bytes = Ok (made, bytes)
 each_at measure room rows made (suc n) bytes = do
   first ← halted (Some (length made)) (change_at measure room rows bytes)
   each_at measure room rows (made ++ first.0 ∷ []) n first.1
 
 -- the list of changes by itself
-unfoldable pub changes_in : (List ℕ → ℕ) → ℕ → Option ℕ → List ℕ → Result (List ChangeValue × List ℕ) Halt
+unfoldable pub changes_in :
+    (List ℕ → ℕ) → ℕ → Option ℕ → List ℕ → Result (List ChangeValue × List ℕ) Halt
 changes_in measure room rows bytes = do
   n ← halted None (list_at room bytes)
   each_at measure room rows [] n.0 n.1
 
 abbrev pub sent_of : Head → List ChangeValue → SentAnswer
-sent_of head changes = record { source = head.source; answer = record { width = head.width; height = head.height; base = head.base; number = head.number; changes = changes } }
+sent_of head changes =
+    record {
+      source = head.source;
+      answer =
+          record {
+            width = head.width;
+            height = head.height;
+            base = head.base;
+            number = head.number;
+            changes = changes;
+          };
+    }
 
 unfoldable pub answer_in : (List ℕ → ℕ) → ℕ → ℕ → List ℕ → Result (SentAnswer × List ℕ) Halt
 answer_in measure room cells bytes = do
@@ -141,16 +161,21 @@ abbrev pub fault_at : ℕ → Halt → Fault
 fault_at all h = record { kind = h.stop.fault; at = all - h.stop.left; change = h.change }
 
 -- what was decoded of bytes that were cut at the limit, and the bytes after it
-abbrev pub located : {A : Type 0} → ℕ → List ℕ → Result (A × List ℕ) Halt → Result (A × List ℕ) Fault
+abbrev pub located :
+    {A : Type 0} → ℕ → List ℕ → Result (A × List ℕ) Halt → Result (A × List ℕ) Fault
 located all past (Ok x) = Ok (x.0, x.1 ++ past)
 located all past (Err h) = Err (fault_at all h)
 
 -- decoding within a limit of bytes
-abbrev pub within : {A : Type 0} → (ℕ → List ℕ → Result (A × List ℕ) Halt) → ℕ → List ℕ → Result (A × List ℕ) Fault
-within read limit bytes = located (allowed (limit - length bytes) (take limit bytes)) (drop limit bytes) (read (limit - length bytes) (take limit bytes))
+abbrev pub within :
+    {A : Type 0} → (ℕ → List ℕ → Result (A × List ℕ) Halt) → ℕ → List ℕ → Result (A × List ℕ) Fault
+within read limit bytes =
+    located (allowed (limit - length bytes) (take limit bytes)) (drop limit bytes)
+    (read (limit - length bytes) (take limit bytes))
 
 unfoldable pub answer_at : (List ℕ → ℕ) → Limits → List ℕ → Result (SentAnswer × List ℕ) Fault
-answer_at measure limits bytes = within (λ room rest. answer_in measure room limits.cells rest) limits.bytes bytes
+answer_at measure limits bytes =
+    within (λ room rest. answer_in measure room limits.cells rest) limits.bytes bytes
 
 -- what has no limit has that of a `usize`
 abbrev pub unlimited : ℕ
@@ -160,7 +185,8 @@ unfoldable pub changes_at : (List ℕ → ℕ) → List ℕ → Result (List Cha
 changes_at measure bytes = within (λ room rest. changes_in measure room None rest) unlimited bytes
 
 unfoldable pub one_change_at : (List ℕ → ℕ) → List ℕ → Result (ChangeValue × List ℕ) Fault
-one_change_at measure bytes = within (λ room rest. halted None (change_at measure room None rest)) unlimited bytes
+one_change_at measure bytes =
+    within (λ room rest. halted None (change_at measure room None rest)) unlimited bytes
 
 unfoldable pub ask_at : List ℕ → Result (Ask × List ℕ) Fault
 ask_at bytes = within (λ room rest. halted None (ask_in room rest)) unlimited bytes

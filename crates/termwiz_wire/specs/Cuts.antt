@@ -1,4 +1,5 @@
--- How the pieces of a text are decoded: they are those that the text has here. Where they differ, the first rule that they break is the fault, and else that they are measured otherwise.
+-- How the pieces of a text are decoded: they are those that the text has here. Where they differ,
+-- the first rule that they break is the fault, and else that they are measured otherwise.
 use Rattle.std.specs.Prelude.{ℕ, zero, suc, ◌*◌, Bool, true, false, not, ◌&&◌, ◌||◌, ◌==◌, nat_lt, ◌%◌, ◌/◌, List, [], ◌∷◌, length, take, drop, Result, Ok, Err, if◌then◌else◌}
 use Rattle.std.specs.List.{list_any}
 use Rattle.std.specs.Str.{chars, bytes_eq}
@@ -18,7 +19,9 @@ refused f room bytes = Err (record { fault = f; left = allowed room bytes })
 unfoldable pub is_rest_at : ℕ → Run → List ℕ → Result (Bool × List ℕ) Stop
 is_rest_at room r bytes = do
   size ← unsigned_at room bytes
-  if size.0 == r.characters then (unsigned_at room size.1 >>= λ columns. ok (columns.0 == r.columns) columns.1) else ok false size.1
+  if size.0 == r.characters
+      then (unsigned_at room size.1 >>= λ columns. ok (columns.0 == r.columns) columns.1)
+      else ok false size.1
 
 -- whether the run ahead is this one, up to the first number that differs
 unfoldable pub is_run_at : ℕ → Run → List ℕ → Result (Bool × List ℕ) Stop
@@ -59,17 +62,22 @@ is_line_end p = bytes_eq p (13 ∷ 10 ∷ [])
 
 -- whether characters before others are a piece: CR LF is not cut, and any other control is alone
 abbrev pub is_piece : List ℕ → List ℕ → Bool
-is_piece p rest = not (is_return p && begins_line_feed rest) && (length p == 1 || (is_line_end p || not (list_any is_control p)))
+is_piece p rest =
+    not (is_return p && begins_line_feed rest) &&
+    (length p == 1 || (is_line_end p || not (list_any is_control p)))
 
 -- whether each of the next pieces, of so many characters, is one
 unfoldable pub are_pieces : ℕ → ℕ → List ℕ → Bool
 are_pieces zero size cs = true
-are_pieces (suc n) size cs = is_piece (take size cs) (drop size cs) && are_pieces n size (drop size cs)
+are_pieces (suc n) size cs =
+    is_piece (take size cs) (drop size cs) && are_pieces n size (drop size cs)
 
 -- whether each of them has columns, or each is a line break
 unfoldable pub have_columns : Bool → ℕ → ℕ → List ℕ → Bool
 have_columns wide zero size cs = true
-have_columns wide (suc n) size cs = (if wide then not (is_break (take size cs)) else is_break (take size cs)) && have_columns wide n size (drop size cs)
+have_columns wide (suc n) size cs =
+    (if wide then not (is_break (take size cs)) else is_break (take size cs)) &&
+    have_columns wide n size (drop size cs)
 
 -- a number that keeps a rule
 abbrev pub kept_at : ℕ → (ℕ → Bool) → List ℕ → Result (ℕ × List ℕ) Stop
@@ -82,10 +90,14 @@ abbrev pub is_count : List ℕ → ℕ → Bool
 is_count cs n = nat_lt 0 n && not (nat_lt (length cs) n)
 
 abbrev pub are_characters : List ℕ → ℕ → ℕ → Bool
-are_characters cs count n = nat_lt 0 n && (not (nat_lt (length cs) (count * n)) && are_pieces count n cs)
+are_characters cs count n =
+    nat_lt 0 n && (not (nat_lt (length cs) (count * n)) && are_pieces count n cs)
 
 abbrev pub are_columns : Run → List ℕ → ℕ → ℕ → ℕ → Bool
-are_columns last cs count size n = nat_lt n 3 && (have_columns (not (n == 0)) count size cs && not (alike last (record { count = count; characters = size; columns = n })))
+are_columns last cs count size n =
+    nat_lt n 3 &&
+    (have_columns (not (n == 0)) count size cs &&
+    not (alike last (record { count = count; characters = size; columns = n })))
 
 -- a run of the characters that are left, behind the last one
 unfoldable pub run_at : ℕ → Run → List ℕ → List ℕ → Result (Run × List ℕ) Stop
@@ -99,7 +111,8 @@ run_at room last cs bytes = do
 abbrev pub no_run : Run
 no_run = record { count = 0; characters = 0; columns = 0 }
 
--- so many runs behind the last one: whether they end with the text, and one of them is a reason to send them
+-- so many runs behind the last one: whether they end with the text, and one of them is a reason to
+-- send them
 unfoldable pub runs_at : ℕ → Run → Bool → List ℕ → ℕ → List ℕ → Result (Bool × List ℕ) Stop
 runs_at room last needed cs zero bytes = ok (needed && length cs == 0) bytes
 runs_at room last needed cs (suc n) bytes = do
@@ -123,15 +136,20 @@ cut_at room text bytes = do
 
 -- pieces that are not those of the text here: a fault of theirs, and else the text's
 unfoldable pub others_at : ℕ → ℕ → List ℕ → List ℕ → Result (List ℕ) Stop
-others_at room place text bytes = cut_at room text bytes >>= λ rest. Err (record { fault = faults.Measure; left = place })
+others_at room place text bytes =
+    cut_at room text bytes >>= λ rest. Err (record { fault = faults.Measure; left = place })
 
 -- pieces that are read: those of the text here, which needs them, or a fault
 unfoldable pub pieces_at : ℕ → ℕ → List ℕ → List Run → List ℕ → Result (List ℕ) Stop
 pieces_at room place text rs bytes =
-    if needs_pieces rs then (same_at room rs bytes >>= λ same. if same.0 then Ok same.1 else others_at room place text bytes)
+    if needs_pieces rs
+    then
+    (same_at room rs bytes >>= λ same. if same.0 then Ok same.1
+    else others_at room place text bytes)
     else others_at room place text bytes
 
--- the bytes behind a text's pieces, if its change has them as a third item: the text has its fault where it begins
+-- the bytes behind a text's pieces, if its change has them as a third item: the text has its fault
+-- where it begins
 unfoldable pub pieces_by : ℕ → ℕ → ℕ → List ℕ → List Run → List ℕ → Result (List ℕ) Stop
 pieces_by room place count text rs bytes =
     if count == 3 then pieces_at room place text rs bytes

@@ -56,7 +56,10 @@ rgb_palette_at room bytes = do
 abbrev pub color_by : ℕ → Kind → List ℕ → Result (ColorAttribute × List ℕ) Stop
 color_by room kinds.Null bytes = null_at room bytes >>= λ rest. ok colors.Default rest
 color_by room kinds.Unsigned bytes = palette_at room bytes
-color_by room kinds.Array bytes = array_at room bytes >>= λ n. if n.0 == 3 then rgb_at room n.1 else if n.0 == 4 then rgb_palette_at room n.1 else refused faults.Type room bytes
+color_by room kinds.Array bytes =
+    array_at room bytes >>= λ n. if n.0 == 3 then rgb_at room n.1
+    else if n.0 == 4 then rgb_palette_at room n.1
+    else refused faults.Type room bytes
 color_by room _ bytes = refused faults.Type room bytes
 
 unfoldable pub color_at : ℕ → List ℕ → Result (ColorAttribute × List ℕ) Stop
@@ -74,7 +77,10 @@ split (k ∷ ks) n = n % k ∷ split ks (n / k)
 -- whether each is the number of an attribute
 abbrev pub are_small : List ℕ → Bool
 are_small vs =
-    nat_lt (slice_index vs 0) 3 && (nat_lt (slice_index vs 1) 6 && (nat_lt (slice_index vs 2) 3 && (nat_lt (slice_index vs 9) 3 && nat_lt (slice_index vs 10) 3)))
+    nat_lt (slice_index vs 0) 3 &&
+    (nat_lt (slice_index vs 1) 6 &&
+    (nat_lt (slice_index vs 2) 3 &&
+    (nat_lt (slice_index vs 9) 3 && nat_lt (slice_index vs 10) 3)))
 
 -- default attributes with these small ones
 abbrev pub styled_by : List ℕ → Attributes
@@ -119,7 +125,8 @@ key_at room made bytes = do
   if ascends made key.0 then Ok key else refused faults.Range room bytes
 
 -- a param that comes behind these
-unfoldable pub param_at : ℕ → List (List ℕ × List ℕ) → List ℕ → Result ((List ℕ × List ℕ) × List ℕ) Stop
+unfoldable pub param_at :
+    ℕ → List (List ℕ × List ℕ) → List ℕ → Result ((List ℕ × List ℕ) × List ℕ) Stop
 param_at room made bytes = do
   start ← array_of_at room 2 bytes
   key ← key_at room made start
@@ -127,7 +134,8 @@ param_at room made bytes = do
   ok (key.0, value.0) value.1
 
 -- so many params behind these
-unfoldable pub params_at : ℕ → List (List ℕ × List ℕ) → ℕ → List ℕ → Result (List (List ℕ × List ℕ) × List ℕ) Stop
+unfoldable pub params_at :
+    ℕ → List (List ℕ × List ℕ) → ℕ → List ℕ → Result (List (List ℕ × List ℕ) × List ℕ) Stop
 params_at room made zero bytes = Ok (made, bytes)
 params_at room made (suc n) bytes = do
   first ← param_at room made bytes
@@ -162,12 +170,21 @@ attributes_at room bytes = do
   b ← color_at room f.1
   u ← color_at room b.1
   l ← optional_link_at room u.1
-  ok (record (styled n.0) { foreground = f.0; background = b.0; underline_color = u.0; hyperlink = l.0 }) l.1
+  ok
+      (record (styled n.0) {
+        foreground = f.0;
+        background = b.0;
+        underline_color = u.0;
+        hyperlink = l.0;
+      })
+      l.1
 
 abbrev pub attribute_change_by : ℕ → ℕ → List ℕ → Result (AttributeChangeValue × List ℕ) Stop
 attribute_change_by room kind rest =
-    if kind == 0 then (below_at room 3 rest >>= λ v. ok (attribute.Intensity (intensity_at v.0)) v.1)
-    else if kind == 1 then (below_at room 6 rest >>= λ v. ok (attribute.Underline (underline_at v.0)) v.1)
+    if kind == 0
+    then (below_at room 3 rest >>= λ v. ok (attribute.Intensity (intensity_at v.0)) v.1)
+    else if kind == 1
+    then (below_at room 6 rest >>= λ v. ok (attribute.Underline (underline_at v.0)) v.1)
     else if kind == 2 then (boolean_at room rest >>= λ v. ok (attribute.Italic v.0) v.1)
     else if kind == 3 then (below_at room 3 rest >>= λ v. ok (attribute.Blink (blink_at v.0)) v.1)
     else if kind == 4 then (boolean_at room rest >>= λ v. ok (attribute.Reverse v.0) v.1)
@@ -220,7 +237,8 @@ region_size_at room rows first bytes = do
   if is_on rows first n.0 then Ok n else refused faults.Region room bytes
 
 -- a scroll, up or down
-unfoldable pub scroll_at : ℕ → Option ℕ → (ℕ → ℕ → ℕ → ChangeValue) → List ℕ → Result (ChangeValue × List ℕ) Stop
+unfoldable pub scroll_at :
+    ℕ → Option ℕ → (ℕ → ℕ → ℕ → ChangeValue) → List ℕ → Result (ChangeValue × List ℕ) Stop
 scroll_at room rows scroll bytes = do
   first ← unsigned_at room bytes
   size ← region_size_at room rows first.0 first.1
@@ -234,7 +252,8 @@ printed_at measure room count bytes = do
   rest ← pieces_by room (allowed room bytes) count t.0 (runs measure t.0) t.1
   ok (changed.Text t.0) rest
 
-abbrev pub change_by : (List ℕ → ℕ) → ℕ → Option ℕ → ℕ → ℕ → List ℕ → Result (ChangeValue × List ℕ) Stop
+abbrev pub change_by :
+    (List ℕ → ℕ) → ℕ → Option ℕ → ℕ → ℕ → List ℕ → Result (ChangeValue × List ℕ) Stop
 change_by measure room rows count kind rest =
     if kind == 0 then (attribute_change_at room rest >>= λ v. ok (changed.Attribute v.0) v.1)
     else if kind == 1 then (attributes_at room rest >>= λ v. ok (changed.AllAttributes v.0) v.1)
@@ -244,12 +263,15 @@ change_by measure room rows count kind rest =
     else if kind == 5 then (color_at room rest >>= λ v. ok (changed.ClearToEndOfScreen v.0) v.1)
     else if kind == 6 then place_at room rest
     else if kind == 7 then (color_at room rest >>= λ v. ok (changed.CursorColor v.0) v.1)
-    else if kind == 8 then (below_at room 7 rest >>= λ v. ok (changed.CursorShape (shape_at v.0)) v.1)
-    else if kind == 9 then (boolean_at room rest >>= λ v. ok (changed.CursorVisibility (visibility_of v.0)) v.1)
+    else if kind == 8
+    then (below_at room 7 rest >>= λ v. ok (changed.CursorShape (shape_at v.0)) v.1)
+    else if kind == 9
+    then (boolean_at room rest >>= λ v. ok (changed.CursorVisibility (visibility_of v.0)) v.1)
     else if kind == 10 then scroll_at room rows changed.ScrollRegionUp rest
     else if kind == 11 then scroll_at room rows changed.ScrollRegionDown rest
     else if kind == 12 then (text_at room rest >>= λ v. ok (changed.Title v.0) v.1)
-    else if kind == 13 then (below_at room 4 rest >>= λ v. ok (changed.LineAttribute (line_at v.0)) v.1)
+    else if kind == 13
+    then (below_at room 4 rest >>= λ v. ok (changed.LineAttribute (line_at v.0)) v.1)
     else refused faults.Type room rest
 
 -- how many items a change has: two to four

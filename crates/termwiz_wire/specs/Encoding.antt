@@ -1,4 +1,5 @@
--- How changes are encoded. An array begins with the number of its items, and what comes in several kinds with the number of its kind.
+-- How changes are encoded. An array begins with the number of its items, and what comes in several
+-- kinds with the number of its kind.
 use Rattle.std.specs.Prelude.{ℕ, Bool, true, false, ◌+◌, ◌*◌, List, [], ◌∷◌, ◌++◌, length, Option, Some, None, ◌==◌, if◌then◌else◌}
 use Rattle.std.specs.List.{flat_map}
 use Rattle.cbor.specs.Encoding.{unsigned, signed, boolean, null, text, array}
@@ -22,8 +23,10 @@ use Rattle.termwiz_wire.specs.declared.pieces.Run.{Run}
 unfoldable pub color : ColorAttribute → List ℕ
 color colors.Default = null
 color (colors.PaletteIndex index) = unsigned index
-color (colors.TrueColorWithDefaultFallback c) = array 3 ++ unsigned c.red ++ unsigned c.green ++ unsigned c.blue
-color (colors.TrueColorWithPaletteFallback c index) = array 4 ++ unsigned c.red ++ unsigned c.green ++ unsigned c.blue ++ unsigned index
+color (colors.TrueColorWithDefaultFallback c) =
+    array 3 ++ unsigned c.red ++ unsigned c.green ++ unsigned c.blue
+color (colors.TrueColorWithPaletteFallback c index) =
+    array 4 ++ unsigned c.red ++ unsigned c.green ++ unsigned c.blue ++ unsigned index
 
 -- the bit fields of the small attributes, the lowest first: how many values each has room for
 abbrev pub fields : List ℕ
@@ -44,14 +47,18 @@ unfoldable pub param : List ℕ × List ℕ → List ℕ
 param p = array 2 ++ text p.0 ++ text p.1
 
 unfoldable pub link : Link → List ℕ
-link l = array 3 ++ text l.uri ++ boolean l.implicit ++ array (length l.params) ++ flat_map param l.params
+link l =
+    array 3 ++ text l.uri ++ boolean l.implicit ++ array (length l.params) ++
+    flat_map param l.params
 
 abbrev pub optional_link : Option Link → List ℕ
 optional_link None = null
 optional_link (Some l) = link l
 
 unfoldable pub attributes : Attributes → List ℕ
-attributes a = array 5 ++ unsigned (style_number a) ++ color a.foreground ++ color a.background ++ color a.underline_color ++ optional_link a.hyperlink
+attributes a =
+    array 5 ++ unsigned (style_number a) ++ color a.foreground ++ color a.background ++
+    color a.underline_color ++ optional_link a.hyperlink
 
 -- the kinds of changes of one attribute
 abbrev pub attribute_kind : AttributeChangeValue → ℕ
@@ -151,7 +158,8 @@ change_values measure (changed.Title t) = text t
 change_values measure (changed.LineAttribute l) = unsigned (line_number l)
 
 abbrev pub change : (List ℕ → ℕ) → ChangeValue → List ℕ
-change measure c = array (item_count measure c) ++ unsigned (change_kind c) ++ change_values measure c
+change measure c =
+    array (item_count measure c) ++ unsigned (change_kind c) ++ change_values measure c
 
 -- how many, and each
 unfoldable pub changes : (List ℕ → ℕ) → List ChangeValue → List ℕ

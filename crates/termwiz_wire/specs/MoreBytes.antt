@@ -20,16 +20,30 @@ kind f = f.kind
 abbrev pub IsCut : Fault → Type 0
 IsCut f = f.kind ≡ Truncated
 
--- nothing is decoded from no bytes, and what is decoded, and a fault that is not cut, stays as it is with more bytes behind
-pub record Goes {T E : Type 0} (read : List ℕ → Result (T × List ℕ) E) (IsCut : E → Type 0) : Type 0 where
+-- nothing is decoded from no bytes, and what is decoded, and a fault that is not cut, stays as it
+-- is with more bytes behind
+pub record Goes {T E : Type 0} (read : List ℕ → Result (T × List ℕ) E) (IsCut : E → Type 0) :
+    Type 0 where
   pub first : E
   pub starts : read [] ≡ Err first
   pub starts_cut : IsCut first
-  pub value : (bytes more : List ℕ) (x : T) (rest : List ℕ) → read bytes ≡ Ok (x, rest) → read (bytes ++ more) ≡ Ok (x, rest ++ more)
-  pub fault : (bytes more : List ℕ) (e : E) → read bytes ≡ Err e → (IsCut e → ⊥) → read (bytes ++ more) ≡ Err e
+  pub value :
+      (bytes more : List ℕ) (x : T) (rest : List ℕ) → read bytes ≡ Ok (x, rest) →
+      read (bytes ++ more) ≡ Ok (x, rest ++ more)
+  pub fault :
+      (bytes more : List ℕ) (e : E) → read bytes ≡ Err e → (IsCut e → ⊥) →
+      read (bytes ++ more) ≡ Err e
 
--- what is encoded is decoded again, whatever comes behind, if the limits allow it, and else it is past them
+-- what is encoded is decoded again, whatever comes behind, if the limits allow it, and else it is
+-- past them
 pub record Laws (measure : List ℕ → ℕ) (limits : Limits) : Type 0 where
   pub goes : Goes (answer_at measure limits) IsCut
-  pub limited : (a : SentAnswer) (rest : List ℕ) → IsSent measure a → (limits.cells < a.answer.width * a.answer.height) ⊎ (limits.bytes < length (answer measure a)) → (f : Fault) × (answer_at measure limits (answer measure a ++ rest) ≡ Err f) × (f.kind ≡ Limit)
-  pub again : (a : SentAnswer) (rest : List ℕ) → IsSent measure a → a.answer.width * a.answer.height ≤ limits.cells → length (answer measure a) ≤ limits.bytes → answer_at measure limits (answer measure a ++ rest) ≡ Ok (a, rest)
+  pub limited :
+      (a : SentAnswer) (rest : List ℕ) → IsSent measure a →
+      (limits.cells < a.answer.width * a.answer.height) ⊎
+      (limits.bytes < length (answer measure a)) →
+      (f : Fault) × (answer_at measure limits (answer measure a ++ rest) ≡ Err f) × (f.kind ≡ Limit)
+  pub again :
+      (a : SentAnswer) (rest : List ℕ) → IsSent measure a →
+      a.answer.width * a.answer.height ≤ limits.cells → length (answer measure a) ≤ limits.bytes →
+      answer_at measure limits (answer measure a ++ rest) ≡ Ok (a, rest)

@@ -1,4 +1,5 @@
--- The pieces that a text is printed in, as it is cut and measured. Each prints a cell or breaks the line.
+-- The pieces that a text is printed in, as it is cut and measured. Each prints a cell or breaks the
+-- line.
 use Rattle.std.specs.Prelude.{ℕ, ◌+◌, Bool, not, ◌&&◌, ◌||◌, ◌==◌, nat_lt, true, List, [], ◌∷◌, map, length, if◌then◌else◌}
 use Rattle.std.specs.List.{list_any}
 use Rattle.std.specs.Str.{chars}
@@ -19,7 +20,12 @@ columns_of (Cell c) = columns c
 
 -- a grapheme is a piece, which is a run of one
 abbrev pub piece : (List ℕ → ℕ) → List ℕ → Run
-piece measure g = record { count = 1; characters = length (chars g); columns = columns_of (piece_of measure default_attributes g) }
+piece measure g =
+    record {
+      count = 1;
+      characters = length (chars g);
+      columns = columns_of (piece_of measure default_attributes g);
+    }
 
 -- the pieces of a text
 abbrev pub pieces_of : (List ℕ → ℕ) → List ℕ → List Run
@@ -47,6 +53,7 @@ runs measure text = grouped (pieces_of measure text)
 abbrev pub stands_out : Run → Bool
 stands_out r = nat_lt 1 r.columns || (nat_lt 1 r.characters && not (r.columns == 0))
 
--- whether a text of these runs is sent with them: else each of its characters is a piece of one column, but for line breaks
+-- whether a text of these runs is sent with them: else each of its characters is a piece of one
+-- column, but for line breaks
 abbrev pub needs_pieces : List Run → Bool
 needs_pieces rs = list_any stands_out rs

@@ -17,24 +17,34 @@ use Rattle.termwiz_wire.specs.declared.fault.WireError.TheVariants as errors
 use Rattle.termwiz_wire.specs.declared.sent.SentAnswer.{SentAnswer}
 
 -- the changes behind these, of those that an answer has
-abbrev pub left_at : (List ℕ → ℕ) → ℕ → Head → List ChangeValue → List ℕ → Result (List ChangeValue × List ℕ) Halt
-left_at measure room head made bytes = each_at measure room (Some head.height) made (head.count - length made) bytes
+abbrev pub left_at :
+    (List ℕ → ℕ) → ℕ → Head → List ChangeValue → List ℕ → Result (List ChangeValue × List ℕ) Halt
+left_at measure room head made bytes =
+    each_at measure room (Some head.height) made (head.count - length made) bytes
 
 -- the answer of this head, behind these of its changes
-abbrev pub rest_at : (List ℕ → ℕ) → ℕ → Head → List ChangeValue → List ℕ → Result (SentAnswer × List ℕ) Halt
-rest_at measure room head made bytes = left_at measure room head made bytes >>= λ changes. ok (sent_of head changes.0) changes.1
+abbrev pub rest_at :
+    (List ℕ → ℕ) → ℕ → Head → List ChangeValue → List ℕ → Result (SentAnswer × List ℕ) Halt
+rest_at measure room head made bytes =
+    left_at measure room head made bytes >>= λ changes. ok (sent_of head changes.0) changes.1
 
 -- the answer whose bytes these are, from what is begun of it
 abbrev pub resumed_in : (List ℕ → ℕ) → ℕ → Begun → List ℕ → Result (SentAnswer × List ℕ) Halt
-resumed_in measure room begun bytes = rest_at measure room begun.head (map change_value begun.changes.items) (drop begun.taken bytes)
+resumed_in measure room begun bytes =
+    rest_at measure room begun.head (map change_value begun.changes.items) (drop begun.taken bytes)
 
--- with the bytes that come behind within the limit, decoding gives the same from the front and from what is begun
-pub record LeadsOn (measure : List ℕ → ℕ) (limits : Limits) (begun : Begun) (bytes : List ℕ) : Type 0 where
+-- with the bytes that come behind within the limit, decoding gives the same from the front and from
+-- what is begun
+pub record LeadsOn (measure : List ℕ → ℕ) (limits : Limits) (begun : Begun) (bytes : List ℕ) :
+    Type 0 where
   pub width : (0 < begun.head.width) × (begun.head.width < 2 ^ 32)
   pub height : (0 < begun.head.height) × (begun.head.height < 2 ^ 32)
   pub numbers : begun.head.base ≤ begun.head.number
   pub taken : begun.taken ≤ length (take limits.bytes bytes)
-  pub same : (near : List ℕ) (room : ℕ) → length near + room ≡ limits.bytes - length bytes → answer_in measure room limits.cells (take limits.bytes bytes ++ near) ≡ resumed_in measure room begun (take limits.bytes bytes ++ near)
+  pub same :
+      (near : List ℕ) (room : ℕ) → length near + room ≡ limits.bytes - length bytes →
+      answer_in measure room limits.cells (take limits.bytes bytes ++ near) ≡
+      resumed_in measure room begun (take limits.bytes bytes ++ near)
 
 -- more bytes may make an answer
 pub record IsUnfinished (measure : List ℕ → ℕ) (limits : Limits) (bytes : List ℕ) : Type 0 where
@@ -42,23 +52,41 @@ pub record IsUnfinished (measure : List ℕ → ℕ) (limits : Limits) (bytes : 
   pub is : answer_at measure limits bytes ≡ Err fault
   pub cut : fault.kind ≡ Truncated
 
--- a call returns what decoding gives, or fails with its fault, unless memory was refused: where more bytes may make an answer, with what leads on to it
+-- a call returns what decoding gives, or fails with its fault, unless memory was refused: where
+-- more bytes may make an answer, with what leads on to it
 abbrev pub Resumes : (List ℕ → ℕ) → Limits → List ℕ → Result (SentAnswer × ℕ) NoAnswer → Type 0
 Resumes measure limits bytes (Ok x) = answer_at measure limits bytes ≡ Ok (x.0, drop x.1 bytes)
-Resumes measure limits bytes (Err (no_answers.Cut begun)) = IsUnfinished measure limits bytes × ForSome begun (λ b. LeadsOn measure limits b bytes)
-Resumes measure limits bytes (Err (no_answers.Failed (errors.Fault f))) = (answer_at measure limits bytes ≡ Err f) × (f.kind ≢ Truncated)
+Resumes measure limits bytes (Err (no_answers.Cut begun)) =
+    IsUnfinished measure limits bytes × ForSome begun (λ b. LeadsOn measure limits b bytes)
+Resumes measure limits bytes (Err (no_answers.Failed (errors.Fault f))) =
+    (answer_at measure limits bytes ≡ Err f) × (f.kind ≢ Truncated)
 Resumes measure limits bytes (Err (no_answers.Failed errors.Memory)) = Unit {0}
 
 -- ---- one change behind another
 
 -- decoding has gone on to these changes and bytes, with whatever comes behind within the limit
-pub record HasGoneOn (measure : List ℕ → ℕ) (room : ℕ) (head : Head) (made : List ChangeValue) (bytes : List ℕ) (more : List ChangeValue) (rest : List ℕ) : Type 0 where
+pub record HasGoneOn (measure : List ℕ → ℕ) (room : ℕ) (head : Head) (made : List ChangeValue)
+    (bytes : List ℕ) (more : List ChangeValue) (rest : List ℕ) : Type 0 where
   pub front : List ℕ
   pub parts : bytes ≡ front ++ rest
-  pub same : (near : List ℕ) (later : ℕ) → length near + later ≡ room → left_at measure later head made (bytes ++ near) ≡ left_at measure later head more (rest ++ near)
+  pub same :
+      (near : List ℕ) (later : ℕ) → length near + later ≡ room →
+      left_at measure later head made (bytes ++ near) ≡
+      left_at measure later head more (rest ++ near)
 
--- the changes that were left are there, or one is cut, or decoding fails, with so many bytes allowed from there on
-abbrev pub GoesOn : (List ℕ → ℕ) → ℕ → Head → List ChangeValue → List ℕ → Result Bool Halted → List ChangeValue → ℕ → List ℕ → Type 0
-GoesOn measure room head made bytes (Ok true) more allowed rest = HasGoneOn measure room head made bytes more rest × (left_at measure room head made bytes ≡ Ok (more, rest))
-GoesOn measure room head made bytes (Ok false) more allowed rest = HasGoneOn measure room head made bytes more rest × (h : Halt) × (left_at measure room head made bytes ≡ Err h) × (h.stop.fault ≡ Truncated)
-GoesOn measure room head made bytes (Err h) more allowed rest = (h.error ≢ read_errors.Truncated) × IfSome (fault_of h.error) (λ f. left_at measure room head made bytes ≡ Err (record { stop = record { fault = f; left = allowed }; change = h.change }))
+-- the changes that were left are there, or one is cut, or decoding fails, with so many bytes
+-- allowed from there on
+abbrev pub GoesOn :
+    (List ℕ → ℕ) → ℕ → Head → List ChangeValue → List ℕ → Result Bool Halted → List ChangeValue →
+    ℕ → List ℕ → Type 0
+GoesOn measure room head made bytes (Ok true) more allowed rest =
+    HasGoneOn measure room head made bytes more rest ×
+    (left_at measure room head made bytes ≡ Ok (more, rest))
+GoesOn measure room head made bytes (Ok false) more allowed rest =
+    HasGoneOn measure room head made bytes more rest × (h : Halt) ×
+    (left_at measure room head made bytes ≡ Err h) × (h.stop.fault ≡ Truncated)
+GoesOn measure room head made bytes (Err h) more allowed rest =
+    (h.error ≢ read_errors.Truncated) ×
+    IfSome (fault_of h.error)
+    (λ f. left_at measure room head made bytes ≡
+    Err (record { stop = record { fault = f; left = allowed }; change = h.change }))

@@ -8,4 +8,5 @@ use Rattle.termwiz_wire.specs.declared.pieces.Run.{Run}
 use Rattle.termwiz_wire.specs.declared.pieces.Runs.{Runs}
 
 abbrev pub runs_left : {W : Type 0} → (W → List ℕ → Option UnicodeVersion → ℕ) → Runs W → List Run
-runs_left width_of s = option_map_or (λ x. before x.0 (runs (measure width_of s.widths) x.1.now)) s.next []
+runs_left width_of s =
+    option_map_or (λ x. before x.0 (runs (measure width_of s.widths) x.1.now)) s.next []

@@ -9,7 +9,10 @@ use Rattle.termwiz_wire.specs.declared.sent.Ask.{Ask}
 
 -- the version, the source, the size, the base, the number, and the changes
 unfoldable pub answer : (List ℕ → ℕ) → SentAnswer → List ℕ
-answer measure s = array 7 ++ unsigned 2 ++ unsigned s.source ++ unsigned s.answer.width ++ unsigned s.answer.height ++ unsigned s.answer.base ++ unsigned s.answer.number ++ changes measure s.answer.changes
+answer measure s =
+    array 7 ++ unsigned 2 ++ unsigned s.source ++ unsigned s.answer.width ++
+    unsigned s.answer.height ++ unsigned s.answer.base ++ unsigned s.answer.number ++
+    changes measure s.answer.changes
 
 -- the version, the source and the number
 unfoldable pub ask : Ask → List ℕ

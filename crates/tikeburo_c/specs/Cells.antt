@@ -41,7 +41,9 @@ abbrev pub CellPlace : Type 0
 CellPlace = CellFields × Buffer
 
 abbrev pub GivesCell : Option CellValue → CellPlace → Outcome → CellPlace → Type 0
-GivesCell (Some cell) old outcome new = Gives cell.text old.1 outcome new.1 × OnOk outcome (new.0 ≡ cell_fields cell) × OnErr outcome (new.0 ≡ old.0)
+GivesCell (Some cell) old outcome new =
+    Gives cell.text old.1 outcome new.1 × OnOk outcome (new.0 ≡ cell_fields cell) ×
+    OnErr outcome (new.0 ≡ old.0)
 GivesCell None old outcome new = Refused Range old outcome new
 
 -- the target of a link, or nothing

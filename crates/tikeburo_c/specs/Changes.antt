@@ -20,33 +20,57 @@ use Rattle.tikeburo_c.specs.declared.failure.Failure.{Failure}
 use Rattle.tikeburo_c.specs.declared.failure.Failure.TheVariants.{Memory}
 use Rattle.tikeburo_c.specs.declared.widths.ChosenWidths.{ChosenWidths}
 
--- what stays with each change, whatever comes of it: the number, the clients that show the surface, and the viewers that follow it
+-- what stays with each change, whatever comes of it: the number, the clients that show the surface,
+-- and the viewers that follow it
 pub record GoesOn (old new : SourceValue ChosenWidths) : Type 0 where
   pub number : new.number ≡ old.number
   pub serves : KeepsClients columns_by old new
   pub followed : KeepsViewers columns_by old.surface new.surface
 
 -- the list of changes is added as the library adds it, whatever number that returns
-abbrev pub AddsList : List ChangeValue → SourceValue ChosenWidths → Outcome → SourceValue ChosenWidths → Type 0
+abbrev pub AddsList :
+    List ChangeValue → SourceValue ChosenWidths → Outcome → SourceValue ChosenWidths → Type 0
 AddsList changes old outcome new =
-    (number : ℕ) × (added : Result ℕ SurfaceError) × (outcome ≡ outcome_of changing_failure added) × Adds (columns_by old.surface.widths) (trimmed old.surface) changes number added new.surface × GoesOn old new
+    (number : ℕ) × (added : Result ℕ SurfaceError) × (outcome ≡ outcome_of changing_failure added) ×
+    Adds (columns_by old.surface.widths) (trimmed old.surface) changes number added new.surface ×
+    GoesOn old new
 
--- the list of changes is made as the library makes it that logs none of them, whatever number that returns
-abbrev pub AddsListUnlogged : List ChangeValue → SourceValue ChosenWidths → Outcome → SourceValue ChosenWidths → Type 0
+-- the list of changes is made as the library makes it that logs none of them, whatever number that
+-- returns
+abbrev pub AddsListUnlogged :
+    List ChangeValue → SourceValue ChosenWidths → Outcome → SourceValue ChosenWidths → Type 0
 AddsListUnlogged changes old outcome new =
-    (number : ℕ) × (added : Result ℕ SurfaceError) × (outcome ≡ outcome_of changing_failure added) × AddsUnlogged (columns_by old.surface.widths) old.surface changes number added new.surface × GoesOn old new
+    (number : ℕ) × (added : Result ℕ SurfaceError) × (outcome ≡ outcome_of changing_failure added) ×
+    AddsUnlogged (columns_by old.surface.widths) old.surface changes number added new.surface ×
+    GoesOn old new
 
 -- the one list that the bytes encode, with nothing behind it
 abbrev pub IsOnlyList : (List ℕ → ℕ) → List ℕ → Result (Vec Change Global) Failure → Type 0
-IsOnlyList measure bytes (Ok x) = (bytes ≡ changes measure (map change_value x.items)) × ((cs : List ChangeValue) → AreChanges measure cs → bytes ≡ changes measure cs → map change_value x.items ≡ cs)
-IsOnlyList measure bytes (Err failure) = (failure ≡ Memory) ⊎ ((failure ≡ unread_as (changes_at measure bytes)) × ((cs : List ChangeValue) → AreChanges measure cs → bytes ≡ changes measure cs → ⊥))
+IsOnlyList measure bytes (Ok x) =
+    (bytes ≡ changes measure (map change_value x.items)) ×
+    ((cs : List ChangeValue) → AreChanges measure cs → bytes ≡ changes measure cs →
+    map change_value x.items ≡ cs)
+IsOnlyList measure bytes (Err failure) =
+    (failure ≡ Memory) ⊎
+    ((failure ≡ unread_as (changes_at measure bytes)) ×
+    ((cs : List ChangeValue) → AreChanges measure cs → bytes ≡ changes measure cs → ⊥))
 
 -- some list of changes that the bytes encode is added
-abbrev pub AddsEncoded : List ℕ → SourceValue ChosenWidths → Outcome → SourceValue ChosenWidths → Type 0
-AddsEncoded bytes old outcome new = (cs : List ChangeValue) × (bytes ≡ changes (columns_by old.surface.widths) cs) × AddsList cs old outcome new
+abbrev pub AddsEncoded :
+    List ℕ → SourceValue ChosenWidths → Outcome → SourceValue ChosenWidths → Type 0
+AddsEncoded bytes old outcome new =
+    (cs : List ChangeValue) × (bytes ≡ changes (columns_by old.surface.widths) cs) ×
+    AddsList cs old outcome new
 
--- the one list of changes that the bytes encode, by how the surface measures, is added, unless memory for it was refused
-pub record AddsBytes (bytes : List ℕ) (old : SourceValue ChosenWidths) (outcome : Outcome) (new : SourceValue ChosenWidths) : Type 0 where
-  pub adds : (cs : List ChangeValue) → AreChanges (columns_by old.surface.widths) cs → bytes ≡ changes (columns_by old.surface.widths) cs → OrNoMemory (AddsList cs) old outcome new
-  -- whatever the bytes are, they are refused by what is wrong with them, or encode a list that is added
-  pub others : Refused (unread_as (changes_at (columns_by old.surface.widths) bytes)) old outcome new ⊎ OrNoMemory (AddsEncoded bytes) old outcome new
+-- the one list of changes that the bytes encode, by how the surface measures, is added, unless
+-- memory for it was refused
+pub record AddsBytes (bytes : List ℕ) (old : SourceValue ChosenWidths) (outcome : Outcome)
+    (new : SourceValue ChosenWidths) : Type 0 where
+  pub adds :
+      (cs : List ChangeValue) → AreChanges (columns_by old.surface.widths) cs →
+      bytes ≡ changes (columns_by old.surface.widths) cs → OrNoMemory (AddsList cs) old outcome new
+  -- whatever the bytes are, they are refused by what is wrong with them, or encode a list that is
+  -- added
+  pub others :
+      Refused (unread_as (changes_at (columns_by old.surface.widths) bytes)) old outcome new ⊎
+      OrNoMemory (AddsEncoded bytes) old outcome new

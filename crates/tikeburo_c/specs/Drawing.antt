@@ -14,42 +14,72 @@ use Rattle.tikeburo_c.specs.declared.kept.Kept.{Kept}
 use Rattle.tikeburo_c.specs.declared.widths.ChosenWidths.{ChosenWidths}
 
 -- a surface is drawn on another one as the library draws it
-pub record DrawsAs (source : SurfaceValue ChosenWidths) (x y : ℕ) (old : SourceValue ChosenWidths) (result : Result ℕ SurfaceError) (new : SourceValue ChosenWidths) : Type 0 where
+pub record DrawsAs (source : SurfaceValue ChosenWidths) (x y : ℕ) (old : SourceValue ChosenWidths)
+    (result : Result ℕ SurfaceError) (new : SourceValue ChosenWidths) : Type 0 where
   pub drawn : IsDrawn columns_by (trimmed old.surface) source x y result new.surface
   -- all but the rows is as before
-  pub restores : OnOk result (screen_of new.surface ≡ record (screen_of old.surface) { rows = (screen_of new.surface).rows })
+  pub restores :
+      OnOk result
+      (screen_of new.surface ≡
+      record (screen_of old.surface) { rows = (screen_of new.surface).rows })
   -- its rows are there, where no wide grapheme crosses an edge
   pub region : OnOk result (HasDrawn columns_by old.surface source x y (screen_of new.surface))
   pub no_scroll : result ≡ Err ScrollRegion → ⊥
   pub goes_on : GoesOn old new
 
-abbrev pub Draws : SurfaceValue ChosenWidths → ℕ → ℕ → SourceValue ChosenWidths → Outcome → SourceValue ChosenWidths → Type 0
-Draws source x y old outcome new = (result : Result ℕ SurfaceError) × (outcome ≡ outcome_of changing_failure result) × DrawsAs source x y old result new
+abbrev pub Draws :
+    SurfaceValue ChosenWidths → ℕ → ℕ → SourceValue ChosenWidths → Outcome →
+    SourceValue ChosenWidths → Type 0
+Draws source x y old outcome new =
+    (result : Result ℕ SurfaceError) × (outcome ≡ outcome_of changing_failure result) ×
+    DrawsAs source x y old result new
 
 abbrev pub DrawsSource : Option Kept → ℕ → ℕ → Option Kept → Outcome → Option Kept → Type 0
 DrawsSource (Some source) x y = OnSurface (Draws (shown_of source) x y)
 DrawsSource None x y = Refused NoHandle
 
 -- a region is copied as the library copies it
-pub record CopiesAs (from_x from_y width height x y : ℕ) (old : SourceValue ChosenWidths) (result : Result ℕ SurfaceError) (new : SourceValue ChosenWidths) : Type 0 where
-  pub copied : IsCopied columns_by (trimmed old.surface) from_x from_y width height x y result new.surface
+pub record CopiesAs (from_x from_y width height x y : ℕ) (old : SourceValue ChosenWidths)
+    (result : Result ℕ SurfaceError) (new : SourceValue ChosenWidths) : Type 0 where
+  pub copied :
+      IsCopied columns_by (trimmed old.surface) from_x from_y width height x y result new.surface
   -- what the region showed before, where no wide grapheme crosses an edge
-  pub region : OnOk result (HasCopied old.surface (copied_region (screen_of old.surface) from_x from_y width height x y) (screen_of new.surface))
+  pub region :
+      OnOk result
+      (HasCopied old.surface (copied_region (screen_of old.surface) from_x from_y width height x y)
+      (screen_of new.surface))
   pub no_scroll : result ≡ Err ScrollRegion → ⊥
   pub goes_on : GoesOn old new
 
-abbrev pub Copies : (from_x from_y width height x y : ℕ) → SourceValue ChosenWidths → Outcome → SourceValue ChosenWidths → Type 0
-Copies from_x from_y width height x y old outcome new = (result : Result ℕ SurfaceError) × (outcome ≡ outcome_of changing_failure result) × CopiesAs from_x from_y width height x y old result new
+abbrev pub Copies :
+    (from_x from_y width height x y : ℕ) → SourceValue ChosenWidths → Outcome →
+    SourceValue ChosenWidths → Type 0
+Copies from_x from_y width height x y old outcome new =
+    (result : Result ℕ SurfaceError) × (outcome ≡ outcome_of changing_failure result) ×
+    CopiesAs from_x from_y width height x y old result new
 
 -- a region is drawn at another place of its surface as the library draws it
-pub record DrawsRegionAs (from_x from_y width height x y : ℕ) (old : SourceValue ChosenWidths) (result : Result ℕ SurfaceError) (new : SourceValue ChosenWidths) : Type 0 where
-  pub drawn : IsRegionDrawn columns_by (trimmed old.surface) from_x from_y width height x y result new.surface
+pub record DrawsRegionAs (from_x from_y width height x y : ℕ) (old : SourceValue ChosenWidths)
+    (result : Result ℕ SurfaceError) (new : SourceValue ChosenWidths) : Type 0 where
+  pub drawn :
+      IsRegionDrawn columns_by (trimmed old.surface) from_x from_y width height x y result
+      new.surface
   -- all but the rows is as before
-  pub restores : OnOk result (screen_of new.surface ≡ record (screen_of old.surface) { rows = (screen_of new.surface).rows })
+  pub restores :
+      OnOk result
+      (screen_of new.surface ≡
+      record (screen_of old.surface) { rows = (screen_of new.surface).rows })
   -- what the region showed before, where no wide grapheme crosses an edge
-  pub region : OnOk result (HasCopied old.surface (copied_region (screen_of old.surface) from_x from_y width height x y) (screen_of new.surface))
+  pub region :
+      OnOk result
+      (HasCopied old.surface (copied_region (screen_of old.surface) from_x from_y width height x y)
+      (screen_of new.surface))
   pub no_scroll : result ≡ Err ScrollRegion → ⊥
   pub goes_on : GoesOn old new
 
-abbrev pub DrawsRegion : (from_x from_y width height x y : ℕ) → SourceValue ChosenWidths → Outcome → SourceValue ChosenWidths → Type 0
-DrawsRegion from_x from_y width height x y old outcome new = (result : Result ℕ SurfaceError) × (outcome ≡ outcome_of changing_failure result) × DrawsRegionAs from_x from_y width height x y old result new
+abbrev pub DrawsRegion :
+    (from_x from_y width height x y : ℕ) → SourceValue ChosenWidths → Outcome →
+    SourceValue ChosenWidths → Type 0
+DrawsRegion from_x from_y width height x y old outcome new =
+    (result : Result ℕ SurfaceError) × (outcome ≡ outcome_of changing_failure result) ×
+    DrawsRegionAs from_x from_y width height x y old result new

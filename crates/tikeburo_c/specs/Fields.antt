@@ -18,9 +18,12 @@ use Rattle.tikeburo_c.specs.declared.fields.ColorFields.{ColorFields}
 
 abbrev pub color_fields : ColorAttribute → ColorFields
 color_fields colors.Default = record { kind = 0; red = 0; green = 0; blue = 0; index = 0 }
-color_fields (colors.PaletteIndex index) = record { kind = 1; red = 0; green = 0; blue = 0; index = index }
-color_fields (colors.TrueColorWithDefaultFallback c) = record { kind = 2; red = c.red; green = c.green; blue = c.blue; index = 0 }
-color_fields (colors.TrueColorWithPaletteFallback c index) = record { kind = 3; red = c.red; green = c.green; blue = c.blue; index = index }
+color_fields (colors.PaletteIndex index) =
+    record { kind = 1; red = 0; green = 0; blue = 0; index = index }
+color_fields (colors.TrueColorWithDefaultFallback c) =
+    record { kind = 2; red = c.red; green = c.green; blue = c.blue; index = 0 }
+color_fields (colors.TrueColorWithPaletteFallback c index) =
+    record { kind = 3; red = c.red; green = c.green; blue = c.blue; index = index }
 
 -- the colour of such a struct, if its kind is one
 abbrev pub color_in : ColorFields → Option ColorAttribute
@@ -28,7 +31,8 @@ color_in f =
     if f.kind == 0 then Some colors.Default
     else if f.kind == 1 then Some (colors.PaletteIndex f.index)
     else if f.kind == 2 then Some (colors.TrueColorWithDefaultFallback (rgb f.red f.green f.blue))
-    else if f.kind == 3 then Some (colors.TrueColorWithPaletteFallback (rgb f.red f.green f.blue) f.index)
+    else if f.kind == 3
+    then Some (colors.TrueColorWithPaletteFallback (rgb f.red f.green f.blue) f.index)
     else None
 
 abbrev pub attribute_fields : Attributes → AttributeFields
@@ -50,33 +54,46 @@ attribute_fields a = record {
 }
 
 abbrev pub cell_fields : CellValue → CellFields
-cell_fields c = record { columns = columns c; has_link = is_some c.attrs.hyperlink; attributes = attribute_fields c.attrs }
+cell_fields c =
+    record {
+      columns = columns c;
+      has_link = is_some c.attrs.hyperlink;
+      attributes = attribute_fields c.attrs;
+    }
 
 -- the attributes of such a struct that are no colours, if each is in its range
 abbrev pub styles_in : AttributeFields → Option Attributes
-styles_in f = of (intensity_in f.intensity) (underline_in f.underline) (blink_in f.blink) (semantic_in f.semantic_type) (align_in f.vertical_align)
+styles_in f =
+    of (intensity_in f.intensity) (underline_in f.underline) (blink_in f.blink)
+    (semantic_in f.semantic_type) (align_in f.vertical_align)
   where
-    of : Option Intensity → Option Underline → Option Blink → Option SemanticType → Option VerticalAlign → Option Attributes
-    of (Some intensity) (Some underline) (Some blink) (Some semantic) (Some align) = Some (record default_attributes {
-      intensity = intensity;
-      underline = underline;
-      blink = blink;
-      semantic_type = semantic;
-      vertical_align = align;
-      italic = f.italic;
-      reverse = f.reverse;
-      strikethrough = f.strikethrough;
-      invisible = f.invisible;
-      wrapped = f.wrapped;
-      overline = f.overline;
-    })
+    of :
+        Option Intensity → Option Underline → Option Blink → Option SemanticType →
+        Option VerticalAlign → Option Attributes
+    of (Some intensity) (Some underline) (Some blink) (Some semantic) (Some align) =
+        Some (record default_attributes {
+          intensity = intensity;
+          underline = underline;
+          blink = blink;
+          semantic_type = semantic;
+          vertical_align = align;
+          italic = f.italic;
+          reverse = f.reverse;
+          strikethrough = f.strikethrough;
+          invisible = f.invisible;
+          wrapped = f.wrapped;
+          overline = f.overline;
+        })
     of _ _ _ _ _ = None
 
 -- the attributes of such a struct, with no link, if each is in its range
 abbrev pub attributes_in : AttributeFields → Option Attributes
-attributes_in f = of (styles_in f) (color_in f.foreground) (color_in f.background) (color_in f.underline_color)
+attributes_in f =
+    of (styles_in f) (color_in f.foreground) (color_in f.background) (color_in f.underline_color)
   where
-    of : Option Attributes → Option ColorAttribute → Option ColorAttribute → Option ColorAttribute → Option Attributes
+    of :
+        Option Attributes → Option ColorAttribute → Option ColorAttribute → Option ColorAttribute →
+        Option Attributes
     of (Some a) (Some foreground) (Some background) (Some underline) = Some (record a {
       foreground = foreground;
       background = background;

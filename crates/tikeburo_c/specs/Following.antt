@@ -24,52 +24,68 @@ blank_follower number s = record { viewer = blank_viewer s; source = number }
 abbrev pub HasViewer : ℕ → SurfaceValue ChosenWidths → Follower → Type 0
 HasViewer number s f = (f ≡ blank_follower number s) × Follows columns_by f.viewer s
 
--- what the viewer is before it follows the surface of this number: itself, where it follows that one, and else blank
+-- what the viewer is before it follows the surface of this number: itself, where it follows that
+-- one, and else blank
 abbrev pub turned_to : ℕ → SurfaceValue ChosenWidths → Follower → Follower
-turned_to number s f = if (number == 0) || not (number == f.source) then blank_follower number s else f
+turned_to number s f =
+    if (number == 0) || not (number == f.source) then blank_follower number s else f
 
 -- where the viewer followed the surface of this number last, that was this surface
 abbrev pub KnowsBy : ℕ → SurfaceValue ChosenWidths → Follower → Type 0
 KnowsBy number s f = (number ≡ 0 → ⊥) → f.source ≡ number → Follows columns_by f.viewer s
 
 -- then it follows the surface, also from blank
-pub record HasTurned (number : ℕ) (s : SurfaceValue ChosenWidths) (old new : Follower) : Type 0 where
+pub record HasTurned (number : ℕ) (s : SurfaceValue ChosenWidths) (old new : Follower) :
+    Type 0 where
   pub turned : new ≡ turned_to number s old
   pub follows : KnowsBy number s old → Follows columns_by new.viewer s
 
 -- the viewer with an empty log
 abbrev pub without_log : ViewerValue ChosenWidths → ViewerValue ChosenWidths
-without_log v = record v { surface = with_log v.surface (flushed v.surface.log (next_number v.surface.log)) }
+without_log v =
+    record v { surface = with_log v.surface (flushed v.surface.log (next_number v.surface.log)) }
 
 -- the viewer follows the surface as the library's viewers do, and forgets what it made
-pub record StepsTo (s : SurfaceValue ChosenWidths) (old : Follower) (result : Result ℕ SurfaceError) (new : Follower) : Type 0 where
+pub record StepsTo (s : SurfaceValue ChosenWidths) (old : Follower) (result : Result ℕ SurfaceError)
+    (new : Follower) : Type 0 where
   pub viewer : ViewerValue ChosenWidths
   pub steps : FollowsTo columns_by s old.viewer result viewer
   pub forgets : new ≡ record old { viewer = without_log viewer }
-  -- one that follows it shows its screen after each success, and that of a full surface its full screen
+  -- one that follows it shows its screen after each success, and that of a full surface its full
+  -- screen
   pub caught_up : Follows columns_by old.viewer s → OnOk result (HasCaughtUp new.viewer s)
-  pub fully_caught_up : Follows columns_by old.viewer s → s.full ≡ true → OnOk result (full_of new.viewer.surface ≡ full_of s)
+  pub fully_caught_up :
+      Follows columns_by old.viewer s → s.full ≡ true →
+      OnOk result (full_of new.viewer.surface ≡ full_of s)
   pub follows : Follows columns_by old.viewer s → Follows columns_by new.viewer s
   pub failed : OnErr result (new.viewer.last ≡ 0)
 
 -- the viewer follows the surface of this number, whomever it followed before
-pub record FollowsAs (number : ℕ) (s : SurfaceValue ChosenWidths) (old : Follower) (result : Result ℕ SurfaceError) (new : Follower) : Type 0 where
+pub record FollowsAs (number : ℕ) (s : SurfaceValue ChosenWidths) (old : Follower)
+    (result : Result ℕ SurfaceError) (new : Follower) : Type 0 where
   pub steps : StepsTo s (turned_to number s old) result new
   -- it shows its screen after each success, and that of a full surface its full screen
   pub caught_up : KnowsBy number s old → OnOk result (HasCaughtUp new.viewer s)
-  pub fully_caught_up : KnowsBy number s old → s.full ≡ true → OnOk result (full_of new.viewer.surface ≡ full_of s)
+  pub fully_caught_up :
+      KnowsBy number s old → s.full ≡ true → OnOk result (full_of new.viewer.surface ≡ full_of s)
   pub follows : KnowsBy number s old → Follows columns_by new.viewer s
 
 abbrev pub FollowsOne : ℕ → SurfaceValue ChosenWidths → Follower → Outcome → Follower → Type 0
-FollowsOne number s old outcome new = (result : Result ℕ SurfaceError) × (outcome ≡ outcome_of changing_failure result) × FollowsAs number s old result new
+FollowsOne number s old outcome new =
+    (result : Result ℕ SurfaceError) × (outcome ≡ outcome_of changing_failure result) ×
+    FollowsAs number s old result new
 
 abbrev pub FollowsSource : Option Kept → Option Kept → Outcome → Option Kept → Type 0
-FollowsSource (Some source) old outcome new = OnViewer (OrNoMemory (FollowsOne (number_of source) (shown_of source))) old outcome new
+FollowsSource (Some source) old outcome new =
+    OnViewer (OrNoMemory (FollowsOne (number_of source) (shown_of source))) old outcome new
 FollowsSource None old outcome new = Refused NoHandle old outcome new
 
 -- a blank viewer of what the source shows, which follows it
-abbrev pub MakesFollower : ℕ → SurfaceValue ChosenWidths → Option Kept → Outcome → Option Kept → Type 0
-MakesFollower number s old outcome new = Returns (Some (Viewer (blank_follower number s))) old outcome new × Follows columns_by (blank_viewer s) s
+abbrev pub MakesFollower :
+    ℕ → SurfaceValue ChosenWidths → Option Kept → Outcome → Option Kept → Type 0
+MakesFollower number s old outcome new =
+    Returns (Some (Viewer (blank_follower number s))) old outcome new ×
+    Follows columns_by (blank_viewer s) s
 
 abbrev pub MakesViewer : Option Kept → Option Kept → Outcome → Option Kept → Type 0
 MakesViewer (Some source) = OrNoMemory (MakesFollower (number_of source) (shown_of source))

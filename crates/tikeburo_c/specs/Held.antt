@@ -1,4 +1,5 @@
--- What a loose handle owns: where it has a value, that value behind its pointer, and the right to free its block.
+-- What a loose handle owns: where it has a value, that value behind its pointer, and the right to
+-- free its block.
 use base.Fml.{Fml, ftrue}
 use denote.RawPtr.{Ptr}
 use Rattle.std.specs.Box.Ownership.{box_owns}

@@ -18,7 +18,8 @@ number_of (Surface s) = s.number
 number_of (Viewer f) = 0
 number_of (Client c) = 0
 
--- the number of the surface that it shows, which may be itself, as a source, or 0 where it shows none
+-- the number of the surface that it shows, which may be itself, as a source, or 0 where it shows
+-- none
 abbrev pub source_shown : Kept → ℕ
 source_shown (Surface s) = s.number
 source_shown (Viewer f) = f.source

@@ -123,17 +123,24 @@ attribute_in _ f = None
 abbrev pub change_in : Kind → ChangeFields → List ℕ → Result ChangeValue Failure
 change_in kind.Text f text = text_in text >>= λ t. Ok (change.Text t)
 change_in kind.Title f text = text_in text >>= λ t. Ok (change.Title t)
-change_in kind.Link f text = text_in text >>= λ t. Ok (change.Attribute (attribute.Hyperlink (Some (link_to t))))
+change_in kind.Link f text =
+    text_in text >>= λ t. Ok (change.Attribute (attribute.Hyperlink (Some (link_to t))))
 change_in kind.Pen f text = pen_in f.attributes text >>= λ a. Ok (change.AllAttributes a)
-change_in kind.Move f text = in_range (moved (position_in (f.third % 4) f.first) (position_in (f.third / 4) f.second))
-change_in kind.ClearScreen f text = in_range (option_map change.ClearScreen (color_in f.attributes.background))
-change_in kind.ClearToEndOfLine f text = in_range (option_map change.ClearToEndOfLine (color_in f.attributes.background))
-change_in kind.ClearToEndOfScreen f text = in_range (option_map change.ClearToEndOfScreen (color_in f.attributes.background))
+change_in kind.Move f text =
+    in_range (moved (position_in (f.third % 4) f.first) (position_in (f.third / 4) f.second))
+change_in kind.ClearScreen f text =
+    in_range (option_map change.ClearScreen (color_in f.attributes.background))
+change_in kind.ClearToEndOfLine f text =
+    in_range (option_map change.ClearToEndOfLine (color_in f.attributes.background))
+change_in kind.ClearToEndOfScreen f text =
+    in_range (option_map change.ClearToEndOfScreen (color_in f.attributes.background))
 change_in kind.ScrollUp f text = Ok (change.ScrollRegionUp f.first f.second f.third)
 change_in kind.ScrollDown f text = Ok (change.ScrollRegionDown f.first f.second f.third)
-change_in kind.CursorVisibility f text = Ok (change.CursorVisibility (visibility_of (not (f.first == 0))))
+change_in kind.CursorVisibility f text =
+    Ok (change.CursorVisibility (visibility_of (not (f.first == 0))))
 change_in kind.CursorShape f text = in_range (option_map change.CursorShape (shape_in f.first))
-change_in kind.CursorColor f text = in_range (option_map change.CursorColor (color_in f.attributes.foreground))
+change_in kind.CursorColor f text =
+    in_range (option_map change.CursorColor (color_in f.attributes.foreground))
 change_in kind.LineAttribute f text = in_range (option_map change.LineAttribute (line_in f.first))
 change_in k f text = in_range (option_map change.Attribute (attribute_in k f.attributes))
 
@@ -143,24 +150,34 @@ first_in f texts = in_range (kind_in f.kind) >>= λ k.
     if nat_lt (length texts) (text_len k f) then Err Range
     else (change_in k f (take (text_len k f) texts) >>= λ c. Ok (c, drop (text_len k f) texts))
 
--- the changes of a list, whose texts are behind one another with nothing after them, or the first fault
+-- the changes of a list, whose texts are behind one another with nothing after them, or the first
+-- fault
 unfoldable pub listed_in : List ChangeFields → List ℕ → Result (List ChangeValue) Failure
 listed_in [] [] = Ok []
 listed_in [] (b ∷ bs) = Err Range
 listed_in (f ∷ fs) texts = first_in f texts >>= λ x. listed_in fs x.1 >>= λ cs. Ok (x.0 ∷ cs)
 
--- the listed changes are added, or the list is refused by its first fault, unless memory was refused
-abbrev pub AddsListed : List ChangeFields → List ℕ → SourceValue ChosenWidths → Outcome → SourceValue ChosenWidths → Type 0
+-- the listed changes are added, or the list is refused by its first fault, unless memory was
+-- refused
+abbrev pub AddsListed :
+    List ChangeFields → List ℕ → SourceValue ChosenWidths → Outcome → SourceValue ChosenWidths →
+    Type 0
 AddsListed fs texts = of (listed_in fs texts)
   where
-    of : Result (List ChangeValue) Failure → SourceValue ChosenWidths → Outcome → SourceValue ChosenWidths → Type 0
+    of :
+        Result (List ChangeValue) Failure → SourceValue ChosenWidths → Outcome →
+        SourceValue ChosenWidths → Type 0
     of (Ok cs) = OrNoMemory (AddsList cs)
     of (Err failure) = OrNoMemory (Refused failure)
 
 -- or they are made without being logged
-abbrev pub AddsListedUnlogged : List ChangeFields → List ℕ → SourceValue ChosenWidths → Outcome → SourceValue ChosenWidths → Type 0
+abbrev pub AddsListedUnlogged :
+    List ChangeFields → List ℕ → SourceValue ChosenWidths → Outcome → SourceValue ChosenWidths →
+    Type 0
 AddsListedUnlogged fs texts = of (listed_in fs texts)
   where
-    of : Result (List ChangeValue) Failure → SourceValue ChosenWidths → Outcome → SourceValue ChosenWidths → Type 0
+    of :
+        Result (List ChangeValue) Failure → SourceValue ChosenWidths → Outcome →
+        SourceValue ChosenWidths → Type 0
     of (Ok cs) = OrNoMemory (AddsListUnlogged cs)
     of (Err failure) = OrNoMemory (Refused failure)

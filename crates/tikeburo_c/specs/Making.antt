@@ -17,31 +17,49 @@ use Rattle.tikeburo_c.specs.declared.widths.ChosenWidths.{ChosenWidths}
 
 -- a surface may have this size
 abbrev pub is_size : ℕ → ℕ → Bool
-is_size width height = (nat_lt 0 width && nat_lt 0 height) && (nat_lt width (2 ^ 32) && nat_lt height (2 ^ 32))
+is_size width height =
+    (nat_lt 0 width && nat_lt 0 height) && (nat_lt width (2 ^ 32) && nat_lt height (2 ^ 32))
 
 -- a blank surface of this number as a source
 abbrev pub blank_source : ChosenWidths → ℕ → ℕ → ℕ → SourceValue ChosenWidths
-blank_source widths width height source = record { surface = blank_surface widths width height true; number = source }
+blank_source widths width height source =
+    record { surface = blank_surface widths width height true; number = source }
 
 -- a blank surface is made, in the place of what the handle had
-abbrev pub MakesSurface : ℕ → ℕ → ℕ → Option ChosenWidths → Option Kept → Outcome → Option Kept → Type 0
-MakesSurface width height source (Some widths) = OrNoMemory (Returns (Some (Surface (blank_source widths width height source))))
+abbrev pub MakesSurface :
+    ℕ → ℕ → ℕ → Option ChosenWidths → Option Kept → Outcome → Option Kept → Type 0
+MakesSurface width height source (Some widths) =
+    OrNoMemory (Returns (Some (Surface (blank_source widths width height source))))
 MakesSurface width height source None = Refused Range
 
 -- the choice of widths, where there is one, and the size and the source's number are some
 abbrev pub widths_for : ℕ → ℕ → ℕ → ℕ → Option ChosenWidths
-widths_for width height source number = if nat_lt 0 source && is_size width height then widths_at number else None
+widths_for width height source number =
+    if nat_lt 0 source && is_size width height then widths_at number else None
 
 -- the surface takes another size
-abbrev pub TakesSize : ℕ → ℕ → SourceValue ChosenWidths → Outcome → SourceValue ChosenWidths → Type 0
-TakesSize width height old outcome new = (resized : Result (Unit {0}) SurfaceError) × (outcome ≡ outcome_of changing_failure resized) × Resizes old.surface width height resized new.surface × GoesOn old new
+abbrev pub TakesSize :
+    ℕ → ℕ → SourceValue ChosenWidths → Outcome → SourceValue ChosenWidths → Type 0
+TakesSize width height old outcome new =
+    (resized : Result (Unit {0}) SurfaceError) × (outcome ≡ outcome_of changing_failure resized) ×
+    Resizes old.surface width height resized new.surface × GoesOn old new
 
 abbrev pub ResizesIn : ℕ → ℕ → Option Kept → Outcome → Option Kept → Type 0
-ResizesIn width height old outcome new = MatchBool (is_size width height) (OnSurface (TakesSize width height) old outcome new) (Refused Range old outcome new)
+ResizesIn width height old outcome new =
+    MatchBool (is_size width height) (OnSurface (TakesSize width height) old outcome new)
+    (Refused Range old outcome new)
 
 -- a client that shows nothing yet
 abbrev pub blank_client : ChosenWidths → Limits → ClientValue ChosenWidths
-blank_client widths limits = record { surface = blank_surface widths 1 1 true; source = 0; number = 0; kept = []; limits = limits; stopped = None }
+blank_client widths limits =
+    record {
+      surface = blank_surface widths 1 1 true;
+      source = 0;
+      number = 0;
+      kept = [];
+      limits = limits;
+      stopped = None;
+    }
 
 -- the choice of widths, where there is one, and an answer may have so many bytes, and not 0
 abbrev pub widths_within : ℕ → ℕ → Option ChosenWidths

@@ -12,7 +12,8 @@ use Rattle.tikeburo_c.specs.declared.widths.ChosenWidths.{ChosenWidths}
 
 -- the call returned this value of the surface that the handle has or its viewer shows
 abbrev pub ReadsValue : {B : Type 0} → (SurfaceValue ChosenWidths → B) → Handle → B → ℤ → B → Type 0
-ReadsValue read handle old number new = Reports number (λ outcome. Reads (λ s. Returns (read s)) (kept_of handle) old outcome new)
+ReadsValue read handle old number new =
+    Reports number (λ outcome. Reads (λ s. Returns (read s)) (kept_of handle) old outcome new)
 
 abbrev pub is_visible : CursorVisibility → Bool
 is_visible Hidden = false

@@ -21,7 +21,9 @@ abbrev pub OrNoMemory : {A : Type 0} → (A → Outcome → A → Type 0) → A 
 OrNoMemory P old outcome new = Refused Memory old outcome new ⊎ P old outcome new
 
 -- the call did this to the surface that the handle has
-abbrev pub OnSurface : (SourceValue ChosenWidths → Outcome → SourceValue ChosenWidths → Type 0) → Option Kept → Outcome → Option Kept → Type 0
+abbrev pub OnSurface :
+    (SourceValue ChosenWidths → Outcome → SourceValue ChosenWidths → Type 0) → Option Kept →
+    Outcome → Option Kept → Type 0
 OnSurface P (Some (Surface old)) outcome (Some (Surface new)) = P old outcome new
 OnSurface P (Some (Surface old)) outcome _ = ⊥
 OnSurface P (Some (Viewer f)) outcome new = Refused WrongKind (Some (Viewer f)) outcome new
@@ -29,7 +31,8 @@ OnSurface P (Some (Client c)) outcome new = Refused WrongKind (Some (Client c)) 
 OnSurface P None outcome new = Refused NoHandle None outcome new
 
 -- the call did this to the viewer that the handle has
-abbrev pub OnViewer : (Follower → Outcome → Follower → Type 0) → Option Kept → Outcome → Option Kept → Type 0
+abbrev pub OnViewer :
+    (Follower → Outcome → Follower → Type 0) → Option Kept → Outcome → Option Kept → Type 0
 OnViewer P (Some (Viewer old)) outcome (Some (Viewer new)) = P old outcome new
 OnViewer P (Some (Viewer old)) outcome _ = ⊥
 OnViewer P (Some (Surface s)) outcome new = Refused WrongKind (Some (Surface s)) outcome new
@@ -37,7 +40,9 @@ OnViewer P (Some (Client c)) outcome new = Refused WrongKind (Some (Client c)) o
 OnViewer P None outcome new = Refused NoHandle None outcome new
 
 -- the call did this to the client that the handle has
-abbrev pub OnClient : (ClientValue ChosenWidths → Outcome → ClientValue ChosenWidths → Type 0) → Option Kept → Outcome → Option Kept → Type 0
+abbrev pub OnClient :
+    (ClientValue ChosenWidths → Outcome → ClientValue ChosenWidths → Type 0) → Option Kept →
+    Outcome → Option Kept → Type 0
 OnClient P (Some (Client old)) outcome (Some (Client new)) = P old outcome new
 OnClient P (Some (Client old)) outcome _ = ⊥
 OnClient P (Some (Surface s)) outcome new = Refused WrongKind (Some (Surface s)) outcome new
@@ -45,7 +50,9 @@ OnClient P (Some (Viewer f)) outcome new = Refused WrongKind (Some (Viewer f)) o
 OnClient P None outcome new = Refused NoHandle None outcome new
 
 -- the call read this of the surface that the handle has, or that its viewer or client shows
-abbrev pub Reads : {B : Type 0} → (SurfaceValue ChosenWidths → B → Outcome → B → Type 0) → Option Kept → B → Outcome → B → Type 0
+abbrev pub Reads :
+    {B : Type 0} → (SurfaceValue ChosenWidths → B → Outcome → B → Type 0) → Option Kept → B →
+    Outcome → B → Type 0
 Reads P (Some kept) old outcome new = P (shown_of kept) old outcome new
 Reads P None old outcome new = Refused NoHandle old outcome new
 
@@ -57,8 +64,12 @@ Returns value old outcome new = (outcome ≡ Ok tt) × (new ≡ value)
 abbrev pub Buffer : Type 0
 Buffer = List ℕ × ℕ
 
--- the bytes are at the buffer's front, with their length, or the buffer is too short and has only their length
+-- the bytes are at the buffer's front, with their length, or the buffer is too short and has only
+-- their length
 abbrev pub Gives : List ℕ → Buffer → Outcome → Buffer → Type 0
-Gives bytes old (Ok _) new = (length bytes ≤ length old.0) × (new.0 ≡ bytes ++ drop (length bytes) old.0) × (new.1 ≡ length bytes)
-Gives bytes old (Err Short) new = (length old.0 < length bytes) × (new.0 ≡ old.0) × (new.1 ≡ length bytes)
+Gives bytes old (Ok _) new =
+    (length bytes ≤ length old.0) × (new.0 ≡ bytes ++ drop (length bytes) old.0) ×
+    (new.1 ≡ length bytes)
+Gives bytes old (Err Short) new =
+    (length old.0 < length bytes) × (new.0 ≡ old.0) × (new.1 ≡ length bytes)
 Gives bytes old (Err _) new = ⊥

@@ -30,14 +30,17 @@ use Rattle.tikeburo_c.specs.declared.widths.ChosenWidths.{ChosenWidths}
 -- the one ask that the bytes encode, with nothing behind it
 abbrev pub IsOnlyAsk : List ℕ → Result Ask Failure → Type 0
 IsOnlyAsk bytes (Ok a) = (bytes ≡ ask a) × ((b : Ask) → IsAsk b → bytes ≡ ask b → a ≡ b)
-IsOnlyAsk bytes (Err failure) = (failure ≡ Memory) ⊎ ((failure ≡ unread_as (ask_at bytes)) × ((a : Ask) → IsAsk a → bytes ≡ ask a → ⊥))
+IsOnlyAsk bytes (Err failure) =
+    (failure ≡ Memory) ⊎
+    ((failure ≡ unread_as (ask_at bytes)) × ((a : Ask) → IsAsk a → bytes ≡ ask a → ⊥))
 
 -- a surface, and a caller's buffer
 abbrev pub Answering : Type 0
 Answering = SourceValue ChosenWidths × Buffer
 
 -- the surface answers this ask, and forgets what no answer needs
-pub record AnswersAsk (a : Ask) (old : Answering) (outcome : Outcome) (new : Answering) : Type 0 where
+pub record AnswersAsk (a : Ask) (old : Answering) (outcome : Outcome) (new : Answering) :
+    Type 0 where
   pub bytes : List ℕ
   pub response : IsResponse columns_by new.0 a bytes
   pub gives : Gives bytes old.1 outcome new.1
@@ -49,17 +52,24 @@ abbrev pub AnswersEncoded : List ℕ → Answering → Outcome → Answering →
 AnswersEncoded bytes old outcome new = (a : Ask) × (bytes ≡ ask a) × AnswersAsk a old outcome new
 
 -- the one ask that the bytes encode is answered, unless memory was refused
-pub record AnswersBytes (bytes : List ℕ) (old : Answering) (outcome : Outcome) (new : Answering) : Type 0 where
+pub record AnswersBytes (bytes : List ℕ) (old : Answering) (outcome : Outcome) (new : Answering) :
+    Type 0 where
   pub answers : (a : Ask) → IsAsk a → bytes ≡ ask a → OrNoMemory (AnswersAsk a) old outcome new
-  -- whatever the bytes are, they are refused by what is wrong with them, or encode an ask that is answered
-  pub others : Refused (unread_as (ask_at bytes)) old outcome new ⊎ OrNoMemory (AnswersEncoded bytes) old outcome new
+  -- whatever the bytes are, they are refused by what is wrong with them, or encode an ask that is
+  -- answered
+  pub others :
+      Refused (unread_as (ask_at bytes)) old outcome new ⊎
+      OrNoMemory (AnswersEncoded bytes) old outcome new
 
 -- by the surface that the handle has
 abbrev pub AnswersIn : List ℕ → Option Kept × Buffer → Outcome → Option Kept × Buffer → Type 0
-AnswersIn bytes (Some (Surface s), old) outcome (Some (Surface t), new) = AnswersBytes bytes (s, old) outcome (t, new)
+AnswersIn bytes (Some (Surface s), old) outcome (Some (Surface t), new) =
+    AnswersBytes bytes (s, old) outcome (t, new)
 AnswersIn bytes (Some (Surface s), old) outcome _ = ⊥
-AnswersIn bytes (Some (Viewer f), old) outcome new = Refused WrongKind (Some (Viewer f), old) outcome new
-AnswersIn bytes (Some (Client c), old) outcome new = Refused WrongKind (Some (Client c), old) outcome new
+AnswersIn bytes (Some (Viewer f), old) outcome new =
+    Refused WrongKind (Some (Viewer f), old) outcome new
+AnswersIn bytes (Some (Client c), old) outcome new =
+    Refused WrongKind (Some (Client c), old) outcome new
 AnswersIn bytes (None, old) outcome new = Refused NoHandle (None, old) outcome new
 
 -- ---- clients
@@ -77,12 +87,14 @@ fault_number faults.Truncated = 8
 
 -- a fault as a struct, with the change that it is in
 abbrev pub fields_at : ℕ → ℕ → Option ℕ → FaultFields
-fields_at kind at (Some change) = record { kind = kind; has_change = true; at = at; change = change }
+fields_at kind at (Some change) =
+    record { kind = kind; has_change = true; at = at; change = change }
 fields_at kind at None = record { kind = kind; has_change = false; at = at; change = 0 }
 
 -- what a call came to that fed a client, and what it wrote to the struct
 abbrev pub Fails : ClientError → FaultFields → Outcome → FaultFields → Type 0
-Fails (errors.Fault f) old outcome new = (outcome ≡ Err Unreadable) × (new ≡ fields_at (fault_number f.kind) f.at f.change)
+Fails (errors.Fault f) old outcome new =
+    (outcome ≡ Err Unreadable) × (new ≡ fields_at (fault_number f.kind) f.at f.change)
 Fails (errors.Size at) old outcome new = (outcome ≡ Err Unreadable) × (new ≡ fields_at 5 at None)
 Fails errors.Numbers old outcome new = (outcome ≡ Err Numbers) × (new ≡ old)
 Fails errors.Memory old outcome new = (outcome ≡ Err Memory) × (new ≡ old)
@@ -92,26 +104,41 @@ Reaches (Ok u) old outcome new = (outcome ≡ Ok tt) × (new ≡ old)
 Reaches (Err error) old outcome new = Fails error old outcome new
 
 -- bytes are fed to a client as the library's clients take them
-pub record FeedsAs (piece : List ℕ) (old : ClientValue ChosenWidths) (result : Result (Unit {0}) ClientError) (new : ClientValue ChosenWidths) : Type 0 where
+pub record FeedsAs (piece : List ℕ) (old : ClientValue ChosenWidths)
+    (result : Result (Unit {0}) ClientError) (new : ClientValue ChosenWidths) : Type 0 where
   pub feeds : Feeds columns_by old piece result new
-  pub follows : (histories : ℕ → ℕ → FullScreen) (sent : List Given) (future : List ℕ) → Follows columns_by histories sent old (piece ++ future) → FollowsTo columns_by histories sent future old result new
-  -- one that is fed the response to its ask shows what the source shows, and is served by it still, also after an error
-  pub shows : (s : SourceValue ChosenWidths) → Serves columns_by s old → IsReady old → IsResponse columns_by s (ask_of old) piece → OnOk result (Shows s new × IsReady new)
-  pub serves : (s : SourceValue ChosenWidths) → Serves columns_by s old → IsReady old → IsResponse columns_by s (ask_of old) piece → Serves columns_by s new
+  pub follows :
+      (histories : ℕ → ℕ → FullScreen) (sent : List Given) (future : List ℕ) →
+      Follows columns_by histories sent old (piece ++ future) →
+      FollowsTo columns_by histories sent future old result new
+  -- one that is fed the response to its ask shows what the source shows, and is served by it still,
+  -- also after an error
+  pub shows :
+      (s : SourceValue ChosenWidths) → Serves columns_by s old → IsReady old →
+      IsResponse columns_by s (ask_of old) piece → OnOk result (Shows s new × IsReady new)
+  pub serves :
+      (s : SourceValue ChosenWidths) → Serves columns_by s old → IsReady old →
+      IsResponse columns_by s (ask_of old) piece → Serves columns_by s new
 
 -- a client, and a caller's struct for a fault
 abbrev pub Feeding : Type 0
 Feeding = ClientValue ChosenWidths × FaultFields
 
 abbrev pub FeedsBytes : List ℕ → Feeding → Outcome → Feeding → Type 0
-FeedsBytes piece old outcome new = (result : Result (Unit {0}) ClientError) × Reaches result old.1 outcome new.1 × FeedsAs piece old.0 result new.0
+FeedsBytes piece old outcome new =
+    (result : Result (Unit {0}) ClientError) × Reaches result old.1 outcome new.1 ×
+    FeedsAs piece old.0 result new.0
 
 -- to the client that the handle has
-abbrev pub FeedsIn : List ℕ → Option Kept × FaultFields → Outcome → Option Kept × FaultFields → Type 0
-FeedsIn piece (Some (Client c), old) outcome (Some (Client d), new) = FeedsBytes piece (c, old) outcome (d, new)
+abbrev pub FeedsIn :
+    List ℕ → Option Kept × FaultFields → Outcome → Option Kept × FaultFields → Type 0
+FeedsIn piece (Some (Client c), old) outcome (Some (Client d), new) =
+    FeedsBytes piece (c, old) outcome (d, new)
 FeedsIn piece (Some (Client c), old) outcome _ = ⊥
-FeedsIn piece (Some (Surface s), old) outcome new = Refused WrongKind (Some (Surface s), old) outcome new
-FeedsIn piece (Some (Viewer f), old) outcome new = Refused WrongKind (Some (Viewer f), old) outcome new
+FeedsIn piece (Some (Surface s), old) outcome new =
+    Refused WrongKind (Some (Surface s), old) outcome new
+FeedsIn piece (Some (Viewer f), old) outcome new =
+    Refused WrongKind (Some (Viewer f), old) outcome new
 FeedsIn piece (None, old) outcome new = Refused NoHandle (None, old) outcome new
 
 -- an ask that names no source has no number
@@ -130,7 +157,8 @@ GivesAsk (Some (Viewer f)) = Refused WrongKind
 GivesAsk None = Refused NoHandle
 
 -- the client is ready for the bytes of a new stream, and shows what it showed
-pub record Resets (old : ClientValue ChosenWidths) (outcome : Outcome) (new : ClientValue ChosenWidths) : Type 0 where
+pub record Resets (old : ClientValue ChosenWidths) (outcome : Outcome)
+    (new : ClientValue ChosenWidths) : Type 0 where
   pub done : outcome ≡ Ok tt
   pub resets : new ≡ record old { kept = []; stopped = None }
   pub ready : IsReady new

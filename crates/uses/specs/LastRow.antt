@@ -5,7 +5,8 @@ use Rattle.termwiz_surface.specs.{Absolute, CellValue, ChangeValue, ColorAttribu
 
 -- the changes that clear it with this background, from its first column on
 abbrev pub last_row_cleared : ColorAttribute → List ChangeValue
-last_row_cleared background = change.CursorPosition (Absolute 0) (EndRelative 1) ∷ change.ClearToEndOfLine background ∷ []
+last_row_cleared background =
+    change.CursorPosition (Absolute 0) (EndRelative 1) ∷ change.ClearToEndOfLine background ∷ []
 
 -- what each of its columns shows then
 abbrev pub blank_in : ColorAttribute → CellValue

@@ -33,7 +33,7 @@ rows_upto w rows (suc i) = record {
   entries =
       (rows_upto w rows i).entries ++
       ((if i == 0 then [] else next_line ∷ []) ++
-        (row_entries (rows_upto w rows i).pen (visible_upto (row_at rows i) w)).entries);
+      (row_entries (rows_upto w rows i).pen (visible_upto (row_at rows i) w)).entries);
   pen = (row_entries (rows_upto w rows i).pen (visible_upto (row_at rows i) w)).pen;
 }
 
@@ -79,21 +79,22 @@ bottom w h rows = first_blank w (bottom_attrs w h rows) rows h
 abbrev pub joins_rows : ℕ → ℕ → List (List CellValue) → Bool
 joins_rows w h rows =
     (has_only_background (bottom_attrs w h rows) &&
-      not (attributes_eq (bottom_attrs w h rows) default_attributes))
+    not (attributes_eq (bottom_attrs w h rows) default_attributes))
     &&
-      (nat_lt (bottom w h rows) h &&
-        nat_lt (suc (joined_row w (bottom_attrs w h rows) rows (bottom w h rows))) h)
+    (nat_lt (bottom w h rows) h &&
+    nat_lt (suc (joined_row w (bottom_attrs w h rows) rows (bottom w h rows))) h)
+
+-- the entries of the rows above those that one clear blanks, with the first of those
+abbrev pub rows_to_clear : ℕ → ℕ → List (List CellValue) → Penned
+rows_to_clear w h rows =
+    rows_upto w rows (suc (joined_row w (bottom_attrs w h rows) rows (bottom w h rows)))
 
 -- the entries of all rows: blank rows at the bottom in one background are left to one clear to the
 -- end of the screen
 abbrev pub all_rows : ℕ → ℕ → List (List CellValue) → Penned
 all_rows w h rows = if joins_rows w h rows
     then (record {
-      entries =
-          front_of
-            (rows_upto w rows (suc (joined_row w (bottom_attrs w h rows) rows (bottom w h rows))))
-              .entries
-            ++
+      entries = front_of (rows_to_clear w h rows).entries ++
           change.ClearToEndOfScreen (bottom_attrs w h rows).background ∷ [];
       pen = bottom_attrs w h rows;
     })
@@ -144,9 +145,9 @@ started_entries = change.CursorVisibility cursor.Hidden ∷ change.ClearScreen c
 abbrev pub repaint_of : List ChangeValue → Penned → Screen → List ChangeValue → List ChangeValue
 repaint_of first d s last =
     started_entries ++
-      (without_last_moves (first ++ d.entries) ++
-        (cursor_entry (without_last_moves (first ++ d.entries)) s.x s.y ++
-          (pen_entry d.pen s.pen ++ last)))
+    (without_last_moves (first ++ d.entries) ++
+    (cursor_entry (without_last_moves (first ++ d.entries)) s.x s.y ++
+    (pen_entry d.pen s.pen ++ last)))
 
 -- the repaint of a screen with this title, and the cursor in this shape
 abbrev pub repaint : Screen → List ℕ → Option CursorShape → List ChangeValue
@@ -160,7 +161,7 @@ lines_upto lines zero = []
 lines_upto lines (suc i) =
     lines_upto lines i ++
     ((if i == 0 then [] else next_line ∷ []) ++
-      change.LineAttribute (slice_index_or lines i SingleWidthLine) ∷ [])
+    change.LineAttribute (slice_index_or lines i SingleWidthLine) ∷ [])
 
 -- what a full repaint has before the entries of the rows: the title, be it empty, the cursor's
 -- colour, and each row's attribute; then the cursor goes home

@@ -30,6 +30,10 @@ fn surfaces() -> Outcome {
     assert!(surface.screen_chars_to_string()?.ends_with('\n'));
     assert_eq!(surface.rows().len(), height);
     assert_eq!(surface.row(y).cells().count(), surface.dimensions().0);
+    let (current, lacking) = surface.get_changes(number)?;
+    assert_eq!(current, surface.current_seqno());
+    assert!(lacking.iter().next().is_some());
+    assert_eq!(surface.cursor_shape(), CursorShape::Default);
     viewer.follow(&surface)?;
     let ask = client.ask()?;
     let answer = surface.respond(&ask)?;
@@ -120,6 +124,8 @@ fn rows() -> Outcome {
     let last = row.cells().last();
     assert!(!last.expect("a row has a cell")?.attrs().wrapped());
     assert_eq!(graphemes("text", Widths::Unicode)?.len(), 4);
+    assert_eq!(text_width("text", Widths::Unicode), 4);
+    assert_eq!(row.line_attribute()?, LineAttribute::SingleWidthLine);
     Ok(())
 }
 

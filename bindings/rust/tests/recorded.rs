@@ -214,5 +214,5 @@ fn rows_and_cursors_are_those_of_termwiz() {
         }
         record.play(size, &script);
     }
-    assert_eq!((record.screens, record.repaints), (1220 + 614, 822));
+    assert_eq!((record.screens, record.repaints), (1220 + 614, 820));
 }

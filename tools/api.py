@@ -220,7 +220,9 @@ def equation(definition):
         parts = re.findall(r"^ *(?:pub )?(\S+) :", "\n".join(lines), re.M)
         return ", ".join(f"`{part}`" for part in parts)
     left = " " * indent_of(head) + definition.name
-    text = " ".join("; " * line.startswith(left) + line.strip() for line in lines)
+    first = next((k for k, line in enumerate(lines) if line.startswith(left)), len(lines))
+    head = " ".join([head, *(line.strip() for line in lines[:first])])
+    text = " ".join("; " * line.startswith(left) + line.strip() for line in lines[first:])
     text = text.removeprefix("; ").replace(" ; ", "; ")
     if len(text) > 180 or "←" in text:
         text = head.split(" : ", 1)[1]

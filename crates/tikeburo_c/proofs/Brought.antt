@@ -3,19 +3,18 @@ use Rattle.std.proofs.Common.{◌≡◌, ◌⊎◌, inl, inr, ℕ, ◌≤◌, �
 use Rattle.std.proofs.lemmas.Bool.{cases_Bool}
 use Rattle.std.specs.Prelude.{Option, Some, None, Result, Ok, Err, nat_lt}
 use Rattle.cbor.specs.Encoding.{head}
-use Rattle.termwiz_share.specs.Client.{ClientValue, ask_of}
+use Rattle.termwiz_share.specs.Client.{ask_of}
 use Rattle.termwiz_share.specs.Source.{SourceValue}
 use Rattle.termwiz_share.specs.declared.error.ClientError.{ClientError}
 use Rattle.termwiz_share.specs.declared.error.ClientError.TheVariants as errors
 use Rattle.termwiz_surface.specs.Surface.{full_of}
-use Rattle.termwiz_wire.specs.Sent.{IsAsk, ask}
+use Rattle.termwiz_wire.specs.Sent.{ask}
 use Rattle.termwiz_wire.specs.declared.sent.Ask.{Ask}
 use Rattle.tikeburo_c.proofs.Delivered.{Asked, IsReadyIn, asks_by, named_response}
 use Rattle.tikeburo_c.specs.Outcomes.{Outcome}
 use Rattle.tikeburo_c.specs.Results.{Buffer, Gives, OnClient}
-use Rattle.tikeburo_c.specs.Streams.{AnswersIn, FeedsIn, GivesAsk, IsLonger, MayCarry, Reaches, Resets, ServesIn, ShowsAsBefore, named_ask}
+use Rattle.tikeburo_c.specs.Streams.{AnswersIn, FeedsIn, GivesAsk, MayCarry, Reaches, Resets, ServesIn, ShowsAsBefore, named_ask}
 use Rattle.tikeburo_c.specs.declared.clients.FaultFields.{FaultFields}
-use Rattle.tikeburo_c.specs.declared.failure.Failure.{Failure}
 use Rattle.tikeburo_c.specs.declared.failure.Failure.TheVariants.{Memory, Unreadable, Truncated, Region, Numbers, NoHandle, WrongKind, Range, Short}
 use Rattle.tikeburo_c.specs.declared.kept.Kept.{Kept}
 use Rattle.tikeburo_c.specs.declared.kept.Kept.TheVariants.{Surface, Viewer, Client}

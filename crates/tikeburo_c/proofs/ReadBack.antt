@@ -1,16 +1,14 @@
 -- What a list of changes is written as is read as these changes.
-use Rattle.std.proofs.Common.{◌≡◌, ℕ, ◌+◌, ◌*◌, ◌/◌, ◌%◌, ◌<◌, Bool, true, false, cond, if◌then◌else◌, List, [], ◌∷◌, ◌++◌, length, take, drop, map, Option, Some, None, Result, Ok, Err, nat_lt, refl, sym, ap, subst, ◌∙◌, append-nil, append_assoc, arith}
+use Rattle.std.proofs.Common.{◌≡◌, ℕ, ◌+◌, ◌*◌, ◌/◌, ◌%◌, Bool, false, cond, if◌then◌else◌, List, [], ◌∷◌, ◌++◌, length, take, drop, map, Option, Some, None, Result, Ok, Err, nat_lt, refl, sym, ap, subst, ◌∙◌, append-nil, append_assoc, arith}
 use Rattle.std.proofs.lemmas.Bool.{le-ltb}
 use Rattle.std.proofs.lemmas.Int.{to_z-of_z}
 use Rattle.std.proofs.lemmas.List.{drop_at, length-append, map-append, take_at}
-use Rattle.std.specs.Int.{cast_signed, cast_unsigned, w64}
-use Rattle.std.specs.Int.RustNames.{FitsSigned}
+use Rattle.std.specs.Int.{w64}
 use Rattle.std.specs.List.{flat_map}
 use Rattle.std.specs.Option.{option_map}
 use Rattle.std.specs.Prelude.{ℤ, IsUtf8}
 use Rattle.cbor.specs.Decoding.{◌>>=◌}
 use Rattle.core.proofs.str.Lossy.{is_utf8-from_IsUtf8}
-use Rattle.core.specs.Str.{is_utf8}
 use Rattle.termwiz_cell.specs.AttributeChangeValue as attribute
 use Rattle.termwiz_cell.specs.AttributeChangeValue.{AttributeChangeValue}
 use Rattle.termwiz_cell.specs.Attributes.{Attributes}
@@ -45,7 +43,6 @@ use Rattle.tikeburo_c.specs.Lists.{change_in, first_in, in_range, kind_in, link_
 use Rattle.tikeburo_c.specs.Numbers.{align_in, blink_in, intensity_in, line_in, semantic_in, shape_in, underline_in}
 use Rattle.tikeburo_c.specs.declared.failure.Failure.{Failure}
 use Rattle.tikeburo_c.specs.declared.failure.Failure.TheVariants.{Range, Unreadable}
-use Rattle.tikeburo_c.specs.declared.fields.AttributeFields.{AttributeFields}
 use Rattle.tikeburo_c.specs.declared.lists.ChangeFields.{ChangeFields}
 use Rattle.tikeburo_c.specs.declared.lists.Kind.{Kind}
 use Rattle.tikeburo_c.specs.declared.lists.Kind.TheVariants as kind

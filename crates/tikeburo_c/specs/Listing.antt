@@ -2,7 +2,7 @@
 use Rattle.std.specs.Int.{cast_unsigned, w64}
 use Rattle.std.specs.Int.RustNames.{FitsSigned}
 use Rattle.std.specs.List.{flat_map}
-use Rattle.std.specs.Prelude.{◌≡◌, ℕ, ◌+◌, ◌*◌, List, [], Option, Some, None, Ok, IsUtf8, length, map}
+use Rattle.std.specs.Prelude.{◌≡◌, ℕ, ◌+◌, ◌*◌, List, [], Some, None, Ok, IsUtf8, length, map}
 use Rattle.termwiz_cell.specs.AttributeChangeValue as attribute
 use Rattle.termwiz_cell.specs.AttributeChangeValue.{AttributeChangeValue}
 use Rattle.termwiz_cell.specs.Attributes.{Attributes, default_attributes}

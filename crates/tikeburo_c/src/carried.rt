@@ -75,7 +75,7 @@ mod tests {
             at: 0,
             change: 0,
         };
-        let mut room = [0u8; 200];
+        let (mut room, mut short) = ([0u8; 200], [0u8; 3]);
         // None of them is there.
         assert_eq!(rt;
             carry(alloc, &mut surface, &mut client, &mut room, &mut fault),
@@ -103,7 +103,7 @@ mod tests {
         // A buffer that is too short leaves the client as it is, for the next one.
         assert_eq!(rt; tk_resize(alloc, &mut surface, 4, 3), 0);
         assert_eq!(rt;
-            carry(alloc, &mut surface, &mut client, &mut room[..3], &mut fault),
+            carry(alloc, &mut surface, &mut client, &mut short, &mut fault),
             9
         );
         assert_size(&rt, alloc, &mut client, (6, 2));

@@ -2,6 +2,10 @@
  *
  *     measure plain COUNT     a line of 80 characters and CR LF on 80x24
  *     measure answer COUNT    the bytes of a repaint of a coloured 80x24
+ *     measure logged COUNT    a list of 100 pens, 100 moves and 100 texts of 8 columns
+ *     measure unlogged COUNT  the same list, which isn't logged
+ *     measure cells COUNT     the cells of a coloured 80x24, each by a call
+ *     measure rows COUNT      the same, a row by a call
  *
  * The program keeps no time: run it under callgrind at two counts, and take the difference. Beside
  * `plain` of the bench stands the first, and beside `answer-repaint` and `encode-repaint` together
@@ -44,11 +48,76 @@ static tk_status answer(tk_handle *surface, long count, size_t *result) {
     return status;
 }
 
+/* Pens, moves and texts in turn, over the whole screen. */
+static tk_status add_list(tk_handle *surface, long count, bool is_logged, size_t *result) {
+    static tk_change list[300];
+    static char texts[800];
+    memset(texts, 'x', sizeof texts);
+    for (size_t i = 0; i < 100; i++) {
+        list[3 * i].kind = TK_CHANGE_PEN;
+        list[3 * i].attributes.foreground = (tk_color){.kind = TK_COLOR_PALETTE, .index = i % 10};
+        list[3 * i + 1] = (tk_change){.kind = TK_CHANGE_MOVE, .first = i % 10 * 8, .second = i / 10};
+        list[3 * i + 2] = (tk_change){.kind = TK_CHANGE_TEXT, .first = 8};
+    }
+    tk_status status = TK_DONE;
+    for (long i = 0; i < count && status == TK_DONE; i++)
+        status = is_logged ? tk_add_changes(surface, list, 300, texts, sizeof texts)
+                           : tk_add_unlogged(surface, list, 300, texts, sizeof texts);
+    return status != TK_DONE ? status : tk_number(surface, result);
+}
+
+static tk_status logged(tk_handle *surface, long count, size_t *result) {
+    return add_list(surface, count, true, result);
+}
+
+static tk_status unlogged(tk_handle *surface, long count, size_t *result) {
+    return add_list(surface, count, false, result);
+}
+
+/* The number of cells that were read. */
+static tk_status cells(tk_handle *surface, long count, size_t *result) {
+    tk_status status = add_colours(surface);
+    for (long i = 0; i < count && status == TK_DONE; i++) {
+        for (size_t at = 0; at < 80 * 24 && status == TK_DONE; at++) {
+            tk_cell cell;
+            char text[16];
+            size_t len;
+            status = tk_cell_at(surface, at % 80, at / 80, &cell, text, sizeof text, &len);
+            *result += 1;
+        }
+    }
+    return status;
+}
+
+static tk_status rows(tk_handle *surface, long count, size_t *result) {
+    static tk_row_cell cells[80];
+    static tk_attributes attributes[80];
+    static char text[400];
+    tk_status status = add_colours(surface);
+    for (long i = 0; i < count && status == TK_DONE; i++) {
+        for (size_t row = 0; row < 24 && status == TK_DONE; row++) {
+            tk_row_counts counts;
+            status = tk_row_cells(surface, row, cells, 80, attributes, 80, text, sizeof text,
+                                  &counts);
+            *result += counts.cells;
+        }
+    }
+    return status;
+}
+
+typedef tk_status workload(tk_handle *surface, long count, size_t *result);
+
 int main(int words, char **word) {
-    bool is_plain = words == 3 && strcmp(word[1], "plain") == 0;
-    bool is_answer = words == 3 && strcmp(word[1], "answer") == 0;
-    if (!is_plain && !is_answer) {
-        fputs("usage: measure plain|answer COUNT\n", stderr);
+    static const struct {
+        const char *name;
+        workload *run;
+    } all[] = {{"plain", plain},       {"answer", answer}, {"logged", logged},
+               {"unlogged", unlogged}, {"cells", cells},   {"rows", rows}};
+    size_t which = 0, kinds = sizeof all / sizeof *all;
+    while (words == 3 && which < kinds && strcmp(word[1], all[which].name) != 0)
+        which++;
+    if (words != 3 || which == kinds) {
+        fputs("usage: measure plain|answer|logged|unlogged|cells|rows COUNT\n", stderr);
         return 2;
     }
     long count = strtol(word[2], NULL, 10);
@@ -56,7 +125,7 @@ int main(int words, char **word) {
     size_t result = 0;
     tk_status status = tk_surface_new(&surface, 80, 24, TK_WIDTHS_UNICODE, 1);
     if (status == TK_DONE)
-        status = is_plain ? plain(&surface, count, &result) : answer(&surface, count, &result);
+        status = all[which].run(&surface, count, &result);
     tk_free(&surface);
     printf("%zu\n", result);
     return status == TK_DONE ? 0 : 1;

@@ -27,8 +27,10 @@ pub struct Terminal {
 
 impl Terminal {
     pub fn new(width: usize, height: usize) -> Result<Terminal, Error> {
+        let mut surface = Surface::new(width, height)?;
+        surface.keep_changes(false); // nobody follows it
         Ok(Terminal {
-            surface: Surface::new(width, height)?,
+            surface,
             width,
             height,
             cursor: Cursor::default(),

@@ -319,7 +319,8 @@ impl Surface {
         number.saturating_sub(1) + (self.current_seqno() - number)
     }
 
-    /// Copies a region as [`Surface::copy_region`] does, and leaves cursor and pen as before.
+    /// Copies a region as [`Surface::copy_region`] does, and leaves cursor and pen as before. Returns
+    /// the number of the last change that this takes.
     ///
     /// # Errors
     ///
@@ -332,12 +333,13 @@ impl Surface {
         height: usize,
         dest_x: usize,
         dest_y: usize,
-    ) -> Result<(), Error> {
-        let handle = self.handle.get();
+    ) -> Result<SequenceNo, Error> {
+        let (handle, number) = (self.handle.get(), self.current_seqno());
         // Safety: the handle is live.
         Error::check(unsafe {
             ffi::tk_draw_region(handle, src_x, src_y, width, height, dest_x, dest_y)
-        })
+        })?;
+        Ok(self.last_since(number))
     }
 
     /// Takes another size, as [`Surface::new`] has it: rows are cut or filled with blanks, and the

@@ -21,6 +21,12 @@ pub record ClientValue (W : Type 0) : Type 0 where
   -- why it takes no more bytes
   pub stopped : Option ClientError
 
+-- what it shows, without the rest
+pub record DisplayValue (W : Type 0) : Type 0 where
+  pub surface : SurfaceValue W
+  pub source : ℕ
+  pub number : ℕ
+
 -- a full screen, and the source and the number that it has
 pub record Shown : Type 0 where
   pub picture : FullScreen
@@ -28,9 +34,16 @@ pub record Shown : Type 0 where
   pub number : ℕ
 
 module _ {W : Type 0} where
+  abbrev pub display_of : ClientValue W → DisplayValue W
+  display_of c = record { surface = c.surface; source = c.source; number = c.number }
+
+  -- what a display shows
+  abbrev pub shown_on : DisplayValue W → Shown
+  shown_on d = record { picture = full_of d.surface; source = d.source; number = d.number }
+
   -- what a client shows
   abbrev pub shown_by : ClientValue W → Shown
-  shown_by c = record { picture = full_of c.surface; source = c.source; number = c.number }
+  shown_by c = shown_on (display_of c)
 
   -- what it asks by
   abbrev pub ask_of : ClientValue W → Ask

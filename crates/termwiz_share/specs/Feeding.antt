@@ -1,5 +1,5 @@
 -- What a client makes of the bytes that it is fed.
-use Rattle.std.specs.Prelude.{◌≡◌, ◌≢◌, ◌⊎◌, ℕ, ◌+◌, ◌≤◌, ◌^◌, Bool, true, false, Some, None, List, [], ◌∷◌, ◌++◌, length, Result, Ok, Err}
+use Rattle.std.specs.Prelude.{◌≡◌, ◌≢◌, ◌⊎◌, ℕ, ◌+◌, ◌≤◌, ◌^◌, Bool, true, false, Option, Some, None, List, [], ◌∷◌, ◌++◌, length, Result, Ok, Err}
 use Rattle.cbor.specs.declared.error.FaultKind.TheVariants.{Truncated}
 use Rattle.termwiz_screen.specs.Log.{next_number}
 use Rattle.termwiz_surface.specs.Answer.{is_repaint}
@@ -7,7 +7,7 @@ use Rattle.termwiz_wire.specs.Answers.{answer_at}
 use Rattle.termwiz_wire.specs.declared.fault.Fault.{Fault}
 use Rattle.termwiz_wire.specs.declared.fault.Limits.{Limits}
 use Rattle.termwiz_wire.specs.declared.sent.SentAnswer.{SentAnswer}
-use Rattle.termwiz_share.specs.Client.{ClientValue, SameSettings, Shown, fits, has_other_size, shown_by, size_place, taken}
+use Rattle.termwiz_share.specs.Client.{ClientValue, DisplayValue, SameSettings, Shown, display_of, fits, has_other_size, shown_by, shown_on, size_place, taken}
 use Rattle.termwiz_share.specs.declared.error.ClientError.{ClientError}
 use Rattle.termwiz_share.specs.declared.error.ClientError.TheVariants as errors
 
@@ -26,6 +26,11 @@ module _ (measure : List ℕ → ℕ) (limits : Limits) where
     pub is : answer_at measure limits bytes ≡ Err fault
     pub cut : fault.kind ≡ Truncated
 
+-- an answer of another size stops a client
+abbrev pub refusal : Option ClientError → ClientError → Option ClientError
+refusal stopped (errors.Size at) = Some (errors.Size at)
+refusal stopped e = stopped
+
 module _ {W : Type 0} where
   -- the client takes no more bytes, for this reason
   abbrev pub stopped_by : ClientValue W → ClientError → ClientValue W
@@ -39,6 +44,15 @@ module _ {W : Type 0} where
   abbrev pub unnamed : ClientValue W → ClientValue W
   unnamed c = record c { source = 0; number = 0 }
 
+  abbrev pub nameless : DisplayValue W → DisplayValue W
+  nameless d = record d { source = 0; number = 0 }
+
+  -- a display may show anything, which has no source and no number
+  pub record IsNameless (old new : DisplayValue W) : Type 0 where
+    pub source : new.source ≡ 0
+    pub number : new.number ≡ 0
+    pub widths : new.surface.widths ≡ old.surface.widths
+
   -- it may show anything, which has no source and no number
   pub record HasForgotten (old new : ClientValue W) : Type 0 where
     pub source : new.source ≡ 0
@@ -47,25 +61,24 @@ module _ {W : Type 0} where
     pub settings : SameSettings old new
 
   -- the changes of a delta would pass the greatest number of the client's own surface
-  pub record LacksNumbers (c : ClientValue W) (a : SentAnswer) : Type 0 where
-    pub fits : fits (shown_by c) a ≡ true
+  pub record LacksNumbers (d : DisplayValue W) (a : SentAnswer) : Type 0 where
+    pub fits : fits (shown_on d) a ≡ true
     pub delta : is_repaint a.answer ≡ false
-    pub passes : 2 ^ 64 ≤ next_number c.surface.log + length a.answer.changes
+    pub passes : 2 ^ 64 ≤ next_number d.surface.log + length a.answer.changes
 
   module _ (measure_of : W → List ℕ → ℕ) where
-    -- the client takes an answer, whose bytes it has
+    -- a display takes an answer
     abbrev pub Takes :
-        ClientValue W → SentAnswer → Result (Unit {0}) ClientError → ClientValue W → Type 0
+        DisplayValue W → SentAnswer → Result (Unit {0}) ClientError → DisplayValue W → Type 0
     Takes old a (Ok u) new =
-        (has_other_size (shown_by old) a ≡ false) ×
-        (shown_by new ≡ taken (measure_of old.surface.widths) (shown_by old) a) ×
-        (new.kept ≡ old.kept) × SameSettings old new
+        (has_other_size (shown_on old) a ≡ false) ×
+        (shown_on new ≡ taken (measure_of old.surface.widths) (shown_on old) a) ×
+        (new.surface.widths ≡ old.surface.widths)
     Takes old a (Err (errors.Fault f)) new = ⊥
     Takes old a (Err (errors.Size at)) new =
-        (has_other_size (shown_by old) a ≡ true) × (at ≡ size_place (shown_by old) a) ×
-        (new ≡ stopped_by old (errors.Size at))
-    Takes old a (Err errors.Numbers) new = LacksNumbers old a × (new ≡ unnamed old)
-    Takes old a (Err errors.Memory) new = (new ≡ old) ⊎ HasForgotten old new
+        (has_other_size (shown_on old) a ≡ true) × (at ≡ size_place (shown_on old) a) × (new ≡ old)
+    Takes old a (Err errors.Numbers) new = LacksNumbers old a × (new ≡ nameless old)
+    Takes old a (Err errors.Memory) new = (new ≡ old) ⊎ IsNameless old new
 
     -- what its bytes begin with
     abbrev pub read_of : ClientValue W → Result (SentAnswer × List ℕ) Fault
@@ -87,7 +100,8 @@ module _ {W : Type 0} where
         (has_other_size (shown_by old) a ≡ true) × (at ≡ size_place (shown_by old) a) ×
         (new ≡ stopped_by old (errors.Size at))
     Steps old (Err errors.Numbers) new =
-        (a : SentAnswer) × (rest : List ℕ) × (read_of old ≡ Ok (a, rest)) × LacksNumbers old a ×
+        (a : SentAnswer) × (rest : List ℕ) × (read_of old ≡ Ok (a, rest)) ×
+        LacksNumbers (display_of old) a ×
         (new ≡ unnamed old)
     Steps old (Err errors.Memory) new = (new ≡ old) ⊎ HasForgotten old new
 

@@ -19,11 +19,12 @@ pub use Rattle.termwiz_surface.specs.Resizing.{Resizes}
 pub use Rattle.termwiz_surface.specs.Surface.{IsSurfaceSize, SurfaceValue, blank_surface, screen_of}
 pub use Rattle.termwiz_surface.specs.declared.surface.SurfaceError.TheVariants.{ScrollRegion}
 pub use Rattle.termwiz_wire.specs.Answers.{answer_at}
+pub use Rattle.termwiz_wire.specs.Lent.{lent_answer}
 pub use Rattle.termwiz_wire.specs.Sent.{IsAsk, ask}
 pub use Rattle.termwiz_wire.specs.declared.fault.Fault.{Fault}
 pub use Rattle.termwiz_share.specs.declared.error.ClientError.TheVariants.{Memory}
 pub use Rattle.termwiz_share.specs.Source.{Answers, IsResponse, Responds, SourceValue, most_bytes, sent_by, trimmed}
-pub use Rattle.termwiz_share.specs.Client.{ClientValue, IsReady, ask_of, fits, shown_by, size_place}
-pub use Rattle.termwiz_share.specs.Feeding.{Feeds, Reads, Steps, Takes, stopped_by, unnamed, with_bytes}
+pub use Rattle.termwiz_share.specs.Client.{ClientValue, DisplayValue, IsReady, ask_of, fits, shown_by, shown_on, size_place}
+pub use Rattle.termwiz_share.specs.Feeding.{Feeds, Reads, Steps, Takes, nameless, refusal, stopped_by, with_bytes}
 pub use Rattle.termwiz_share.specs.Histories.{Follows, FollowsTo, Given}
 pub use Rattle.termwiz_share.specs.Serving.{KeepsClients, KeepsSources, Serves, Shows}

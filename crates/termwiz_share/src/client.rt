@@ -4,13 +4,14 @@ ghost use Rattle.std.specs.Prelude.{length};
 ghost use Rattle.termwiz_share.specs.{ClientValue, Feeds, Follows, FollowsTo, FullScreen, Given};
 ghost use Rattle.termwiz_share.specs.{IsAsk, IsReady, IsResponse, KeepsSources, Reads, Serves};
 ghost use Rattle.termwiz_share.specs.{Shows, SourceValue, Steps};
-ghost use Rattle.termwiz_share.specs.{Memory, ask, ask_of, blank_surface, measure, stopped_by};
-ghost use Rattle.termwiz_share.specs.{true, with_bytes};
+ghost use Rattle.termwiz_share.specs.{Memory, ask, ask_of, blank_surface, measure, refusal};
+ghost use Rattle.termwiz_share.specs.{stopped_by, true, with_bytes};
 
-mod taking;
+mod display;
 
 use crate::error::ClientError;
 use crate::store::append;
+use display::Display;
 use std::alloc::{AllocError, Global};
 use std::marker::Model;
 use termwiz_cell::change::SequenceNo;
@@ -29,9 +30,7 @@ use termwiz_wire::{
 pub struct Client<W: Widths> {
     alloc: Global,
     limits: Limits,
-    surface: Surface<W>,
-    source: SourceNo,
-    number: SequenceNo,
+    display: Display<W>,
     bytes: Vec<u8>,
     // How many of them are used.
     start: usize,
@@ -49,18 +48,16 @@ impl<W: Widths> Model for Client<W> {
     ghost Value = { ClientValue W };
 
     ghost view = { λ c. record {
-      surface = c.surface;
-      source = c.source;
-      number = c.number;
+      surface = c.display.surface;
+      source = c.display.source;
+      number = c.display.number;
       kept = drop c.start c.bytes.items;
       limits = c.limits;
       stopped = c.stopped;
     } };
 
-    ghost invariant = { λ c. (c.start ≤ length c.bytes.items)
-        × (c.surface.full ≡ true) × (c.surface.log.changes ≡ [])
-        × (0 < c.limits.bytes) × (c.source ≡ 0 → c.number ≡ 0)
-        × IfSome c.begun (λ b. LeadsOn (measure W.width_of c.surface.widths) c.limits b
+    ghost invariant = { λ c. (c.start ≤ length c.bytes.items) × (0 < c.limits.bytes)
+        × IfSome c.begun (λ b. LeadsOn (measure W.width_of c.display.surface.widths) c.limits b
         (drop c.start c.bytes.items)) };
 }
 
@@ -83,13 +80,11 @@ impl<W: Widths> Client<W> {
             measure W.width_of widths ≡ measure W.width_of source.surface.widths →
             Serves (measure W.width_of) source client) }
     {
-        let surface = Surface::new_full(alloc, 1, 1, widths)?;
+        let display = Display::new(alloc, widths)?;
         Ok(Client {
             alloc,
             limits,
-            surface,
-            source: 0,
-            number: 0,
+            display,
             bytes: Vec::new(alloc),
             start: 0,
             begun: None,
@@ -103,21 +98,21 @@ impl<W: Widths> Client<W> {
         ensures full { result.now.full ≡ true }
         ensures log { result.now.log.changes ≡ [] }
     {
-        &self.surface
+        self.display.surface()
     }
 
     /// The source of the answer that was taken last, or 0 where there is none.
     pub fn source(&self) -> SourceNo
         ensures { result ≡ self.now.source }
     {
-        self.source
+        self.display.source()
     }
 
     /// The number of the answer that was taken last, or 0 where there is none.
     pub fn number(&self) -> SequenceNo
         ensures { result ≡ self.now.number }
     {
-        self.number
+        self.display.number()
     }
 
     /// Why the client takes no more bytes, if it is so.
@@ -133,8 +128,8 @@ impl<W: Widths> Client<W> {
         ensures named { result.source ≡ 0 → result.number ≡ 0 }
     {
         Ask {
-            source: self.source,
-            number: self.number,
+            source: self.display.source(),
+            number: self.display.number(),
         }
     }
 
@@ -219,13 +214,19 @@ impl<W: Widths> Client<W> {
         ensures shorter { IfOk result (λ more. more ≡ true →
             length self.new.kept < length self.old.kept) }
     {
-        let widths = self.surface.widths();
+        answers();
+        if self.start == self.bytes.len() {
+            return Ok(false);
+        }
+        let widths = self.display.surface().widths();
         let begun = self.begun.take();
         let bytes = &self.bytes[self.start..];
         match decode_more(self.alloc, &widths, self.limits, begun, bytes) {
-            Ok((sent, taken)) => {
-                self.take(sent)?;
-                self.begun = None;
+            Ok((answer, taken)) => {
+                if let Err(error) = self.display.take(answer) {
+                    self.stopped = refusal(self.stopped, error);
+                    return Err(error);
+                }
                 self.start += taken;
                 Ok(true)
             }
@@ -235,17 +236,21 @@ impl<W: Widths> Client<W> {
             }
             Err(NoAnswer::Failed(WireError::Memory)) => Err(ClientError::Memory),
             Err(NoAnswer::Failed(WireError::Fault(fault))) => {
-                Err(self.stop(ClientError::Fault(fault)))
+                let error = ClientError::Fault(fault);
+                self.stopped = Some(error);
+                Err(error)
             }
         }
     }
+}
 
-    // Takes no more bytes.
-    fn stop(&mut self, error: ClientError) -> ClientError
-        ensures stopped { self.new ≡ stopped_by self.old error }
-        ensures error { result ≡ error }
-    {
-        self.stopped = Some(error);
-        error
+// Why a client takes no more bytes once an answer is refused by this error: one of another size
+// stops it.
+fn refusal(stopped: Option<ClientError>, error: ClientError) -> Option<ClientError>
+    ensures { result ≡ refusal stopped error }
+{
+    match error {
+        ClientError::Size { at: _ } => Some(error),
+        _ => stopped,
     }
 }

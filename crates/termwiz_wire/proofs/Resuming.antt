@@ -17,6 +17,7 @@ use Rattle.termwiz_wire.specs.Answers.{Decodes, Halt, answer_at, answer_in, each
 use Rattle.termwiz_wire.specs.Decoding.{change_at}
 use Rattle.termwiz_wire.specs.Encoding.{change}
 use Rattle.termwiz_wire.specs.Resuming.{GoesOn, HasGoneOn, IsUnfinished, LeadsOn, Resumes, left_at, rest_at, resumed_in}
+use Rattle.termwiz_wire.specs.Lent.{lent_answer}
 use Rattle.termwiz_wire.specs.Sent.{answer}
 use Rattle.termwiz_wire.specs.declared.decode.begun.Begun.{Begun}
 use Rattle.termwiz_wire.specs.declared.decode.begun.NoAnswer.TheVariants as no_answers
@@ -24,6 +25,7 @@ use Rattle.termwiz_wire.specs.declared.decode.halted.Halted.{Halted}
 use Rattle.termwiz_wire.specs.declared.decode.heads.Head.{Head}
 use Rattle.termwiz_wire.specs.declared.fault.Limits.{Limits}
 use Rattle.termwiz_wire.specs.declared.fault.WireError.{WireError}
+use Rattle.termwiz_wire.specs.declared.sent.LentAnswer.{LentAnswer}
 use Rattle.termwiz_wire.specs.declared.sent.SentAnswer.{SentAnswer}
 use Rattle.termwiz_wire.proofs.AnswersFound.{answer_takes, head_bytes, head_takes}
 use Rattle.termwiz_wire.proofs.Found.{change_takes}
@@ -158,9 +160,9 @@ module _ (measure : List ℕ → ℕ) (limits : Limits) (bytes : List ℕ) where
   pub answer_took : (s : SentAnswer) (rest : List ℕ) (n : ℕ) → IsBytes hand → answer_in measure room limits.cells hand ≡ Ok (s, rest) → n ≡ length hand - length rest → Took reading limits.bytes (answer measure s) bytes n s
   answer_took s rest n fits e is = took reading limits.bytes (answer measure s) bytes hand rest room n s refl refl (answer_takes measure room limits.cells hand (s, rest) fits e).taken.parts e is
 
-  pub resumes_whole : (s : SentAnswer) (n : ℕ) → Took reading limits.bytes (answer measure s) bytes n s → Resumes measure limits bytes (Ok (s, n))
+  pub resumes_whole : (a : LentAnswer) (n : ℕ) → Took reading limits.bytes (answer measure (lent_answer a)) bytes n (lent_answer a) → Resumes measure limits bytes (Ok (a, n))
   unfolding answer_at
-  resumes_whole s n t = t.exact
+  resumes_whole a n t = t.exact
 
   -- more bytes may make it
   pub is_unfinished : (h : Halt) → answer_in measure room limits.cells hand ≡ Err h → h.stop.fault ≡ Truncated → IsUnfinished measure limits bytes
@@ -223,27 +225,28 @@ module _ (measure : List ℕ → ℕ) (limits : Limits) (bytes : List ℕ) where
     pub leads_stopped : (e : ReadError) (at : ℕ) (change : Option ℕ) → IfSome (fault_of e) (λ f. left_of ≡ Err (record { stop = record { fault = f; left = at }; change = change })) → Stopped e change at (answer_in measure room limits.cells hand)
     leads_stopped e at change stops = if_some (fault_of e) _ _ (λ f is. leads_halted (record { stop = record { fault = f; left = at }; change = change }) is) stops
 
-    module _ (r : ℕ) (start : List ℕ) (changes : Vec Change Global) (later : ℕ) (rest : List ℕ) (r_is : r ≡ room) (start_is : start ≡ drop begun.taken hand) where
+    module _ (r : ℕ) (start : List ℕ) (made more : List ChangeValue) (later : ℕ) (rest : List ℕ) (r_is : r ≡ room) (made_is : made ≡ map change_value begun.changes.items) (start_is : start ≡ drop begun.taken hand) where
       abbrev Goes : Result Bool Halted → Type 0
-      Goes result = GoesOn measure r begun.head (map change_value begun.changes.items) start result (map change_value changes.items) (allowed later rest) rest
+      Goes result = GoesOn measure r begun.head made start result more (allowed later rest) rest
 
       abbrev GoesHere : Result Bool Halted → Type 0
-      GoesHere result = GoesOn measure room begun.head (map change_value begun.changes.items) (drop begun.taken hand) result (map change_value changes.items) (allowed later rest) rest
+      GoesHere result = GoesOn measure room begun.head (map change_value begun.changes.items) (drop begun.taken hand) result more (allowed later rest) rest
 
       goes_here : (result : Result Bool Halted) → Goes result → GoesHere result
       goes_here result goes =
-          subst (λ (t : List ℕ). GoesOn measure room begun.head (map change_value begun.changes.items) t result (map change_value changes.items) (allowed later rest) rest) start_is
-          (subst (λ (n : ℕ). GoesOn measure n begun.head (map change_value begun.changes.items) start result (map change_value changes.items) (allowed later rest) rest) r_is goes)
+          subst (λ (t : List ℕ). GoesOn measure room begun.head (map change_value begun.changes.items) t result more (allowed later rest) rest) start_is
+          (subst (λ (n : ℕ). GoesOn measure n begun.head (map change_value begun.changes.items) start result more (allowed later rest) rest) r_is
+          (subst (λ (cs : List ChangeValue). GoesOn measure r begun.head cs start result more (allowed later rest) rest) made_is goes))
 
       -- all changes are there
-      pub goes_whole : (all : Bool) → all ≡ true → Goes (Ok all) → answer_in measure room limits.cells hand ≡ Ok (sent_of begun.head (map change_value changes.items), rest)
-      goes_whole all is goes = leads_whole (map change_value changes.items) rest (goes_here (Ok true) (subst (λ (b : Bool). Goes (Ok b)) is goes)).1
+      pub goes_whole : (all : Bool) → all ≡ true → Goes (Ok all) → answer_in measure room limits.cells hand ≡ Ok (sent_of begun.head more, rest)
+      goes_whole all is goes = leads_whole more rest (goes_here (Ok true) (subst (λ (b : Bool). Goes (Ok b)) is goes)).1
 
       -- one is cut
-      pub goes_cut : (all : Bool) (n : ℕ) → all ≡ false → Goes (Ok all) → n ≡ length hand - length rest → Resumes measure limits bytes (Err (no_answers.Cut (Some (record { head = begun.head; changes = changes; taken = n }))))
-      goes_cut all n is goes n_is =
+      pub goes_cut : (changes : Vec Change Global) (all : Bool) (n : ℕ) → map change_value changes.items ≡ more → all ≡ false → Goes (Ok all) → n ≡ length hand - length rest → Resumes measure limits bytes (Err (no_answers.Cut (Some (record { head = begun.head; changes = changes; taken = n }))))
+      goes_cut changes all n same is goes n_is =
           let g = goes_here (Ok false) (subst (λ (b : Bool). Goes (Ok b)) is goes) in
-          (is_unfinished g.1 (leads_halted g.1 g.2) g.3, for_some (λ (b : Begun). LeadsOn measure limits b bytes) (record { head = begun.head; changes = changes; taken = n }) (leads_more changes rest n g.0 n_is))
+          (is_unfinished g.1 (leads_halted g.1 g.2) g.3, for_some (λ (b : Begun). LeadsOn measure limits b bytes) (record { head = begun.head; changes = changes; taken = n }) (leads_more changes rest n (subst (λ (cs : List ChangeValue). Left cs rest) (sym same) g.0) n_is))
 
       -- it fails
       pub goes_failed : (h : Halted) (n : ℕ) (result : WireError) → later ≡ room → Goes (Err h) → n ≡ length hand - length rest → result ≡ error_of h.error n h.change → Resumes measure limits bytes (Err (no_answers.Failed result))

@@ -7,6 +7,7 @@ pub mod Decoding
 pub mod Forms
 pub mod Sent
 pub mod Answers
+pub mod Lent
 pub mod MoreBytes
 pub mod Resuming
 pub mod Lengths

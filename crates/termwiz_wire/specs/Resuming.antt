@@ -6,6 +6,7 @@ use Rattle.cbor.specs.declared.error.FaultKind.TheVariants.{Truncated}
 use Rattle.cbor.specs.declared.error.ReadError.TheVariants as read_errors
 use Rattle.termwiz_cell.specs.ChangeValue.{ChangeValue, change_value}
 use Rattle.termwiz_wire.specs.Answers.{Halt, answer_at, answer_in, each_at, sent_of}
+use Rattle.termwiz_wire.specs.Lent.{lent_answer}
 use Rattle.termwiz_wire.specs.declared.decode.begun.Begun.{Begun}
 use Rattle.termwiz_wire.specs.declared.decode.begun.NoAnswer.{NoAnswer}
 use Rattle.termwiz_wire.specs.declared.decode.begun.NoAnswer.TheVariants as no_answers
@@ -14,6 +15,7 @@ use Rattle.termwiz_wire.specs.declared.decode.heads.Head.{Head}
 use Rattle.termwiz_wire.specs.declared.fault.Fault.{Fault}
 use Rattle.termwiz_wire.specs.declared.fault.Limits.{Limits}
 use Rattle.termwiz_wire.specs.declared.fault.WireError.TheVariants as errors
+use Rattle.termwiz_wire.specs.declared.sent.LentAnswer.{LentAnswer}
 use Rattle.termwiz_wire.specs.declared.sent.SentAnswer.{SentAnswer}
 
 -- the changes behind these, of those that an answer has
@@ -54,8 +56,9 @@ pub record IsUnfinished (measure : List ℕ → ℕ) (limits : Limits) (bytes : 
 
 -- a call returns what decoding gives, or fails with its fault, unless memory was refused: where
 -- more bytes may make an answer, with what leads on to it
-abbrev pub Resumes : (List ℕ → ℕ) → Limits → List ℕ → Result (SentAnswer × ℕ) NoAnswer → Type 0
-Resumes measure limits bytes (Ok x) = answer_at measure limits bytes ≡ Ok (x.0, drop x.1 bytes)
+abbrev pub Resumes : (List ℕ → ℕ) → Limits → List ℕ → Result (LentAnswer × ℕ) NoAnswer → Type 0
+Resumes measure limits bytes (Ok x) =
+    answer_at measure limits bytes ≡ Ok (lent_answer x.0, drop x.1 bytes)
 Resumes measure limits bytes (Err (no_answers.Cut begun)) =
     IsUnfinished measure limits bytes × ForSome begun (λ b. LeadsOn measure limits b bytes)
 Resumes measure limits bytes (Err (no_answers.Failed (errors.Fault f))) =

@@ -22,4 +22,4 @@ pub use encode::{encode_answer, encode_ask, encode_change, encode_changes};
 pub use fault::{Fault, Limits, WireError};
 pub use len::encoded_len;
 pub use more_bytes::{answers, decided, stays};
-pub use sent::{Ask, SentAnswer, SourceNo};
+pub use sent::{Ask, LentAnswer, SentAnswer, SourceNo};

@@ -1,6 +1,6 @@
 //! What a stream carries: answers, each with its source, and what is asked for.
 use termwiz_cell::change::SequenceNo;
-use termwiz_surface::Answer;
+use termwiz_surface::{Answer, LentChange};
 
 /// The number of a source, which is a surface that gives answers. Numbers are from 1 on, and 0
 /// names no source.
@@ -11,6 +11,20 @@ pub type SourceNo = usize;
 pub struct SentAnswer {
     pub source: SourceNo,
     pub answer: Answer,
+}
+
+/// An answer whose texts are borrowed from the bytes that it was decoded from, and the source that
+/// gave it.
+#[derive(Debug, Drop)]
+pub struct LentAnswer<'a> {
+    pub source: SourceNo,
+    pub width: usize,
+    pub height: usize,
+    /// The number that its changes lead on from, or 0 where it is a repaint.
+    pub base: SequenceNo,
+    /// The number that they lead to.
+    pub number: SequenceNo,
+    pub changes: Vec<LentChange<'a>>,
 }
 
 /// What a viewer asks by: the source and the number that it shows. Both are 0 where it shows

@@ -4,19 +4,25 @@ ghost use Rattle.std.specs.Prelude.{◌≡◌, ◌++◌, ◌<◌, ◌≤◌, IfO
 ghost use Rattle.cbor.specs.Decoding.{IsBytes, allowed};
 ghost use Rattle.termwiz_cell.specs.ChangeValue.{change_value};
 ghost use Rattle.termwiz_cell.specs.Measure.{measure};
+ghost use Rattle.termwiz_surface.specs.Surface.{IsSurfaceSize};
+ghost use Rattle.termwiz_surface.specs.Unlogged.{lent_value};
+ghost use Rattle.termwiz_wire.specs.Answers.{sent_of};
+ghost use Rattle.termwiz_wire.specs.Lent.{lent_answer};
 ghost use Rattle.termwiz_wire.specs.Resuming.{GoesOn, LeadsOn, Resumes};
 ghost use Rattle.termwiz_wire.specs.Sent.{answer};
+ghost use Rattle.termwiz_wire.specs.declared.decode.begun.NoAnswer.TheVariants.{Failed};
+ghost use Rattle.termwiz_wire.specs.declared.fault.WireError.TheVariants.{Memory};
 
-use super::answers::sent_from;
-use super::changes::change_of;
+use super::changes::{change_of, owned};
 use super::halted::Halted;
 use super::heads::{Head, head_of};
 use crate::fault::{Limits, WireError};
-use crate::sent::SentAnswer;
+use crate::sent::LentAnswer;
 use cbor::{ReadError, Reader};
-use std::alloc::Global;
+use std::alloc::{AllocError, Global};
 use termwiz_cell::change::Change;
 use termwiz_cell::emoji::Widths;
+use termwiz_surface::LentChange;
 
 /// What was decoded of an answer whose bytes are not all there: what it has before its changes, and
 /// the first of them.
@@ -40,23 +46,26 @@ pub enum NoAnswer {
 
 /// Decodes the answer at the front of the bytes as `decode_answer` does, from where an earlier call
 /// left it, which had the first of these bytes. Each change is decoded once, and what is cut again.
-pub fn decode_more<W: Widths>(
+/// The answer borrows the texts that this call decodes.
+pub fn decode_more<'a, W: Widths>(
     alloc: Global,
     widths: &W,
     limits: Limits,
     begun: Option<Begun>,
-    bytes: &[u8],
-) -> Result<(SentAnswer, usize), NoAnswer>
+    bytes: &'a [u8],
+) -> Result<(LentAnswer<'a>, usize), NoAnswer>
     requires leads { ForSome begun
         (λ b. LeadsOn (measure W.width_of widths.now) limits b bytes.now) }
     // It is what is decoded from the front.
     ensures exact { Resumes (measure W.width_of widths.now) limits bytes.now result }
     // What is decoded was encoded so, in so many bytes.
     ensures found { IfOk result (λ x.
-        (bytes.now ≡ answer (measure W.width_of widths.now) x.0 ++ drop x.1 bytes.now)
+        (bytes.now ≡ answer (measure W.width_of widths.now) (lent_answer x.0) ++ drop x.1 bytes.now)
         × (x.1 ≤ length bytes.now)) }
     // It names its source.
     ensures named { IfOk result (λ x. 0 < x.0.source) }
+    // It has a size that a surface may have.
+    ensures sized { IfOk result (λ x. IsSurfaceSize x.0.width x.0.height) }
 {
     match begun {
         None => begin(alloc, widths, limits, bytes),
@@ -65,17 +74,18 @@ pub fn decode_more<W: Widths>(
 }
 
 // Decodes an answer from the front.
-fn begin<W: Widths>(
+fn begin<'a, W: Widths>(
     alloc: Global,
     widths: &W,
     limits: Limits,
-    bytes: &[u8],
-) -> Result<(SentAnswer, usize), NoAnswer>
+    bytes: &'a [u8],
+) -> Result<(LentAnswer<'a>, usize), NoAnswer>
     ensures exact { Resumes (measure W.width_of widths.now) limits bytes.now result }
     ensures found { IfOk result (λ x.
-        (bytes.now ≡ answer (measure W.width_of widths.now) x.0 ++ drop x.1 bytes.now)
+        (bytes.now ≡ answer (measure W.width_of widths.now) (lent_answer x.0) ++ drop x.1 bytes.now)
         × (x.1 ≤ length bytes.now)) }
     ensures named { IfOk result (λ x. 0 < x.0.source) }
+    ensures sized { IfOk result (λ x. IsSurfaceSize x.0.width x.0.height) }
 {
     let mut reader = Reader::with_limit(bytes, limits.bytes);
     let len = reader.rest().len();
@@ -103,35 +113,39 @@ fn begin<W: Widths>(
 }
 
 // Decodes the rest of what is begun.
-fn resume<W: Widths>(
+fn resume<'a, W: Widths>(
     alloc: Global,
     widths: &W,
     limits: Limits,
     begun: Begun,
-    bytes: &[u8],
-) -> Result<(SentAnswer, usize), NoAnswer>
+    bytes: &'a [u8],
+) -> Result<(LentAnswer<'a>, usize), NoAnswer>
     requires { LeadsOn (measure W.width_of widths.now) limits begun bytes.now }
     ensures exact { Resumes (measure W.width_of widths.now) limits bytes.now result }
     ensures found { IfOk result (λ x.
-        (bytes.now ≡ answer (measure W.width_of widths.now) x.0 ++ drop x.1 bytes.now)
+        (bytes.now ≡ answer (measure W.width_of widths.now) (lent_answer x.0) ++ drop x.1 bytes.now)
         × (x.1 ≤ length bytes.now)) }
     ensures named { IfOk result (λ x. 0 < x.0.source) }
+    ensures sized { IfOk result (λ x. IsSurfaceSize x.0.width x.0.height) }
 {
     let Begun {
         head,
-        mut changes,
+        changes,
         taken,
     } = begun;
     let mut reader = Reader::with_limit(bytes, limits.bytes);
     let hand = reader.rest();
     reader.bytes = &hand[taken..];
-    match go_on(alloc, widths, head, &mut changes, &mut reader) {
+    let mut more = Vec::new(alloc);
+    match go_on(alloc, widths, head, &changes, &mut more, &mut reader) {
         Ok(true) => {
             let taken = hand.len().saturating_sub(reader.bytes.len());
-            Ok((sent_from(head, changes), taken))
+            let changes = joined(alloc, changes, more)?;
+            Ok((lent_from(head, changes), taken))
         }
         Ok(false) => {
             let taken = hand.len().saturating_sub(reader.bytes.len());
+            let changes = owned_behind(alloc, changes, more)?;
             Err(NoAnswer::Cut(Some(Begun {
                 head,
                 changes,
@@ -145,23 +159,26 @@ fn resume<W: Widths>(
     }
 }
 
-// Decodes the changes that are left of those that an answer has, and returns whether all are there.
-// Where one is cut, the reader is before it.
-fn go_on<W: Widths>(
+// Decodes the changes that an answer has behind these, and returns whether all are there. Where one
+// is cut, the reader is before it.
+fn go_on<'a, W: Widths>(
     alloc: Global,
     widths: &W,
     head: Head,
-    changes: &mut Vec<Change>,
-    reader: &mut Reader<'_>,
+    begun: &[Change],
+    changes: &mut Vec<LentChange<'a>>,
+    reader: &mut Reader<'a>,
 ) -> Result<bool, Halted>
     requires { IsBytes reader.old.bytes.now }
     ensures goes { GoesOn (measure W.width_of widths.now) reader.old.room head
-        (map change_value changes.old.items) reader.old.bytes.now result
-        (map change_value changes.new.items) (allowed reader.new.room reader.new.bytes.now)
-        reader.new.bytes.now }
+        (map change_value begun.now ++ map lent_value changes.old.items) reader.old.bytes.now result
+        (map change_value begun.now ++ map lent_value changes.new.items)
+        (allowed reader.new.room reader.new.bytes.now) reader.new.bytes.now }
     ensures room { reader.new.room ≡ reader.old.room }
 {
-    'changes: while changes.len() < head.count {
+    let first = begun.len();
+    let count = head.count.saturating_sub(first);
+    'changes: while changes.len() < count {
         let start = reader.bytes;
         match change_of(alloc, widths, Some(head.height), reader) {
             Ok(change) => changes.push(change)?,
@@ -173,11 +190,80 @@ fn go_on<W: Widths>(
                 _ => {
                     return Err(Halted {
                         error,
-                        change: Some(changes.len()),
+                        change: Some(first + changes.len()),
                     });
                 }
             },
         }
     }
     Ok(true)
+}
+
+// The changes that an earlier call decoded, and those behind them.
+fn joined<'a>(
+    alloc: Global,
+    begun: Vec<Change>,
+    more: Vec<LentChange<'a>>,
+) -> Result<Vec<LentChange<'a>>, AllocError>
+    ensures { IfOk result (λ x. map lent_value x.items
+        ≡ map change_value begun.items ++ map lent_value more.entry.items) }
+{
+    if begun.is_empty() {
+        return Ok(more);
+    }
+    let mut more = more;
+    let mut changes = lent(alloc, begun)?;
+    changes.append(&mut more)?;
+    Ok(changes)
+}
+
+// Changes with texts of their own, as ones that may borrow them.
+fn lent<'a>(alloc: Global, changes: Vec<Change>) -> Result<Vec<LentChange<'a>>, AllocError>
+    ensures { IfOk result (λ x. map lent_value x.items ≡ map change_value changes.items) }
+{
+    let mut lent = Vec::new(alloc);
+    for change in changes {
+        lent.push(LentChange::Owned(change))?;
+    }
+    Ok(lent)
+}
+
+// The changes that an earlier call decoded, and those behind them with texts of their own.
+fn owned_behind(
+    alloc: Global,
+    begun: Vec<Change>,
+    more: Vec<LentChange<'_>>,
+) -> Result<Vec<Change>, AllocError>
+    ensures { IfOk result (λ x. map change_value x.items
+        ≡ map change_value begun.items ++ map lent_value more.entry.items) }
+{
+    let mut changes = begun;
+    for change in more {
+        changes.push(owned(alloc, change)?)?;
+    }
+    Ok(changes)
+}
+
+// The answer of this head with these changes.
+fn lent_from<'a>(head: Head, changes: Vec<LentChange<'a>>) -> LentAnswer<'a>
+    ensures answer { lent_answer result ≡ sent_of head (map lent_value changes.entry.items) }
+    ensures width { result.width ≡ head.width }
+    ensures height { result.height ≡ head.height }
+{
+    LentAnswer {
+        source: head.source,
+        width: head.width,
+        height: head.height,
+        base: head.base,
+        number: head.number,
+        changes,
+    }
+}
+
+impl From<AllocError> for NoAnswer {
+    ghost from_gives = { λ _ e. e ≡ Failed Memory };
+
+    fn from(_refused: AllocError) -> NoAnswer {
+        NoAnswer::Failed(WireError::Memory)
+    }
 }

@@ -6,6 +6,7 @@ ghost use Rattle.cbor.specs.Decoding.{Gives, allowed, ok};
 ghost use Rattle.termwiz_cell.specs.ChangeValue as changed;
 ghost use Rattle.termwiz_cell.specs.ChangeValue.{ChangeValue, change_value};
 ghost use Rattle.termwiz_cell.specs.Measure.{measure};
+ghost use Rattle.termwiz_surface.specs.Unlogged.{lent_value};
 ghost use Rattle.termwiz_wire.specs.Answers.{Decodes, Halts, changes_at, changes_in, each_at};
 ghost use Rattle.termwiz_wire.specs.Answers.{halted, one_change_at};
 ghost use Rattle.termwiz_wire.specs.Cuts.{others_at, pieces_at, pieces_by};
@@ -20,15 +21,15 @@ ghost use Rattle.termwiz_wire.specs.Beginning.{IsNeeded};
 use super::attributes::{attribute_change_of, attributes_of};
 use super::cuts::{are_same, cut_of};
 use super::halted::Halted;
-use super::links::owned_of;
 use super::small::{color_of, position_of, visibility_of};
 use crate::encode::change_count;
 use crate::fault::WireError;
 use crate::pieces::needed_runs;
 use cbor::{ReadError, Reader};
-use std::alloc::Global;
+use std::alloc::{AllocError, Global};
 use termwiz_cell::change::{Change, CursorShape, LineAttribute};
 use termwiz_cell::emoji::Widths;
+use termwiz_surface::LentChange;
 
 /// Decodes the change at the front of the bytes, and returns how many bytes it takes. The region of
 /// a scroll may lie anywhere.
@@ -102,7 +103,7 @@ fn one_change_of<W: Widths>(
     ensures room { reader.new.room ≡ reader.old.room }
 {
     match change_of(alloc, widths, None, reader) {
-        Ok(change) => Ok(change),
+        Ok(change) => Ok(owned(alloc, change)?),
         Err(error) => Err(Halted {
             error,
             change: None,
@@ -158,20 +159,21 @@ pub(super) fn each_of<W: Widths>(
                 });
             }
         };
-        changes.push(change)?;
+        changes.push(owned(alloc, change)?)?;
     }
     Ok(changes)
 }
 
+/// Decodes a change, whose text is borrowed from the bytes.
 #[tactic(auto, unfolding(crate::specs::Decoding::change_at))]
-pub(super) fn change_of<W: Widths>(
+pub(super) fn change_of<'a, W: Widths>(
     alloc: Global,
     widths: &W,
     rows: Option<usize>,
-    reader: &mut Reader<'_>,
-) -> Result<Change, ReadError>
+    reader: &mut Reader<'a>,
+) -> Result<LentChange<'a>, ReadError>
     ensures value { Gives (allowed reader.new.room reader.new.bytes.now)
-        (λ x. (change_value x, reader.new.bytes.now)) result
+        (λ x. (lent_value x, reader.new.bytes.now)) result
         (change_at (measure W.width_of widths.now) reader.old.room rows reader.old.bytes.now) }
     ensures room { reader.new.room ≡ reader.old.room }
 {
@@ -226,16 +228,16 @@ fn has_count(kind: usize, count: usize) -> bool
 }
 
 // The change of this kind.
-fn values_of<W: Widths>(
+fn values_of<'a, W: Widths>(
     alloc: Global,
     widths: &W,
     rows: Option<usize>,
     count: usize,
     kind: usize,
-    reader: &mut Reader<'_>,
-) -> Result<Change, ReadError>
+    reader: &mut Reader<'a>,
+) -> Result<LentChange<'a>, ReadError>
     ensures value { Gives (allowed reader.new.room reader.new.bytes.now)
-        (λ x. (change_value x, reader.new.bytes.now)) result
+        (λ x. (lent_value x, reader.new.bytes.now)) result
         (change_by (measure W.width_of widths.now)
         reader.old.room rows count kind reader.old.bytes.now) }
     ensures room { reader.new.room ≡ reader.old.room }
@@ -243,7 +245,7 @@ fn values_of<W: Widths>(
     let change = match kind {
         0 => Change::Attribute(attribute_change_of(alloc, reader)?),
         1 => Change::AllAttributes(attributes_of(alloc, reader)?),
-        2 => printed_of(alloc, widths, count, reader)?,
+        2 => return Ok(LentChange::Text(printed_of(alloc, widths, count, reader)?)),
         3 => Change::ClearScreen(color_of(reader)?),
         4 => Change::ClearToEndOfLine(color_of(reader)?),
         5 => Change::ClearToEndOfScreen(color_of(reader)?),
@@ -253,31 +255,42 @@ fn values_of<W: Widths>(
         9 => Change::CursorVisibility(visibility_of(reader.boolean()?)),
         10 => scroll_up_of(reader, rows)?,
         11 => scroll_down_of(reader, rows)?,
-        12 => Change::Title(owned_of(alloc, reader)?),
+        12 => return Ok(LentChange::Title(reader.text()?)),
         13 => Change::LineAttribute(LineAttribute::try_from(reader.below(4)? as u8).unwrap()),
         _ => return Err(ReadError::Type),
     };
-    Ok(change)
+    Ok(LentChange::Owned(change))
+}
+
+/// The change, with a text of its own.
+#[inline(always)]
+pub(super) fn owned(alloc: Global, change: LentChange<'_>) -> Result<Change, AllocError>
+    ensures { IfOk result (λ x. change_value x ≡ lent_value change.entry) }
+{
+    match change {
+        LentChange::Text(text) => Ok(Change::Text(String::from_str(alloc, text)?)),
+        LentChange::Title(title) => Ok(Change::Title(String::from_str(alloc, title)?)),
+        LentChange::Owned(change) => Ok(change),
+    }
 }
 
 // A text that is cut and measured here as it is sent.
 #[tactic(auto, unfolding(crate::specs::Decoding::printed_at))]
-fn printed_of<W: Widths>(
+fn printed_of<'a, W: Widths>(
     alloc: Global,
     widths: &W,
     count: usize,
-    reader: &mut Reader<'_>,
-) -> Result<Change, ReadError>
+    reader: &mut Reader<'a>,
+) -> Result<&'a str, ReadError>
     ensures value { Gives (allowed reader.new.room reader.new.bytes.now)
-        (λ x. (change_value x, reader.new.bytes.now)) result
+        (λ x. (changed.Text x.now, reader.new.bytes.now)) result
         (printed_at (measure W.width_of widths.now) reader.old.room count reader.old.bytes.now) }
     ensures room { reader.new.room ≡ reader.old.room }
 {
     let start = reader.bytes;
     let text = reader.text()?;
     pieces_of(alloc, widths, count, text, start, reader)?;
-    let text = String::from_str(alloc, text)?;
-    Ok(Change::Text(text))
+    Ok(text)
 }
 
 // The pieces of a text, if they come as a third item. The text has its own fault where it begins.

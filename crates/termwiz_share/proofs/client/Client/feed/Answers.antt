@@ -9,7 +9,7 @@ use Rattle.termwiz_share.proofs.client.Client.feed.Goals as goal
 pub returns-clause-follows : goal.returns-clause-follows
 returns-clause-follows g c = λ histories sent future follows.
     let f = measure g.W.Widths.width_of in
-    let some : 0 < c.args.self.now.limits.bytes = rw (← c.self.view_is) c.self.invariant.3 in
+    let some : 0 < c.args.self.now.limits.bytes = rw (← c.self.view_is) c.self.invariant.1 in
     let laws = c.answers.ensures.laws (f c.args.self.now.surface.widths) c.args.self.now.limits some in
     follows_to f histories sent future c.args.self.now c.args.piece.now laws c.take_all.result c.take_all.new.self
     (inr (inr (follows.reading, subst (λ (s : ClientValue _). Reads f s c.take_all.result c.take_all.new.self) c.in_ok-keep.ensures.ok c.take_all.ensures))) follows
@@ -17,7 +17,7 @@ returns-clause-follows g c = λ histories sent future follows.
 pub returns-clause-shows : goal.returns-clause-shows
 returns-clause-shows g c = λ source serves ready response.
     let f = measure g.W.Widths.width_of in
-    let some : 0 < c.args.self.now.limits.bytes = rw (← c.self.view_is) c.self.invariant.3 in
+    let some : 0 < c.args.self.now.limits.bytes = rw (← c.self.view_is) c.self.invariant.1 in
     let laws = c.answers.ensures.laws (f c.args.self.now.surface.widths) c.args.self.now.limits some in
     (responded f source c.args.self.now serves c.args.piece.now response laws ready c.take_all.result c.take_all.new.self
     (inr (inr (ready.reading, subst (λ (s : ClientValue _). Reads f s c.take_all.result c.take_all.new.self) c.in_ok-keep.ensures.ok c.take_all.ensures)))).0
@@ -25,7 +25,7 @@ returns-clause-shows g c = λ source serves ready response.
 pub returns-clause-serves : goal.returns-clause-serves
 returns-clause-serves g c = λ source serves ready response.
     let f = measure g.W.Widths.width_of in
-    let some : 0 < c.args.self.now.limits.bytes = rw (← c.self.view_is) c.self.invariant.3 in
+    let some : 0 < c.args.self.now.limits.bytes = rw (← c.self.view_is) c.self.invariant.1 in
     let laws = c.answers.ensures.laws (f c.args.self.now.surface.widths) c.args.self.now.limits some in
     (responded f source c.args.self.now serves c.args.piece.now response laws ready c.take_all.result c.take_all.new.self
     (inr (inr (ready.reading, subst (λ (s : ClientValue _). Reads f s c.take_all.result c.take_all.new.self) c.in_ok-keep.ensures.ok c.take_all.ensures)))).1

@@ -7,5 +7,5 @@ pub invariant_of-self-else-is_err : goal.invariant_of-self-else-is_err
 invariant_of-self-else-is_err g c =
     let kept : List ℕ = drop c.self.inside.start c.self.inside.bytes.items in
     let is : drop c.append.new.start c.append.new.bytes.items ≡ kept ++ c.args.piece.now = on_ok _ c.append.result (sym c.is_err.ensures.value ∙ c.if-is_err.false) c.append.ensures.added in
-    let leads = leads_behind (measure g.W.Widths.width_of c.self.inside.surface.widths) c.self.inside.limits kept c.args.piece.now c.self.inside.begun c.self.invariant.5 in
-    (c.append.ensures.within, c.self.invariant.1, c.self.invariant.2, c.self.invariant.3, c.self.invariant.4, rw is leads)
+    let leads = leads_behind (measure g.W.Widths.width_of c.self.inside.display.surface.widths) c.self.inside.limits kept c.args.piece.now c.self.inside.begun c.self.invariant.2 in
+    (c.append.ensures.within, c.self.invariant.1, rw is leads)

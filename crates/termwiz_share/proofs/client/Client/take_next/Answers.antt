@@ -1,21 +1,39 @@
-use Rattle.std.proofs.Common.{◌≡◌, ◌∙◌, Err, ap, drop, subst}
+use Rattle.std.proofs.Common.{◌≡◌, ◌<◌, ◌∙◌, List, Err, Ok, Option, ap, drop, refl, subst, ℕ}
 use Rattle.std.proofs.lemmas.List.{drop-drop}
-use Rattle.std.proofs.lemmas.Result.{err_from_is_err_and}
 use Rattle.termwiz_cell.specs.Measure.{measure}
-use Rattle.termwiz_share.specs.Client.{ClientValue}
-use Rattle.termwiz_share.specs.Feeding.{Takes}
-use Rattle.termwiz_share.proofs.Taking.{left_shorter, slice_is, takes_stop}
+use Rattle.termwiz_wire.specs.Lent.{lent_answer}
+use Rattle.termwiz_share.specs.Client.{ClientValue, display_of}
+use Rattle.termwiz_share.specs.Feeding.{Takes, refusal}
+use Rattle.termwiz_share.specs.declared.error.ClientError.{ClientError}
+use Rattle.termwiz_share.proofs.Taking.{cut_at_end, left_shorter, slice_is, takes_step, takes_stop}
 use Rattle.termwiz_share.proofs.client.Client.take_next.Goals as goal
 
-pub returns-in_err-take-in-Ok-clause-steps : goal.returns-in_err-take-in-Ok-clause-steps
-returns-in_err-take-in-Ok-clause-steps g c =
-    let p = err_from_is_err_and c.from_residual.result c.from_residual.ensures.1 in
-    let exact = rw (slice_is c.deref.result.now c.self.inside.start, c.deref.ensures.value, c.widths-widths.ensures) at c.in-Ok.ensures.exact in
-    rw (p.1, p.2) (takes_stop (measure g.W.Widths.width_of) c.args.self.now c.in-Ok.sent (drop c.in-Ok.taken (drop c.self.inside.start c.self.inside.bytes.items)) c.in_err-take-in-Ok.field-0.0 c.take.new.self (rw (← c.self.view_is) exact) (subst (λ (v : ClientValue _). Takes (measure g.W.Widths.width_of) v c.in-Ok.sent (Err c.in_err-take-in-Ok.field-0.0) c.take.new.self) c.self.view_is c.in_err-take-in-Ok.ensures))
+pub returns-then-self-len-clause-steps : goal.returns-then-self-len-clause-steps
+returns-then-self-len-clause-steps g c =
+    let m : List ℕ → ℕ = measure g.W.Widths.width_of c.args.self.now.surface.widths in
+    let some : 0 < c.args.self.now.limits.bytes = rw (← c.self.view_is) c.self.invariant.1 in
+    let own : drop c.self.inside.start c.self.inside.bytes.items ≡ c.args.self.now.kept = ap (λ (v : ClientValue _). v.kept) c.self.view_is in
+    (cut_at_end m c.args.self.now.limits c.self.inside.bytes.items c.args.self.now.kept c.self.inside.start (c.answers.ensures.laws m c.args.self.now.limits some) own (c.if-self-len.true ∙ c.len.ensures ∙ c.self.inside.bytes.ok.0), refl)
 
-pub returns-in_ok-take-in-Ok-clause-shorter : goal.returns-in_ok-take-in-Ok-clause-shorter
-returns-in_ok-take-in-Ok-clause-shorter g c =
+pub returns-in-Err-clause-steps : goal.returns-in-Err-clause-steps
+returns-in-Err-clause-steps g c =
+    let exact = rw (slice_is c.deref.result.now c.self.inside.start, c.deref.ensures.value, c.widths-widths.ensures, c.surface.ensures.value) at c.in-Ok.ensures.exact in
+    let old : ClientValue _ = c.args.self.now in
+    let e = c.in-Err.error in
+    let takes = subst (λ (v : ClientValue _). Takes (measure g.W.Widths.width_of) (display_of v) (lent_answer c.in-Ok.answer) (Err e) c.take.new.self) c.self.view_is c.in-Err.ensures in
+    let kept : drop c.self.inside.start c.self.inside.bytes.items ≡ old.kept = ap (λ (v : ClientValue _). v.kept) c.self.view_is in
+    let limits : c.self.inside.limits ≡ old.limits = ap (λ (v : ClientValue _). v.limits) c.self.view_is in
+    let stopped : c.self.inside.stopped ≡ old.stopped = ap (λ (v : ClientValue _). v.stopped) c.self.view_is in
+    takes_stop (measure g.W.Widths.width_of) old (lent_answer c.in-Ok.answer) (drop c.in-Ok.taken (drop c.self.inside.start c.self.inside.bytes.items)) e _ (rw (← c.self.view_is) exact) takes kept limits (c.refusal-self-inside.ensures ∙ ap (λ (s : Option ClientError). refusal s e) stopped)
+
+pub returns-in_default-clause-steps : goal.returns-in_default-clause-steps
+returns-in_default-clause-steps g c =
+    let exact = rw (slice_is c.deref.result.now c.self.inside.start, c.deref.ensures.value, c.widths-widths.ensures, c.surface.ensures.value) at c.in-Ok.ensures.exact in
+    let left = drop-drop c.in-Ok.taken c.self.inside.start c.self.inside.bytes.items in
+    rw (← c.self.view_is) (takes_step (measure g.W.Widths.width_of) _ _ (lent_answer c.in-Ok.answer) (exact ∙ ap (λ (rest : List ℕ). Ok (lent_answer c.in-Ok.answer, rest)) left) c.in_default.ensures refl refl)
+
+pub returns-in_default-clause-shorter : goal.returns-in_default-clause-shorter
+returns-in_default-clause-shorter g c =
     let found = rw (slice_is c.deref.result.now c.self.inside.start, c.deref.ensures.value) at c.in-Ok.ensures.found.0 in
     let own : drop c.self.inside.start c.self.inside.bytes.items ≡ c.args.self.now.kept = ap (λ (v : ClientValue _). v.kept) c.self.view_is in
-    let kept : drop c.self-in-Ok.inside.start c.self-in-Ok.inside.bytes.items ≡ c.args.self.now.kept = ap (λ (v : ClientValue _). v.kept) c.self-in-Ok.view_is ∙ c.in_ok-take-in-Ok.ensures.2 ∙ own in
-    λ t. rw (← drop-drop c.in-Ok.taken c.self-in-Ok.inside.start c.self-in-Ok.inside.bytes.items, kept) (left_shorter _ c.in-Ok.sent c.args.self.now.kept c.in-Ok.taken (rw own at found))
+    λ t. rw (← drop-drop c.in-Ok.taken c.self.inside.start c.self.inside.bytes.items, ← own) (left_shorter _ (lent_answer c.in-Ok.answer) (drop c.self.inside.start c.self.inside.bytes.items) c.in-Ok.taken found)

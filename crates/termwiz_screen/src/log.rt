@@ -211,8 +211,22 @@ fn drop_first(changes: &mut Vec<Change>, count: usize)
     if count == changes.len() {
         changes.clear();
     } else {
-        let _ = changes.drain(..count);
+        swap_out_first(changes, count);
     }
+}
+
+// Swaps each kept change with a removed one, where `drain` would also turn the removed ones round.
+// It is kept out of line, so that a flush of all changes is short.
+#[inline(never)]
+fn swap_out_first(changes: &mut Vec<Change>, count: usize)
+    requires { count ≤ vec_len changes.old }
+    ensures { changes.new.items ≡ drop count changes.old.items }
+{
+    let kept = changes.len() - count;
+    for i in 0..kept {
+        changes.swap(i, count + i);
+    }
+    changes.truncate(kept);
 }
 
 /// The number of due changes up to which they are sent, rather than a repaint of a screen of this

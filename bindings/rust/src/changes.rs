@@ -5,7 +5,7 @@ use crate::change::{Change, CursorShape, CursorVisibility, LineAttribute, Positi
 use crate::color::ColorAttribute;
 use crate::error::Error;
 use crate::ffi::{self, tk_attributes, tk_change, tk_list_counts};
-use std::fmt;
+use std::{fmt, mem};
 
 /// A list of changes that is made in place: each call appends one, and
 /// [`Surface::add`](crate::Surface::add) makes them in order.
@@ -36,8 +36,15 @@ pub struct Changes {
     texts: String,
     /// Whether the last change is a text that may still grow.
     is_open: bool,
-    /// The pen after them, where the last one that changed it was `use_pen`.
-    pen: Option<Attributes>,
+    /// The pen after them, where they say the whole of it.
+    pen: Option<Pen>,
+}
+
+/// A pen, and its fields for the library.
+#[derive(Clone)]
+struct Pen {
+    is: Attributes,
+    fields: tk_attributes,
 }
 
 impl Changes {
@@ -168,18 +175,22 @@ impl Changes {
     /// Sets the whole pen, the attributes of coming texts. A link to an empty uri is none here:
     /// [`Changes::link`] gives one.
     pub fn pen(&mut self, attributes: &Attributes) -> &mut Changes {
+        let fields = attributes.into();
+        let is = attributes.clone();
+        self.pen = Some(Pen { is, fields });
         let uri = attributes.hyperlink.as_ref().map_or("", Hyperlink::uri);
         self.texts.push_str(uri);
         self.item(tk_change {
             kind: ffi::CHANGE_PEN,
-            attributes: attributes.into(),
+            attributes: fields,
             first: uri.len(),
             ..tk_change::default()
         })
     }
 
-    /// Sets the whole pen, unless that is what the list did to it last: then it is this one, and
-    /// nothing is appended. So each of many texts can say its pen.
+    /// Makes the pen this one. Where the list has it already, since it set the whole pen or
+    /// cleared, nothing is appended, and where the colour of texts or their intensity alone
+    /// differs, the change of that. So each of many texts can say its pen.
     ///
     /// ```
     /// use tikeburo::{Attributes, Changes};
@@ -192,14 +203,41 @@ impl Changes {
     /// assert_eq!(changes.len(), 3 + 1 + 3);
     /// ```
     pub fn use_pen(&mut self, attributes: &Attributes) -> &mut Changes {
-        if self.pen.as_ref() != Some(attributes) {
-            self.pen(attributes).pen = Some(attributes.clone());
+        let Attributes {
+            foreground,
+            intensity,
+            ..
+        } = *attributes;
+        let Some(Pen { is, fields }) = &mut self.pen else {
+            return self.pen(attributes);
+        };
+        let has_foreground = mem::replace(&mut is.foreground, foreground) == foreground;
+        let has_intensity = mem::replace(&mut is.intensity, intensity) == intensity;
+        if is != attributes {
+            return self.pen(attributes);
         }
-        self
+        let mut one = tk_attributes::default();
+        if !has_foreground {
+            one.foreground = foreground.into();
+            fields.foreground = one.foreground;
+        }
+        if !has_intensity {
+            one.intensity = intensity as u8;
+            fields.intensity = one.intensity;
+        }
+        let all = *fields;
+        match (has_foreground, has_intensity) {
+            (true, true) => self,
+            (false, true) => self.with_attributes(ffi::CHANGE_FOREGROUND, one),
+            (true, false) => self.with_attributes(ffi::CHANGE_INTENSITY, one),
+            _ if attributes.hyperlink.is_some() => self.pen(attributes),
+            _ => self.with_attributes(ffi::CHANGE_PEN, all),
+        }
     }
 
     /// Sets one attribute of the pen.
     pub fn attribute(&mut self, change: &AttributeChange) -> &mut Changes {
+        self.pen = None;
         let mut fields = tk_attributes::default();
         let kind = match change {
             AttributeChange::Intensity(value) => {
@@ -291,11 +329,13 @@ impl Changes {
 
     /// Gives them a link to this uri.
     pub fn link(&mut self, uri: &str) -> &mut Changes {
+        self.pen = None;
         self.with_text(ffi::CHANGE_LINK, uri)
     }
 
     /// Gives them no link.
     pub fn no_link(&mut self) -> &mut Changes {
+        self.pen = None;
         self.with_numbers(ffi::CHANGE_NO_LINK, [0; 3])
     }
 
@@ -325,11 +365,14 @@ impl Changes {
     /// # Ok::<(), Error>(())
     /// ```
     pub fn clear_columns(&mut self, count: usize, background: ColorAttribute) -> &mut Changes {
-        let pen = Attributes {
-            background,
-            ..Attributes::default()
-        };
-        self.use_pen(&pen).text(&" ".repeat(count))
+        self.use_pen(&blank(background));
+        let mut left = count;
+        while left > 0 {
+            let blanks = &BLANKS[..left.min(BLANKS.len())];
+            self.texts.push_str(blanks);
+            left -= blanks.len();
+        }
+        self.with_numbers(ffi::CHANGE_TEXT, [count, 0, 0])
     }
 
     /// Clears from the cursor to the last row's end.
@@ -381,13 +424,6 @@ impl Changes {
     /// Appends a change, whose text is there.
     fn item(&mut self, change: tk_change) -> &mut Changes {
         self.is_open = false;
-        if matches!(
-            change.kind,
-            ffi::CHANGE_LINK..=ffi::CHANGE_BACKGROUND
-                | ffi::CHANGE_CLEAR_SCREEN..=ffi::CHANGE_CLEAR_TO_END_OF_SCREEN
-        ) {
-            self.pen = None;
-        }
         self.list.push(change);
         self
     }
@@ -420,7 +456,9 @@ impl Changes {
             background: background.into(),
             ..tk_attributes::default()
         };
-        self.with_attributes(kind, fields)
+        let is = blank(background);
+        self.with_attributes(kind, fields).pen = Some(Pen { is, fields });
+        self
     }
 
     /// Becomes the list that this call writes, and returns the number that it leads to. The call is
@@ -465,44 +503,22 @@ impl Changes {
     }
 }
 
+const BLANKS: &str = "                                                                ";
+
+/// The pen of what is cleared.
+fn blank(background: ColorAttribute) -> Attributes {
+    Attributes {
+        background,
+        ..Attributes::default()
+    }
+}
+
 /// A position's number, and from where it is counted, as the header has it.
 fn counted(position: Position) -> (usize, usize) {
     match position {
         Position::Absolute(place) => (place, 0),
         Position::Relative(distance) => (distance as usize, 1),
         Position::EndRelative(distance) => (distance, 2),
-    }
-}
-
-impl<'a> Extend<&'a Change> for Changes {
-    fn extend<I: IntoIterator<Item = &'a Change>>(&mut self, changes: I) {
-        for change in changes {
-            self.push(change);
-        }
-    }
-}
-
-impl Extend<Change> for Changes {
-    fn extend<I: IntoIterator<Item = Change>>(&mut self, changes: I) {
-        for change in changes {
-            self.push(&change);
-        }
-    }
-}
-
-impl<'a> FromIterator<&'a Change> for Changes {
-    fn from_iter<I: IntoIterator<Item = &'a Change>>(changes: I) -> Changes {
-        let mut list = Changes::new();
-        list.extend(changes);
-        list
-    }
-}
-
-impl FromIterator<Change> for Changes {
-    fn from_iter<I: IntoIterator<Item = Change>>(changes: I) -> Changes {
-        let mut list = Changes::new();
-        list.extend(changes);
-        list
     }
 }
 

@@ -63,20 +63,30 @@ impl From<tk_color> for ColorAttribute {
 }
 
 impl From<ColorAttribute> for tk_color {
+    #[inline]
     fn from(color: ColorAttribute) -> tk_color {
-        let (kind, rgb, index) = match color {
-            ColorAttribute::Default => (0, RgbColor::default(), 0),
-            ColorAttribute::PaletteIndex(index) => (1, RgbColor::default(), index),
-            ColorAttribute::TrueColorWithDefaultFallback(rgb) => (2, rgb, 0),
-            ColorAttribute::TrueColorWithPaletteFallback(rgb, index) => (3, rgb, index),
-        };
-        let (red, green, blue) = rgb.to_tuple_rgb8();
-        tk_color {
-            kind,
-            red,
-            green,
-            blue,
-            index,
+        match color {
+            ColorAttribute::Default => tk_color::default(),
+            color => chosen(color),
         }
+    }
+}
+
+/// The fields of a colour that isn't the default one. Apart, so that the usual one takes few steps.
+#[inline(never)]
+fn chosen(color: ColorAttribute) -> tk_color {
+    let (kind, rgb, index) = match color {
+        ColorAttribute::Default => (0, RgbColor::default(), 0),
+        ColorAttribute::PaletteIndex(index) => (1, RgbColor::default(), index),
+        ColorAttribute::TrueColorWithDefaultFallback(rgb) => (2, rgb, 0),
+        ColorAttribute::TrueColorWithPaletteFallback(rgb, index) => (3, rgb, index),
+    };
+    let (red, green, blue) = rgb.to_tuple_rgb8();
+    tk_color {
+        kind,
+        red,
+        green,
+        blue,
+        index,
     }
 }

@@ -1,4 +1,4 @@
-//! The changes of a list, as values again.
+//! Lists of changes that are values, and the changes of a list as values again.
 
 use crate::attributes::{AttributeChange, Attributes, Hyperlink};
 use crate::change::{Change, Position};
@@ -28,6 +28,38 @@ impl Changes {
             texts = others;
             value(change, text)
         })
+    }
+}
+
+impl<'a> Extend<&'a Change> for Changes {
+    fn extend<I: IntoIterator<Item = &'a Change>>(&mut self, changes: I) {
+        for change in changes {
+            self.push(change);
+        }
+    }
+}
+
+impl Extend<Change> for Changes {
+    fn extend<I: IntoIterator<Item = Change>>(&mut self, changes: I) {
+        for change in changes {
+            self.push(&change);
+        }
+    }
+}
+
+impl<'a> FromIterator<&'a Change> for Changes {
+    fn from_iter<I: IntoIterator<Item = &'a Change>>(changes: I) -> Changes {
+        let mut list = Changes::new();
+        list.extend(changes);
+        list
+    }
+}
+
+impl FromIterator<Change> for Changes {
+    fn from_iter<I: IntoIterator<Item = Change>>(changes: I) -> Changes {
+        let mut list = Changes::new();
+        list.extend(changes);
+        list
     }
 }
 

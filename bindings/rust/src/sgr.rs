@@ -145,18 +145,22 @@ fn read_color<'a>(
         9 => return Some(ColorAttribute::Default),
         digit => return Some(ColorAttribute::PaletteIndex(digit as u8 + bright)),
     }
-    let mut values = behind.to_vec();
-    if values.is_empty() {
-        values.extend(rest.next().and_then(<[u16]>::first));
-        let count = if values == [2] { 3 } else { 1 };
-        values.extend(rest.take(count).filter_map(<[u16]>::first));
-    }
     let byte = |value: u16| value.min(255) as u8;
-    match values[..] {
-        [5, index] => Some(ColorAttribute::PaletteIndex(byte(index))),
-        [2, red, green, blue] | [2, _, red, green, blue, ..] => {
-            Some(RgbColor::new_8bpc(byte(red), byte(green), byte(blue)).into())
-        }
+    let indexed = |index| Some(ColorAttribute::PaletteIndex(byte(index)));
+    let rgb = |red, green, blue| {
+        let color = RgbColor::new_8bpc(byte(red), byte(green), byte(blue));
+        Some(color.into())
+    };
+    match *behind {
+        [] => {}
+        [5, index] => return indexed(index),
+        [2, red, green, blue] | [2, _, red, green, blue, ..] => return rgb(red, green, blue),
+        _ => return None,
+    }
+    let mut next = || rest.next()?.first().copied();
+    match (next()?, next()?) {
+        (5, index) => indexed(index),
+        (2, red) => rgb(red, next()?, next()?),
         _ => None,
     }
 }

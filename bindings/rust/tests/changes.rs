@@ -233,3 +233,41 @@ fn a_pen_is_set_where_it_may_differ() {
         assert_eq!(changes.use_pen(&pen).len(), 1);
     }
 }
+
+#[test]
+fn a_pen_that_is_used_is_the_whole_one() {
+    let [red, green] = [1, 2].map(ColorAttribute::PaletteIndex);
+    let mut pens = vec![Attributes::default(), heading()];
+    for number in 0..16 {
+        let chosen = |bit| number & bit != 0;
+        pens.push(Attributes {
+            intensity: if chosen(1) {
+                Intensity::Bold
+            } else {
+                Intensity::Half
+            },
+            foreground: if chosen(2) { red } else { ORANGE },
+            background: if chosen(4) {
+                green
+            } else {
+                ColorAttribute::Default
+            },
+            hyperlink: chosen(8).then(|| Hyperlink::new("uri")),
+            ..Attributes::default()
+        });
+    }
+    for first in &pens {
+        for second in &pens {
+            let [mut used, mut whole] = [Changes::new(), Changes::new()];
+            used.use_pen(first).text("a").use_pen(second).text("b");
+            used.clear_to_end_of_line(green).use_pen(first).text("c");
+            whole.pen(first).text("a").pen(second).text("b");
+            whole.clear_to_end_of_line(green).pen(first).text("c");
+            let [mut by_used, mut by_whole] = [0; 2].map(|_| Surface::new(8, 1).unwrap());
+            by_used.add(&used.iter().collect()).unwrap();
+            by_whole.add(&whole).unwrap();
+            assert_eq!(seen(&by_used).0, seen(&by_whole).0);
+            assert_eq!(by_used.pen(), by_whole.pen());
+        }
+    }
+}

@@ -1,5 +1,6 @@
 //! A small terminal: the bytes that a program writes become changes of a surface, which are made in
-//! place. It prints the screen that its input leaves, and says how long that took.
+//! place. It prints the screen that its input leaves, and says how long that took. With `log`
+//! behind the size the surface keeps its changes, as for viewers.
 //! `python3 examples/terminal/frames.py 100 | cargo run --release --example terminal -- 80 24`
 
 mod parser;
@@ -11,12 +12,15 @@ use std::{env, time::Instant};
 use terminal::Terminal;
 
 fn main() -> Result<(), Box<dyn Error>> {
-    let mut size = env::args().skip(1).map(|word| word.parse());
+    let words: Vec<_> = env::args().skip(1).collect();
+    let mut size = words.iter().take(2).map(|word| word.parse());
     let width = size.next().unwrap_or(Ok(80))?;
     let height = size.next().unwrap_or(Ok(24))?;
     let mut bytes = Vec::new();
     io::stdin().read_to_end(&mut bytes)?;
     let mut terminal = Terminal::new(width, height)?;
+    let is_logged = words.get(2).map(String::as_str) == Some("log");
+    terminal.surface.keep_changes(is_logged);
     let begin = Instant::now();
     for chunk in bytes.chunks(4096) {
         terminal.feed(chunk)?;

@@ -3,7 +3,8 @@
 use std::{mem, str};
 use tikeburo::Error;
 
-const LONGEST_SEQUENCE: usize = 4096; // bytes; what goes on behind them is left out
+const LONGEST_SEQUENCE: usize = 4096; // bytes or numbers; what goes on behind them is left out
+const LARGEST_NUMBER: u32 = u16::MAX as u32;
 
 /// A part of what a program writes.
 pub enum Token<'a> {
@@ -12,21 +13,54 @@ pub enum Token<'a> {
     Control(u8),
     /// `ESC` and this byte.
     Escape(u8),
-    /// `CSI`: each parameter's numbers, the byte beside them, if there is one, and the last byte.
-    Csi(&'a [Vec<u16>], Option<u8>, u8),
+    /// `CSI`: its parameters, the byte beside them, if there is one, and the last byte.
+    Csi(&'a Params, Option<u8>, u8),
     /// `OSC` and what stands behind it.
     Osc(&'a str),
 }
 
-/// The numbers of each parameter of a CSI, which stand behind colons.
-fn params(text: &[u8]) -> Vec<Vec<u16>> {
-    let digit = |number: u16, byte: &u8| {
-        let tens = number.saturating_mul(10);
-        tens.saturating_add(u16::from(byte - b'0'))
-    };
-    let number = |digits: &[u8]| digits.iter().fold(0, digit);
-    let param = |text: &[u8]| text.split(|byte| *byte == b':').map(number).collect();
-    text.split(|byte| *byte == b';').map(param).collect()
+/// The parameters of a CSI: each is a number with those that follow it behind colons.
+#[derive(Default)]
+pub struct Params {
+    numbers: Vec<u16>,
+    ends: Vec<usize>, // where the numbers of each parameter end
+}
+
+impl Params {
+    /// The numbers of each parameter, of which there is one at least.
+    pub fn iter(&self) -> impl Iterator<Item = &[u16]> {
+        let mut begin = 0;
+        self.ends.iter().map(move |end| {
+            let param = &self.numbers[begin..*end];
+            begin = *end;
+            param
+        })
+    }
+
+    /// The number of the parameter at this index, or 0.
+    pub fn number(&self, index: usize) -> usize {
+        let begin = match index {
+            0 => Some(&0),
+            _ => self.ends.get(index - 1),
+        };
+        let number = begin.and_then(|begin| self.numbers.get(*begin));
+        number.copied().unwrap_or(0).into()
+    }
+
+    fn clear(&mut self) {
+        self.numbers.clear();
+        self.ends.clear();
+    }
+
+    /// Takes a number, which may end a parameter.
+    fn push(&mut self, number: u32, is_end: bool) {
+        if self.numbers.len() < LONGEST_SEQUENCE {
+            self.numbers.push(number as u16);
+            if is_end {
+                self.ends.push(self.numbers.len());
+            }
+        }
+    }
 }
 
 /// What the next byte belongs to.
@@ -42,62 +76,81 @@ enum State {
 }
 
 /// Takes what is passed on.
-pub type Take<'a> = dyn FnMut(Token<'_>) -> Result<(), Error> + 'a;
+pub trait Take: FnMut(Token<'_>) -> Result<(), Error> {}
+
+impl<T: FnMut(Token<'_>) -> Result<(), Error>> Take for T {}
 
 #[derive(Default)]
 pub struct Parser {
     state: State,
-    kept: Vec<u8>, // of an unfinished sequence, or of an unfinished character
+    params: Params,
+    number: u32, // which the digits of a CSI have made so far
     mark: Option<u8>,
+    osc: Vec<u8>,
+    cut: Vec<u8>, // the beginning of a character
 }
 
 impl Parser {
-    /// Takes bytes, cut anywhere, and passes on what they make whole.
-    pub fn feed(&mut self, bytes: &[u8], take: &mut Take<'_>) -> Result<(), Error> {
+    /// Takes bytes, cut anywhere, and passes on what they make whole. What is no UTF-8 is a
+    /// replacement character.
+    pub fn feed(&mut self, bytes: &[u8], take: &mut impl Take) -> Result<(), Error> {
+        let mut joined = mem::take(&mut self.cut);
         let mut rest = bytes;
-        while let Some((first, behind)) = rest.split_first() {
-            if self.state == State::Text && !first.is_ascii_control() {
-                let end = rest.iter().position(u8::is_ascii_control);
-                let (run, after) = rest.split_at(end.unwrap_or(rest.len()));
-                self.text(run, take)?;
-                rest = after;
-            } else {
-                if self.state == State::Text && !mem::take(&mut self.kept).is_empty() {
-                    take(Token::Text("\u{fffd}"))?; // a character that was cut
+        if !joined.is_empty() {
+            joined.extend_from_slice(bytes);
+            rest = &joined;
+        }
+        while let Err(error) = str::from_utf8(rest) {
+            let (good, behind) = rest.split_at(error.valid_up_to());
+            self.characters(str::from_utf8(good).unwrap_or_default(), take)?;
+            let Some(length) = error.error_len() else {
+                self.cut = behind.to_vec();
+                return Ok(());
+            };
+            let (wrong, behind) = behind.split_at(length);
+            self.wrong_bytes(wrong, take)?;
+            rest = behind;
+        }
+        self.characters(str::from_utf8(rest).unwrap_or_default(), take)
+    }
+
+    /// Takes characters: runs of a text, and what stands between.
+    fn characters(&mut self, text: &str, take: &mut impl Take) -> Result<(), Error> {
+        let bytes = text.as_bytes();
+        let mut at = 0;
+        while let Some(first) = bytes.get(at) {
+            let rest = &bytes[at..];
+            at += match self.state {
+                State::Text if rest.starts_with(b"\x1b[") => {
+                    self.begin(State::Csi);
+                    2
                 }
-                self.byte(*first, take)?;
-                rest = behind;
-            }
+                State::Text if !first.is_ascii_control() => self.run(text, at, take)?,
+                State::Csi => self.csi(rest, take)?,
+                _ => {
+                    self.byte(*first, take)?;
+                    1
+                }
+            };
         }
         Ok(())
     }
 
-    /// Takes a run of a text. What is no UTF-8 is a replacement character.
-    fn text(&mut self, run: &[u8], take: &mut Take<'_>) -> Result<(), Error> {
-        let mut bytes = mem::take(&mut self.kept);
-        let mut rest = run;
-        if !bytes.is_empty() {
-            bytes.extend_from_slice(run);
-            rest = &bytes;
+    /// Takes the text from this byte on, and returns its length.
+    fn run(&mut self, text: &str, begin: usize, take: &mut impl Take) -> Result<usize, Error> {
+        let length = text_length(&text.as_bytes()[begin..]);
+        match text.get(begin..begin + length) {
+            Some(run) => take(Token::Text(run)).map(|()| length),
+            // A sequence has the bytes before it.
+            None => take(Token::Text("\u{fffd}")).map(|()| 1),
         }
-        while let Err(error) = str::from_utf8(rest) {
-            let (good, behind) = rest.split_at(error.valid_up_to());
-            take(Token::Text(str::from_utf8(good).unwrap_or_default()))?;
-            let Some(length) = error.error_len() else {
-                self.kept = behind.to_vec();
-                return Ok(());
-            };
-            take(Token::Text("\u{fffd}"))?;
-            rest = &behind[length..];
-        }
-        take(Token::Text(str::from_utf8(rest).unwrap_or_default()))
     }
 
-    /// Takes a byte that is a control character, or of a sequence.
-    fn byte(&mut self, byte: u8, take: &mut Take<'_>) -> Result<(), Error> {
+    /// Takes a byte of a sequence, or a control character in one.
+    fn byte(&mut self, byte: u8, take: &mut impl Take) -> Result<(), Error> {
         match (self.state, byte) {
             (State::Osc, 0x07 | 0x1b) => {
-                let text = String::from_utf8_lossy(&self.kept).into_owned();
+                let text = String::from_utf8_lossy(&self.osc).into_owned();
                 self.begin(if byte == 0x07 {
                     State::Text
                 } else {
@@ -107,9 +160,9 @@ impl Parser {
             }
             (_, 0x1b) => self.begin(State::Escape),
             (_, 0x18 | 0x1a) => self.begin(State::Text),
-            (State::Osc, _) | (State::Csi, b'0'..=b';') => {
-                if self.kept.len() < LONGEST_SEQUENCE {
-                    self.kept.push(byte);
+            (State::Osc, _) => {
+                if self.osc.len() < LONGEST_SEQUENCE {
+                    self.osc.push(byte);
                 }
             }
             (_, ..=0x1f) => return take(Token::Control(byte)),
@@ -122,19 +175,73 @@ impl Parser {
                 return take(Token::Escape(byte));
             }
             (State::Set, _) => self.begin(State::Text),
-            (State::Csi, b'@'..=b'~') => {
-                let (params, mark) = (params(&self.kept), self.mark);
-                self.begin(State::Text);
-                return take(Token::Csi(&params, mark, byte));
-            }
             (State::Csi, _) => self.mark = Some(byte),
         }
         Ok(())
     }
 
+    /// Takes the numbers of a CSI and the byte behind them, and returns how many bytes that are.
+    fn csi(&mut self, bytes: &[u8], take: &mut impl Take) -> Result<usize, Error> {
+        let mut number = mem::take(&mut self.number);
+        for (at, byte) in bytes.iter().enumerate() {
+            let digit = byte.wrapping_sub(b'0');
+            if digit < 10 {
+                number = LARGEST_NUMBER.min(10 * number + u32::from(digit));
+                continue;
+            }
+            match byte {
+                b':' | b';' => self.params.push(mem::take(&mut number), *byte == b';'),
+                b'@'..=b'~' => {
+                    self.params.push(number, true);
+                    self.state = State::Text;
+                    take(Token::Csi(&self.params, self.mark, *byte))?;
+                    return Ok(at + 1);
+                }
+                _ => {
+                    self.number = number;
+                    self.byte(*byte, take)?;
+                    return Ok(at + 1);
+                }
+            }
+        }
+        self.number = number;
+        Ok(bytes.len())
+    }
+
+    /// Takes bytes that are no character.
+    fn wrong_bytes(&mut self, bytes: &[u8], take: &mut impl Take) -> Result<(), Error> {
+        if self.state == State::Text {
+            return take(Token::Text("\u{fffd}"));
+        }
+        bytes.iter().try_for_each(|byte| match self.state {
+            State::Text => take(Token::Text("\u{fffd}")),
+            _ => self.byte(*byte, take),
+        })
+    }
+
     fn begin(&mut self, state: State) {
         self.state = state;
-        self.kept.clear();
+        self.osc.clear();
+        self.params.clear();
+        self.number = 0;
         self.mark = None;
     }
+}
+
+/// How many bytes stand before the first control character: eight at once, of which the high bits
+/// say whether they are below 32 or 127.
+fn text_length(bytes: &[u8]) -> usize {
+    let each = |byte: u8| u64::from_ne_bytes([byte; 8]);
+    let mut length = 0;
+    for block in bytes.chunks_exact(8) {
+        let block = block.try_into().map_or(0, u64::from_le_bytes);
+        let low = block & each(0x7f);
+        let found = (!(low + each(0x60)) | (low + each(1))) & !block & each(0x80);
+        if found != 0 {
+            return length + found.trailing_zeros() as usize / 8;
+        }
+        length += 8;
+    }
+    let rest = bytes[length..].iter();
+    length + rest.take_while(|byte| !byte.is_ascii_control()).count()
 }

@@ -1,9 +1,10 @@
 //! A terminal: texts and escape sequences become changes of a surface.
 
-use crate::parser::{Parser, Token};
+use super::parser::{Params, Parser, Token};
 use std::mem;
 use std::ops::Range;
-use tikeburo::{graphemes, Attributes, Changes, ColorAttribute, Error, Surface, Widths};
+use tikeburo::{graphemes, Attributes, Changes, ColorAttribute, CursorVisibility};
+use tikeburo::{Error, Surface, Widths};
 
 /// Where and how coming texts are printed. The column is the width where a wrap is pending.
 #[derive(Clone, Default)]
@@ -13,15 +14,18 @@ struct Cursor {
     pen: Attributes,
 }
 
-/// A surface that shows what a terminal would.
+/// A surface that shows what a terminal would. Its cursor and pen are set only where the next
+/// change needs them.
 pub struct Terminal {
     pub surface: Surface,
     width: usize,
     height: usize,
     cursor: Cursor,
     saved: Cursor,
-    region: Range<usize>, // the rows that scroll
-    changes: Changes,     // which are still to be made
+    region: Range<usize>,  // the rows that scroll
+    is_hidden: bool,       // the cursor
+    changes: Changes,      // which are still to be made
+    place: (usize, usize), // where they leave the surface's cursor
     parser: Parser,
 }
 
@@ -36,7 +40,9 @@ impl Terminal {
             cursor: Cursor::default(),
             saved: Cursor::default(),
             region: 0..height,
+            is_hidden: false,
             changes: Changes::new(),
+            place: (0, 0),
             parser: Parser::default(),
         })
     }
@@ -47,17 +53,24 @@ impl Terminal {
         let mut parser = mem::take(&mut self.parser);
         let taken = parser.feed(bytes, &mut |token| self.take(token));
         self.parser = parser;
-        taken.and_then(|()| self.make())
+        taken?;
+        self.put_cursor();
+        let visibility = CursorVisibility::from(!self.is_hidden);
+        if self.surface.cursor_visibility() != visibility {
+            self.changes.cursor_visibility(visibility);
+        }
+        self.make()
     }
 
     fn take(&mut self, token: Token<'_>) -> Result<(), Error> {
         match token {
             Token::Text(text) => return self.print(text),
             Token::Control(byte) => self.control(byte),
-            Token::Escape(byte) => return self.escape(byte),
+            Token::Escape(byte) => self.escape(byte),
+            Token::Csi(params, None, b'm') => self.cursor.pen.apply_sgr(params.iter()),
             Token::Csi(params, None, last) => return self.csi(params, last),
-            Token::Csi(params, Some(b'?'), last @ (b'h' | b'l')) if params[0] == [25] => {
-                self.changes.cursor_visibility((last == b'h').into());
+            Token::Csi(params, Some(b'?'), last @ (b'h' | b'l')) if params.number(0) == 25 => {
+                self.is_hidden = last == b'l';
             }
             Token::Csi(..) => {}
             Token::Osc(text) => {
@@ -77,30 +90,59 @@ impl Terminal {
 
     /// Prints a text without control characters. What has no room goes to the next row.
     fn print(&mut self, text: &str) -> Result<(), Error> {
-        let end = self.cursor.x + text.len();
-        let goes_on = self.region.len() == self.height && self.is_plain();
-        if text.is_ascii() && (end <= self.width || goes_on) {
-            self.changes.use_pen(&self.cursor.pen).text(text);
-            if !text.is_empty() {
-                let row = self.cursor.y + (end - 1) / self.width;
-                self.cursor.y = row.min(self.height - 1);
-                self.cursor.x = (end - 1) % self.width + 1;
-            }
-            return Ok(());
+        let end = self.cursor.x + text.len(); // or less, where a character has many bytes
+        if !text.is_ascii() {
+            return if end <= self.width && !text.contains(char::is_control) {
+                self.put_text(text)
+            } else {
+                self.print_cut(text)
+            };
         }
+        let goes_on = self.region.len() == self.height && self.is_plain();
+        if text.is_empty() || end > self.width && !goes_on {
+            return self.print_cut(text);
+        }
+        self.put_cursor();
+        self.changes.use_pen(&self.cursor.pen).append(text);
+        self.cursor.x = end;
+        if end > self.width {
+            let row = self.cursor.y + (end - 1) / self.width;
+            self.cursor.y = row.min(self.height - 1);
+            self.cursor.x = (end - 1) % self.width + 1;
+        }
+        self.place = (self.cursor.x, self.cursor.y);
+        Ok(())
+    }
+
+    /// Prints a text, cut by the columns of its graphemes.
+    fn print_cut(&mut self, text: &str) -> Result<(), Error> {
         let mut part = String::new();
+        let mut end = self.cursor.x;
         let graphemes = graphemes(text, Widths::Unicode)?;
         for (grapheme, columns) in graphemes.into_iter().filter(|it| it.1 > 0) {
-            if self.cursor.x + columns > self.width {
-                self.changes.use_pen(&self.cursor.pen).text(&part);
+            if end + columns > self.width {
+                self.put_text(&part)?;
                 part.clear();
                 self.go(0, self.cursor.y);
                 self.feed_line();
+                end = 0;
             }
             part.push_str(grapheme);
-            self.cursor.x = self.width.min(self.cursor.x + columns);
+            end = self.width.min(end + columns);
         }
-        self.changes.use_pen(&self.cursor.pen).text(&part);
+        self.put_text(&part)
+    }
+
+    /// Prints a text that has room, and asks the surface how far it goes.
+    fn put_text(&mut self, text: &str) -> Result<(), Error> {
+        if text.is_empty() {
+            return Ok(());
+        }
+        self.put_cursor();
+        self.changes.use_pen(&self.cursor.pen).text(text);
+        self.make()?;
+        self.place = self.surface.cursor_position();
+        (self.cursor.x, self.cursor.y) = self.place;
         Ok(())
     }
 
@@ -112,17 +154,29 @@ impl Terminal {
     fn go(&mut self, x: usize, y: usize) {
         self.cursor.x = x.min(self.width - 1);
         self.cursor.y = y.min(self.height - 1);
-        self.changes.move_to(self.cursor.x, self.cursor.y);
+    }
+
+    /// Moves the surface's cursor to the terminal's.
+    fn put_cursor(&mut self) {
+        self.move_to(self.cursor.x, self.cursor.y);
+    }
+
+    fn move_to(&mut self, x: usize, y: usize) {
+        if self.place != (x, y) {
+            self.changes.move_to(x, y);
+            self.place = (x, y);
+        }
     }
 
     /// Clears these columns of a row.
     fn erase(&mut self, y: usize, columns: Range<usize>) {
         let background = self.cursor.pen.background;
-        let changes = self.changes.move_to(columns.start, y);
+        self.move_to(columns.start, y);
         if columns.end == self.width {
-            changes.clear_to_end_of_line(background);
+            self.changes.clear_to_end_of_line(background);
         } else {
-            changes.clear_columns(columns.len(), background);
+            self.changes.clear_columns(columns.len(), background);
+            self.place.0 = columns.end;
         }
     }
 
@@ -141,16 +195,22 @@ impl Terminal {
         self.go(self.cursor.x, self.cursor.y);
     }
 
+    /// Goes to the next row. By a line feed of a text where the surface does the same, since that
+    /// lets the text go on.
     fn feed_line(&mut self) {
         let Cursor { x, y, .. } = self.cursor;
-        if self.region.len() == self.height && self.is_plain() && x < self.width {
+        let goes_on = self.region.len() == self.height && self.is_plain() && x < self.width;
+        if goes_on && self.place == (x, y) {
             self.changes.append("\n");
-            self.cursor.y = (y + 1).min(self.height - 1);
+        } else if goes_on && x == 0 && self.place.1 == y {
+            self.changes.append("\r\n");
         } else if y + 1 == self.region.end {
-            self.scroll(self.region.clone(), 1, true);
+            return self.scroll(self.region.clone(), 1, true);
         } else {
-            self.go(x, y + 1);
+            return self.go(x, y + 1);
         }
+        self.go(x, y + 1);
+        self.place = (x, self.cursor.y);
     }
 
     /// Inserts blanks in these columns of the cursor's row, or deletes the cells there.
@@ -162,7 +222,7 @@ impl Terminal {
             (end, start, start + moved..self.width)
         };
         self.make()?;
-        self.surface.copy_region(from, y, moved, 1, to, y)?;
+        self.surface.draw_region(from, y, moved, 1, to, y)?;
         self.erase(y, new);
         self.go(start, y);
         Ok(())
@@ -178,9 +238,16 @@ impl Terminal {
             2 => (0..width, 0..height),
             _ => return,
         };
-        self.erase(y, columns);
-        if !is_row {
-            rows.for_each(|y| self.erase(y, 0..width));
+        if !is_row && part != 1 {
+            let (x, y) = if part == 0 { (x, y) } else { (0, 0) };
+            self.move_to(x, y);
+            let background = self.cursor.pen.background;
+            self.changes.clear_to_end_of_screen(background);
+        } else {
+            self.erase(y, columns);
+            if !is_row {
+                rows.for_each(|y| self.erase(y, 0..width));
+            }
         }
         self.go(x, y);
     }
@@ -192,15 +259,12 @@ impl Terminal {
             0x08 => self.go(x.saturating_sub(1), y),
             b'\t' => self.go((x / 8 + 1) * 8, y),
             b'\n'..=0x0c => self.feed_line(),
-            b'\r' => {
-                self.changes.append("\r");
-                self.cursor.x = 0;
-            }
+            b'\r' => self.cursor.x = 0,
             _ => {}
         }
     }
 
-    fn escape(&mut self, byte: u8) -> Result<(), Error> {
+    fn escape(&mut self, byte: u8) {
         let (y, Range { start, end }) = (self.cursor.y, self.region.clone());
         match byte {
             b'7' => self.saved = self.cursor.clone(),
@@ -212,15 +276,22 @@ impl Terminal {
             b'E' => b"\r\n".iter().for_each(|byte| self.control(*byte)),
             b'M' if y == start => self.scroll(start..end, 1, false),
             b'M' => self.go(self.cursor.x, y.saturating_sub(1)),
-            b'c' => *self = Terminal::new(self.width, self.height)?,
+            b'c' => self.reset(),
             _ => {}
         }
-        Ok(())
     }
 
-    fn csi(&mut self, params: &[Vec<u16>], last: u8) -> Result<(), Error> {
-        let mut numbers = params.iter().map(|param| usize::from(param[0]));
-        let (first, second) = (numbers.next().unwrap_or(0), numbers.next().unwrap_or(0));
+    fn reset(&mut self) {
+        self.changes.clear_screen(ColorAttribute::Default).title("");
+        self.cursor = Cursor::default();
+        self.saved = Cursor::default();
+        self.region = 0..self.height;
+        self.is_hidden = false;
+        self.place = (0, 0);
+    }
+
+    fn csi(&mut self, params: &Params, last: u8) -> Result<(), Error> {
+        let (first, second) = (params.number(0), params.number(1));
         let (x, y) = (self.cursor.x.min(self.width - 1), self.cursor.y);
         let Range { start, end } = self.region;
         let count = first.max(1);
@@ -243,7 +314,6 @@ impl Terminal {
                 self.go(x, y);
             }
             b'd' => self.go(x, count - 1),
-            b'm' => self.cursor.pen.apply_sgr(params.iter().map(Vec::as_slice)),
             b'r' => {
                 let last = if second == 0 { self.height } else { second };
                 if count < last.min(self.height) {

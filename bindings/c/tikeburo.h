@@ -223,6 +223,13 @@ tk_status tk_state(tk_handle *handle, tk_settings *state);
 /* The uri of the pen's link, which is empty where it has none. TK_SHORT. */
 tk_status tk_pen_link(tk_handle *handle, char *uri, size_t room, size_t *len);
 
+/* A param of the pen's link by its index from 0, in the order of their keys: the `id` of OSC 8, and
+ * what else it may have. TK_RANGE: the link has no param of this index, or there is no link.
+ * TK_SHORT: one of the two buffers is too short, and nothing is written but the lengths that are
+ * needed, *key_len and *value_len. */
+tk_status tk_pen_link_param(tk_handle *handle, size_t index, char *key, size_t key_room,
+                            size_t *key_len, char *value, size_t value_room, size_t *value_len);
+
 /* The texts of all rows' visible cells within their stored lengths, with a line feed after each
  * row. TK_SHORT. */
 tk_status tk_screen_text(tk_handle *handle, char *text, size_t room, size_t *len);
@@ -243,6 +250,12 @@ tk_status tk_cell_at(tk_handle *handle, size_t column, size_t row, tk_cell *cell
  * TK_RANGE: the row or the column. TK_SHORT. */
 tk_status tk_link_at(tk_handle *handle, size_t column, size_t row, char *uri, size_t room,
                      size_t *len);
+
+/* A param of the link that the cell at a column of a row has, as tk_pen_link_param has those of the
+ * pen's. TK_RANGE: the row, the column or the index. TK_SHORT. */
+tk_status tk_link_param_at(tk_handle *handle, size_t column, size_t row, size_t index, char *key,
+                           size_t key_room, size_t *key_len, char *value, size_t value_room,
+                           size_t *value_len);
 
 /* A visible cell of a row that is read at once. */
 typedef struct tk_row_cell {
@@ -386,9 +399,9 @@ typedef struct tk_list_counts {
  * as tk_add_changes takes them: those since then, or changes that draw all anew on any screen of
  * this size, where the number is 0, is no longer known, or too many changes came since. It reads a
  * surface, or what a viewer or a client shows. What a change's kind doesn't name is 0. A link has
- * its uri alone, and a pen no link to an empty uri. counts->number is what to ask with next.
- * TK_SHORT: one of the two is too short, and nothing is written but *counts. After any other error
- * *counts is as it was too. */
+ * its uri alone, without its params, and a pen no link to an empty uri. counts->number is what to
+ * ask with next. TK_SHORT: one of the two is too short, and nothing is written but *counts. After
+ * any other error *counts is as it was too. */
 tk_status tk_get_changes(tk_handle *handle, size_t since, tk_change *changes, size_t change_room,
                          char *texts, size_t room, tk_list_counts *counts);
 

@@ -13,6 +13,7 @@ pub mod Lists
 pub mod Making
 pub mod Numbers
 pub mod Outcomes
+pub mod Params
 pub mod Reading
 pub mod Results
 pub mod Rows

@@ -123,8 +123,8 @@ fn give_cell(
     Ok(())
 }
 
-// The cell at a column of a row, or the blank one after the stored cells.
-fn cell_at<'a>(
+/// The cell at a column of a row, or the blank one after the stored cells.
+pub(crate) fn cell_at<'a>(
     surface: &'a Surface<ChosenWidths>,
     column: usize,
     row: usize,

@@ -19,6 +19,7 @@ mod kept;
 mod listing;
 mod lists;
 mod loose;
+mod params;
 mod reading;
 mod rows;
 mod states;

@@ -153,6 +153,16 @@ extern "C" {
     pub fn tk_title(handle: *mut tk_handle, text: *mut u8, room: usize, len: *mut usize) -> i32;
     pub fn tk_state(handle: *mut tk_handle, state: *mut tk_settings) -> i32;
     pub fn tk_pen_link(handle: *mut tk_handle, uri: *mut u8, room: usize, len: *mut usize) -> i32;
+    pub fn tk_pen_link_param(
+        handle: *mut tk_handle,
+        index: usize,
+        key: *mut u8,
+        key_room: usize,
+        key_len: *mut usize,
+        value: *mut u8,
+        value_room: usize,
+        value_len: *mut usize,
+    ) -> i32;
     pub fn tk_screen_text(
         handle: *mut tk_handle,
         text: *mut u8,
@@ -183,6 +193,18 @@ extern "C" {
         uri: *mut u8,
         room: usize,
         len: *mut usize,
+    ) -> i32;
+    pub fn tk_link_param_at(
+        handle: *mut tk_handle,
+        column: usize,
+        row: usize,
+        index: usize,
+        key: *mut u8,
+        key_room: usize,
+        key_len: *mut usize,
+        value: *mut u8,
+        value_room: usize,
+        value_len: *mut usize,
     ) -> i32;
     pub fn tk_row_cells(
         handle: *mut tk_handle,

@@ -85,3 +85,41 @@ pub(crate) fn text(write: impl FnMut(*mut u8, usize, *mut usize) -> i32) -> Resu
     let bytes = bytes(&mut [0; 128], write)?;
     String::from_utf8(bytes).map_err(|_| Error::Unreadable)
 }
+
+/// The params of a link, each of which this call writes by its index, its key and its value as
+/// `text` has one, until it has no more. The call is passed the index, and for the two a buffer, its
+/// room, and where it writes their length.
+pub(crate) fn params(
+    mut write: impl FnMut(usize, *mut u8, usize, *mut usize, *mut u8, usize, *mut usize) -> i32,
+) -> Result<Vec<(String, String)>, Error> {
+    let mut params = Vec::new();
+    let (mut key, mut value) = (vec![0; 32], vec![0; 128]);
+    loop {
+        let (mut key_len, mut value_len) = (0, 0);
+        let status = write(
+            params.len(),
+            key.as_mut_ptr(),
+            key.len(),
+            &mut key_len,
+            value.as_mut_ptr(),
+            value.len(),
+            &mut value_len,
+        );
+        match status {
+            ffi::RANGE => return Ok(params),
+            ffi::SHORT => {
+                key.resize(key_len.max(key.len()), 0);
+                value.resize(value_len.max(value.len()), 0);
+            }
+            status => {
+                Error::check(status)?;
+                params.push((read(&key[..key_len])?, read(&value[..value_len])?));
+            }
+        }
+    }
+}
+
+/// The text that these bytes are.
+fn read(bytes: &[u8]) -> Result<String, Error> {
+    String::from_utf8(bytes.to_vec()).map_err(|_| Error::Unreadable)
+}

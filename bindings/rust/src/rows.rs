@@ -158,6 +158,36 @@ impl<'a> Row<'a> {
         })?;
         Ok(Hyperlink::new(uri))
     }
+
+    /// The params of the link that the cell at this column has, each a key and a value, in the order
+    /// of their keys: none where it has no link. A [`Hyperlink`] has its uri alone.
+    ///
+    /// # Errors
+    ///
+    /// [`Error::Range`]: the screen has no such row or column. [`Error::Memory`].
+    pub fn link_params(&self, column: usize) -> Result<Vec<(String, String)>, Error> {
+        self.link(column)?;
+        let handle = self.screen.handle.get();
+        handle::params(
+            |index, key, key_room, key_len, value, value_room, value_len| {
+                // Safety: the handle is live, and the buffers have the rooms that are named.
+                unsafe {
+                    ffi::tk_link_param_at(
+                        handle,
+                        column,
+                        self.number,
+                        index,
+                        key,
+                        key_room,
+                        key_len,
+                        value,
+                        value_room,
+                        value_len,
+                    )
+                }
+            },
+        )
+    }
 }
 
 /// The visible cells, from the left.

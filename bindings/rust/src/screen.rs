@@ -103,6 +103,26 @@ impl Screen {
         Ok(Hyperlink::new(uri))
     }
 
+    /// The params of the pen's link, each a key and a value, in the order of their keys: none where
+    /// it has no link. A [`Hyperlink`] has its uri alone.
+    ///
+    /// # Errors
+    ///
+    /// [`Error::Memory`].
+    pub fn pen_link_params(&self) -> Result<Vec<(String, String)>, Error> {
+        let handle = self.handle.get();
+        handle::params(
+            |index, key, key_room, key_len, value, value_room, value_len| {
+                // Safety: the handle is live, and the buffers have the rooms that are named.
+                unsafe {
+                    ffi::tk_pen_link_param(
+                        handle, index, key, key_room, key_len, value, value_room, value_len,
+                    )
+                }
+            },
+        )
+    }
+
     fn settings(&self) -> tk_settings {
         let mut settings = tk_settings::default();
         // Safety: the handle is live, and then the call doesn't fail.

@@ -21,6 +21,12 @@ static tk_status read_row(tk_handle *handle, size_t number, row *read) {
                         COUNT(read->attributes), read->text, sizeof read->text, &read->counts);
 }
 
+/* The same with the blanks that stand behind the stored cells. */
+static tk_status read_shown(tk_handle *handle, size_t number, row *read) {
+    return tk_shown_cells(handle, number, read->cells, COUNT(read->cells), read->attributes,
+                          COUNT(read->attributes), read->text, sizeof read->text, &read->counts);
+}
+
 /* Each cell is the one that tk_cell_at has at its column. */
 static void same_cells(tk_handle *handle, size_t number, const row *read) {
     size_t column = 0, end = 0;
@@ -87,6 +93,44 @@ static void test_short_rows(void) {
     }
     CHECK(tk_row_cells(&surface, 0, read.cells, needed.cells, read.attributes, needed.attributes,
                        read.text, needed.text, &read.counts) == TK_DONE);
+    tk_free(&surface);
+}
+
+/* How many columns the cells of a row take that was read. */
+static size_t columns_of(const row *read) {
+    size_t columns = 0;
+    for (size_t k = 0; k < read->counts.cells; k++)
+        columns += read->cells[k].columns;
+    return columns;
+}
+
+/* The cells that a row shows take all of its columns, whatever is stored. */
+static void test_shown_rows(void) {
+    tk_handle surface = made(8, 3), none = TK_NONE;
+    const tk_change list[] = {
+        {.kind = TK_CHANGE_TEXT, .first = 6},
+        {.kind = TK_CHANGE_CLEAR_TO_END_OF_LINE},
+        {.kind = TK_CHANGE_REVERSE, .attributes.reverse = true},
+        {.kind = TK_CHANGE_MOVE, .first = 7, .second = 1},
+        {.kind = TK_CHANGE_TEXT, .first = 1},
+    };
+    row read, stored;
+    CHECK(tk_add_changes(&surface, list, COUNT(list), "aか b!", 7) == TK_DONE);
+    CHECK(read_row(&surface, 0, &stored) == TK_DONE && columns_of(&stored) == 5);
+    CHECK(read_shown(&surface, 0, &read) == TK_DONE && columns_of(&read) == 8);
+    CHECK(read.counts.cells == 7 && read.counts.attributes == 1 && read.counts.text == 9);
+    CHECK(memcmp(read.text, "aか b   ", 9) == 0);
+    CHECK(read.cells[3].begin == 5 && read.cells[4].begin == 6 && read.cells[4].len == 1);
+    for (size_t number = 0; number < 3; number++) {
+        CHECK(read_shown(&surface, number, &read) == TK_DONE && columns_of(&read) == 8);
+        same_cells(&surface, number, &read);
+    }
+    read.counts.cells = 99;
+    CHECK(read_shown(&surface, 3, &read) == TK_RANGE && read.counts.cells == 99);
+    CHECK(read_shown(&none, 0, &read) == TK_NO_HANDLE && read.counts.cells == 99);
+    CHECK(tk_shown_cells(&surface, 0, read.cells, 6, read.attributes, 1, read.text, 9,
+                         &read.counts) == TK_SHORT);
+    CHECK(read.counts.cells == 7 && read.counts.attributes == 1 && read.counts.text == 9);
     tk_free(&surface);
 }
 
@@ -172,6 +216,7 @@ static void test_changes(void) {
 int main(void) {
     test_rows();
     test_short_rows();
+    test_shown_rows();
     test_changes();
     printf("%d checks\n", checks);
     return failures != 0;

@@ -282,6 +282,12 @@ tk_status tk_row_cells(tk_handle *handle, size_t row, tk_row_cell *cells, size_t
                        tk_attributes *attributes, size_t attribute_room, char *text, size_t room,
                        tk_row_counts *counts);
 
+/* The same of all that the row shows: default blanks stand behind its stored cells, so that its
+ * cells take each column of the width, however many are stored. */
+tk_status tk_shown_cells(tk_handle *handle, size_t row, tk_row_cell *cells, size_t cell_room,
+                         tk_attributes *attributes, size_t attribute_room, char *text, size_t room,
+                         tk_row_counts *counts);
+
 /* ---- Texts, as surfaces cut and measure them. They are read whole, at each call. ---- */
 
 /* The columns of a text by these widths: the sum over its graphemes, each of which has 0 to 2. A

@@ -1,6 +1,9 @@
 pub mod Brought
 pub mod Decoded
 pub mod Delivered
+pub mod Filled
 pub mod Listed
 pub mod ReadBack
+pub mod RowParts
+pub mod ShownRow
 pub mod Since

@@ -1,17 +1,18 @@
 -- What is read of a row at once: its visible cells, their attributes by runs, and their texts.
-use Rattle.std.specs.Prelude.{◌≡◌, ℕ, ◌+◌, ◌-◌, ◌≤◌, Bool, true, not, Ok, Err, Option, Some, None, is_some, List, [], ◌∷◌, ◌++◌, length, drop, slice_get, if◌then◌else◌}
+use Rattle.std.specs.Prelude.{◌≡◌, ℕ, zero, suc, ◌+◌, ◌-◌, ◌≤◌, Bool, true, not, Ok, Err, Option, Some, None, is_some, List, [], ◌∷◌, ◌++◌, length, take, drop, slice_get, if◌then◌else◌}
 use Rattle.termwiz_cell.specs.Attributes.{Attributes, attributes_eq}
-use Rattle.termwiz_cell.specs.CellValue.{CellValue, columns}
+use Rattle.termwiz_cell.specs.CellValue.{CellValue, blank, columns}
+use Rattle.termwiz_line.specs.Row.{visible_upto}
+use Rattle.termwiz_storage.specs.VisibleCell.{at_column}
 use Rattle.termwiz_surface.specs.{VisibleCell, texts_of, visible}
-use Rattle.termwiz_surface.specs.Surface.{SurfaceValue}
+use Rattle.termwiz_surface.specs.Surface.{SurfaceValue, screen_of}
 use Rattle.tikeburo_c.specs.Fields.{attribute_fields}
 use Rattle.tikeburo_c.specs.Outcomes.{Outcome}
 use Rattle.tikeburo_c.specs.Results.{OrNoMemory, Refused}
 use Rattle.tikeburo_c.specs.declared.failure.Failure.TheVariants.{Range, Short}
 use Rattle.tikeburo_c.specs.declared.fields.AttributeFields.{AttributeFields}
-use Rattle.tikeburo_c.specs.declared.rows.RowCellFields.{RowCellFields}
-use Rattle.tikeburo_c.specs.declared.rows.RowCounts.{RowCounts}
-use Rattle.tikeburo_c.specs.declared.rows.RowParts.{RowParts}
+use Rattle.tikeburo_c.specs.declared.row_parts.RowCellFields.{RowCellFields}
+use Rattle.tikeburo_c.specs.declared.row_parts.RowCounts.{RowCounts}
 use Rattle.tikeburo_c.specs.declared.widths.ChosenWidths.{ChosenWidths}
 
 -- these attributes begin a run: the cell before has others, or there is none
@@ -52,20 +53,17 @@ pub record RowValue : Type 0 where
   pub attributes : List AttributeFields
   pub text : List ℕ
 
--- what has been read, of the struct that it is collected in
-abbrev pub parts_value : RowParts → RowValue
-parts_value parts = record {
-  cells = parts.cells.items;
-  attributes = parts.attributes.items;
-  text = parts.text.items;
-}
-
 abbrev pub row_value : List VisibleCell → RowValue
 row_value cells = record {
   cells = cells_from 0 0 None cells;
   attributes = runs_of None cells;
   text = texts_of cells;
 }
+
+-- default blanks in n columns from column x on
+abbrev pub blanks_at : ℕ → ℕ → List VisibleCell
+blanks_at x zero = []
+blanks_at x (suc n) = at_column x blank ∷ blanks_at (suc x) n
 
 -- a caller's arrays, with the counts beside them
 pub record RowPlace : Type 0 where
@@ -96,6 +94,10 @@ pub record HasRoom (v : RowValue) (place : RowPlace) : Type 0 where
 abbrev pub at_front : {A : Type 0} → List A → List A → List A
 at_front xs room = xs ++ drop (length xs) room
 
+-- an array with these in the place of as many from an index on
+abbrev pub overwritten : {A : Type 0} → ℕ → List A → List A → List A
+overwritten at xs room = take at room ++ (xs ++ drop (at + length xs) room)
+
 -- all is at the arrays' fronts, with their counts, or one of them is too short and there are only
 -- the counts
 abbrev pub GivesParts : RowValue → RowPlace → Outcome → RowPlace → Type 0
@@ -115,4 +117,12 @@ GivesCells row s = of_row (slice_get s.lines row)
   where
     of_row : Option (List CellValue) → RowPlace → Outcome → RowPlace → Type 0
     of_row (Some cells) = OrNoMemory (GivesParts (row_value (visible cells)))
+    of_row None = Refused Range
+
+-- of a row that there is, the visible cells of the screen's row, which take each column
+abbrev pub GivesShown : ℕ → SurfaceValue ChosenWidths → RowPlace → Outcome → RowPlace → Type 0
+GivesShown row s = of_row (slice_get (screen_of s).rows row)
+  where
+    of_row : Option (List CellValue) → RowPlace → Outcome → RowPlace → Type 0
+    of_row (Some cells) = OrNoMemory (GivesParts (row_value (visible_upto cells s.width)))
     of_row None = Refused Range

@@ -1,113 +1,25 @@
 //! Whole rows: their visible cells at once.
-ghost use Rattle.std.specs.Prelude.{◌≡◌, ◌≤◌, ◌++◌, ◌-◌, IfOk, OnOk, length};
-ghost use Rattle.std.specs.Option.{option_copied};
-ghost use Rattle.termwiz_storage.specs.{IsOfCell, cells_left, ref_cell};
+ghost use Rattle.std.specs.Prelude.{◌≡◌, ◌≤◌, ◌<◌, ◌+◌, ◌^◌, ◌++◌, IfErr, IfOk, None, Some, length};
+ghost use Rattle.std.specs.Prelude.{slice_get};
+ghost use Rattle.termwiz_line.specs.Row.{row_of, visible_upto};
+ghost use Rattle.termwiz_screen.specs.{IsPaddable};
 ghost use Rattle.termwiz_surface.specs.{visible};
 ghost use Rattle.tikeburo_c.specs.Handles.{kept_of};
 ghost use Rattle.tikeburo_c.specs.Outcomes.{Reports};
 ghost use Rattle.tikeburo_c.specs.Results.{OrNoMemory, Reads};
 ghost use Rattle.tikeburo_c.specs.Rows as rows;
-ghost use Rattle.tikeburo_c.specs.Rows.{GivesCells, GivesParts, RowPlace, at_front, row_value};
+ghost use Rattle.tikeburo_c.specs.Rows.{GivesCells, GivesParts, GivesShown, RowPlace, at_front};
+ghost use Rattle.tikeburo_c.specs.Rows.{blanks_at, counts_of, row_value};
+ghost use Rattle.tikeburo_c.specs.declared.failure.Failure.TheVariants.{Range};
 
-use crate::cells::line_at;
 use crate::failure::{Failure, status};
-use crate::fields::{AttributeFields, attribute_fields};
+use crate::fields::AttributeFields;
 use crate::handle::Handle;
+use crate::row_parts::{RowCellFields, RowCounts, count_parts, write_parts};
+use crate::shown_cells::ShownCells;
 use crate::widths::ChosenWidths;
-use std::alloc::{AllocError, Global};
-use termwiz_storage::line::cellref::{CellRef, VisibleCellIter};
-use termwiz_surface::{CellAttributes, Line, Surface};
-
-/// A visible cell of a row: where its text begins in the row's text, how long that is, and which
-/// of the row's attributes it has.
-#[repr(C)]
-#[derive(Clone, Copy)]
-pub struct RowCellFields {
-    pub begin: usize,
-    pub len: usize,
-    pub run: usize,
-    pub columns: u8,
-    pub has_link: bool,
-}
-
-/// How many cells, attributes and bytes of text a row has.
-#[repr(C)]
-#[derive(Clone, Copy)]
-pub struct RowCounts {
-    pub cells: usize,
-    pub attributes: usize,
-    pub text: usize,
-}
-
-/// A row's visible cells, the attributes of each run of them, and their texts.
-#[derive(Drop)]
-struct RowParts {
-    cells: Vec<RowCellFields>,
-    attributes: Vec<AttributeFields>,
-    text: Vec<u8>,
-}
-
-fn row_cell(cell: &CellRef<'_>, begin: usize, run: usize) -> RowCellFields
-    requires { IsOfCell cell.now }
-    ensures { result ≡ rows.row_cell begin run (ref_cell cell.now) }
-{
-    RowCellFields {
-        begin,
-        len: cell.str().len(),
-        run,
-        columns: cell.width() as u8,
-        has_link: cell.attrs().hyperlink().is_some(),
-    }
-}
-
-fn begins(before: Option<&CellAttributes>, attrs: &CellAttributes) -> bool
-    ensures { result ≡ rows.begins (option_copied before.entry) attrs.now }
-{
-    match before {
-        Some(before) => *before != *attrs,
-        None => true,
-    }
-}
-
-// The index of the run that these attributes are of, which they begin where they differ from those
-// before.
-fn run_of(
-    attributes: &mut Vec<AttributeFields>,
-    before: Option<&CellAttributes>,
-    attrs: &CellAttributes,
-) -> Result<usize, AllocError>
-    ensures begun { IfOk result (λ run. attributes.new.items
-        ≡ attributes.old.items ++ rows.begun (option_copied before.entry) attrs.now) }
-    ensures last { IfOk result (λ run. run ≡ length attributes.new.items - 1) }
-{
-    if begins(before, attrs) {
-        attributes.push(attribute_fields(attrs))?;
-    }
-    Ok(attributes.len().saturating_sub(1))
-}
-
-// What these cells are for C, with room at first for so many of them.
-fn parts_of(alloc: Global, room: usize, cells: VisibleCellIter<'_>) -> Result<RowParts, AllocError>
-    ensures { IfOk result (λ parts.
-        rows.parts_value parts ≡ row_value (cells_left cells.entry)) }
-{
-    let mut row_cells = Vec::with_capacity(alloc, room)?;
-    let mut attributes = Vec::new(alloc);
-    let mut text = Vec::with_capacity(alloc, room)?;
-    let mut before = None;
-    for cell in cells {
-        let attrs = cell.attrs();
-        let run = run_of(&mut attributes, before, attrs)?;
-        row_cells.push(row_cell(&cell, text.len(), run))?;
-        text.extend_from_slice(cell.str().as_bytes())?;
-        before = Some(attrs);
-    }
-    Ok(RowParts {
-        cells: row_cells,
-        attributes,
-        text,
-    })
-}
+use std::alloc::Global;
+use termwiz_surface::{Cell, Surface};
 
 /// Copies the items to the front of an array that has room for them.
 pub(crate) fn put_front<T: Copy>(items: &[T], room: &mut [T])
@@ -117,51 +29,105 @@ pub(crate) fn put_front<T: Copy>(items: &[T], room: &mut [T])
     room[..items.len()].copy_from_slice(items);
 }
 
-fn give_parts(
-    parts: &RowParts,
+// Gives these cells, which need so much.
+fn give_counted(
+    needed: RowCounts,
+    shown: ShownCells<'_>,
     cells: &mut [RowCellFields],
     attributes: &mut [AttributeFields],
     text: &mut [u8],
     counts: &mut RowCounts,
 ) -> Result<(), Failure>
-    ensures { GivesParts (rows.parts_value parts.now)
+    requires { needed ≡ counts_of (row_value shown) }
+    ensures { GivesParts (row_value shown.entry)
         (rows.row_place cells.old attributes.old text.old counts.old) result
         (rows.row_place cells.new attributes.new text.new counts.new) }
 {
-    *counts = RowCounts {
-        cells: parts.cells.len(),
-        attributes: parts.attributes.len(),
-        text: parts.text.len(),
-    };
-    if parts.cells.len() > cells.len()
-        || (parts.attributes.len() > attributes.len() || parts.text.len() > text.len())
+    *counts = needed;
+    if needed.cells > cells.len()
+        || (needed.attributes > attributes.len() || needed.text > text.len())
     {
         return Err(Failure::Short);
     }
-    put_front(&parts.cells, cells);
-    put_front(&parts.attributes, attributes);
-    put_front(&parts.text, text);
+    write_parts(shown, cells, attributes, text);
     Ok(())
 }
 
-fn give_line(
-    alloc: Global,
-    line: &Line,
+// Gives the visible ones of these stored cells, and so many blank ones behind them.
+#[tactic(auto, using(crate::proofs::ShownRow::are_few))]
+fn give_parts(
+    stored: &[Cell],
+    blanks: usize,
     cells: &mut [RowCellFields],
     attributes: &mut [AttributeFields],
     text: &mut [u8],
     counts: &mut RowCounts,
 ) -> Result<(), Failure>
-    ensures { OrNoMemory (GivesParts (row_value (visible line.now.cells)))
+    requires { length stored.now + blanks < 2 ^ 64 }
+    ensures { OrNoMemory (GivesParts
+        (row_value (visible stored.now ++ blanks_at (length stored.now) blanks)))
         (rows.row_place cells.old attributes.old text.old counts.old) result
         (rows.row_place cells.new attributes.new text.new counts.new) }
 {
-    let parts = parts_of(alloc, line.len(), line.visible_cells())?;
-    give_parts(&parts, cells, attributes, text, counts)
+    let blank = Cell::blank();
+    let Some(needed) = count_parts(ShownCells::new(stored, blanks, &blank)) else {
+        return Err(Failure::Memory);
+    };
+    let shown = ShownCells::new(stored, blanks, &blank);
+    give_counted(needed, shown, cells, attributes, text, counts)
+}
+
+fn give_stored(
+    stored: &[Cell],
+    cells: &mut [RowCellFields],
+    attributes: &mut [AttributeFields],
+    text: &mut [u8],
+    counts: &mut RowCounts,
+) -> Result<(), Failure>
+    ensures { OrNoMemory (GivesParts (row_value (visible stored.now)))
+        (rows.row_place cells.old attributes.old text.old counts.old) result
+        (rows.row_place cells.new attributes.new text.new counts.new) }
+{
+    give_parts(stored, 0, cells, attributes, text, counts)
+}
+
+// Gives the visible cells of the row of this width.
+fn give_filled(
+    stored: &[Cell],
+    width: usize,
+    cells: &mut [RowCellFields],
+    attributes: &mut [AttributeFields],
+    text: &mut [u8],
+    counts: &mut RowCounts,
+) -> Result<(), Failure>
+    requires { IsPaddable width stored.now }
+    ensures { OrNoMemory (GivesParts (row_value (visible_upto (row_of width stored.now) width)))
+        (rows.row_place cells.old attributes.old text.old counts.old) result
+        (rows.row_place cells.new attributes.new text.new counts.new) }
+{
+    give_parts(
+        stored,
+        width - stored.len(),
+        cells,
+        attributes,
+        text,
+        counts,
+    )
+}
+
+// The stored cells of the row at this index from the top, if there is one.
+fn stored_at(surface: &Surface<ChosenWidths>, row: usize) -> Result<&[Cell], Failure>
+    ensures found { IfOk result (λ stored. slice_get surface.now.lines row ≡ Some stored.now) }
+    ensures missing { IfErr result (λ failure.
+        (failure ≡ Range) × (slice_get surface.now.lines row ≡ None)) }
+{
+    match surface.row_cells(row) {
+        Some(stored) => Ok(stored),
+        None => Err(Failure::Range),
+    }
 }
 
 fn give_cells(
-    alloc: Global,
     surface: &Surface<ChosenWidths>,
     row: usize,
     cells: &mut [RowCellFields],
@@ -173,8 +139,26 @@ fn give_cells(
         (rows.row_place cells.old attributes.old text.old counts.old) result
         (rows.row_place cells.new attributes.new text.new counts.new) }
 {
-    let line = line_at(surface, row)?;
-    give_line(alloc, line, cells, attributes, text, counts)
+    let stored = stored_at(surface, row)?;
+    give_stored(stored, cells, attributes, text, counts)
+}
+
+#[tactic(auto, using(crate::proofs::ShownRow::is_paddable, crate::proofs::ShownRow::shows_none))]
+fn give_shown(
+    surface: &Surface<ChosenWidths>,
+    row: usize,
+    cells: &mut [RowCellFields],
+    attributes: &mut [AttributeFields],
+    text: &mut [u8],
+    counts: &mut RowCounts,
+) -> Result<(), Failure>
+    ensures { GivesShown row surface.now
+        (rows.row_place cells.old attributes.old text.old counts.old) result
+        (rows.row_place cells.new attributes.new text.new counts.new) }
+{
+    let (width, _) = surface.dimensions();
+    let stored = stored_at(surface, row)?;
+    give_filled(stored, width, cells, attributes, text, counts)
 }
 
 /// The visible cells of a row within its stored length, the attributes of each run of cells that
@@ -197,7 +181,36 @@ pub extern "C" fn tk_row_cells(
 {
     let outcome = match handle.take(alloc) {
         Some(kept) => {
-            let outcome = give_cells(alloc, kept.shown(), row, cells, attributes, text, counts);
+            let outcome = give_cells(kept.shown(), row, cells, attributes, text, counts);
+            handle.put(alloc, kept);
+            outcome
+        }
+        None => Err(Failure::NoHandle),
+    };
+    status(outcome)
+}
+
+/// The visible cells that a row shows in all columns of the width: blank ones stand behind those
+/// that are stored. The rest is as of `tk_row_cells`.
+#[unsafe(no_mangle)]
+pub extern "C" fn tk_shown_cells(
+    alloc: Global,
+    handle: &mut Handle,
+    row: usize,
+    cells: &mut [RowCellFields],
+    attributes: &mut [AttributeFields],
+    text: &mut [u8],
+    counts: &mut RowCounts,
+) -> i32
+    ensures read { Reports result (λ outcome.
+        Reads {B = RowPlace} (GivesShown row) (kept_of handle.old)
+        (rows.row_place cells.old attributes.old text.old counts.old)
+        outcome (rows.row_place cells.new attributes.new text.new counts.new)) }
+    ensures same { kept_of handle.new ≡ kept_of handle.old }
+{
+    let outcome = match handle.take(alloc) {
+        Some(kept) => {
+            let outcome = give_shown(kept.shown(), row, cells, attributes, text, counts);
             handle.put(alloc, kept);
             outcome
         }

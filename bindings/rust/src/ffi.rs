@@ -217,6 +217,17 @@ extern "C" {
         room: usize,
         counts: *mut tk_row_counts,
     ) -> i32;
+    pub fn tk_shown_cells(
+        handle: *mut tk_handle,
+        row: usize,
+        cells: *mut tk_row_cell,
+        cell_room: usize,
+        attributes: *mut tk_attributes,
+        attribute_room: usize,
+        text: *mut u8,
+        room: usize,
+        counts: *mut tk_row_counts,
+    ) -> i32;
     pub fn tk_text_width(text: *const u8, len: usize, widths: u8, columns: *mut usize) -> i32;
     pub fn tk_add_changes(
         surface: *mut tk_handle,

@@ -3,7 +3,7 @@
 use crate::attributes::{Attributes, Hyperlink};
 use crate::change::LineAttribute;
 use crate::error::Error;
-use crate::ffi::{self, tk_attributes, tk_cell, tk_row_cell, tk_row_counts};
+use crate::ffi::{self, tk_attributes, tk_cell, tk_handle, tk_row_cell, tk_row_counts};
 use crate::handle;
 use crate::screen::Screen;
 use std::iter::FusedIterator;
@@ -103,8 +103,9 @@ impl<'a> Row<'a> {
         }
     }
 
-    /// Reads the whole row by one call of the library, into a buffer that keeps its memory for the
-    /// next rows: for a renderer, which reads many cells.
+    /// Reads the row's stored cells by one call of the library, into a buffer that keeps its memory
+    /// for the next rows: for a renderer, which reads many cells. Blanks at the row's end may be
+    /// left out.
     ///
     /// ```
     /// use tikeburo::{RowBuffer, Surface};
@@ -122,7 +123,17 @@ impl<'a> Row<'a> {
     ///
     /// [`Error::Range`]: the screen has no such row. [`Error::Memory`]. The buffer is empty then.
     pub fn read(&self, buffer: &mut RowBuffer) -> Result<(), Error> {
-        buffer.fill(self)
+        buffer.fill(self, ffi::tk_row_cells)
+    }
+
+    /// Reads all that the row shows by one call of the library, as [`Row::read`] does, with the
+    /// blanks at its end: its cells take each column of the screen's width.
+    ///
+    /// # Errors
+    ///
+    /// [`Error::Range`]: the screen has no such row. [`Error::Memory`]. The buffer is empty then.
+    pub fn read_shown(&self, buffer: &mut RowBuffer) -> Result<(), Error> {
+        buffer.fill(self, ffi::tk_shown_cells)
     }
 
     /// The cell at this column. At the second column of a wide cell it is a blank.
@@ -262,8 +273,8 @@ impl Cell {
     }
 }
 
-/// A row as [`Row::read`] reads it: its visible cells from the left. Behind the last one the row
-/// shows default blanks.
+/// A row as [`Row::read`] and [`Row::read_shown`] read it: its visible cells from the left. Behind
+/// the last one the row shows default blanks.
 #[derive(Clone, Default)]
 pub struct RowBuffer {
     cells: Vec<tk_row_cell>,
@@ -273,6 +284,19 @@ pub struct RowBuffer {
     runs: Vec<Attributes>,
     counts: tk_row_counts,
 }
+
+/// The call of the library that reads a row's cells.
+type ReadCells = unsafe extern "C" fn(
+    *mut tk_handle,
+    usize,
+    *mut tk_row_cell,
+    usize,
+    *mut tk_attributes,
+    usize,
+    *mut u8,
+    usize,
+    *mut tk_row_counts,
+) -> i32;
 
 impl RowBuffer {
     /// A buffer that has no row yet.
@@ -301,8 +325,8 @@ impl RowBuffer {
         })
     }
 
-    fn fill(&mut self, row: &Row<'_>) -> Result<(), Error> {
-        let read = self.read(row);
+    fn fill(&mut self, row: &Row<'_>, call: ReadCells) -> Result<(), Error> {
+        let read = self.read(row, call);
         if read.is_err() {
             self.counts = tk_row_counts::default();
         }
@@ -314,11 +338,11 @@ impl RowBuffer {
     }
 
     /// Makes the call, anew with more room where that is too little.
-    fn read(&mut self, row: &Row<'_>) -> Result<(), Error> {
+    fn read(&mut self, row: &Row<'_>, call: ReadCells) -> Result<(), Error> {
         loop {
             // Safety: the handle is live, and the buffers have the rooms that are named.
             let status = unsafe {
-                ffi::tk_row_cells(
+                call(
                     row.screen.handle.get(),
                     row.number,
                     self.cells.as_mut_ptr(),

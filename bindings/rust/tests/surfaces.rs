@@ -2,8 +2,8 @@
 
 use tikeburo::{
     AttributeChange, Attributes, Blink, Change, ColorAttribute, CursorShape, CursorVisibility,
-    Error, Hyperlink, Intensity, LineAttribute, Options, Position, RgbColor, SemanticType, Surface,
-    Underline, VerticalAlign, Widths,
+    Error, Hyperlink, Intensity, LineAttribute, Options, Position, RgbColor, RowBuffer,
+    SemanticType, Surface, Underline, VerticalAlign, Widths,
 };
 
 const ORANGE: RgbColor = RgbColor::new_8bpc(255, 128, 0);
@@ -72,6 +72,26 @@ fn rows_and_cells_are_iterated() {
     assert_eq!(surface.row(3).cells().last(), Some(Err(Error::Range)));
     assert_eq!(surface.row(0).cell(5), Err(Error::Range));
     assert_eq!(surface.row(0).cell(2).unwrap().str(), " "); // after a wide one
+}
+
+#[test]
+fn a_row_is_read_with_its_blanks_or_without_them() {
+    let mut surface = printed(8, 2, "aか");
+    surface
+        .add_change(Change::ClearToEndOfLine(ColorAttribute::Default))
+        .unwrap();
+    let mut buffer = RowBuffer::new();
+    surface.row(0).read(&mut buffer).unwrap();
+    assert_eq!(buffer.text(), "aか");
+    surface.row(0).read_shown(&mut buffer).unwrap();
+    assert_eq!(buffer.text(), "aか     ");
+    assert_eq!(buffer.cells().map(|cell| cell.width()).sum::<usize>(), 8);
+    for (read, cell) in buffer.cells().zip(surface.row(0).cells()) {
+        let cell = cell.unwrap();
+        assert_eq!((read.str(), read.attrs()), (cell.str(), cell.attrs()));
+    }
+    assert_eq!(surface.row(2).read_shown(&mut buffer), Err(Error::Range));
+    assert_eq!(buffer.cells().len(), 0);
 }
 
 #[test]

@@ -5,3 +5,4 @@ mod MadeFully
 mod RowsOfForm
 mod SameLists
 mod Served
+mod Unlogged

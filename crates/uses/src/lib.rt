@@ -10,6 +10,7 @@ pub mod one_by_one;
 pub mod own_widths;
 pub mod patch;
 pub mod prompt;
+pub mod quiet;
 pub mod relay;
 pub mod remote;
 pub mod renderer;

@@ -2,7 +2,7 @@
 ghost use Rattle.std.specs.Prelude.{◌≡◌, ◌<◌, ◌≤◌, ◌+◌, ◌^◌, ◌∷◌, [], length, true, false, List};
 ghost use Rattle.std.specs.Prelude.{IfOk, IfSome, MatchOption};
 ghost use Rattle.std.specs.Option.{ForSome};
-ghost use Rattle.std.specs.Str.{IsAscii, chars};
+ghost use Rattle.std.specs.Str.{chars};
 ghost use Rattle.unicode_segmentation.specs.Grapheme.{graphemes};
 ghost use Rattle.termwiz_cell.specs.Attributes.{default_attributes};
 ghost use Rattle.termwiz_cell.specs.CellValue.{clean, columns};
@@ -242,14 +242,6 @@ pub(crate) fn needs_pieces<W: Widths>(widths: &W, text: &str) -> bool
     needed_runs(widths, text).is_some()
 }
 
-// Whether a text is ASCII. Most texts are short, so that it takes one byte at a time, and not words.
-#[inline]
-fn is_ascii(text: &str) -> bool
-    ensures { result ≡ true → IsAscii text.now }
-{
-    text.as_bytes().iter().all(u8::is_ascii)
-}
-
 /// How many runs a text is sent with, where it needs its pieces. Most texts are ASCII, and need
 /// none.
 #[inline]
@@ -258,7 +250,7 @@ pub(crate) fn needed_runs<W: Widths>(widths: &W, text: &str) -> Option<usize>
         (needs_pieces (runs (measure W.width_of widths.now) text.now) ≡ false)
         (λ count. IsNeeded count (runs (measure W.width_of widths.now) text.now)) }
 {
-    if widths.has_narrow_ascii() && is_ascii(text) {
+    if widths.has_narrow_ascii() && text.is_ascii() {
         return None;
     }
     counted_runs(widths, text)

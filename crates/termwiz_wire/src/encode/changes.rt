@@ -38,11 +38,11 @@ pub fn encode_change<W: Widths>(
         Change::Attribute(change) => put_change_of(out, change),
         Change::AllAttributes(attrs) => put_all(out, attrs),
         Change::Text(text) => put_printed(out, widths, text.as_str()),
-        Change::ClearScreen(color) => put_colored(out, 3, *color),
-        Change::ClearToEndOfLine(color) => put_colored(out, 4, *color),
-        Change::ClearToEndOfScreen(color) => put_colored(out, 5, *color),
+        Change::ClearScreen(color) => put_colored(out, 3, color),
+        Change::ClearToEndOfLine(color) => put_colored(out, 4, color),
+        Change::ClearToEndOfScreen(color) => put_colored(out, 5, color),
         Change::CursorPosition { x, y } => put_place(out, *x, *y),
-        Change::CursorColor(color) => put_colored(out, 7, *color),
+        Change::CursorColor(color) => put_colored(out, 7, color),
         Change::CursorShape(shape) => put_number(out, 8, shape.number() as usize),
         Change::CursorVisibility(visibility) => put_visible(out, is_visible(*visibility)),
         Change::ScrollRegionUp {
@@ -82,16 +82,17 @@ fn put_all(out: &mut Vec<u8>, attrs: &CellAttributes) -> Result<(), AllocError>
     put_attributes(out, attrs)
 }
 
-// Appends a change of this kind that has a colour.
-#[inline]
-fn put_colored(out: &mut Vec<u8>, kind: usize, value: ColorAttribute) -> Result<(), AllocError>
+// Appends a change of this kind that has a colour. It is out of line, so that the path of a text or
+// a pen sets no place for a colour to zero.
+#[inline(never)]
+fn put_colored(out: &mut Vec<u8>, kind: usize, value: &ColorAttribute) -> Result<(), AllocError>
     ensures written { OnOk result
-        (out.new.items ≡ out.old.items ++ array 2 ++ unsigned kind ++ color value) }
+        (out.new.items ≡ out.old.items ++ array 2 ++ unsigned kind ++ color value.now) }
     ensures kept { Extends out.old.items out.new.items }
-    ensures form { OnOk result (IsColor value) }
+    ensures form { OnOk result (IsColor value.now) }
 {
     put_kind(out, kind)?;
-    put_color(out, value)
+    put_color(out, *value)
 }
 
 // Appends a move of the cursor.

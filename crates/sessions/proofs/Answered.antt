@@ -4,9 +4,10 @@ use Rattle.std.specs.Prelude.{Option, None, Some, Result, Ok, Err, IfOk, IfSome,
 use Rattle.std.specs.declared.alloc.Global.{Global}
 use Rattle.std.specs.Io.KnownBytes.{Appends, IsAtEnd}
 use Rattle.std.specs.Io.BufRead.{drop_through, first_piece, DropsThrough}
+use Rattle.std.proofs.KnownBytes.{Appends-nil, Appends-trans}
 use Rattle.std.proofs.lemmas.Bool.{true≢false}
 use Rattle.std.proofs.lemmas.List.Concat.{flat_map-append}
-use Rattle.sessions.specs.Lines.{LineSays, Say, LastLine}
+use Rattle.sessions.specs.Lines.{LineSays, Say, LastLine, SayFirst, NoMore}
 use Rattle.termwiz_cell.specs.Width.{unicode_columns}
 use Rattle.termwiz_cell.specs.declared.emoji.UnicodeWidths.{UnicodeWidths}
 use Rattle.termwiz_screen.specs.Picture.{screens}
@@ -14,12 +15,14 @@ use Rattle.termwiz_surface.specs.Answer.{AnswerValue}
 use Rattle.termwiz_surface.specs.Carried.{IsGivenBy}
 use Rattle.termwiz_surface.specs.Surface.{SurfaceValue}
 use Rattle.termwiz_wire.specs.Sent.{answer}
-use Rattle.sessions.specs.Answering.{AnswersAll, Ended, IsAnswered, MayAnswer, Next, WritesAnswers}
+use Rattle.sessions.specs.Answering.{AnswersAll, AnswersFirst, Ended, IsAnswered, MayAnswer, Next, WritesAnswers}
 use Rattle.sessions.specs.Requests.{MaySay, SaysRequest}
 use Rattle.sessions.specs.Sending.{bytes_of, columns, first_surface, stream_of}
 use Rattle.sessions.specs.declared.send.runs.Request.{Request}
 use Rattle.sessions.specs.declared.send.runs.SendOutcome.{SendOutcome}
-use Rattle.sessions.proofs.Lines.{line_says}
+use Rattle.sessions.specs.Writing.{AppendsSome}
+use Rattle.sessions.proofs.Lines.{line_says, line_says_first}
+use Rattle.sessions.proofs.Writing.{some_all, some_next}
 
 abbrev pub Known : Type 0
 Known = Option (List ℕ)
@@ -63,81 +66,138 @@ says_none : (known : Known) → IsAtEnd known → SayAll known []
 says_none None end = tt
 says_none (Some xs) end = subst (λ (lines : List ℕ). Say SaysRequest lines []) (sym end) (LastLine [] [] refl (inl (refl, refl)))
 
-appends_more : (a b c : Known) (xs ys : List ℕ) → Appends a b xs → Appends b c ys → Appends a c (xs ++ ys)
-appends_more None b c xs ys p q = tt
-appends_more (Some x) None c xs ys p q = absurd p
-appends_more (Some x) (Some y) None xs ys p q = absurd q
-appends_more (Some x) (Some y) (Some z) xs ys p q = q ∙ ap (λ (l : List ℕ). l ++ ys) p ∙ append_assoc x xs ys
+-- some lines at the front of known bytes say these requests
+abbrev SayFirstAll : Known → List Request → Type 0
+SayFirstAll known requests = IfSome known (λ lines. SayFirst SaysRequest lines requests)
 
-appends_none : (a : Known) → Appends a a []
-appends_none None = tt
-appends_none (Some xs) = sym (append-nil xs)
+says_first_more : (line : List ℕ) (old new : Known) (requests more : List Request) → HasCome line old new → LineSays SaysRequest line requests → SayFirstAll new more → SayFirstAll old (requests ++ more)
+says_first_more line None new requests more come said later = tt
+says_first_more line (Some xs) new requests more come said later =
+    line_says_first SaysRequest xs requests more
+    (subst (λ (l : List ℕ). LineSays SaysRequest l requests) come.front.1 said)
+    (subst (λ (known : Known). SayFirstAll known more) come.left later)
+
+says_first_none : (known : Known) → SayFirstAll known []
+says_first_none None = tt
+says_first_none (Some xs) = NoMore xs
 
 -- the bytes of an answer
 pub answered_by : (source : ℕ) (s : Surfaces) (n : ℕ) (bytes : Vec ℕ Global) (k : ℕ) (a : AnswerValue) → IsGivenBy screens columns s n a → bytes.items ≡ answer unicode_columns (record { source = source; answer = a }) → k ≡ a.number → IsAnswered source s n bytes k
 answered_by source s n bytes k a given is number = record { given = a; is_given = given; encoded = is; number = number }
 
-module _ (source w h : ℕ) (input old : Known) where
-  -- the lines so far are done, and any run goes on with the others
-  pub record IsSoFar (rest : Known) (s : Surfaces) (n : ℕ) (new : Known) : Type 0 where
+module _ (source w h : ℕ) (input : Known) where
+  -- the lines so far are done, with these outcomes, and any run goes on with the others
+  pub record IsDone (outcomes : List SendOutcome) (rest : Known) (s : Surfaces) (n : ℕ) : Type 0 where
     pub requests : List Request
-    pub outcomes : List SendOutcome
     pub said : (more : List Request) → SayAll rest more → SayAll input (requests ++ more)
+    pub said_first : (more : List Request) → SayFirstAll rest more → SayFirstAll input (requests ++ more)
     pub answered : (more : List Request) (later : List SendOutcome) → AnswersAll source s n more later → AnswersAll source (first_surface w h) 0 (requests ++ more) (outcomes ++ later)
-    pub written : Appends old new (stream_of outcomes)
 
-  pub so_far_first : (s : Surfaces) (n : ℕ) → s ≡ first_surface w h → n ≡ 0 → IsSoFar input s n old
-  so_far_first s n is none =
-      let P : Surfaces → Type 0 = λ t. IsSoFar input t n old in
-      let Q : ℕ → Type 0 = λ k. IsSoFar input (first_surface w h) k old in
-      subst P (sym is) (subst Q (sym none) (record {
-        requests = [];
-        outcomes = [];
-        said = λ more later. later;
-        answered = λ more later run. run;
-        written = appends_none old;
-      }))
+  -- a line more is done, which may send something
+  done_on : (outcomes : List SendOutcome) (rest left : Known) (line : List ℕ) (s t : Surfaces) (n k : ℕ) (request : Option Request) (outcome : Option SendOutcome) (sent : List SendOutcome) → IsDone outcomes rest s n → HasCome line rest left
+      → MaySay line request → MayAnswer source s n request outcome t k → MatchOption outcome (sent ≡ []) (λ x. sent ≡ x ∷ []) → IsDone (outcomes ++ sent) left t k
+  done_on outcomes rest left line s t n k None None sent run come says answer is =
+      let same : outcomes ++ sent ≡ outcomes = ap (λ (l : List SendOutcome). outcomes ++ l) is ∙ append-nil outcomes in
+      subst (λ (all : List SendOutcome). IsDone all left t k) (sym same) (record {
+        requests = run.requests;
+        said = λ more later. run.said more (says_more line rest left [] more come (inl (says, refl)) later);
+        said_first = λ more later. run.said_first more (says_first_more line rest left [] more come (inl (says, refl)) later);
+        answered = λ more later on.
+            let P : Surfaces → Type 0 = λ u. AnswersAll source u k more later in
+            let Q : ℕ → Type 0 = λ j. AnswersAll source s j more later in
+            run.answered more later (subst Q answer.1 (subst P answer.0 on));
+      })
+  done_on outcomes rest left line s t n k (Some request) (Some outcome) sent run come says answer is =
+      subst (λ (l : List SendOutcome). IsDone (outcomes ++ l) left t k) (sym is) (record {
+        requests = run.requests ++ request ∷ [];
+        said = λ more later.
+            subst (λ (all : List Request). SayAll input all) (sym (append_assoc run.requests (request ∷ []) more))
+            (run.said (request ∷ more) (says_more line rest left (request ∷ []) more come (inr (says.0, (request, says.1, refl))) later));
+        said_first = λ more later.
+            subst (λ (all : List Request). SayFirstAll input all) (sym (append_assoc run.requests (request ∷ []) more))
+            (run.said_first (request ∷ more) (says_first_more line rest left (request ∷ []) more come (inr (says.0, (request, says.1, refl))) later));
+        answered = λ more later on.
+            rw (append_assoc run.requests (request ∷ []) more, append_assoc outcomes (outcome ∷ []) later)
+            (run.answered (request ∷ more) (outcome ∷ later) (Next s t n k request outcome more later answer on));
+      })
+  done_on outcomes rest left line s t n k (Some request) None sent run come says answer is = absurd answer
+  done_on outcomes rest left line s t n k None (Some outcome) sent run come says answer is = absurd answer
 
-  -- a line is done, and what it sends is written
-  pub so_far_on : (rest left : Known) (line : List ℕ) (s t : Surfaces) (n k : ℕ) (new newer : Known) (request : Option Request) (outcome : Option SendOutcome) (sent : List SendOutcome) → IsSoFar rest s n new → HasCome line rest left
-      → MaySay line request → MayAnswer source s n request outcome t k → MatchOption outcome (sent ≡ []) (λ x. sent ≡ x ∷ []) → Appends new newer (stream_of sent) → IsSoFar left t k newer
-  so_far_on rest left line s t n k new newer None None sent run come says answer is appended = record {
+  -- nothing comes behind them
+  all_answered : (outcomes : List SendOutcome) (rest : Known) (s : Surfaces) (n : ℕ) (run : IsDone outcomes rest s n) → AnswersAll source (first_surface w h) 0 run.requests outcomes
+  all_answered outcomes rest s n run =
+      let P : List Request → Type 0 = λ all. AnswersAll source (first_surface w h) 0 all outcomes in
+      let Q : List SendOutcome → Type 0 = λ all. AnswersAll source (first_surface w h) 0 (run.requests ++ []) all in
+      subst P (append-nil run.requests) (subst Q (append-nil outcomes) (run.answered [] [] (Ended s n)))
+
+  done_first : (outcomes : List SendOutcome) (rest : Known) (s : Surfaces) (n : ℕ) (P : List ℕ → Type 0) → IsDone outcomes rest s n → P (stream_of outcomes) → AnswersFirst source w h input P
+  done_first outcomes rest s n P run written = record {
     requests = run.requests;
-    outcomes = run.outcomes;
-    said = λ more later. run.said more (says_more line rest left [] more come (inl (says, refl)) later);
-    answered = λ more later on.
-        let P : Surfaces → Type 0 = λ u. AnswersAll source u k more later in
-        let Q : ℕ → Type 0 = λ j. AnswersAll source s j more later in
-        run.answered more later (subst Q answer.1 (subst P answer.0 on));
-    written =
-        subst (λ (bytes : List ℕ). Appends old newer bytes) (append-nil (stream_of run.outcomes))
-        (appends_more old new newer (stream_of run.outcomes) [] run.written (subst (λ (xs : List SendOutcome). Appends new newer (stream_of xs)) is appended));
+    said = subst (λ (all : List Request). SayFirstAll input all) (append-nil run.requests) (run.said_first [] (says_first_none rest));
+    outcomes = outcomes;
+    answered = all_answered outcomes rest s n run;
+    written = written;
   }
-  so_far_on rest left line s t n k new newer (Some request) (Some outcome) sent run come says answer is appended = record {
-    requests = run.requests ++ request ∷ [];
-    outcomes = run.outcomes ++ outcome ∷ [];
-    said = λ more later.
-        subst (λ (all : List Request). SayAll input all) (sym (append_assoc run.requests (request ∷ []) more))
-        (run.said (request ∷ more) (says_more line rest left (request ∷ []) more come (inr (says.0, (request, says.1, refl))) later));
-    answered = λ more later on.
-        rw (append_assoc run.requests (request ∷ []) more, append_assoc run.outcomes (outcome ∷ []) later)
-        (run.answered (request ∷ more) (outcome ∷ later) (Next s t n k request outcome more later answer on));
-    written =
-        subst (λ (bytes : List ℕ). Appends old newer bytes) (sym (flat_map-append bytes_of run.outcomes (outcome ∷ [])))
-        (appends_more old new newer (stream_of run.outcomes) (stream_of (outcome ∷ [])) run.written (subst (λ (xs : List SendOutcome). Appends new newer (stream_of xs)) is appended));
-  }
-  so_far_on rest left line s t n k new newer (Some request) None sent run come says answer is appended = absurd answer
-  so_far_on rest left line s t n k new newer None (Some outcome) sent run come says answer is appended = absurd answer
 
-  -- no line is left
-  pub so_far_ended : (rest : Known) (s : Surfaces) (n : ℕ) (new : Known) → IsSoFar rest s n new → IsAtEnd rest → WritesAnswers source w h input old new
-  so_far_ended rest s n new run end = record {
-    requests = run.requests;
-    said = subst (λ (all : List Request). SayAll input all) (append-nil run.requests) (run.said [] (says_none rest end));
-    outcomes = run.outcomes;
-    answered =
-        let P : List Request → Type 0 = λ all. AnswersAll source (first_surface w h) 0 all run.outcomes in
-        let Q : List SendOutcome → Type 0 = λ all. AnswersAll source (first_surface w h) 0 (run.requests ++ []) all in
-        subst P (append-nil run.requests) (subst Q (append-nil run.outcomes) (run.answered [] [] (Ended s n)));
-    written = run.written;
+  -- no line is done yet
+  pub none_first : (P : List ℕ → Type 0) → P [] → AnswersFirst source w h input P
+  none_first P written = record {
+    requests = [];
+    said = says_first_none input;
+    outcomes = [];
+    answered = Ended (first_surface w h) 0;
+    written = written;
   }
+
+  module _ (old : Known) where
+    -- and what they send is written
+    pub record IsSoFar (rest : Known) (s : Surfaces) (n : ℕ) (new : Known) : Type 0 where
+      pub outcomes : List SendOutcome
+      pub done : IsDone outcomes rest s n
+      pub written : Appends old new (stream_of outcomes)
+
+    pub so_far_first : (s : Surfaces) (n : ℕ) → s ≡ first_surface w h → n ≡ 0 → IsSoFar input s n old
+    so_far_first s n is none =
+        let P : Surfaces → Type 0 = λ t. IsSoFar input t n old in
+        let Q : ℕ → Type 0 = λ k. IsSoFar input (first_surface w h) k old in
+        subst P (sym is) (subst Q (sym none) (record {
+          outcomes = [];
+          done = record { requests = []; said = λ more later. later; said_first = λ more later. later; answered = λ more later run. run };
+          written = Appends-nil old;
+        }))
+
+    module _ (rest left : Known) (line : List ℕ) (s t : Surfaces) (n k : ℕ) (new newer : Known) (request : Option Request) (outcome : Option SendOutcome) (sent : List SendOutcome) (run : IsSoFar rest s n new) where
+      -- a line is done, and what it sends is written
+      pub so_far_on : HasCome line rest left → MaySay line request → MayAnswer source s n request outcome t k → MatchOption outcome (sent ≡ []) (λ x. sent ≡ x ∷ []) → Appends new newer (stream_of sent) → IsSoFar left t k newer
+      so_far_on come says answer is appended = record {
+        outcomes = run.outcomes ++ sent;
+        done = done_on run.outcomes rest left line s t n k request outcome sent run.done come says answer is;
+        written =
+            subst (λ (bytes : List ℕ). Appends old newer bytes) (sym (flat_map-append bytes_of run.outcomes sent))
+            (Appends-trans old new newer (stream_of run.outcomes) (stream_of sent) run.written appended);
+      }
+
+      -- or a beginning of that
+      pub so_far_cut : HasCome line rest left → MaySay line request → MayAnswer source s n request outcome t k → MatchOption outcome (sent ≡ []) (λ x. sent ≡ x ∷ []) → AppendsSome new newer (stream_of sent) → AnswersFirst source w h input (AppendsSome old newer)
+      so_far_cut come says answer is appended =
+          done_first (run.outcomes ++ sent) left t k (AppendsSome old newer) (done_on run.outcomes rest left line s t n k request outcome sent run.done come says answer is)
+          (subst (λ (bytes : List ℕ). AppendsSome old newer bytes) (sym (flat_map-append bytes_of run.outcomes sent))
+          (some_next old new newer (stream_of run.outcomes) (stream_of sent) run.written appended))
+
+    module _ (rest : Known) (s : Surfaces) (n : ℕ) (new : Known) (run : IsSoFar rest s n new) where
+      -- no line is left
+      pub so_far_ended : IsAtEnd rest → WritesAnswers source w h input old new
+      so_far_ended end = record {
+        requests = run.done.requests;
+        said = subst (λ (all : List Request). SayAll input all) (append-nil run.done.requests) (run.done.said [] (says_none rest end));
+        outcomes = run.outcomes;
+        answered = all_answered run.outcomes rest s n run.done;
+        written = run.written;
+      }
+
+      -- the next one isn't done
+      pub so_far_whole : AnswersFirst source w h input (Appends old new)
+      so_far_whole = done_first run.outcomes rest s n (Appends old new) run.done run.written
+
+      pub so_far_begun : AnswersFirst source w h input (AppendsSome old new)
+      so_far_begun = done_first run.outcomes rest s n (AppendsSome old new) run.done (some_all old new (stream_of run.outcomes) run.written)

@@ -12,3 +12,4 @@ mod Sent
 mod Taking
 mod Watched
 mod Wire
+mod Writing

@@ -4,9 +4,9 @@ use Rattle.std.specs.List.{before_first, after_first, position_or_len}
 use Rattle.std.specs.Io.BufRead.{take_through, drop_through, strip_last, first_piece, ends_with_byte}
 use Rattle.std.proofs.BufReadLemmas.{take_through-append, drop_through-append}
 use Rattle.std.proofs.lemmas.Bool.{cases_Bool, true≢false, lt-ltb, ltb-true, ltb-false}
-use Rattle.std.proofs.lemmas.List.{take_all, take_at, get_or-append-add, get_or-take, length-take}
+use Rattle.std.proofs.lemmas.List.{take_all, take_at, drop_all, get_or-append-add, get_or-take, length-take}
 use Rattle.std.proofs.lemmas.List.Sums.{split_at_first, passes_at_first, fails_before_first, prefix_len-le-length}
-use Rattle.sessions.specs.Lines.{is_newline, is_skipped, LineSays, Say, LastLine, FirstLine}
+use Rattle.sessions.specs.Lines.{is_newline, is_skipped, LineSays, Say, LastLine, FirstLine, SayFirst, OneMore}
 
 abbrev pub Bytes : Type 0
 Bytes = List ℕ
@@ -85,6 +85,20 @@ unbroken xs none =
       left = ap (drop_through 10) (sym (append-nil xs)) ∙ drop_through-append 10 xs [] free;
     }
 
+-- the first line of any script
+parted : (xs : Bytes) → IsBroken xs
+parted xs = elim (cases_Bool (ltb (position_or_len is_newline xs) (length xs))) [
+  | inl some ↦ broken xs (ltb-true (position_or_len is_newline xs) (length xs) some)
+  | inr none ↦
+      let most : position_or_len is_newline xs ≤ length xs = prefix_len-le-length (λ (b : ℕ). not (is_newline b)) xs in
+      let end : position_or_len is_newline xs ≡ length xs = omega (arith, ltb-false (position_or_len is_newline xs) (length xs) none, most) in
+      let all = unbroken xs end in
+      record {
+        line = all.line ∙ sym (ap (λ (n : ℕ). take n xs) end ∙ take_all (length xs) xs (omega arith));
+        left = all.left ∙ sym (drop_all (position_or_len is_newline xs + 1) xs (omega (arith, end)));
+      }
+]
+
 module _ {C : Type 0} (says : Bytes → C → Type 0) where
   -- nothing says nothing
   pub nothing_says : (more : List C) → Say says [] more → more ≡ []
@@ -106,3 +120,9 @@ module _ {C : Type 0} (says : Bytes → C → Type 0) where
         let alone : commands ++ more ≡ commands = ap (λ (l : List C). commands ++ l) nil ∙ append-nil commands in
         subst (λ (cs : List C). Say says xs cs) (sym alone) (LastLine xs commands end (subst (λ (line : Bytes). LineSays says line commands) all.line said))
   ]
+
+  -- what the first line says, and some behind it
+  pub line_says_first : (xs : Bytes) (commands more : List C) → LineSays says (first_piece 10 xs) commands → SayFirst says (drop_through 10 xs) more → SayFirst says xs (commands ++ more)
+  line_says_first xs commands more said later =
+      let cut = parted xs in
+      OneMore xs commands more (subst (λ (line : Bytes). LineSays says line commands) cut.line said) (subst (λ (left : Bytes). SayFirst says left more) cut.left later)

@@ -2,7 +2,7 @@
 use Rattle.std.specs.Io.KnownBytes.{Appends}
 use Rattle.std.specs.Prelude.{◌≡◌, ℕ, ◌==◌, if◌then◌else◌, List, [], ◌∷◌, Option, Some, None, IfSome, String, Vec}
 use Rattle.std.specs.declared.alloc.Global.{Global}
-use Rattle.sessions.specs.Lines.{Say}
+use Rattle.sessions.specs.Lines.{Say, SayFirst}
 use Rattle.termwiz_cell.specs.Width.{unicode_columns}
 use Rattle.termwiz_cell.specs.declared.emoji.UnicodeWidths.{UnicodeWidths}
 use Rattle.termwiz_screen.specs.Picture.{screens}
@@ -80,6 +80,15 @@ pub record WritesAnswers (source w h : ℕ) (input old new : Option (List ℕ)) 
   pub answered : AnswersAll source (first_surface w h) 0 requests outcomes
   pub written : Appends old new (stream_of outcomes)
 
+-- some lines at the front of the input are done, and this holds of the bytes that they ask for
+pub record AnswersFirst (source w h : ℕ) (input : Option (List ℕ)) (holds : List ℕ → Type 0) :
+    Type 0 where
+  pub requests : List Request
+  pub said : IfSome input (λ lines. SayFirst SaysRequest lines requests)
+  pub outcomes : List SendOutcome
+  pub answered : AnswersAll source (first_surface w h) 0 requests outcomes
+  pub written : holds (stream_of outcomes)
+
 -- as the words ask
 pub record AnswersAsAsked {A : Type 0} (words : List (String A)) (input old new : Option (List ℕ)) :
     Type 0 where
@@ -88,3 +97,11 @@ pub record AnswersAsAsked {A : Type 0} (words : List (String A)) (input old new 
   pub height : ℕ
   pub sizes : GiveSending words source width height
   pub writes : WritesAnswers source width height input old new
+
+pub record AnswersFirstAsAsked {A : Type 0} (words : List (String A)) (input : Option (List ℕ))
+    (holds : List ℕ → Type 0) : Type 0 where
+  pub source : ℕ
+  pub width : ℕ
+  pub height : ℕ
+  pub sizes : GiveSending words source width height
+  pub writes : AnswersFirst source width height input holds

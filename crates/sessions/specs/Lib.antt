@@ -19,3 +19,4 @@ pub mod ViewRun
 pub mod Viewing
 pub mod Watching
 pub mod Words
+pub mod Writing

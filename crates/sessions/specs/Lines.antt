@@ -28,3 +28,11 @@ module _ {C : Type 0} (says : List ℕ → C → Type 0) where
         position_or_len is_newline script < length script →
         LineSays (before_first is_newline script) commands →
         Say (after_first is_newline script) more → Say script (commands ++ more)
+
+  -- the commands of some lines at the front of a script
+  pub data SayFirst : List ℕ → List C → Type 0 where
+    NoMore : (script : List ℕ) → SayFirst script []
+    OneMore :
+        (script : List ℕ) (commands more : List C) →
+        LineSays (before_first is_newline script) commands →
+        SayFirst (after_first is_newline script) more → SayFirst script (commands ++ more)

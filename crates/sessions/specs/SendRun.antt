@@ -7,6 +7,7 @@ use Rattle.sessions.specs.Frames.{Frame}
 use Rattle.sessions.specs.Saying.{SaysSend}
 use Rattle.sessions.specs.Sending.{AreSent, stream_of}
 use Rattle.sessions.specs.Words.{GiveSending}
+use Rattle.sessions.specs.Writing.{AppendsSome}
 use Rattle.sessions.specs.declared.send.runs.SendEvent.{SendEvent}
 use Rattle.sessions.specs.declared.send.runs.SendOutcome.{SendOutcome}
 
@@ -28,3 +29,10 @@ pub record WritesRun {A : Type 0} (words : List (String A)) (script old new : Op
   pub outcomes : List SendOutcome
   pub run : IsSendRun words script outcomes
   pub written : Appends old new (stream_of outcomes)
+
+-- a beginning of it is
+pub record BeginsRun {A : Type 0} (words : List (String A)) (script old new : Option (List ℕ)) :
+    Type 0 where
+  pub outcomes : List SendOutcome
+  pub run : IsSendRun words script outcomes
+  pub begun : AppendsSome old new (stream_of outcomes)

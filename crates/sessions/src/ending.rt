@@ -2,6 +2,7 @@
 ghost use Rattle.std.specs.Prelude.{◌≡◌, ◌⊎◌, IfOk, IfSome, IfErr, OnOk};
 ghost use Rattle.std.specs.Io.KnownBytes.{Appends};
 ghost use Rattle.sessions.specs.Status.{status_of};
+ghost use Rattle.sessions.specs.Writing.{AppendsSome};
 
 use crate::script::ScriptError;
 use std::alloc::{AllocError, Global};
@@ -94,7 +95,7 @@ pub fn bytes<R: Read>(alloc: Global, input: &mut R) -> Result<Vec<u8>, SessionEr
     }
 }
 
-/// Writes the lines of an outcome at once.
+/// Writes the lines of an outcome at once. Where that fails, a beginning of them may be written.
 pub fn write<L: Display + Drop, O: Write>(
     alloc: Global,
     lines: L,
@@ -103,8 +104,30 @@ pub fn write<L: Display + Drop, O: Write>(
     ensures failed { IfErr result (λ error. status_of error ≡ 3) }
     ensures written { OnOk result (IfSome (L.output lines)
         (Appends (O.contents out.old) (O.contents out.new))) }
+    ensures begun { IfSome (L.output lines)
+        (AppendsSome (O.contents out.old) (O.contents out.new)) }
 {
     let text = format!(in alloc; "{lines}")?;
-    out.write_all(text.as_bytes())
-        .map_err(|_| SessionError::Write)
+    write_bytes(text.as_bytes(), out)
+}
+
+/// Writes all the bytes. Where that fails, a beginning of them may be written.
+pub(crate) fn write_bytes<O: Write>(bytes: &[u8], out: &mut O) -> Result<(), SessionError>
+    ensures failed { IfErr result (λ error. status_of error ≡ 3) }
+    ensures written { OnOk result (Appends (O.contents out.old) (O.contents out.new) bytes.now) }
+    ensures begun { AppendsSome (O.contents out.old) (O.contents out.new) bytes.now }
+{
+    let mut rest = bytes;
+    'writes: for _ in 0..u64::MAX {
+        if rest.is_empty() {
+            return Ok(());
+        }
+        match out.write(rest) {
+            Ok(0) => return Err(SessionError::Write),
+            Ok(count) => rest = &rest[count..],
+            Err(error) if error.kind() == ErrorKind::Interrupted => {}
+            Err(_) => return Err(SessionError::Write),
+        }
+    }
+    Err(SessionError::Write)
 }

@@ -2,19 +2,20 @@
 ghost use Rattle.std.specs.Prelude.{◌≡◌, ◌⊎◌, IfErr, IfOk, IfSome, IsErr, OnOk, drop};
 ghost use Rattle.std.specs.Io.KnownBytes.{Appends};
 ghost use Rattle.std.specs.List.{All};
-ghost use Rattle.sessions.specs.Answering.{AnswersAsAsked};
-ghost use Rattle.sessions.specs.Sending.{IsSendInRange, stream_of};
+ghost use Rattle.sessions.specs.Answering.{AnswersAsAsked, AnswersFirstAsAsked};
+ghost use Rattle.sessions.specs.Sending.{IsSendInRange, bytes_of, stream_of};
 ghost use Rattle.sessions.specs.Saying.{SaysSend};
-ghost use Rattle.sessions.specs.SendRun.{IsSendRun, WritesRun};
+ghost use Rattle.sessions.specs.SendRun.{BeginsRun, IsSendRun, WritesRun};
 ghost use Rattle.sessions.specs.Words.{AreRunWords, AreSendWords, IsInteractive};
 ghost use Rattle.sessions.specs.Lines.{Say};
 ghost use Rattle.sessions.specs.Status.{status_of};
+ghost use Rattle.sessions.specs.Writing.{AppendsSome};
 
 mod answering;
 pub mod runs;
 pub mod script;
 
-use crate::ending::{SessionError, bytes, write};
+use crate::ending::{SessionError, bytes, write, write_bytes};
 use crate::printed::Printed;
 use crate::send::answering::answer_lines;
 use crate::send::runs::{SendEvent, SendOutcome, sent};
@@ -34,7 +35,7 @@ pub const USAGE: &str = "surfsend [-i] [-s NUMBER] WIDTH HEIGHT";
 /// The result is the exit status: 0 where all is done, 2 for words that are no size, an input that
 /// can't be read or a bad command, and 3 for refused memory or a failed write. The line that says
 /// which goes to `err`, and a failed write has none. With status 2 nothing is written to `out`, or
-/// with `-i` what the lines before ask for.
+/// with `-i` what the lines before ask for, and with status 3 at most a beginning of what would be.
 pub fn send_session<R: Read, O: Write, E: Write>(
     alloc: Global,
     args: &[String],
@@ -52,6 +53,16 @@ pub fn send_session<R: Read, O: Write, E: Write>(
     // And so are the answers that the lines ask for.
     ensures answered { result ≡ 0 → IsInteractive args.now → AnswersAsAsked (drop 1 args.now)
         (R.remaining input.old) (O.contents out.old) (O.contents out.new) }
+    // At each status nothing else is: a beginning of it.
+    ensures begun { IsInteractive args.now ⊎ (out.new ≡ out.old) ⊎ BeginsRun args.now
+        (R.remaining input.old) (O.contents out.old) (O.contents out.new) }
+    ensures answering { IsInteractive args.now →
+        (out.new ≡ out.old) ⊎ AnswersFirstAsAsked (drop 1 args.now) (R.remaining input.old)
+        (AppendsSome (O.contents out.old) (O.contents out.new)) }
+    // Where a line stops the run, the answers that the lines before it ask for, whole.
+    ensures stopped { result ≡ 2 → IsInteractive args.now →
+        (out.new ≡ out.old) ⊎ AnswersFirstAsAsked (drop 1 args.now) (R.remaining input.old)
+        (Appends (O.contents out.old) (O.contents out.new)) }
 {
     match interactive_words(args) {
         Some(words) => answer_session(alloc, words, input, out, err),
@@ -72,6 +83,8 @@ fn script_session<R: Read, O: Write, E: Write>(
     ensures refused { result ≡ 2 → out.new ≡ out.old }
     ensures usage { AreSendWords args.now ⊎ ((input.new ≡ input.old) × (out.new ≡ out.old)) }
     ensures sent { result ≡ 0 → WritesRun args.now (R.remaining input.old)
+        (O.contents out.old) (O.contents out.new) }
+    ensures begun { (out.new ≡ out.old) ⊎ BeginsRun args.now (R.remaining input.old)
         (O.contents out.old) (O.contents out.new) }
 {
     match outcomes(alloc, args, input) {
@@ -96,6 +109,10 @@ fn answer_session<R: Read, O: Write, E: Write>(
     ensures usage { AreSendWords words.now ⊎ ((input.new ≡ input.old) × (out.new ≡ out.old)) }
     ensures answered { result ≡ 0 → AnswersAsAsked words.now
         (R.remaining input.old) (O.contents out.old) (O.contents out.new) }
+    ensures begun { (out.new ≡ out.old) ⊎ AnswersFirstAsAsked words.now (R.remaining input.old)
+        (AppendsSome (O.contents out.old) (O.contents out.new)) }
+    ensures stopped { result ≡ 2 → (out.new ≡ out.old) ⊎ AnswersFirstAsAsked words.now
+        (R.remaining input.old) (Appends (O.contents out.old) (O.contents out.new)) }
 {
     match answer(alloc, words, input, out, err) {
         Ok(()) => 0,
@@ -116,6 +133,11 @@ fn answer<R: Read, O: Write, E: Write>(
         ⊎ (IsErr result × (input.new ≡ input.old) × (out.new ≡ out.old)) }
     ensures answered { OnOk result (AnswersAsAsked words.now
         (R.remaining input.old) (O.contents out.old) (O.contents out.new)) }
+    ensures begun { (out.new ≡ out.old) ⊎ AnswersFirstAsAsked words.now (R.remaining input.old)
+        (AppendsSome (O.contents out.old) (O.contents out.new)) }
+    ensures stopped { IfErr result (λ error. status_of error ≡ 2 →
+        (out.new ≡ out.old) ⊎ AnswersFirstAsAsked words.now (R.remaining input.old)
+        (Appends (O.contents out.old) (O.contents out.new))) }
 {
     let options = send_options(words).ok_or(SessionError::Usage)?;
     let lines = BufReader::new(alloc, input).map_err(|_| SessionError::Memory)?;
@@ -161,21 +183,38 @@ pub(crate) fn send_each<O: Write, E: Write>(
     ensures failed { IfErr result (λ error. status_of error ≡ 3) }
     ensures sent { OnOk result (
         Appends (O.contents out.old) (O.contents out.new) (stream_of outcomes.now)) }
+    ensures begun { AppendsSome (O.contents out.old) (O.contents out.new) (stream_of outcomes.now) }
 {
     for outcome in outcomes {
-        match outcome {
-            SendOutcome::Of(outcome) => write(alloc, Printed(outcome), err)?,
-            SendOutcome::Sent(bytes) => send(bytes.as_slice(), out)?,
-        }
+        send_one(alloc, outcome, out, err)?;
     }
     Ok(())
+}
+
+/// Sends an answer, or reports what was refused.
+fn send_one<O: Write, E: Write>(
+    alloc: Global,
+    outcome: &SendOutcome,
+    out: &mut O,
+    err: &mut E,
+) -> Result<(), SessionError>
+    ensures failed { IfErr result (λ error. status_of error ≡ 3) }
+    ensures sent { OnOk result (
+        Appends (O.contents out.old) (O.contents out.new) (bytes_of outcome.now)) }
+    ensures begun { AppendsSome (O.contents out.old) (O.contents out.new) (bytes_of outcome.now) }
+{
+    match outcome {
+        SendOutcome::Of(outcome) => write(alloc, Printed(outcome), err),
+        SendOutcome::Sent(bytes) => send(bytes.as_slice(), out),
+    }
 }
 
 /// Writes an answer's bytes, and lets them go.
 fn send<O: Write>(bytes: &[u8], out: &mut O) -> Result<(), SessionError>
     ensures failed { IfErr result (λ error. status_of error ≡ 3) }
     ensures sent { OnOk result (Appends (O.contents out.old) (O.contents out.new) bytes.now) }
+    ensures begun { AppendsSome (O.contents out.old) (O.contents out.new) bytes.now }
 {
-    out.write_all(bytes).map_err(|_| SessionError::Write)?;
+    write_bytes(bytes, out)?;
     out.flush().map_err(|_| SessionError::Write)
 }

@@ -1,8 +1,11 @@
 //! A surface that answers what comes on an input, line by line.
-ghost use Rattle.std.specs.Prelude.{◌<◌, IfOk, IfSome, OnOk};
+ghost use Rattle.std.specs.Prelude.{◌≡◌, ◌<◌, IfErr, IfOk, IfSome, OnOk};
+ghost use Rattle.std.specs.Io.KnownBytes.{Appends};
 ghost use Rattle.termwiz_surface.specs.{IsSurfaceSize};
-ghost use Rattle.sessions.specs.Answering.{MayAnswer, WritesAnswers};
+ghost use Rattle.sessions.specs.Answering.{AnswersFirst, MayAnswer, WritesAnswers};
 ghost use Rattle.sessions.specs.Requests.{IsRequestInRange, MaySay};
+ghost use Rattle.sessions.specs.Status.{status_of};
+ghost use Rattle.sessions.specs.Writing.{AppendsSome};
 
 use crate::ending::SessionError;
 use crate::script::{Command, LineError};
@@ -25,8 +28,13 @@ pub(crate) fn answer_lines<B: BufRead + Drop, O: Write, E: Write>(
 ) -> Result<(), SessionError>
     requires source { 0 < options.source }
     requires size { IsSurfaceSize options.width options.height }
-    ensures { OnOk result (WritesAnswers options.source options.width options.height
+    ensures answered { OnOk result (WritesAnswers options.source options.width options.height
         (B.remaining input) (O.contents out.old) (O.contents out.new)) }
+    ensures begun { AnswersFirst options.source options.width options.height
+        (B.remaining input) (AppendsSome (O.contents out.old) (O.contents out.new)) }
+    ensures stopped { IfErr result (λ error. status_of error ≡ 2 →
+        AnswersFirst options.source options.width options.height
+        (B.remaining input) (Appends (O.contents out.old) (O.contents out.new))) }
 {
     let mut surface = Surface::new_full(alloc, options.width, options.height, UnicodeWidths)?;
     let mut last = SEQ_ZERO;

@@ -92,7 +92,7 @@ returns-in_err-send_each-clause-begun g c =
     let read : c.in-Some.piece ≡ Ok line = is_read _ c.in-Some.piece c.map_err.result line c.map_err.ensures.cases c.map_err.ensures.variant c.in_ok-line.was in
     let come : HasCome line.items rest left = has_come (split_byte at.piece-iterator) c.in-Some.piece line rest left at.invariant.newline read steps.2 in
     so_far_cut o.source o.width o.height input (g.O.Write.contents c.args.out.now) rest left line.items at.surface c.outcome.new.surface at.last c.outcome.new.last (g.O.Write.contents at.out) (g.O.Write.contents c.send_each.new.out)
-          c.in_ok-request.request c.in_ok-outcome.outcome c.as_slice-in-loop-piece.result.now at.invariant.so_far come (subst (λ (l : List ℕ). MaySay l c.in_ok-request.request) c.as_slice.ensures.value c.in_ok-request.ensures.said) c.in_ok-outcome.ensures c.as_slice-in-loop-piece.ensures c.send_each.ensures.begun
+    c.in_ok-request.request c.in_ok-outcome.outcome c.as_slice-in-loop-piece.result.now at.invariant.so_far come (subst (λ (l : List ℕ). MaySay l c.in_ok-request.request) c.as_slice.ensures.value c.in_ok-request.ensures.said) c.in_ok-outcome.ensures c.as_slice-in-loop-piece.ensures c.send_each.ensures.begun
 
 pub returns-clause-begun : goal.returns-clause-begun
 returns-clause-begun g c =

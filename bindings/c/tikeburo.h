@@ -282,8 +282,8 @@ tk_status tk_row_cells(tk_handle *handle, size_t row, tk_row_cell *cells, size_t
                        tk_attributes *attributes, size_t attribute_room, char *text, size_t room,
                        tk_row_counts *counts);
 
-/* The same of all that the row shows: default blanks stand behind its stored cells, so that its
- * cells take each column of the width, however many are stored. */
+/* Reads all that the row shows, as tk_row_cells reads what is stored: default blanks stand behind
+ * the stored cells, so that the cells take each column of the width. */
 tk_status tk_shown_cells(tk_handle *handle, size_t row, tk_row_cell *cells, size_t cell_room,
                          tk_attributes *attributes, size_t attribute_room, char *text, size_t room,
                          tk_row_counts *counts);
@@ -410,6 +410,25 @@ typedef struct tk_list_counts {
  * any other error *counts is as it was too. */
 tk_status tk_get_changes(tk_handle *handle, size_t since, tk_change *changes, size_t change_room,
                          char *texts, size_t room, tk_list_counts *counts);
+
+/* The changes that turn what the first handle shows into what the other one shows, as tk_get_changes
+ * writes changes: each handle has a surface, or a viewer or a client that shows one. They are moves,
+ * pens and texts alone, and print each cell that differs once. Made by a surface that shows what the
+ * first one shows and has the widths of the other one, they give it the other one's rows, in which
+ * links have their uris alone. There are none where the rows are equal. Where the sizes differ, what
+ * fits in both is compared. Cursor, title, and what else is set beside the rows, are not compared.
+ * counts->number is 0. TK_SHORT: as above. */
+tk_status tk_diff_screens(tk_handle *handle, tk_handle *other, tk_change *changes,
+                          size_t change_room, char *texts, size_t room, tk_list_counts *counts);
+
+/* As tk_diff_screens, of the region of this column, row, width and height, which is compared with
+ * that of this size at another column and row of the other one. Both are cut to what fits, and
+ * where one begins outside, there are no changes. A wide grapheme that crosses an edge of its
+ * region is printed whole. TK_SHORT: as above. */
+tk_status tk_diff_region(tk_handle *handle, size_t column, size_t row, size_t width, size_t height,
+                         tk_handle *other, size_t other_column, size_t other_row,
+                         tk_change *changes, size_t change_room, char *texts, size_t room,
+                         tk_list_counts *counts);
 
 /* Makes a list of changes, which these bytes encode: the array `[* change]` of docs/stream.cddl
  * and nothing after it. A text in it has the pieces that the surface cuts and measures: where they

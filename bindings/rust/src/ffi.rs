@@ -252,6 +252,30 @@ extern "C" {
         room: usize,
         counts: *mut tk_list_counts,
     ) -> i32;
+    pub fn tk_diff_screens(
+        handle: *mut tk_handle,
+        other: *mut tk_handle,
+        changes: *mut tk_change,
+        change_room: usize,
+        texts: *mut u8,
+        room: usize,
+        counts: *mut tk_list_counts,
+    ) -> i32;
+    pub fn tk_diff_region(
+        handle: *mut tk_handle,
+        column: usize,
+        row: usize,
+        width: usize,
+        height: usize,
+        other: *mut tk_handle,
+        other_column: usize,
+        other_row: usize,
+        changes: *mut tk_change,
+        change_room: usize,
+        texts: *mut u8,
+        room: usize,
+        counts: *mut tk_list_counts,
+    ) -> i32;
     pub fn tk_draw(
         surface: *mut tk_handle,
         source: *mut tk_handle,

@@ -66,6 +66,7 @@ mod change;
 mod changes;
 mod client;
 pub mod color;
+mod diff;
 mod error;
 mod fault;
 mod ffi;

@@ -34,6 +34,12 @@ fn surfaces() -> Outcome {
     assert_eq!(current, surface.current_seqno());
     assert!(lacking.iter().next().is_some());
     assert_eq!(surface.cursor_shape(), CursorShape::Default);
+    let (other_x, other_y) = (0, 0);
+    // What was drawn of the other one is still there.
+    assert!(surface.diff_screens(&other)?.is_empty());
+    assert!(surface
+        .diff_region(x, y, width, height, &other, other_x, other_y)?
+        .is_empty());
     viewer.follow(&surface)?;
     let ask = client.ask()?;
     let answer = surface.respond(&ask)?;

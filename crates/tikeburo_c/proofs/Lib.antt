@@ -1,6 +1,7 @@
 pub mod Brought
 pub mod Decoded
 pub mod Delivered
+pub mod Differing
 pub mod Filled
 pub mod Listed
 pub mod ReadBack

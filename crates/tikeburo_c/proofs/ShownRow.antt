@@ -1,11 +1,11 @@
 -- The stored cells of a row and default blanks behind them are what the row shows.
-use Rattle.std.proofs.Common.{◌≡◌, ℕ, zero, suc, ◌+◌, ◌-◌, ◌<◌, ◌≤◌, false, true, not, List, [], ◌∷◌, ◌++◌, length, arith, inl, inr, append-nil, append_assoc, add-zero, le_refl, refl, subst, sym, ap, ◌∙◌, Option, Some, None, option_map, slice_get}
+use Rattle.std.proofs.Common.{◌≡◌, ℕ, zero, suc, ◌+◌, ◌-◌, ◌<◌, ◌≤◌, false, true, not, List, [], ◌∷◌, ◌++◌, length, arith, inl, inr, append-nil, append_assoc, add-zero, le_refl, refl, subst, sym, ap, ◌∙◌, Some, None, option_map, slice_get}
 use Rattle.std.proofs.lemmas.Bool.{and_left, cases_Bool}
 use Rattle.std.proofs.lemmas.List.{get_or_past, length-append}
 use Rattle.std.proofs.lemmas.Option.{get_or_from_slice_get, slice_get-map, slice_get_within}
 use Rattle.termwiz_cell.specs.CellValue.{CellValue, blank, columns, is_wide}
 use Rattle.termwiz_storage.specs.Stored.{hides, stored, visible, visible_from}
-use Rattle.termwiz_storage.specs.VisibleCell.{VisibleCell, at_column}
+use Rattle.termwiz_storage.specs.VisibleCell.{at_column}
 use Rattle.termwiz_line.specs.Row.{is_hidden, row_of, visible_upto}
 use Rattle.termwiz_line.proofs.RowOf.{row_of_at, settled_hidden, settled_visible}
 use Rattle.termwiz_line.proofs.RowVisible.{visible_shown}

@@ -49,6 +49,15 @@ GivesList list texts number old (Err Short) new =
     × (new ≡ record old { counts = list_counts list texts number })
 GivesList list texts number old (Err _) new = ⊥
 
+-- a list is given that is read as these changes, which lead to this number
+pub record GivesAll
+    (changes : List ChangeValue) (number : ℕ) (old : ListPlace) (outcome : Outcome)
+    (new : ListPlace) : Type 0 where
+  pub list : List ChangeFields
+  pub texts : List ℕ
+  pub is_list : IsListOf changes list texts
+  pub gives : GivesList list texts number old outcome new
+
 -- a list is given that is read as what a viewer with this number lacks
 pub record GivesChanges
     (since : ℕ) (s : SurfaceValue ChosenWidths) (old : ListPlace) (outcome : Outcome)

@@ -1,6 +1,7 @@
 pub mod Access
 pub mod Cells
 pub mod Changes
+pub mod Diffs
 pub mod Drawing
 pub mod Fields
 pub mod Following

@@ -1,8 +1,9 @@
 //! The changes that a viewer lacks, as a list of structs.
-ghost use Rattle.std.specs.Prelude.{◌≡◌, IfOk};
-ghost use Rattle.termwiz_surface.specs.{next_number, stream_of};
+ghost use Rattle.std.specs.Prelude.{◌≡◌, IfOk, map};
+ghost use Rattle.termwiz_surface.specs.{change_value, next_number, stream_of};
 ghost use Rattle.tikeburo_c.specs.Getting as getting;
-ghost use Rattle.tikeburo_c.specs.Getting.{GivesChanges, GivesList, ListPlace, list_place};
+ghost use Rattle.tikeburo_c.specs.Getting.{GivesAll, GivesChanges, GivesList, ListPlace};
+ghost use Rattle.tikeburo_c.specs.Getting.{list_place};
 ghost use Rattle.tikeburo_c.specs.Handles.{kept_of};
 ghost use Rattle.tikeburo_c.specs.Outcomes.{Reports};
 ghost use Rattle.tikeburo_c.specs.Results.{OrNoMemory, Reads};
@@ -62,6 +63,23 @@ fn changes_since(
     surface.get_changes(since)
 }
 
+/// Writes these changes as a list, and its counts, where the arrays have room for it.
+pub(crate) fn give_all(
+    alloc: Global,
+    changes: &[Change],
+    number: usize,
+    list: &mut [ChangeFields],
+    texts: &mut [u8],
+    counts: &mut ListCounts,
+) -> Result<(), Failure>
+    ensures { OrNoMemory (GivesAll (map change_value changes.now) number)
+        (list_place list.old texts.old counts.old) result
+        (list_place list.new texts.new counts.new) }
+{
+    let made = list_of(alloc, changes)?;
+    give_list(&made, number, list, texts, counts)
+}
+
 fn give_changes(
     alloc: Global,
     surface: &Surface<ChosenWidths>,
@@ -75,8 +93,7 @@ fn give_changes(
         (list_place list.new texts.new counts.new) }
 {
     let (number, changes) = changes_since(surface, since)?;
-    let made = list_of(alloc, &changes)?;
-    give_list(&made, number, list, texts, counts)
+    give_all(alloc, &changes, number, list, texts, counts)
 }
 
 /// The changes that a viewer lacks that was last given this number, as `tk_add_changes` takes them,

@@ -8,6 +8,7 @@ mod carried;
 mod cells;
 mod changes;
 mod clients;
+mod diffs;
 mod drawing;
 mod failure;
 mod fields;

@@ -87,7 +87,7 @@ fn put_items<T: Copy>(items: &[T], at: usize, room: &mut [T])
     room[at..at + items.len()].copy_from_slice(items);
 }
 
-// The same of bytes, of which there is mostly one.
+// Writes the bytes from an index on. Mostly there is one.
 #[inline(always)]
 fn put_bytes(bytes: &[u8], at: usize, room: &mut [u8])
     requires { at + length bytes.now ≤ length room.old }

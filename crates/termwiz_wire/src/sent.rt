@@ -18,7 +18,9 @@ pub struct SentAnswer {
 #[derive(Debug, Drop)]
 pub struct LentAnswer<'a> {
     pub source: SourceNo,
+    /// Columns of the screen.
     pub width: usize,
+    /// Rows of the screen.
     pub height: usize,
     /// The number that its changes lead on from, or 0 where it is a repaint.
     pub base: SequenceNo,

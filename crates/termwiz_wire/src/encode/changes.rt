@@ -82,8 +82,8 @@ fn put_all(out: &mut Vec<u8>, attrs: &CellAttributes) -> Result<(), AllocError>
     put_attributes(out, attrs)
 }
 
-// Appends a change of this kind that has a colour. It is out of line, so that the path of a text or
-// a pen sets no place for a colour to zero.
+// Appends a change of this kind that has a colour. It is out of line, so that no place for a colour
+// is zeroed on the path of texts and pens.
 #[inline(never)]
 fn put_colored(out: &mut Vec<u8>, kind: usize, value: &ColorAttribute) -> Result<(), AllocError>
     ensures written { OnOk result

@@ -10,6 +10,8 @@ The words of the header are its own, and so are the names of parameters, the ord
 bytes are `char` or `uint8_t`; types, fields and numbers are those of the exports. A new export is
 declared at the header's end, with its documentation: put it where it belongs, and write its words.
 `tk_strerror` has to have a text for each status, which is written by hand.
+An export that takes two handles has a name that ends in `_distinct`, and an inline function of the
+header, which is written by hand, has the name without that: it tests that they are two.
 `ffi.rs` has the functions, statuses and kinds of changes that the crate around it names.
 """
 import argparse
@@ -252,6 +254,16 @@ def check_texts(header):
             sys.exit(f"tools/abi.py: tk_strerror has no text for {name}")
 
 
+def check_distinct(header, exports):
+    """Sees that the header tests two handles before an export has them."""
+    for name, item in exports.items():
+        if sum(line.count(": &mut Handle") for line in item.lines) < 2:
+            continue
+        tested = name.removesuffix("_distinct")
+        if tested == name or f"static inline tk_status {tested}(" not in header:
+            sys.exit(f"tools/abi.py: {name} takes two handles, and no inline function tests them")
+
+
 def in_rust(kind):
     """A type of C as Rust has it."""
     to = kind.removeprefix("const ").removesuffix("*").strip()
@@ -299,6 +311,7 @@ def main():
     header = structs(header, r"(typedef struct {name} {{\n)(.*?)(}} {name};)", c_fields)
     header = versioned(numbered(header, known))
     check_texts(header)
+    check_distinct(header, exports)
     write(HEADER, header, check, Path(__file__).name)
     write(VERSION, numbered_version(VERSION.read_text()), check, Path(__file__).name)
     write(FFI, ffi(FFI.read_text(), made, known), check, Path(__file__).name)

@@ -290,6 +290,7 @@ static void freed_handles(void) {
         EXPECT(tk_print(&handle, "x", 1) == TK_DONE);
         tk_free(&handle);
         tk_free(&handle);
+        tk_free(NULL);
         EXPECT(tk_print(&handle, "x", 1) == TK_NO_HANDLE);
         EXPECT(tk_print(&handle, text, 0) == TK_NO_HANDLE);
         EXPECT(tk_clear_screen(&handle, &color) == TK_NO_HANDLE);
@@ -402,6 +403,21 @@ static void random_change(tk_handle *surface, tk_handle *source) {
     }
 }
 
+/* A handle that is given twice is refused, and has what it had. */
+static void give_twice(tk_handle *handle) {
+    tk_list_counts counts = {.changes = 7};
+    tk_change change;
+    char text;
+    size_t column = place(), row = place();
+    EXPECT(tk_draw(handle, handle, column, row) == TK_NO_HANDLE);
+    EXPECT(tk_viewer_new(handle, handle) == TK_NO_HANDLE);
+    EXPECT(tk_follow(handle, handle) == TK_NO_HANDLE);
+    EXPECT(tk_diff_screens(handle, handle, &change, 1, &text, 1, &counts) == TK_NO_HANDLE);
+    EXPECT(tk_diff_region(handle, column, row, 9, 9, handle, row, column, &change, 1, &text, 1,
+                          &counts) == TK_NO_HANDLE);
+    EXPECT(counts.changes == 7);
+}
+
 /* Two surfaces, of which a client and a viewer show now the one and now the other. */
 static void random_calls(size_t rounds) {
     tk_handle surfaces[2] = {TK_NONE, TK_NONE}, client = TK_NONE, viewer = TK_NONE;
@@ -416,6 +432,8 @@ static void random_calls(size_t rounds) {
             deliver(&surfaces[below(8) == 0], &client);
         if (below(16) == 0) {
             EXPECT(tk_follow(&viewer, surface) == TK_DONE);
+            give_twice(surface);
+            give_twice(&viewer);
             EXPECT(same_screens(surface, &viewer));
         }
         if (below(32) == 0)

@@ -14,7 +14,6 @@
  *   tk_free frees what it has, and may be called again; the handle may then be used for another
  *   value.
  * - One call at a time has a handle. A handle stays on its thread.
- * - Where a call takes two handles, they are two.
  * - A pointer is never NULL, also where its length is 0, unless a call says that it may be. A
  *   length is not above what lies at the pointer, buffers don't overlap, and nothing that a call
  *   reads is written meanwhile.
@@ -23,6 +22,11 @@
  *   call comes from a signal handler, or from the forked child of a process with threads.
  *
  * The library keeps no pointer of the caller's after a call. No call aborts.
+ *
+ * A call that takes two handles returns TK_NO_HANDLE where they are one, and has changed nothing.
+ * These calls and tk_free are inline functions, which test their handles. A program in another
+ * language calls what they stand on, tk_free_handle and the functions whose names end in _distinct:
+ * those take no NULL, and two handles that are distinct.
  *
  * Columns and rows are counted from 0. A text is UTF-8 with no zero at its end, and lengths are in
  * bytes. Where a call writes into a buffer of the caller's, `room` is its length and `*len` gets
@@ -60,7 +64,7 @@ enum {
     TK_TRUNCATED = 3,  /* bytes end before what is wanted does: more would have to come */
     TK_REGION = 4,     /* the region of a scroll goes past the last row */
     TK_NUMBERS = 5,    /* the numbers of changes are used up */
-    TK_NO_HANDLE = 6,  /* a handle has no value */
+    TK_NO_HANDLE = 6,  /* a handle has no value, or is given twice */
     TK_WRONG_KIND = 7, /* a handle has another kind of value: a surface, a viewer or a client */
     TK_RANGE = 8,      /* a row, a column, a size or another number is outside of its range */
     TK_SHORT = 9       /* the buffer is too short: *len is the length that is needed */
@@ -82,7 +86,7 @@ static inline const char *tk_strerror(tk_status status) {
     case TK_NUMBERS:
         return "the numbers of changes are used up";
     case TK_NO_HANDLE:
-        return "the handle has no value";
+        return "a handle has no value, or is given twice";
     case TK_WRONG_KIND:
         return "the handle has a value of another kind";
     case TK_RANGE:
@@ -193,8 +197,14 @@ enum {
 tk_status tk_surface_new(tk_handle *surface, size_t width, size_t height, uint8_t widths,
                          size_t source);
 
-/* Frees what the handle has, of any kind, if it has anything. It has nothing then. */
-void tk_free(tk_handle *handle);
+void tk_free_handle(tk_handle *handle);
+
+/* Frees what the handle has, of any kind, if it has anything. It has nothing then. Nothing is done
+ * where it is NULL. */
+static inline void tk_free(tk_handle *handle) {
+    if (handle != NULL)
+        tk_free_handle(handle);
+}
 
 /* Takes another size, each from 1 to 2^32 - 1: rows are cut or filled with blanks, and the cursor
  * stays inside. TK_RANGE, TK_NUMBERS, TK_WRONG_KIND. */
@@ -411,6 +421,10 @@ typedef struct tk_list_counts {
 tk_status tk_get_changes(tk_handle *handle, size_t since, tk_change *changes, size_t change_room,
                          char *texts, size_t room, tk_list_counts *counts);
 
+tk_status tk_diff_screens_distinct(tk_handle *handle, tk_handle *other, tk_change *changes,
+                                   size_t change_room, char *texts, size_t room,
+                                   tk_list_counts *counts);
+
 /* The changes that turn what the first handle shows into what the other one shows, as tk_get_changes
  * writes changes: each handle has a surface, or a viewer or a client that shows one. They are moves,
  * pens and texts alone, and print each cell that differs once. Made by a surface that shows what the
@@ -418,17 +432,32 @@ tk_status tk_get_changes(tk_handle *handle, size_t since, tk_change *changes, si
  * links have their uris alone. There are none where the rows are equal. Where the sizes differ, what
  * fits in both is compared. Cursor, title, and what else is set beside the rows, are not compared.
  * counts->number is 0. TK_SHORT: as above. */
-tk_status tk_diff_screens(tk_handle *handle, tk_handle *other, tk_change *changes,
-                          size_t change_room, char *texts, size_t room, tk_list_counts *counts);
+static inline tk_status tk_diff_screens(tk_handle *handle, tk_handle *other, tk_change *changes,
+                                        size_t change_room, char *texts, size_t room,
+                                        tk_list_counts *counts) {
+    if (handle == other)
+        return TK_NO_HANDLE;
+    return tk_diff_screens_distinct(handle, other, changes, change_room, texts, room, counts);
+}
+
+tk_status tk_diff_region_distinct(tk_handle *handle, size_t column, size_t row, size_t width,
+                                  size_t height, tk_handle *other, size_t other_column,
+                                  size_t other_row, tk_change *changes, size_t change_room,
+                                  char *texts, size_t room, tk_list_counts *counts);
 
 /* As tk_diff_screens, of the region of this column, row, width and height, which is compared with
  * that of this size at another column and row of the other one. Both are cut to what fits, and
  * where one begins outside, there are no changes. A wide grapheme that crosses an edge of its
  * region is printed whole. TK_SHORT: as above. */
-tk_status tk_diff_region(tk_handle *handle, size_t column, size_t row, size_t width, size_t height,
-                         tk_handle *other, size_t other_column, size_t other_row,
-                         tk_change *changes, size_t change_room, char *texts, size_t room,
-                         tk_list_counts *counts);
+static inline tk_status tk_diff_region(tk_handle *handle, size_t column, size_t row, size_t width,
+                                       size_t height, tk_handle *other, size_t other_column,
+                                       size_t other_row, tk_change *changes, size_t change_room,
+                                       char *texts, size_t room, tk_list_counts *counts) {
+    if (handle == other)
+        return TK_NO_HANDLE;
+    return tk_diff_region_distinct(handle, column, row, width, height, other, other_column,
+                                   other_row, changes, change_room, texts, room, counts);
+}
 
 /* Makes a list of changes, which these bytes encode: the array `[* change]` of docs/stream.cddl
  * and nothing after it. A text in it has the pieces that the surface cuts and measures: where they
@@ -571,9 +600,13 @@ static inline tk_status tk_set_line_attribute(tk_handle *surface, uint8_t attrib
     return tk_add_numbers(surface, TK_CHANGE_LINE_ATTRIBUTE, attribute, 0, 0);
 }
 
+tk_status tk_draw_distinct(tk_handle *surface, tk_handle *source, size_t column, size_t row);
+
 /* Draws what the source shows, of any kind, from this column and row on. What doesn't fit
  * is left out. Cursor and pen are as before. It is logged as a list of changes. */
-tk_status tk_draw(tk_handle *surface, tk_handle *source, size_t column, size_t row);
+static inline tk_status tk_draw(tk_handle *surface, tk_handle *source, size_t column, size_t row) {
+    return surface == source ? TK_NO_HANDLE : tk_draw_distinct(surface, source, column, row);
+}
 
 /* Copies what the region of this column, row, width and height shows to the region of this size at
  * another column and row. Both are cut to what fits. It is logged as a list of changes: where they
@@ -587,15 +620,23 @@ tk_status tk_draw_region(tk_handle *surface, size_t column, size_t row, size_t w
 
 /* ---- Viewers: in one process ---- */
 
+tk_status tk_viewer_new_distinct(tk_handle *viewer, tk_handle *source);
+
 /* Makes a viewer for what the source shows, of any kind: blank, and of the source's size. What the
  * first handle had is freed. */
-tk_status tk_viewer_new(tk_handle *viewer, tk_handle *source);
+static inline tk_status tk_viewer_new(tk_handle *viewer, tk_handle *source) {
+    return viewer == source ? TK_NO_HANDLE : tk_viewer_new_distinct(viewer, source);
+}
+
+tk_status tk_follow_distinct(tk_handle *viewer, tk_handle *source);
 
 /* The viewer shows what the source shows: its size too. It makes the changes since it followed
  * last, where that was the same surface and those are known, and else all anew; of a viewer or a
  * client always all. TK_WRONG_KIND: the first handle has no viewer. TK_NUMBERS, TK_MEMORY: either
  * nothing has changed, or the viewer may show anything, and gets all anew the next time. */
-tk_status tk_follow(tk_handle *viewer, tk_handle *source);
+static inline tk_status tk_follow(tk_handle *viewer, tk_handle *source) {
+    return viewer == source ? TK_NO_HANDLE : tk_follow_distinct(viewer, source);
+}
 
 /* ---- Clients: by bytes, as docs/VIEWER.md and docs/stream.cddl describe them ---- */
 

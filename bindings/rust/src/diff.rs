@@ -42,7 +42,7 @@ impl Screen {
         changes.read(|list, room, texts, len, counts| {
             // Safety: both handles are live, and they are two, and the buffers have the rooms that
             // are named.
-            unsafe { ffi::tk_diff_screens(handle, other, list, room, texts, len, counts) }
+            unsafe { ffi::tk_diff_screens_distinct(handle, other, list, room, texts, len, counts) }
         })?;
         Ok(changes)
     }
@@ -79,7 +79,7 @@ impl Screen {
             // Safety: both handles are live, and they are two, and the buffers have the rooms that
             // are named.
             unsafe {
-                ffi::tk_diff_region(
+                ffi::tk_diff_region_distinct(
                     handle, x, y, width, height, other, other_x, other_y, list, room, texts, len,
                     counts,
                 )

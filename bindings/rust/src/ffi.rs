@@ -144,7 +144,7 @@ extern "C" {
         widths: u8,
         source: usize,
     ) -> i32;
-    pub fn tk_free(handle: *mut tk_handle);
+    pub fn tk_free_handle(handle: *mut tk_handle);
     pub fn tk_resize(surface: *mut tk_handle, width: usize, height: usize) -> i32;
     pub fn tk_number(handle: *mut tk_handle, number: *mut usize) -> i32;
     pub fn tk_size(handle: *mut tk_handle, width: *mut usize, height: *mut usize) -> i32;
@@ -252,7 +252,7 @@ extern "C" {
         room: usize,
         counts: *mut tk_list_counts,
     ) -> i32;
-    pub fn tk_diff_screens(
+    pub fn tk_diff_screens_distinct(
         handle: *mut tk_handle,
         other: *mut tk_handle,
         changes: *mut tk_change,
@@ -261,7 +261,7 @@ extern "C" {
         room: usize,
         counts: *mut tk_list_counts,
     ) -> i32;
-    pub fn tk_diff_region(
+    pub fn tk_diff_region_distinct(
         handle: *mut tk_handle,
         column: usize,
         row: usize,
@@ -276,7 +276,7 @@ extern "C" {
         room: usize,
         counts: *mut tk_list_counts,
     ) -> i32;
-    pub fn tk_draw(
+    pub fn tk_draw_distinct(
         surface: *mut tk_handle,
         source: *mut tk_handle,
         column: usize,
@@ -300,8 +300,8 @@ extern "C" {
         to_column: usize,
         to_row: usize,
     ) -> i32;
-    pub fn tk_viewer_new(viewer: *mut tk_handle, source: *mut tk_handle) -> i32;
-    pub fn tk_follow(viewer: *mut tk_handle, source: *mut tk_handle) -> i32;
+    pub fn tk_viewer_new_distinct(viewer: *mut tk_handle, source: *mut tk_handle) -> i32;
+    pub fn tk_follow_distinct(viewer: *mut tk_handle, source: *mut tk_handle) -> i32;
     pub fn tk_respond(
         surface: *mut tk_handle,
         ask: *const u8,

@@ -53,7 +53,7 @@ impl Handle {
 impl Drop for Handle {
     fn drop(&mut self) {
         // Safety: the handle is freed here alone, and no call comes after it.
-        unsafe { ffi::tk_free(self.get()) }
+        unsafe { ffi::tk_free_handle(self.get()) }
     }
 }
 

@@ -287,7 +287,9 @@ impl Surface {
     ) -> Result<SequenceNo, Error> {
         let number = self.current_seqno();
         // Safety: both handles are live, and they are two, since one is borrowed alone.
-        Error::check(unsafe { ffi::tk_draw(self.handle.get(), other.handle.get(), x, y) })?;
+        Error::check(unsafe {
+            ffi::tk_draw_distinct(self.handle.get(), other.handle.get(), x, y)
+        })?;
         Ok(self.last_since(number))
     }
 

@@ -31,8 +31,9 @@ impl Viewer {
     /// [`Error::Memory`].
     pub fn new(source: &Screen) -> Result<Viewer, Error> {
         // Safety: the first handle is all zero before, the second is live, and they are two.
-        let handle =
-            Handle::made(|handle| unsafe { ffi::tk_viewer_new(handle, source.handle.get()) })?;
+        let handle = Handle::made(|handle| unsafe {
+            ffi::tk_viewer_new_distinct(handle, source.handle.get())
+        })?;
         let screen = Screen { handle };
         Ok(Viewer { screen })
     }
@@ -47,7 +48,9 @@ impl Viewer {
     /// ever.
     pub fn follow(&mut self, source: &Screen) -> Result<(), Error> {
         // Safety: both handles are live, and they are two, since one is borrowed alone.
-        Error::check(unsafe { ffi::tk_follow(self.screen.handle.get(), source.handle.get()) })
+        Error::check(unsafe {
+            ffi::tk_follow_distinct(self.screen.handle.get(), source.handle.get())
+        })
     }
 
     /// What it shows.

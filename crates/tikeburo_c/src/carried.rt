@@ -54,7 +54,7 @@ mod tests {
     use crate::clients::{FaultFields, tk_client_new};
     use crate::handle::Handle;
     use crate::reading::tk_size;
-    use crate::surfaces::{tk_free, tk_resize, tk_surface_new};
+    use crate::surfaces::{tk_free_handle, tk_resize, tk_surface_new};
     use std::alloc::Global;
     use std::process::Abort;
 
@@ -117,8 +117,8 @@ mod tests {
             carry(alloc, &mut client, &mut surface, &mut room, &mut fault),
             7
         );
-        tk_free(alloc, &mut client);
-        tk_free(alloc, &mut surface);
+        tk_free_handle(alloc, &mut client);
+        tk_free_handle(alloc, &mut surface);
         client.end();
         surface.end();
     }

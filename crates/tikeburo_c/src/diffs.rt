@@ -107,7 +107,7 @@ fn diff_both(
 
 /// The changes that make the first handle's screen show what the other one's does.
 #[unsafe(no_mangle)]
-pub extern "C" fn tk_diff_screens(
+pub extern "C" fn tk_diff_screens_distinct(
     alloc: Global,
     handle: &mut Handle,
     other: &mut Handle,
@@ -129,7 +129,7 @@ pub extern "C" fn tk_diff_screens(
 /// The changes that make a region of the first handle's screen show what one of this size of the
 /// other one's does.
 #[unsafe(no_mangle)]
-pub extern "C" fn tk_diff_region(
+pub extern "C" fn tk_diff_region_distinct(
     alloc: Global,
     handle: &mut Handle,
     column: usize,

@@ -27,7 +27,7 @@ fn draw_on(
 
 /// Draws what the source shows from this column and row on.
 #[unsafe(no_mangle)]
-pub extern "C" fn tk_draw(
+pub extern "C" fn tk_draw_distinct(
     alloc: Global,
     handle: &mut Handle,
     source: &mut Handle,

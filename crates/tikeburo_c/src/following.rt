@@ -48,7 +48,11 @@ fn make_viewer(alloc: Global, viewer: &mut Handle, source: &mut Handle) -> Resul
 
 /// Makes a viewer for what the source shows, which shows nothing yet.
 #[unsafe(no_mangle)]
-pub extern "C" fn tk_viewer_new(alloc: Global, viewer: &mut Handle, source: &mut Handle) -> i32
+pub extern "C" fn tk_viewer_new_distinct(
+    alloc: Global,
+    viewer: &mut Handle,
+    source: &mut Handle,
+) -> i32
     ensures made { Reports result (λ outcome. MakesViewer (kept_of source.old)
         (kept_of viewer.old) outcome (kept_of viewer.new)) }
     ensures source { kept_of source.new ≡ kept_of source.old }
@@ -73,7 +77,7 @@ fn follow_kept(alloc: Global, handle: &mut Handle, source: &Kept) -> Result<(), 
 
 /// The viewer shows what the source shows.
 #[unsafe(no_mangle)]
-pub extern "C" fn tk_follow(alloc: Global, handle: &mut Handle, source: &mut Handle) -> i32
+pub extern "C" fn tk_follow_distinct(alloc: Global, handle: &mut Handle, source: &mut Handle) -> i32
     ensures follows { Reports result (λ outcome.
         FollowsSource (kept_of source.old) (kept_of handle.old) outcome (kept_of handle.new)) }
     ensures source { kept_of source.new ≡ kept_of source.old }

@@ -85,7 +85,7 @@ pub extern "C" fn tk_surface_new(
 
 /// Frees what the handle has, if it has anything.
 #[unsafe(no_mangle)]
-pub extern "C" fn tk_free(alloc: Global, handle: &mut Handle)
+pub extern "C" fn tk_free_handle(alloc: Global, handle: &mut Handle)
     ensures { kept_of handle.new ≡ None }
 {
     drop(handle.take(alloc));

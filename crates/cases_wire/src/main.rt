@@ -5,6 +5,8 @@
 //! - `change HEX`, `answer HEX` and `ask HEX`: the value that the bytes encode, in the diagnostic
 //!   notation of CBOR, or the fault with its place. `-` stands for no bytes. `narrow HEX` is a
 //!   change where each text has one column. A text is shown without its pieces.
+//! - `head HEX`: what the answer has before its changes that the bytes begin with, and how many
+//!   changes it has, or the fault with its place. The changes need not be there.
 //! - `damaged`: how many inputs differ in one byte from those of the lines before, or are their
 //!   beginnings. Each of them was decoded, and its value encoded again.
 //! - `client HEX HEX`: the same of a repaint and of a delta that leads on from it, as a source

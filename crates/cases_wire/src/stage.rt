@@ -9,8 +9,8 @@ use cases::play::Play;
 use std::alloc::Global;
 use termwiz_cell::emoji::{OneColumn, UnicodeWidths, Widths};
 use termwiz_wire::{
-    Limits, WireError, decode_answer, decode_ask, decode_change, encode_answer, encode_ask,
-    encode_change,
+    Limits, WireError, decode_answer, decode_ask, decode_change, decode_head, encode_answer,
+    encode_ask, encode_change,
 };
 
 /// What decodes the bytes of lines.
@@ -106,6 +106,16 @@ impl Stage {
         }
     }
 
+    // What the answer says at its head that the bytes of a line begin with.
+    fn head(&self, word: &str) -> Result<String, PlayError> {
+        let bytes = bytes_of(self.alloc, word)?;
+        match decode_head(Limits::default(), bytes.as_slice()) {
+            Ok(head) => Ok(format!(in self.alloc; "[2, {}, {}, {}, {}, {}], {} changes\n",
+                head.source, head.width, head.height, head.base, head.number, head.count)?),
+            Err(fault) => Ok(format!(in self.alloc; "{fault}\n")?),
+        }
+    }
+
     // How many inputs there are of a repaint and of a delta. A client met each as it has to.
     fn followed(&self, words: &str) -> Result<String, PlayError> {
         let (repaint, delta) = words.split_once(' ').ok_or(PlayError::Bad)?;
@@ -133,6 +143,7 @@ impl Play for Stage {
             "narrow" => self.narrow(word),
             "answer" => self.decoded(Kind::Answer, word),
             "ask" => self.decoded(Kind::Ask, word),
+            "head" => self.head(word),
             _ => Err(PlayError::Bad),
         }
     }

@@ -5,11 +5,10 @@ use Rattle.std.proofs.lemmas.Bool.{ne_eqb, eq-eqb, le-ltb, cases_lt}
 use Rattle.cbor.specs.Encoding.{unsigned, array}
 use Rattle.cbor.proofs.Items.{unsigned_again, below_again, array_again, list_again}
 use Rattle.termwiz_wire.specs.Encoding.{change, changes}
-use Rattle.termwiz_wire.specs.Answers.{version_at, body_at, opened_at, source_at, size_at, height_at, number_at, head_at, answer_in, asked_at, ask_in}
+use Rattle.termwiz_wire.specs.Answers.{version_at, body_at, opened_at, source_at, size_at, height_at, number_at, head_at, head_of, answer_in, asked_at, ask_in}
 use Rattle.termwiz_wire.specs.Sent.{IsSent, IsAsk, answer, ask}
 use Rattle.termwiz_wire.specs.declared.sent.SentAnswer.{SentAnswer}
 use Rattle.termwiz_wire.specs.declared.sent.Ask.{Ask}
-use Rattle.termwiz_wire.specs.declared.decode.heads.Head.{Head}
 use Rattle.termwiz_wire.proofs.Each.{each_again, changes_fit}
 use Rattle.termwiz_wire.proofs.Rows.{each_fits}
 
@@ -46,10 +45,6 @@ height_again room cells width n rest some fits few = rw (size_again room n rest 
 number_again : (room base n : ℕ) (rest : List ℕ) → base ≤ n → n < 2 ^ 64 → number_at room base (unsigned n ++ rest) ≡ Ok (n, rest)
 unfolding number_at
 number_again room base n rest le lt = rw (unsigned_again room n rest lt, le-ltb n base le) refl
-
--- an answer's head, and as many changes as it says behind it
-abbrev pub head_of : SentAnswer → Head
-head_of s = record { source = s.source; width = s.answer.width; height = s.answer.height; base = s.answer.base; number = s.answer.number; count = length s.answer.changes }
 
 head_again : (measure : List ℕ → ℕ) (room cells : ℕ) (s : SentAnswer) (rest : List ℕ) → IsSent measure s → s.answer.width * s.answer.height ≤ cells → head_at room cells (answer measure s ++ rest) ≡ Ok (head_of s, flat_map (change measure) s.answer.changes ++ rest)
 unfolding head_at answer changes

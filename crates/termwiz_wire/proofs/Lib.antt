@@ -19,5 +19,6 @@ pub mod CutLoops
 pub mod Prefixes
 pub mod Widening
 pub mod MoreBytes
+pub mod AnswerHeads
 pub mod Resuming
 pub mod PastLimits

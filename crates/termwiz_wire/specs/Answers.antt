@@ -134,6 +134,7 @@ changes_in measure room rows bytes = do
   n ← halted None (list_at room bytes)
   each_at measure room rows [] n.0 n.1
 
+-- the answer of this head with these changes
 abbrev pub sent_of : Head → List ChangeValue → SentAnswer
 sent_of head changes =
     record {
@@ -146,6 +147,18 @@ sent_of head changes =
             number = head.number;
             changes = changes;
           };
+    }
+
+-- an answer's head
+abbrev pub head_of : SentAnswer → Head
+head_of s =
+    record {
+      source = s.source;
+      width = s.answer.width;
+      height = s.answer.height;
+      base = s.answer.base;
+      number = s.answer.number;
+      count = length s.answer.changes;
     }
 
 unfoldable pub answer_in : (List ℕ → ℕ) → ℕ → ℕ → List ℕ → Result (SentAnswer × List ℕ) Halt
@@ -176,6 +189,12 @@ within read limit bytes =
 unfoldable pub answer_at : (List ℕ → ℕ) → Limits → List ℕ → Result (SentAnswer × List ℕ) Fault
 answer_at measure limits bytes =
     within (λ room rest. answer_in measure room limits.cells rest) limits.bytes bytes
+
+-- the head of the answer at the front of the bytes, whose changes need not be there
+unfoldable pub answer_head_at : Limits → List ℕ → Result Head Fault
+answer_head_at limits bytes = do
+  head ← within (λ room rest. halted None (head_at room limits.cells rest)) limits.bytes bytes
+  Ok head.0
 
 -- what has no limit has that of a `usize`
 abbrev pub unlimited : ℕ

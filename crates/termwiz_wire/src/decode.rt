@@ -14,3 +14,4 @@ pub use answers::decode_answer;
 pub use asks::decode_ask;
 pub use begun::{Begun, NoAnswer, decode_more};
 pub use changes::{decode_change, decode_changes};
+pub use heads::{Head, decode_head};

@@ -16,7 +16,8 @@ mod sent;
 
 pub use cbor::FaultKind;
 pub use decode::{
-    Begun, NoAnswer, decode_answer, decode_ask, decode_change, decode_changes, decode_more,
+    Begun, Head, NoAnswer, decode_answer, decode_ask, decode_change, decode_changes, decode_head,
+    decode_more,
 };
 pub use encode::{encode_answer, encode_ask, encode_change, encode_changes};
 pub use fault::{Fault, Limits, WireError};

@@ -1,8 +1,8 @@
 //! What bytes decide, when more may follow them.
 ghost use Rattle.std.specs.Prelude.{ℕ, ◌*◌, ◌<◌, ◌≤◌, ◌++◌, List, Option, length, take};
-ghost use Rattle.cbor.specs.Prefixes.{FailsBy, Reads, Stays, fault, left};
+ghost use Rattle.cbor.specs.Prefixes.{FailsBy, Reads, Stays, fault, left, seen};
 ghost use Rattle.cbor.specs.declared.error.FaultKind.TheVariants.{Truncated};
-ghost use Rattle.termwiz_wire.specs.Answers.{answer_at, answer_in, ask_at, ask_in};
+ghost use Rattle.termwiz_wire.specs.Answers.{answer_at, answer_head_at, answer_in, ask_at, ask_in};
 ghost use Rattle.termwiz_wire.specs.Answers.{changes_at, changes_in, one_change_at};
 ghost use Rattle.termwiz_wire.specs.Decoding.{change_at};
 ghost use Rattle.termwiz_wire.specs.MoreBytes.{Laws, halt, kind};
@@ -33,6 +33,8 @@ pub fn stays()
     ensures answer { (measure : List ℕ → ℕ) (limits : Limits) (bytes more : List ℕ) →
         Stays kind left more (answer_at measure limits bytes)
         (answer_at measure limits (bytes ++ more)) }
+    ensures head { (limits : Limits) (bytes more : List ℕ) →
+        Stays kind seen more (answer_head_at limits bytes) (answer_head_at limits (bytes ++ more)) }
     ensures ask { (bytes more : List ℕ) →
         Stays kind left more (ask_at bytes) (ask_at (bytes ++ more)) }
 {}

@@ -1,23 +1,72 @@
 //! What answers and asks begin with.
-ghost use Rattle.std.specs.Prelude.{◌≡◌, ◌<◌, ◌≤◌, ◌^◌, IfOk};
-ghost use Rattle.cbor.specs.Decoding.{Gives, allowed};
-ghost use Rattle.termwiz_wire.specs.Answers.{body_at, head_at, height_at, number_at, opened_at};
-ghost use Rattle.termwiz_wire.specs.Answers.{size_at, source_at, version_at};
+ghost use Rattle.std.specs.Prelude.{◌≡◌, ◌*◌, ◌<◌, ◌≤◌, ◌^◌, ◌++◌, Err, IfErr, IfOk, IsSome, List};
+ghost use Rattle.std.specs.Prelude.{Ok, length, ℕ};
+ghost use Rattle.cbor.specs.Decoding.{Gives, allowed, fault_of};
+ghost use Rattle.termwiz_surface.specs.Surface.{IsSurfaceSize};
+ghost use Rattle.termwiz_wire.specs.Answers.{answer_at, answer_head_at, body_at, head_at, head_of};
+ghost use Rattle.termwiz_wire.specs.Answers.{height_at, number_at, opened_at, size_at, source_at};
+ghost use Rattle.termwiz_wire.specs.Answers.{version_at};
+ghost use Rattle.termwiz_wire.specs.Sent.{IsSent, answer};
+ghost use Rattle.termwiz_wire.specs.declared.sent.SentAnswer.{SentAnswer};
 
+use crate::fault::{Fault, Limits};
 use crate::sent::SourceNo;
 use cbor::{ReadError, Reader};
 use termwiz_cell::change::SequenceNo;
 
 /// What an answer has before its changes.
-#[derive(Clone, Copy, Debug)]
-pub(super) struct Head {
+#[derive(Clone, Copy, PartialEq, Eq, Debug)]
+pub struct Head {
     pub source: SourceNo,
+    /// Columns of the screen.
     pub width: usize,
+    /// Rows of the screen.
     pub height: usize,
+    /// The number that its changes lead on from, or 0 where it is a repaint.
     pub base: SequenceNo,
+    /// The number that they lead to.
     pub number: SequenceNo,
     /// How many changes there are.
     pub count: usize,
+}
+
+/// Decodes the head of the answer at the front of the bytes, and none of its changes, which need
+/// not be there. No memory is taken.
+///
+/// It fails as `decode_answer` does where the head has a fault: `Truncated` says that more bytes
+/// may complete the head.
+pub fn decode_head(limits: Limits, bytes: &[u8]) -> Result<Head, Fault>
+    // It is this value, or this fault.
+    ensures exact { result ≡ answer_head_at limits bytes.now }
+    // The head of what is encoded is decoded, whatever follows it, if the limits allow it.
+    ensures again { (measure : List ℕ → ℕ) (s : SentAnswer) (rest : List ℕ) →
+        IsSent measure s → s.answer.width * s.answer.height ≤ limits.cells →
+        length (answer measure s) ≤ limits.bytes → bytes.now ≡ answer measure s ++ rest →
+        result ≡ Ok (head_of s) }
+    // Where an answer is decoded from the bytes, it is that answer's head.
+    ensures of_answer { (measure : List ℕ → ℕ) (s : SentAnswer) (rest : List ℕ) →
+        answer_at measure limits bytes.now ≡ Ok (s, rest) → result ≡ Ok (head_of s) }
+    // Where it fails, an answer has the same fault.
+    ensures of_fault { (measure : List ℕ → ℕ) →
+        IfErr result (λ fault. answer_at measure limits bytes.now ≡ Err fault) }
+    // It names its source.
+    ensures named { IfOk result (λ head. 0 < head.source) }
+    // It has a size that a surface may have, and that is within the limits.
+    ensures sized { IfOk result (λ head. IsSurfaceSize head.width head.height) }
+    ensures limited { IfOk result (λ head. head.width * head.height ≤ limits.cells) }
+    // Its changes lead on.
+    ensures ordered { IfOk result (λ head. head.base ≤ head.number) }
+{
+    let mut reader = Reader::with_limit(bytes, limits.bytes);
+    let len = reader.rest().len();
+    match head_of(&mut reader, limits.cells) {
+        Ok(head) => Ok(head),
+        Err(error) => Err(Fault {
+            kind: error.fault().unwrap(),
+            at: len.saturating_sub(reader.bytes.len()),
+            change: None,
+        }),
+    }
 }
 
 /// Decodes what an answer has before its changes.
@@ -30,6 +79,7 @@ pub(super) fn head_of(reader: &mut Reader<'_>, cells: usize) -> Result<Head, Rea
     ensures height { IfOk result (λ x. (0 < x.height) × (x.height < 2 ^ 32)) }
     ensures numbers { IfOk result (λ x. x.base ≤ x.number) }
     ensures room { reader.new.room ≡ reader.old.room }
+    ensures fault { IfErr result (λ error. IsSome (fault_of error)) }
 {
     opened_of(reader, 7)?;
     let source = source_of(reader)?;
@@ -56,6 +106,7 @@ pub(super) fn opened_of(reader: &mut Reader<'_>, items: usize) -> Result<(), Rea
         (λ _. reader.new.bytes.now) result
         (opened_at reader.old.room items reader.old.bytes.now) }
     ensures room { reader.new.room ≡ reader.old.room }
+    ensures fault { IfErr result (λ error. IsSome (fault_of error)) }
 {
     let start = reader.bytes;
     let count = reader.array()?;
@@ -77,6 +128,7 @@ fn version_of(reader: &mut Reader<'_>) -> Result<(), ReadError>
         (λ _. reader.new.bytes.now) result
         (version_at reader.old.room reader.old.bytes.now) }
     ensures room { reader.new.room ≡ reader.old.room }
+    ensures fault { IfErr result (λ error. IsSome (fault_of error)) }
 {
     let start = reader.bytes;
     let version = reader.unsigned()?;
@@ -93,6 +145,7 @@ fn source_of(reader: &mut Reader<'_>) -> Result<SourceNo, ReadError>
         (λ x. (x, reader.new.bytes.now)) result
         (source_at reader.old.room reader.old.bytes.now) }
     ensures room { reader.new.room ≡ reader.old.room }
+    ensures fault { IfErr result (λ error. IsSome (fault_of error)) }
 {
     let start = reader.bytes;
     let source = reader.unsigned()?;
@@ -111,6 +164,7 @@ fn size_of(reader: &mut Reader<'_>) -> Result<usize, ReadError>
         (size_at reader.old.room reader.old.bytes.now) }
     ensures fits { IfOk result (λ x. (0 < x) × (x < 2 ^ 32)) }
     ensures room { reader.new.room ≡ reader.old.room }
+    ensures fault { IfErr result (λ error. IsSome (fault_of error)) }
 {
     let start = reader.bytes;
     let size = reader.below(4294967296)?;
@@ -130,6 +184,7 @@ fn height_of(reader: &mut Reader<'_>, cells: usize, width: usize) -> Result<usiz
         (height_at reader.old.room cells width reader.old.bytes.now) }
     ensures fits { IfOk result (λ x. (0 < x) × (x < 2 ^ 32)) }
     ensures room { reader.new.room ≡ reader.old.room }
+    ensures fault { IfErr result (λ error. IsSome (fault_of error)) }
 {
     let start = reader.bytes;
     let height = size_of(reader)?;
@@ -148,6 +203,7 @@ fn number_of(reader: &mut Reader<'_>, base: SequenceNo) -> Result<SequenceNo, Re
         (number_at reader.old.room base reader.old.bytes.now) }
     ensures from { IfOk result (λ x. base ≤ x) }
     ensures room { reader.new.room ≡ reader.old.room }
+    ensures fault { IfErr result (λ error. IsSome (fault_of error)) }
 {
     let start = reader.bytes;
     let number = reader.unsigned()?;

@@ -1,3 +1,4 @@
+use Rattle.termwiz_wire.proofs.AnswerHeads.{answer_head_stays}
 use Rattle.termwiz_wire.proofs.MoreBytes.{answer_stays, ask_stays, change_stays, changes_stay}
 use Rattle.termwiz_wire.proofs.more_bytes.stays.Goals as goal
 
@@ -9,6 +10,9 @@ returns-clause-changes c = changes_stay
 
 pub returns-clause-answer : goal.returns-clause-answer
 returns-clause-answer c = answer_stays
+
+pub returns-clause-head : goal.returns-clause-head
+returns-clause-head c = answer_head_stays
 
 pub returns-clause-ask : goal.returns-clause-ask
 returns-clause-ask c = ask_stays

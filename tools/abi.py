@@ -29,7 +29,7 @@ VERSION = TOP / "crates" / "tikeburo_c" / "src" / "version.rt"
 STRUCTS = {"Handle": "tk_handle", "ColorFields": "tk_color", "AttributeFields": "tk_attributes",
            "CellFields": "tk_cell", "ChangeFields": "tk_change", "FaultFields": "tk_fault",
            "StateFields": "tk_settings", "RowCellFields": "tk_row_cell",
-           "RowCounts": "tk_row_counts", "ListCounts": "tk_list_counts"}
+           "RowCounts": "tk_row_counts", "ListCounts": "tk_list_counts", "HeadFields": "tk_head"}
 PLAIN = {"usize": "size_t", "isize": "ptrdiff_t", "u8": "uint8_t", "i32": "tk_status",
          "bool": "bool"}
 IN_RUST = {"size_t": "usize", "ptrdiff_t": "isize", "uint8_t": "u8", "char": "u8", "void": "c_void",

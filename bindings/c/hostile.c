@@ -40,12 +40,25 @@ static bool is_answered(tk_status status) {
            status == TK_REGION;
 }
 
+/* Reads the head of an answer. Where a client found no fault in the bytes, there is none in it, and
+ * where it found one that is not past its limits, the head lacks no bytes. */
+static void read_head(const uint8_t *bytes, size_t len, tk_status fed, const tk_fault *fault) {
+    tk_head head = {.source = 0};
+    tk_status status = tk_answer_head(bytes, len, &head);
+    EXPECT(status == TK_DONE || status == (fed == TK_DONE ? TK_TRUNCATED : TK_UNREADABLE) ||
+           fault->kind == TK_FAULT_LIMIT);
+    EXPECT((status == TK_DONE) == (head.source > 0));
+    EXPECT((status == TK_DONE) == (head.width > 0 && head.height > 0));
+    EXPECT(head.base <= head.number);
+}
+
 /* Gives the client a whole stream of its own. What is wrong with it has a name and a place. */
 static tk_status feed(tk_handle *client, const uint8_t *bytes, size_t len) {
     tk_fault fault = {.kind = 99};
     EXPECT(tk_client_reset(client) == TK_DONE);
     tk_status status = tk_client_feed(client, bytes, len, &fault);
     EXPECT(status == TK_DONE ? fault.kind == 99 : fault.kind <= TK_FAULT_LIMIT && fault.at < len);
+    read_head(bytes, len, status, &fault);
     return status;
 }
 

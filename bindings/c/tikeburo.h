@@ -648,6 +648,22 @@ static inline tk_status tk_follow(tk_handle *viewer, tk_handle *source) {
 tk_status tk_respond(tk_handle *surface, const uint8_t *ask, size_t ask_len, uint8_t *bytes,
                      size_t room, size_t *len);
 
+/* What an answer says at its head: all but its changes. */
+typedef struct tk_head {
+    size_t source;  /* the number of the surface that gave it */
+    size_t width;   /* the screen's columns */
+    size_t height;  /* the screen's rows */
+    size_t base;    /* the number that its changes lead on from, or 0: it is the whole screen */
+    size_t number;  /* the number that they lead to */
+    size_t changes; /* how many there are */
+} tk_head;
+
+/* Reads what an answer says at its head, of which these are the first bytes. Its changes need not
+ * be there, and are not read: so a server can pass it on to those who lack it. TK_TRUNCATED: the
+ * bytes end before the head does. TK_UNREADABLE: they are wrong at a byte of it. After an error
+ * *head is as it was. */
+tk_status tk_answer_head(const uint8_t *bytes, size_t len, tk_head *head);
+
 /* Makes a client that shows nothing yet: a blank of one column and one row. It measures by these
  * widths, and takes no answer of more cells (width times height) or bytes. What the handle had is
  * freed. TK_RANGE: widths, or 0 bytes. */

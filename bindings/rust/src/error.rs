@@ -12,7 +12,7 @@ pub enum Error {
     Memory,
     /// Bytes are no encoding of what is wanted.
     Unreadable,
-    /// Bytes end before the ask does: more would have to come.
+    /// Bytes end before the ask, or the answer's head, does: more would have to come.
     Truncated,
     /// Bytes that a client was fed make no answer that it can take.
     Fault(Fault),
@@ -47,7 +47,7 @@ impl fmt::Display for Error {
         match self {
             Error::Memory => f.write_str("memory was refused"),
             Error::Unreadable => f.write_str("the bytes can't be read"),
-            Error::Truncated => f.write_str("the bytes end before the ask does"),
+            Error::Truncated => f.write_str("the bytes end too early"),
             Error::Fault(fault) => write!(f, "the answer can't be taken: {fault}"),
             Error::ScrollRegion => f.write_str("the region of a scroll goes past the last row"),
             Error::Numbers => f.write_str("the numbers of changes are used up"),

@@ -136,6 +136,17 @@ pub struct tk_list_counts {
     pub number: usize,
 }
 
+#[repr(C)]
+#[derive(Default)]
+pub struct tk_head {
+    pub source: usize,
+    pub width: usize,
+    pub height: usize,
+    pub base: usize,
+    pub number: usize,
+    pub changes: usize,
+}
+
 extern "C" {
     pub fn tk_surface_new(
         surface: *mut tk_handle,
@@ -310,6 +321,7 @@ extern "C" {
         room: usize,
         len: *mut usize,
     ) -> i32;
+    pub fn tk_answer_head(bytes: *const u8, len: usize, head: *mut tk_head) -> i32;
     pub fn tk_client_new(client: *mut tk_handle, widths: u8, cells: usize, bytes: usize) -> i32;
     pub fn tk_client_feed(
         client: *mut tk_handle,
@@ -344,5 +356,6 @@ mod tests {
         assert_eq!(size_of::<tk_row_cell>(), 32);
         assert_eq!(size_of::<tk_row_counts>(), 24);
         assert_eq!(size_of::<tk_list_counts>(), 24);
+        assert_eq!(size_of::<tk_head>(), 48);
     }
 }

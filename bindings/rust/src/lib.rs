@@ -60,6 +60,7 @@
 #![warn(clippy::missing_errors_doc, clippy::must_use_candidate)]
 
 mod ansi;
+mod answer;
 mod attributes;
 pub mod cell;
 mod change;
@@ -90,6 +91,7 @@ mod viewer;
 struct Readme;
 
 pub use ansi::AnsiColor;
+pub use answer::AnswerHead;
 pub use attributes::{
     AttributeChange, Attributes, Blink, Hyperlink, Intensity, SemanticType, Underline,
     VerticalAlign,

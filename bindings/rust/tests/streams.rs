@@ -1,7 +1,7 @@
 //! Clients show what surfaces showed, by way of bytes, and viewers without.
 
 use std::thread;
-use tikeburo::{Ask, Cell, Change, Client, Error, FaultKind, Limits, Options};
+use tikeburo::{AnswerHead, Ask, Cell, Change, Client, Error, FaultKind, Limits, Options};
 use tikeburo::{Screen, Surface, Viewer, Widths};
 
 /// All that is seen of a screen.
@@ -66,6 +66,53 @@ fn answers_come_in_any_pieces() {
     let both = [&[*last][..], &repaint, &[]].concat(); // and again, which changes nothing
     client.feed(&both).unwrap();
     assert_eq!(seen(client.screen()), seen(&surface));
+}
+
+#[test]
+fn heads_say_whose_answers_are_and_what_they_lead_on_from() {
+    let (mut surface, mut client) = pair();
+    let repaint = answer(&mut surface, &client);
+    let first = AnswerHead::read(&repaint).unwrap();
+    assert!(first.is_repaint());
+    assert_eq!((first.width, first.height), (12, 3));
+    assert_eq!(first.number, surface.current_seqno());
+
+    client.feed(&repaint).unwrap();
+    surface.add_change("か").unwrap();
+    let delta = answer(&mut surface, &client);
+    let second = AnswerHead::read(&delta).unwrap();
+    assert!(!second.is_repaint());
+    assert_eq!((second.source, second.base), (first.source, first.number));
+    assert_eq!(
+        (second.number, second.changes),
+        (surface.current_seqno(), 1)
+    );
+
+    let (mut other, new) = pair();
+    let other = AnswerHead::read(&answer(&mut other, &new)).unwrap();
+    assert_ne!(other.source, first.source);
+}
+
+#[test]
+fn heads_are_read_where_the_changes_are_not_there() {
+    let (mut surface, client) = pair();
+    let repaint = answer(&mut surface, &client);
+    let head = AnswerHead::read(&repaint).unwrap();
+    let fronts = (0..repaint.len()).map(|len| AnswerHead::read(&repaint[..len]));
+    let (heads, cut): (Vec<_>, Vec<_>) = fronts.partition(Result::is_ok);
+    assert!(!heads.is_empty() && heads.iter().all(|read| *read == Ok(head)));
+    assert!(!cut.is_empty() && cut.iter().all(|read| *read == Err(Error::Truncated)));
+
+    let ask = client.ask().unwrap();
+    let wrong: [&[u8]; 4] = [
+        ask.as_bytes(),
+        &[0x87, 1],
+        &[0x87, 2, 0],
+        &[0x87, 2, 1, 4, 3, 5, 4],
+    ];
+    for bytes in wrong {
+        assert_eq!(AnswerHead::read(bytes), Err(Error::Unreadable));
+    }
 }
 
 #[test]

@@ -7,6 +7,7 @@ pub mod Fields
 pub mod Following
 pub mod Getting
 pub mod Handles
+pub mod Heads
 pub mod Held
 pub mod Kept
 pub mod Listing

@@ -73,7 +73,7 @@ impl From<WireError> for Failure {
     }
 }
 
-fn unread(kind: FaultKind) -> Failure
+pub(crate) fn unread(kind: FaultKind) -> Failure
     ensures { result ≡ unread_by kind }
 {
     match kind {

@@ -16,6 +16,7 @@ mod followers;
 mod following;
 mod getting;
 mod handle;
+mod heads;
 mod kept;
 mod listing;
 mod lists;

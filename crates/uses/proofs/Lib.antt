@@ -2,6 +2,7 @@ mod ClearedRow
 mod Followed
 mod HeadingRow
 mod MadeFully
+mod Passed
 mod RowsOfForm
 mod SameLists
 mod Served

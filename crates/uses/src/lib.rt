@@ -8,6 +8,7 @@ pub mod lines;
 pub mod mirror;
 pub mod one_by_one;
 pub mod own_widths;
+pub mod passing;
 pub mod patch;
 pub mod prompt;
 pub mod quiet;

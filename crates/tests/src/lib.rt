@@ -18,6 +18,8 @@ mod full_runs;
 #[cfg(test)]
 mod lines;
 #[cfg(test)]
+mod passed;
+#[cfg(test)]
 mod runs;
 #[cfg(test)]
 mod runs_of_text;

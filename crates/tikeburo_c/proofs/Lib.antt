@@ -5,6 +5,7 @@ pub mod Differing
 pub mod Filled
 pub mod Listed
 pub mod ReadBack
+pub mod RowNeeds
 pub mod RowParts
 pub mod ShownRow
 pub mod Since

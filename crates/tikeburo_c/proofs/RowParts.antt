@@ -1,15 +1,17 @@
 -- What a walk over a row's cells writes and counts.
-use Rattle.std.proofs.Common.{◌≡◌, ℕ, suc, ◌+◌, ◌-◌, ◌≤◌, true, false, cond, Option, Some, List, [], ◌∷◌, ◌++◌, length, take, drop, add-one, add-zero, refl, subst, sym, ap, ◌∙◌}
+use Rattle.std.proofs.Common.{◌≡◌, ℕ, suc, ◌+◌, ◌-◌, ◌≤◌, true, false, not, cond, arith, Option, Some, List, [], ◌∷◌, ◌++◌, length, take, drop, add-one, add-zero, refl, subst, sym, ap, ◌∙◌}
 use Rattle.std.proofs.lemmas.List.{take-append-drop}
 use Rattle.std.specs.Prelude.{set}
-use Rattle.termwiz_cell.specs.Attributes.{Attributes}
+use Rattle.termwiz_cell.specs.Attributes.{Attributes, attributes_eq-Decides}
+use Rattle.termwiz_cell.specs.CellValue.{CellValue, plain_cell}
 use Rattle.termwiz_storage.specs.CellTexts.{texts_of}
-use Rattle.termwiz_storage.specs.VisibleCell.{VisibleCell}
+use Rattle.termwiz_storage.specs.PlainCells.{IsPlainFirst}
+use Rattle.termwiz_storage.specs.VisibleCell.{VisibleCell, at_column}
 use Rattle.tikeburo_c.specs.Fields.{attribute_fields}
-use Rattle.tikeburo_c.specs.Rows.{at_front, begins, begun, cells_from, overwritten, row_cell, runs_of}
+use Rattle.tikeburo_c.specs.Rows.{begins, begun, cells_from, overwritten, row_cell, runs_of}
 use Rattle.tikeburo_c.specs.declared.fields.AttributeFields.{AttributeFields}
 use Rattle.tikeburo_c.specs.declared.row_parts.RowCellFields.{RowCellFields}
-use Rattle.tikeburo_c.proofs.Filled.{Fills, fills_last, fills_more, fills_room, set_overwrites}
+use Rattle.tikeburo_c.proofs.Filled.{Fills, fills_more, fills_room, set_overwrites}
 
 pub cells_count : (begin runs : ℕ) (before : Option Attributes) (ps : List VisibleCell) → length (cells_from begin runs before ps) ≡ length ps
 cells_count begin runs before [] = refl
@@ -71,13 +73,39 @@ module _ (left rest : List VisibleCell) (p : VisibleCell) (first : left ≡ p �
     pub texts_go_on : (new : List ℕ) → new ≡ overwritten end bytes now → Fills (end + length bytes) (texts_of rest) all old new
     texts_go_on new is = subst (Fills (end + length bytes) (texts_of rest) all old) (sym is) (fills_more end bytes (texts_of rest) all old now next_text room)
 
--- nothing is left
-module _ (left : List VisibleCell) (none : left ≡ []) where
-  pub runs_end : (runs : ℕ) (before : Option Attributes) (all old now : List AttributeFields) → Fills runs (runs_of before left) all old now → now ≡ at_front all old
-  runs_end runs before all old now f = fills_last runs all old now (subst (λ xs. Fills runs xs all old now) (ap (runs_of before) none) f)
+-- the cell itself has the attributes of the run
+begins_none : (a : Attributes) → begun (Some a) a ≡ []
+begins_none a = ap (λ b. cond (not b) (attribute_fields a ∷ []) []) ((attributes_eq-Decides a a).1 refl)
 
-  pub cells_end : (written end runs : ℕ) (before : Option Attributes) (all old now : List RowCellFields) → Fills written (cells_from end runs before left) all old now → now ≡ at_front all old
-  cells_end written end runs before all old now f = fills_last written all old now (subst (λ xs. Fills written xs all old now) (ap (cells_from end runs before) none) f)
+none_begins : (a : Attributes) (n : ℕ) → n ≡ n + length (begun (Some a) a)
+none_begins a n = sym (ap (λ (xs : List AttributeFields). n + length xs) (begins_none a) ∙ add-zero n)
 
-  pub texts_end : (end : ℕ) (all old now : List ℕ) → Fills end (texts_of left) all old now → now ≡ at_front all old
-  texts_end end all old now f = fills_last end all old now (subst (λ xs. Fills end xs all old now) (ap texts_of none) f)
+-- a plain cell of the run of a cell with these attributes
+pub plain_field : (begin run n at byte : ℕ) (c : CellValue) (a : Attributes) (x y : RowCellFields) → x ≡ row_cell begin run c → run ≡ n - 1 → a ≡ c.attrs → y ≡ record x { begin = at; len = 1; columns = 1 } → y ≡ row_cell at (n - 1) (plain_cell byte a)
+plain_field begin run n at byte c a x y is is_run own made =
+    made ∙ ap (λ (f : RowCellFields). record f { begin = at; len = 1; columns = 1 }) is
+    ∙ ap (λ k. row_cell at k (plain_cell byte c.attrs)) is_run
+    ∙ ap (λ b. row_cell at (n - 1) (plain_cell byte b)) (sym own)
+
+-- one plain cell on, in a run of these attributes
+module _ (a : Attributes) (left rest : List VisibleCell) (byte : ℕ) (plain : IsPlainFirst a left byte rest) where
+  abbrev cell : VisibleCell
+  cell = at_column plain.column (plain_cell byte a)
+
+  pub plain_run : (runs : ℕ) (all old now : List AttributeFields) → Fills runs (runs_of (Some a) left) all old now → Fills runs (runs_of (Some a) rest) all old now
+  plain_run runs all old now f = subst (λ xs. Fills runs xs all old now) (ap (runs_of (Some a)) plain.first ∙ ap (λ xs. xs ++ runs_of (Some a) rest) (begins_none a)) f
+
+  module _ (written count end runs : ℕ) (all old now : List RowCellFields) (room : length all ≤ length old) (f : Fills (written + count) (cells_from (end + count) runs (Some a) left) all old now) where
+    pub plain_cell_goes_on : (x : RowCellFields) (new : List RowCellFields) → x ≡ row_cell (end + count) (runs - 1) (plain_cell byte a) → new ≡ set now (written + count) x → Fills (written + (count + 1)) (cells_from (end + (count + 1)) runs (Some a) rest) all old new
+    plain_cell_goes_on x new is new_is =
+        let next : end + count + 1 ≡ end + (count + 1) = omega arith in
+        subst (λ k. Fills (written + (count + 1)) (cells_from k runs (Some a) rest) all old new) next
+        (cells_go_on left rest cell plain.first a refl (written + count) (end + count) runs (Some a) all old now room f runs (none_begins a runs) (byte ∷ []) x (written + (count + 1)) new refl is (omega arith) new_is)
+
+  module _ (end count : ℕ) (all old now : List ℕ) (room : length all ≤ length old) (f : Fills (end + count) (texts_of left) all old now) where
+    pub plain_text_goes_on : (new : List ℕ) → new ≡ set now (end + count) byte → Fills (end + (count + 1)) (texts_of rest) all old new
+    plain_text_goes_on new is =
+        let fits : suc (end + count) ≤ length now = subst (λ m. m ≤ length now) (add-one (end + count)) (text_fits left rest cell plain.first a refl (end + count) (byte ∷ []) refl all old now room f) in
+        let next : end + count + 1 ≡ end + (count + 1) = omega arith in
+        subst (λ k. Fills k (texts_of rest) all old new) next
+        (texts_go_on left rest cell plain.first a refl (end + count) (byte ∷ []) refl all old now room f new (is ∙ set_overwrites (end + count) byte now fits))

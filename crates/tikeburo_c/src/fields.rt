@@ -1,6 +1,6 @@
 //! Colours, attributes and cells, as the structs that C has of them.
 ghost use Rattle.std.specs.Prelude.{◌≡◌, ◌⊎◌, IfErr, IfOk, None, Some};
-ghost use Rattle.termwiz_cell.specs.Attributes.{Attributes};
+ghost use Rattle.termwiz_cell.specs.Attributes.{Attributes, default_attributes};
 ghost use Rattle.tikeburo_c.specs.declared.failure.Failure.TheVariants.{Memory, Range};
 ghost use Rattle.tikeburo_c.specs.Fields as specs_of;
 
@@ -98,10 +98,44 @@ pub(crate) fn color_in(fields: &ColorFields) -> Option<ColorAttribute>
     }
 }
 
-/// The fields of attributes.
+/// The fields of default attributes.
+pub(crate) fn blank_fields() -> AttributeFields
+    ensures { result ≡ specs_of.attribute_fields default_attributes }
+{
+    let color = color_fields(ColorAttribute::Default);
+    AttributeFields {
+        intensity: 0,
+        underline: 0,
+        blink: 0,
+        semantic_type: 0,
+        vertical_align: 0,
+        italic: false,
+        reverse: false,
+        strikethrough: false,
+        invisible: false,
+        wrapped: false,
+        overline: false,
+        foreground: color,
+        background: color,
+        underline_color: color,
+    }
+}
+
+/// The fields of attributes. Mostly all but the colours are default, which is seen at once.
 pub(crate) fn attribute_fields(attrs: &CellAttributes) -> AttributeFields
     ensures { result ≡ specs_of.attribute_fields attrs.now }
 {
+    let foreground = color_fields(attrs.foreground());
+    let background = color_fields(attrs.background());
+    let underline_color = color_fields(attrs.underline_color());
+    if attrs.attribute_bits_equal(&CellAttributes::blank()) {
+        return AttributeFields {
+            foreground,
+            background,
+            underline_color,
+            ..blank_fields()
+        };
+    }
     AttributeFields {
         intensity: attrs.intensity().number(),
         underline: attrs.underline().number(),
@@ -114,9 +148,9 @@ pub(crate) fn attribute_fields(attrs: &CellAttributes) -> AttributeFields
         invisible: attrs.invisible(),
         wrapped: attrs.wrapped(),
         overline: attrs.overline(),
-        foreground: color_fields(attrs.foreground()),
-        background: color_fields(attrs.background()),
-        underline_color: color_fields(attrs.underline_color()),
+        foreground,
+        background,
+        underline_color,
     }
 }
 

@@ -5,7 +5,7 @@ ghost use Rattle.tikeburo_c.specs.Cells.{uri_of};
 ghost use Rattle.tikeburo_c.specs.Listing as listing;
 ghost use Rattle.tikeburo_c.specs.Listing.{IsListOf, IsListable, IsPlace};
 
-use crate::fields::{AttributeFields, attribute_fields, color_fields};
+use crate::fields::{AttributeFields, attribute_fields, blank_fields, color_fields};
 use crate::lists::ChangeFields;
 use std::alloc::{AllocError, Global};
 use termwiz_surface::{
@@ -15,7 +15,7 @@ use termwiz_surface::{
 fn plain() -> AttributeFields
     ensures { result ≡ listing.plain }
 {
-    attribute_fields(&CellAttributes::blank())
+    blank_fields()
 }
 
 fn of_numbers(kind: u8, first: usize, second: usize, third: usize) -> ChangeFields

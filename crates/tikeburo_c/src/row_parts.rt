@@ -1,13 +1,15 @@
 //! What is read of a row at once.
-ghost use Rattle.std.specs.Prelude.{◌≡◌, ◌≤◌, ◌<◌, ◌+◌, ◌^◌, IfSome, length, slice_set};
+ghost use Rattle.std.specs.Prelude.{◌≡◌, ◌≤◌, ◌<◌, ◌+◌, ◌^◌, ◌++◌, IfSome, IsTrue, length};
+ghost use Rattle.std.specs.Prelude.{slice_set};
 ghost use Rattle.std.specs.Option.{option_copied};
-ghost use Rattle.termwiz_storage.specs.{IsOfCell, ref_cell};
+ghost use Rattle.termwiz_storage.specs.{IsOfCell, ref_cell, visible};
+ghost use Rattle.termwiz_storage.specs.CellTexts.{cell_texts};
 ghost use Rattle.tikeburo_c.specs.Rows as rows;
-ghost use Rattle.tikeburo_c.specs.Rows.{at_front, counts_of, overwritten, row_value};
+ghost use Rattle.tikeburo_c.specs.Rows.{at_front, blanks_at, counts_of, overwritten, row_value};
 
 use crate::fields::{AttributeFields, attribute_fields};
 use crate::shown_cells::ShownCells;
-use termwiz_cell::cell::CellAttributes;
+use termwiz_cell::cell::{Cell, CellAttributes};
 use termwiz_storage::line::cellref::CellRef;
 
 /// A visible cell of a row: where its text begins in the row's text, how long that is, and which
@@ -42,6 +44,19 @@ fn row_cell(cell: &CellRef<'_>, begin: usize, run: usize) -> RowCellFields
         run,
         columns: cell.width() as u8,
         has_link: cell.attrs().hyperlink().is_some(),
+    }
+}
+
+// A cell of one column and one byte, in the run of this one.
+#[inline(always)]
+fn plain_cell(first: RowCellFields, begin: usize) -> RowCellFields
+    ensures { result ≡ record first { begin = begin; len = 1; columns = 1 } }
+{
+    RowCellFields {
+        begin,
+        len: 1,
+        columns: 1,
+        ..first
     }
 }
 
@@ -131,33 +146,93 @@ fn put_cell(cell: RowCellFields, at: usize, room: &mut [RowCellFields]) -> usize
     at + 1
 }
 
-// Writes what these cells have to the fronts of arrays that have room for it.
+/// Writes what these cells have to the fronts of arrays that have room for it, and returns how much
+/// that is.
 pub(crate) fn write_parts(
     cells: ShownCells<'_>,
     row_cells: &mut [RowCellFields],
     attributes: &mut [AttributeFields],
     text: &mut [u8],
-)
+) -> RowCounts
     requires cells { length (row_value cells).cells ≤ length row_cells.old }
     requires attributes { length (row_value cells).attributes ≤ length attributes.old }
     requires text { length (row_value cells).text ≤ length text.old }
+    ensures counts { result ≡ counts_of (row_value cells.entry) }
     ensures cells { row_cells.new ≡ at_front (row_value cells.entry).cells row_cells.old }
     ensures attributes { attributes.new
         ≡ at_front (row_value cells.entry).attributes attributes.old }
     ensures text { text.new ≡ at_front (row_value cells.entry).text text.old }
 {
+    let mut cells = cells;
     let mut written = 0;
     let mut runs = 0;
     let mut end = 0;
     let mut before = None;
-    for cell in cells {
+    while let Some(cell) = cells.next() {
         let attrs = cell.attrs();
         runs = put_run(before, attrs, runs, attributes);
-        let row_cell = row_cell(&cell, end, runs.saturating_sub(1));
-        written = put_cell(row_cell, written, row_cells);
+        let first = row_cell(&cell, end, runs.saturating_sub(1));
+        written = put_cell(first, written, row_cells);
         let bytes = cell.str().as_bytes();
         put_bytes(bytes, end, text);
         end += bytes.len();
+        // Of the plain cells behind it in the same run only the bytes are read.
+        let mut plain = 0;
+        while let Some(byte) = cells.next_plain(attrs) {
+            row_cells[written + plain] = plain_cell(first, end + plain);
+            text[end + plain] = byte;
+            plain += 1;
+        }
+        written += plain;
+        end += plain;
         before = Some(attrs);
     }
+    RowCounts {
+        cells: written,
+        attributes: runs,
+        text: end,
+    }
+}
+
+// Whether an array of this length has room for the texts of these cells, visible or not.
+fn texts_fit(cells: &[Cell], room: usize) -> bool
+    ensures { IsTrue result → length (cell_texts cells.now) ≤ room }
+{
+    let mut left = room;
+    for cell in cells {
+        let len = cell.str().len();
+        if left < len {
+            return false;
+        }
+        left -= len;
+    }
+    true
+}
+
+/// Whether arrays of these lengths have room for all that these stored cells and so many blank ones
+/// behind them may need. Where they lack it, the row itself may still have room there.
+#[tactic(auto, using(crate::proofs::RowNeeds::needs_cells, crate::proofs::RowNeeds::needs_attributes, crate::proofs::RowNeeds::needs_text))]
+pub(crate) fn have_room(
+    stored: &[Cell],
+    blanks: usize,
+    cells: usize,
+    attributes: usize,
+    text: usize,
+) -> bool
+    requires { length stored.now + blanks < 2 ^ 64 }
+    ensures cells { IsTrue result →
+        length (row_value (visible stored.now ++ blanks_at (length stored.now) blanks)).cells
+        ≤ cells }
+    ensures attributes { IsTrue result →
+        length (row_value (visible stored.now ++ blanks_at (length stored.now) blanks)).attributes
+        ≤ attributes }
+    ensures text { IsTrue result →
+        length (row_value (visible stored.now ++ blanks_at (length stored.now) blanks)).text
+        ≤ text }
+{
+    let most = stored.len() + blanks;
+    if cells < most || (attributes < most || text < blanks) {
+        return false;
+    }
+    texts_fit(stored, text - blanks)
 }

@@ -15,7 +15,7 @@ ghost use Rattle.tikeburo_c.specs.declared.failure.Failure.TheVariants.{Range};
 use crate::failure::{Failure, status};
 use crate::fields::AttributeFields;
 use crate::handle::Handle;
-use crate::row_parts::{RowCellFields, RowCounts, count_parts, write_parts};
+use crate::row_parts::{RowCellFields, RowCounts, count_parts, have_room, write_parts};
 use crate::shown_cells::ShownCells;
 use crate::widths::ChosenWidths;
 use std::alloc::Global;
@@ -43,13 +43,13 @@ fn give_counted(
         (rows.row_place cells.old attributes.old text.old counts.old) result
         (rows.row_place cells.new attributes.new text.new counts.new) }
 {
-    *counts = needed;
     if needed.cells > cells.len()
         || (needed.attributes > attributes.len() || needed.text > text.len())
     {
+        *counts = needed;
         return Err(Failure::Short);
     }
-    write_parts(shown, cells, attributes, text);
+    *counts = write_parts(shown, cells, attributes, text);
     Ok(())
 }
 
@@ -70,6 +70,11 @@ fn give_parts(
         (rows.row_place cells.new attributes.new text.new counts.new) }
 {
     let blank = Cell::blank();
+    if have_room(stored, blanks, cells.len(), attributes.len(), text.len()) {
+        let shown = ShownCells::new(stored, blanks, &blank);
+        *counts = write_parts(shown, cells, attributes, text);
+        return Ok(());
+    }
     let Some(needed) = count_parts(ShownCells::new(stored, blanks, &blank)) else {
         return Err(Failure::Memory);
     };

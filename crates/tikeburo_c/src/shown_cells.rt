@@ -1,11 +1,11 @@
 //! The visible cells of a row, with blank ones behind those that are stored.
-ghost use Rattle.std.specs.Prelude.{◌≡◌, ◌+◌, ◌<◌, ◌^◌, ◌++◌, length};
+ghost use Rattle.std.specs.Prelude.{◌≡◌, ◌+◌, ◌<◌, ◌^◌, ◌++◌, MatchOption, length};
 ghost use Rattle.termwiz_cell.specs.CellValue as cell_value;
-ghost use Rattle.termwiz_storage.specs.{YieldsCell, item_count, visible};
+ghost use Rattle.termwiz_storage.specs.{IsPlainFirst, YieldsCell, item_count, visible};
 ghost use Rattle.tikeburo_c.specs.Rows.{blanks_at};
 
 use std::marker::Model;
-use termwiz_cell::cell::Cell;
+use termwiz_cell::cell::{Cell, CellAttributes};
 use termwiz_storage::line::cellref::CellRef;
 use termwiz_storage::line::vecstorage::VecStorageIter;
 
@@ -45,6 +45,16 @@ impl<'a> ShownCells<'a> {
             blanks,
             blank,
         }
+    }
+
+    /// The character of the next cell, where that is stored, and is one character of printable
+    /// ASCII, of one column, with these attributes. Otherwise returns `None`, and is unchanged.
+    #[inline(always)]
+    pub(crate) fn next_plain(&mut self, attrs: &CellAttributes) -> Option<u8>
+        ensures { MatchOption result (self.new ≡ self.old)
+            (λ byte. IsPlainFirst attrs.now self.old byte self.new) }
+    {
+        self.stored.next_plain(attrs)
     }
 }
 

@@ -1,6 +1,8 @@
 //! Colours, attributes and cells, as the structs that C has of them.
-ghost use Rattle.std.specs.Prelude.{◌≡◌, ◌⊎◌, IfErr, IfOk, None, Some};
-ghost use Rattle.termwiz_cell.specs.Attributes.{Attributes, default_attributes};
+ghost use Rattle.std.specs.Prelude.{◌≡◌, ◌⊎◌, IfErr, IfOk, IsTrue, None, OnOk, Some, option_map};
+ghost use Rattle.termwiz_cell.specs.Attributes.{Attributes, default_attributes, without_colors};
+ghost use Rattle.termwiz_cell.specs.declared.color.ColorAttribute.TheVariants.{Default};
+ghost use Rattle.tikeburo_c.specs.Numbers.{intensity_in};
 ghost use Rattle.tikeburo_c.specs.declared.failure.Failure.TheVariants.{Memory, Range};
 ghost use Rattle.tikeburo_c.specs.Fields as specs_of;
 
@@ -176,11 +178,51 @@ pub(crate) fn in_range<T: Drop>(value: Option<T>) -> Result<T, Failure>
     }
 }
 
-// The attributes of this struct that are no colours.
+// Whether all attributes of this struct but the colours and the intensity are default.
+#[inline(always)]
+fn is_plain(fields: &AttributeFields) -> bool
+    ensures { IsTrue result → specs_of.styles_in fields.now
+        ≡ option_map (λ i. record default_attributes { intensity = i })
+        (intensity_in fields.now.intensity) }
+{
+    if fields.underline != 0
+        || fields.blink != 0
+        || fields.semantic_type != 0
+        || fields.vertical_align != 0
+    {
+        return false;
+    }
+    if fields.italic || fields.reverse || fields.strikethrough {
+        return false;
+    }
+    if fields.invisible || fields.wrapped || fields.overline {
+        return false;
+    }
+    true
+}
+
+// The attributes of this struct that are no colours. Mostly they are plain, which is seen at once.
+#[inline(always)]
 fn styled(fields: &AttributeFields) -> Result<CellAttributes, Failure>
     ensures found { IfOk result (λ attrs. specs_of.styles_in fields.now ≡ Some attrs) }
     ensures missing { IfErr result (λ failure.
         (failure ≡ Range) × (specs_of.styles_in fields.now ≡ None)) }
+    ensures colors { IfOk result (λ attrs. attrs ≡ without_colors attrs) }
+{
+    if is_plain(fields) {
+        let mut attrs = CellAttributes::blank();
+        attrs.set_intensity(Intensity::try_from(fields.intensity)?);
+        return Ok(attrs);
+    }
+    styled_by_each(fields)
+}
+
+#[inline(never)]
+fn styled_by_each(fields: &AttributeFields) -> Result<CellAttributes, Failure>
+    ensures found { IfOk result (λ attrs. specs_of.styles_in fields.now ≡ Some attrs) }
+    ensures missing { IfErr result (λ failure.
+        (failure ≡ Range) × (specs_of.styles_in fields.now ≡ None)) }
+    ensures colors { IfOk result (λ attrs. attrs ≡ without_colors attrs) }
 {
     let intensity = Intensity::try_from(fields.intensity)?;
     let underline = Underline::try_from(fields.underline)?;
@@ -202,6 +244,69 @@ fn styled(fields: &AttributeFields) -> Result<CellAttributes, Failure>
     Ok(attrs)
 }
 
+// Sets the colour of the text, which is default, to the colour of this struct.
+#[inline(always)]
+fn put_foreground(
+    alloc: Global,
+    attrs: &mut CellAttributes,
+    fields: &ColorFields,
+) -> Result<(), Failure>
+    requires { attrs.old.foreground ≡ Default }
+    ensures found { OnOk result (specs_of.color_in fields.now ≡ Some attrs.new.foreground) }
+    ensures others { OnOk result (
+        attrs.new ≡ record attrs.old { foreground = attrs.new.foreground }) }
+    ensures missing { IfErr result (λ failure. (failure ≡ Memory)
+        ⊎ ((failure ≡ Range) × (specs_of.color_in fields.now ≡ None))) }
+{
+    if fields.kind == 0 {
+        return Ok(());
+    }
+    attrs.change_foreground(alloc, in_range(color_in(fields))?)?;
+    Ok(())
+}
+
+// Sets the background, which is default, to the colour of this struct.
+#[inline(always)]
+fn put_background(
+    alloc: Global,
+    attrs: &mut CellAttributes,
+    fields: &ColorFields,
+) -> Result<(), Failure>
+    requires { attrs.old.background ≡ Default }
+    ensures found { OnOk result (specs_of.color_in fields.now ≡ Some attrs.new.background) }
+    ensures others { OnOk result (
+        attrs.new ≡ record attrs.old { background = attrs.new.background }) }
+    ensures missing { IfErr result (λ failure. (failure ≡ Memory)
+        ⊎ ((failure ≡ Range) × (specs_of.color_in fields.now ≡ None))) }
+{
+    if fields.kind == 0 {
+        return Ok(());
+    }
+    attrs.change_background(alloc, in_range(color_in(fields))?)?;
+    Ok(())
+}
+
+// Sets the colour of the underline, which is default, to the colour of this struct.
+#[inline(always)]
+fn put_underline_color(
+    alloc: Global,
+    attrs: &mut CellAttributes,
+    fields: &ColorFields,
+) -> Result<(), Failure>
+    requires { attrs.old.underline_color ≡ Default }
+    ensures found { OnOk result (specs_of.color_in fields.now ≡ Some attrs.new.underline_color) }
+    ensures others { OnOk result (
+        attrs.new ≡ record attrs.old { underline_color = attrs.new.underline_color }) }
+    ensures missing { IfErr result (λ failure. (failure ≡ Memory)
+        ⊎ ((failure ≡ Range) × (specs_of.color_in fields.now ≡ None))) }
+{
+    if fields.kind == 0 {
+        return Ok(());
+    }
+    attrs.change_underline_color(alloc, in_range(color_in(fields))?)?;
+    Ok(())
+}
+
 /// The attributes of this struct, if each of them is in its range.
 pub(crate) fn attributes_in(
     alloc: Global,
@@ -212,11 +317,8 @@ pub(crate) fn attributes_in(
         ⊎ ((failure ≡ Range) × (specs_of.attributes_in fields.now ≡ None))) }
 {
     let mut attrs = styled(fields)?;
-    let foreground = in_range(color_in(&fields.foreground))?;
-    let background = in_range(color_in(&fields.background))?;
-    let underline_color = in_range(color_in(&fields.underline_color))?;
-    attrs.change_foreground(alloc, foreground)?;
-    attrs.change_background(alloc, background)?;
-    attrs.change_underline_color(alloc, underline_color)?;
+    put_foreground(alloc, &mut attrs, &fields.foreground)?;
+    put_background(alloc, &mut attrs, &fields.background)?;
+    put_underline_color(alloc, &mut attrs, &fields.underline_color)?;
     Ok(attrs)
 }

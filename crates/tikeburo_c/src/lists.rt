@@ -130,18 +130,32 @@ fn link_to(alloc: Global, uri: &str) -> Result<Rc<Hyperlink>, Failure>
     Ok(Rc::new(alloc, Hyperlink::new(alloc, uri))?)
 }
 
-// A pen, with a link to this uri unless it is empty.
-fn pen_in(alloc: Global, fields: &AttributeFields, uri: &[u8]) -> Result<CellAttributes, Failure>
+// These attributes with a link to this uri.
+fn linked(alloc: Global, attrs: CellAttributes, uri: &str) -> Result<CellAttributes, Failure>
+    ensures found { IfOk result (λ pen.
+        pen ≡ record attrs { hyperlink = Some (listed.link_to uri.now) }) }
+    ensures missing { IfErr result (λ failure. failure ≡ Memory) }
+{
+    let mut attrs = attrs;
+    attrs.change_hyperlink(alloc, Some(link_to(alloc, uri)?))?;
+    Ok(attrs)
+}
+
+/// A pen, with a link to this uri unless it is empty.
+pub(crate) fn pen_in(
+    alloc: Global,
+    fields: &AttributeFields,
+    uri: &[u8],
+) -> Result<CellAttributes, Failure>
     ensures found { IfOk result (λ pen. listed.pen_in fields.now uri.now ≡ Ok pen) }
     ensures missing { IfErr result (λ failure. (failure ≡ Memory)
         ⊎ (listed.pen_in fields.now uri.now ≡ Err failure)) }
 {
-    let mut pen = attributes_in(alloc, fields)?;
-    let uri = text_in(uri)?;
-    if !uri.is_empty() {
-        pen.change_hyperlink(alloc, Some(link_to(alloc, uri)?))?;
+    let pen = attributes_in(alloc, fields)?;
+    if uri.is_empty() {
+        return Ok(pen);
     }
-    Ok(pen)
+    linked(alloc, pen, text_in(uri)?)
 }
 
 fn color_of(fields: &ColorFields) -> Result<ColorAttribute, Failure>
@@ -256,6 +270,26 @@ pub(crate) fn change_in(
     }
 }
 
+// The change that `change_in` returns: a text or a pen without that call, since most are one.
+#[inline(always)]
+fn usual_in(
+    alloc: Global,
+    kind: Kind,
+    fields: &ChangeFields,
+    text: &[u8],
+) -> Result<Change, Failure>
+    ensures found { IfOk result (λ change.
+        listed.change_in kind fields.now text.now ≡ Ok (change_value change)) }
+    ensures missing { IfErr result (λ failure. (failure ≡ Memory)
+        ⊎ (listed.change_in kind fields.now text.now ≡ Err failure)) }
+{
+    match kind {
+        Kind::Text => Ok(Change::text_from(alloc, text_in(text)?)?),
+        Kind::Pen => Ok(Change::AllAttributes(pen_in(alloc, &fields.attributes, text)?)),
+        _ => change_in(alloc, kind, fields, text),
+    }
+}
+
 // The first change of a list, and the texts of the others.
 fn first_in<'a>(
     alloc: Global,
@@ -273,7 +307,7 @@ fn first_in<'a>(
         return Err(Failure::Range);
     }
     let (text, others) = texts.split_at(len);
-    let change = change_in(alloc, kind, fields, text)?;
+    let change = usual_in(alloc, kind, fields, text)?;
     Ok((change, others))
 }
 

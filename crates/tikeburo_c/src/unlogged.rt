@@ -12,11 +12,11 @@ use crate::access::on_surface;
 use crate::changes::add_list_unlogged;
 use crate::failure::{Failure, status};
 use crate::handle::Handle;
-use crate::lists::{ChangeFields, Kind, change_in, kind_in, text_in, text_len};
+use crate::lists::{ChangeFields, Kind, change_in, kind_in, pen_in, text_in, text_len};
 use crate::widths::ChosenWidths;
 use std::alloc::Global;
 use termwiz_share::Source;
-use termwiz_surface::LentChange;
+use termwiz_surface::{Change, LentChange};
 
 // A change that borrows the text that it prints or the title that it sets.
 fn lent_in<'a>(
@@ -33,6 +33,10 @@ fn lent_in<'a>(
     match kind {
         Kind::Text => Ok(LentChange::Text(text_in(text)?)),
         Kind::Title => Ok(LentChange::Title(text_in(text)?)),
+        Kind::Pen => {
+            let pen = pen_in(alloc, &fields.attributes, text)?;
+            Ok(LentChange::Owned(Change::AllAttributes(pen)))
+        }
         _ => Ok(LentChange::Owned(change_in(alloc, kind, fields, text)?)),
     }
 }

@@ -107,6 +107,7 @@ pub enum VerticalAlign {
 /// assert!(!heading.italic);
 /// ```
 #[derive(Clone, PartialEq, Eq, Hash, Debug, Default)]
+#[repr(C)] // as the library has them, so that most are copied at once
 pub struct Attributes {
     /// How bold it is.
     pub intensity: Intensity,
@@ -165,8 +166,10 @@ impl Attributes {
 
 /// The attributes as the library reads them, without their link.
 impl From<&Attributes> for tk_attributes {
+    // Apart, so that callers get the fields as they lie in memory, and not one by one.
+    #[inline(never)]
     fn from(attributes: &Attributes) -> tk_attributes {
-        tk_attributes {
+        let mut fields = tk_attributes {
             intensity: attributes.intensity as u8,
             underline: attributes.underline as u8,
             blink: attributes.blink as u8,
@@ -178,10 +181,12 @@ impl From<&Attributes> for tk_attributes {
             invisible: attributes.invisible,
             wrapped: attributes.wrapped,
             overline: attributes.overline,
-            foreground: attributes.foreground.into(),
-            background: attributes.background.into(),
-            underline_color: attributes.underline_color.into(),
-        }
+            ..tk_attributes::default()
+        };
+        fields.foreground.choose(attributes.foreground);
+        fields.background.choose(attributes.background);
+        fields.underline_color.choose(attributes.underline_color);
+        fields
     }
 }
 

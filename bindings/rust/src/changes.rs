@@ -5,7 +5,7 @@ use crate::change::{Change, CursorShape, CursorVisibility, LineAttribute, Positi
 use crate::color::ColorAttribute;
 use crate::error::Error;
 use crate::ffi::{self, tk_attributes, tk_change, tk_list_counts};
-use std::{fmt, mem};
+use std::fmt;
 
 /// A list of changes that is made in place: each call appends one, and
 /// [`Surface::add`](crate::Surface::add) makes them in order.
@@ -40,11 +40,11 @@ pub struct Changes {
     pen: Option<Pen>,
 }
 
-/// A pen, and its fields for the library.
+/// A pen, as its fields for the library and its link.
 #[derive(Clone)]
 struct Pen {
-    is: Attributes,
     fields: tk_attributes,
+    hyperlink: Option<Hyperlink>,
 }
 
 impl Changes {
@@ -176,8 +176,8 @@ impl Changes {
     /// [`Changes::link`] gives one.
     pub fn pen(&mut self, attributes: &Attributes) -> &mut Changes {
         let fields = attributes.into();
-        let is = attributes.clone();
-        self.pen = Some(Pen { is, fields });
+        let hyperlink = attributes.hyperlink.clone();
+        self.pen = Some(Pen { fields, hyperlink });
         let uri = attributes.hyperlink.as_ref().map_or("", Hyperlink::uri);
         self.texts.push_str(uri);
         self.item(tk_change {
@@ -203,36 +203,28 @@ impl Changes {
     /// assert_eq!(changes.len(), 3 + 1 + 3);
     /// ```
     pub fn use_pen(&mut self, attributes: &Attributes) -> &mut Changes {
-        let Attributes {
-            foreground,
-            intensity,
-            ..
-        } = *attributes;
-        let Some(Pen { is, fields }) = &mut self.pen else {
+        let Some(pen) = &mut self.pen else {
             return self.pen(attributes);
         };
-        let has_foreground = mem::replace(&mut is.foreground, foreground) == foreground;
-        let has_intensity = mem::replace(&mut is.intensity, intensity) == intensity;
-        if is != attributes {
+        if pen.hyperlink != attributes.hyperlink {
             return self.pen(attributes);
         }
-        let mut one = tk_attributes::default();
-        if !has_foreground {
-            one.foreground = foreground.into();
-            fields.foreground = one.foreground;
-        }
-        if !has_intensity {
-            one.intensity = intensity as u8;
-            fields.intensity = one.intensity;
-        }
-        let all = *fields;
-        match (has_foreground, has_intensity) {
-            (true, true) => self,
-            (false, true) => self.with_attributes(ffi::CHANGE_FOREGROUND, one),
-            (true, false) => self.with_attributes(ffi::CHANGE_INTENSITY, one),
-            _ if attributes.hyperlink.is_some() => self.pen(attributes),
-            _ => self.with_attributes(ffi::CHANGE_PEN, all),
-        }
+        let fields = tk_attributes::from(attributes);
+        let old = &pen.fields;
+        let (foreground, intensity) = (fields.foreground, fields.intensity);
+        let kind = match (foreground == old.foreground, intensity == old.intensity) {
+            (true, true) if fields == *old => return self,
+            (false, true) if fields == (tk_attributes { foreground, ..*old }) => {
+                ffi::CHANGE_FOREGROUND
+            }
+            (true, false) if fields == (tk_attributes { intensity, ..*old }) => {
+                ffi::CHANGE_INTENSITY
+            }
+            _ if pen.hyperlink.is_some() => return self.pen(attributes),
+            _ => ffi::CHANGE_PEN,
+        };
+        pen.fields = fields;
+        self.with_attributes(kind, fields)
     }
 
     /// Sets one attribute of the pen.
@@ -456,8 +448,8 @@ impl Changes {
             background: background.into(),
             ..tk_attributes::default()
         };
-        let is = blank(background);
-        self.with_attributes(kind, fields).pen = Some(Pen { is, fields });
+        let hyperlink = None;
+        self.with_attributes(kind, fields).pen = Some(Pen { fields, hyperlink });
         self
     }
 

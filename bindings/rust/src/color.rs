@@ -72,6 +72,16 @@ impl From<ColorAttribute> for tk_color {
     }
 }
 
+impl tk_color {
+    /// Becomes this colour. It has to be the default one.
+    #[inline]
+    pub(crate) fn choose(&mut self, color: ColorAttribute) {
+        if !matches!(color, ColorAttribute::Default) {
+            *self = chosen(color);
+        }
+    }
+}
+
 /// The fields of a colour that isn't the default one. Apart, so that the usual one takes few steps.
 #[inline(never)]
 fn chosen(color: ColorAttribute) -> tk_color {

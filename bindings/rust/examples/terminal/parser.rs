@@ -6,9 +6,11 @@ use tikeburo::Error;
 const LONGEST_SEQUENCE: usize = 4096; // bytes or numbers; what goes on behind them is left out
 const LARGEST_NUMBER: u32 = u16::MAX as u32;
 
+pub const LINE_END: &str = "\r\n";
+
 /// A part of what a program writes.
 pub enum Token<'a> {
-    /// A text without control characters.
+    /// A text without control characters, but that it may begin with a line end.
     Text(&'a str),
     Control(u8),
     /// `ESC` and this byte.
@@ -125,7 +127,10 @@ impl Parser {
                     self.begin(State::Csi);
                     2
                 }
-                State::Text if !first.is_ascii_control() => self.run(text, at, take)?,
+                State::Text if !first.is_ascii_control() => self.run(text, at, 0, take)?,
+                State::Text if rest.starts_with(LINE_END.as_bytes()) => {
+                    self.run(text, at, LINE_END.len(), take)?
+                }
                 State::Csi => self.csi(rest, take)?,
                 _ => {
                     self.byte(*first, take)?;
@@ -136,9 +141,16 @@ impl Parser {
         Ok(())
     }
 
-    /// Takes the text from this byte on, and returns its length.
-    fn run(&mut self, text: &str, begin: usize, take: &mut impl Take) -> Result<usize, Error> {
-        let length = text_length(&text.as_bytes()[begin..]);
+    /// Takes the text from this byte on, which begins with so many bytes of a line end, and returns
+    /// its length.
+    fn run(
+        &mut self,
+        text: &str,
+        begin: usize,
+        end: usize,
+        take: &mut impl Take,
+    ) -> Result<usize, Error> {
+        let length = end + text_length(&text.as_bytes()[begin + end..]);
         match text.get(begin..begin + length) {
             Some(run) => take(Token::Text(run)).map(|()| length),
             // A sequence has the bytes before it.

@@ -1,6 +1,6 @@
 //! A terminal: texts and escape sequences become changes of a surface.
 
-use super::parser::{Params, Parser, Token};
+use super::parser::{Params, Parser, Token, LINE_END};
 use std::mem;
 use std::ops::Range;
 use tikeburo::{graphemes, Attributes, Changes, ColorAttribute, CursorVisibility};
@@ -88,22 +88,23 @@ impl Terminal {
         Ok(())
     }
 
-    /// Prints a text without control characters. What has no room goes to the next row.
+    /// Prints a text, which may begin with a line end. Where the surface goes to the next row as the
+    /// terminal does, both are one text.
     fn print(&mut self, text: &str) -> Result<(), Error> {
-        let end = self.cursor.x + text.len(); // or less, where a character has many bytes
-        if !text.is_ascii() {
-            return if end <= self.width && !text.contains(char::is_control) {
-                self.put_text(text)
-            } else {
-                self.print_cut(text)
-            };
-        }
-        let goes_on = self.region.len() == self.height && self.is_plain();
-        if text.is_empty() || end > self.width && !goes_on {
-            return self.print_cut(text);
+        let line = text.strip_prefix(LINE_END);
+        if !self.rows_are_plain() || line == Some("") || !text.is_ascii() {
+            if line.is_some() {
+                self.control(b'\r');
+                self.control(b'\n');
+            }
+            return self.print_line(line.unwrap_or(text));
         }
         self.put_cursor();
         self.changes.use_pen(&self.cursor.pen).append(text);
+        if line.is_some() {
+            self.go(0, self.cursor.y + 1);
+        }
+        let end = self.cursor.x + line.unwrap_or(text).len();
         self.cursor.x = end;
         if end > self.width {
             let row = self.cursor.y + (end - 1) / self.width;
@@ -111,6 +112,29 @@ impl Terminal {
             self.cursor.x = (end - 1) % self.width + 1;
         }
         self.place = (self.cursor.x, self.cursor.y);
+        Ok(())
+    }
+
+    /// Prints a text without control characters. What has no room goes to the next row.
+    fn print_line(&mut self, text: &str) -> Result<(), Error> {
+        let end = self.cursor.x + text.len(); // or less, where a character has many bytes
+        if text.is_empty() {
+            return Ok(());
+        }
+        if end > self.width {
+            return self.print_cut(text);
+        }
+        if !text.is_ascii() {
+            return if text.contains(char::is_control) {
+                self.print_cut(text)
+            } else {
+                self.put_text(text)
+            };
+        }
+        self.put_cursor();
+        self.changes.use_pen(&self.cursor.pen).append(text);
+        self.cursor.x = end;
+        self.place = (end, self.cursor.y);
         Ok(())
     }
 
@@ -149,6 +173,11 @@ impl Terminal {
     /// Whether rows that scroll in have the background of the pen by themselves.
     fn is_plain(&self) -> bool {
         self.cursor.pen.background == ColorAttribute::Default
+    }
+
+    /// Whether all rows scroll, and those that scroll in are as the pen has it.
+    fn rows_are_plain(&self) -> bool {
+        self.region.len() == self.height && self.is_plain()
     }
 
     fn go(&mut self, x: usize, y: usize) {
@@ -199,11 +228,11 @@ impl Terminal {
     /// lets the text go on.
     fn feed_line(&mut self) {
         let Cursor { x, y, .. } = self.cursor;
-        let goes_on = self.region.len() == self.height && self.is_plain() && x < self.width;
+        let goes_on = self.rows_are_plain() && x < self.width;
         if goes_on && self.place == (x, y) {
             self.changes.append("\n");
         } else if goes_on && x == 0 && self.place.1 == y {
-            self.changes.append("\r\n");
+            self.changes.append(LINE_END);
         } else if y + 1 == self.region.end {
             return self.scroll(self.region.clone(), 1, true);
         } else {

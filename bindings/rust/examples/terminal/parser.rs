@@ -1,5 +1,6 @@
 //! Cuts the bytes that a program writes into texts, control characters and escape sequences.
 
+use std::ops::Range;
 use std::{mem, str};
 use tikeburo::Error;
 
@@ -10,8 +11,9 @@ pub const LINE_END: &str = "\r\n";
 
 /// A part of what a program writes.
 pub enum Token<'a> {
-    /// A text without control characters, but that it may begin with a line end.
-    Text(&'a str),
+    /// A text without control characters, but that it may begin with a line end, and whether all of
+    /// it is ASCII.
+    Text(&'a str, bool),
     Control(u8),
     /// `ESC` and this byte.
     Escape(u8),
@@ -119,6 +121,7 @@ impl Parser {
     /// Takes characters: runs of a text, and what stands between.
     fn characters(&mut self, text: &str, take: &mut impl Take) -> Result<(), Error> {
         let bytes = text.as_bytes();
+        let is_ascii = bytes.is_ascii();
         let mut at = 0;
         while let Some(first) = bytes.get(at) {
             let rest = &bytes[at..];
@@ -127,9 +130,13 @@ impl Parser {
                     self.begin(State::Csi);
                     2
                 }
-                State::Text if !first.is_ascii_control() => self.run(text, at, 0, take)?,
+                State::Text if !first.is_ascii_control() => {
+                    let length = text_length(rest);
+                    self.run(text, at..at + length, is_ascii, take)?
+                }
                 State::Text if rest.starts_with(LINE_END.as_bytes()) => {
-                    self.run(text, at, LINE_END.len(), take)?
+                    let length = LINE_END.len() + text_length(&rest[LINE_END.len()..]);
+                    self.run(text, at..at + length, is_ascii, take)?
                 }
                 State::Csi => self.csi(rest, take)?,
                 _ => {
@@ -141,20 +148,19 @@ impl Parser {
         Ok(())
     }
 
-    /// Takes the text from this byte on, which begins with so many bytes of a line end, and returns
-    /// its length.
+    /// Takes a run of a text, and returns its length.
+    #[inline(always)]
     fn run(
         &mut self,
         text: &str,
-        begin: usize,
-        end: usize,
+        run: Range<usize>,
+        is_ascii: bool,
         take: &mut impl Take,
     ) -> Result<usize, Error> {
-        let length = end + text_length(&text.as_bytes()[begin + end..]);
-        match text.get(begin..begin + length) {
-            Some(run) => take(Token::Text(run)).map(|()| length),
+        match text.get(run) {
+            Some(run) => take(Token::Text(run, is_ascii || run.is_ascii())).map(|()| run.len()),
             // A sequence has the bytes before it.
-            None => take(Token::Text("\u{fffd}")).map(|()| 1),
+            None => take(Token::Text("\u{fffd}", false)).map(|()| 1),
         }
     }
 
@@ -223,10 +229,10 @@ impl Parser {
     /// Takes bytes that are no character.
     fn wrong_bytes(&mut self, bytes: &[u8], take: &mut impl Take) -> Result<(), Error> {
         if self.state == State::Text {
-            return take(Token::Text("\u{fffd}"));
+            return take(Token::Text("\u{fffd}", false));
         }
         bytes.iter().try_for_each(|byte| match self.state {
-            State::Text => take(Token::Text("\u{fffd}")),
+            State::Text => take(Token::Text("\u{fffd}", false)),
             _ => self.byte(*byte, take),
         })
     }

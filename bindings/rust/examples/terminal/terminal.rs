@@ -64,7 +64,7 @@ impl Terminal {
 
     fn take(&mut self, token: Token<'_>) -> Result<(), Error> {
         match token {
-            Token::Text(text) => return self.print(text),
+            Token::Text(text, is_ascii) => return self.print(text, is_ascii),
             Token::Control(byte) => self.control(byte),
             Token::Escape(byte) => self.escape(byte),
             Token::Csi(params, None, b'm') => self.cursor.pen.apply_sgr(params.iter()),
@@ -90,14 +90,14 @@ impl Terminal {
 
     /// Prints a text, which may begin with a line end. Where the surface goes to the next row as the
     /// terminal does, both are one text.
-    fn print(&mut self, text: &str) -> Result<(), Error> {
+    fn print(&mut self, text: &str, is_ascii: bool) -> Result<(), Error> {
         let line = text.strip_prefix(LINE_END);
-        if !self.rows_are_plain() || line == Some("") || !text.is_ascii() {
+        if !is_ascii || !self.rows_are_plain() || line == Some("") {
             if line.is_some() {
                 self.control(b'\r');
                 self.control(b'\n');
             }
-            return self.print_line(line.unwrap_or(text));
+            return self.print_line(line.unwrap_or(text), is_ascii);
         }
         self.put_cursor();
         self.changes.use_pen(&self.cursor.pen).append(text);
@@ -116,7 +116,7 @@ impl Terminal {
     }
 
     /// Prints a text without control characters. What has no room goes to the next row.
-    fn print_line(&mut self, text: &str) -> Result<(), Error> {
+    fn print_line(&mut self, text: &str, is_ascii: bool) -> Result<(), Error> {
         let end = self.cursor.x + text.len(); // or less, where a character has many bytes
         if text.is_empty() {
             return Ok(());
@@ -124,7 +124,7 @@ impl Terminal {
         if end > self.width {
             return self.print_cut(text);
         }
-        if !text.is_ascii() {
+        if !is_ascii {
             return if text.contains(char::is_control) {
                 self.print_cut(text)
             } else {

@@ -247,14 +247,14 @@ impl Parser {
 }
 
 /// How many bytes stand before the first control character: eight at once, of which the high bits
-/// say whether they are below 32 or 127.
+/// say whether they are below 32 or 127. What is carried over changes bytes behind such a one alone.
 fn text_length(bytes: &[u8]) -> usize {
     let each = |byte: u8| u64::from_ne_bytes([byte; 8]);
     let mut length = 0;
     for block in bytes.chunks_exact(8) {
         let block = block.try_into().map_or(0, u64::from_le_bytes);
-        let low = block & each(0x7f);
-        let found = (!(low + each(0x60)) | (low + each(1))) & !block & each(0x80);
+        let (below, above) = (block.wrapping_sub(each(32)), block.wrapping_add(each(1)));
+        let found = (below | above) & !block & each(0x80);
         if found != 0 {
             return length + found.trailing_zeros() as usize / 8;
         }

@@ -1,5 +1,7 @@
 //! Lists of changes, as structs.
-ghost use Rattle.std.specs.Prelude.{◌≡◌, ◌≤◌, ◌⊎◌, Err, IfErr, IfOk, None, Ok, Some, map};
+ghost use Rattle.std.specs.Prelude.{◌≡◌, ◌≤◌, ◌⊎◌, ◌++◌, ◌∷◌, [], Err, IfErr, IfOk, None, Ok, OnOk};
+ghost use Rattle.std.specs.Prelude.{Some, map};
+ghost use Rattle.termwiz_cell.specs.declared.change.Change.{Change};
 ghost use Rattle.termwiz_cell.specs.AttributeChangeValue.{attribute_change_value};
 ghost use Rattle.termwiz_cell.specs.ChangeValue.{change_value};
 ghost use Rattle.tikeburo_c.specs.Fields as colors;
@@ -270,34 +272,50 @@ pub(crate) fn change_in(
     }
 }
 
-// The change that `change_in` returns: a text or a pen without that call, since most are one.
+// Appends the change that `change_in` returns: a text or a pen without that call, since most are
+// one.
 #[inline(always)]
-fn usual_in(
+fn push_change(
     alloc: Global,
     kind: Kind,
     fields: &ChangeFields,
     text: &[u8],
-) -> Result<Change, Failure>
-    ensures found { IfOk result (λ change.
-        listed.change_in kind fields.now text.now ≡ Ok (change_value change)) }
+    changes: &mut Vec<Change>,
+) -> Result<(), Failure>
+    ensures found { OnOk result ((made : Change)
+        × (listed.change_in kind fields.now text.now ≡ Ok (change_value made))
+        × (changes.new.items ≡ changes.old.items ++ made ∷ [])) }
     ensures missing { IfErr result (λ failure. (failure ≡ Memory)
         ⊎ (listed.change_in kind fields.now text.now ≡ Err failure)) }
 {
     match kind {
-        Kind::Text => Ok(Change::text_from(alloc, text_in(text)?)?),
-        Kind::Pen => Ok(Change::AllAttributes(pen_in(alloc, &fields.attributes, text)?)),
-        _ => change_in(alloc, kind, fields, text),
+        Kind::Text => {
+            let text = Change::text_from(alloc, text_in(text)?)?;
+            changes.push(text)?;
+        }
+        Kind::Pen => {
+            let pen = pen_in(alloc, &fields.attributes, text)?;
+            changes.push(Change::AllAttributes(pen))?;
+        }
+        _ => {
+            let change = change_in(alloc, kind, fields, text)?;
+            changes.push(change)?;
+        }
     }
+    Ok(())
 }
 
-// The first change of a list, and the texts of the others.
-fn first_in<'a>(
+// Appends the first change of a list, and returns the texts of the others.
+#[inline(always)]
+fn push_first<'a>(
     alloc: Global,
     fields: &ChangeFields,
     texts: &'a [u8],
-) -> Result<(Change, &'a [u8]), Failure>
-    ensures found { IfOk result (λ x.
-        listed.first_in fields.now texts.now ≡ Ok (change_value x.0, x.1.now)) }
+    changes: &mut Vec<Change>,
+) -> Result<&'a [u8], Failure>
+    ensures found { IfOk result (λ others. (made : Change)
+        × (listed.first_in fields.now texts.now ≡ Ok (change_value made, others.now))
+        × (changes.new.items ≡ changes.old.items ++ made ∷ [])) }
     ensures missing { IfErr result (λ failure. (failure ≡ Memory)
         ⊎ (listed.first_in fields.now texts.now ≡ Err failure)) }
 {
@@ -307,8 +325,8 @@ fn first_in<'a>(
         return Err(Failure::Range);
     }
     let (text, others) = texts.split_at(len);
-    let change = usual_in(alloc, kind, fields, text)?;
-    Ok((change, others))
+    push_change(alloc, kind, fields, text, changes)?;
+    Ok(others)
 }
 
 // The changes of a list, whose texts are behind one another.
@@ -322,8 +340,7 @@ fn listed_in(alloc: Global, list: &[ChangeFields], texts: &[u8]) -> Result<Vec<C
     let mut changes = Vec::with_capacity(alloc, list.len())?;
     let mut rest = texts;
     for fields in list {
-        let (change, others) = first_in(alloc, fields, rest)?;
-        changes.push(change)?;
+        let others = push_first(alloc, fields, rest, &mut changes)?;
         rest = others;
     }
     if !rest.is_empty() {

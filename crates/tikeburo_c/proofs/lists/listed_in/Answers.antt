@@ -12,13 +12,13 @@ use Rattle.tikeburo_c.proofs.Decoded.{failed_by}
 use Rattle.tikeburo_c.proofs.Listed.{ends, goes_on, has_texts, is_done}
 use Rattle.tikeburo_c.proofs.lists.listed_in.Goals as goal
 
-pub returns-in_err-change-clause-missing : goal.returns-in_err-change-clause-missing
-returns-in_err-change-clause-missing c =
+pub returns-in_err-others-clause-missing : goal.returns-in_err-others-clause-missing
+returns-in_err-others-clause-missing c =
     let l = c.loop-fields in
-    let e = c.in_err-change.field-0.0 in
+    let e = c.in_err-others.field-0.0 in
     let total = listed_in c.args.list.now c.args.texts.now in
-    failed_by {A = Vec Change Global} (λ r. IfErr r (λ f. f ≡ Memory ⊎ total ≡ Err f)) c.from_residual-in_err-change.result e c.from_residual-in_err-change.ensures.1
-    (elim c.in_err-change.ensures.missing [
+    failed_by {A = Vec Change Global} (λ r. IfErr r (λ f. f ≡ Memory ⊎ total ≡ Err f)) c.from_residual-in_err-others.result e c.from_residual-in_err-others.ensures.1
+    (elim c.in_err-others.ensures.missing [
       | inl memory ↦ inl memory
       | inr wrong ↦ inr (ends c.args.list.now l.fields-index _ (map change_value l.changes.items) l.rest.now e total c.loop-fields-test.true wrong l.invariant)
     ])
@@ -27,9 +27,9 @@ pub loop-fields-preserved : goal.loop-fields-preserved
 loop-fields-preserved c =
     let l = c.loop-fields in
     let done = map change_value l.changes.items in
-    let change = c.in_ok-change.change in
-    let e : map change_value c.push.new.self.items ≡ done ++ change_value change ∷ [] = ap (map change_value) c.in_ok-push.ensures.items ∙ map-append change_value l.changes.items (change ∷ []) in
-    rw e (goes_on c.args.list.now l.fields-index _ done l.rest.now (change_value change) c.in_ok-change.others.now (listed_in c.args.list.now c.args.texts.now) c.loop-fields-test.true c.in_ok-change.ensures.found l.invariant)
+    let found = c.in_ok-others.ensures.found in
+    let e : map change_value c.push_first.new.changes.items ≡ done ++ change_value found.0 ∷ [] = ap (map change_value) found.2 ∙ map-append change_value l.changes.items (found.0 ∷ []) in
+    rw e (goes_on c.args.list.now l.fields-index _ done l.rest.now (change_value found.0) c.in_ok-others.others.now (listed_in c.args.list.now c.args.texts.now) c.loop-fields-test.true found.1 l.invariant)
 
 pub returns-then-not-is_empty-clause-missing : goal.returns-then-not-is_empty-clause-missing
 returns-then-not-is_empty-clause-missing c =

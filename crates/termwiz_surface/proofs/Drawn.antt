@@ -51,6 +51,22 @@ any_log f s log z fits regions = record {
   regions = regions;
 }
 
+-- of the numbers of rows the form says nothing
+pub any_numbers : {W : Type 0} (f : List ℕ → ℕ) (s : SurfaceValue W) (numbers : List ℕ) (mark : ℕ) → IsSound f s → IsSound f (record s { numbers = numbers; mark = mark })
+any_numbers f s numbers mark z = record {
+  some_column = z.some_column;
+  some_row = z.some_row;
+  fits = z.fits;
+  fits_height = z.fits_height;
+  full = z.full;
+  sides = z.sides;
+  column = z.column;
+  row = z.row;
+  stored_so = z.stored_so;
+  number_fits = z.number_fits;
+  regions = z.regions;
+}
+
 -- scrolling
 pub rows-scrolled : (w : ℕ) (lines : List (List CellValue)) → map (row_of w) (scrolled w lines) ≡ scrolled w (map (row_of w) lines)
 rows-scrolled w lines = map-append (row_of w) (drop 1 lines) (replicate w blank ∷ []) ∙ ap₂ (λ a b. a ++ b ∷ []) (sym (drop-map (row_of w) 1 lines)) (row_blank w)

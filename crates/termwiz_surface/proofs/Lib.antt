@@ -1,4 +1,5 @@
 mod Drawn
+mod RowNumbers
 mod Printing
 mod Changed
 mod SoundRepaint

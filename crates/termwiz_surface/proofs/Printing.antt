@@ -25,6 +25,7 @@ use Rattle.termwiz_screen.proofs.Stored.{IsLawful}
 use Rattle.termwiz_screen.proofs.Runs.{PrintsCell, PrintsCell-plain, screen-from_wrap, kept-from_wrap, kept_after-append}
 use Rattle.termwiz_screen.proofs.LetterRuns.{PrintsCell-letter}
 use Rattle.termwiz_surface.proofs.Drawn.{IsSound-put, rows-put, lengths-put}
+use Rattle.termwiz_surface.proofs.RowNumbers.{marks-then}
 
 module _ {W : Type 0} where
   -- the surface with one cell printed in its row
@@ -150,6 +151,8 @@ prints-after_wrap f piece cell old mid new (b ∷ bs) some prints d inside p =
       height = p.height ∙ d.height;
       full = p.full ∙ d.full;
       log = p.log ∙ d.log;
+      mark = p.mark ∙ d.mark;
+      rows = marks-then old mid new d.height d.mark d.rows p.rows;
       screen_is = p.screen_is ∙ ap (λ (z : Screen). fold (print_one f) z (map piece (b ∷ bs))) d.screen_is ∙ screen-from_wrap f (screen_of old) (kept_of old) (piece b) (map piece bs) is_text settled;
       kept_is = p.kept_is ∙ ap₂ (λ (z : Screen) (k : Kept). kept_after f z k (map piece (b ∷ bs))) d.screen_is d.kept_is ∙ kept-from_wrap f (screen_of old) (kept_of old) (piece b) (map piece bs) is_text settled;
     }

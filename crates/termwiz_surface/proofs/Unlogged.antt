@@ -1,8 +1,8 @@
 -- Changes that are made without being logged keep what changes keep that are logged and then flushed.
-use Rattle.std.proofs.Common.{◌≡◌, ℕ, ◌≤◌, true, false, List, length, refl, sym, ap, subst, ◌∙◌, arith}
+use Rattle.std.proofs.Common.{◌≡◌, ℕ, ◌+◌, false, inl, inr, List, length, refl, sym, ap, subst, ◌∙◌, arith}
 use Rattle.std.specs.Prelude.{Result, Ok, Err, OnOk}
 use Rattle.std.specs.Result.{is_err}
-use Rattle.std.proofs.lemmas.Bool.{true≢false}
+use Rattle.std.proofs.lemmas.Bool.{cases_eq, true≢false}
 use Rattle.termwiz_cell.specs.ChangeValue.{ChangeValue}
 use Rattle.termwiz_screen.specs.Log.{LogValue, next_number, appended, flushed, passed}
 use Rattle.termwiz_screen.specs.Picture.{Pictures, screens, full_screens}
@@ -12,8 +12,10 @@ use Rattle.termwiz_surface.specs.Adding.{with_log}
 use Rattle.termwiz_surface.specs.Asking.{knows}
 use Rattle.termwiz_surface.specs.Following.{ViewerValue, Follows}
 use Rattle.termwiz_surface.specs.History.{KeepsNames, NamesGoOn}
+use Rattle.termwiz_surface.specs.RowNumbers.{NumbersRows}
 use Rattle.termwiz_surface.specs.Surface.{SurfaceValue, Becomes, screen_of, kept_of, full_of}
 use Rattle.termwiz_surface.specs.Unlogged.{MakesUnlogged}
+use Rattle.termwiz_surface.proofs.RowNumbers.{makes-logged, numbers-makes, numbers-flushed, numbers-then}
 use Rattle.termwiz_surface.proofs.Following.{Follows-makes, Leads-flushed}
 use Rattle.termwiz_surface.proofs.Remembering.{keeps_makes, keeps_flushed}
 
@@ -42,18 +44,10 @@ module _ {W : Type 0} where
   }
 
   -- the changes were made, and then counted
-  pub makes-unlogged : (f : List ℕ → ℕ) (s m : SurfaceValue W) (cs : List ChangeValue) → Becomes s (replay f (screen_of s) cs) (replay_kept f (screen_of s) (kept_of s) cs) m → MakesUnlogged f s cs (with_log m (passed m.log (length cs)))
-  makes-unlogged f s m cs b = (
+  pub makes-unlogged : (f : List ℕ → ℕ) (s m : SurfaceValue W) (cs : List ChangeValue) (mark : ℕ) → mark ≡ next_number s.log + length cs → Becomes (record s { mark = mark }) (replay f (screen_of s) cs) (replay_kept f (screen_of s) (kept_of s) cs) m → MakesUnlogged f s cs (with_log m (passed m.log (length cs)))
+  makes-unlogged f s m cs mark e b = (
     with_log m (appended s.log cs),
-    record {
-      widths = b.widths;
-      width = b.width;
-      height = b.height;
-      full = b.full;
-      log = refl;
-      screen_is = b.screen_is;
-      kept_is = b.kept_is;
-    },
+    makes-logged f s m cs mark (appended s.log cs) e refl b,
     ap (λ (l : LogValue). with_log m l) (ap (λ (l : LogValue). passed l (length cs)) b.log ∙ passed-flushed s.log cs),
   )
 
@@ -66,6 +60,12 @@ module _ {W : Type 0} where
 
     pub keeps-unlogged : KeepsNames f s t
     keeps-unlogged = subst (KeepsNames f s) (sym m.2) (keeps-then f s m.0 _ (keeps_makes f s m.0 cs m.1) (keeps_flushed f m.0 (next_number m.0.log)))
+
+  pub numbers-unlogged : (f : List ℕ → ℕ) (s t : SurfaceValue W) (cs : List ChangeValue) → (length cs ≡ 0 → NumbersRows s t) → MakesUnlogged f s cs t → NumbersRows s t
+  numbers-unlogged f s t cs none m = elim (cases_eq (length cs) 0) [
+    | inl e ↦ none e
+    | inr some ↦ subst (NumbersRows s) (sym m.2) (numbers-then s m.0 _ (numbers-makes f s m.0 cs (omega arith) m.1) (numbers-flushed m.0 (next_number m.0.log)))
+  ]
 
   Follows-flushed : (f : W → List ℕ → ℕ) (v : ViewerValue W) (s : SurfaceValue W) (n : ℕ) → Follows f v s → Follows f v (with_log s (flushed s.log n))
   Follows-flushed f v s n h = record {

@@ -1,11 +1,11 @@
 -- What asking and applying make of a viewer is what following may make of it.
 use Rattle.std.proofs.Common.{◌≡◌, ℕ, ◌+◌, ◌<◌, ◌≤◌, ◌^◌, inl, inr, true, List, length, sym, ap, subst, ◌∙◌, arith}
-use Rattle.std.specs.Prelude.{Result, Ok, Err, OnOk, ◌==◌}
-use Rattle.std.proofs.lemmas.Bool.{cases_Bool, eqb-true, true≢false}
+use Rattle.std.specs.Prelude.{Result, Ok, Err, OnOk}
+use Rattle.std.proofs.lemmas.Bool.{cases_Bool, true≢false}
 use Rattle.std.proofs.lemmas.Bool.Decides.{nat_tests}
 use Rattle.termwiz_cell.specs.ChangeValue.{ChangeValue}
-use Rattle.termwiz_surface.specs.Following.{ViewerValue, Follows, Fits, IsFitted, IsAnswer, Fetches, Accepts, IsLost, HasNoRoom, HasRoom, FollowsTo, has_size_of}
-use Rattle.termwiz_screen.specs.Log.{LogValue, next_number, restarted}
+use Rattle.termwiz_surface.specs.Following.{ViewerValue, Follows, Fits, IsFitted, IsAnswer, Fetches, Accepts, IsLost, HasNoRoom, HasRoom, FollowsTo, forgetful, has_size_of}
+use Rattle.termwiz_screen.specs.Log.{LogValue, next_number}
 use Rattle.termwiz_screen.specs.Picture.{Pictures, screens, full_screens}
 use Rattle.termwiz_surface.specs.Adding.{Makes}
 use Rattle.termwiz_screen.specs.FullScreen.{HasFullSize, full_replay}
@@ -16,10 +16,7 @@ use Rattle.termwiz_surface.specs.declared.surface.SurfaceError.{SurfaceError}
 use Rattle.termwiz_surface.specs.declared.surface.SurfaceError.TheVariants.{ScrollRegion, Numbers, Memory}
 use Rattle.termwiz_surface.proofs.Following.{Follows-none, Follows-same, Follows-fitted, caught_up, fully_caught_up, full-made, fitted_widths, fitted_full, fitted_height, fitted_number, fitted_last, fitted_room}
 use Rattle.termwiz_screen.proofs.Logs.{restarted_number}
-
--- an emptied log's number is no smaller
-restarted_grows : (l : LogValue) → next_number l ≤ next_number (restarted l)
-restarted_grows l = elim (cases_Bool (next_number l == 0)) [ inl e ↦ rw e (omega (arith, eqb-true (next_number l) 0 e)) | inr e ↦ rw e (omega arith) ]
+use Rattle.termwiz_surface.proofs.RowNumbers.{restarted_least}
 
 -- a surface that goes on twice goes on
 goes_then : {P : Type 0} (pictures : Pictures P) (f : List ℕ → ℕ) (past : ℕ → P) (n : ℕ) (p q : P) (log later : LogValue) (a : GoesOn pictures f past n p log) → GoesOn pictures f a.later (next_number log) q later → GoesOn pictures f past n q later
@@ -44,7 +41,7 @@ module _ {W : Type 0} where
   fitted_grows : (old : ViewerValue W) (s : SurfaceValue W) (new : ViewerValue W) → IsFitted old s new → next_number old.surface.log ≤ next_number new.surface.log
   fitted_grows old s new k = elim (cases_Bool (has_size_of old s)) [
     | inl e ↦ omega (arith, ap (λ (v : ViewerValue W). next_number v.surface.log) (k.same e))
-    | inr e ↦ rw ((k.other e).1.log) (restarted_grows old.surface.log)
+    | inr e ↦ rw ((k.other e).1.log) (restarted_least old.surface.log)
   ]
 
   -- a viewer that is as another one but for its number
@@ -106,11 +103,27 @@ module _ {W : Type 0} where
           last = h.0;
           widths = frame.widths ∙ fitted_widths old s mid fitted;
           full = frame.full ∙ fitted_full old s mid fitted;
-          grows = omega (arith, ap next_number frame.log, restarted_grows mid.surface.log, fitted_grows old s mid fitted);
+          grows = omega (arith, ap next_number frame.log, restarted_least mid.surface.log, fitted_grows old s mid fitted);
           number = omega (arith, ap next_number frame.log, restarted_number mid.surface.log, fitted_number old s mid fitted);
         },
         has_room (f s.widths) s old mid cs fitted answer h.1.1,
       )
+
+  -- nothing was got, and the viewer forgets its number
+  unfitted_lost : (old mid new : ViewerValue W) → mid ≡ forgetful old → new ≡ forgetful mid → IsLost old new
+  unfitted_lost old mid new is forgets =
+      let same : mid.surface ≡ old.surface = ap (λ (v : ViewerValue W). v.surface) is in
+      let number : next_number mid.surface.log ≡ next_number old.surface.log = ap (λ (s : SurfaceValue W). next_number s.log) same in
+      lost_alike old mid new (ap (λ (s : SurfaceValue W). s.widths) same) (ap (λ (s : SurfaceValue W). s.full) same) (omega (arith, number)) (omega (arith, number)) (ap (λ (v : ViewerValue W). v.last) forgets) (ap (λ (v : ViewerValue W). v.surface) forgets)
+
+  fitted_lost : (s : SurfaceValue W) (old mid new : ViewerValue W) → IsFitted old s mid → new ≡ forgetful mid → IsLost old new
+  fitted_lost s old mid new fitted forgets =
+      lost_alike old mid new (fitted_widths old s mid fitted) (fitted_full old s mid fitted) (fitted_grows old s mid fitted) (fitted_number old s mid fitted) (ap (λ (v : ViewerValue W). v.last) forgets) (ap (λ (v : ViewerValue W). v.surface) forgets)
+
+  pub FollowsTo-missed : (f : W → List ℕ → ℕ) (measure : List ℕ → ℕ) (s : SurfaceValue W) (old mid new : ViewerValue W) (e : SurfaceError) → Fetches measure s old (Err e) mid → new ≡ forgetful mid → FollowsTo f s old (Err e) new
+  FollowsTo-missed f measure s old mid new ScrollRegion h forgets = h
+  FollowsTo-missed f measure s old mid new Numbers h forgets = (elim (h.0) [ inl unfit ↦ unfitted_lost old mid new unfit.2 forgets | inr fitted ↦ fitted_lost s old mid new fitted forgets ], h.1)
+  FollowsTo-missed f measure s old mid new Memory h forgets = (elim (h.0) [ inl unfit ↦ unfitted_lost old mid new unfit.2 forgets | inr fitted ↦ fitted_lost s old mid new fitted forgets ], h.1)
 
   -- after each error the viewer has no number
   pub FollowsTo-lost : (f : W → List ℕ → ℕ) (s : SurfaceValue W) (old new : ViewerValue W) (e : SurfaceError) → FollowsTo f s old (Err e) new → IsLost old new

@@ -12,6 +12,10 @@ module _ {W : Type 0} where
   abbrev pub with_log : SurfaceValue W → LogValue → SurfaceValue W
   with_log s log = record s { log = log }
 
+  -- the surface with this log, whose number rows get that change
+  abbrev pub marking : SurfaceValue W → LogValue → SurfaceValue W
+  marking s log = record s { log = log; mark = next_number log }
+
   -- why a list of changes is refused before any is made, where it is
   abbrev pub Refuses : SurfaceValue W → List ChangeValue → Result (Unit {0}) SurfaceError → Type 0
   Refuses s changes (Ok u) =
@@ -21,10 +25,10 @@ module _ {W : Type 0} where
       (regions_fit s.height changes ≡ true) × (2 ^ 64 ≤ next_number s.log + length changes)
   Refuses s changes (Err Memory) = ⊥
 
-  -- the changes are made, and logged
+  -- the changes are made, and logged; rows that change get the surface's new number
   abbrev pub Makes : (List ℕ → ℕ) → SurfaceValue W → List ChangeValue → SurfaceValue W → Type 0
   Makes measure old changes new =
-      Becomes (with_log old (appended old.log changes)) (replay measure (screen_of old) changes)
+      Becomes (marking old (appended old.log changes)) (replay measure (screen_of old) changes)
       (replay_kept measure (screen_of old) (kept_of old) changes) new
 
   -- a list of changes is made, and this number returned, or it is refused

@@ -1,4 +1,5 @@
 pub mod Surface
+pub mod RowNumbers
 pub mod Printing
 pub mod Adding
 pub mod Unlogged
@@ -48,8 +49,9 @@ pub use Rattle.termwiz_screen.specs.Fewest
 pub use Rattle.termwiz_screen.specs.SequenceLaws
 pub use Rattle.termwiz_cell.specs.ChangeValue
 -- what callers cite, by its name alone: surfaces, viewers and answers,
-pub use Rattle.termwiz_surface.specs.Surface.{SurfaceValue, blank_surface, screen_of, kept_of, full_of, IsSound, IsSurfaceSize, SameFrame}
-pub use Rattle.termwiz_surface.specs.Adding.{Adds, Makes, with_log}
+pub use Rattle.termwiz_surface.specs.Surface.{SurfaceValue, blank_surface, screen_of, kept_of, full_of, IsSound, IsSurfaceSize, SameFrame, number_at, RowStays}
+pub use Rattle.termwiz_surface.specs.RowNumbers.{HasStayed, NumbersRows}
+pub use Rattle.termwiz_surface.specs.Adding.{Adds, Makes, with_log, marking}
 pub use Rattle.termwiz_surface.specs.Unlogged.{AddsUnlogged, MakesUnlogged, lent_value}
 pub use Rattle.termwiz_surface.specs.Resizing.{HasResized, Resizes}
 pub use Rattle.termwiz_surface.specs.Copies.{IsDrawn, IsCopied, IsRegionDrawn, drawn_region, copied_region}
@@ -151,6 +153,7 @@ pub use Rattle.termwiz_surface.specs.ManySteps.{AnswersTo, DeliversTo, Remembers
 pub use Rattle.termwiz_surface.specs.Printing.{PrintsFirst, PrintsGraphemes}
 pub use Rattle.termwiz_surface.specs.Schedule.{Acts, Allows, IsInRange, IsScheduleOf, Reports, Views, with_empty_log}
 pub use Rattle.termwiz_surface.specs.ScheduleLaws.{BrokenListsLeaveForm, FollowedFullLeadOn, FollowedLeadOn, LackMemory, LackNumbers}
+pub use Rattle.termwiz_surface.specs.RowNumbers.{AreMarked}
 pub use Rattle.termwiz_surface.specs.Surface.{Becomes, lengths_of}
 pub use Rattle.termwiz_surface.specs.declared.surface.SurfaceError.TheVariants.{ScrollRegion}
 pub use Rattle.unicode_segmentation.specs.Grapheme.{graphemes}

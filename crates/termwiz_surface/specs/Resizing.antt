@@ -2,16 +2,17 @@
 use Rattle.std.specs.Prelude.{◌≡◌, ℕ, ◌+◌, ◌<◌, ◌≤◌, ◌^◌, Result, Ok, Err}
 use Rattle.termwiz_screen.specs.Log.{next_number, restarted}
 use Rattle.termwiz_screen.specs.Resized.{resized_screen, resized_kept}
+use Rattle.termwiz_surface.specs.Adding.{marking}
 use Rattle.termwiz_surface.specs.Surface.{SurfaceValue, screen_of, kept_of, Becomes}
 use Rattle.termwiz_surface.specs.declared.surface.SurfaceError.{SurfaceError}
 use Rattle.termwiz_surface.specs.declared.surface.SurfaceError.TheVariants.{ScrollRegion, Numbers, Memory}
 
 module _ {W : Type 0} where
   -- the surface has another size, and an empty log under a new number, or 0 where that was the
-  -- number
+  -- number, which all rows get
   abbrev pub HasResized : SurfaceValue W → ℕ → ℕ → SurfaceValue W → Type 0
   HasResized old w h new =
-      Becomes (record old { width = w; height = h; log = restarted old.log })
+      Becomes (record (marking old (restarted old.log)) { width = w; height = h })
       (resized_screen (screen_of old) w h) (resized_kept (kept_of old) w h) new
 
   -- the surface takes another size, or nothing has changed

@@ -1,5 +1,5 @@
 -- What contracts see of a surface, and the form that it keeps.
-use Rattle.std.specs.Prelude.{◌≡◌, ℕ, ◌<◌, ◌≤◌, ◌^◌, Bool, true, Option, None, List, [], map, length, replicate}
+use Rattle.std.specs.Prelude.{◌≡◌, ℕ, ◌<◌, ◌≤◌, ◌^◌, ◌⊎◌, Bool, true, Option, None, List, [], map, length, replicate, slice_index_or}
 use Rattle.termwiz_cell.specs.Attributes.{Attributes, default_attributes}
 use Rattle.termwiz_cell.specs.CellValue.{CellValue, blank}
 use Rattle.termwiz_cell.specs.declared.change.CursorVisibility.{CursorVisibility}
@@ -34,6 +34,10 @@ pub record SurfaceValue (W : Type 0) : Type 0 where
   -- its repaints carry the title, the cursor's shape and colour and the sizes of lines too
   pub full : Bool
   pub log : LogValue
+  -- the number that the surface had when each row last changed, and the one that rows get that
+  -- change in the list under way
+  pub numbers : List ℕ
+  pub mark : ℕ
 
 module _ {W : Type 0} where
   -- a surface of this size before any change: default blanks, with the cursor home and shown,
@@ -54,6 +58,8 @@ module _ {W : Type 0} where
     color = Default;
     full = full;
     log = record { first = 0; changes = [] };
+    numbers = replicate height 0;
+    mark = 0;
   }
 
   abbrev pub screen_of : SurfaceValue W → Screen
@@ -118,8 +124,23 @@ module _ {W : Type 0} where
     pub full : new.full ≡ old.full
     pub log : new.log ≡ old.log
 
+  abbrev pub number_at : SurfaceValue W → ℕ → ℕ
+  number_at s j = slice_index_or s.numbers j 0
+
+  -- row j has its old cells, flags and number
+  abbrev pub RowStays : SurfaceValue W → SurfaceValue W → ℕ → Type 0
+  RowStays old new j =
+      (row_at new.lines j ≡ row_at old.lines j)
+      × (slice_index_or new.flags j no_flags ≡ slice_index_or old.flags j no_flags)
+      × (number_at new j ≡ number_at old j)
+
+  -- each row has the mark of the old surface, or stays
+  abbrev pub MarksRows : SurfaceValue W → SurfaceValue W → Type 0
+  MarksRows old new =
+      (j : ℕ) → j < old.height → (number_at new j ≡ old.mark) ⊎ RowStays old new j
+
   -- the surface has this screen now, keeps this beside it, and has its old width value, size, kind
-  -- and log
+  -- and log; rows that have changed are marked
   pub record Becomes (old : SurfaceValue W) (screen : Screen) (kept : Kept) (new : SurfaceValue W) :
       Type 0 where
     pub widths : new.widths ≡ old.widths
@@ -129,3 +150,5 @@ module _ {W : Type 0} where
     pub log : new.log ≡ old.log
     pub screen_is : screen_of new ≡ screen
     pub kept_is : kept_of new ≡ kept
+    pub mark : new.mark ≡ old.mark
+    pub rows : MarksRows old new

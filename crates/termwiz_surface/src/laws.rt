@@ -8,7 +8,7 @@ ghost use Rattle.termwiz_surface.specs.{LackNumbers, LeadsWhereItIs, NamedAreLed
 ghost use Rattle.termwiz_surface.specs.{NothingIsNamedAtFirst, NumberNamesPicture, RestartsGoOn};
 ghost use Rattle.termwiz_surface.specs.{RestartsKeepLeading, StreamsLeadOn, full_screens, measure};
 ghost use Rattle.termwiz_surface.specs.{FullScreen, Screen, attribute_change_value, change_value};
-ghost use Rattle.termwiz_surface.specs.{screens};
+ghost use Rattle.termwiz_surface.specs.{NumbersRows, SurfaceValue, screens};
 
 use termwiz_cell::cell::AttributeChange;
 use termwiz_cell::change::Change;
@@ -82,6 +82,13 @@ pub fn schedule_laws<W: Widths>()
     ensures numbers { LackNumbers (measure W.width_of) }
     ensures memory { LackMemory (measure W.width_of) }
     ensures broken { BrokenListsLeaveForm W }
+{}
+
+/// What the numbers of rows say after each call they say after several calls.
+pub fn row_number_laws<W: Widths>()
+    ensures same { (s : SurfaceValue W) → NumbersRows s s }
+    ensures then { (r s t : SurfaceValue W) →
+        NumbersRows r s → NumbersRows s t → NumbersRows r t }
 {}
 
 /// Changes, and changes of one attribute, are equal exactly where their values are.

@@ -3,7 +3,7 @@ ghost use Rattle.std.specs.Prelude.{◌≡◌, ◌+◌, ◌-◌, ◌<◌, ◌^�
 ghost use Rattle.termwiz_surface.specs.{IsSurfaceSize, KeepsViewers, SameFrame, blank_surface};
 ghost use Rattle.termwiz_surface.specs.{change_value, next_number, region_fits, regions_fit};
 ghost use Rattle.termwiz_surface.specs.{IsSound, KeepsNames, Makes, Refuses, false, measure};
-ghost use Rattle.termwiz_surface.specs.{Adds, IsOk, OnOk, map, true};
+ghost use Rattle.termwiz_surface.specs.{Adds, IsOk, NumbersRows, OnOk, map, true};
 ghost use Rattle.termwiz_surface.specs.declared.surface.NewSurfaceError.TheVariants as errors;
 
 mod answer;
@@ -12,6 +12,7 @@ mod copies;
 mod diff;
 mod full;
 mod lines;
+mod numbers;
 mod print;
 mod readings;
 mod resizing;
@@ -131,10 +132,12 @@ pub struct Surface<W: Widths> {
     color: ColorAttribute,
     full: bool,
     log: Log,
+    numbers: Vec<SequenceNo>,
+    mark: SequenceNo,
 }
 
 impl<W: Widths> Model for Surface<W> {
-    ghost use Rattle.std.specs.Prelude.{string_bytes};
+    ghost use Rattle.std.specs.Prelude.{◌≡◌, string_bytes, vec_len};
     ghost use Rattle.termwiz_screen.specs.{AreVectors, cells_of, measure, row_flags};
     ghost use Rattle.termwiz_surface.specs.Surface.{IsSound, SurfaceValue};
 
@@ -155,10 +158,13 @@ impl<W: Widths> Model for Surface<W> {
       color = s.color;
       full = s.full;
       log = s.log;
+      numbers = s.numbers.items;
+      mark = s.mark;
     } };
 
     ghost invariant = { λ s.
-        IsSound (measure W.width_of s.widths) (view s) × AreVectors s.rows.items };
+        IsSound (measure W.width_of s.widths) (view s) × AreVectors s.rows.items
+        × (vec_len s.numbers ≡ s.height) };
 }
 
 /// A copy equals its original in all that can be read: the size, the kind (full or not), the
@@ -172,6 +178,7 @@ impl<W: Widths> Clone for Surface<W> {
         let pen = self.pen.clone()?;
         let title = self.title.clone()?;
         let log = self.log.clone()?;
+        let numbers = self.numbers.clone()?;
         Ok(Surface {
             widths: self.widths,
             alloc: self.alloc,
@@ -187,6 +194,8 @@ impl<W: Widths> Clone for Surface<W> {
             color: self.color,
             full: self.full,
             log,
+            numbers,
+            mark: self.mark,
         })
     }
 }
@@ -232,6 +241,7 @@ impl<W: Widths> Surface<W> {
         ensures { IfOk result (λ s. s ≡ blank_surface widths width height full) }
     {
         let rows = blank_rows(alloc, width, height)?;
+        let numbers = vec![in alloc; SEQ_ZERO; height]?;
         Ok(Surface {
             widths,
             alloc,
@@ -247,6 +257,8 @@ impl<W: Widths> Surface<W> {
             color: ColorAttribute::Default,
             full,
             log: Log::new(alloc),
+            numbers,
+            mark: SEQ_ZERO,
         })
     }
 
@@ -272,6 +284,7 @@ impl<W: Widths> Surface<W> {
         ensures err { OnErr result (SameFrame self.old self.new) }
     {
         self.log.reserve(1)?;
+        self.mark = self.log.next_number() + 1;
         self.apply(&change)?;
         self.log.push(change)?;
         Ok(())
@@ -285,8 +298,10 @@ impl<W: Widths> Surface<W> {
             self.old (map change_value changes.items) self.new) }
         ensures err { OnErr result (SameFrame self.old self.new) }
         ensures some { OnErr result (0 < vec_len changes) }
+        ensures none { vec_len changes ≡ 0 → NumbersRows self.old self.new }
     {
         self.log.reserve(changes.len())?;
+        self.mark = self.log.next_number() + changes.len();
         self.apply_all(changes.as_slice())?;
         self.log.append(changes)?;
         Ok(())
@@ -300,8 +315,10 @@ impl<W: Widths> Surface<W> {
             self.old (map change_value changes.now) self.new) }
         ensures err { OnErr result (SameFrame self.old self.new) }
         ensures some { OnErr result (0 < length changes.now) }
+        ensures none { length changes.now ≡ 0 → NumbersRows self.old self.new }
     {
         self.log.reserve(changes.len())?;
+        self.mark = self.log.next_number() + changes.len();
         self.apply_all(changes)?;
         self.log.append_clones(changes)?;
         Ok(())
@@ -317,11 +334,13 @@ impl<W: Widths> Surface<W> {
         ensures followed { KeepsViewers (measure W.width_of) self.old self.new }
         // Its numbers still name what they named, even after an error.
         ensures remembered { KeepsNames (measure W.width_of self.old.widths) self.old self.new }
+        // A row whose number isn't above one that the surface had is as it was then.
+        ensures numbered { NumbersRows self.old self.new }
     {
         self.refuse(slice::from_ref(&change))?;
         let number = self.log.next_number();
         if self.make_one(change).is_err() {
-            self.log.restart();
+            self.restart();
             return Err(SurfaceError::Memory);
         }
         Ok(number)
@@ -343,11 +362,13 @@ impl<W: Widths> Surface<W> {
         ensures followed { KeepsViewers (measure W.width_of) self.old self.new }
         // Its numbers still name what they named, even after an error.
         ensures remembered { KeepsNames (measure W.width_of self.old.widths) self.old self.new }
+        // A row whose number isn't above one that the surface had is as it was then.
+        ensures numbered { NumbersRows self.old self.new }
     {
         self.refuse(changes.as_slice())?;
         let number = number_for(self.log.next_number(), changes.len());
         if self.make_all(changes).is_err() {
-            self.log.restart();
+            self.restart();
             return Err(SurfaceError::Memory);
         }
         Ok(number)
@@ -363,11 +384,13 @@ impl<W: Widths> Surface<W> {
         ensures followed { KeepsViewers (measure W.width_of) self.old self.new }
         // Its numbers still name what they named, even after an error.
         ensures remembered { KeepsNames (measure W.width_of self.old.widths) self.old self.new }
+        // A row whose number isn't above one that the surface had is as it was then.
+        ensures numbered { NumbersRows self.old self.new }
     {
         self.refuse(changes)?;
         let number = number_for(self.log.next_number(), changes.len());
         if self.make_lent(changes).is_err() {
-            self.log.restart();
+            self.restart();
             return Err(SurfaceError::Memory);
         }
         Ok(number)

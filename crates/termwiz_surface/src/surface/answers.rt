@@ -4,7 +4,8 @@ ghost use Rattle.termwiz_surface.specs.{IsOwnedSlice, Repaints, StreamsFullyFrom
 ghost use Rattle.termwiz_surface.specs.{KeepsViewers, StreamsFrom, change_value, due, full_repaint};
 ghost use Rattle.termwiz_surface.specs.{Lends, delta_limit, next_number, own_repaint, regions_fit};
 ghost use Rattle.termwiz_surface.specs.{KeepsNames, forgotten, is_known, not, screen_of, stream_of};
-ghost use Rattle.termwiz_surface.specs.{flushed, full_of, knows, measure, repaint, with_log};
+ghost use Rattle.termwiz_surface.specs.{NumbersRows, flushed, full_of, knows, measure, repaint};
+ghost use Rattle.termwiz_surface.specs.{with_log};
 
 use super::Surface;
 use std::alloc::AllocError;
@@ -40,6 +41,8 @@ impl<W: Widths> Surface<W> {
         ensures followed { KeepsViewers (measure W.width_of) self.old self.new }
         // Its numbers still name what they named.
         ensures remembered { KeepsNames (measure W.width_of self.old.widths) self.old self.new }
+        // A row whose number isn't above one that the surface had is as it was then.
+        ensures numbered { NumbersRows self.old self.new }
     {
         self.log.flush(seq);
     }
@@ -60,6 +63,8 @@ impl<W: Widths> Surface<W> {
         ensures followed { KeepsViewers (measure W.width_of) self.old self.new }
         // Its numbers still name what they named.
         ensures remembered { KeepsNames (measure W.width_of self.old.widths) self.old self.new }
+        // A row whose number isn't above one that the surface had is as it was then.
+        ensures numbered { NumbersRows self.old self.new }
     {
         let most = delta_limit(self.width, self.height);
         let first = self.log.next_number().saturating_sub(most);

@@ -1,8 +1,9 @@
 //! Drawing a surface on another one, and copying a region of a surface within it.
 ghost use Rattle.std.specs.Prelude.{◌≡◌, Err, IfOk, OnOk, map};
 ghost use Rattle.termwiz_surface.specs.{HasCopied, HasDrawn, IsCopied, IsDrawn, KeepsNames};
-ghost use Rattle.termwiz_surface.specs.{KeepsViewers, ScrollRegion, change_value, measure};
-ghost use Rattle.termwiz_surface.specs.{IsRegionDrawn, copied_region, restoring, screen_of};
+ghost use Rattle.termwiz_surface.specs.{KeepsViewers, NumbersRows, ScrollRegion, change_value};
+ghost use Rattle.termwiz_surface.specs.{IsRegionDrawn, copied_region, measure, restoring};
+ghost use Rattle.termwiz_surface.specs.{screen_of};
 
 use super::{Surface, SurfaceError};
 use std::alloc::AllocError;
@@ -45,6 +46,8 @@ impl<W: Widths> Surface<W> {
         ensures followed { KeepsViewers (measure W.width_of) self.old self.new }
         // Its numbers still name what they named, even after an error.
         ensures remembered { KeepsNames (measure W.width_of self.old.widths) self.old self.new }
+        // A row whose number isn't above one that the surface had is as it was then.
+        ensures numbered { NumbersRows self.old self.new }
     {
         let (width, height) = other.dimensions();
         let printed = self.diff_region(x, y, width, height, other, 0, 0)?;
@@ -86,6 +89,8 @@ impl<W: Widths> Surface<W> {
         ensures followed { KeepsViewers (measure W.width_of) self.old self.new }
         // Its numbers still name what they named, even after an error.
         ensures remembered { KeepsNames (measure W.width_of self.old.widths) self.old self.new }
+        // A row whose number isn't above one that the surface had is as it was then.
+        ensures numbered { NumbersRows self.old self.new }
     {
         let copies = self.diff_region(dest_x, dest_y, width, height, self, src_x, src_y)?;
         self.add_changes(copies)
@@ -122,6 +127,8 @@ impl<W: Widths> Surface<W> {
         ensures followed { KeepsViewers (measure W.width_of) self.old self.new }
         // Its numbers still name what they named, even after an error.
         ensures remembered { KeepsNames (measure W.width_of self.old.widths) self.old self.new }
+        // A row whose number isn't above one that the surface had is as it was then.
+        ensures numbered { NumbersRows self.old self.new }
     {
         let cursor = (self.x, self.y);
         let printed = self.diff_region(dest_x, dest_y, width, height, self, src_x, src_y)?;

@@ -1,10 +1,12 @@
 //! Resizing surfaces.
-ghost use Rattle.std.specs.Prelude.{◌≡◌, ◌+◌, ◌<◌, ◌^◌, OnErr, OnOk};
+ghost use Rattle.std.specs.Prelude.{◌≡◌, ◌+◌, ◌<◌, ◌^◌, OnErr, OnOk, ℕ};
 ghost use Rattle.termwiz_surface.specs.{HasResized, IsSurfaceSize, KeepsNames, KeepsViewers};
-ghost use Rattle.termwiz_surface.specs.{Resizes, measure, next_number};
+ghost use Rattle.termwiz_surface.specs.{NumbersRows, Resizes, measure, next_number, number_at};
 
+use super::numbers::mark_all;
 use super::{Surface, SurfaceError};
 use std::alloc::AllocError;
+use termwiz_cell::change::SEQ_ZERO;
 use termwiz_cell::emoji::Widths;
 use termwiz_screen::rows::resize_rows;
 
@@ -25,6 +27,8 @@ impl<W: Widths> Surface<W> {
         ensures followed { KeepsViewers (measure W.width_of) self.old self.new }
         // Its numbers still name what they named, even after an error.
         ensures remembered { KeepsNames (measure W.width_of self.old.widths) self.old self.new }
+        // A row whose number isn't above one that the surface had is as it was then.
+        ensures numbered { NumbersRows self.old self.new }
     {
         if !self.log.has_numbers(1) {
             return Err(SurfaceError::Numbers);
@@ -38,13 +42,19 @@ impl<W: Widths> Surface<W> {
         requires number { next_number self.old.log + 1 < 2 ^ 64 }
         ensures ok { OnOk result (HasResized self.old width height self.new) }
         ensures err { OnErr result (self.new ≡ self.old) }
+        ensures numbered { OnOk result ((j : ℕ) → j < self.new.height →
+            number_at self.new j ≡ next_number self.new.log) }
     {
+        let numbers = vec![in self.alloc; SEQ_ZERO; height]?;
         resize_rows(self.alloc, &mut self.rows, width, height)?;
         self.width = width;
         self.height = height;
         self.x = self.x.min(width - 1);
         self.y = self.y.min(height - 1);
         self.log.restart();
+        self.mark = self.log.next_number();
+        self.numbers = numbers;
+        mark_all(&mut self.numbers, self.mark);
         Ok(())
     }
 }

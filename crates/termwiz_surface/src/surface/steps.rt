@@ -9,6 +9,7 @@ ghost use Rattle.termwiz_surface.specs.{kept_of, measure, region_up, screen_of, 
 ghost use Rattle.termwiz_surface.specs.{OnErr, blank, length, map, placed, replay, step, true};
 
 use super::Surface;
+use super::numbers::{mark_all, mark_row, mark_rows};
 use std::alloc::AllocError;
 use termwiz_cell::cell::AttributeChange;
 use termwiz_cell::change::{Change, LineAttribute, Position};
@@ -35,6 +36,7 @@ impl<W: Widths> Surface<W> {
         let pen = background_only(self.alloc, *color)?;
         let cleared = blank_with(&pen)?;
         fill_row(&mut self.rows, self.width, self.x, self.y, &cleared)?;
+        mark_row(&mut self.numbers, self.y, self.mark);
         self.pen = pen;
         Ok(())
     }
@@ -55,6 +57,7 @@ impl<W: Widths> Surface<W> {
         let pen = background_only(self.alloc, *color)?;
         let cleared = blank_with(&pen)?;
         fill_rows(&mut self.rows, self.width, self.x, self.y, &cleared)?;
+        mark_rows(&mut self.numbers, self.y, self.height - self.y, self.mark);
         self.pen = pen;
         Ok(())
     }
@@ -72,6 +75,7 @@ impl<W: Widths> Surface<W> {
         let pen = background_only(self.alloc, *color)?;
         let cleared = blank_with(&pen)?;
         fill_rows(&mut self.rows, self.width, 0, 0, &cleared)?;
+        mark_all(&mut self.numbers, self.mark);
         self.pen = pen;
         self.x = 0;
         self.y = 0;
@@ -116,6 +120,7 @@ impl<W: Widths> Surface<W> {
         ensures err { OnErr result (SameFrame self.old self.new) }
     {
         scroll_region_up(&mut self.rows, self.width, first, size, count)?;
+        mark_rows(&mut self.numbers, first, size, self.mark);
         Ok(())
     }
 
@@ -137,6 +142,7 @@ impl<W: Widths> Surface<W> {
         ensures err { OnErr result (SameFrame self.old self.new) }
     {
         scroll_region_down(&mut self.rows, self.width, first, size, count)?;
+        mark_rows(&mut self.numbers, first, size, self.mark);
         Ok(())
     }
 
@@ -150,6 +156,7 @@ impl<W: Widths> Surface<W> {
             }) self.new }
     {
         set_line_attribute(&mut self.rows, self.y, attribute);
+        mark_row(&mut self.numbers, self.y, self.mark);
     }
 
     #[inline(never)]
@@ -205,6 +212,7 @@ impl<W: Widths> Surface<W> {
             (replay_kept f s (kept_of self.old) (map change_value changes.now)) self.new) }
         ensures err { OnErr result (SameFrame self.old self.new) }
         ensures empty { OnErr result (0 < length changes.now) }
+        ensures none { length changes.now ≡ 0 → self.new ≡ self.old }
     {
         for change in changes {
             self.apply(change)?;

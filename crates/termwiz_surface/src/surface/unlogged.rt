@@ -4,7 +4,7 @@ ghost use Rattle.termwiz_surface.specs.{AddsUnlogged, KeepsNames, KeepsViewers, 
 ghost use Rattle.termwiz_surface.specs.{Becomes, IsOk, OnOk, Refuses, SameFrame, false, kept_of};
 ghost use Rattle.termwiz_surface.specs.{knows, lent_value, map, measure, next_number, region_fits};
 ghost use Rattle.termwiz_surface.specs.{regions_fit, replay, replay_kept, screen_of, step, step_kept};
-ghost use Rattle.termwiz_surface.specs.{passed, true, with_log};
+ghost use Rattle.termwiz_surface.specs.{NumbersRows, passed, true, with_log};
 
 use super::{Surface, SurfaceError, number_for};
 use std::alloc::AllocError;
@@ -83,6 +83,7 @@ impl<W: Widths> Surface<W> {
             (replay_kept f s (kept_of self.old) (map lent_value changes.now)) self.new) }
         ensures err { OnErr result (SameFrame self.old self.new) }
         ensures empty { OnErr result (0 < length changes.now) }
+        ensures none { length changes.now ≡ 0 → self.new ≡ self.old }
     {
         for change in changes {
             self.apply_lent(change)?;
@@ -98,7 +99,9 @@ impl<W: Widths> Surface<W> {
             self.old (map lent_value changes.now) self.new) }
         ensures err { OnErr result (SameFrame self.old self.new) }
         ensures some { OnErr result (0 < length changes.now) }
+        ensures none { length changes.now ≡ 0 → NumbersRows self.old self.new }
     {
+        self.mark = self.log.next_number() + changes.len();
         self.apply_all_lent(changes)?;
         self.log.pass(changes.len());
         Ok(())
@@ -127,11 +130,13 @@ impl<W: Widths> Surface<W> {
         ensures followed { KeepsViewers (measure W.width_of) self.old self.new }
         // Its numbers still name what they named, even after an error.
         ensures remembered { KeepsNames (measure W.width_of self.old.widths) self.old self.new }
+        // A row whose number isn't above one that the surface had is as it was then.
+        ensures numbered { NumbersRows self.old self.new }
     {
         self.refuse_lent(changes)?;
         let number = number_for(self.log.next_number(), changes.len());
         if self.make_unlogged(changes).is_err() {
-            self.log.restart();
+            self.restart();
             return Err(SurfaceError::Memory);
         }
         Ok(number)

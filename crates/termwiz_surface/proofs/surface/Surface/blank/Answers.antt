@@ -25,4 +25,5 @@ invariant_of-result g c = (
     stored_so = λ j l. subst (IsStored (measure g.W.Widths.width_of c.args.widths) c.args.width) (sym (get_or-replicate c.args.height j (replicate c.args.width blank) [] l)) (IsStored-blank (measure g.W.Widths.width_of c.args.widths) c.args.width (record { space = g.met.W.Widths.space_has_one c.args.widths None }) c.requires.size.some_column);
   }),
   c.in_ok-rows.ensures.vectors,
+  omega (arith, c.in_ok-numbers.ensures.len),
 )

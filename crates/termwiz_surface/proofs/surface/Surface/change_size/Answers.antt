@@ -1,8 +1,8 @@
-use Rattle.std.proofs.Common.{◌≡◌, ◌+◌, ◌-◌, ◌<◌, ◌^◌, min, length, refl, sym, ap, ◌∙◌, subst, arith}
+use Rattle.std.proofs.Common.{◌≡◌, ◌+◌, ◌-◌, ◌<◌, ◌^◌, min, inl, length, refl, sym, ap, ◌∙◌, subst, arith}
 use Rattle.std.specs.Prelude.{None, string_bytes}
 use Rattle.termwiz_cell.specs.Measure.{measure}
 use Rattle.termwiz_screen.specs.ScreenValue.{cells_of}
-use Rattle.termwiz_screen.specs.Log.{next_number}
+use Rattle.termwiz_screen.specs.Log.{next_number, restarted}
 use Rattle.termwiz_surface.specs.Surface.{SurfaceValue}
 use Rattle.termwiz_screen.proofs.Logs.{restarted_fits}
 use Rattle.termwiz_screen.proofs.Sides.{sides-full}
@@ -27,12 +27,14 @@ invariant_of-self-2 g c =
         number_fits = restarted_fits s.log (subst (λ (v : SurfaceValue _). next_number v.log + 1 < 2 ^ 64) (sym c.self.view_is) c.requires.number);
       }),
       c.in_ok-resize_rows.ensures.vectors c.self.invariant.1,
+      omega (arith, c.mark_all.ensures.same_count, c.mark_all.new.numbers.ok.0, c.in_ok-numbers.numbers.ok.0, c.in_ok-numbers.ensures.len),
     )
 
 pub returns-clause-ok : goal.returns-clause-ok
 returns-clause-ok g c =
     let s = c.self.inside in
     let form = c.self.invariant.0 in
+    let number_is : c.next_number-self-inside.result ≡ next_number (restarted s.log) = c.next_number-self-inside.ensures ∙ ap next_number c.restart.ensures in
     let x_is : min s.x (c.args.width - 1) ≡ min (s.x + 0) (c.args.width - 1) = omega arith in
     let y_is : min s.y (c.args.height - 1) ≡ min (s.y + 0) (c.args.height - 1) = omega arith in
     rw (← c.self.view_is, c.in_ok-resize_rows.ensures.ok, c.restart.ensures, c.min-self-inside.ensures, c.min-self-inside-2.ensures) (record {
@@ -41,6 +43,8 @@ returns-clause-ok g c =
       height = refl;
       full = refl;
       log = refl;
+      mark = number_is;
+      rows = λ j l. inl (c.mark_all.ensures.inside j (omega arith) (omega (arith, l, c.in_ok-numbers.ensures.len)) ∙ number_is);
       screen_is = λ i. record {
         width = c.args.width;
         height = c.args.height;
@@ -58,3 +62,6 @@ returns-clause-ok g c =
         color = s.color;
       };
     })
+
+pub returns-clause-numbered : goal.returns-clause-numbered
+returns-clause-numbered g c = λ j l. c.mark_all.ensures.inside j (omega arith) (omega (arith, l, c.in_ok-numbers.ensures.len)) ∙ c.next_number-self-inside.ensures

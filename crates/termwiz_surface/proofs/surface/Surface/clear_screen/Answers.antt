@@ -4,6 +4,8 @@ use Rattle.termwiz_cell.specs.Attributes.{with_background}
 use Rattle.termwiz_cell.specs.Measure.{measure}
 use Rattle.termwiz_screen.specs.ScreenValue.{cells_of}
 use Rattle.termwiz_surface.proofs.Changed.{IsSound-partly, IsSound-screen, rows-screen, lengths-screen}
+use Rattle.termwiz_surface.proofs.Drawn.{any_numbers}
+use Rattle.termwiz_surface.proofs.RowNumbers.{marks-all}
 use Rattle.termwiz_surface.proofs.surface.Surface.clear_screen.Goals as goal
 
 pub invariant_of-self : goal.invariant_of-self
@@ -11,13 +13,15 @@ invariant_of-self g c = (
   rw c.in_err-fill_rows.ensures.sides.flags
       (IsSound-partly (measure g.W.Widths.width_of c.self.inside.widths) _ (record { space = g.met.W.Widths.space_has_one c.self.inside.widths None }) c.self.invariant.0 (with_background c.args.color.now) _ (rw (c.in_ok-cleared.ensures, c.in_ok-pen.ensures) at (c.in_err-fill_rows.ensures.err (omega arith)))),
   c.in_err-fill_rows.ensures.sides.vectors c.self.invariant.1,
+  c.self.invariant.2,
 )
 
 pub invariant_of-self-2 : goal.invariant_of-self-2
 invariant_of-self-2 g c = (
   rw (c.in_ok-pen.ensures, c.in_ok-fill_rows.ensures.sides.flags)
-      (IsSound-screen (measure g.W.Widths.width_of c.self.inside.widths) _ (record { space = g.met.W.Widths.space_has_one c.self.inside.widths None }) c.self.invariant.0 (with_background c.args.color.now) _ (rw (c.in_ok-cleared.ensures, c.in_ok-pen.ensures) at c.in_ok-fill_rows.ensures.ok)),
+      (any_numbers _ _ _ _ (IsSound-screen (measure g.W.Widths.width_of c.self.inside.widths) _ (record { space = g.met.W.Widths.space_has_one c.self.inside.widths None }) c.self.invariant.0 (with_background c.args.color.now) _ (rw (c.in_ok-cleared.ensures, c.in_ok-pen.ensures) at c.in_ok-fill_rows.ensures.ok))),
   c.in_ok-fill_rows.ensures.sides.vectors c.self.invariant.1,
+  omega (arith, c.mark_all.ensures.same_count, c.mark_all.new.numbers.ok.0, c.self.inside.numbers.ok.0, c.self.invariant.2),
 )
 
 pub returns-clause-ok : goal.returns-clause-ok
@@ -30,6 +34,8 @@ returns-clause-ok g c =
       height = refl;
       full = refl;
       log = refl;
+      mark = refl;
+      rows = marks-all _ _ _ _ _ _ _ _ _ (omega (arith, c.self.invariant.2, c.self.inside.numbers.ok.0)) c.mark_all.ensures;
       screen_is = rw (rows-screen f _ (record { space = g.met.W.Widths.space_has_one c.self.inside.widths None }) c.self.invariant.0 (with_background c.args.color.now) (cells_of c.fill_rows.new.rows.items) done) refl;
       kept_is = λ i. record {
         lengths = lengths-screen f _ (record { space = g.met.W.Widths.space_has_one c.self.inside.widths None }) c.self.invariant.0 (with_background c.args.color.now) (cells_of c.fill_rows.new.rows.items) done i;

@@ -1,9 +1,12 @@
-use Rattle.std.proofs.Common.{refl}
+use Rattle.std.proofs.Common.{inl, inr, List, get_or, refl, ap, arith}
+use Rattle.termwiz_line.specs.LineFlags.{LineFlags, no_flags}
 use Rattle.std.specs.Prelude.{None, string_bytes}
 use Rattle.termwiz_cell.specs.Attributes.{with_background}
 use Rattle.termwiz_cell.specs.Measure.{measure}
 use Rattle.termwiz_screen.specs.ScreenValue.{cells_of}
 use Rattle.termwiz_surface.proofs.Changed.{IsSound-partly, IsSound-eol, rows-eol, lengths-eol}
+use Rattle.termwiz_surface.proofs.Drawn.{any_numbers}
+use Rattle.termwiz_surface.proofs.RowNumbers.{marks-rows}
 use Rattle.termwiz_surface.proofs.surface.Surface.clear_to_end_of_line.Goals as goal
 
 pub invariant_of-self : goal.invariant_of-self
@@ -11,13 +14,15 @@ invariant_of-self g c = (
   rw c.in_err-fill_row.ensures.sides.flags
       (IsSound-partly (measure g.W.Widths.width_of c.self.inside.widths) _ (record { space = g.met.W.Widths.space_has_one c.self.inside.widths None }) c.self.invariant.0 (with_background c.args.color.now) _ (rw (c.in_ok-cleared.ensures, c.in_ok-pen.ensures) at (c.in_err-fill_row.ensures.err c.self.invariant.0.column))),
   c.in_err-fill_row.ensures.sides.vectors c.self.invariant.1,
+  c.self.invariant.2,
 )
 
 pub invariant_of-self-2 : goal.invariant_of-self-2
 invariant_of-self-2 g c = (
   rw (c.in_ok-pen.ensures, c.in_ok-fill_row.ensures.sides.flags)
-      (IsSound-eol (measure g.W.Widths.width_of c.self.inside.widths) _ (record { space = g.met.W.Widths.space_has_one c.self.inside.widths None }) c.self.invariant.0 (with_background c.args.color.now) _ (rw (c.in_ok-cleared.ensures, c.in_ok-pen.ensures) at c.in_ok-fill_row.ensures.ok)),
+      (any_numbers _ _ _ _ (IsSound-eol (measure g.W.Widths.width_of c.self.inside.widths) _ (record { space = g.met.W.Widths.space_has_one c.self.inside.widths None }) c.self.invariant.0 (with_background c.args.color.now) _ (rw (c.in_ok-cleared.ensures, c.in_ok-pen.ensures) at c.in_ok-fill_row.ensures.ok))),
   c.in_ok-fill_row.ensures.sides.vectors c.self.invariant.1,
+  omega (arith, c.mark_row.ensures.same_count, c.mark_row.new.numbers.ok.0, c.self.inside.numbers.ok.0, c.self.invariant.2),
 )
 
 pub returns-clause-ok : goal.returns-clause-ok
@@ -30,6 +35,10 @@ returns-clause-ok g c =
       height = refl;
       full = refl;
       log = refl;
+      mark = refl;
+      rows = marks-rows _ c.self.inside.y _ _ _ _ _ _ _ _ c.mark_row.ensures
+          (λ j out. elim out [ inl before ↦ done.above j before | inr behind ↦ done.left j behind ])
+          (λ j out. ap (λ (fs : List LineFlags). get_or fs j no_flags) c.in_ok-fill_row.ensures.sides.flags);
       screen_is = rw (rows-eol f _ (record { space = g.met.W.Widths.space_has_one c.self.inside.widths None }) c.self.invariant.0 (with_background c.args.color.now) (cells_of c.fill_row.new.rows.items) done) refl;
       kept_is = λ i. record {
         lengths = lengths-eol f _ (record { space = g.met.W.Widths.space_has_one c.self.inside.widths None }) c.self.invariant.0 (with_background c.args.color.now) (cells_of c.fill_row.new.rows.items) done i;

@@ -3,6 +3,7 @@ use Rattle.termwiz_surface.proofs.Drawn.{any_log}
 use Rattle.termwiz_screen.proofs.Logs.{flushed_number, flushed_alike, flushed_whole}
 use Rattle.termwiz_screen.specs.Log.{flushed}
 use Rattle.termwiz_screen.proofs.LogRegions.{regions-flushed}
+use Rattle.termwiz_surface.proofs.RowNumbers.{numbers-flushed}
 use Rattle.termwiz_surface.proofs.Remembering.{keeps_flushed}
 use Rattle.termwiz_surface.proofs.surface.Surface.flush_changes_older_than.Goals as goal
 
@@ -12,6 +13,7 @@ invariant_of-self g c =
     let form = c.self.invariant.0 in (
       rw c.flush.ensures (any_log _ _ _ form (omega (arith, flushed_number log c.args.seq, form.number_fits)) (regions-flushed c.self.inside.height c.args.seq log form.regions)),
       c.self.invariant.1,
+      c.self.invariant.2,
     )
 
 pub returns-clause-answers : goal.returns-clause-answers
@@ -26,3 +28,7 @@ returns-clause-emptied g c =
 pub returns-clause-remembered : goal.returns-clause-remembered
 returns-clause-remembered g c =
     rw (← c.self.view_is, c.flush.ensures) (keeps_flushed _ _ c.args.seq)
+
+pub returns-clause-numbered : goal.returns-clause-numbered
+returns-clause-numbered g c =
+    rw (← c.self.view_is, c.flush.ensures) (numbers-flushed _ c.args.seq)

@@ -1,10 +1,13 @@
-use Rattle.std.proofs.Common.{◌≡◌, true, map, length-append, ap, ◌∙◌, arith}
+use Rattle.std.proofs.Common.{◌≡◌, ℕ, ◌+◌, ◌≤◌, true, map, length, length-append, sym, ap, subst, ◌∙◌, arith}
 use Rattle.std.proofs.lemmas.List.{length-map}
 use Rattle.termwiz_cell.specs.ChangeValue.{change_value}
 use Rattle.termwiz_screen.specs.Log.{next_number}
 use Rattle.termwiz_screen.specs.Step.{regions_fit}
+use Rattle.termwiz_surface.specs.Adding.{with_log}
+use Rattle.termwiz_surface.specs.RowNumbers.{NumbersRows}
 use Rattle.termwiz_surface.specs.Surface.{SurfaceValue}
 use Rattle.termwiz_surface.proofs.Drawn.{any_log}
+use Rattle.termwiz_surface.proofs.RowNumbers.{numbers-none}
 use Rattle.termwiz_screen.proofs.LogRegions.{regions-append}
 use Rattle.termwiz_surface.proofs.surface.Surface.make_all.Goals as goal
 
@@ -23,4 +26,16 @@ invariant_of-self-3 g c =
           (omega (arith, number, c.requires.numbers, length-append s.log.changes changes, length-map c.args.changes.items change_value, c.args.changes.ok.0))
           (regions-append s.height s.log.changes changes form.regions fits)),
       c.self-2.invariant.1,
+      c.self-2.invariant.2,
     )
+
+pub returns-clause-none : goal.returns-clause-none
+returns-clause-none g c = λ none.
+    let old : SurfaceValue _ = c.args.self.now in
+    let new : SurfaceValue _ = c.apply_all.new.self in
+    let mark : ℕ = c.next_number.result + c.len-2.result in
+    let same : new ≡ record old { log = c.reserve.new.self; mark = mark } =
+    c.in_ok-apply_all.ensures.none (omega (arith, none, ap length c.as_slice.ensures.value, c.args.changes.ok.0)) ∙ ap (λ (s : SurfaceValue _). record s { log = c.reserve.new.self; mark = mark }) c.self.view_is in
+    let grows : next_number old.log ≤ next_number c.append.new.self =
+    omega (arith, ap next_number c.in_ok-append.ensures.ok, length-append c.self-2.inside.log.changes (map change_value c.args.changes.items), ap (λ (s : SurfaceValue _). next_number s.log) (c.self-2.view_is ∙ same), ap next_number c.in_ok-reserve.ensures.unchanged, ap (λ (s : SurfaceValue _). next_number s.log) c.self.view_is) in
+    subst (λ (m : SurfaceValue _). NumbersRows old (with_log m c.append.new.self)) (sym c.self-2.view_is) (numbers-none old new mark c.reserve.new.self c.append.new.self same grows)

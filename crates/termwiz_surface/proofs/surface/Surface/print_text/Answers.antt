@@ -8,6 +8,7 @@ use Rattle.termwiz_surface.specs.Printing.{PrintsFirst}
 use Rattle.termwiz_surface.specs.Surface.{screen_of, kept_of}
 use Rattle.termwiz_cell.proofs.Graphemes.{graphemes-nothing}
 use Rattle.termwiz_surface.proofs.Printing.{screen-left, kept-left}
+use Rattle.termwiz_surface.proofs.RowNumbers.{marks-then}
 use Rattle.termwiz_surface.proofs.surface.Surface.print_text.Goals as goal
 
 pub pieces-preserved : goal.pieces-preserved
@@ -23,6 +24,8 @@ pieces-preserved g c =
         full = some.prints.full ∙ before.frame.full;
         log = some.prints.log ∙ before.frame.log;
       };
+      mark = some.prints.mark ∙ before.mark;
+      rows = marks-then c.args.self.now c.pieces.self c.print_first.new.self before.frame.height before.mark before.rows some.prints.rows;
       screen = screen-left _ c.pieces.self c.print_first.new.self c.pieces.rest.now c.in_ok-rest.rest.now some ∙ before.screen;
       kept = kept-left _ c.pieces.self c.print_first.new.self c.pieces.rest.now c.in_ok-rest.rest.now some ∙ before.kept;
     }
@@ -43,6 +46,8 @@ returns-clause-ok g c =
       height = before.frame.height;
       full = before.frame.full;
       log = before.frame.log;
+      mark = before.mark;
+      rows = before.rows;
       screen_is = sym (ap (fold (print_one f) (screen_of c.pieces.self)) nothing) ∙ before.screen;
       kept_is = sym (ap (kept_after f (screen_of c.pieces.self) (kept_of c.pieces.self)) nothing) ∙ before.kept;
     }

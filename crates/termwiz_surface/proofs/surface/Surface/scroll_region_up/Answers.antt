@@ -1,35 +1,48 @@
-use Rattle.std.proofs.Common.{◌+◌, ◌≤◌, length, ap, refl, sym, subst}
+use Rattle.std.proofs.Common.{[], ◌+◌, ◌≤◌, length, ap, refl, sym, subst, arith}
 use Rattle.std.specs.Prelude.{None, string_bytes}
 use Rattle.termwiz_cell.specs.Measure.{measure}
 use Rattle.termwiz_screen.specs.ScreenValue.{cells_of}
 use Rattle.termwiz_surface.specs.Surface.{SurfaceValue}
+use Rattle.termwiz_line.specs.LineFlags.{no_flags}
+use Rattle.std.proofs.lemmas.List.{length-map}
+use Rattle.termwiz_screen.proofs.Lines.{length-cells_of}
+use Rattle.termwiz_screen.specs.Sides.{row_flags}
 use Rattle.termwiz_screen.proofs.Sides.{sides-full}
-use Rattle.termwiz_surface.proofs.Drawn.{any_flags, IsSound-partly_reset, IsSound-up}
+use Rattle.termwiz_surface.proofs.Drawn.{any_flags, any_numbers, IsSound-partly_reset, IsSound-up}
 use Rattle.termwiz_screen.proofs.RowChanges.Scrolled.{rows-up, lengths-up}
+use Rattle.termwiz_surface.proofs.RowNumbers.{marks-rows, up-outside}
 use Rattle.termwiz_surface.proofs.surface.Surface.scroll_region_up.Goals as goal
 
 pub invariant_of-self : goal.invariant_of-self
 invariant_of-self g c = (
   any_flags _ _ _ (sides-full c.scroll_region_up.new.rows.items refl) (IsSound-partly_reset (measure g.W.Widths.width_of c.self.inside.widths) _ (record { space = g.met.W.Widths.space_has_one c.self.inside.widths None }) c.self.invariant.0 _ c.in_err-scroll_region_up.ensures.err),
   c.in_err-scroll_region_up.ensures.vectors c.self.invariant.1,
+  c.self.invariant.2,
 )
 
 pub invariant_of-self-2 : goal.invariant_of-self-2
 invariant_of-self-2 g c =
     let inside : c.args.first + c.args.size ≤ c.self.inside.height = subst (λ (s : SurfaceValue _). c.args.first + c.args.size ≤ s.height) (sym c.self.view_is) c.requires in (
       rw c.in_ok-scroll_region_up.ensures.ok
-          (any_flags _ _ _ (sides-full c.scroll_region_up.new.rows.items (ap length c.in_ok-scroll_region_up.ensures.ok)) (IsSound-up (measure g.W.Widths.width_of c.self.inside.widths) _ (record { space = g.met.W.Widths.space_has_one c.self.inside.widths None }) c.self.invariant.0 c.args.first c.args.size c.args.count inside)),
+          (any_numbers _ _ _ _ (any_flags _ _ _ (sides-full c.scroll_region_up.new.rows.items (ap length c.in_ok-scroll_region_up.ensures.ok)) (IsSound-up (measure g.W.Widths.width_of c.self.inside.widths) _ (record { space = g.met.W.Widths.space_has_one c.self.inside.widths None }) c.self.invariant.0 c.args.first c.args.size c.args.count inside))),
       c.in_ok-scroll_region_up.ensures.vectors c.self.invariant.1,
+      omega (arith, c.mark_rows.ensures.same_count, c.mark_rows.new.numbers.ok.0, c.self.inside.numbers.ok.0, c.self.invariant.2),
     )
 
 pub returns-clause-ok : goal.returns-clause-ok
 returns-clause-ok g c =
+    let inside : c.args.first + c.args.size ≤ c.self.inside.height = subst (λ (s : SurfaceValue _). c.args.first + c.args.size ≤ s.height) (sym c.self.view_is) c.requires in
+    let long : c.args.first + c.args.size ≤ length (cells_of c.self.inside.rows.items) = omega (arith, inside, c.self.invariant.0.full) in
     rw (← c.self.view_is, c.in_ok-scroll_region_up.ensures.ok) (record {
       widths = refl;
       width = refl;
       height = refl;
       full = refl;
       log = refl;
+      mark = refl;
+      rows = marks-rows _ c.args.first c.args.size _ _ _ _ _ _ _ c.mark_rows.ensures
+          (λ j out. up-outside _ (cells_of c.self.inside.rows.items) c.args.first c.args.size c.args.count j [] long out)
+          (λ j out. rw c.in_ok-scroll_region_up.ensures.flags (up-outside no_flags (row_flags c.self.inside.rows.items) c.args.first c.args.size c.args.count j no_flags (omega (arith, long, length-map c.self.inside.rows.items (λ l. l.flags), length-cells_of c.self.inside.rows.items)) out));
       screen_is = rw (rows-up c.self.inside.width (cells_of c.self.inside.rows.items) c.args.first c.args.size c.args.count) refl;
       kept_is = λ i. record {
         lengths = lengths-up c.self.inside.width (cells_of c.self.inside.rows.items) c.args.first c.args.size c.args.count i;

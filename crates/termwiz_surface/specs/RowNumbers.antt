@@ -1,0 +1,25 @@
+-- What the numbers of rows say: which rows may differ from what they were at a number.
+use Rattle.std.specs.Prelude.{◌≡◌, ℕ, ◌+◌, ◌<◌, ◌≤◌, ◌⊎◌, List, length, slice_index_or}
+use Rattle.termwiz_screen.specs.Log.{next_number}
+use Rattle.termwiz_surface.specs.Surface.{SurfaceValue, RowStays, number_at}
+
+-- the numbers from index a on, n of them, are this one, and the others stay
+pub record AreMarked (a n number : ℕ) (old new : List ℕ) : Type 0 where
+  pub same_count : length new ≡ length old
+  pub inside : (j : ℕ) → a ≤ j → j < a + n → slice_index_or new j 0 ≡ number
+  pub outside :
+      (j : ℕ) → (j < a) ⊎ (a + n ≤ j) → slice_index_or new j 0 ≡ slice_index_or old j 0
+
+module _ {W : Type 0} where
+  -- the surface has its old size, and row j its old cells, flags and number
+  abbrev pub HasStayed : SurfaceValue W → SurfaceValue W → ℕ → Type 0
+  HasStayed old new j =
+      (new.width ≡ old.width) × (new.height ≡ old.height) × RowStays old new j
+
+  -- Whatever number n the surface has had: a row whose number isn't above n now is as it was. 0 is
+  -- no such number.
+  pub record NumbersRows (old new : SurfaceValue W) : Type 0 where
+    pub stayed :
+        (n j : ℕ) → 0 < n → n ≤ next_number old.log → j < new.height → number_at new j ≤ n →
+        HasStayed old new j
+    pub grows : next_number old.log ≤ next_number new.log

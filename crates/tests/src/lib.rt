@@ -20,6 +20,8 @@ mod lines;
 #[cfg(test)]
 mod passed;
 #[cfg(test)]
+mod row_numbers;
+#[cfg(test)]
 mod runs;
 #[cfg(test)]
 mod runs_of_text;

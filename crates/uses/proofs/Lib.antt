@@ -3,6 +3,7 @@ mod Followed
 mod HeadingRow
 mod MadeFully
 mod Passed
+mod RowCopies
 mod RowsOfForm
 mod SameLists
 mod Served

@@ -15,6 +15,7 @@ pub mod quiet;
 pub mod relay;
 pub mod remote;
 pub mod renderer;
+pub mod row_copies;
 pub mod scrollback;
 pub mod serving;
 pub mod shaper;

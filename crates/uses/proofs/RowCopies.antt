@@ -1,0 +1,35 @@
+-- Copies of rows, of which one is taken again.
+use Rattle.std.proofs.Common.{◌≡◌, ℕ, ◌<◌, List, [], length, sym, ◌∙◌, ap, arith}
+use Rattle.std.specs.Prelude.{slice_set, Result, Ok, Err}
+use Rattle.std.proofs.lemmas.List.{length-map, map-set, get_or-set_same, get_or-set_other}
+use Rattle.termwiz_cell.specs.ChangeValue.{ChangeValue}
+use Rattle.termwiz_surface.specs.{Adds, CellValue, LineValue, NumbersRows, SurfaceValue, cells_of, next_number, row_at}
+use Rattle.termwiz_surface.specs.declared.surface.SurfaceError.{SurfaceError}
+use Rattle.termwiz_surface.specs.declared.surface.SurfaceError.TheVariants.{Memory, Numbers, ScrollRegion}
+use Rattle.uses.specs.RowCopies.{AreCopiesAt}
+
+-- one copy is another line, and the others stay
+pub copied-here : (lines : List LineValue) (k : ℕ) (line : LineValue) → k < length lines → row_at (cells_of (slice_set lines k line)) k ≡ line.cells
+copied-here lines k line inside =
+    ap (λ (rows : List (List CellValue)). row_at rows k) (map-set (λ (l : LineValue). l.cells) lines k line)
+    ∙ get_or-set_same (cells_of lines) k line.cells [] (omega (arith, inside, length-map lines (λ (l : LineValue). l.cells)))
+
+pub copied-there : (lines : List LineValue) (k j : ℕ) (line : LineValue) → (j ≡ k → ⊥) → row_at (cells_of (slice_set lines k line)) j ≡ row_at (cells_of lines) j
+copied-there lines k j line other =
+    ap (λ (rows : List (List CellValue)). row_at rows j) (map-set (λ (l : LineValue). l.cells) lines k line)
+    ∙ get_or-set_other (cells_of lines) k j line.cells [] other
+
+module _ {W : Type 0} where
+  -- adding changes leaves the height, errors included
+  adds-height : (f : List ℕ → ℕ) (old new : SurfaceValue W) (cs : List ChangeValue) (n : ℕ) (result : Result ℕ SurfaceError) → Adds f old cs n result new → new.height ≡ old.height
+  adds-height f old new cs n (Ok k) a = a.3.height
+  adds-height f old new cs n (Err ScrollRegion) a = ap (λ (s : SurfaceValue W). s.height) a.1
+  adds-height f old new cs n (Err Numbers) a = ap (λ (s : SurfaceValue W). s.height) a.2
+  adds-height f old new cs n (Err Memory) a = a.3.height
+
+  -- what were the surface's rows are copies at the number that it had
+  pub copies-at : (f : List ℕ → ℕ) (old new : SurfaceValue W) (cs : List ChangeValue) (n : ℕ) (result : Result ℕ SurfaceError) (copies : List (List CellValue)) → copies ≡ old.lines → length old.lines ≡ old.height → Adds f old cs n result new → NumbersRows old new → AreCopiesAt (next_number old.log) new copies
+  copies-at f old new cs n result copies is full adds numbered = record {
+    all = ap length is ∙ full ∙ sym (adds-height f old new cs n result adds);
+    rows = λ j some l le. ap (λ (rows : List (List CellValue)). row_at rows j) is ∙ sym (numbered.stayed (next_number old.log) j some (omega arith) l le).2.0;
+  }

@@ -1,0 +1,29 @@
+use Rattle.std.proofs.Common.{◌≡◌, ◌<◌, inl, inr, [], length, slice_set, sym, ◌∙◌, ap, arith}
+use Rattle.std.proofs.lemmas.Bool.{cases_eq}
+use Rattle.std.proofs.lemmas.List.{ext_get_or, length-map, length-set}
+use Rattle.termwiz_surface.specs.{LineValue, cells_of, row_at}
+use Rattle.uses.proofs.RowCopies.{copied-here, copied-there}
+use Rattle.uses.proofs.row_copies.refresh_rows.Goals as goal
+
+pub loop-row-preserved : goal.loop-row-preserved
+loop-row-preserved g c =
+    let before = c.loop-row.invariant in
+    let copies = c.loop-row.copies in
+    let row = c.loop-row.row in
+    let copy : LineValue = c.refresh_row.new.copy in
+    let count : length (cells_of copies) ≡ length copies = length-map copies (λ (l : LineValue). l.cells) in
+    let inside : row < length copies = omega (arith, before.all, count, c.loop-row-test.true, c.dimensions-height.ensures.height) in
+    record {
+      all = omega (arith, before.all, count, length-set copies row copy, length-map (slice_set copies row copy) (λ (l : LineValue). l.cells));
+      done = λ j l. elim (cases_eq j row) [
+        | inl e ↦ ap (row_at (cells_of (slice_set copies row copy))) e ∙ copied-here copies row copy inside ∙ c.in_ok-refresh_row.ensures.copied ∙ ap (row_at c.args.surface.now.lines) (sym e)
+        | inr other ↦ copied-there copies row j copy other ∙ before.done j (omega arith)
+      ];
+      left = λ j l. copied-there copies row j copy (λ e. omega arith) ∙ before.left j (omega arith);
+    }
+
+pub returns-clause-copied : goal.returns-clause-copied
+returns-clause-copied g c =
+    let done = c.loop-row.invariant in
+    ext_get_or [] (cells_of c.loop-row.copies) c.args.surface.now.lines (done.all ∙ sym c.dimensions-height.ensures.sound.full)
+    (λ j l. done.done j (omega (arith, l, done.all, c.loop-row-test.false, c.dimensions-height.ensures.height)))

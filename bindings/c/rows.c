@@ -213,11 +213,43 @@ static void test_changes(void) {
     tk_free(&copy);
 }
 
+/* The rows that may have changed since a number, of a surface whose rows show a text each. */
+static void test_changed_rows(void) {
+    static const struct {
+        const char *text;
+        size_t column, row;
+        uint8_t changed[4];
+    } cases[] = {
+        {"", 1, 2, {0, 0, 0, 0}},    {"x", 1, 1, {0, 1, 0, 0}},  {"wxyz", 0, 3, {0, 0, 0, 1}},
+        {"xyz", 2, 0, {1, 1, 0, 0}}, {"\n", 0, 1, {0, 0, 0, 0}}, {"\n", 0, 3, {1, 1, 1, 1}},
+    };
+    static const uint8_t none[4] = {0}, all[4] = {1, 1, 1, 1};
+    for (size_t k = 0; k < sizeof cases / sizeof *cases; k++) {
+        tk_handle surface = made(4, 4);
+        uint8_t rows[4];
+        size_t since = 0, now = 0, count = 0;
+        CHECK(print(&surface, "a\r\nb\r\nc\r\nd") == TK_DONE);
+        CHECK(tk_number(&surface, &since) == TK_DONE);
+        CHECK(tk_move_to(&surface, cases[k].column, cases[k].row) == TK_DONE);
+        CHECK(print(&surface, cases[k].text) == TK_DONE && tk_number(&surface, &now) == TK_DONE);
+        CHECK(tk_changed_rows(&surface, since, rows, 3, &count) == TK_SHORT && count == 4);
+        CHECK(tk_changed_rows(&surface, since, rows, 4, &count) == TK_DONE && count == 4);
+        CHECK(memcmp(rows, cases[k].changed, 4) == 0);
+        CHECK(tk_changed_rows(&surface, now, rows, 4, &count) == TK_DONE);
+        CHECK(memcmp(rows, none, 4) == 0);
+        CHECK(tk_changed_rows(&surface, 0, rows, 4, &count) == TK_DONE);
+        CHECK(memcmp(rows, all, 4) == 0);
+        tk_free(&surface);
+        CHECK(tk_changed_rows(&surface, 0, rows, 4, &count) == TK_NO_HANDLE);
+    }
+}
+
 int main(void) {
     test_rows();
     test_short_rows();
     test_shown_rows();
     test_changes();
+    test_changed_rows();
     printf("%d checks\n", checks);
     return failures != 0;
 }

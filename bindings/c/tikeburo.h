@@ -240,6 +240,12 @@ tk_status tk_pen_link(tk_handle *handle, char *uri, size_t room, size_t *len);
 tk_status tk_pen_link_param(tk_handle *handle, size_t index, char *key, size_t key_room,
                             size_t *key_len, char *value, size_t value_room, size_t *value_len);
 
+/* For each row from the top 1 if it may differ from what it was when what is shown had the number
+ * since (tk_number), in its cells or in how large it is shown, and 0 if it doesn't: *count rows. Each
+ * row may differ where since is 0. TK_SHORT. */
+tk_status tk_changed_rows(tk_handle *handle, size_t since, uint8_t *rows, size_t room,
+                          size_t *count);
+
 /* The texts of all rows' visible cells within their stored lengths, with a line feed after each
  * row. TK_SHORT. */
 tk_status tk_screen_text(tk_handle *handle, char *text, size_t room, size_t *len);

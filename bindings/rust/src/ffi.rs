@@ -174,6 +174,13 @@ extern "C" {
         value_room: usize,
         value_len: *mut usize,
     ) -> i32;
+    pub fn tk_changed_rows(
+        handle: *mut tk_handle,
+        since: usize,
+        rows: *mut u8,
+        room: usize,
+        count: *mut usize,
+    ) -> i32;
     pub fn tk_screen_text(
         handle: *mut tk_handle,
         text: *mut u8,

@@ -361,6 +361,33 @@ impl Surface {
         self.handle.number(ffi::tk_number).unwrap_or_default()
     }
 
+    /// For each row from the top whether it may differ from what it was when the surface had this
+    /// [number](Surface::current_seqno), in its cells or in how large it is shown. Each row may
+    /// where that is 0.
+    ///
+    /// ```
+    /// use tikeburo::Surface;
+    ///
+    /// let mut surface = Surface::new(8, 3)?;
+    /// surface.add_change("one\r\ntwo")?;
+    /// let since = surface.current_seqno();
+    /// surface.add_change("!")?;
+    /// assert_eq!(surface.changed_rows(since)?, [false, true, false]);
+    /// # Ok::<(), tikeburo::Error>(())
+    /// ```
+    ///
+    /// # Errors
+    ///
+    /// [`Error::Memory`].
+    pub fn changed_rows(&self, since: SequenceNo) -> Result<Vec<bool>, Error> {
+        let handle = self.handle.get();
+        // Safety: the handle is live, and the buffer has the room that is named.
+        let rows = handle::bytes(&mut [0; 64], |rows, room, count| unsafe {
+            ffi::tk_changed_rows(handle, since, rows, room, count)
+        })?;
+        Ok(rows.into_iter().map(|row| row != 0).collect())
+    }
+
     /// Whether a change was made since this was the number of the coming one.
     #[must_use]
     pub fn has_changes(&self, number: SequenceNo) -> bool {

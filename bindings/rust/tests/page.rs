@@ -120,7 +120,9 @@ fn rows() -> Outcome {
     let mut surface = Surface::new(8, 2)?;
     let mut list = Changes::new();
     surface.add(list.move_to(x, y).pen(&attributes).text("text"))?;
+    let number = surface.current_seqno();
     surface.copy_region(x, y, width, 1, x + 1, y)?;
+    assert!(surface.changed_rows(number)?[y]);
     let copy = Surface::copy_of(&surface)?;
     let row = copy.row(y);
     assert_eq!(row.text()?.trim_end(), " ttext");
@@ -132,6 +134,7 @@ fn rows() -> Outcome {
     assert_eq!(graphemes("text", Widths::Unicode)?.len(), 4);
     assert_eq!(text_width("text", Widths::Unicode), 4);
     assert_eq!(row.line_attribute()?, LineAttribute::SingleWidthLine);
+    assert!(row.link_params(column)?.is_empty());
     Ok(())
 }
 

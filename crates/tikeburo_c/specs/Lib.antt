@@ -1,5 +1,6 @@
 pub mod Access
 pub mod Cells
+pub mod ChangedRows
 pub mod Changes
 pub mod Diffs
 pub mod Drawing

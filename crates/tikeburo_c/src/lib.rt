@@ -6,6 +6,7 @@ mod answers;
 mod buffers;
 mod carried;
 mod cells;
+mod changed_rows;
 mod changes;
 mod clients;
 mod diffs;

@@ -104,7 +104,11 @@ impl Parser {
             joined.extend_from_slice(bytes);
             rest = &joined;
         }
-        while let Err(error) = str::from_utf8(rest) {
+        loop {
+            let error = match str::from_utf8(rest) {
+                Ok(text) => return self.characters(text, take),
+                Err(error) => error,
+            };
             let (good, behind) = rest.split_at(error.valid_up_to());
             self.characters(str::from_utf8(good).unwrap_or_default(), take)?;
             let Some(length) = error.error_len() else {
@@ -115,7 +119,6 @@ impl Parser {
             self.wrong_bytes(wrong, take)?;
             rest = behind;
         }
-        self.characters(str::from_utf8(rest).unwrap_or_default(), take)
     }
 
     /// Takes characters: runs of a text, and what stands between.
@@ -239,10 +242,15 @@ impl Parser {
 
     fn begin(&mut self, state: State) {
         self.state = state;
-        self.osc.clear();
-        self.params.clear();
-        self.number = 0;
-        self.mark = None;
+        match state {
+            State::Csi => {
+                self.params.clear();
+                self.number = 0;
+                self.mark = None;
+            }
+            State::Osc => self.osc.clear(),
+            _ => {}
+        }
     }
 }
 

@@ -110,8 +110,10 @@ impl Stage {
     fn head(&self, word: &str) -> Result<String, PlayError> {
         let bytes = bytes_of(self.alloc, word)?;
         match decode_head(Limits::default(), bytes.as_slice()) {
-            Ok(head) => Ok(format!(in self.alloc; "[2, {}, {}, {}, {}, {}], {} changes\n",
-                head.source, head.width, head.height, head.base, head.number, head.count)?),
+            Ok(head) => Ok(format!(in self.alloc;
+                "[2, {}, {}, {}, {}, {}], {} changes\n",
+                head.source, head.width, head.height, head.base, head.number, head.count
+            )?),
             Err(fault) => Ok(format!(in self.alloc; "{fault}\n")?),
         }
     }

@@ -1,9 +1,9 @@
 -- Rows that changes leave, and those that they mark.
 use Rattle.std.proofs.Common.{◌≡◌, ℕ, ◌+◌, ◌<◌, ◌≤◌, true, false, inl, inr, ◌⊎◌, List, [], ◌++◌, ◌-◌, length, get_or, take, drop, replicate, refl, sym, ◌∙◌, ap, subst, arith, length-append, length-take, length-drop}
-use Rattle.std.specs.Prelude.{slice_set, Result, Ok, Err, OnOk, OnErr, ◌==◌}
+use Rattle.std.specs.Prelude.{slice_set, max, Result, Ok, Err, OnOk, OnErr, ◌==◌}
 use Rattle.std.specs.Result.{is_err}
 use Rattle.std.proofs.lemmas.Bool.{cases_Bool, cases_eq, cases_lt, true≢false, eqb-true}
-use Rattle.std.proofs.lemmas.List.{length-set, get_or-set_same, get_or-set_other, get_or-replicate, get_or_past, get_or_append_left, get_or-append_right, get_or-drop, get_or-take, length-replicate}
+use Rattle.std.proofs.lemmas.List.{length-set, get_or-set_same, get_or-set_other, get_or_past, get_or_append_left, get_or-append_right, get_or-drop, get_or-take, get_or-map, length-replicate, length-map, map-set}
 use Rattle.termwiz_cell.specs.ChangeValue.{ChangeValue}
 use Rattle.termwiz_cell.specs.CellValue.{CellValue}
 use Rattle.termwiz_line.specs.LineFlags.{LineFlags, no_flags}
@@ -11,21 +11,40 @@ use Rattle.termwiz_screen.specs.Log.{LogValue, next_number, appended, flushed, r
 use Rattle.termwiz_screen.specs.Screen.{row_at}
 use Rattle.termwiz_screen.specs.ScrollRegions.{with_region, region_up, region_down}
 use Rattle.termwiz_screen.proofs.Logs.{flushed_number}
+use Rattle.termwiz_screen.proofs.Regions.{map-replicate}
 use Rattle.termwiz_surface.specs.Adding.{Makes, with_log}
 use Rattle.termwiz_surface.specs.RowNumbers.{AreMarked, NumbersRows}
 use Rattle.termwiz_screen.specs.Step.{replay, replay_kept}
-use Rattle.termwiz_surface.specs.Surface.{SurfaceValue, Becomes, MarksRows, RowStays, SameFrame, number_at, screen_of, kept_of}
+use Rattle.termwiz_surface.specs.Surface.{SurfaceValue, Becomes, MarksRows, RowStays, SameFrame, number_at, numbers_over, screen_of, kept_of}
+
+-- ---- numbers over one for all rows
+
+over-set : (all : ℕ) (own : List ℕ) (a number : ℕ) → a < length own → numbers_over all (slice_set own a number) ≡ slice_set (numbers_over all own) a (max all number)
+over-set all own a number l = map-set (max all) own a number
+
+-- each is at least the one for all
+pub over-least : (all : ℕ) (own : List ℕ) (j : ℕ) → j < length own → all ≤ get_or (numbers_over all own) j 0
+over-least all own j l = let at : get_or (numbers_over all own) j 0 ≡ max all (get_or own j 0) = get_or-map (max all) own j 0 0 l in omega (arith, at)
+
+-- no row has a number of its own
+pub over-zeros : (n number : ℕ) → numbers_over number (replicate n 0) ≡ replicate n number
+over-zeros n number = map-replicate (max number) n 0 ∙ ap (replicate n) (let e : max number 0 ≡ number = omega arith in e)
 
 -- one number
-pub marked-one : (xs : List ℕ) (a number : ℕ) → a < length xs → AreMarked a 1 number xs (slice_set xs a number)
-marked-one xs a number l = record {
-  same_count = length-set xs a number;
-  inside = λ j from to. ap (λ k. get_or (slice_set xs a number) k 0) (let e : j ≡ a = omega arith in e) ∙ get_or-set_same xs a number 0 l;
-  outside = λ j out. get_or-set_other xs a j number 0 (λ e. elim out [
-    | inl before ↦ omega arith
-    | inr behind ↦ omega arith
-  ]);
-}
+pub marked-one : (all : ℕ) (own : List ℕ) (a number : ℕ) → a < length own → AreMarked a 1 number (numbers_over all own) (numbers_over all (slice_set own a number))
+marked-one all own a number l =
+    let xs = numbers_over all own in
+    let inside : a < length xs = omega (arith, l, length-map own (max all)) in
+    rw (over-set all own a number l) (record {
+      same_count = length-set xs a (max all number);
+      inside = λ j from to.
+          let at : get_or (slice_set xs a (max all number)) j 0 ≡ max all number = ap (λ k. get_or (slice_set xs a (max all number)) k 0) (let e : j ≡ a = omega arith in e) ∙ get_or-set_same xs a (max all number) 0 inside in
+          omega (arith, at);
+      outside = λ j out. get_or-set_other xs a j (max all number) 0 (λ e. elim out [
+        | inl before ↦ omega arith
+        | inr behind ↦ omega arith
+      ]);
+    })
 
 -- none
 pub marked-none : (xs : List ℕ) (a number : ℕ) → AreMarked a 0 number xs xs
@@ -36,18 +55,30 @@ marked-none xs a number = record {
 }
 
 -- one more
-pub marked-more : (xs ys : List ℕ) (a n number : ℕ) → a + n < length xs → AreMarked a n number xs ys → AreMarked a (n + 1) number xs (slice_set ys (a + n) number)
-marked-more xs ys a n number l m =
-    let inside : a + n < length ys = omega (arith, m.same_count) in
+pub marked-more : (xs ys zs : List ℕ) (a row number : ℕ) → a ≤ row → AreMarked a (row - a) number xs ys → AreMarked row 1 number ys zs → AreMarked a (row + 1 - a) number xs zs
+marked-more xs ys zs a row number from m one = record {
+  same_count = one.same_count ∙ m.same_count;
+  inside = λ j after to. elim (cases_eq j row) [
+    | inl e ↦ one.inside j (omega (arith, e)) (omega (arith, e))
+    | inr other ↦ let same : get_or zs j 0 ≡ get_or ys j 0 = one.outside j (inl (omega arith)) in omega (arith, same, m.inside j after (omega arith))
+  ];
+  outside = λ j out. elim out [
+    | inl before ↦ one.outside j (inl (omega arith)) ∙ m.outside j (inl before)
+    | inr behind ↦ one.outside j (inr (omega arith)) ∙ m.outside j (inr (omega arith))
+  ];
+}
+
+-- all rows
+pub marked-all : (all number : ℕ) (own : List ℕ) (n : ℕ) → length own ≡ n → AreMarked 0 n number (numbers_over all own) (numbers_over number own)
+marked-all all number own n e =
+    let old : length (numbers_over all own) ≡ n = length-map own (max all) ∙ e in
+    let new : length (numbers_over number own) ≡ n = length-map own (max number) ∙ e in
     record {
-      same_count = length-set ys (a + n) number ∙ m.same_count;
-      inside = λ j from to. elim (cases_eq j (a + n)) [
-        | inl e ↦ ap (λ k. get_or (slice_set ys (a + n) number) k 0) e ∙ get_or-set_same ys (a + n) number 0 inside
-        | inr other ↦ get_or-set_other ys (a + n) j number 0 other ∙ m.inside j from (omega arith)
-      ];
+      same_count = new ∙ sym old;
+      inside = λ j from to. over-least number own j (omega (arith, to, e));
       outside = λ j out. elim out [
-        | inl before ↦ get_or-set_other ys (a + n) j number 0 (λ e. omega arith) ∙ m.outside j (inl before)
-        | inr behind ↦ get_or-set_other ys (a + n) j number 0 (λ e. omega arith) ∙ m.outside j (inr (omega arith))
+        | inl before ↦ absurd (omega arith)
+        | inr behind ↦ get_or_past (numbers_over number own) j 0 (omega (arith, new)) ∙ sym (get_or_past (numbers_over all own) j 0 (omega (arith, old)))
       ];
     }
 
@@ -59,9 +90,9 @@ module _ {W : Type 0} where
   -- two steps
   pub marks-then : (r s t : SurfaceValue W) → s.height ≡ r.height → s.mark ≡ r.mark → MarksRows r s → MarksRows s t → MarksRows r t
   marks-then r s t height mark first second = λ j l. elim (second j (subst (λ (h : ℕ). j < h) (sym height) l)) [
-    | inl is ↦ inl (is ∙ mark)
+    | inl is ↦ inl (omega (arith, is, mark))
     | inr stays ↦ elim (first j l) [
-      | inl is ↦ inl (stays.2 ∙ is)
+      | inl is ↦ inl (omega (arith, is, stays.2))
       | inr stayed ↦ inr (stays.0 ∙ stayed.0, stays.1 ∙ stayed.1, stays.2 ∙ stayed.2)
     ]
   ]
@@ -93,7 +124,7 @@ module _ {X : Type 0} (d : X) (xs : List X) (a n k j : ℕ) (e : X) (inside : a 
 module _ (height a n mark : ℕ) (numbers marked : List ℕ) (lines lines' : List (List CellValue)) (flags flags' : List LineFlags) (m : AreMarked a n mark numbers marked) where
   -- each row is marked, or has its cells, flags and number
   abbrev Marked : Type 0
-  Marked = (j : ℕ) → j < height → (get_or marked j 0 ≡ mark) ⊎ ((row_at lines' j ≡ row_at lines j) × (get_or flags' j no_flags ≡ get_or flags j no_flags) × (get_or marked j 0 ≡ get_or numbers j 0))
+  Marked = (j : ℕ) → j < height → (mark ≤ get_or marked j 0) ⊎ ((row_at lines' j ≡ row_at lines j) × (get_or flags' j no_flags ≡ get_or flags j no_flags) × (get_or marked j 0 ≡ get_or numbers j 0))
 
   -- rows from a on, n of them, are marked, and the others stay
   pub marks-rows : ((j : ℕ) → IsOutside a n j → row_at lines' j ≡ row_at lines j) → ((j : ℕ) → IsOutside a n j → get_or flags' j no_flags ≡ get_or flags j no_flags) → Marked
@@ -127,17 +158,6 @@ marks-flags height y mark numbers marked lines flags own m = marks-rows height y
 pub marks-all : (height n mark : ℕ) (numbers marked : List ℕ) (lines lines' : List (List CellValue)) (flags flags' : List LineFlags) → height ≤ n → (m : AreMarked 0 n mark numbers marked) → Marked height 0 n mark numbers marked lines lines' flags flags' m
 marks-all height n mark numbers marked lines lines' flags flags' all m = λ j l. inl (m.inside j (omega arith) (omega arith))
 
--- all numbers are one
-pub marked-all : (xs : List ℕ) (n number : ℕ) → length xs ≡ n → AreMarked 0 n number xs (replicate n number)
-marked-all xs n number e = record {
-  same_count = length-replicate n number ∙ sym e;
-  inside = λ j from to. get_or-replicate n j number 0 (omega arith);
-  outside = λ j out. elim out [
-    | inl before ↦ absurd (omega arith)
-    | inr behind ↦ get_or_past (replicate n number) j 0 (omega (arith, length-replicate n number)) ∙ sym (get_or_past xs j 0 (omega (arith, e)))
-  ];
-}
-
 module _ {W : Type 0} where
   -- changes were made under the number that the list has, and then logged
   pub makes-logged : (f : List ℕ → ℕ) (s m : SurfaceValue W) (cs : List ChangeValue) (mark : ℕ) (log : LogValue) → mark ≡ next_number s.log + length cs → log ≡ appended s.log cs
@@ -153,7 +173,7 @@ module _ {W : Type 0} where
         screen_is = b.screen_is;
         kept_is = b.kept_is;
         mark = b.mark ∙ number;
-        rows = subst (λ (k : ℕ). (j : ℕ) → j < s.height → (number_at m j ≡ k) ⊎ RowStays s m j) number b.rows;
+        rows = subst (λ (k : ℕ). (j : ℕ) → j < s.height → (k ≤ number_at m j) ⊎ RowStays s m j) number b.rows;
       }
 
 -- ---- what the numbers say
@@ -201,7 +221,7 @@ module _ {W : Type 0} where
       }
 
   -- all rows have the number of an emptied log
-  pub numbers-restarted : (s t : SurfaceValue W) → t.log ≡ restarted s.log → ((j : ℕ) → j < t.height → number_at t j ≡ next_number t.log) → NumbersRows s t
+  pub numbers-restarted : (s t : SurfaceValue W) → t.log ≡ restarted s.log → ((j : ℕ) → j < t.height → next_number t.log ≤ number_at t j) → NumbersRows s t
   numbers-restarted s t log all = record {
     stayed = λ n j some known l le.
         let above : next_number s.log < next_number t.log = rw log (restarted_more s.log (omega (arith, some, known))) in
@@ -224,7 +244,7 @@ module _ {W : Type 0} where
   ]
   numbers-made f s t cs (Err x) e none m = absurd (true≢false e)
 
-  pub numbers-unmade : {E : Type 0} (s t u : SurfaceValue W) (result : Result (Unit {0}) E) → is_err result ≡ true → OnErr result (SameFrame s t) → u.log ≡ restarted t.log → ((j : ℕ) → j < u.height → number_at u j ≡ next_number u.log) → NumbersRows s u
+  pub numbers-unmade : {E : Type 0} (s t u : SurfaceValue W) (result : Result (Unit {0}) E) → is_err result ≡ true → OnErr result (SameFrame s t) → u.log ≡ restarted t.log → ((j : ℕ) → j < u.height → next_number u.log ≤ number_at u j) → NumbersRows s u
   numbers-unmade s t u (Ok x) e m log all = absurd (true≢false (sym e))
   numbers-unmade s t u (Err x) e m log all = numbers-restarted s u (log ∙ ap restarted m.log) all
 
@@ -232,4 +252,14 @@ module _ {W : Type 0} where
   numbers-flushed s k = record {
     stayed = λ n j some known l le. (refl, refl, (refl, refl, refl));
     grows = omega (arith, flushed_number s.log k);
+  }
+
+  -- another surface takes its place, whose rows have greater numbers than any that it had
+  pub numbers-replaced : (s fresh t : SurfaceValue W) → next_number s.log < next_number fresh.log → ((j : ℕ) → j < fresh.height → next_number s.log < number_at fresh j) → NumbersRows fresh t → NumbersRows s t
+  numbers-replaced s fresh t later above then = record {
+    stayed = λ n j some known l le.
+        let stays = then.stayed n j some (omega (arith, known, later)) l le in
+        let inside : j < fresh.height = subst (λ (h : ℕ). j < h) stays.1 l in
+        absurd (omega (arith, above j inside, stays.2.2, known, le));
+    grows = omega (arith, later, then.grows);
   }

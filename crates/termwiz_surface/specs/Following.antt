@@ -12,7 +12,7 @@ use Rattle.termwiz_screen.specs.Screen.{Screen}
 use Rattle.termwiz_screen.specs.Step.{regions_fit}
 use Rattle.termwiz_screen.specs.Stream.{IsStream, IsFullStream, most_entries, stream_of}
 use Rattle.termwiz_screen.specs.FullScreen.{FullScreen}
-use Rattle.termwiz_surface.specs.Surface.{SurfaceValue, blank_surface, screen_of, full_of}
+use Rattle.termwiz_surface.specs.Surface.{SurfaceValue, blank_surface, blank_surface_from, screen_of, full_of}
 use Rattle.termwiz_screen.specs.Picture.{Pictures, screens, full_screens, played}
 use Rattle.termwiz_surface.specs.declared.surface.SurfaceError.{SurfaceError}
 use Rattle.termwiz_surface.specs.declared.surface.SurfaceError.TheVariants.{ScrollRegion, Numbers, Memory}
@@ -60,6 +60,11 @@ module _ {W : Type 0} where
   -- a viewer with a blank surface of that size, width value and kind, and no number
   abbrev pub blank_viewer : SurfaceValue W → ViewerValue W
   blank_viewer s = record { surface = blank_surface s.widths s.width s.height s.full; last = 0 }
+
+  -- such a viewer, whose surface has this number
+  abbrev pub blank_viewer_from : SurfaceValue W → ℕ → ViewerValue W
+  blank_viewer_from s number =
+      record { surface = blank_surface_from s.widths s.width s.height s.full number; last = 0 }
 
   -- the viewer has the surface's size
   abbrev pub has_size_of : ViewerValue W → SurfaceValue W → Bool

@@ -49,13 +49,13 @@ pub use Rattle.termwiz_screen.specs.Fewest
 pub use Rattle.termwiz_screen.specs.SequenceLaws
 pub use Rattle.termwiz_cell.specs.ChangeValue
 -- what callers cite, by its name alone: surfaces, viewers and answers,
-pub use Rattle.termwiz_surface.specs.Surface.{SurfaceValue, blank_surface, screen_of, kept_of, full_of, IsSound, IsSurfaceSize, SameFrame, number_at, RowStays}
+pub use Rattle.termwiz_surface.specs.Surface.{SurfaceValue, blank_surface, blank_surface_from, screen_of, kept_of, full_of, IsSound, IsSurfaceSize, SameFrame, number_at, RowStays}
 pub use Rattle.termwiz_surface.specs.RowNumbers.{HasStayed, NumbersRows}
 pub use Rattle.termwiz_surface.specs.Adding.{Adds, Makes, with_log, marking}
 pub use Rattle.termwiz_surface.specs.Unlogged.{AddsUnlogged, MakesUnlogged, lent_value}
 pub use Rattle.termwiz_surface.specs.Resizing.{HasResized, Resizes}
 pub use Rattle.termwiz_surface.specs.Copies.{IsDrawn, IsCopied, IsRegionDrawn, drawn_region, copied_region}
-pub use Rattle.termwiz_surface.specs.Following.{ViewerValue, Follows, FollowsTo, KeepsViewers, Leads, FullLeads, blank_viewer}
+pub use Rattle.termwiz_surface.specs.Following.{ViewerValue, Follows, FollowsTo, KeepsViewers, Leads, FullLeads, blank_viewer, blank_viewer_from}
 pub use Rattle.termwiz_surface.specs.History.{Names, IsPast, KeepsNames}
 pub use Rattle.termwiz_surface.specs.Asking.{knows, own_repaint, most_own_entries, Repaints, StreamsFrom, StreamsFullyFrom}
 pub use Rattle.termwiz_surface.specs.Diffs.{MeasureAlike, screen_after, HasDrawn, HasCopied, region_at, cut_to, PrintsRegion, GivesRegion, region_diff, rows_of, top_rows, one_row, PrintsRows, HaveTopRows, HaveRow}
@@ -154,6 +154,6 @@ pub use Rattle.termwiz_surface.specs.Printing.{PrintsFirst, PrintsGraphemes}
 pub use Rattle.termwiz_surface.specs.Schedule.{Acts, Allows, IsInRange, IsScheduleOf, Reports, Views, with_empty_log}
 pub use Rattle.termwiz_surface.specs.ScheduleLaws.{BrokenListsLeaveForm, FollowedFullLeadOn, FollowedLeadOn, LackMemory, LackNumbers}
 pub use Rattle.termwiz_surface.specs.RowNumbers.{AreMarked}
-pub use Rattle.termwiz_surface.specs.Surface.{Becomes, lengths_of}
+pub use Rattle.termwiz_surface.specs.Surface.{Becomes, lengths_of, numbers_over}
 pub use Rattle.termwiz_surface.specs.declared.surface.SurfaceError.TheVariants.{ScrollRegion}
 pub use Rattle.unicode_segmentation.specs.Grapheme.{graphemes}

@@ -3,10 +3,10 @@ use Rattle.std.specs.Prelude.{◌≡◌, ℕ, ◌+◌, ◌<◌, ◌≤◌, ◌�
 use Rattle.termwiz_screen.specs.Log.{next_number}
 use Rattle.termwiz_surface.specs.Surface.{SurfaceValue, RowStays, number_at}
 
--- the numbers from index a on, n of them, are this one, and the others stay
+-- the numbers from index a on, n of them, are at least this one, and the others stay
 pub record AreMarked (a n number : ℕ) (old new : List ℕ) : Type 0 where
   pub same_count : length new ≡ length old
-  pub inside : (j : ℕ) → a ≤ j → j < a + n → slice_index_or new j 0 ≡ number
+  pub inside : (j : ℕ) → a ≤ j → j < a + n → number ≤ slice_index_or new j 0
   pub outside :
       (j : ℕ) → (j < a) ⊎ (a + n ≤ j) → slice_index_or new j 0 ≡ slice_index_or old j 0
 

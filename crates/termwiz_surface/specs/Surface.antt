@@ -1,5 +1,5 @@
 -- What contracts see of a surface, and the form that it keeps.
-use Rattle.std.specs.Prelude.{◌≡◌, ℕ, ◌<◌, ◌≤◌, ◌^◌, ◌⊎◌, Bool, true, Option, None, List, [], map, length, replicate, slice_index_or}
+use Rattle.std.specs.Prelude.{◌≡◌, ℕ, ◌<◌, ◌≤◌, ◌^◌, ◌⊎◌, max, Bool, true, Option, None, List, [], map, length, replicate, slice_index_or}
 use Rattle.termwiz_cell.specs.Attributes.{Attributes, default_attributes}
 use Rattle.termwiz_cell.specs.CellValue.{CellValue, blank}
 use Rattle.termwiz_cell.specs.declared.change.CursorVisibility.{CursorVisibility}
@@ -34,8 +34,8 @@ pub record SurfaceValue (W : Type 0) : Type 0 where
   -- its repaints carry the title, the cursor's shape and colour and the sizes of lines too
   pub full : Bool
   pub log : LogValue
-  -- the number that the surface had when each row last changed, and the one that rows get that
-  -- change in the list under way
+  -- the number of each row, which the surface had when the row last changed, or later, and the
+  -- least one that rows get that change in the list under way
   pub numbers : List ℕ
   pub mark : ℕ
 
@@ -61,6 +61,15 @@ module _ {W : Type 0} where
     numbers = replicate height 0;
     mark = 0;
   }
+
+  -- such a surface with this number, which its rows have too
+  abbrev pub blank_surface_from : W → ℕ → ℕ → Bool → ℕ → SurfaceValue W
+  blank_surface_from widths width height full number =
+      record (blank_surface widths width height full) {
+        log = record { first = number; changes = [] };
+        numbers = replicate height number;
+        mark = number;
+      }
 
   abbrev pub screen_of : SurfaceValue W → Screen
   screen_of s =
@@ -91,6 +100,10 @@ module _ {W : Type 0} where
 -- the full screen of a surface
 abbrev pub full_of : {W : Type 0} → SurfaceValue W → FullScreen
 full_of s = full_screen (screen_of s) (kept_of s)
+
+-- the numbers of rows that have their own numbers and one for all
+abbrev pub numbers_over : ℕ → List ℕ → List ℕ
+numbers_over all own = map (max all) own
 
 -- a width in columns and a height in rows that a surface may have
 pub record IsSurfaceSize (width height : ℕ) : Type 0 where
@@ -134,10 +147,10 @@ module _ {W : Type 0} where
       × (slice_index_or new.flags j no_flags ≡ slice_index_or old.flags j no_flags)
       × (number_at new j ≡ number_at old j)
 
-  -- each row has the mark of the old surface, or stays
+  -- each row has a number from the mark of the old surface on, or stays
   abbrev pub MarksRows : SurfaceValue W → SurfaceValue W → Type 0
   MarksRows old new =
-      (j : ℕ) → j < old.height → (number_at new j ≡ old.mark) ⊎ RowStays old new j
+      (j : ℕ) → j < old.height → (old.mark ≤ number_at new j) ⊎ RowStays old new j
 
   -- the surface has this screen now, keeps this beside it, and has its old width value, size, kind
   -- and log; rows that have changed are marked

@@ -1,6 +1,7 @@
 //! Surfaces.
 ghost use Rattle.std.specs.Prelude.{◌≡◌, ◌+◌, ◌-◌, ◌<◌, ◌^◌, ◌∷◌, [], IfOk, OnErr, length, vec_len};
 ghost use Rattle.termwiz_surface.specs.{IsSurfaceSize, KeepsViewers, SameFrame, blank_surface};
+ghost use Rattle.termwiz_surface.specs.{blank_surface_from};
 ghost use Rattle.termwiz_surface.specs.{change_value, next_number, region_fits, regions_fit};
 ghost use Rattle.termwiz_surface.specs.{IsSound, KeepsNames, Makes, Refuses, false, measure};
 ghost use Rattle.termwiz_surface.specs.{Adds, IsOk, NumbersRows, OnOk, map, true};
@@ -21,6 +22,7 @@ mod steps;
 mod unlogged;
 
 pub use answer::Answer;
+use numbers::RowNumbers;
 use std::alloc::{AllocError, Global};
 use std::collections::VecDeque;
 use std::marker::Model;
@@ -132,14 +134,14 @@ pub struct Surface<W: Widths> {
     color: ColorAttribute,
     full: bool,
     log: Log,
-    numbers: Vec<SequenceNo>,
+    numbers: RowNumbers,
     mark: SequenceNo,
 }
 
 impl<W: Widths> Model for Surface<W> {
     ghost use Rattle.std.specs.Prelude.{◌≡◌, string_bytes, vec_len};
     ghost use Rattle.termwiz_screen.specs.{AreVectors, cells_of, measure, row_flags};
-    ghost use Rattle.termwiz_surface.specs.Surface.{IsSound, SurfaceValue};
+    ghost use Rattle.termwiz_surface.specs.Surface.{IsSound, SurfaceValue, numbers_over};
 
     ghost Value = { SurfaceValue W };
 
@@ -158,13 +160,13 @@ impl<W: Widths> Model for Surface<W> {
       color = s.color;
       full = s.full;
       log = s.log;
-      numbers = s.numbers.items;
+      numbers = numbers_over s.numbers.all s.numbers.own.items;
       mark = s.mark;
     } };
 
     ghost invariant = { λ s.
         IsSound (measure W.width_of s.widths) (view s) × AreVectors s.rows.items
-        × (vec_len s.numbers ≡ s.height) };
+        × (vec_len s.numbers.own ≡ s.height) };
 }
 
 /// A copy equals its original in all that can be read: the size, the kind (full or not), the
@@ -212,7 +214,7 @@ impl<W: Widths> Surface<W> {
         requires size { IsSurfaceSize width height }
         ensures { IfOk result (λ s. s ≡ blank_surface widths width height false) }
     {
-        Surface::blank(alloc, width, height, widths, false)
+        Surface::blank(alloc, width, height, widths, false, SEQ_ZERO)
     }
 
     /// A surface as `new` returns it, but a full one: its repaints also set the title, the cursor's
@@ -226,22 +228,41 @@ impl<W: Widths> Surface<W> {
         requires size { IsSurfaceSize width height }
         ensures { IfOk result (λ s. s ≡ blank_surface widths width height true) }
     {
-        Surface::blank(alloc, width, height, widths, true)
+        Surface::blank(alloc, width, height, widths, true, SEQ_ZERO)
     }
 
-    /// A blank surface, full or not.
+    /// A surface as `new_full` returns it, but with the number `seq`, which its rows have too. It
+    /// can take the place of another surface: with a number above that of the other one, each row
+    /// has changed since.
+    pub fn new_full_from(
+        alloc: Global,
+        width: usize,
+        height: usize,
+        widths: W,
+        seq: SequenceNo,
+    ) -> Result<Surface<W>, AllocError>
+        requires size { IsSurfaceSize width height }
+        ensures { IfOk result (λ s. s ≡ blank_surface_from widths width height true seq) }
+    {
+        Surface::blank(alloc, width, height, widths, true, seq)
+    }
+
+    /// A blank surface with this number, full or not.
     pub(crate) fn blank(
         alloc: Global,
         width: usize,
         height: usize,
         widths: W,
         full: bool,
+        seq: SequenceNo,
     ) -> Result<Surface<W>, AllocError>
         requires size { IsSurfaceSize width height }
-        ensures { IfOk result (λ s. s ≡ blank_surface widths width height full) }
+        ensures { IfOk result (λ s. s ≡ blank_surface_from widths width height full seq) }
     {
         let rows = blank_rows(alloc, width, height)?;
-        let numbers = vec![in alloc; SEQ_ZERO; height]?;
+        let numbers = RowNumbers::new(alloc, height, seq)?;
+        let mut log = Log::new(alloc);
+        log.pass(seq);
         Ok(Surface {
             widths,
             alloc,
@@ -256,9 +277,9 @@ impl<W: Widths> Surface<W> {
             shape: None,
             color: ColorAttribute::Default,
             full,
-            log: Log::new(alloc),
+            log,
             numbers,
-            mark: SEQ_ZERO,
+            mark: seq,
         })
     }
 

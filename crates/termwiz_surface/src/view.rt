@@ -12,7 +12,7 @@ pub use many::{ManyEvent, ManyOutcome, run_many};
 pub use serving::copied;
 use serving::serve;
 use std::alloc::{AllocError, Global};
-use termwiz_cell::change::{Change, SequenceNo};
+use termwiz_cell::change::{Change, SEQ_ZERO, SequenceNo};
 use termwiz_cell::emoji::Widths;
 pub use viewer::{AcceptError, Viewer};
 use waiting::Waiting;
@@ -111,7 +111,7 @@ fn run_on<W: Widths>(
     ensures { IfOk result (λ outcomes. IsScheduleOf full (measure W.width_of)
         widths width height events.items outcomes.items) }
 {
-    let mut surface = Surface::blank(alloc, width, height, widths, full)?;
+    let mut surface = Surface::blank(alloc, width, height, widths, full, SEQ_ZERO)?;
     let mut viewer = Viewer::new(alloc, &surface)?;
     let mut outcomes = Vec::new(alloc);
     let mut waiting = Waiting::new(events);

@@ -12,7 +12,7 @@ use termwiz_line::line::line::Line;
 impl<W: Widths> Surface<W> {
     /// The rows from the top, as they are stored: a row may be shorter than the surface is wide,
     /// and shows default blanks after its cells. The numbers of these lines are unspecified:
-    /// `row_seqnos` returns when each row last changed.
+    /// `row_seqno` returns the number of a row.
     pub fn screen_lines(&self) -> Result<Vec<&Line>, AllocError>
         ensures cells { IfOk result (λ lines. map (λ l. l.now.cells) lines.items ≡ self.now.lines) }
         ensures flags { IfOk result (λ lines. map (λ l. l.now.flags) lines.items ≡ self.now.flags) }

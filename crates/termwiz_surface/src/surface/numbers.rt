@@ -1,51 +1,122 @@
 //! The numbers of a surface's rows, which say when each row last changed.
-ghost use Rattle.std.specs.Prelude.{◌≡◌, ◌+◌, ◌<◌, ◌≤◌, ◌^◌, ◌==◌, ◌&&◌, ◌||◌, nat_lt, vec_len};
+ghost use Rattle.std.specs.Prelude.{◌≡◌, ◌+◌, ◌<◌, ◌≤◌, ◌^◌, ◌==◌, ◌&&◌, ◌||◌, IfOk, OnOk, OnErr};
+ghost use Rattle.std.specs.Prelude.{nat_lt, replicate, slice_index_or, vec_capacity, vec_len};
 ghost use Rattle.termwiz_surface.specs.{AreMarked, IsSound, SameFrame, ℕ, length, measure};
-ghost use Rattle.termwiz_surface.specs.{next_number, number_at, restarted, with_log};
+ghost use Rattle.termwiz_surface.specs.{next_number, number_at, numbers_over, restarted, with_log};
 
 use super::Surface;
+use std::alloc::{AllocError, Global};
 use termwiz_cell::change::{SEQ_ZERO, SequenceNo};
 use termwiz_cell::emoji::Widths;
 
-/// Gives a row this number.
-#[inline(always)]
-pub(super) fn mark_row(numbers: &mut Vec<SequenceNo>, row: usize, number: SequenceNo)
-    requires { row < vec_len numbers.old }
-    ensures { AreMarked row 1 number numbers.old.items numbers.new.items }
-{
-    numbers[row] = number;
+/// The numbers of rows. A row's number is the greater of its own and one that all rows have, so
+/// that all rows are marked at once.
+#[derive(Drop, Debug)]
+pub struct RowNumbers {
+    all: SequenceNo,
+    own: Vec<SequenceNo>,
 }
 
-/// Gives `count` rows, from `first` on, this number.
-pub(super) fn mark_rows(
-    numbers: &mut Vec<SequenceNo>,
-    first: usize,
-    count: usize,
-    number: SequenceNo,
-)
-    requires { first + count ≤ vec_len numbers.old }
-    ensures { AreMarked first count number numbers.old.items numbers.new.items }
-{
-    for row in first..first + count {
-        numbers[row] = number;
+impl RowNumbers {
+    /// This number for each of `height` rows.
+    pub(super) fn new(
+        alloc: Global,
+        height: usize,
+        number: SequenceNo,
+    ) -> Result<RowNumbers, AllocError>
+        ensures numbers { IfOk result (λ n.
+            numbers_over n.all n.own.items ≡ replicate height number) }
+        ensures len { IfOk result (λ n. vec_len n.own ≡ height) }
+    {
+        let own = vec![in alloc; SEQ_ZERO; height]?;
+        Ok(RowNumbers { all: number, own })
+    }
+
+    // The number of a row, or 0 past the last row.
+    fn get(&self, row: usize) -> SequenceNo
+        ensures { result ≡ slice_index_or (numbers_over self.now.all self.now.own.items) row 0 }
+    {
+        match self.own.get(row) {
+            Some(own) => self.all.max(*own),
+            None => SEQ_ZERO,
+        }
+    }
+
+    /// Gives a row this number.
+    #[inline(always)]
+    pub(super) fn mark_row(&mut self, row: usize, number: SequenceNo)
+        requires { row < vec_len self.old.own }
+        ensures marked { AreMarked row 1 number
+            (numbers_over self.old.all self.old.own.items)
+            (numbers_over self.new.all self.new.own.items) }
+        ensures len { vec_len self.new.own ≡ vec_len self.old.own }
+    {
+        self.own[row] = number;
+    }
+
+    /// Gives `count` rows, from `first` on, this number.
+    pub(super) fn mark_rows(&mut self, first: usize, count: usize, number: SequenceNo)
+        requires { first + count ≤ vec_len self.old.own }
+        ensures marked { AreMarked first count number
+            (numbers_over self.old.all self.old.own.items)
+            (numbers_over self.new.all self.new.own.items) }
+        ensures len { vec_len self.new.own ≡ vec_len self.old.own }
+    {
+        for row in first..first + count {
+            self.mark_row(row, number);
+        }
+    }
+
+    /// Gives all rows this number.
+    pub(super) fn mark_all(&mut self, number: SequenceNo)
+        ensures marked { AreMarked 0 (vec_len self.old.own) number
+            (numbers_over self.old.all self.old.own.items)
+            (numbers_over self.new.all self.new.own.items) }
+        ensures len { vec_len self.new.own ≡ vec_len self.old.own }
+    {
+        self.all = number;
+    }
+
+    /// Makes room for `height` rows, so that `renew` needs no memory.
+    pub(super) fn reserve(&mut self, height: usize) -> Result<(), AllocError>
+        ensures room { OnOk result (height ≤ vec_capacity self.new.own) }
+        ensures all { self.new.all ≡ self.old.all }
+        ensures own { self.new.own.items ≡ self.old.own.items }
+    {
+        self.own.reserve(height.saturating_sub(self.own.len()))
+    }
+
+    /// Takes `height` rows, and gives all of them this number.
+    pub(super) fn renew(&mut self, height: usize, number: SequenceNo)
+        requires { height ≤ vec_capacity self.old.own }
+        ensures marked { (j : ℕ) → j < height →
+            number ≤ slice_index_or (numbers_over self.new.all self.new.own.items) j 0 }
+        ensures len { vec_len self.new.own ≡ height }
+    {
+        self.all = number;
+        self.own.truncate(height);
+        for _row in self.own.len()..height {
+            self.own.push_reserved(SEQ_ZERO);
+        }
     }
 }
 
-/// Gives all rows this number.
-pub(super) fn mark_all(numbers: &mut Vec<SequenceNo>, number: SequenceNo)
-    ensures { AreMarked 0 (vec_len numbers.old) number numbers.old.items numbers.new.items }
-{
-    numbers.fill(number);
+impl Clone for RowNumbers {
+    ghost is_clone = { λ a b. (b.all ≡ a.all) × (b.own.items ≡ a.own.items) };
+
+    fn clone(&self) -> Result<RowNumbers, AllocError> {
+        let own = self.own.clone()?;
+        Ok(RowNumbers { all: self.all, own })
+    }
 }
 
 impl<W: Widths> Surface<W> {
-    /// The number that the surface had when each row last changed, from the top: 0 for a row that
-    /// has never changed.
-    pub fn row_seqnos(&self) -> &[SequenceNo]
-        ensures numbers { result.now ≡ self.now.numbers }
-        ensures all { length result.now ≡ self.now.height }
+    /// The number of a row: the surface had it when the row last changed, or a later one. It is 0
+    /// for a row that has never changed, and past the last row.
+    pub fn row_seqno(&self, row: usize) -> SequenceNo
+        ensures { result ≡ number_at self.now row }
     {
-        &self.numbers
+        self.numbers.get(row)
     }
 
     /// Whether the row at this index from the top may differ from what it was when the surface had
@@ -55,10 +126,7 @@ impl<W: Widths> Surface<W> {
         ensures { result
             ≡ nat_lt row self.now.height && (since == 0 || nat_lt since (number_at self.now row)) }
     {
-        match self.numbers.get(row) {
-            Some(number) => since == SEQ_ZERO || *number > since,
-            None => false,
-        }
+        row < self.height && (since == SEQ_ZERO || self.numbers.get(row) > since)
     }
 
     // Empties the log under a new number, or 0 where that was the number, and gives it to all rows.
@@ -67,11 +135,11 @@ impl<W: Widths> Surface<W> {
         ensures log { self.new.log ≡ restarted self.old.log }
         ensures frame { SameFrame (with_log self.old (restarted self.old.log)) self.new }
         ensures numbered { (j : ℕ) → j < self.new.height →
-            number_at self.new j ≡ next_number self.new.log }
+            next_number self.new.log ≤ number_at self.new j }
         ensures sound { IsSound (measure W.width_of self.new.widths) self.new }
     {
         self.log.restart();
         self.mark = self.log.next_number();
-        mark_all(&mut self.numbers, self.mark);
+        self.numbers.mark_all(self.mark);
     }
 }

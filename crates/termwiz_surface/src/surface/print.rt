@@ -8,7 +8,6 @@ ghost use Rattle.termwiz_surface.specs.{Becomes, chars, false, kept_of, measure,
 ghost use Rattle.termwiz_surface.specs.{IfOk, OnOk, down, print, true};
 
 use super::Surface;
-use super::numbers::{mark_all, mark_row};
 use std::alloc::AllocError;
 use termwiz_cell::cell::Cell;
 use termwiz_cell::emoji::Widths;
@@ -29,7 +28,7 @@ impl<W: Widths> Surface<W> {
             return Ok(());
         }
         scroll_rows(&mut self.rows, self.width)?;
-        mark_all(&mut self.numbers, self.mark);
+        self.numbers.mark_all(self.mark);
         Ok(())
     }
 
@@ -54,7 +53,7 @@ impl<W: Widths> Surface<W> {
     {
         let end = self.x + cell.width();
         paint_row(&mut self.rows, self.width, self.x, self.y, cell)?;
-        mark_row(&mut self.numbers, self.y, self.mark);
+        self.numbers.mark_row(self.y, self.mark);
         self.x = end.min(self.width);
         Ok(())
     }
@@ -118,7 +117,7 @@ impl<W: Widths> Surface<W> {
         ensures err { OnErr result (self.new ≡ self.old) }
     {
         paint_run(&mut self.rows, self.x, self.y, run, &self.pen)?;
-        mark_row(&mut self.numbers, self.y, self.mark);
+        self.numbers.mark_row(self.y, self.mark);
         self.x += run.len();
         Ok(())
     }
@@ -150,7 +149,7 @@ impl<W: Widths> Surface<W> {
         ensures err { OnErr result (self.new ≡ self.old) }
     {
         paint_letters(&mut self.rows, self.x, self.y, run, &self.pen)?;
-        mark_row(&mut self.numbers, self.y, self.mark);
+        self.numbers.mark_row(self.y, self.mark);
         self.x += 2 * letter_count(run);
         Ok(())
     }

@@ -1,12 +1,10 @@
 //! Resizing surfaces.
-ghost use Rattle.std.specs.Prelude.{◌≡◌, ◌+◌, ◌<◌, ◌^◌, OnErr, OnOk, ℕ};
+ghost use Rattle.std.specs.Prelude.{◌≡◌, ◌+◌, ◌<◌, ◌≤◌, ◌^◌, OnErr, OnOk, ℕ};
 ghost use Rattle.termwiz_surface.specs.{HasResized, IsSurfaceSize, KeepsNames, KeepsViewers};
 ghost use Rattle.termwiz_surface.specs.{NumbersRows, Resizes, measure, next_number, number_at};
 
-use super::numbers::mark_all;
 use super::{Surface, SurfaceError};
 use std::alloc::AllocError;
-use termwiz_cell::change::SEQ_ZERO;
 use termwiz_cell::emoji::Widths;
 use termwiz_screen::rows::resize_rows;
 
@@ -43,9 +41,9 @@ impl<W: Widths> Surface<W> {
         ensures ok { OnOk result (HasResized self.old width height self.new) }
         ensures err { OnErr result (self.new ≡ self.old) }
         ensures numbered { OnOk result ((j : ℕ) → j < self.new.height →
-            number_at self.new j ≡ next_number self.new.log) }
+            next_number self.new.log ≤ number_at self.new j) }
     {
-        let numbers = vec![in self.alloc; SEQ_ZERO; height]?;
+        self.numbers.reserve(height)?;
         resize_rows(self.alloc, &mut self.rows, width, height)?;
         self.width = width;
         self.height = height;
@@ -53,8 +51,7 @@ impl<W: Widths> Surface<W> {
         self.y = self.y.min(height - 1);
         self.log.restart();
         self.mark = self.log.next_number();
-        self.numbers = numbers;
-        mark_all(&mut self.numbers, self.mark);
+        self.numbers.renew(height, self.mark);
         Ok(())
     }
 }

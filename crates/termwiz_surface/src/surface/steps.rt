@@ -9,7 +9,6 @@ ghost use Rattle.termwiz_surface.specs.{kept_of, measure, region_up, screen_of, 
 ghost use Rattle.termwiz_surface.specs.{OnErr, blank, length, map, placed, replay, step, true};
 
 use super::Surface;
-use super::numbers::{mark_all, mark_row, mark_rows};
 use std::alloc::AllocError;
 use termwiz_cell::cell::AttributeChange;
 use termwiz_cell::change::{Change, LineAttribute, Position};
@@ -36,7 +35,7 @@ impl<W: Widths> Surface<W> {
         let pen = background_only(self.alloc, *color)?;
         let cleared = blank_with(&pen)?;
         fill_row(&mut self.rows, self.width, self.x, self.y, &cleared)?;
-        mark_row(&mut self.numbers, self.y, self.mark);
+        self.numbers.mark_row(self.y, self.mark);
         self.pen = pen;
         Ok(())
     }
@@ -57,7 +56,8 @@ impl<W: Widths> Surface<W> {
         let pen = background_only(self.alloc, *color)?;
         let cleared = blank_with(&pen)?;
         fill_rows(&mut self.rows, self.width, self.x, self.y, &cleared)?;
-        mark_rows(&mut self.numbers, self.y, self.height - self.y, self.mark);
+        self.numbers
+            .mark_rows(self.y, self.height - self.y, self.mark);
         self.pen = pen;
         Ok(())
     }
@@ -75,7 +75,7 @@ impl<W: Widths> Surface<W> {
         let pen = background_only(self.alloc, *color)?;
         let cleared = blank_with(&pen)?;
         fill_rows(&mut self.rows, self.width, 0, 0, &cleared)?;
-        mark_all(&mut self.numbers, self.mark);
+        self.numbers.mark_all(self.mark);
         self.pen = pen;
         self.x = 0;
         self.y = 0;
@@ -120,7 +120,7 @@ impl<W: Widths> Surface<W> {
         ensures err { OnErr result (SameFrame self.old self.new) }
     {
         scroll_region_up(&mut self.rows, self.width, first, size, count)?;
-        mark_rows(&mut self.numbers, first, size, self.mark);
+        self.numbers.mark_rows(first, size, self.mark);
         Ok(())
     }
 
@@ -142,7 +142,7 @@ impl<W: Widths> Surface<W> {
         ensures err { OnErr result (SameFrame self.old self.new) }
     {
         scroll_region_down(&mut self.rows, self.width, first, size, count)?;
-        mark_rows(&mut self.numbers, first, size, self.mark);
+        self.numbers.mark_rows(first, size, self.mark);
         Ok(())
     }
 
@@ -156,7 +156,7 @@ impl<W: Widths> Surface<W> {
             }) self.new }
     {
         set_line_attribute(&mut self.rows, self.y, attribute);
-        mark_row(&mut self.numbers, self.y, self.mark);
+        self.numbers.mark_row(self.y, self.mark);
     }
 
     #[inline(never)]

@@ -1,11 +1,13 @@
 //! Viewers: surfaces that follow another one, or accept its answers.
 ghost use Rattle.std.specs.Prelude.{Err, IfErr, IfOk, Ok, OnErr, OnOk, [], ◌+◌, ◌-◌, ◌<◌, ◌^◌, ◌≡◌};
 ghost use Rattle.termwiz_surface.specs.{IsSurfaceSize, KeepsShowing, KeepsViewers, ShowsCarried};
-ghost use Rattle.termwiz_surface.specs.{Adds, HasCaughtUp, HasFullSize, blank_viewer, full_screens};
+ghost use Rattle.termwiz_surface.specs.{Adds, HasCaughtUp, HasFullSize, blank_viewer};
+ghost use Rattle.termwiz_surface.specs.{blank_viewer_from, full_screens};
 ghost use Rattle.termwiz_surface.specs.{FollowsTo, HasDropped, KeepsNames, StaysNamed, next_number};
 ghost use Rattle.termwiz_surface.specs.{Accepts, Declines, Fetches, forgetful, stream_of, with_log};
 ghost use Rattle.termwiz_surface.specs.{Fits, Follows, MayTake, Resizes, flushed, full_of, measure};
-ghost use Rattle.termwiz_surface.specs.{Makes, SurfaceValue, Takes, length, nat_lt, screens, true};
+ghost use Rattle.termwiz_surface.specs.{Makes, NumbersRows, SurfaceValue, Takes, length, nat_lt};
+ghost use Rattle.termwiz_surface.specs.{screens, true};
 
 use crate::surface::{Answer, Surface, SurfaceError};
 use std::alloc::{AllocError, Global};
@@ -86,8 +88,22 @@ impl<W: Widths> Viewer<W> {
         ensures blank { IfOk result (λ viewer. viewer ≡ blank_viewer source.now) }
         ensures follows { IfOk result (λ viewer. Follows (measure W.width_of) viewer source.now) }
     {
+        Viewer::new_from(alloc, source, SEQ_ZERO)
+    }
+
+    /// A viewer as `new` returns it, but its own surface has the number `seq`, as the rows of that
+    /// surface have. It can take the place of another viewer: with a number above that of the other
+    /// one's surface, each row has changed since.
+    pub fn new_from(
+        alloc: Global,
+        source: &Surface<W>,
+        seq: SequenceNo,
+    ) -> Result<Viewer<W>, AllocError>
+        ensures blank { IfOk result (λ viewer. viewer ≡ blank_viewer_from source.now seq) }
+        ensures follows { IfOk result (λ viewer. Follows (measure W.width_of) viewer source.now) }
+    {
         let (width, height) = source.dimensions();
-        let surface = Surface::blank(alloc, width, height, source.widths(), source.is_full())?;
+        let surface = Surface::blank(alloc, width, height, source.widths(), source.is_full(), seq)?;
         Ok(Viewer {
             surface,
             last: SEQ_ZERO,
@@ -115,10 +131,11 @@ impl<W: Widths> Viewer<W> {
         ensures fits { Fits self.old source.now result self.new }
         ensures sized { OnOk result (
             HasFullSize source.now.width source.now.height (full_of self.new.surface)) }
-        ensures numbered { OnOk result (next_number self.new.surface.log < 2 ^ 64) }
+        ensures number { OnOk result (next_number self.new.surface.log < 2 ^ 64) }
         ensures followed { KeepsViewers (measure W.width_of) self.old.surface self.new.surface }
         ensures remembered { KeepsNames (measure W.width_of self.old.surface.widths)
             self.old.surface self.new.surface }
+        ensures numbered { NumbersRows self.old.surface self.new.surface }
     {
         let (width, height) = source.dimensions();
         let (own_width, own_height) = self.surface.dimensions();
@@ -142,6 +159,7 @@ impl<W: Widths> Viewer<W> {
         ensures followed { KeepsViewers (measure W.width_of) self.old.surface self.new.surface }
         ensures remembered { KeepsNames (measure W.width_of self.old.surface.widths)
             self.old.surface self.new.surface }
+        ensures numbered { NumbersRows self.old.surface self.new.surface }
     {
         self.fit(source)?;
         let (number, changes) = source.get_changes(self.last)?;
@@ -163,6 +181,7 @@ impl<W: Widths> Viewer<W> {
         ensures followed { KeepsViewers (measure W.width_of) self.old.surface self.new.surface }
         ensures remembered { KeepsNames (measure W.width_of self.old.surface.widths)
             self.old.surface self.new.surface }
+        ensures numbered { NumbersRows self.old.surface self.new.surface }
     {
         match self.ask(source) {
             Ok(answer) => Ok(answer),
@@ -185,6 +204,7 @@ impl<W: Widths> Viewer<W> {
         ensures followed { KeepsViewers (measure W.width_of) self.old.surface self.new.surface }
         ensures remembered { KeepsNames (measure W.width_of self.old.surface.widths)
             self.old.surface self.new.surface }
+        ensures numbered { NumbersRows self.old.surface self.new.surface }
     {
         self.last = SEQ_ZERO;
         self.add(changes)?;
@@ -202,6 +222,7 @@ impl<W: Widths> Viewer<W> {
         ensures followed { KeepsViewers (measure W.width_of) self.old.surface self.new.surface }
         ensures remembered { KeepsNames (measure W.width_of self.old.surface.widths)
             self.old.surface self.new.surface }
+        ensures numbered { NumbersRows self.old.surface self.new.surface }
     {
         match changes {
             CowSlice::Borrowed(lent) => self.surface.add_lent_changes(lent),
@@ -250,6 +271,7 @@ impl<W: Widths> Viewer<W> {
         ensures followed { KeepsViewers (measure W.width_of) self.old.surface self.new.surface }
         ensures remembered { KeepsNames (measure W.width_of self.old.surface.widths)
             self.old.surface self.new.surface }
+        ensures numbered { NumbersRows self.old.surface self.new.surface }
     {
         self.last = SEQ_ZERO;
         if self.surface.add_lent_changes(answer.changes()).is_err() {
@@ -272,6 +294,7 @@ impl<W: Widths> Viewer<W> {
         ensures followed { KeepsViewers (measure W.width_of) self.old.surface self.new.surface }
         ensures remembered { KeepsNames (measure W.width_of self.old.surface.widths)
             self.old.surface self.new.surface }
+        ensures numbered { NumbersRows self.old.surface self.new.surface }
     {
         let number = answer.number();
         self.last = SEQ_ZERO;
@@ -309,6 +332,8 @@ impl<W: Widths> Viewer<W> {
         // The numbers of its own surface still name what they named, even after an error.
         ensures remembered { KeepsNames (measure W.width_of self.old.surface.widths)
             self.old.surface self.new.surface }
+        // A row whose number isn't above one that its own surface had is as it was then.
+        ensures numbered { NumbersRows self.old.surface self.new.surface }
     {
         self.decline(answer)?;
         if !self.has_numbers(answer.changes().len()) {
@@ -339,6 +364,8 @@ impl<W: Widths> Viewer<W> {
         // The numbers of its own surface still name what they named, even after an error.
         ensures remembered { KeepsNames (measure W.width_of self.old.surface.widths)
             self.old.surface self.new.surface }
+        // A row whose number isn't above one that its own surface had is as it was then.
+        ensures numbered { NumbersRows self.old.surface self.new.surface }
     {
         self.decline(&answer)?;
         if !self.has_numbers(answer.changes().len()) {
@@ -365,6 +392,8 @@ impl<W: Widths> Viewer<W> {
         // The numbers of its own surface still name what they named, even after an error.
         ensures remembered { KeepsNames (measure W.width_of self.old.surface.widths)
             self.old.surface self.new.surface }
+        // A row whose number isn't above one that its own surface had is as it was then.
+        ensures numbered { NumbersRows self.old.surface self.new.surface }
     {
         self.surface.resize(width, height)?;
         // What it shows now has no number.
@@ -395,6 +424,8 @@ impl<W: Widths> Viewer<W> {
         // The numbers of its own surface still name what they named.
         ensures remembered { KeepsNames (measure W.width_of self.old.surface.widths)
             self.old.surface self.new.surface }
+        // A row whose number isn't above one that its own surface had is as it was then.
+        ensures numbered { NumbersRows self.old.surface self.new.surface }
     {
         self.surface.flush_changes_older_than(seq);
     }
@@ -425,6 +456,8 @@ impl<W: Widths> Viewer<W> {
         // The numbers of its own surface still name what they named, even after an error.
         ensures remembered { KeepsNames (measure W.width_of self.old.surface.widths)
             self.old.surface self.new.surface }
+        // A row whose number isn't above one that its own surface had is as it was then.
+        ensures numbered { NumbersRows self.old.surface self.new.surface }
     {
         let (number, changes) = self.fetch(source)?;
         self.make(number, changes)

@@ -20,8 +20,8 @@ invariant_of-result g c = (
     sides = sides-full c.in_ok-rows.rows.items (ap length c.in_ok-rows.ensures.cells ∙ length-replicate _ _);
     column = omega arith;
     row = c.requires.size.some_row;
-    number_fits = omega (arith, ap next_number c.new-2.ensures);
-    regions = rw c.new-2.ensures refl;
+    number_fits = omega (arith, ap next_number c.pass.ensures, ap next_number c.new-log.ensures);
+    regions = rw c.pass.ensures refl;
     stored_so = λ j l. subst (IsStored (measure g.W.Widths.width_of c.args.widths) c.args.width) (sym (get_or-replicate c.args.height j (replicate c.args.width blank) [] l)) (IsStored-blank (measure g.W.Widths.width_of c.args.widths) c.args.width (record { space = g.met.W.Widths.space_has_one c.args.widths None }) c.requires.size.some_column);
   }),
   c.in_ok-rows.ensures.vectors,

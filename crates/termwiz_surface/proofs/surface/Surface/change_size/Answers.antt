@@ -27,7 +27,7 @@ invariant_of-self-2 g c =
         number_fits = restarted_fits s.log (subst (λ (v : SurfaceValue _). next_number v.log + 1 < 2 ^ 64) (sym c.self.view_is) c.requires.number);
       }),
       c.in_ok-resize_rows.ensures.vectors c.self.invariant.1,
-      omega (arith, c.mark_all.ensures.same_count, c.mark_all.new.numbers.ok.0, c.in_ok-numbers.numbers.ok.0, c.in_ok-numbers.ensures.len),
+      c.renew.ensures.len,
     )
 
 pub returns-clause-ok : goal.returns-clause-ok
@@ -44,7 +44,7 @@ returns-clause-ok g c =
       full = refl;
       log = refl;
       mark = number_is;
-      rows = λ j l. inl (c.mark_all.ensures.inside j (omega arith) (omega (arith, l, c.in_ok-numbers.ensures.len)) ∙ number_is);
+      rows = λ j l. inl (omega (arith, c.renew.ensures.marked j l, number_is));
       screen_is = λ i. record {
         width = c.args.width;
         height = c.args.height;
@@ -64,4 +64,4 @@ returns-clause-ok g c =
     })
 
 pub returns-clause-numbered : goal.returns-clause-numbered
-returns-clause-numbered g c = λ j l. c.mark_all.ensures.inside j (omega arith) (omega (arith, l, c.in_ok-numbers.ensures.len)) ∙ c.next_number-self-inside.ensures
+returns-clause-numbered g c = λ j l. omega (arith, c.renew.ensures.marked j l, c.next_number-self-inside.ensures)

@@ -1,4 +1,4 @@
-use Rattle.std.proofs.Common.{arith, refl}
+use Rattle.std.proofs.Common.{◌∙◌, arith, refl}
 use Rattle.std.specs.Prelude.{None, string_bytes}
 use Rattle.termwiz_cell.specs.Attributes.{with_background}
 use Rattle.termwiz_cell.specs.Measure.{measure}
@@ -21,7 +21,7 @@ invariant_of-self-2 g c = (
   rw (c.in_ok-pen.ensures, c.in_ok-fill_rows.ensures.sides.flags)
       (any_numbers _ _ _ _ (IsSound-screen (measure g.W.Widths.width_of c.self.inside.widths) _ (record { space = g.met.W.Widths.space_has_one c.self.inside.widths None }) c.self.invariant.0 (with_background c.args.color.now) _ (rw (c.in_ok-cleared.ensures, c.in_ok-pen.ensures) at c.in_ok-fill_rows.ensures.ok))),
   c.in_ok-fill_rows.ensures.sides.vectors c.self.invariant.1,
-  omega (arith, c.mark_all.ensures.same_count, c.mark_all.new.numbers.ok.0, c.self.inside.numbers.ok.0, c.self.invariant.2),
+  c.mark_all.ensures.len ∙ c.self.invariant.2,
 )
 
 pub returns-clause-ok : goal.returns-clause-ok
@@ -35,7 +35,7 @@ returns-clause-ok g c =
       full = refl;
       log = refl;
       mark = refl;
-      rows = marks-all _ _ _ _ _ _ _ _ _ (omega (arith, c.self.invariant.2, c.self.inside.numbers.ok.0)) c.mark_all.ensures;
+      rows = marks-all _ _ _ _ _ _ _ _ _ (omega (arith, c.self.invariant.2)) c.mark_all.ensures.marked;
       screen_is = rw (rows-screen f _ (record { space = g.met.W.Widths.space_has_one c.self.inside.widths None }) c.self.invariant.0 (with_background c.args.color.now) (cells_of c.fill_rows.new.rows.items) done) refl;
       kept_is = λ i. record {
         lengths = lengths-screen f _ (record { space = g.met.W.Widths.space_has_one c.self.inside.widths None }) c.self.invariant.0 (with_background c.args.color.now) (cells_of c.fill_rows.new.rows.items) done i;

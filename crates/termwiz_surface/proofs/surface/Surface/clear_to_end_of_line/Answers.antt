@@ -1,4 +1,4 @@
-use Rattle.std.proofs.Common.{inl, inr, List, get_or, refl, ap, arith}
+use Rattle.std.proofs.Common.{◌∙◌, inl, inr, List, get_or, refl, ap}
 use Rattle.termwiz_line.specs.LineFlags.{LineFlags, no_flags}
 use Rattle.std.specs.Prelude.{None, string_bytes}
 use Rattle.termwiz_cell.specs.Attributes.{with_background}
@@ -22,7 +22,7 @@ invariant_of-self-2 g c = (
   rw (c.in_ok-pen.ensures, c.in_ok-fill_row.ensures.sides.flags)
       (any_numbers _ _ _ _ (IsSound-eol (measure g.W.Widths.width_of c.self.inside.widths) _ (record { space = g.met.W.Widths.space_has_one c.self.inside.widths None }) c.self.invariant.0 (with_background c.args.color.now) _ (rw (c.in_ok-cleared.ensures, c.in_ok-pen.ensures) at c.in_ok-fill_row.ensures.ok))),
   c.in_ok-fill_row.ensures.sides.vectors c.self.invariant.1,
-  omega (arith, c.mark_row.ensures.same_count, c.mark_row.new.numbers.ok.0, c.self.inside.numbers.ok.0, c.self.invariant.2),
+  c.mark_row.ensures.len ∙ c.self.invariant.2,
 )
 
 pub returns-clause-ok : goal.returns-clause-ok
@@ -36,7 +36,7 @@ returns-clause-ok g c =
       full = refl;
       log = refl;
       mark = refl;
-      rows = marks-rows _ c.self.inside.y _ _ _ _ _ _ _ _ c.mark_row.ensures
+      rows = marks-rows _ c.self.inside.y _ _ _ _ _ _ _ _ c.mark_row.ensures.marked
           (λ j out. elim out [ inl before ↦ done.above j before | inr behind ↦ done.left j behind ])
           (λ j out. ap (λ (fs : List LineFlags). get_or fs j no_flags) c.in_ok-fill_row.ensures.sides.flags);
       screen_is = rw (rows-eol f _ (record { space = g.met.W.Widths.space_has_one c.self.inside.widths None }) c.self.invariant.0 (with_background c.args.color.now) (cells_of c.fill_row.new.rows.items) done) refl;

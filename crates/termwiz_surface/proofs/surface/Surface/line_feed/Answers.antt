@@ -1,4 +1,4 @@
-use Rattle.std.proofs.Common.{◌≡◌, ◌+◌, false, length, ap, refl, arith}
+use Rattle.std.proofs.Common.{◌∙◌, ◌≡◌, ◌+◌, false, length, ap, refl, arith}
 use Rattle.std.specs.Prelude.{None, nat_lt, string_bytes}
 use Rattle.std.proofs.lemmas.Bool.{le-ltb}
 use Rattle.termwiz_cell.specs.Measure.{measure}
@@ -12,7 +12,7 @@ pub invariant_of-self-2 : goal.invariant_of-self-2
 invariant_of-self-2 g c = (
   rw c.in_ok-scroll_rows.ensures.ok (any_numbers _ _ _ _ (any_flags _ _ _ (sides-full c.scroll_rows.new.rows.items (ap length c.in_ok-scroll_rows.ensures.ok)) (IsSound-scrolled (measure g.W.Widths.width_of c.self.inside.widths) _ (record { space = g.met.W.Widths.space_has_one c.self.inside.widths None }) c.self.invariant.0))),
   c.in_ok-scroll_rows.ensures.vectors c.self.invariant.1,
-  omega (arith, c.mark_all.ensures.same_count, c.mark_all.new.numbers.ok.0, c.self.inside.numbers.ok.0, c.self.invariant.2),
+  c.mark_all.ensures.len ∙ c.self.invariant.2,
 )
 
 pub returns-clause-ok : goal.returns-clause-ok
@@ -25,7 +25,7 @@ returns-clause-ok g c =
       full = refl;
       log = refl;
       mark = refl;
-      rows = marks-all _ _ _ _ _ _ _ _ _ (omega (arith, c.self.invariant.2)) c.mark_all.ensures;
+      rows = marks-all _ _ _ _ _ _ _ _ _ (omega (arith, c.self.invariant.2)) c.mark_all.ensures.marked;
       screen_is = rw (rows-scrolled c.self.inside.width (cells_of c.self.inside.rows.items)) refl;
       kept_is = λ i. record {
         lengths = lengths-scrolled c.self.inside.width (cells_of c.self.inside.rows.items) i;

@@ -1,4 +1,4 @@
-use Rattle.std.proofs.Common.{◌≡◌, ◌+◌, ◌<◌, ℕ, List, min, ap, refl, sym, subst, ◌∙◌, arith}
+use Rattle.std.proofs.Common.{◌≡◌, ◌+◌, ◌<◌, ℕ, List, min, ap, refl, sym, subst, ◌∙◌}
 use Rattle.std.specs.Prelude.{None, string_bytes}
 use Rattle.termwiz_cell.specs.CellValue.{columns}
 use Rattle.termwiz_cell.specs.Measure.{measure}
@@ -27,7 +27,7 @@ invariant_of-self-2 g c = (
   rw (c.in_ok-paint_row.ensures.ok, c.in_ok-paint_row.ensures.sides.flags, x_is g c)
       (any_numbers _ _ _ _ (IsSound-put (width g c) _ c.args.cell c.self.invariant.0 (inside g c) (record { space = g.met.W.Widths.space_has_one c.self.inside.widths None }) (measured_so g c))),
   c.in_ok-paint_row.ensures.sides.vectors c.self.invariant.1,
-  omega (arith, c.mark_row.ensures.same_count, c.mark_row.new.numbers.ok.0, c.self.inside.numbers.ok.0, c.self.invariant.2),
+  c.mark_row.ensures.len ∙ c.self.invariant.2,
 )
 
 pub returns-clause-ok : goal.returns-clause-ok
@@ -39,7 +39,7 @@ returns-clause-ok g c =
       full = refl;
       log = refl;
       mark = refl;
-      rows = rw c.in_ok-paint_row.ensures.sides.flags (marks-row _ _ _ _ _ _ _ _ c.mark_row.ensures);
+      rows = rw c.in_ok-paint_row.ensures.sides.flags (marks-row _ _ _ _ _ _ _ _ c.mark_row.ensures.marked);
       screen_is = rw (rows-put (width g c) _ c.args.cell c.self.invariant.0 (inside g c)) refl;
       kept_is = λ i. record {
         lengths = lengths-put (width g c) _ c.args.cell c.self.invariant.0 (inside g c) i;

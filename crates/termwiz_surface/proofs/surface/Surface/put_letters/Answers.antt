@@ -1,4 +1,4 @@
-use Rattle.std.proofs.Common.{◌+◌, ◌*◌, ◌≤◌, length, refl, sym, subst, arith}
+use Rattle.std.proofs.Common.{◌∙◌, ◌+◌, ◌*◌, ◌≤◌, length, refl, sym, subst}
 use Rattle.std.specs.Prelude.{None}
 use Rattle.std.specs.Str.{chars}
 use Rattle.termwiz_cell.specs.Measure.{measure}
@@ -13,7 +13,7 @@ pub invariant_of-self-2 : goal.invariant_of-self-2
 invariant_of-self-2 g c =
     let fits : c.self.inside.x + 2 * length (chars c.args.run.now) ≤ c.self.inside.width = subst (λ (s : SurfaceValue _). s.x + 2 * length (chars c.args.run.now) ≤ s.width) (sym c.self.view_is) c.requires.fits in
     let wide : AreWide (measure g.W.Widths.width_of c.self.inside.widths) (chars c.args.run.now) = subst (λ (s : SurfaceValue _). AreWide (measure g.W.Widths.width_of s.widths) (chars c.args.run.now)) (sym c.self.view_is) c.requires.wide in
-    (rw (c.in_ok-paint_letters.ensures.ok, c.letter_count.ensures, c.in_ok-paint_letters.ensures.sides.flags) (any_numbers _ _ _ _ (IsPrinted-letters (measure g.W.Widths.width_of c.self.inside.widths) (record { space = g.met.W.Widths.space_has_one c.self.inside.widths None }) (chars c.args.run.now) _ c.self.invariant.0 fits c.requires.letters wide).sound), c.in_ok-paint_letters.ensures.sides.vectors c.self.invariant.1, omega (arith, c.mark_row.ensures.same_count, c.mark_row.new.numbers.ok.0, c.self.inside.numbers.ok.0, c.self.invariant.2))
+    (rw (c.in_ok-paint_letters.ensures.ok, c.letter_count.ensures, c.in_ok-paint_letters.ensures.sides.flags) (any_numbers _ _ _ _ (IsPrinted-letters (measure g.W.Widths.width_of c.self.inside.widths) (record { space = g.met.W.Widths.space_has_one c.self.inside.widths None }) (chars c.args.run.now) _ c.self.invariant.0 fits c.requires.letters wide).sound), c.in_ok-paint_letters.ensures.sides.vectors c.self.invariant.1, c.mark_row.ensures.len ∙ c.self.invariant.2)
 
 pub returns-clause-ok : goal.returns-clause-ok
 returns-clause-ok g c =
@@ -26,7 +26,7 @@ returns-clause-ok g c =
       full = refl;
       log = refl;
       mark = refl;
-      rows = marks-row _ _ _ _ _ _ _ _ c.mark_row.ensures;
+      rows = marks-row _ _ _ _ _ _ _ _ c.mark_row.ensures.marked;
       screen_is = (IsPrinted-letters (measure g.W.Widths.width_of c.self.inside.widths) (record { space = g.met.W.Widths.space_has_one c.self.inside.widths None }) (chars c.args.run.now) _ c.self.invariant.0 fits c.requires.letters wide).screen;
       kept_is = (IsPrinted-letters (measure g.W.Widths.width_of c.self.inside.widths) (record { space = g.met.W.Widths.space_has_one c.self.inside.widths None }) (chars c.args.run.now) _ c.self.invariant.0 fits c.requires.letters wide).kept;
     })

@@ -1,4 +1,4 @@
-use Rattle.std.proofs.Common.{◌+◌, ◌≤◌, length, refl, sym, subst, arith}
+use Rattle.std.proofs.Common.{◌∙◌, ◌+◌, ◌≤◌, length, refl, sym, subst}
 use Rattle.std.specs.Prelude.{None}
 use Rattle.termwiz_cell.specs.Measure.{measure}
 use Rattle.termwiz_screen.specs.Runs.{AreNarrow}
@@ -12,7 +12,7 @@ pub invariant_of-self-2 : goal.invariant_of-self-2
 invariant_of-self-2 g c =
     let fits : c.self.inside.x + length c.args.run.now ≤ c.self.inside.width = subst (λ (s : SurfaceValue _). s.x + length c.args.run.now ≤ s.width) (sym c.self.view_is) c.requires.fits in
     let narrow : AreNarrow (measure g.W.Widths.width_of c.self.inside.widths) c.args.run.now = subst (λ (s : SurfaceValue _). AreNarrow (measure g.W.Widths.width_of s.widths) c.args.run.now) (sym c.self.view_is) c.requires.narrow in
-    (rw (c.in_ok-paint_run.ensures.ok, c.in_ok-paint_run.ensures.sides.flags) (any_numbers _ _ _ _ (IsPrinted-plain (measure g.W.Widths.width_of c.self.inside.widths) (record { space = g.met.W.Widths.space_has_one c.self.inside.widths None }) c.args.run.now _ c.self.invariant.0 fits c.requires.plain narrow).sound), c.in_ok-paint_run.ensures.sides.vectors c.self.invariant.1, omega (arith, c.mark_row.ensures.same_count, c.mark_row.new.numbers.ok.0, c.self.inside.numbers.ok.0, c.self.invariant.2))
+    (rw (c.in_ok-paint_run.ensures.ok, c.in_ok-paint_run.ensures.sides.flags) (any_numbers _ _ _ _ (IsPrinted-plain (measure g.W.Widths.width_of c.self.inside.widths) (record { space = g.met.W.Widths.space_has_one c.self.inside.widths None }) c.args.run.now _ c.self.invariant.0 fits c.requires.plain narrow).sound), c.in_ok-paint_run.ensures.sides.vectors c.self.invariant.1, c.mark_row.ensures.len ∙ c.self.invariant.2)
 
 pub returns-clause-ok : goal.returns-clause-ok
 returns-clause-ok g c =
@@ -25,7 +25,7 @@ returns-clause-ok g c =
       full = refl;
       log = refl;
       mark = refl;
-      rows = marks-row _ _ _ _ _ _ _ _ c.mark_row.ensures;
+      rows = marks-row _ _ _ _ _ _ _ _ c.mark_row.ensures.marked;
       screen_is = (IsPrinted-plain (measure g.W.Widths.width_of c.self.inside.widths) (record { space = g.met.W.Widths.space_has_one c.self.inside.widths None }) c.args.run.now _ c.self.invariant.0 fits c.requires.plain narrow).screen;
       kept_is = (IsPrinted-plain (measure g.W.Widths.width_of c.self.inside.widths) (record { space = g.met.W.Widths.space_has_one c.self.inside.widths None }) c.args.run.now _ c.self.invariant.0 fits c.requires.plain narrow).kept;
     })

@@ -1,4 +1,4 @@
-use Rattle.std.proofs.Common.{[], ◌+◌, ◌≤◌, length, ap, refl, sym, subst, arith}
+use Rattle.std.proofs.Common.{◌∙◌, [], ◌+◌, ◌≤◌, length, ap, refl, sym, subst, arith}
 use Rattle.std.specs.Prelude.{None, string_bytes}
 use Rattle.termwiz_cell.specs.Measure.{measure}
 use Rattle.termwiz_screen.specs.ScreenValue.{cells_of}
@@ -26,7 +26,7 @@ invariant_of-self-2 g c =
       rw c.in_ok-scroll_region_up.ensures.ok
           (any_numbers _ _ _ _ (any_flags _ _ _ (sides-full c.scroll_region_up.new.rows.items (ap length c.in_ok-scroll_region_up.ensures.ok)) (IsSound-up (measure g.W.Widths.width_of c.self.inside.widths) _ (record { space = g.met.W.Widths.space_has_one c.self.inside.widths None }) c.self.invariant.0 c.args.first c.args.size c.args.count inside))),
       c.in_ok-scroll_region_up.ensures.vectors c.self.invariant.1,
-      omega (arith, c.mark_rows.ensures.same_count, c.mark_rows.new.numbers.ok.0, c.self.inside.numbers.ok.0, c.self.invariant.2),
+      c.mark_rows.ensures.len ∙ c.self.invariant.2,
     )
 
 pub returns-clause-ok : goal.returns-clause-ok
@@ -40,7 +40,7 @@ returns-clause-ok g c =
       full = refl;
       log = refl;
       mark = refl;
-      rows = marks-rows _ c.args.first c.args.size _ _ _ _ _ _ _ c.mark_rows.ensures
+      rows = marks-rows _ c.args.first c.args.size _ _ _ _ _ _ _ c.mark_rows.ensures.marked
           (λ j out. up-outside _ (cells_of c.self.inside.rows.items) c.args.first c.args.size c.args.count j [] long out)
           (λ j out. rw c.in_ok-scroll_region_up.ensures.flags (up-outside no_flags (row_flags c.self.inside.rows.items) c.args.first c.args.size c.args.count j no_flags (omega (arith, long, length-map c.self.inside.rows.items (λ l. l.flags), length-cells_of c.self.inside.rows.items)) out));
       screen_is = rw (rows-up c.self.inside.width (cells_of c.self.inside.rows.items) c.args.first c.args.size c.args.count) refl;

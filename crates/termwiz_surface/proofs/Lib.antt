@@ -1,5 +1,5 @@
 mod Drawn
-mod RowNumbers
+pub mod RowNumbers
 mod Printing
 mod Changed
 mod SoundRepaint
@@ -11,6 +11,7 @@ mod DiffSurfaces
 pub mod Remembering
 mod Forgetting
 mod Unlogged
+mod ScrolledOff
 mod Viewing
 mod Accepting
 mod FollowedRuns

@@ -3,6 +3,7 @@ pub mod RowNumbers
 pub mod Printing
 pub mod Adding
 pub mod Unlogged
+pub mod ScrolledOff
 pub mod Resizing
 pub mod Following
 pub mod Copies
@@ -53,6 +54,7 @@ pub use Rattle.termwiz_surface.specs.Surface.{SurfaceValue, blank_surface, blank
 pub use Rattle.termwiz_surface.specs.RowNumbers.{HasStayed, NumbersRows}
 pub use Rattle.termwiz_surface.specs.Adding.{Adds, Makes, with_log, marking}
 pub use Rattle.termwiz_surface.specs.Unlogged.{AddsUnlogged, MakesUnlogged, lent_value}
+pub use Rattle.termwiz_surface.specs.ScrolledOff.{AddsScrolledOff, ScrollsOff, KeepsLines, rows_scrolled_off, left_step, left_by, left_one, left_piece}
 pub use Rattle.termwiz_surface.specs.Resizing.{HasResized, Resizes}
 pub use Rattle.termwiz_surface.specs.Copies.{IsDrawn, IsCopied, IsRegionDrawn, drawn_region, copied_region}
 pub use Rattle.termwiz_surface.specs.Following.{ViewerValue, Follows, FollowsTo, KeepsViewers, Leads, FullLeads, blank_viewer, blank_viewer_from}
@@ -133,7 +135,7 @@ pub use Rattle.termwiz_screen.specs.Clear.{clear_eol, clear_eos, clear_screen, e
 pub use Rattle.termwiz_screen.specs.Diff.{restoring}
 pub use Rattle.termwiz_screen.specs.Measured.{IsMeasured}
 pub use Rattle.termwiz_screen.specs.Place.{placed}
-pub use Rattle.termwiz_screen.specs.Print.{columns_left, down, down_kept, one_kept, print, print_kept, print_one, put_at_cursor, put_kept, returned, wrapped, wrapped_kept}
+pub use Rattle.termwiz_screen.specs.Print.{columns_left, down, down_kept, one_kept, piece_of, print, print_kept, print_one, put_at_cursor, put_kept, returned, wrapped, wrapped_kept}
 pub use Rattle.termwiz_screen.specs.RegionValue.{region_value}
 pub use Rattle.termwiz_screen.specs.Repaint.{full_repaint, repaint}
 pub use Rattle.termwiz_screen.specs.Runs.{AreNarrow, AreWide}
@@ -154,6 +156,7 @@ pub use Rattle.termwiz_surface.specs.Printing.{PrintsFirst, PrintsGraphemes}
 pub use Rattle.termwiz_surface.specs.Schedule.{Acts, Allows, IsInRange, IsScheduleOf, Reports, Views, with_empty_log}
 pub use Rattle.termwiz_surface.specs.ScheduleLaws.{BrokenListsLeaveForm, FollowedFullLeadOn, FollowedLeadOn, LackMemory, LackNumbers}
 pub use Rattle.termwiz_surface.specs.RowNumbers.{AreMarked}
+pub use Rattle.termwiz_surface.specs.ScrolledOff.{LeavesRows, first_leaves, left_behind_first, moves_down, top_leaves, topped}
 pub use Rattle.termwiz_surface.specs.Surface.{Becomes, lengths_of, numbers_over}
 pub use Rattle.termwiz_surface.specs.declared.surface.SurfaceError.TheVariants.{ScrollRegion}
 pub use Rattle.unicode_segmentation.specs.Grapheme.{graphemes}

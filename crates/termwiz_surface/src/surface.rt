@@ -17,6 +17,7 @@ mod numbers;
 mod print;
 mod readings;
 mod resizing;
+mod scrolled_off;
 mod sized;
 mod steps;
 mod unlogged;

@@ -5,7 +5,7 @@ ghost use Rattle.termwiz_surface.specs.{AreLetters, AreNarrow, IsMeasured, Print
 ghost use Rattle.termwiz_surface.specs.{SameFrame, down_kept, graphemes, map, needs_box, print_one};
 ghost use Rattle.termwiz_surface.specs.{AreWide, is_plain, list_all, one_kept, put_kept, screen_of};
 ghost use Rattle.termwiz_surface.specs.{Becomes, chars, false, kept_of, measure, returned, wrapped};
-ghost use Rattle.termwiz_surface.specs.{IfOk, OnOk, down, print, true};
+ghost use Rattle.termwiz_surface.specs.{IfOk, OnOk, down, left_behind_first, left_by, print, true};
 
 use super::Surface;
 use std::alloc::AllocError;
@@ -172,10 +172,14 @@ impl<W: Widths> Surface<W> {
 
     // Prints the run of ASCII or of letters, or the CR LF, that the text begins with, or else its
     // first grapheme, and returns the rest.
-    fn print_first<'a>(&mut self, text: &'a str) -> Result<&'a str, AllocError>
+    pub(super) fn print_first<'a>(&mut self, text: &'a str) -> Result<&'a str, AllocError>
         requires { 0 < length text.now }
         ensures ok { IfOk result (λ rest. PrintsFirst (measure W.width_of self.old.widths)
             self.old text.now rest.now self.new) }
+        // Of what is printed only the first grapheme scrolls.
+        ensures scrolls { IfOk result (λ rest. let f = measure W.width_of self.old.widths in
+            left_behind_first f (screen_of self.old) (graphemes true text.now)
+            ≡ left_by f (screen_of self.new) (graphemes true rest.now)) }
         ensures err { OnErr result (SameFrame self.old self.new) }
     {
         if begins_plain(text) {

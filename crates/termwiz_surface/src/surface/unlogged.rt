@@ -47,7 +47,7 @@ fn lent_regions_fit(changes: &[LentChange<'_>], height: usize) -> bool
 
 impl<W: Widths> Surface<W> {
     // Refuses a list of changes that can't be applied, before any is applied.
-    fn refuse_lent(&self, changes: &[LentChange<'_>]) -> Result<(), SurfaceError>
+    pub(super) fn refuse_lent(&self, changes: &[LentChange<'_>]) -> Result<(), SurfaceError>
         ensures { Refuses self.now (map lent_value changes.now) result }
     {
         if !lent_regions_fit(changes, self.height) {

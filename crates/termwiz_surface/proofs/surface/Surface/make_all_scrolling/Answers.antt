@@ -1,0 +1,49 @@
+use Rattle.std.proofs.Common.{◌≡◌, ℕ, ◌+◌, ◌≤◌, true, map, length, length-append, sym, ap, subst, ◌∙◌, arith}
+use Rattle.std.proofs.lemmas.List.{length-map}
+use Rattle.termwiz_cell.specs.ChangeValue.{change_value}
+use Rattle.termwiz_cell.specs.Measure.{measure}
+use Rattle.termwiz_screen.specs.Log.{next_number}
+use Rattle.termwiz_screen.specs.Step.{regions_fit}
+use Rattle.termwiz_surface.specs.Adding.{with_log}
+use Rattle.termwiz_surface.specs.RowNumbers.{NumbersRows}
+use Rattle.termwiz_surface.specs.ScrolledOff.{ScrollsOff, rows_scrolled_off}
+use Rattle.termwiz_surface.specs.Surface.{SurfaceValue, screen_of}
+use Rattle.termwiz_surface.proofs.Drawn.{any_log}
+use Rattle.termwiz_surface.proofs.RowNumbers.{numbers-none}
+use Rattle.termwiz_screen.proofs.LogRegions.{regions-append}
+use Rattle.termwiz_surface.proofs.surface.Surface.make_all_scrolling.Goals as goal
+
+pub invariant_of-self-3 : goal.invariant_of-self-3
+invariant_of-self-3 g c =
+    let s = c.self-2.inside in
+    let form = c.self-2.invariant.0 in
+    let changes = map change_value c.args.changes.items in
+    let made = c.in_ok-apply_all_scrolling.ensures.ok in
+    let height : s.height ≡ c.args.self.now.height = ap (λ (v : SurfaceValue _). v.height) c.self-2.view_is ∙ made.height ∙ ap (λ (v : SurfaceValue _). v.height) c.self.view_is in
+    let number : next_number s.log ≡ next_number c.args.self.now.log =
+    ap (λ (v : SurfaceValue _). next_number v.log) c.self-2.view_is ∙ ap next_number made.log ∙ ap next_number c.in_ok-reserve.ensures.unchanged ∙ ap (λ (v : SurfaceValue _). next_number v.log) c.self.view_is in
+    let fits : regions_fit s.height changes ≡ true = ap (λ h. regions_fit h changes) height ∙ c.requires.fits in (
+      rw c.in_ok-append.ensures.ok
+          (any_log _ _ _ form
+          (omega (arith, number, c.requires.numbers, length-append s.log.changes changes, length-map c.args.changes.items change_value, c.args.changes.ok.0))
+          (regions-append s.height s.log.changes changes form.regions fits)),
+      c.self-2.invariant.1,
+      c.self-2.invariant.2,
+    )
+
+pub returns-clause-none : goal.returns-clause-none
+returns-clause-none g c = λ none.
+    let old : SurfaceValue _ = c.args.self.now in
+    let new : SurfaceValue _ = c.apply_all_scrolling.new.self in
+    let mark : ℕ = c.next_number.result + c.len-2.result in
+    let same : new ≡ record old { log = c.reserve.new.self; mark = mark } =
+    c.in_ok-apply_all_scrolling.ensures.none (omega (arith, none, ap length c.as_slice.ensures.value, c.args.changes.ok.0)) ∙ ap (λ (s : SurfaceValue _). record s { log = c.reserve.new.self; mark = mark }) c.self.view_is in
+    let grows : next_number old.log ≤ next_number c.append.new.self =
+    omega (arith, ap next_number c.in_ok-append.ensures.ok, length-append c.self-2.inside.log.changes (map change_value c.args.changes.items), ap (λ (s : SurfaceValue _). next_number s.log) (c.self-2.view_is ∙ same), ap next_number c.in_ok-reserve.ensures.unchanged, ap (λ (s : SurfaceValue _). next_number s.log) c.self.view_is) in
+    subst (λ (m : SurfaceValue _). NumbersRows old (with_log m c.append.new.self)) (sym c.self-2.view_is) (numbers-none old new mark c.reserve.new.self c.append.new.self same grows)
+
+pub returns-clause-scrolls : goal.returns-clause-scrolls
+returns-clause-scrolls g c =
+    let f = λ (s : SurfaceValue _). measure g.W.Widths.width_of s.widths in
+    let scrolls = subst (λ (s : SurfaceValue _). ScrollsOff s.width (rows_scrolled_off (f s) (screen_of s) (map change_value c.as_slice.result.now)) c.args.lines.now.items c.apply_all_scrolling.new.lines.items) c.self.view_is c.in_ok-apply_all_scrolling.ensures.scrolls in
+    rw c.as_slice.ensures.value at scrolls

@@ -1,0 +1,71 @@
+use Rattle.std.proofs.Common.{◌≡◌, ◌<◌, ◌++◌, ℕ, List, [], ◌∷◌, length, replicate, set, ap, refl, sym, subst, ◌∙◌, arith}
+use Rattle.std.specs.Prelude.{None, string_bytes}
+use Rattle.std.proofs.lemmas.List.{map-set}
+use Rattle.termwiz_cell.specs.CellValue.{CellValue, blank}
+use Rattle.termwiz_cell.specs.Measure.{measure}
+use Rattle.termwiz_line.specs.LineFlags.{no_flags}
+use Rattle.termwiz_line.specs.LineValue.{LineValue}
+use Rattle.termwiz_line.specs.Row.{row_of}
+use Rattle.termwiz_screen.specs.Screen.{row_at}
+use Rattle.termwiz_screen.specs.ScreenValue.{cells_of, numberless}
+use Rattle.termwiz_screen.specs.Sides.{row_flags}
+use Rattle.termwiz_screen.proofs.Lines.{cells-set, length-cells_of, row-read}
+use Rattle.termwiz_screen.proofs.RowChanges.Scrolled.{vectors-set}
+use Rattle.termwiz_surface.specs.ScrolledOff.{ScrollsOff}
+use Rattle.termwiz_surface.specs.Surface.{SurfaceValue, IsSound, screen_of}
+use Rattle.termwiz_surface.proofs.RowNumbers.{marks-rows}
+use Rattle.termwiz_surface.proofs.ScrolledOff.{IsSound-taken, lengths-set, rows-set, set-outside}
+use Rattle.termwiz_surface.proofs.surface.Surface.take_row.Goals as goal
+
+pub invariant_of-self : goal.invariant_of-self
+invariant_of-self g c =
+    let items : List LineValue = c.self.inside.rows.items in
+    let row : List CellValue = replicate c.self.inside.width blank in
+    let inside : c.args.row < c.self.inside.height = subst (λ (s : SurfaceValue _). c.args.row < s.height) (sym c.self.view_is) c.requires in
+    let blank_is : c.replace-line.new.dest ≡ numberless row = c.replace-line.ensures.after ∙ c.in_ok-blank.ensures in
+    let flags : row_flags (set items c.args.row (numberless row)) ≡ set (row_flags items) c.args.row no_flags = map-set (λ (l : LineValue). l.flags) items c.args.row (numberless row) in (
+      rw (blank_is, cells-set items c.args.row (numberless row), flags) (IsSound-taken (measure g.W.Widths.width_of c.self.inside.widths) _ (record { space = g.met.W.Widths.space_has_one c.self.inside.widths None }) c.self.invariant.0 c.args.row inside _),
+      rw blank_is (vectors-set items c.args.row (numberless row) refl c.self.invariant.1),
+      c.mark_row.ensures.len ∙ c.self.invariant.2,
+    )
+
+pub returns-clause-ok : goal.returns-clause-ok
+returns-clause-ok g c =
+    let items : List LineValue = c.self.inside.rows.items in
+    let row : List CellValue = replicate c.self.inside.width blank in
+    let blank_is : c.replace-line.new.dest ≡ numberless row = c.replace-line.ensures.after ∙ c.in_ok-blank.ensures in
+    let flags : row_flags (set items c.args.row (numberless row)) ≡ set (row_flags items) c.args.row no_flags = map-set (λ (l : LineValue). l.flags) items c.args.row (numberless row) in
+    rw (← c.self.view_is, blank_is, cells-set items c.args.row (numberless row), flags) (record {
+      widths = refl;
+      width = refl;
+      height = refl;
+      full = refl;
+      log = refl;
+      mark = refl;
+      rows = marks-rows _ c.args.row 1 _ _ _ _ _ _ _ c.mark_row.ensures.marked
+          (λ j out. set-outside (cells_of items) c.args.row j row [] out)
+          (λ j out. set-outside (row_flags items) c.args.row j no_flags no_flags out);
+      screen_is = rw (rows-set c.self.inside.width (cells_of items) c.args.row) refl;
+      kept_is = λ i. record {
+        lengths = lengths-set c.self.inside.width (cells_of items) c.args.row i;
+        flags = set (row_flags items) c.args.row no_flags;
+        title = string_bytes c.self.inside.title;
+        shape = c.self.inside.shape;
+        color = c.self.inside.color;
+      };
+    })
+
+pub returns-clause-moves : goal.returns-clause-moves
+returns-clause-moves g c =
+    let items : List LineValue = c.self.inside.rows.items in
+    let w : ℕ = c.self.inside.width in
+    let inside : c.args.row < c.self.inside.height = subst (λ (s : SurfaceValue _). c.args.row < s.height) (sym c.self.view_is) c.requires in
+    let there : c.args.row < length items = omega (arith, inside, c.self.inside.rows.ok.0, c.self.invariant.0.full, length-cells_of items) in
+    subst (λ (s : SurfaceValue _). ScrollsOff s.width (row_at (screen_of s).rows c.args.row ∷ []) c.args.lines.now.items c.push_reserved.new.self.items) c.self.view_is (record {
+      lines = c.replace-line.result ∷ [];
+      behind = c.push_reserved.ensures.items ∙ ap (λ (ls : List LineValue). ls ++ c.replace-line.result ∷ []) c.reserve.ensures.items;
+      rows_are = ap (λ (l : LineValue). row_of w l.cells ∷ []) c.replace-line.ensures.value ∙ ap (λ (r : List CellValue). r ∷ []) (sym (row-read w items c.args.row c.index_mut.result.now there c.index_mut.ensures.value));
+    })
+
+pub returns-clause-sound : goal.returns-clause-sound
+returns-clause-sound g c = subst (λ (s : SurfaceValue _). IsSound (measure g.W.Widths.width_of s.widths) s) c.self.view_is c.self.invariant.0

@@ -1,0 +1,405 @@
+//! Changes whose lines that scroll off the top are kept.
+ghost use Rattle.std.specs.Prelude.{◌≡◌, ◌≢◌, ◌+◌, ◌-◌, ◌<◌, ◌≤◌, ◌^◌, ◌∷◌, [], OnErr, ℕ, length};
+ghost use Rattle.std.specs.Prelude.{min, replicate, slice_set, take, vec_len, ◌==◌, if◌then◌else◌};
+ghost use Rattle.termwiz_surface.specs.{AddsUnlogged, Becomes, IfOk, IsOk, KeepsNames};
+ghost use Rattle.termwiz_surface.specs.{KeepsViewers, Adds, AddsScrolledOff, KeepsLines};
+ghost use Rattle.termwiz_surface.specs.{LeavesRows, Makes, MakesUnlogged, NumbersRows, OnOk};
+ghost use Rattle.termwiz_surface.specs.{PrintsFirst, SameFrame, ScrollsOff, blank, change_value};
+ghost use Rattle.termwiz_surface.specs.{first_leaves, graphemes, kept_of, knows, left_by};
+ghost use Rattle.termwiz_surface.specs.{left_step, lent_value, map, measure, moves_down};
+ghost use Rattle.termwiz_surface.specs.{next_number, no_flags, passed, piece_of, print, print_kept};
+ghost use Rattle.termwiz_surface.specs.{region_fits, region_up, regions_fit, replay, replay_kept};
+ghost use Rattle.termwiz_surface.specs.{row_at, rows_scrolled_off, screen_of, step, IsSound, false};
+ghost use Rattle.termwiz_surface.specs.{step_kept, topped, true};
+
+use super::unlogged::LentChange;
+use super::{Surface, SurfaceError, number_for};
+use std::alloc::AllocError;
+use std::mem;
+use termwiz_cell::change::{Change, SEQ_ZERO, SequenceNo};
+use termwiz_cell::emoji::Widths;
+use termwiz_line::line::line::Line;
+use termwiz_text::split_first_grapheme;
+
+impl<W: Widths> Surface<W> {
+    // Moves a row to the end of the lines, and leaves a row of default blanks in its place.
+    fn take_row(&mut self, row: usize, lines: &mut Vec<Line>) -> Result<(), AllocError>
+        requires { row < self.old.height }
+        ensures ok { OnOk result (let s = screen_of self.old in let k = kept_of self.old in
+            Becomes self.old
+            (record s { rows = slice_set s.rows row (replicate s.width blank) })
+            (record k {
+              lengths = slice_set k.lengths row s.width;
+              flags = slice_set k.flags row no_flags;
+            }) self.new) }
+        ensures moves { OnOk result (ScrollsOff self.old.width
+            (row_at (screen_of self.old).rows row ∷ []) lines.old.items lines.new.items) }
+        ensures err { OnErr result (self.new ≡ self.old) }
+        ensures kept { OnErr result (lines.new.items ≡ lines.old.items) }
+        ensures sound { OnOk result (IsSound (measure W.width_of self.old.widths) self.old) }
+    {
+        // Once there is room for the row, nothing fails.
+        lines.reserve(1)?;
+        let blank = Line::with_width(self.alloc, self.width, SEQ_ZERO)?;
+        let line = mem::replace(&mut self.rows[row], blank);
+        self.numbers.mark_row(row, self.mark);
+        lines.push_reserved(line);
+        Ok(())
+    }
+
+    // Moves the first `count` rows to the end of the lines, and leaves rows of default blanks in
+    // their place.
+    fn take_rows(&mut self, count: usize, lines: &mut Vec<Line>) -> Result<(), AllocError>
+        requires { count ≤ self.old.height }
+        ensures ok { OnOk result (let s = screen_of self.old in let k = kept_of self.old in
+            Becomes self.old
+            (record s { rows = topped (replicate s.width blank) count s.rows })
+            (record k {
+              lengths = topped s.width count k.lengths;
+              flags = topped no_flags count k.flags;
+            }) self.new) }
+        ensures moves { OnOk result (ScrollsOff self.old.width
+            (take count (screen_of self.old).rows) lines.old.items lines.new.items) }
+        ensures err { OnErr result (SameFrame self.old self.new) }
+        ensures kept { OnErr result (KeepsLines lines.old.items lines.new.items) }
+    {
+        for row in 0..count {
+            self.take_row(row, lines)?;
+        }
+        Ok(())
+    }
+
+    // Whether a grapheme moves the cursor down.
+    fn moves_down(&self, grapheme: &str) -> bool
+        ensures { result ≡ moves_down (screen_of self.now)
+            (piece_of (measure W.width_of self.now.widths) self.now.pen grapheme.now) }
+    {
+        match grapheme.as_bytes() {
+            [b'\r'] => false,
+            [b'\n'] | [b'\r', b'\n'] => true,
+            _ => self.x >= self.width,
+        }
+    }
+
+    // Whether the text's first grapheme scrolls row 0 off.
+    fn first_leaves(&self, text: &str) -> bool
+        requires { 0 < length text.now }
+        ensures { result ≡ first_leaves (measure W.width_of self.now.widths) (screen_of self.now)
+            (graphemes true text.now) }
+    {
+        if self.y + 1 < self.height {
+            return false;
+        }
+        // What begins with no control character is printed as a cell.
+        if text.as_bytes()[0] >= b' ' {
+            return self.x >= self.width;
+        }
+        match split_first_grapheme(text) {
+            Some((grapheme, _)) => self.moves_down(grapheme),
+            None => unreachable!(),
+        }
+    }
+
+    // Prints what the text begins with, and returns the rest. Where this scrolls row 0 off, that
+    // row is moved to the end of the lines.
+    fn print_first_scrolling<'a>(
+        &mut self,
+        text: &'a str,
+        lines: &mut Vec<Line>,
+    ) -> Result<&'a str, AllocError>
+        requires { 0 < length text.now }
+        ensures ok { IfOk result (λ rest. PrintsFirst (measure W.width_of self.old.widths)
+            self.old text.now rest.now self.new) }
+        ensures scrolls { IfOk result (λ rest. let f = measure W.width_of self.old.widths in
+            LeavesRows self.old.width
+            (left_by f (screen_of self.old) (graphemes true text.now))
+            (left_by f (screen_of self.new) (graphemes true rest.now))
+            lines.old.items lines.new.items) }
+        ensures err { OnErr result (SameFrame self.old self.new) }
+        ensures kept { OnErr result (KeepsLines lines.old.items lines.new.items) }
+    {
+        // A surface has a row 0.
+        let _ = &self.rows;
+        if !self.first_leaves(text) {
+            let rest = self.print_first(text)?;
+            return Ok(rest);
+        }
+        // The row that is printed below is moved up over this one.
+        self.take_row(0, lines)?;
+        let rest = self.print_first(text)?;
+        Ok(rest)
+    }
+
+    fn print_text_scrolling(&mut self, text: &str, lines: &mut Vec<Line>) -> Result<(), AllocError>
+        ensures ok { OnOk result (let f = measure W.width_of self.old.widths in
+            let s = screen_of self.old in
+            Becomes self.old (print f s text.now)
+            (print_kept f s text.now (kept_of self.old)) self.new) }
+        ensures scrolls { OnOk result (ScrollsOff self.old.width
+            (left_by (measure W.width_of self.old.widths) (screen_of self.old)
+            (graphemes true text.now)) lines.old.items lines.new.items) }
+        ensures err { OnErr result (SameFrame self.old self.new) }
+        ensures kept { OnErr result (KeepsLines lines.old.items lines.new.items) }
+    {
+        let mut rest = text;
+        'pieces: while !rest.is_empty() {
+            rest = self.print_first_scrolling(rest, lines)?;
+        }
+        Ok(())
+    }
+
+    // Scrolls rows up inside a region, and moves those that leave row 0 to the end of the lines.
+    fn scroll_region_up_scrolling(
+        &mut self,
+        first: usize,
+        size: usize,
+        count: usize,
+        lines: &mut Vec<Line>,
+    ) -> Result<(), AllocError>
+        requires { first + size ≤ self.old.height }
+        ensures ok { OnOk result (let s = screen_of self.old in let k = kept_of self.old in
+            Becomes self.old
+            (record s { rows = region_up (replicate s.width blank) s.rows first size count })
+            (record k {
+              lengths = region_up s.width k.lengths first size count;
+              flags = region_up no_flags k.flags first size count;
+            }) self.new) }
+        ensures scrolls { OnOk result (ScrollsOff self.old.width
+            (if first == 0 then take (min count size) (screen_of self.old).rows else [])
+            lines.old.items lines.new.items) }
+        ensures err { OnErr result (SameFrame self.old self.new) }
+        ensures kept { OnErr result (KeepsLines lines.old.items lines.new.items) }
+    {
+        if first > 0 {
+            self.scroll_region_up(first, size, count)?;
+            return Ok(());
+        }
+        self.take_rows(count.min(size), lines)?;
+        self.scroll_region_up(0, size, count)?;
+        Ok(())
+    }
+
+    fn apply_scrolling(&mut self, change: &Change, lines: &mut Vec<Line>) -> Result<(), AllocError>
+        requires { region_fits self.old.height (change_value change.now) ≡ true }
+        ensures ok { OnOk result (let f = measure W.width_of self.old.widths in
+            let s = screen_of self.old in
+            Becomes self.old (step f s (change_value change.now))
+            (step_kept f s (kept_of self.old) (change_value change.now)) self.new) }
+        ensures scrolls { OnOk result (ScrollsOff self.old.width
+            (left_step (measure W.width_of self.old.widths) (screen_of self.old)
+            (change_value change.now)) lines.old.items lines.new.items) }
+        ensures err { OnErr result (SameFrame self.old self.new) }
+        ensures kept { OnErr result (KeepsLines lines.old.items lines.new.items) }
+    {
+        match change {
+            Change::Text(text) => self.print_text_scrolling(text.as_str(), lines)?,
+            Change::ScrollRegionUp {
+                first_row,
+                region_size,
+                scroll_count,
+            } => {
+                self.scroll_region_up_scrolling(*first_row, *region_size, *scroll_count, lines)?;
+            }
+            _ => self.apply(change)?,
+        }
+        Ok(())
+    }
+
+    fn apply_lent_scrolling(
+        &mut self,
+        change: &LentChange<'_>,
+        lines: &mut Vec<Line>,
+    ) -> Result<(), AllocError>
+        requires { region_fits self.old.height (lent_value change.now) ≡ true }
+        ensures ok { OnOk result (let f = measure W.width_of self.old.widths in
+            let s = screen_of self.old in
+            Becomes self.old (step f s (lent_value change.now))
+            (step_kept f s (kept_of self.old) (lent_value change.now)) self.new) }
+        ensures scrolls { OnOk result (ScrollsOff self.old.width
+            (left_step (measure W.width_of self.old.widths) (screen_of self.old)
+            (lent_value change.now)) lines.old.items lines.new.items) }
+        ensures err { OnErr result (SameFrame self.old self.new) }
+        ensures kept { OnErr result (KeepsLines lines.old.items lines.new.items) }
+    {
+        match change {
+            LentChange::Text(text) => self.print_text_scrolling(text, lines)?,
+            LentChange::Title(title) => self.set_title(title)?,
+            LentChange::Owned(change) => self.apply_scrolling(change, lines)?,
+        }
+        Ok(())
+    }
+
+    fn apply_all_lent_scrolling(
+        &mut self,
+        changes: &[LentChange<'_>],
+        lines: &mut Vec<Line>,
+    ) -> Result<(), AllocError>
+        requires { regions_fit self.old.height (map lent_value changes.now) ≡ true }
+        ensures ok { OnOk result (let f = measure W.width_of self.old.widths in
+            let s = screen_of self.old in
+            Becomes self.old (replay f s (map lent_value changes.now))
+            (replay_kept f s (kept_of self.old) (map lent_value changes.now)) self.new) }
+        ensures scrolls { OnOk result (ScrollsOff self.old.width
+            (rows_scrolled_off (measure W.width_of self.old.widths) (screen_of self.old)
+            (map lent_value changes.now)) lines.old.items lines.new.items) }
+        ensures err { OnErr result (SameFrame self.old self.new) }
+        ensures kept { OnErr result (KeepsLines lines.old.items lines.new.items) }
+        ensures empty { OnErr result (0 < length changes.now) }
+        ensures none { length changes.now ≡ 0 → self.new ≡ self.old }
+    {
+        for change in changes {
+            self.apply_lent_scrolling(change, lines)?;
+        }
+        Ok(())
+    }
+
+    // Applies the changes, and counts them.
+    fn make_unlogged_scrolling(
+        &mut self,
+        changes: &[LentChange<'_>],
+        lines: &mut Vec<Line>,
+    ) -> Result<(), AllocError>
+        requires fits { regions_fit self.old.height (map lent_value changes.now) ≡ true }
+        requires numbers { next_number self.old.log + length changes.now < 2 ^ 64 }
+        ensures ok { OnOk result (MakesUnlogged (measure W.width_of self.old.widths)
+            self.old (map lent_value changes.now) self.new) }
+        ensures scrolls { OnOk result (ScrollsOff self.old.width
+            (rows_scrolled_off (measure W.width_of self.old.widths) (screen_of self.old)
+            (map lent_value changes.now)) lines.old.items lines.new.items) }
+        ensures err { OnErr result (SameFrame self.old self.new) }
+        ensures kept { OnErr result (KeepsLines lines.old.items lines.new.items) }
+        ensures some { OnErr result (0 < length changes.now) }
+        ensures none { length changes.now ≡ 0 → NumbersRows self.old self.new }
+    {
+        self.mark = self.log.next_number() + changes.len();
+        self.apply_all_lent_scrolling(changes, lines)?;
+        self.log.pass(changes.len());
+        Ok(())
+    }
+
+    /// Applies the changes in order without logging them, as `add_unlogged` does, and moves the
+    /// lines that they scroll off the top of the screen to the end of `scrolled_off`, the first one
+    /// first. Texts scroll lines off, and `ScrollRegionUp` does where its region begins at row 0.
+    ///
+    /// Returns what `add_unlogged` returns. `ScrollRegion`, `Numbers`: `scrolled_off` is unchanged
+    /// too. `Memory`: `scrolled_off` keeps its old lines, and may have lines of changes that were
+    /// applied behind them.
+    pub fn add_unlogged_scrolling(
+        &mut self,
+        changes: &[LentChange<'_>],
+        scrolled_off: &mut Vec<Line>,
+    ) -> Result<SequenceNo, SurfaceError>
+        ensures adds { AddsUnlogged (measure W.width_of self.old.widths)
+            self.old (map lent_value changes.now)
+            (next_number self.old.log - 1 + length changes.now) result self.new }
+        // The lines that scroll off are added, and the old ones stay, even after an error.
+        ensures scrolled { AddsScrolledOff self.old.width
+            (rows_scrolled_off (measure W.width_of self.old.widths) (screen_of self.old)
+            (map lent_value changes.now)) result scrolled_off.old.items scrolled_off.new.items }
+        ensures empty { length changes.now ≡ 0 → IsOk result }
+        ensures unlogged { OnOk result (self.new.log ≡ passed self.old.log (length changes.now)) }
+        // Whoever asks by another number than the surface's gets a repaint.
+        ensures repaints { OnOk result ((n : ℕ) →
+            n ≢ next_number self.new.log → knows self.new n ≡ false) }
+        // Each viewer that follows the surface still follows it, even after an error.
+        ensures followed { KeepsViewers (measure W.width_of) self.old self.new }
+        // Its numbers still name what they named, even after an error.
+        ensures remembered { KeepsNames (measure W.width_of self.old.widths) self.old self.new }
+        // A row whose number isn't above one that the surface had is as it was then.
+        ensures numbered { NumbersRows self.old self.new }
+    {
+        self.refuse_lent(changes)?;
+        let number = number_for(self.log.next_number(), changes.len());
+        if self.make_unlogged_scrolling(changes, scrolled_off).is_err() {
+            self.restart();
+            return Err(SurfaceError::Memory);
+        }
+        Ok(number)
+    }
+
+    fn apply_all_scrolling(
+        &mut self,
+        changes: &[Change],
+        lines: &mut Vec<Line>,
+    ) -> Result<(), AllocError>
+        requires { regions_fit self.old.height (map change_value changes.now) ≡ true }
+        ensures ok { OnOk result (let f = measure W.width_of self.old.widths in
+            let s = screen_of self.old in
+            Becomes self.old (replay f s (map change_value changes.now))
+            (replay_kept f s (kept_of self.old) (map change_value changes.now)) self.new) }
+        ensures scrolls { OnOk result (ScrollsOff self.old.width
+            (rows_scrolled_off (measure W.width_of self.old.widths) (screen_of self.old)
+            (map change_value changes.now)) lines.old.items lines.new.items) }
+        ensures err { OnErr result (SameFrame self.old self.new) }
+        ensures kept { OnErr result (KeepsLines lines.old.items lines.new.items) }
+        ensures empty { OnErr result (0 < length changes.now) }
+        ensures none { length changes.now ≡ 0 → self.new ≡ self.old }
+    {
+        for change in changes {
+            self.apply_scrolling(change, lines)?;
+        }
+        Ok(())
+    }
+
+    // Applies the changes and logs them.
+    fn make_all_scrolling(
+        &mut self,
+        changes: Vec<Change>,
+        lines: &mut Vec<Line>,
+    ) -> Result<(), AllocError>
+        requires fits { regions_fit self.old.height (map change_value changes.items) ≡ true }
+        requires numbers { next_number self.old.log + vec_len changes < 2 ^ 64 }
+        ensures ok { OnOk result (Makes (measure W.width_of self.old.widths)
+            self.old (map change_value changes.items) self.new) }
+        ensures scrolls { OnOk result (ScrollsOff self.old.width
+            (rows_scrolled_off (measure W.width_of self.old.widths) (screen_of self.old)
+            (map change_value changes.items)) lines.old.items lines.new.items) }
+        ensures err { OnErr result (SameFrame self.old self.new) }
+        ensures kept { OnErr result (KeepsLines lines.old.items lines.new.items) }
+        ensures some { OnErr result (0 < vec_len changes) }
+        ensures none { vec_len changes ≡ 0 → NumbersRows self.old self.new }
+    {
+        self.log.reserve(changes.len())?;
+        self.mark = self.log.next_number() + changes.len();
+        self.apply_all_scrolling(changes.as_slice(), lines)?;
+        self.log.append(changes)?;
+        Ok(())
+    }
+
+    /// Applies the changes in order, as `add_changes` does, and moves the lines that they scroll
+    /// off the top of the screen to the end of `scrolled_off`, the first one first. Texts scroll
+    /// lines off, and `ScrollRegionUp` does where its region begins at row 0.
+    ///
+    /// Returns what `add_changes` returns. `ScrollRegion`, `Numbers`: `scrolled_off` is unchanged
+    /// too. `Memory`: `scrolled_off` keeps its old lines, and may have lines of changes that were
+    /// applied behind them.
+    pub fn add_changes_scrolling(
+        &mut self,
+        changes: Vec<Change>,
+        scrolled_off: &mut Vec<Line>,
+    ) -> Result<SequenceNo, SurfaceError>
+        ensures adds { Adds (measure W.width_of self.old.widths)
+            self.old (map change_value changes.items)
+            (next_number self.old.log - 1 + vec_len changes) result self.new }
+        // The lines that scroll off are added, and the old ones stay, even after an error.
+        ensures scrolled { AddsScrolledOff self.old.width
+            (rows_scrolled_off (measure W.width_of self.old.widths) (screen_of self.old)
+            (map change_value changes.items)) result scrolled_off.old.items
+            scrolled_off.new.items }
+        ensures empty { vec_len changes ≡ 0 → IsOk result }
+        // Each viewer that follows the surface still follows it, even after an error.
+        ensures followed { KeepsViewers (measure W.width_of) self.old self.new }
+        // Its numbers still name what they named, even after an error.
+        ensures remembered { KeepsNames (measure W.width_of self.old.widths) self.old self.new }
+        // A row whose number isn't above one that the surface had is as it was then.
+        ensures numbered { NumbersRows self.old self.new }
+    {
+        self.refuse(changes.as_slice())?;
+        let number = number_for(self.log.next_number(), changes.len());
+        if self.make_all_scrolling(changes, scrolled_off).is_err() {
+            self.restart();
+            return Err(SurfaceError::Memory);
+        }
+        Ok(number)
+    }
+}

@@ -1,5 +1,5 @@
 -- What a client makes of the bytes that it is fed.
-use Rattle.std.specs.Prelude.{◌≡◌, ◌≢◌, ◌⊎◌, ℕ, ◌+◌, ◌≤◌, ◌^◌, Bool, true, false, Option, Some, None, List, [], ◌∷◌, ◌++◌, length, Result, Ok, Err}
+use Rattle.std.specs.Prelude.{◌≡◌, ◌≢◌, ◌⊎◌, ℕ, ◌+◌, ◌≤◌, ◌^◌, Bool, true, false, Option, Some, None, List, [], ◌∷◌, ◌++◌, length, Result, Ok, Err, if◌then◌else◌}
 use Rattle.cbor.specs.declared.error.FaultKind.TheVariants.{Truncated}
 use Rattle.termwiz_screen.specs.Log.{next_number}
 use Rattle.termwiz_surface.specs.Answer.{is_repaint}
@@ -60,11 +60,14 @@ module _ {W : Type 0} where
     pub kept : new.kept ≡ old.kept
     pub settings : SameSettings old new
 
-  -- the changes of a delta would pass the greatest number of the client's own surface
+  -- the changes of an answer would pass the greatest number of the client's own surface, of which
+  -- a repaint takes one more
   pub record LacksNumbers (d : DisplayValue W) (a : SentAnswer) : Type 0 where
     pub fits : fits (shown_on d) a ≡ true
-    pub delta : is_repaint a.answer ≡ false
-    pub passes : 2 ^ 64 ≤ next_number d.surface.log + length a.answer.changes
+    pub passes :
+        2 ^ 64 ≤
+        next_number d.surface.log + length a.answer.changes +
+        (if is_repaint a.answer then 1 else 0)
 
   module _ (measure_of : W → List ℕ → ℕ) where
     -- a display takes an answer

@@ -16,6 +16,7 @@ pub use Rattle.termwiz_surface.specs.Unlogged.{AddsUnlogged, lent_value}
 pub use Rattle.termwiz_surface.specs.Diffs.{HasCopied, HasDrawn}
 pub use Rattle.termwiz_surface.specs.Following.{KeepsViewers}
 pub use Rattle.termwiz_surface.specs.Resizing.{Resizes}
+pub use Rattle.termwiz_surface.specs.RowNumbers.{NumbersRows}
 pub use Rattle.termwiz_surface.specs.Surface.{IsSurfaceSize, SurfaceValue, blank_surface, screen_of}
 pub use Rattle.termwiz_surface.specs.declared.surface.SurfaceError.TheVariants.{ScrollRegion}
 pub use Rattle.termwiz_wire.specs.Answers.{answer_at}

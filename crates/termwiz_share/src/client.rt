@@ -2,8 +2,8 @@
 ghost use Rattle.std.specs.Prelude.{◌≡◌, ◌<◌, ◌++◌, [], IfErr, IfOk, List, None, OnErr, OnOk, ℕ};
 ghost use Rattle.std.specs.Prelude.{length};
 ghost use Rattle.termwiz_share.specs.{ClientValue, Feeds, Follows, FollowsTo, FullScreen, Given};
-ghost use Rattle.termwiz_share.specs.{IsAsk, IsReady, IsResponse, KeepsSources, Reads, Serves};
-ghost use Rattle.termwiz_share.specs.{Shows, SourceValue, Steps};
+ghost use Rattle.termwiz_share.specs.{IsAsk, IsReady, IsResponse, KeepsSources, NumbersRows};
+ghost use Rattle.termwiz_share.specs.{Reads, Serves, Shows, SourceValue, Steps};
 ghost use Rattle.termwiz_share.specs.{Memory, ask, ask_of, blank_surface, measure, refusal};
 ghost use Rattle.termwiz_share.specs.{stopped_by, true, with_bytes};
 
@@ -178,6 +178,8 @@ impl<W: Widths> Client<W> {
             IsReady self.old →
             IsResponse (measure W.width_of) source (ask_of self.old) piece.now →
             Serves (measure W.width_of) source self.new }
+        // A row whose number isn't above one that the client's surface had is as it was then.
+        ensures numbered { NumbersRows self.old.surface self.new.surface }
     {
         answers();
         if let Some(error) = self.stopped {
@@ -202,7 +204,8 @@ impl<W: Widths> Client<W> {
 
     // Takes the answers that are whole.
     fn take_all(&mut self) -> Result<(), ClientError>
-        ensures { Reads (measure W.width_of) self.old result self.new }
+        ensures reads { Reads (measure W.width_of) self.old result self.new }
+        ensures numbered { NumbersRows self.old.surface self.new.surface }
     {
         'answers: while self.take_next()? {}
         Ok(())
@@ -213,6 +216,7 @@ impl<W: Widths> Client<W> {
         ensures steps { Steps (measure W.width_of) self.old result self.new }
         ensures shorter { IfOk result (λ more. more ≡ true →
             length self.new.kept < length self.old.kept) }
+        ensures numbered { NumbersRows self.old.surface self.new.surface }
     {
         answers();
         if self.start == self.bytes.len() {

@@ -21,7 +21,8 @@ pub enum ClientError {
     #[error("size at {at}")]
     Size { at: usize },
     /// The numbers of the client's own surface would pass the greatest `usize`. It shows what it
-    /// showed, without a number, so that the next ask brings a repaint; more bytes may be fed.
+    /// showed, without a number. More bytes may be fed, but a repaint may fail with this error too:
+    /// only a new client begins with the number 0.
     #[error("the numbers of changes are used up")]
     Numbers,
     /// Memory was refused.

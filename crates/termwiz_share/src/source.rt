@@ -3,9 +3,9 @@ ghost use Rattle.std.specs.Prelude.{◌≡◌, ◌≢◌, ◌+◌, ◌-◌, ◌<
 ghost use Rattle.std.specs.Prelude.{OnErr, OnOk, ℕ, min, vec_len};
 ghost use Rattle.termwiz_share.specs.{Adds, AddsUnlogged, Answers, ClientValue, HasCopied};
 ghost use Rattle.termwiz_share.specs.{HasDrawn, IsCopied, IsDrawn, IsRegionDrawn, IsResponse};
-ghost use Rattle.termwiz_share.specs.{IsSurfaceSize, KeepsClients, KeepsViewers, Resizes};
-ghost use Rattle.termwiz_share.specs.{Responds, ScrollRegion, Serves, SourceValue, blank_surface};
-ghost use Rattle.termwiz_share.specs.{lent_value};
+ghost use Rattle.termwiz_share.specs.{IsSurfaceSize, KeepsClients, KeepsViewers, NumbersRows};
+ghost use Rattle.termwiz_share.specs.{Resizes, Responds, ScrollRegion, Serves, SourceValue};
+ghost use Rattle.termwiz_share.specs.{blank_surface, lent_value};
 ghost use Rattle.termwiz_share.specs.{change_value, copied_region, length, map, measure};
 ghost use Rattle.termwiz_share.specs.{most_bytes, next_number, screen_of, trimmed, true};
 
@@ -85,10 +85,12 @@ impl<W: Widths> Source<W> {
             (trimmed self.old.surface) (change_value change ∷ [])
             (next_number (trimmed self.old.surface).log) result self.new.surface }
         ensures number { self.new.number ≡ self.old.number }
-        // Each client that it serves it serves still, also after an error.
+        // It still serves each client that it serves, even after an error.
         ensures serves { KeepsClients (measure W.width_of) self.old self.new }
-        // Each viewer that follows the surface goes on to, also after an error.
+        // Each viewer that follows the surface still follows it, even after an error.
         ensures followed { KeepsViewers (measure W.width_of) self.old.surface self.new.surface }
+        // A row whose number isn't above one that the surface had is as it was then.
+        ensures numbered { NumbersRows self.old.surface self.new.surface }
     {
         self.surface.forget_unneeded();
         self.surface.add_change(change)
@@ -102,8 +104,10 @@ impl<W: Widths> Source<W> {
             result self.new.surface }
         ensures number { self.new.number ≡ self.old.number }
         ensures serves { KeepsClients (measure W.width_of) self.old self.new }
-        // Each viewer that follows the surface goes on to, also after an error.
+        // Each viewer that follows the surface still follows it, even after an error.
         ensures followed { KeepsViewers (measure W.width_of) self.old.surface self.new.surface }
+        // A row whose number isn't above one that the surface had is as it was then.
+        ensures numbered { NumbersRows self.old.surface self.new.surface }
     {
         self.surface.forget_unneeded();
         self.surface.add_changes(changes)
@@ -117,8 +121,10 @@ impl<W: Widths> Source<W> {
             result self.new.surface }
         ensures number { self.new.number ≡ self.old.number }
         ensures serves { KeepsClients (measure W.width_of) self.old self.new }
-        // Each viewer that follows the surface goes on to, also after an error.
+        // Each viewer that follows the surface still follows it, even after an error.
         ensures followed { KeepsViewers (measure W.width_of) self.old.surface self.new.surface }
+        // A row whose number isn't above one that the surface had is as it was then.
+        ensures numbered { NumbersRows self.old.surface self.new.surface }
     {
         self.surface.forget_unneeded();
         self.surface.add_lent_changes(changes)
@@ -132,8 +138,10 @@ impl<W: Widths> Source<W> {
             result self.new.surface }
         ensures number { self.new.number ≡ self.old.number }
         ensures serves { KeepsClients (measure W.width_of) self.old self.new }
-        // Each viewer that follows the surface goes on to, also after an error.
+        // Each viewer that follows the surface still follows it, even after an error.
         ensures followed { KeepsViewers (measure W.width_of) self.old.surface self.new.surface }
+        // A row whose number isn't above one that the surface had is as it was then.
+        ensures numbered { NumbersRows self.old.surface self.new.surface }
     {
         self.surface.add_unlogged(changes)
     }
@@ -157,8 +165,10 @@ impl<W: Widths> Source<W> {
         ensures no_scroll { result ≡ Err ScrollRegion → ⊥ }
         ensures number { self.new.number ≡ self.old.number }
         ensures serves { KeepsClients (measure W.width_of) self.old self.new }
-        // Each viewer that follows the surface goes on to, also after an error.
+        // Each viewer that follows the surface still follows it, even after an error.
         ensures followed { KeepsViewers (measure W.width_of) self.old.surface self.new.surface }
+        // A row whose number isn't above one that the surface had is as it was then.
+        ensures numbered { NumbersRows self.old.surface self.new.surface }
     {
         self.surface.forget_unneeded();
         self.surface.draw_from_screen(other, x, y)
@@ -185,8 +195,10 @@ impl<W: Widths> Source<W> {
         ensures no_scroll { result ≡ Err ScrollRegion → ⊥ }
         ensures number { self.new.number ≡ self.old.number }
         ensures serves { KeepsClients (measure W.width_of) self.old self.new }
-        // Each viewer that follows the surface goes on to, also after an error.
+        // Each viewer that follows the surface still follows it, even after an error.
         ensures followed { KeepsViewers (measure W.width_of) self.old.surface self.new.surface }
+        // A row whose number isn't above one that the surface had is as it was then.
+        ensures numbered { NumbersRows self.old.surface self.new.surface }
     {
         self.surface.forget_unneeded();
         self.surface
@@ -217,8 +229,10 @@ impl<W: Widths> Source<W> {
         ensures no_scroll { result ≡ Err ScrollRegion → ⊥ }
         ensures number { self.new.number ≡ self.old.number }
         ensures serves { KeepsClients (measure W.width_of) self.old self.new }
-        // Each viewer that follows the surface goes on to, also after an error.
+        // Each viewer that follows the surface still follows it, even after an error.
         ensures followed { KeepsViewers (measure W.width_of) self.old.surface self.new.surface }
+        // A row whose number isn't above one that the surface had is as it was then.
+        ensures numbered { NumbersRows self.old.surface self.new.surface }
     {
         self.surface.forget_unneeded();
         self.surface
@@ -231,8 +245,10 @@ impl<W: Widths> Source<W> {
         ensures resizes { Resizes self.old.surface width height result self.new.surface }
         ensures number { self.new.number ≡ self.old.number }
         ensures serves { KeepsClients (measure W.width_of) self.old self.new }
-        // Each viewer that follows the surface goes on to, also after an error.
+        // Each viewer that follows the surface still follows it, even after an error.
         ensures followed { KeepsViewers (measure W.width_of) self.old.surface self.new.surface }
+        // A row whose number isn't above one that the surface had is as it was then.
+        ensures numbered { NumbersRows self.old.surface self.new.surface }
     {
         self.surface.resize(width, height)
     }
@@ -254,8 +270,10 @@ impl<W: Widths> Source<W> {
         ensures err { OnErr result (self.new ≡ self.old) }
         ensures begins { OnErr result ((more : List ℕ) × (out.new.items ≡ out.old.items ++ more)) }
         ensures serves { KeepsClients (measure W.width_of) self.old self.new }
-        // Each viewer that follows the surface goes on to, also after an error.
+        // Each viewer that follows the surface still follows it, even after an error.
         ensures followed { KeepsViewers (measure W.width_of) self.old.surface self.new.surface }
+        // A row whose number isn't above one that the surface had is as it was then.
+        ensures numbered { NumbersRows self.old.surface self.new.surface }
     {
         let from = if ask.source == self.number {
             ask.number

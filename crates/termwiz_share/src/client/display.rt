@@ -1,8 +1,8 @@
 //! What a client shows, and how it takes an answer.
 ghost use Rattle.std.specs.Prelude.{◌≡◌, ◌<◌, [], IfOk, false};
-ghost use Rattle.termwiz_share.specs.{DisplayValue, IsSurfaceSize, Takes, blank_surface, fits, is_repaint};
-ghost use Rattle.termwiz_share.specs.{lent_answer, measure, nameless, shown_on, size_place, suits};
-ghost use Rattle.termwiz_share.specs.{true};
+ghost use Rattle.termwiz_share.specs.{DisplayValue, IsSurfaceSize, NumbersRows, Takes, blank_surface};
+ghost use Rattle.termwiz_share.specs.{fits, is_repaint, lent_answer, measure, nameless, shown_on};
+ghost use Rattle.termwiz_share.specs.{size_place, suits, true};
 
 use crate::error::ClientError;
 use cbor::unsigned_len;
@@ -82,7 +82,8 @@ impl<W: Widths> Display<W> {
     pub(super) fn take(&mut self, answer: LentAnswer<'_>) -> Result<(), ClientError>
         requires named { 0 < answer.source }
         requires sized { IsSurfaceSize answer.width answer.height }
-        ensures { Takes (measure W.width_of) self.old (lent_answer answer.entry) result self.new }
+        ensures takes { Takes (measure W.width_of) self.old (lent_answer answer.entry) result self.new }
+        ensures numbered { NumbersRows self.old.surface self.new.surface }
     {
         if answer.base == 0 {
             return self.take_repaint(answer);
@@ -97,15 +98,22 @@ impl<W: Widths> Display<W> {
         self.take_delta(answer)
     }
 
-    // A repaint begins with a blank surface of its size. After an error nothing has changed.
+    // A repaint begins with a blank surface of its size, with a number above that of the surface
+    // that it takes the place of.
     fn take_repaint(&mut self, answer: LentAnswer<'_>) -> Result<(), ClientError>
         requires some { 0 < answer.source }
         requires sized { IsSurfaceSize answer.width answer.height }
         requires repaint { is_repaint (lent_answer answer).answer ≡ true }
-        ensures { Takes (measure W.width_of) self.old (lent_answer answer.entry) result self.new }
+        ensures takes { Takes (measure W.width_of) self.old (lent_answer answer.entry) result self.new }
+        ensures numbered { NumbersRows self.old.surface self.new.surface }
     {
-        let (width, height) = (answer.width, answer.height);
-        let mut surface = Surface::new_full(self.alloc, width, height, self.surface.widths())?;
+        let number = self.surface.current_seqno();
+        if answer.changes.len() >= usize::MAX - number {
+            self.forget();
+            return Err(ClientError::Numbers);
+        }
+        let (width, height, widths) = (answer.width, answer.height, self.surface.widths());
+        let mut surface = Surface::new_full_from(self.alloc, width, height, widths, number + 1)?;
         if surface.add_unlogged(&answer.changes).is_err() {
             return Err(ClientError::Memory);
         }
@@ -122,7 +130,8 @@ impl<W: Widths> Display<W> {
         requires fits { fits (shown_on self.old) (lent_answer answer) ≡ true }
         requires size { suits self.old.surface.width self.old.surface.height
             (lent_answer answer).answer ≡ true }
-        ensures { Takes (measure W.width_of) self.old (lent_answer answer.entry) result self.new }
+        ensures takes { Takes (measure W.width_of) self.old (lent_answer answer.entry) result self.new }
+        ensures numbered { NumbersRows self.old.surface self.new.surface }
     {
         if answer.changes.len() > usize::MAX - self.surface.current_seqno() {
             self.forget();

@@ -12,7 +12,7 @@ returns-clause-follows g c = λ histories sent future follows.
     let some : 0 < c.args.self.now.limits.bytes = rw (← c.self.view_is) c.self.invariant.1 in
     let laws = c.answers.ensures.laws (f c.args.self.now.surface.widths) c.args.self.now.limits some in
     follows_to f histories sent future c.args.self.now c.args.piece.now laws c.take_all.result c.take_all.new.self
-    (inr (inr (follows.reading, subst (λ (s : ClientValue _). Reads f s c.take_all.result c.take_all.new.self) c.in_ok-keep.ensures.ok c.take_all.ensures))) follows
+    (inr (inr (follows.reading, subst (λ (s : ClientValue _). Reads f s c.take_all.result c.take_all.new.self) c.in_ok-keep.ensures.ok c.take_all.ensures.reads))) follows
 
 pub returns-clause-shows : goal.returns-clause-shows
 returns-clause-shows g c = λ source serves ready response.
@@ -20,7 +20,7 @@ returns-clause-shows g c = λ source serves ready response.
     let some : 0 < c.args.self.now.limits.bytes = rw (← c.self.view_is) c.self.invariant.1 in
     let laws = c.answers.ensures.laws (f c.args.self.now.surface.widths) c.args.self.now.limits some in
     (responded f source c.args.self.now serves c.args.piece.now response laws ready c.take_all.result c.take_all.new.self
-    (inr (inr (ready.reading, subst (λ (s : ClientValue _). Reads f s c.take_all.result c.take_all.new.self) c.in_ok-keep.ensures.ok c.take_all.ensures)))).0
+    (inr (inr (ready.reading, subst (λ (s : ClientValue _). Reads f s c.take_all.result c.take_all.new.self) c.in_ok-keep.ensures.ok c.take_all.ensures.reads)))).0
 
 pub returns-clause-serves : goal.returns-clause-serves
 returns-clause-serves g c = λ source serves ready response.
@@ -28,4 +28,4 @@ returns-clause-serves g c = λ source serves ready response.
     let some : 0 < c.args.self.now.limits.bytes = rw (← c.self.view_is) c.self.invariant.1 in
     let laws = c.answers.ensures.laws (f c.args.self.now.surface.widths) c.args.self.now.limits some in
     (responded f source c.args.self.now serves c.args.piece.now response laws ready c.take_all.result c.take_all.new.self
-    (inr (inr (ready.reading, subst (λ (s : ClientValue _). Reads f s c.take_all.result c.take_all.new.self) c.in_ok-keep.ensures.ok c.take_all.ensures)))).1
+    (inr (inr (ready.reading, subst (λ (s : ClientValue _). Reads f s c.take_all.result c.take_all.new.self) c.in_ok-keep.ensures.ok c.take_all.ensures.reads)))).1

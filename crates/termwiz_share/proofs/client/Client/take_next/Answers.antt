@@ -20,7 +20,7 @@ returns-in-Err-clause-steps g c =
     let exact = rw (slice_is c.deref.result.now c.self.inside.start, c.deref.ensures.value, c.widths-widths.ensures, c.surface.ensures.value) at c.in-Ok.ensures.exact in
     let old : ClientValue _ = c.args.self.now in
     let e = c.in-Err.error in
-    let takes = subst (λ (v : ClientValue _). Takes (measure g.W.Widths.width_of) (display_of v) (lent_answer c.in-Ok.answer) (Err e) c.take.new.self) c.self.view_is c.in-Err.ensures in
+    let takes = subst (λ (v : ClientValue _). Takes (measure g.W.Widths.width_of) (display_of v) (lent_answer c.in-Ok.answer) (Err e) c.take.new.self) c.self.view_is c.in-Err.ensures.takes in
     let kept : drop c.self.inside.start c.self.inside.bytes.items ≡ old.kept = ap (λ (v : ClientValue _). v.kept) c.self.view_is in
     let limits : c.self.inside.limits ≡ old.limits = ap (λ (v : ClientValue _). v.limits) c.self.view_is in
     let stopped : c.self.inside.stopped ≡ old.stopped = ap (λ (v : ClientValue _). v.stopped) c.self.view_is in
@@ -30,7 +30,7 @@ pub returns-in_default-clause-steps : goal.returns-in_default-clause-steps
 returns-in_default-clause-steps g c =
     let exact = rw (slice_is c.deref.result.now c.self.inside.start, c.deref.ensures.value, c.widths-widths.ensures, c.surface.ensures.value) at c.in-Ok.ensures.exact in
     let left = drop-drop c.in-Ok.taken c.self.inside.start c.self.inside.bytes.items in
-    rw (← c.self.view_is) (takes_step (measure g.W.Widths.width_of) _ _ (lent_answer c.in-Ok.answer) (exact ∙ ap (λ (rest : List ℕ). Ok (lent_answer c.in-Ok.answer, rest)) left) c.in_default.ensures refl refl)
+    rw (← c.self.view_is) (takes_step (measure g.W.Widths.width_of) _ _ (lent_answer c.in-Ok.answer) (exact ∙ ap (λ (rest : List ℕ). Ok (lent_answer c.in-Ok.answer, rest)) left) c.in_default.ensures.takes refl refl)
 
 pub returns-in_default-clause-shorter : goal.returns-in_default-clause-shorter
 returns-in_default-clause-shorter g c =

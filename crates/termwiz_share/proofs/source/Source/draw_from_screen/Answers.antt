@@ -1,5 +1,6 @@
 use Rattle.termwiz_cell.specs.Measure.{measure}
 use Rattle.termwiz_share.proofs.Served.{keeps_after}
+use Rattle.termwiz_surface.proofs.RowNumbers.{numbers-then}
 use Rattle.termwiz_share.proofs.source.Source.draw_from_screen.Goals as goal
 
 pub returns-clause-serves : goal.returns-clause-serves
@@ -8,3 +9,6 @@ returns-clause-serves g c =
 
 pub returns-clause-followed : goal.returns-clause-followed
 returns-clause-followed g c = rw (← c.self.view_is) (λ v follows. c.draw_from_screen.ensures.followed v (c.forget_unneeded.ensures.followed v follows))
+
+pub returns-clause-numbered : goal.returns-clause-numbered
+returns-clause-numbered g c = rw (← c.self.view_is) (numbers-then c.self.inside.surface c.forget_unneeded.new.self c.draw_from_screen.new.self c.forget_unneeded.ensures.numbered c.draw_from_screen.ensures.numbered)

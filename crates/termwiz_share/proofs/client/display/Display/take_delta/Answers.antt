@@ -6,8 +6,8 @@ use Rattle.termwiz_wire.specs.Lent.{lent_answer}
 use Rattle.termwiz_share.proofs.Taking.{delta_taken, made_of}
 use Rattle.termwiz_share.proofs.client.display.Display.take_delta.Goals as goal
 
-pub returns : goal.returns
-returns g c =
+pub returns-clause-takes : goal.returns-clause-takes
+returns-clause-takes g c =
     let m : List ℕ → ℕ = measure g.W.Widths.width_of c.self.inside.surface.widths in
     let made = made_of m c.self.inside.surface c.add_unlogged.new.self _ (lent_answer c.args.answer).answer.changes _ c.add_unlogged.result (sym c.is_err.ensures.value ∙ c.if-is_err.false) (ap (map lent_value) c.deref.ensures.value) c.add_unlogged.ensures.adds in
     let fit = rw (← c.self.view_is) at c.requires.fits in

@@ -17,6 +17,7 @@ pub use Rattle.termwiz_surface.specs.Diffs.{HasCopied, HasDrawn}
 pub use Rattle.termwiz_surface.specs.Following.{KeepsViewers}
 pub use Rattle.termwiz_surface.specs.Resizing.{Resizes}
 pub use Rattle.termwiz_surface.specs.RowNumbers.{NumbersRows}
+pub use Rattle.termwiz_surface.specs.ScrolledOff.{AddsScrolledOff, rows_scrolled_off}
 pub use Rattle.termwiz_surface.specs.Surface.{IsSurfaceSize, SurfaceValue, blank_surface, screen_of}
 pub use Rattle.termwiz_surface.specs.declared.surface.SurfaceError.TheVariants.{ScrollRegion}
 pub use Rattle.termwiz_wire.specs.Answers.{answer_at}

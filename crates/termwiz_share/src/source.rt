@@ -1,19 +1,20 @@
 //! Sources: full surfaces whose answers name them.
 ghost use Rattle.std.specs.Prelude.{◌≡◌, ◌≢◌, ◌+◌, ◌-◌, ◌<◌, ◌^◌, ◌∷◌, ◌++◌, [], Err, IfOk, List};
 ghost use Rattle.std.specs.Prelude.{OnErr, OnOk, ℕ, min, vec_len};
-ghost use Rattle.termwiz_share.specs.{Adds, AddsUnlogged, Answers, ClientValue, HasCopied};
-ghost use Rattle.termwiz_share.specs.{HasDrawn, IsCopied, IsDrawn, IsRegionDrawn, IsResponse};
+ghost use Rattle.termwiz_share.specs.{Adds, AddsScrolledOff, AddsUnlogged, Answers, ClientValue};
+ghost use Rattle.termwiz_share.specs.{HasCopied, HasDrawn, IsCopied, IsDrawn, IsRegionDrawn, IsResponse};
 ghost use Rattle.termwiz_share.specs.{IsSurfaceSize, KeepsClients, KeepsViewers, NumbersRows};
 ghost use Rattle.termwiz_share.specs.{Resizes, Responds, ScrollRegion, Serves, SourceValue};
 ghost use Rattle.termwiz_share.specs.{blank_surface, lent_value};
 ghost use Rattle.termwiz_share.specs.{change_value, copied_region, length, map, measure};
-ghost use Rattle.termwiz_share.specs.{most_bytes, next_number, screen_of, trimmed, true};
+ghost use Rattle.termwiz_share.specs.{most_bytes, next_number, rows_scrolled_off, screen_of};
+ghost use Rattle.termwiz_share.specs.{trimmed, true};
 
 use std::alloc::{AllocError, Global};
 use std::marker::Model;
 use termwiz_cell::change::{Change, SEQ_ZERO, SequenceNo};
 use termwiz_cell::emoji::Widths;
-use termwiz_surface::{Answer, LentChange, Surface, SurfaceError};
+use termwiz_surface::{Answer, LentChange, Line, Surface, SurfaceError};
 use termwiz_wire::{Ask, SourceNo, encode_answer, encoded_len};
 
 /// A full surface that clients show, with a number that names it among all sources that a client
@@ -113,6 +114,33 @@ impl<W: Widths> Source<W> {
         self.surface.add_changes(changes)
     }
 
+    /// Makes the changes in order, and moves the lines that they scroll off the top of the screen
+    /// to the end of `scrolled_off`, as `Surface::add_changes_scrolling` does.
+    pub fn add_changes_scrolling(
+        &mut self,
+        changes: Vec<Change>,
+        scrolled_off: &mut Vec<Line>,
+    ) -> Result<SequenceNo, SurfaceError>
+        ensures adds { Adds (measure W.width_of self.old.surface.widths)
+            (trimmed self.old.surface) (map change_value changes.items)
+            (next_number (trimmed self.old.surface).log - 1 + vec_len changes)
+            result self.new.surface }
+        // The lines that scroll off are added, and the old ones stay, even after an error.
+        ensures scrolled { AddsScrolledOff self.old.surface.width
+            (rows_scrolled_off (measure W.width_of self.old.surface.widths)
+            (screen_of self.old.surface) (map change_value changes.items))
+            result scrolled_off.old.items scrolled_off.new.items }
+        ensures number { self.new.number ≡ self.old.number }
+        ensures serves { KeepsClients (measure W.width_of) self.old self.new }
+        // Each viewer that follows the surface still follows it, even after an error.
+        ensures followed { KeepsViewers (measure W.width_of) self.old.surface self.new.surface }
+        // A row whose number isn't above one that the surface had is as it was then.
+        ensures numbered { NumbersRows self.old.surface self.new.surface }
+    {
+        self.surface.forget_unneeded();
+        self.surface.add_changes_scrolling(changes, scrolled_off)
+    }
+
     /// Makes copies of the changes in order, as `Surface::add_lent_changes` does.
     pub fn add_lent_changes(&mut self, changes: &[Change]) -> Result<SequenceNo, SurfaceError>
         ensures adds { Adds (measure W.width_of self.old.surface.widths)
@@ -144,6 +172,33 @@ impl<W: Widths> Source<W> {
         ensures numbered { NumbersRows self.old.surface self.new.surface }
     {
         self.surface.add_unlogged(changes)
+    }
+
+    /// Makes the changes in order without logging them, and moves the lines that they scroll off
+    /// the top of the screen to the end of `scrolled_off`, as `Surface::add_unlogged_scrolling`
+    /// does.
+    pub fn add_unlogged_scrolling(
+        &mut self,
+        changes: &[LentChange<'_>],
+        scrolled_off: &mut Vec<Line>,
+    ) -> Result<SequenceNo, SurfaceError>
+        ensures adds { AddsUnlogged (measure W.width_of self.old.surface.widths)
+            self.old.surface (map lent_value changes.now)
+            (next_number self.old.surface.log - 1 + length changes.now)
+            result self.new.surface }
+        // The lines that scroll off are added, and the old ones stay, even after an error.
+        ensures scrolled { AddsScrolledOff self.old.surface.width
+            (rows_scrolled_off (measure W.width_of self.old.surface.widths)
+            (screen_of self.old.surface) (map lent_value changes.now))
+            result scrolled_off.old.items scrolled_off.new.items }
+        ensures number { self.new.number ≡ self.old.number }
+        ensures serves { KeepsClients (measure W.width_of) self.old self.new }
+        // Each viewer that follows the surface still follows it, even after an error.
+        ensures followed { KeepsViewers (measure W.width_of) self.old.surface self.new.surface }
+        // A row whose number isn't above one that the surface had is as it was then.
+        ensures numbered { NumbersRows self.old.surface self.new.surface }
+    {
+        self.surface.add_unlogged_scrolling(changes, scrolled_off)
     }
 
     /// Draws another surface from this column and this row on, as `Surface::draw_from_screen` does.

@@ -1,0 +1,14 @@
+use Rattle.termwiz_cell.specs.Measure.{measure}
+use Rattle.termwiz_share.proofs.Served.{keeps_after}
+use Rattle.termwiz_surface.proofs.RowNumbers.{numbers-then}
+use Rattle.termwiz_share.proofs.source.Source.add_changes_scrolling.Goals as goal
+
+pub returns-clause-serves : goal.returns-clause-serves
+returns-clause-serves g c =
+    rw (← c.self.view_is) (keeps_after (measure g.W.Widths.width_of) c.self.inside.number c.self.inside.surface _ _ c.forget_unneeded.ensures.followed c.forget_unneeded.ensures.remembered c.add_changes_scrolling.ensures.followed c.add_changes_scrolling.ensures.remembered)
+
+pub returns-clause-followed : goal.returns-clause-followed
+returns-clause-followed g c = rw (← c.self.view_is) (λ v follows. c.add_changes_scrolling.ensures.followed v (c.forget_unneeded.ensures.followed v follows))
+
+pub returns-clause-numbered : goal.returns-clause-numbered
+returns-clause-numbered g c = rw (← c.self.view_is) (numbers-then c.self.inside.surface c.forget_unneeded.new.self c.add_changes_scrolling.new.self c.forget_unneeded.ensures.numbered c.add_changes_scrolling.ensures.numbered)

@@ -1,0 +1,19 @@
+use Rattle.std.proofs.Common.{◌+◌, ◌-◌, length, map, refl, ◌∙◌}
+use Rattle.termwiz_cell.specs.Measure.{measure}
+use Rattle.termwiz_screen.specs.Log.{next_number}
+use Rattle.termwiz_surface.specs.Unlogged.{lent_value}
+use Rattle.termwiz_share.proofs.Unlogged.{full-unlogged}
+use Rattle.termwiz_share.proofs.Served.{keeps_clients}
+use Rattle.termwiz_share.proofs.source.Source.add_unlogged_scrolling.Goals as goal
+
+pub invariant_of-self : goal.invariant_of-self
+invariant_of-self g c =
+    let s = c.self.inside.surface in (
+      full-unlogged (measure g.W.Widths.width_of s.widths) s c.add_unlogged_scrolling.new.self (map lent_value c.args.changes.now) (next_number s.log - 1 + length c.args.changes.now) c.add_unlogged_scrolling.result c.add_unlogged_scrolling.ensures.adds ∙ c.self.invariant.0,
+      c.self.invariant.1,
+    )
+
+pub returns-clause-serves : goal.returns-clause-serves
+returns-clause-serves g c =
+    rw (← c.self.view_is)
+    (keeps_clients (measure g.W.Widths.width_of) (record { surface = c.self.inside.surface; number = c.self.inside.number }) (record { surface = c.add_unlogged_scrolling.new.self; number = c.self.inside.number }) refl c.add_unlogged_scrolling.ensures.followed c.add_unlogged_scrolling.ensures.remembered)

@@ -3,21 +3,23 @@ ghost use Rattle.termwiz_surface.specs.{IsSurfaceSize};
 
 use crate::given::colored_pen;
 use crate::scene::{
-    Before, Kind, Scene, Shown, catches_up, frame_of, is_after_refused_list, is_as_before,
+    Before, Frame, Kind, Scene, Shown, catches_up, frame_of, is_after_refused_list, is_as_before,
     new_scene, shows_same, sprite, stand, texts,
 };
 use crate::stop::{Stop, holds, made, refused};
 use std::alloc::Global;
 use termwiz_cell::change::{Change, SequenceNo};
-use termwiz_surface::surface::SurfaceError;
+use termwiz_surface::surface::{LentChange, SurfaceError};
 
 /// A call on a surface or its viewer.
 #[derive(Clone, Copy)]
 enum Turn {
     Print,
+    PrintUnlogged,
     Follow,
     Scroll,
     Draw,
+    DrawRegion,
     Copy,
     Resize,
     Grow,
@@ -26,11 +28,13 @@ enum Turn {
 }
 
 // One behind another.
-const TURNS: [Turn; 10] = [
+const TURNS: [Turn; 12] = [
     Turn::Print,
     Turn::Follow,
+    Turn::PrintUnlogged,
     Turn::Scroll,
     Turn::Draw,
+    Turn::DrawRegion,
     Turn::Copy,
     Turn::Resize,
     Turn::Grow,
@@ -74,9 +78,11 @@ fn later(first: Result<(), Stop>, second: Result<(), Stop>) -> Result<(), Stop> 
 fn take(alloc: Global, scene: &mut Scene, turn: Turn) -> Result<(), Stop> {
     match turn {
         Turn::Print => added("add_changes of texts", texts(alloc, scene.kind)?, scene),
+        Turn::PrintUnlogged => added_unlogged(scene),
         Turn::Scroll => added("add_changes of a scroll", scroll(alloc)?, scene),
         Turn::Follow => followed(scene),
         Turn::Draw => drawn(sprite(alloc)?, scene),
+        Turn::DrawRegion => region_drawn(scene),
         Turn::Copy => copied(scene),
         Turn::Resize => resized(scene, 2, 3),
         Turn::Grow => resized(scene, 40, 3),
@@ -99,7 +105,27 @@ fn scroll(alloc: Global) -> Result<Vec<Change>, Stop> {
 
 fn added(call: &'static str, changes: Vec<Change>, scene: &mut Scene) -> Result<(), Stop> {
     let before = frame_of(&scene.surface);
-    match scene.surface.add_changes(changes) {
+    let answer = scene.surface.add_changes(changes);
+    added_to(call, answer, before, scene)
+}
+
+fn added_unlogged(scene: &mut Scene) -> Result<(), Stop> {
+    let before = frame_of(&scene.surface);
+    let answer = scene.surface.add_unlogged(&[
+        LentChange::Text("w00t\r\nかfoo"),
+        LentChange::Title("a title"),
+    ]);
+    added_to("add_unlogged", answer, before, scene)
+}
+
+// After a refusal the surface stands as after a list.
+fn added_to(
+    call: &'static str,
+    answer: Result<SequenceNo, SurfaceError>,
+    before: Frame,
+    scene: &mut Scene,
+) -> Result<(), Stop> {
+    match answer {
         Ok(_) => Ok(()),
         Err(SurfaceError::Memory) => {
             let stood = is_after_refused_list(&scene.surface, before);
@@ -130,6 +156,12 @@ fn copied(scene: &mut Scene) -> Result<(), Stop> {
     let before = stand(&scene.surface)?;
     let answer = scene.surface.copy_region(0, 0, 2, 1, 1, 1);
     copied_to("copy_region", answer, &before, scene)
+}
+
+fn region_drawn(scene: &mut Scene) -> Result<(), Stop> {
+    let before = stand(&scene.surface)?;
+    let answer = scene.surface.draw_region(0, 0, 2, 1, 1, 1);
+    copied_to("draw_region", answer, &before, scene)
 }
 
 // After a refusal either nothing has changed, or the surface stands as after a list.

@@ -15,9 +15,11 @@ use uses::mirror::Mirror;
 use uses::one_by_one::make_one_by_one;
 use uses::patch::is_sent;
 use uses::prompt::show_prompt;
+use uses::quiet::{repeat_columns, restore_settings, save_settings, show_output};
 use uses::relay::relay;
 use uses::remote::show_heading;
 use uses::renderer::{refresh, refresh_all, take_frame};
+use uses::row_copies::{copy_rows, show};
 use uses::serving::{Room, ShareError};
 use uses::sharing::{join, reconnect};
 use uses::window::show_widget;
@@ -260,4 +262,33 @@ fn what_is_shown_again_is_known(rt: HostRuntime) {
     let same = vec![in alloc; text(&rt, alloc, "か")].expect(&rt, "a patch");
     assert!(rt; is_sent(patch.as_slice(), same.as_slice()));
     assert!(rt; !is_sent(patch.as_slice(), &[]));
+}
+
+#[test]
+fn copies_of_rows_follow_a_surface(rt: HostRuntime) {
+    let alloc = rt.alloc();
+    let mut surface = Surface::new(alloc, 4, 2, UnicodeWidths).expect(&rt, "a surface");
+    print(&rt, alloc, &mut surface, "w00t\r\nfoo");
+    let mut copies = copy_rows(alloc, &surface).expect(&rt, "copies");
+    let mut changes = Vec::new(alloc);
+    changes.push(text(&rt, alloc, "!")).expect(&rt, "a list");
+    show(&mut surface, changes, &mut copies).expect(&rt, "the rows are copied");
+    let lines = surface.screen_lines().expect(&rt, "lines");
+    for row in 0..lines.len() {
+        assert!(rt; copies[row].has_same_cells(lines[row]));
+    }
+    assert_rows(&rt, &surface, "w00t\nfoo!\n");
+}
+
+#[test]
+fn a_quiet_terminal_restores_its_settings(rt: HostRuntime) {
+    let alloc = rt.alloc();
+    let mut surface = Surface::new(alloc, 4, 3, UnicodeWidths).expect(&rt, "a surface");
+    let settings = save_settings(&surface).expect(&rt, "settings");
+    show_output(&mut surface, "w00t\r\nfoo", "a title").expect(&rt, "the output is shown");
+    repeat_columns(&mut surface, 0, 4, 0, 2).expect(&rt, "a row is drawn");
+    restore_settings(&mut surface, settings).expect(&rt, "the settings are set");
+    assert_rows(&rt, &surface, "w00t\nfoo \nw00t\n");
+    assert_eq!(rt; surface.title(), "a title");
+    assert_eq!(rt; surface.cursor_position(), (3, 1));
 }

@@ -26,6 +26,8 @@ mod runs;
 #[cfg(test)]
 mod runs_of_text;
 #[cfg(test)]
+mod scrolled_off;
+#[cfg(test)]
 mod steps;
 #[cfg(test)]
 mod texts_cut;

@@ -1,6 +1,7 @@
 mod ClearedRow
 mod Followed
 mod HeadingRow
+mod KeptLines
 mod MadeFully
 mod Passed
 mod RowCopies

@@ -1,10 +1,22 @@
 //! Copies of a surface's rows, as a renderer has them that paints row by row: just the rows that
 //! may have changed are copied again.
-ghost use Rattle.std.specs.Prelude.{◌≡◌, ◌<◌, ◌≤◌, OnErr, OnOk, length, map};
+ghost use Rattle.std.specs.Prelude.{◌≡◌, ◌<◌, ◌≤◌, IfOk, OnErr, OnOk, length, map};
 ghost use Rattle.uses.specs.{AreCopiesAt, cells_of, next_number, number_at, row_at};
 
-use std::alloc::AllocError;
+use std::alloc::{AllocError, Global};
 use termwiz_surface::{Change, Line, SequenceNo, Surface, SurfaceError, Widths};
+
+/// Copies of all rows of a surface.
+pub fn copy_rows<W: Widths>(alloc: Global, surface: &Surface<W>) -> Result<Vec<Line>, AllocError>
+    ensures { IfOk result (λ copies. cells_of copies.items ≡ surface.now.lines) }
+{
+    let lines = surface.screen_lines()?;
+    let mut copies = Vec::with_capacity(alloc, lines.len())?;
+    for row in 0..lines.len() {
+        copies.push(lines[row].clone()?)?;
+    }
+    Ok(copies)
+}
 
 /// Copies a row again if it may have changed since the surface had the number `since`.
 fn refresh_row<W: Widths>(

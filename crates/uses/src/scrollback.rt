@@ -1,10 +1,37 @@
 //! A scrollback: lines that have left the screen, each stored as one text where that can be.
-ghost use Rattle.std.specs.Prelude.{◌≡◌, ◌↔◌, IfOk, List, OnErr, OnOk, false, map, true};
+ghost use Rattle.std.specs.Prelude.{◌≡◌, ◌↔◌, ◌+◌, ◌-◌, IfOk, List, OnErr, OnOk, false, length, map};
+ghost use Rattle.std.specs.Prelude.{true};
+ghost use Rattle.uses.specs.{AddsScrolledOff, AddsUnlogged, measure, next_number, printed_text};
+ghost use Rattle.uses.specs.{rows_scrolled_off, screen_of};
 ghost use Rattle.uses.specs.{IsWhole, IsWrapped, LineValue, line_contents, line_eq, visible};
 
 use std::alloc::AllocError;
 use termwiz_surface::laws::{cut_laws, edit_laws, storage_laws};
-use termwiz_surface::{Line, SEQ_ZERO, SequenceNo};
+use termwiz_surface::{LentChange, Line, SEQ_ZERO, SequenceNo, Surface, SurfaceError, Widths};
+
+/// Prints what a program wrote, and moves the rows that it scrolls off the top of the screen to the
+/// end of the kept lines.
+///
+/// `Numbers`: nothing has changed. `Memory`: the text may be printed in part, and rows that it
+/// scrolled off may be kept.
+pub fn print_and_keep<W: Widths>(
+    surface: &mut Surface<W>,
+    output: &str,
+    kept: &mut Vec<Line>,
+) -> Result<SequenceNo, SurfaceError>
+    ensures adds { AddsUnlogged (measure W.width_of surface.old.widths)
+        surface.old (printed_text output.now) (next_number surface.old.log - 1 + 1)
+        result surface.new }
+    // Behind the old lines there are those that show the rows, and no others.
+    ensures keeps { AddsScrolledOff surface.old.width
+        (rows_scrolled_off (measure W.width_of surface.old.widths) (screen_of surface.old)
+        (printed_text output.now)) result kept.old.items kept.new.items }
+    ensures count { OnOk result (length kept.new.items ≡ length kept.old.items + length
+        (rows_scrolled_off (measure W.width_of surface.old.widths) (screen_of surface.old)
+        (printed_text output.now))) }
+{
+    surface.add_unlogged_scrolling(&[LentChange::Text(output)], kept)
+}
 
 /// Stores a line that leaves the screen, as one text where that can be. It is equal to what it was,
 /// also after an error, which leaves it as it was stored.

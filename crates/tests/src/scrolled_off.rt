@@ -1,0 +1,90 @@
+//! Lines that changes scroll off the top of a surface.
+use crate::steps::Step;
+use std::alloc::Global;
+use std::process::Abort;
+use termwiz_cell::change::Change;
+use termwiz_cell::emoji::UnicodeWidths;
+use termwiz_surface::Line;
+use termwiz_surface::surface::{LentChange, Surface};
+
+// What is printed on a 4x2 in turn, the lines that scroll off, and the rows that are left.
+const TEXTS: [([&str; 2], &[&str], &str); 6] = [
+    (["a\r\nb", ""], &[], "a   \nb   \n"),
+    (["a\r\nb\r\nc", ""], &["a"], "b   \nc   \n"),
+    (["a\r\nb", "\r\nc\nd"], &["a", "b"], "c   \n d  \n"),
+    // A line feed in the last row, and a cell behind a pending wrap, scroll.
+    (["abcdefgh", "i"], &["abcd"], "efgh\ni   \n"),
+    (["abcdefgh", "\r"], &[], "abcd\nefgh\n"),
+    (["かかかか", "か"], &["かか"], "かか\nか  \n"),
+];
+
+// Scrolls of the rows `a`, `b` and `c`: the first row, the size and the count of each, and the lines
+// that scroll off.
+const SCROLLS: [((usize, usize, usize), &[&str]); 4] = [
+    ((0, 3, 2), &["a", "b"]),
+    ((0, 2, 5), &["a", "b"]),
+    ((1, 2, 1), &[]),
+    ((0, 0, 1), &[]),
+];
+
+fn blank(rt: &impl Abort, alloc: Global, height: usize) -> Surface<UnicodeWidths> {
+    Surface::with_size(alloc, 4, height, UnicodeWidths).expect(rt, "a surface")
+}
+
+fn assert_lines(rt: &impl Abort, lines: &[Line], texts: &[&str]) {
+    assert_eq!(rt; lines.len(), texts.len());
+    for i in 0..lines.len() {
+        let text = lines[i].columns_as_str(0..4).expect(rt, "a text");
+        assert_eq!(rt; text.trim_end(), texts[i]);
+    }
+}
+
+fn assert_rows(rt: &impl Abort, surface: &Surface<UnicodeWidths>, rows: &str) {
+    let shown = surface.screen_chars_to_string().expect(rt, "rows");
+    assert_eq!(rt; shown.as_str(), rows);
+}
+
+#[test]
+fn texts_scroll_lines_off(rt: HostRuntime) {
+    let alloc = rt.alloc();
+    let texts = TEXTS;
+    for (printed, left, rows) in &texts[..] {
+        let (mut logged, mut unlogged) = (blank(&rt, alloc, 2), blank(&rt, alloc, 2));
+        let (mut lines, mut others) = (Vec::new(alloc), Vec::new(alloc));
+        for text in printed {
+            let mut changes = Vec::new(alloc);
+            let step = Step::Print(*text).change(&rt, alloc);
+            changes.push(step).expect(&rt, "a list");
+            logged
+                .add_changes_scrolling(changes, &mut lines)
+                .expect(&rt, "a text");
+            unlogged
+                .add_unlogged_scrolling(&[LentChange::Text(*text)], &mut others)
+                .expect(&rt, "a text");
+        }
+        assert_lines(&rt, &lines, left);
+        assert_lines(&rt, &others, left);
+        assert_rows(&rt, &logged, rows);
+        assert_rows(&rt, &unlogged, rows);
+    }
+}
+
+#[test]
+fn scrolls_of_a_region_from_row_0_on_scroll_lines_off(rt: HostRuntime) {
+    let alloc = rt.alloc();
+    let scrolls = SCROLLS;
+    for (region, left) in &scrolls[..] {
+        let (first_row, region_size, scroll_count) = *region;
+        let mut surface = blank(&rt, alloc, 3);
+        let mut lines = Vec::new(alloc);
+        let scroll = LentChange::Owned(Change::ScrollRegionUp {
+            first_row,
+            region_size,
+            scroll_count,
+        });
+        surface
+            .add_unlogged_scrolling(&[LentChange::Text("a\r\nb\r\nc"), scroll], &mut lines)
+            .expect(&rt, "a scroll");
+        assert_lines(&rt, &lines, left);
+    }
+}

@@ -29,15 +29,16 @@ VERSION = TOP / "crates" / "tikeburo_c" / "src" / "version.rt"
 STRUCTS = {"Handle": "tk_handle", "ColorFields": "tk_color", "AttributeFields": "tk_attributes",
            "CellFields": "tk_cell", "ChangeFields": "tk_change", "FaultFields": "tk_fault",
            "StateFields": "tk_settings", "RowCellFields": "tk_row_cell",
-           "RowCounts": "tk_row_counts", "ListCounts": "tk_list_counts", "HeadFields": "tk_head"}
-PLAIN = {"usize": "size_t", "isize": "ptrdiff_t", "u8": "uint8_t", "i32": "tk_status",
-         "bool": "bool"}
-IN_RUST = {"size_t": "usize", "ptrdiff_t": "isize", "uint8_t": "u8", "char": "u8", "void": "c_void",
-           "tk_status": "i32", "bool": "bool"}
+           "RowCounts": "tk_row_counts", "ListCounts": "tk_list_counts", "HeadFields": "tk_head",
+           "WidthRange": "tk_width_range"}
+PLAIN = {"usize": "size_t", "isize": "ptrdiff_t", "u8": "uint8_t", "u32": "uint32_t",
+         "i32": "tk_status", "bool": "bool"}
+IN_RUST = {"size_t": "usize", "ptrdiff_t": "isize", "uint8_t": "u8", "uint32_t": "u32",
+           "char": "u8", "void": "c_void", "tk_status": "i32", "bool": "bool"}
 # The prefixes of the header for enums that have numbers, and the names that differ.
 ENUMS = {"Failure": "", "Intensity": "INTENSITY_", "Underline": "UNDERLINE_", "Blink": "BLINK_",
          "SemanticType": "SEMANTIC_", "VerticalAlign": "ALIGN_", "CursorShape": "CURSOR_",
-         "LineAttribute": "LINE_", "ChosenWidths": "WIDTHS_", "ColorAttribute": "COLOR_",
+         "LineAttribute": "LINE_", "Choice": "WIDTHS_", "ColorAttribute": "COLOR_",
          "Kind": "CHANGE_"}
 NAMES = {"PaletteIndex": "PALETTE", "TrueColorWithDefaultFallback": "TRUE",
          "TrueColorWithPaletteFallback": "TRUE_OR_PALETTE"}
@@ -54,7 +55,7 @@ def items(kind):
 
 def pointer(rust):
     """The type of C for a reference, as what is pointed to and whether it is only read."""
-    match = re.fullmatch(r"&(mut )?\[?(\w+)\]?", rust)
+    match = re.fullmatch(r"&(?:'static )?(mut )?\[?(\w+)\]?", rust)
     if not match:
         sys.exit(f"tools/abi.py: there is no type of C for {rust}")
     to = STRUCTS.get(match.group(2)) or PLAIN[match.group(2)]

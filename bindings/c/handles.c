@@ -12,6 +12,8 @@ static tk_list_counts counts = {.changes = 7, .texts = 8, .number = 9};
 static tk_status draw(tk_handle *handle) { return tk_draw(handle, handle, 1, 0); }
 static tk_status view(tk_handle *handle) { return tk_viewer_new(handle, handle); }
 static tk_status follow(tk_handle *handle) { return tk_follow(handle, handle); }
+static tk_status push(tk_handle *handle) { return tk_lines_push_row(handle, handle, 0); }
+static tk_status draw_line(tk_handle *handle) { return tk_draw_line(handle, 0, handle, 0); }
 static tk_status diff_screens(tk_handle *handle) {
     return tk_diff_screens(handle, handle, &change, 1, &text, 1, &counts);
 }
@@ -26,6 +28,8 @@ static const struct {
 } CALLS[] = {{"tk_draw", draw},
              {"tk_viewer_new", view},
              {"tk_follow", follow},
+             {"tk_lines_push_row", push},
+             {"tk_draw_line", draw_line},
              {"tk_diff_screens", diff_screens},
              {"tk_diff_region", diff_region}};
 

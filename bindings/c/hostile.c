@@ -272,8 +272,8 @@ static void great_claims(tk_handle *surface, tk_handle *client) {
                                    255,  255,  255, 255,  255, 'x'};
     static const uint8_t answer[] = {0x87, 2,   1,   1,   1,   0,   1,   0x9b,
                                      0x7f, 255, 255, 255, 255, 255, 255, 255};
-    static const uint8_t screen[] = {0x87, 2, 1, 0x1a, 255, 255, 255, 255, 0x1a,
-                                     255,  255, 255, 255, 0,   1,   0x80};
+    static const uint8_t screen[] = {0x87, 2,   1,   0x1a, 255, 255, 255, 255,
+                                     0x1a, 255, 255, 255,  255, 0,   1,   0x80};
     EXPECT(tk_add_encoded(surface, list, sizeof list) == TK_TRUNCATED);
     EXPECT(tk_add_encoded(surface, text, sizeof text) == TK_UNREADABLE);
     EXPECT(feed(client, answer, sizeof answer) == TK_UNREADABLE);
@@ -416,6 +416,32 @@ static void random_change(tk_handle *surface, tk_handle *source) {
     }
 }
 
+/* A row is kept, and a line read, drawn and compressed, where there are such ones. The oldest lines
+ * go. */
+static void keep_line(tk_handle *lines, tk_handle *surface) {
+    tk_row_cell cells[32];
+    tk_attributes attributes[32];
+    tk_row_counts counts;
+    char text[512];
+    size_t before = 0, count = 0, row = place(), index = place(), many = place();
+    EXPECT(tk_lines_count(lines, &before) == TK_DONE);
+    tk_status kept = tk_lines_push_row(lines, surface, row);
+    EXPECT(kept == TK_DONE || kept == TK_RANGE);
+    EXPECT(tk_lines_count(lines, &count) == TK_DONE && count == before + (kept == TK_DONE));
+    tk_status wanted = index < count ? TK_DONE : TK_RANGE;
+    EXPECT(tk_line_cells(lines, index, cells, 32, attributes, 32, text, sizeof text, &counts) ==
+           wanted);
+    EXPECT(tk_draw_line(surface, row, lines, index) == wanted);
+    EXPECT(tk_lines_compress(lines, index, many) ==
+           (index <= count && many <= count - index ? TK_DONE : TK_RANGE));
+    if (below(4) == 0)
+        EXPECT(tk_lines_wrap(lines, place()) == TK_DONE);
+    EXPECT(tk_lines_count(lines, &count) == TK_DONE);
+    if (count > 12)
+        EXPECT(tk_lines_remove(lines, 0, count - 6) == TK_DONE);
+    EXPECT(tk_lines_remove(lines, 6, SIZE_MAX - below(6)) == TK_RANGE);
+}
+
 /* A handle that is given twice is refused, and has what it had. */
 static void give_twice(tk_handle *handle) {
     tk_list_counts counts = {.changes = 7};
@@ -425,6 +451,8 @@ static void give_twice(tk_handle *handle) {
     EXPECT(tk_draw(handle, handle, column, row) == TK_NO_HANDLE);
     EXPECT(tk_viewer_new(handle, handle) == TK_NO_HANDLE);
     EXPECT(tk_follow(handle, handle) == TK_NO_HANDLE);
+    EXPECT(tk_lines_push_row(handle, handle, row) == TK_NO_HANDLE);
+    EXPECT(tk_draw_line(handle, row, handle, column) == TK_NO_HANDLE);
     EXPECT(tk_diff_screens(handle, handle, &change, 1, &text, 1, &counts) == TK_NO_HANDLE);
     EXPECT(tk_diff_region(handle, column, row, 9, 9, handle, row, column, &change, 1, &text, 1,
                           &counts) == TK_NO_HANDLE);
@@ -434,10 +462,12 @@ static void give_twice(tk_handle *handle) {
 /* Two surfaces, of which a client and a viewer show now the one and now the other. */
 static void random_calls(size_t rounds) {
     tk_handle surfaces[2] = {TK_NONE, TK_NONE}, client = TK_NONE, viewer = TK_NONE;
+    tk_handle lines = TK_NONE;
     EXPECT(tk_surface_new(&surfaces[0], 11, 5, TK_WIDTHS_UNICODE, 1) == TK_DONE);
     EXPECT(tk_surface_new(&surfaces[1], 11, 5, TK_WIDTHS_UNICODE, SIZE_MAX) == TK_DONE);
     EXPECT(tk_client_new(&client, TK_WIDTHS_UNICODE, 100, 1 << 16) == TK_DONE);
     EXPECT(tk_viewer_new(&viewer, &surfaces[0]) == TK_DONE);
+    EXPECT(tk_lines_new(&lines) == TK_DONE);
     for (size_t round = 0; round < rounds; round++) {
         tk_handle *surface = &surfaces[below(2)];
         random_change(surface, &viewer);
@@ -448,10 +478,12 @@ static void random_calls(size_t rounds) {
             give_twice(surface);
             give_twice(&viewer);
             EXPECT(same_screens(surface, &viewer));
+            keep_line(&lines, surface);
         }
         if (below(32) == 0)
             EXPECT(is_changed(tk_resize(surface, below(13), below(9))));
     }
+    tk_free(&lines);
     tk_free(&viewer);
     tk_free(&client);
     tk_free(&surfaces[0]);

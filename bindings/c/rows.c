@@ -244,12 +244,52 @@ static void test_changed_rows(void) {
     }
 }
 
+static bool changed_since(tk_handle *handle, size_t since, const uint8_t wanted[2]) {
+    uint8_t rows[2];
+    size_t count = 0;
+    return tk_changed_rows(handle, since, rows, 2, &count) == TK_DONE && count == 2 &&
+           memcmp(rows, wanted, 2) == 0;
+}
+
+/* A viewer or a client that shows all anew has numbers above those that it had. */
+static void test_changed_rows_of_followers(void) {
+    static const uint8_t second[2] = {0, 1}, all[2] = {1, 1};
+    tk_handle wide = made(4, 2), other = made(4, 2), viewer = TK_NONE, client = made_client();
+    bytes answer;
+    size_t since = 0;
+    CHECK(tk_viewer_new(&viewer, &wide) == TK_DONE);
+    for (size_t k = 0; k < 20; k++)
+        CHECK(print(&wide, "a\r\nb") == TK_DONE && tk_follow(&viewer, &wide) == TK_DONE);
+    CHECK(tk_number(&viewer, &since) == TK_DONE && since >= 20);
+    CHECK(print(&wide, "c") == TK_DONE && tk_follow(&viewer, &wide) == TK_DONE);
+    CHECK(changed_since(&viewer, since, second));
+    CHECK(tk_number(&viewer, &since) == TK_DONE && tk_follow(&viewer, &other) == TK_DONE);
+    CHECK(changed_since(&viewer, since, all));
+    for (size_t k = 0; k < 20; k++) {
+        CHECK(print(&other, "a\r\nb") == TK_DONE);
+        answer = answer_to(&other, &client);
+        CHECK(feed(&client, &answer) == TK_DONE);
+    }
+    CHECK(tk_number(&client, &since) == TK_DONE && since >= 20);
+    CHECK(print(&other, "c") == TK_DONE);
+    answer = answer_to(&other, &client);
+    CHECK(feed(&client, &answer) == TK_DONE && changed_since(&client, since, second));
+    CHECK(tk_number(&client, &since) == TK_DONE);
+    answer = answer_to(&wide, &client);
+    CHECK(feed(&client, &answer) == TK_DONE && changed_since(&client, since, all));
+    tk_free(&wide);
+    tk_free(&other);
+    tk_free(&viewer);
+    tk_free(&client);
+}
+
 int main(void) {
     test_rows();
     test_short_rows();
     test_shown_rows();
     test_changes();
     test_changed_rows();
+    test_changed_rows_of_followers();
     printf("%d checks\n", checks);
     return failures != 0;
 }

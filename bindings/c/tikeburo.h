@@ -4,6 +4,7 @@
  * list of structs, one by one, or as bytes. A viewer shows what a surface of its process shows. A
  * client shows what a surface of any process shows: it asks by bytes (tk_client_ask), the surface
  * answers by bytes (tk_respond), and tk_client_feed takes them, in whatever chunks they come.
+ * A list of lines keeps rows, as a terminal's scrollback does.
  *
  * What a caller keeps, and nothing checks:
  *
@@ -21,7 +22,8 @@
  * - malloc, realloc and free are those of one allocator, which aligns blocks as C's own does. No
  *   call comes from a signal handler, or from the forked child of a process with threads.
  *
- * The library keeps no pointer of the caller's after a call. No call aborts.
+ * The library keeps no pointer of the caller's after a call, but for one to a table of widths
+ * (tk_surface_new_by). No call aborts.
  *
  * A call that takes two handles returns TK_NO_HANDLE where they are one, and has changed nothing.
  * These calls and tk_free are inline functions, which test their handles. A program in another
@@ -65,7 +67,7 @@ enum {
     TK_REGION = 4,     /* the region of a scroll goes past the last row */
     TK_NUMBERS = 5,    /* the numbers of changes are used up */
     TK_NO_HANDLE = 6,  /* a handle has no value, or is given twice */
-    TK_WRONG_KIND = 7, /* a handle has another kind of value: a surface, a viewer or a client */
+    TK_WRONG_KIND = 7, /* a handle has another kind of value than a call takes */
     TK_RANGE = 8,      /* a row, a column, a size or another number is outside of its range */
     TK_SHORT = 9       /* the buffer is too short: *len is the length that is needed */
 };
@@ -106,7 +108,7 @@ static inline const char *tk_version(void) { return TK_VERSION; }
  * may be another than the one that the program was made with. */
 size_t tk_version_number(void);
 
-/* A handle on a surface, a viewer or a client, or on none. */
+/* A handle on a surface, a viewer, a client or lines, or on none. */
 typedef struct tk_handle {
     void *at;
     bool is_live;
@@ -197,6 +199,21 @@ enum {
 tk_status tk_surface_new(tk_handle *surface, size_t width, size_t height, uint8_t widths,
                          size_t source);
 
+/* The characters from the first to the last, by their numbers in Unicode, of so many columns. */
+typedef struct tk_width_range {
+    uint32_t first;
+    uint32_t last;
+    uint8_t columns; /* 0, 1 or 2, and 1 where one of them is printable ASCII */
+} tk_width_range;
+
+/* Makes a surface as tk_surface_new does, which measures by a table, as by what wcwidth says. Its
+ * ranges rise, and no two have the same character. A grapheme has the columns of its characters
+ * together, and at most 2. Unicode says those of a character that is in no range, and those of a
+ * grapheme none of whose characters is in one. The table is not copied: it stays as it is, and
+ * where it is, as long as the program runs. TK_RANGE: width, height, the table or source. */
+tk_status tk_surface_new_by(tk_handle *surface, size_t width, size_t height,
+                            const tk_width_range *ranges, size_t len, size_t source);
+
 void tk_free_handle(tk_handle *handle);
 
 /* Frees what the handle has, of any kind, if it has anything. It has nothing then. Nothing is done
@@ -213,7 +230,9 @@ tk_status tk_resize(tk_handle *surface, size_t width, size_t height);
 /* The number of the coming change, 0 at first. A viewer or a client has one of its own. */
 tk_status tk_number(tk_handle *handle, size_t *number);
 
-/* ---- Reading: of a surface, or of what a viewer or a client shows ---- */
+/* ---- Reading: of a surface, or of what a viewer or a client shows ----
+ *
+ * TK_WRONG_KIND: the handle has lines. */
 
 /* The width in columns and the height in rows. */
 tk_status tk_size(tk_handle *handle, size_t *width, size_t *height);
@@ -310,6 +329,11 @@ tk_status tk_shown_cells(tk_handle *handle, size_t row, tk_row_cell *cells, size
  * cell has at least 1, also where its grapheme has none, as a combining mark by itself.
  * TK_RANGE: widths. TK_UNREADABLE: the text is no UTF-8. */
 tk_status tk_text_width(const char *text, size_t len, uint8_t widths, size_t *columns);
+
+/* The same by a table of widths (tk_surface_new_by), which is read whole, and not kept.
+ * TK_RANGE: the table. TK_UNREADABLE: the text is no UTF-8. */
+tk_status tk_text_width_by(const char *text, size_t len, const tk_width_range *ranges,
+                           size_t count, size_t *columns);
 
 /* The length of the first grapheme of a text, 0 of the empty one. What follows it is cut as a text
  * of its own. TK_UNREADABLE: the text is no UTF-8. */
@@ -624,6 +648,55 @@ tk_status tk_copy(tk_handle *surface, size_t column, size_t row, size_t width, s
 tk_status tk_draw_region(tk_handle *surface, size_t column, size_t row, size_t width,
                          size_t height, size_t to_column, size_t to_row);
 
+tk_status tk_draw_line_distinct(tk_handle *surface, size_t row, tk_handle *lines, size_t index);
+
+/* Draws a line of a list on a row: the row shows what the line does, cut or with default blanks
+ * behind it. Where there is no such row, nothing is drawn. Cursor and pen are as before. It is
+ * logged as a list of changes. Where the surface measures a grapheme of the line in another way
+ * than the surface that it came from, that may be cut or go on in the next row. TK_RANGE: index. */
+static inline tk_status tk_draw_line(tk_handle *surface, size_t row, tk_handle *lines,
+                                     size_t index) {
+    return surface == lines ? TK_NO_HANDLE : tk_draw_line_distinct(surface, row, lines, index);
+}
+
+/* ---- Lists of lines: rows that are kept, as a terminal's scrollback ----
+ *
+ * The lines are counted from 0, the oldest one first. TK_WRONG_KIND: the handle has none. */
+
+/* Makes a list of no lines. What the handle had is freed. */
+tk_status tk_lines_new(tk_handle *lines);
+
+/* How many lines there are. */
+tk_status tk_lines_count(tk_handle *lines, size_t *count);
+
+tk_status tk_lines_push_row_distinct(tk_handle *lines, tk_handle *source, size_t row);
+
+/* Appends a copy of a row, of a surface, or of what a viewer or a client shows, as it is stored:
+ * the row may show more default blanks. TK_RANGE: the row. */
+static inline tk_status tk_lines_push_row(tk_handle *lines, tk_handle *source, size_t row) {
+    return lines == source ? TK_NO_HANDLE : tk_lines_push_row_distinct(lines, source, row);
+}
+
+/* Removes so many lines from the one of index `first` on. TK_RANGE: there are not so many. */
+tk_status tk_lines_remove(tk_handle *lines, size_t first, size_t count);
+
+/* Reads a line, as tk_row_cells reads a row. A compressed line is read from a copy, which takes
+ * memory. TK_RANGE: index. TK_SHORT: as there. */
+tk_status tk_line_cells(tk_handle *lines, size_t index, tk_row_cell *cells, size_t cell_room,
+                        tk_attributes *attributes, size_t attribute_room, char *text, size_t room,
+                        tk_row_counts *counts);
+
+/* Stores so many lines from the one of index `first` on in less memory: each as one text with its
+ * runs of attributes. They show what they did. TK_RANGE: there are not so many. TK_MEMORY: some of
+ * them may be compressed. */
+tk_status tk_lines_compress(tk_handle *lines, size_t first, size_t count);
+
+/* Wraps each line into lines of at most this many columns, which come in its place: the spaces at
+ * its end are dropped, and the last cell of each of its lines but the last one is marked as
+ * wrapped. A line has at least one cell, so that it may have 2 columns where width is less. A line
+ * of spaces alone, or of no cells, stays as it is. The new lines are not compressed. */
+tk_status tk_lines_wrap(tk_handle *lines, size_t width);
+
 /* ---- Viewers: in one process ---- */
 
 tk_status tk_viewer_new_distinct(tk_handle *viewer, tk_handle *source);
@@ -674,6 +747,11 @@ tk_status tk_answer_head(const uint8_t *bytes, size_t len, tk_head *head);
  * widths, and takes no answer of more cells (width times height) or bytes. What the handle had is
  * freed. TK_RANGE: widths, or 0 bytes. */
 tk_status tk_client_new(tk_handle *client, uint8_t widths, size_t cells, size_t bytes);
+
+/* Makes a client as tk_client_new does, which measures by a table of widths (tk_surface_new_by), as
+ * its source does. TK_RANGE: the table, or 0 bytes. */
+tk_status tk_client_new_by(tk_handle *client, const tk_width_range *ranges, size_t len,
+                           size_t cells, size_t bytes);
 #define TK_USUAL_CELLS 1048576
 #define TK_USUAL_BYTES 16777216
 

@@ -6,7 +6,7 @@ use crate::ffi::{self, tk_fault};
 use crate::handle::{self, Handle};
 use crate::head::{self, ARRAY, UNSIGNED};
 use crate::screen::Screen;
-use crate::surface::Widths;
+use crate::widths::Widths;
 
 /// What a client asks of the surface whose answers it is fed: bytes, which can go over any
 /// connection.
@@ -155,10 +155,14 @@ impl Client {
     ///
     /// [`Error::Range`]: a limit of no bytes. [`Error::Memory`].
     pub fn with_limits(widths: Widths, limits: Limits) -> Result<Client, Error> {
-        let widths = widths as u8;
-        // Safety: the handle is all zero before.
-        let handle = Handle::made(|handle| unsafe {
-            ffi::tk_client_new(handle, widths, limits.cells, limits.bytes)
+        let Limits { cells, bytes } = limits;
+        // Safety: the handle is all zero before, and a table stays as it is.
+        let handle = Handle::made(|handle| match widths.number_or_table() {
+            Ok(widths) => unsafe { ffi::tk_client_new(handle, widths, cells, bytes) },
+            Err(table) => {
+                let (ranges, count) = table.parts();
+                unsafe { ffi::tk_client_new_by(handle, ranges, count, cells, bytes) }
+            }
         })?;
         let screen = Screen { handle };
         Ok(Client { screen })

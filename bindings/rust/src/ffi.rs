@@ -43,6 +43,13 @@ pub struct tk_handle {
 }
 
 #[repr(C)]
+pub struct tk_width_range {
+    pub first: u32,
+    pub last: u32,
+    pub columns: u8,
+}
+
+#[repr(C)]
 #[derive(Clone, Copy, PartialEq, Eq, Default)]
 pub struct tk_color {
     pub kind: u8,
@@ -155,6 +162,14 @@ extern "C" {
         widths: u8,
         source: usize,
     ) -> i32;
+    pub fn tk_surface_new_by(
+        surface: *mut tk_handle,
+        width: usize,
+        height: usize,
+        ranges: *const tk_width_range,
+        len: usize,
+        source: usize,
+    ) -> i32;
     pub fn tk_free_handle(handle: *mut tk_handle);
     pub fn tk_resize(surface: *mut tk_handle, width: usize, height: usize) -> i32;
     pub fn tk_number(handle: *mut tk_handle, number: *mut usize) -> i32;
@@ -247,6 +262,13 @@ extern "C" {
         counts: *mut tk_row_counts,
     ) -> i32;
     pub fn tk_text_width(text: *const u8, len: usize, widths: u8, columns: *mut usize) -> i32;
+    pub fn tk_text_width_by(
+        text: *const u8,
+        len: usize,
+        ranges: *const tk_width_range,
+        count: usize,
+        columns: *mut usize,
+    ) -> i32;
     pub fn tk_add_changes(
         surface: *mut tk_handle,
         changes: *const tk_change,
@@ -318,6 +340,33 @@ extern "C" {
         to_column: usize,
         to_row: usize,
     ) -> i32;
+    pub fn tk_draw_line_distinct(
+        surface: *mut tk_handle,
+        row: usize,
+        lines: *mut tk_handle,
+        index: usize,
+    ) -> i32;
+    pub fn tk_lines_new(lines: *mut tk_handle) -> i32;
+    pub fn tk_lines_count(lines: *mut tk_handle, count: *mut usize) -> i32;
+    pub fn tk_lines_push_row_distinct(
+        lines: *mut tk_handle,
+        source: *mut tk_handle,
+        row: usize,
+    ) -> i32;
+    pub fn tk_lines_remove(lines: *mut tk_handle, first: usize, count: usize) -> i32;
+    pub fn tk_line_cells(
+        lines: *mut tk_handle,
+        index: usize,
+        cells: *mut tk_row_cell,
+        cell_room: usize,
+        attributes: *mut tk_attributes,
+        attribute_room: usize,
+        text: *mut u8,
+        room: usize,
+        counts: *mut tk_row_counts,
+    ) -> i32;
+    pub fn tk_lines_compress(lines: *mut tk_handle, first: usize, count: usize) -> i32;
+    pub fn tk_lines_wrap(lines: *mut tk_handle, width: usize) -> i32;
     pub fn tk_viewer_new_distinct(viewer: *mut tk_handle, source: *mut tk_handle) -> i32;
     pub fn tk_follow_distinct(viewer: *mut tk_handle, source: *mut tk_handle) -> i32;
     pub fn tk_respond(
@@ -330,6 +379,13 @@ extern "C" {
     ) -> i32;
     pub fn tk_answer_head(bytes: *const u8, len: usize, head: *mut tk_head) -> i32;
     pub fn tk_client_new(client: *mut tk_handle, widths: u8, cells: usize, bytes: usize) -> i32;
+    pub fn tk_client_new_by(
+        client: *mut tk_handle,
+        ranges: *const tk_width_range,
+        len: usize,
+        cells: usize,
+        bytes: usize,
+    ) -> i32;
     pub fn tk_client_feed(
         client: *mut tk_handle,
         bytes: *const u8,

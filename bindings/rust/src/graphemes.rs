@@ -2,7 +2,8 @@
 
 use crate::error::Error;
 use crate::ffi;
-use crate::surface::{Surface, Widths};
+use crate::surface::Surface;
+use crate::widths::Widths;
 
 /// The columns of a text: the sum over its graphemes, each of which has 0 to 2. A cell has at least
 /// 1, also where its grapheme has none, as a combining mark by itself; [`graphemes`] has the
@@ -19,8 +20,13 @@ use crate::surface::{Surface, Widths};
 #[must_use]
 pub fn text_width(text: &str, widths: Widths) -> usize {
     let mut columns = 0;
-    // Safety: the text is only read, and then the call doesn't fail: it is UTF-8.
-    unsafe { ffi::tk_text_width(text.as_ptr(), text.len(), widths as u8, &mut columns) };
+    // Safety: the text is only read. The call doesn't fail: it is UTF-8.
+    let _done = match widths.number_or_table() {
+        Ok(widths) => unsafe {
+            ffi::tk_text_width(text.as_ptr(), text.len(), widths, &mut columns)
+        },
+        Err(table) => table.text_width(text, &mut columns),
+    };
     columns
 }
 

@@ -5,7 +5,7 @@ use crate::ffi::{self, tk_handle};
 use std::cell::UnsafeCell;
 use std::ptr;
 
-/// A handle on a surface, a viewer or a client, which is freed at its end.
+/// A handle on a surface, a viewer, a client or lines, which is freed at its end.
 ///
 /// Calls that read write the handle too, so that it lies in a cell. One call at a time has it: no
 /// call runs code of a caller's, and the pointer keeps the handle on its thread.

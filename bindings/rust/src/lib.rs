@@ -23,7 +23,8 @@
 //! and is tested. It looks for the library in the folder that `TIKEBURO_LIB` names,
 //! in its own checkout, and by `pkg-config`.
 //!
-//! [`Changes`] is a list of changes that is made in place: for those who make many.
+//! [`Changes`] is a list of changes that is made in place: for those who make many. [`Lines`] keeps
+//! rows that a surface no longer shows, as a terminal's scrollback does.
 //!
 //! # Any number of surfaces
 //!
@@ -39,10 +40,10 @@
 //!
 //! # Threads
 //!
-//! A [`Surface`], a [`Viewer`] and a [`Client`] stay on the thread that made them: they are neither
-//! `Send` nor `Sync`. Cells that have one link share it, also with those of another surface that
-//! this one was drawn on, and of its viewers. How many do is counted by a number that isn't atomic,
-//! which two threads might change at once.
+//! A [`Surface`], a [`Viewer`], a [`Client`] and [`Lines`] stay on the thread that made them: they
+//! are neither `Send` nor `Sync`. Cells that have one link share it, also with those of another
+//! surface that this one was drawn on, of its viewers and of its kept lines. How many do is counted
+//! by a number that isn't atomic, which two threads might change at once.
 //!
 //! ```compile_fail,E0277
 //! fn send<T: Send>(_: T) {}
@@ -75,6 +76,7 @@ mod graphemes;
 mod handle;
 mod head;
 pub mod hyperlink;
+mod lines;
 mod listed;
 mod recording;
 mod rows;
@@ -84,6 +86,7 @@ mod setters;
 mod sgr;
 pub mod surface;
 mod viewer;
+mod widths;
 
 /// Tests the programs of the crate's page.
 #[cfg(doctest)]
@@ -106,11 +109,13 @@ pub use color::{ColorAttribute, PaletteIndex, RgbColor};
 pub use error::Error;
 pub use fault::{Fault, FaultKind};
 pub use graphemes::{graphemes, text_width};
+pub use lines::Lines;
 pub use recording::Recorder;
 pub use rows::{Cell, Cells, Row, RowBuffer, RowCell, Rows};
 pub use screen::Screen;
 pub use sequence::ChangeSequence;
 pub use setters::CellAttributes;
 #[doc(inline)]
-pub use surface::{Options, Surface, Widths};
+pub use surface::{Options, Surface};
 pub use viewer::Viewer;
+pub use widths::{WidthRange, WidthTable, Widths};

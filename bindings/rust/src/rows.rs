@@ -123,7 +123,7 @@ impl<'a> Row<'a> {
     ///
     /// [`Error::Range`]: the screen has no such row. [`Error::Memory`]. The buffer is empty then.
     pub fn read(&self, buffer: &mut RowBuffer) -> Result<(), Error> {
-        buffer.fill(self, ffi::tk_row_cells)
+        buffer.fill(self.screen.handle.get(), self.number, ffi::tk_row_cells)
     }
 
     /// Reads all that the row shows by one call of the library, as [`Row::read`] does, with the
@@ -133,7 +133,7 @@ impl<'a> Row<'a> {
     ///
     /// [`Error::Range`]: the screen has no such row. [`Error::Memory`]. The buffer is empty then.
     pub fn read_shown(&self, buffer: &mut RowBuffer) -> Result<(), Error> {
-        buffer.fill(self, ffi::tk_shown_cells)
+        buffer.fill(self.screen.handle.get(), self.number, ffi::tk_shown_cells)
     }
 
     /// The cell at this column. At the second column of a wide cell it is a blank.
@@ -273,8 +273,10 @@ impl Cell {
     }
 }
 
-/// A row as [`Row::read`] and [`Row::read_shown`] read it: its visible cells from the left. Behind
-/// the last one the row shows default blanks.
+/// A row as [`Row::read`] and [`Row::read_shown`] read it, or a line as [`Lines::read`] does: its
+/// visible cells from the left. Behind the last one the row shows default blanks.
+///
+/// [`Lines::read`]: crate::Lines::read
 #[derive(Clone, Default)]
 pub struct RowBuffer {
     cells: Vec<tk_row_cell>,
@@ -325,8 +327,14 @@ impl RowBuffer {
         })
     }
 
-    fn fill(&mut self, row: &Row<'_>, call: ReadCells) -> Result<(), Error> {
-        let read = self.read(row, call);
+    /// Reads what this call reads at this number, a row or a line: nothing where it fails.
+    pub(crate) fn fill(
+        &mut self,
+        handle: *mut tk_handle,
+        number: usize,
+        call: ReadCells,
+    ) -> Result<(), Error> {
+        let read = self.read(handle, number, call);
         if read.is_err() {
             self.counts = tk_row_counts::default();
         }
@@ -338,13 +346,18 @@ impl RowBuffer {
     }
 
     /// Makes the call, anew with more room where that is too little.
-    fn read(&mut self, row: &Row<'_>, call: ReadCells) -> Result<(), Error> {
+    fn read(
+        &mut self,
+        handle: *mut tk_handle,
+        number: usize,
+        call: ReadCells,
+    ) -> Result<(), Error> {
         loop {
             // Safety: the handle is live, and the buffers have the rooms that are named.
             let status = unsafe {
                 call(
-                    row.screen.handle.get(),
-                    row.number,
+                    handle,
+                    number,
                     self.cells.as_mut_ptr(),
                     self.cells.len(),
                     self.attributes.as_mut_ptr(),
@@ -398,7 +411,7 @@ impl<'a> RowCell<'a> {
         self.width
     }
 
-    /// Its attributes, without its link, which [`Row::cell`] reads.
+    /// Its attributes, without its link, which [`Row::cell`] reads of a row.
     #[must_use]
     pub fn attrs(&self) -> &'a Attributes {
         self.attributes

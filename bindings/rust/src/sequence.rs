@@ -3,7 +3,7 @@
 use crate::change::{Change, Position};
 use crate::error::Error;
 use crate::graphemes::graphemes;
-use crate::surface::Widths;
+use crate::widths::Widths;
 
 /// A growing list of changes, which reports where its changes move a cursor, and the height of the
 /// rows that the cursor was in.

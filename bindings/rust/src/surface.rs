@@ -9,8 +9,10 @@ use crate::client::Ask;
 use crate::error::Error;
 use crate::ffi::{self, tk_change};
 use crate::handle::{self, Handle};
+use crate::lines::Lines;
 use crate::rows::{Row, Rows};
 use crate::screen::Screen;
+use crate::widths::Widths;
 use std::collections::hash_map::RandomState;
 use std::fmt;
 use std::hash::{BuildHasher, Hasher};
@@ -22,17 +24,6 @@ pub mod change {
     pub use crate::change::{Change, LineAttribute};
     #[doc(no_inline)]
     pub use crate::sequence::ChangeSequence;
-}
-
-/// How texts are measured.
-#[derive(Clone, Copy, PartialEq, Eq, Hash, Debug, Default)]
-#[non_exhaustive]
-pub enum Widths {
-    /// By the Unicode tables: a grapheme has one column or two.
-    #[default]
-    Unicode,
-    /// Each grapheme has one column.
-    OneColumn,
 }
 
 /// What a surface is made with.
@@ -112,10 +103,13 @@ impl Surface {
         widths: Widths,
         source: usize,
     ) -> Result<Surface, Error> {
-        let widths = widths as u8;
-        // Safety: the handle is all zero before.
-        let handle = Handle::made(|handle| unsafe {
-            ffi::tk_surface_new(handle, width, height, widths, source)
+        // Safety: the handle is all zero before, and a table stays as it is.
+        let handle = Handle::made(|handle| match widths.number_or_table() {
+            Ok(widths) => unsafe { ffi::tk_surface_new(handle, width, height, widths, source) },
+            Err(table) => {
+                let (ranges, count) = table.parts();
+                unsafe { ffi::tk_surface_new_by(handle, width, height, ranges, count, source) }
+            }
         })?;
         let screen = Screen { handle };
         Ok(Surface {
@@ -289,6 +283,31 @@ impl Surface {
         // Safety: both handles are live, and they are two, since one is borrowed alone.
         Error::check(unsafe {
             ffi::tk_draw_distinct(self.handle.get(), other.handle.get(), x, y)
+        })?;
+        Ok(self.last_since(number))
+    }
+
+    /// Draws a line on a row: the row shows what the line does, cut or with blanks behind it. Where
+    /// there is no such row, nothing is drawn. Cursor and pen are as before. Returns the number of
+    /// the last change that this takes, as [`Surface::add_changes`] does.
+    ///
+    /// Where this surface measures a text in another way than the one that the line comes from,
+    /// that may be cut, or go on in the next row.
+    ///
+    /// # Errors
+    ///
+    /// [`Error::Range`]: there is no line at this index. [`Error::Numbers`] and [`Error::Memory`],
+    /// as of [`Surface::add_change`].
+    pub fn draw_line(
+        &mut self,
+        row: usize,
+        lines: &Lines,
+        index: usize,
+    ) -> Result<SequenceNo, Error> {
+        let number = self.current_seqno();
+        // Safety: both handles are live, and they are two, since one is borrowed alone.
+        Error::check(unsafe {
+            ffi::tk_draw_line_distinct(self.handle.get(), row, lines.handle.get(), index)
         })?;
         Ok(self.last_since(number))
     }

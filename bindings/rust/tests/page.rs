@@ -135,6 +135,12 @@ fn rows() -> Outcome {
     assert_eq!(text_width("text", Widths::Unicode), 4);
     assert_eq!(row.line_attribute()?, LineAttribute::SingleWidthLine);
     assert!(row.link_params(column)?.is_empty());
+    let index = 0;
+    let mut lines = Lines::new()?;
+    lines.push_row(&surface, y)?;
+    lines.wrap(width)?;
+    lines.compress(0..lines.len())?;
+    surface.draw_line(y, &lines, index)?;
     Ok(())
 }
 

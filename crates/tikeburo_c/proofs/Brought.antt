@@ -17,7 +17,7 @@ use Rattle.tikeburo_c.specs.Streams.{AnswersIn, FeedsIn, GivesAsk, MayCarry, Rea
 use Rattle.tikeburo_c.specs.declared.clients.FaultFields.{FaultFields}
 use Rattle.tikeburo_c.specs.declared.failure.Failure.TheVariants.{Memory, Unreadable, Truncated, Region, Numbers, NoHandle, WrongKind, Range, Short}
 use Rattle.tikeburo_c.specs.declared.kept.Kept.{Kept}
-use Rattle.tikeburo_c.specs.declared.kept.Kept.TheVariants.{Surface, Viewer, Client}
+use Rattle.tikeburo_c.specs.declared.kept.Kept.TheVariants.{Surface, Viewer, Client, Lines}
 use Rattle.tikeburo_c.specs.declared.widths.ChosenWidths.{ChosenWidths}
 
 -- ---- a client is made ready
@@ -26,11 +26,14 @@ pub reset_done : (surface client new : Option Kept) (outcome : Outcome) → Serv
 reset_done (Some (Surface s)) (Some (Client c)) (Some (Client d)) outcome serves resets = resets.done
 reset_done (Some (Surface s)) (Some (Client c)) (Some (Surface t)) outcome serves none = absurd none
 reset_done (Some (Surface s)) (Some (Client c)) (Some (Viewer f)) outcome serves none = absurd none
+reset_done (Some (Surface s)) (Some (Client c)) (Some (Lines l)) outcome serves none = absurd none
 reset_done (Some (Surface s)) (Some (Client c)) None outcome serves none = absurd none
 reset_done (Some (Surface s)) (Some (Surface t)) new outcome none resets = absurd none
 reset_done (Some (Surface s)) (Some (Viewer f)) new outcome none resets = absurd none
+reset_done (Some (Surface s)) (Some (Lines l)) new outcome none resets = absurd none
 reset_done (Some (Surface s)) None new outcome none resets = absurd none
 reset_done (Some (Viewer f)) client new outcome none resets = absurd none
+reset_done (Some (Lines l)) client new outcome none resets = absurd none
 reset_done (Some (Client c)) client new outcome none resets = absurd none
 reset_done None client new outcome none resets = absurd none
 
@@ -81,6 +84,7 @@ ask_ends (Some (Client c)) old new outcome ready gives room = elim gives [
 ]
 ask_ends (Some (Surface s)) old new outcome none gives room = absurd none
 ask_ends (Some (Viewer f)) old new outcome none gives room = absurd none
+ask_ends (Some (Lines l)) old new outcome none gives room = absurd none
 ask_ends None old new outcome none gives room = absurd none
 
 -- ---- the surface answers
@@ -95,12 +99,15 @@ answer_ends bytes (Some (Surface s)) (Some (Client c)) (Some (Surface t)) old_ro
   ]
 ]
 answer_ends bytes (Some (Surface s)) (Some (Client c)) (Some (Viewer f)) old_room new_room outcome serves a none = absurd none
+answer_ends bytes (Some (Surface s)) (Some (Client c)) (Some (Lines l)) old_room new_room outcome serves a none = absurd none
 answer_ends bytes (Some (Surface s)) (Some (Client c)) (Some (Client d)) old_room new_room outcome serves a none = absurd none
 answer_ends bytes (Some (Surface s)) (Some (Client c)) None old_room new_room outcome serves a none = absurd none
 answer_ends bytes (Some (Surface s)) (Some (Surface t)) new old_room new_room outcome none a answers = absurd none
 answer_ends bytes (Some (Surface s)) (Some (Viewer f)) new old_room new_room outcome none a answers = absurd none
+answer_ends bytes (Some (Surface s)) (Some (Lines l)) new old_room new_room outcome none a answers = absurd none
 answer_ends bytes (Some (Surface s)) None new old_room new_room outcome none a answers = absurd none
 answer_ends bytes (Some (Viewer f)) client new old_room new_room outcome none a answers = absurd none
+answer_ends bytes (Some (Lines l)) client new old_room new_room outcome none a answers = absurd none
 answer_ends bytes (Some (Client c)) client new old_room new_room outcome none a answers = absurd none
 answer_ends bytes None client new old_room new_room outcome none a answers = absurd none
 
@@ -112,15 +119,18 @@ answered_same bytes (Some (Surface s)) (Some (Surface t)) old_room new_room outc
   | inr (inr answered) ↦ ap (λ (u : SourceValue ChosenWidths). full_of u.surface) answered.2.trims
 ]
 answered_same bytes (Some (Surface s)) (Some (Viewer f)) old_room new_room outcome none = none
+answered_same bytes (Some (Surface s)) (Some (Lines l)) old_room new_room outcome none = none
 answered_same bytes (Some (Surface s)) (Some (Client c)) old_room new_room outcome none = none
 answered_same bytes (Some (Surface s)) None old_room new_room outcome none = none
 answered_same bytes (Some (Viewer f)) new old_room new_room outcome refused = ap (λ (p : Option Kept × Buffer). p.0) refused.1
+answered_same bytes (Some (Lines l)) new old_room new_room outcome refused = ap (λ (p : Option Kept × Buffer). p.0) refused.1
 answered_same bytes (Some (Client c)) new old_room new_room outcome refused = ap (λ (p : Option Kept × Buffer). p.0) refused.1
 answered_same bytes None new old_room new_room outcome refused = ap (λ (p : Option Kept × Buffer). p.0) refused.1
 
 pub shows_itself : (surface : Option Kept) → ShowsAsBefore surface surface
 shows_itself (Some (Surface s)) = refl
 shows_itself (Some (Viewer f)) = refl
+shows_itself (Some (Lines l)) = refl
 shows_itself (Some (Client c)) = refl
 shows_itself None = refl
 
@@ -137,7 +147,9 @@ pub feed_ends : (piece : List ℕ) (surface client new : Option Kept) (room : �
 feed_ends piece surface (Some (Client c)) (Some (Client d)) room old_fault new_fault outcome ready (result, reaches, feeds) = reach_ends surface (Some (Client d)) room result old_fault new_fault outcome reaches
 feed_ends piece surface (Some (Client c)) (Some (Surface s)) room old_fault new_fault outcome ready none = absurd none
 feed_ends piece surface (Some (Client c)) (Some (Viewer f)) room old_fault new_fault outcome ready none = absurd none
+feed_ends piece surface (Some (Client c)) (Some (Lines l)) room old_fault new_fault outcome ready none = absurd none
 feed_ends piece surface (Some (Client c)) None room old_fault new_fault outcome ready none = absurd none
 feed_ends piece surface (Some (Surface s)) new room old_fault new_fault outcome none fed = absurd none
 feed_ends piece surface (Some (Viewer f)) new room old_fault new_fault outcome none fed = absurd none
+feed_ends piece surface (Some (Lines l)) new room old_fault new_fault outcome none fed = absurd none
 feed_ends piece surface None new room old_fault new_fault outcome none fed = absurd none

@@ -18,7 +18,7 @@ use Rattle.tikeburo_c.specs.declared.clients.FaultFields.{FaultFields}
 use Rattle.tikeburo_c.specs.declared.failure.Failure.{Failure}
 use Rattle.tikeburo_c.specs.declared.failure.Failure.TheVariants.{Memory, Unreadable, Truncated, Region, Numbers, NoHandle, WrongKind, Range, Short}
 use Rattle.tikeburo_c.specs.declared.kept.Kept.{Kept}
-use Rattle.tikeburo_c.specs.declared.kept.Kept.TheVariants.{Surface, Viewer, Client}
+use Rattle.tikeburo_c.specs.declared.kept.Kept.TheVariants.{Surface, Viewer, Client, Lines}
 use Rattle.tikeburo_c.specs.declared.widths.ChosenWidths.{ChosenWidths}
 
 -- no failure has the number 0
@@ -55,11 +55,14 @@ pub serves_reset : (surface client new : Option Kept) (outcome : Outcome) → Se
 serves_reset (Some (Surface s)) (Some (Client c)) (Some (Client d)) outcome serves resets = resets.serves s serves
 serves_reset (Some (Surface s)) (Some (Client c)) (Some (Surface t)) outcome serves none = none
 serves_reset (Some (Surface s)) (Some (Client c)) (Some (Viewer f)) outcome serves none = none
+serves_reset (Some (Surface s)) (Some (Client c)) (Some (Lines l)) outcome serves none = none
 serves_reset (Some (Surface s)) (Some (Client c)) None outcome serves none = none
 serves_reset (Some (Surface s)) (Some (Surface t)) new outcome none resets = absurd none
 serves_reset (Some (Surface s)) (Some (Viewer f)) new outcome none resets = absurd none
+serves_reset (Some (Surface s)) (Some (Lines l)) new outcome none resets = absurd none
 serves_reset (Some (Surface s)) None new outcome none resets = absurd none
 serves_reset (Some (Viewer f)) client new outcome none resets = absurd none
+serves_reset (Some (Lines l)) client new outcome none resets = absurd none
 serves_reset (Some (Client c)) client new outcome none resets = absurd none
 serves_reset None client new outcome none resets = absurd none
 
@@ -67,11 +70,14 @@ pub ready_reset : (surface client new : Option Kept) (outcome : Outcome) → Ser
 ready_reset (Some (Surface s)) (Some (Client c)) (Some (Client d)) outcome serves resets = resets.ready
 ready_reset (Some (Surface s)) (Some (Client c)) (Some (Surface t)) outcome serves none = none
 ready_reset (Some (Surface s)) (Some (Client c)) (Some (Viewer f)) outcome serves none = none
+ready_reset (Some (Surface s)) (Some (Client c)) (Some (Lines l)) outcome serves none = none
 ready_reset (Some (Surface s)) (Some (Client c)) None outcome serves none = none
 ready_reset (Some (Surface s)) (Some (Surface t)) new outcome none resets = absurd none
 ready_reset (Some (Surface s)) (Some (Viewer f)) new outcome none resets = absurd none
+ready_reset (Some (Surface s)) (Some (Lines l)) new outcome none resets = absurd none
 ready_reset (Some (Surface s)) None new outcome none resets = absurd none
 ready_reset (Some (Viewer f)) client new outcome none resets = absurd none
+ready_reset (Some (Lines l)) client new outcome none resets = absurd none
 ready_reset (Some (Client c)) client new outcome none resets = absurd none
 ready_reset None client new outcome none resets = absurd none
 
@@ -91,6 +97,7 @@ asked (Some (Client c)) old new (inl refused) = absurd cc
 asked (Some (Client c)) old new (inr (is_ask, gives)) = record { is_ask = is_ask; encoded = front_is _ _ _ _ gives.1 gives.2 }
 asked (Some (Surface s)) old new refused = absurd cc
 asked (Some (Viewer f)) old new refused = absurd cc
+asked (Some (Lines l)) old new refused = absurd cc
 asked None old new refused = absurd cc
 
 -- ---- the surface answers
@@ -102,12 +109,15 @@ serves_answered bytes (Some (Surface s)) (Some (Client c)) (Some (Surface t)) ol
   | inr (inr answered) ↦ answered.2.goes_on.serves c serves
 ]
 serves_answered bytes (Some (Surface s)) (Some (Client c)) (Some (Viewer f)) old_room new_room outcome serves none = none
+serves_answered bytes (Some (Surface s)) (Some (Client c)) (Some (Lines l)) old_room new_room outcome serves none = none
 serves_answered bytes (Some (Surface s)) (Some (Client c)) (Some (Client d)) old_room new_room outcome serves none = none
 serves_answered bytes (Some (Surface s)) (Some (Client c)) None old_room new_room outcome serves none = none
 serves_answered bytes (Some (Surface s)) (Some (Surface t)) new old_room new_room outcome none answers = absurd none
 serves_answered bytes (Some (Surface s)) (Some (Viewer f)) new old_room new_room outcome none answers = absurd none
+serves_answered bytes (Some (Surface s)) (Some (Lines l)) new old_room new_room outcome none answers = absurd none
 serves_answered bytes (Some (Surface s)) None new old_room new_room outcome none answers = absurd none
 serves_answered bytes (Some (Viewer f)) client new old_room new_room outcome none answers = absurd none
+serves_answered bytes (Some (Lines l)) client new old_room new_room outcome none answers = absurd none
 serves_answered bytes (Some (Client c)) client new old_room new_room outcome none answers = absurd none
 serves_answered bytes None client new old_room new_room outcome none answers = absurd none
 
@@ -142,12 +152,15 @@ responded bytes (Some (Surface s)) (Some (Client c)) (Some (Surface t)) old_room
   | inr answered ↦ answered_by s c t (named_ask (ask_of c)) old_room new_room refl answered
 ]
 responded bytes (Some (Surface s)) (Some (Client c)) (Some (Viewer f)) old_room new_room serves a none = none
+responded bytes (Some (Surface s)) (Some (Client c)) (Some (Lines l)) old_room new_room serves a none = none
 responded bytes (Some (Surface s)) (Some (Client c)) (Some (Client d)) old_room new_room serves a none = none
 responded bytes (Some (Surface s)) (Some (Client c)) None old_room new_room serves a none = none
 responded bytes (Some (Surface s)) (Some (Surface t)) new old_room new_room none a answers = absurd none
 responded bytes (Some (Surface s)) (Some (Viewer f)) new old_room new_room none a answers = absurd none
+responded bytes (Some (Surface s)) (Some (Lines l)) new old_room new_room none a answers = absurd none
 responded bytes (Some (Surface s)) None new old_room new_room none a answers = absurd none
 responded bytes (Some (Viewer f)) client new old_room new_room none a answers = absurd none
+responded bytes (Some (Lines l)) client new old_room new_room none a answers = absurd none
 responded bytes (Some (Client c)) client new old_room new_room none a answers = absurd none
 responded bytes None client new old_room new_room none a answers = absurd none
 
@@ -164,11 +177,14 @@ pub serves_fed : (piece : List ℕ) (surface client new : Option Kept) (old_faul
 serves_fed piece (Some (Surface s)) (Some (Client c)) (Some (Client d)) old_fault new_fault outcome serves ready responds (result, reaches, feeds) = feeds.serves s serves ready responds
 serves_fed piece (Some (Surface s)) (Some (Client c)) (Some (Surface t)) old_fault new_fault outcome serves ready responds none = none
 serves_fed piece (Some (Surface s)) (Some (Client c)) (Some (Viewer f)) old_fault new_fault outcome serves ready responds none = none
+serves_fed piece (Some (Surface s)) (Some (Client c)) (Some (Lines l)) old_fault new_fault outcome serves ready responds none = none
 serves_fed piece (Some (Surface s)) (Some (Client c)) None old_fault new_fault outcome serves ready responds none = none
 serves_fed piece (Some (Surface s)) (Some (Surface t)) new old_fault new_fault outcome none ready responds fed = absurd none
 serves_fed piece (Some (Surface s)) (Some (Viewer f)) new old_fault new_fault outcome none ready responds fed = absurd none
+serves_fed piece (Some (Surface s)) (Some (Lines l)) new old_fault new_fault outcome none ready responds fed = absurd none
 serves_fed piece (Some (Surface s)) None new old_fault new_fault outcome none ready responds fed = absurd none
 serves_fed piece (Some (Viewer f)) client new old_fault new_fault outcome none ready responds fed = absurd none
+serves_fed piece (Some (Lines l)) client new old_fault new_fault outcome none ready responds fed = absurd none
 serves_fed piece (Some (Client c)) client new old_fault new_fault outcome none ready responds fed = absurd none
 serves_fed piece None client new old_fault new_fault outcome none ready responds fed = absurd none
 
@@ -177,10 +193,13 @@ shows_fed piece (Some (Surface s)) (Some (Client c)) (Some (Client d)) old_fault
 shows_fed piece (Some (Surface s)) (Some (Client c)) (Some (Client d)) old_fault new_fault serves ready responds (Err e, reaches, feeds) = absurd (let is = reached (Err e) old_fault new_fault reaches in cc)
 shows_fed piece (Some (Surface s)) (Some (Client c)) (Some (Surface t)) old_fault new_fault serves ready responds none = none
 shows_fed piece (Some (Surface s)) (Some (Client c)) (Some (Viewer f)) old_fault new_fault serves ready responds none = none
+shows_fed piece (Some (Surface s)) (Some (Client c)) (Some (Lines l)) old_fault new_fault serves ready responds none = none
 shows_fed piece (Some (Surface s)) (Some (Client c)) None old_fault new_fault serves ready responds none = none
 shows_fed piece (Some (Surface s)) (Some (Surface t)) new old_fault new_fault none ready responds fed = absurd none
 shows_fed piece (Some (Surface s)) (Some (Viewer f)) new old_fault new_fault none ready responds fed = absurd none
+shows_fed piece (Some (Surface s)) (Some (Lines l)) new old_fault new_fault none ready responds fed = absurd none
 shows_fed piece (Some (Surface s)) None new old_fault new_fault none ready responds fed = absurd none
 shows_fed piece (Some (Viewer f)) client new old_fault new_fault none ready responds fed = absurd none
+shows_fed piece (Some (Lines l)) client new old_fault new_fault none ready responds fed = absurd none
 shows_fed piece (Some (Client c)) client new old_fault new_fault none ready responds fed = absurd none
 shows_fed piece None client new old_fault new_fault none ready responds fed = absurd none

@@ -3,9 +3,13 @@ pub mod Decoded
 pub mod Delivered
 pub mod Differing
 pub mod Filled
+pub mod LinesCompressed
+pub mod LinesDrawn
+pub mod LinesWrapped
 pub mod Listed
 pub mod ReadBack
 pub mod RowNeeds
 pub mod RowParts
 pub mod ShownRow
 pub mod Since
+pub mod WidthTables

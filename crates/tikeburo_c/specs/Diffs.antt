@@ -7,7 +7,7 @@ use Rattle.termwiz_surface.specs.Surface.{SurfaceValue, screen_of}
 use Rattle.tikeburo_c.specs.Getting.{GivesAll, ListPlace}
 use Rattle.tikeburo_c.specs.Kept.{shown_of}
 use Rattle.tikeburo_c.specs.Outcomes.{Outcome}
-use Rattle.tikeburo_c.specs.Results.{Reads, Refused}
+use Rattle.tikeburo_c.specs.Results.{Reads, Refused, OfKind}
 use Rattle.tikeburo_c.specs.Widths.{columns_by}
 use Rattle.tikeburo_c.specs.declared.failure.Failure.TheVariants.{NoHandle}
 use Rattle.tikeburo_c.specs.declared.kept.Kept.{Kept}
@@ -55,5 +55,5 @@ abbrev pub ReadsBoth :
     {B : Type 0} →
     (SurfaceValue ChosenWidths → SurfaceValue ChosenWidths → B → Outcome → B → Type 0) →
     Option Kept → Option Kept → B → Outcome → B → Type 0
-ReadsBoth P own (Some other) = Reads (λ s. P s (shown_of other)) own
+ReadsBoth P own (Some other) = OfKind (λ t. Reads (λ s. P s t) own) (shown_of other)
 ReadsBoth P own None = Refused NoHandle

@@ -7,7 +7,7 @@ use Rattle.termwiz_surface.specs.declared.surface.SurfaceError.TheVariants.{Scro
 use Rattle.tikeburo_c.specs.Changes.{GoesOn}
 use Rattle.tikeburo_c.specs.Kept.{shown_of}
 use Rattle.tikeburo_c.specs.Outcomes.{Outcome, changing_failure, outcome_of}
-use Rattle.tikeburo_c.specs.Results.{OnSurface, Refused}
+use Rattle.tikeburo_c.specs.Results.{OnSurface, Refused, OfKind}
 use Rattle.tikeburo_c.specs.Widths.{columns_by}
 use Rattle.tikeburo_c.specs.declared.failure.Failure.TheVariants.{NoHandle}
 use Rattle.tikeburo_c.specs.declared.kept.Kept.{Kept}
@@ -35,7 +35,7 @@ Draws source x y old outcome new =
     DrawsAs source x y old result new
 
 abbrev pub DrawsSource : Option Kept → ℕ → ℕ → Option Kept → Outcome → Option Kept → Type 0
-DrawsSource (Some source) x y = OnSurface (Draws (shown_of source) x y)
+DrawsSource (Some source) x y = OfKind (λ s. OnSurface (Draws s x y)) (shown_of source)
 DrawsSource None x y = Refused NoHandle
 
 -- a region is copied as the library copies it

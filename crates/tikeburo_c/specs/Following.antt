@@ -1,14 +1,14 @@
 -- Viewers that follow what a handle has.
-use Rattle.std.specs.Prelude.{◌≡◌, ℕ, true, not, ◌==◌, ◌||◌, Result, OnOk, OnErr, Option, Some, None, if◌then◌else◌}
+use Rattle.std.specs.Prelude.{◌≡◌, ℕ, ◌+◌, ◌-◌, ◌^◌, min, true, not, ◌==◌, ◌||◌, Result, OnOk, OnErr, Option, Some, None, if◌then◌else◌}
 use Rattle.termwiz_screen.specs.Log.{flushed, next_number}
 use Rattle.termwiz_surface.specs.Showing.{HasCaughtUp}
 use Rattle.termwiz_surface.specs.Adding.{with_log}
-use Rattle.termwiz_surface.specs.Following.{Follows, FollowsTo, ViewerValue, blank_viewer}
+use Rattle.termwiz_surface.specs.Following.{Follows, FollowsTo, ViewerValue, blank_viewer, blank_viewer_from}
 use Rattle.termwiz_surface.specs.Surface.{SurfaceValue, full_of}
 use Rattle.termwiz_surface.specs.declared.surface.SurfaceError.{SurfaceError}
 use Rattle.tikeburo_c.specs.Kept.{number_of, shown_of}
 use Rattle.tikeburo_c.specs.Outcomes.{Outcome, changing_failure, outcome_of}
-use Rattle.tikeburo_c.specs.Results.{OnViewer, OrNoMemory, Refused, Returns}
+use Rattle.tikeburo_c.specs.Results.{OnViewer, OrNoMemory, Refused, Returns, OfKind}
 use Rattle.tikeburo_c.specs.Widths.{columns_by}
 use Rattle.tikeburo_c.specs.declared.failure.Failure.TheVariants.{NoHandle}
 use Rattle.tikeburo_c.specs.declared.followers.Follower.{Follower}
@@ -24,11 +24,19 @@ blank_follower number s = record { viewer = blank_viewer s; source = number }
 abbrev pub HasViewer : ℕ → SurfaceValue ChosenWidths → Follower → Type 0
 HasViewer number s f = (f ≡ blank_follower number s) × Follows columns_by f.viewer s
 
+-- one that takes the place of this one, whose numbers go on
+abbrev pub next_follower : ℕ → SurfaceValue ChosenWidths → Follower → Follower
+next_follower number s f =
+    record {
+      viewer = blank_viewer_from s (min (next_number f.viewer.surface.log + 1) (2 ^ 64 - 1));
+      source = number;
+    }
+
 -- what the viewer is before it follows the surface of this number: itself, where it follows that
 -- one, and else blank
 abbrev pub turned_to : ℕ → SurfaceValue ChosenWidths → Follower → Follower
 turned_to number s f =
-    if (number == 0) || not (number == f.source) then blank_follower number s else f
+    if (number == 0) || not (number == f.source) then next_follower number s f else f
 
 -- where the viewer followed the surface of this number last, that was this surface
 abbrev pub KnowsBy : ℕ → SurfaceValue ChosenWidths → Follower → Type 0
@@ -76,9 +84,9 @@ FollowsOne number s old outcome new =
     FollowsAs number s old result new
 
 abbrev pub FollowsSource : Option Kept → Option Kept → Outcome → Option Kept → Type 0
-FollowsSource (Some source) old outcome new =
-    OnViewer (OrNoMemory (FollowsOne (number_of source) (shown_of source))) old outcome new
-FollowsSource None old outcome new = Refused NoHandle old outcome new
+FollowsSource (Some source) =
+    OfKind (λ s. OnViewer (OrNoMemory (FollowsOne (number_of source) s))) (shown_of source)
+FollowsSource None = Refused NoHandle
 
 -- a blank viewer of what the source shows, which follows it
 abbrev pub MakesFollower :
@@ -88,5 +96,6 @@ MakesFollower number s old outcome new =
     Follows columns_by (blank_viewer s) s
 
 abbrev pub MakesViewer : Option Kept → Option Kept → Outcome → Option Kept → Type 0
-MakesViewer (Some source) = OrNoMemory (MakesFollower (number_of source) (shown_of source))
+MakesViewer (Some source) =
+    OfKind (λ s. OrNoMemory (MakesFollower (number_of source) s)) (shown_of source)
 MakesViewer None = Refused NoHandle

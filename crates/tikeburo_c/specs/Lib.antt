@@ -11,6 +11,8 @@ pub mod Handles
 pub mod Heads
 pub mod Held
 pub mod Kept
+pub mod LineDrawing
+pub mod LineLists
 pub mod Listing
 pub mod Lists
 pub mod Making
@@ -23,5 +25,7 @@ pub mod Rows
 pub mod States
 pub mod Streams
 pub mod Texts
+pub mod TableLaws
 pub mod WidthLaws
+pub mod WidthRanges
 pub mod Widths

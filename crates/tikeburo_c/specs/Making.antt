@@ -1,5 +1,6 @@
 -- How surfaces and clients are made, and how surfaces take another size.
-use Rattle.std.specs.Prelude.{◌≡◌, ℕ, ◌^◌, Bool, true, ◌&&◌, nat_lt, Result, Option, Some, None, [], if◌then◌else◌, MatchBool}
+use Rattle.std.specs.Borrow.{Bor}
+use Rattle.std.specs.Prelude.{◌≡◌, ℕ, ◌^◌, Bool, true, ◌&&◌, nat_lt, List, Result, Option, Some, None, [], if◌then◌else◌, MatchBool}
 use Rattle.termwiz_share.specs.Client.{ClientValue}
 use Rattle.termwiz_share.specs.Source.{SourceValue}
 use Rattle.termwiz_surface.specs.Resizing.{Resizes}
@@ -9,10 +10,11 @@ use Rattle.termwiz_wire.specs.declared.fault.Limits.{Limits}
 use Rattle.tikeburo_c.specs.Changes.{GoesOn}
 use Rattle.tikeburo_c.specs.Outcomes.{Outcome, changing_failure, outcome_of}
 use Rattle.tikeburo_c.specs.Results.{OnSurface, OrNoMemory, Refused, Returns}
-use Rattle.tikeburo_c.specs.Widths.{widths_at}
+use Rattle.tikeburo_c.specs.Widths.{AreBy, widths_at}
 use Rattle.tikeburo_c.specs.declared.failure.Failure.TheVariants.{Range}
 use Rattle.tikeburo_c.specs.declared.kept.Kept.{Kept}
 use Rattle.tikeburo_c.specs.declared.kept.Kept.TheVariants.{Surface, Client}
+use Rattle.tikeburo_c.specs.declared.tables.WidthRange.{WidthRange}
 use Rattle.tikeburo_c.specs.declared.widths.ChosenWidths.{ChosenWidths}
 
 -- a surface may have this size
@@ -32,10 +34,21 @@ MakesSurface width height source (Some widths) =
     OrNoMemory (Returns (Some (Surface (blank_source widths width height source))))
 MakesSurface width height source None = Refused Range
 
--- the choice of widths, where there is one, and the size and the source's number are some
+-- the widths, where there are some, and the size and the source's number are some
+abbrev pub widths_where : ℕ → ℕ → ℕ → Option ChosenWidths → Option ChosenWidths
+widths_where width height source widths =
+    if nat_lt 0 source && is_size width height then widths else None
+
+-- the choice of widths of this number, where there is one
 abbrev pub widths_for : ℕ → ℕ → ℕ → ℕ → Option ChosenWidths
-widths_for width height source number =
-    if nat_lt 0 source && is_size width height then widths_at number else None
+widths_for width height source number = widths_where width height source (widths_at number)
+
+-- the same by a table of widths, if the ranges are one
+abbrev pub MakesSurfaceBy :
+    ℕ → ℕ → ℕ → Bor (List WidthRange) → Option Kept → Outcome → Option Kept → Type 0
+MakesSurfaceBy width height source ranges old outcome new =
+    (widths : Option ChosenWidths) × AreBy ranges widths ×
+    MakesSurface width height source (widths_where width height source widths) old outcome new
 
 -- the surface takes another size
 abbrev pub TakesSize :
@@ -61,11 +74,21 @@ blank_client widths limits =
       stopped = None;
     }
 
--- the choice of widths, where there is one, and an answer may have so many bytes, and not 0
+-- the widths, where there are some, and an answer may have so many bytes, and not 0
+abbrev pub limited : ℕ → Option ChosenWidths → Option ChosenWidths
+limited bytes widths = if nat_lt 0 bytes then widths else None
+
 abbrev pub widths_within : ℕ → ℕ → Option ChosenWidths
-widths_within bytes number = if nat_lt 0 bytes then widths_at number else None
+widths_within bytes number = limited bytes (widths_at number)
 
 -- such a client is made, in the place of what the handle had
 abbrev pub MakesClient : Option ChosenWidths → Limits → Option Kept → Outcome → Option Kept → Type 0
 MakesClient (Some widths) limits = OrNoMemory (Returns (Some (Client (blank_client widths limits))))
 MakesClient None limits = Refused Range
+
+-- the same by a table of widths, if the ranges are one
+abbrev pub MakesClientBy :
+    Bor (List WidthRange) → Limits → Option Kept → Outcome → Option Kept → Type 0
+MakesClientBy ranges limits old outcome new =
+    (widths : Option ChosenWidths) × AreBy ranges widths ×
+    MakesClient (limited limits.bytes widths) limits old outcome new

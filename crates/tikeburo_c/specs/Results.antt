@@ -1,15 +1,16 @@
 -- What calls make of what a handle has, and of what they write.
 use Rattle.std.specs.Prelude.{◌≡◌, ◌⊎◌, ℕ, ◌≤◌, ◌<◌, Ok, Err, Option, Some, None, List, ◌++◌, length, drop}
+use Rattle.termwiz_line.specs.LineValue.{LineValue}
 use Rattle.termwiz_share.specs.Client.{ClientValue}
 use Rattle.termwiz_share.specs.Source.{SourceValue}
 use Rattle.termwiz_surface.specs.Surface.{SurfaceValue}
-use Rattle.tikeburo_c.specs.Kept.{shown_of}
+use Rattle.tikeburo_c.specs.Kept.{lines_of, shown_of}
 use Rattle.tikeburo_c.specs.Outcomes.{Outcome}
 use Rattle.tikeburo_c.specs.declared.failure.Failure.{Failure}
 use Rattle.tikeburo_c.specs.declared.failure.Failure.TheVariants.{Memory, NoHandle, WrongKind, Short}
 use Rattle.tikeburo_c.specs.declared.followers.Follower.{Follower}
 use Rattle.tikeburo_c.specs.declared.kept.Kept.{Kept}
-use Rattle.tikeburo_c.specs.declared.kept.Kept.TheVariants.{Surface, Viewer, Client}
+use Rattle.tikeburo_c.specs.declared.kept.Kept.TheVariants.{Surface, Viewer, Client, Lines}
 use Rattle.tikeburo_c.specs.declared.widths.ChosenWidths.{ChosenWidths}
 
 -- the call failed so, and changed nothing
@@ -28,6 +29,7 @@ OnSurface P (Some (Surface old)) outcome (Some (Surface new)) = P old outcome ne
 OnSurface P (Some (Surface old)) outcome _ = ⊥
 OnSurface P (Some (Viewer f)) outcome new = Refused WrongKind (Some (Viewer f)) outcome new
 OnSurface P (Some (Client c)) outcome new = Refused WrongKind (Some (Client c)) outcome new
+OnSurface P (Some (Lines l)) outcome new = Refused WrongKind (Some (Lines l)) outcome new
 OnSurface P None outcome new = Refused NoHandle None outcome new
 
 -- the call did this to the viewer that the handle has
@@ -37,6 +39,7 @@ OnViewer P (Some (Viewer old)) outcome (Some (Viewer new)) = P old outcome new
 OnViewer P (Some (Viewer old)) outcome _ = ⊥
 OnViewer P (Some (Surface s)) outcome new = Refused WrongKind (Some (Surface s)) outcome new
 OnViewer P (Some (Client c)) outcome new = Refused WrongKind (Some (Client c)) outcome new
+OnViewer P (Some (Lines l)) outcome new = Refused WrongKind (Some (Lines l)) outcome new
 OnViewer P None outcome new = Refused NoHandle None outcome new
 
 -- the call did this to the client that the handle has
@@ -47,14 +50,39 @@ OnClient P (Some (Client old)) outcome (Some (Client new)) = P old outcome new
 OnClient P (Some (Client old)) outcome _ = ⊥
 OnClient P (Some (Surface s)) outcome new = Refused WrongKind (Some (Surface s)) outcome new
 OnClient P (Some (Viewer f)) outcome new = Refused WrongKind (Some (Viewer f)) outcome new
+OnClient P (Some (Lines l)) outcome new = Refused WrongKind (Some (Lines l)) outcome new
 OnClient P None outcome new = Refused NoHandle None outcome new
+
+-- the call did this to the lines that the handle has
+abbrev pub OnLines :
+    (List LineValue → Outcome → List LineValue → Type 0) → Option Kept → Outcome → Option Kept →
+    Type 0
+OnLines P (Some (Lines old)) outcome (Some (Lines new)) = P old outcome new
+OnLines P (Some (Lines old)) outcome _ = ⊥
+OnLines P (Some (Surface s)) outcome new = Refused WrongKind (Some (Surface s)) outcome new
+OnLines P (Some (Viewer f)) outcome new = Refused WrongKind (Some (Viewer f)) outcome new
+OnLines P (Some (Client c)) outcome new = Refused WrongKind (Some (Client c)) outcome new
+OnLines P None outcome new = Refused NoHandle None outcome new
+
+-- the call did this with what it takes of a handle, which others don't have
+abbrev pub OfKind :
+    {A B : Type 0} → (A → B → Outcome → B → Type 0) → Option A → B → Outcome → B → Type 0
+OfKind P (Some s) = P s
+OfKind P None = Refused WrongKind
 
 -- the call read this of the surface that the handle has, or that its viewer or client shows
 abbrev pub Reads :
     {B : Type 0} → (SurfaceValue ChosenWidths → B → Outcome → B → Type 0) → Option Kept → B →
     Outcome → B → Type 0
-Reads P (Some kept) old outcome new = P (shown_of kept) old outcome new
+Reads P (Some kept) old outcome new = OfKind P (shown_of kept) old outcome new
 Reads P None old outcome new = Refused NoHandle old outcome new
+
+-- the call read this of the lines that the handle has
+abbrev pub ReadsLines :
+    {B : Type 0} → (List LineValue → B → Outcome → B → Type 0) → Option Kept → B → Outcome → B →
+    Type 0
+ReadsLines P (Some kept) old outcome new = OfKind P (lines_of kept) old outcome new
+ReadsLines P None old outcome new = Refused NoHandle old outcome new
 
 -- the call returned this value
 abbrev pub Returns : {B : Type 0} → B → B → Outcome → B → Type 0

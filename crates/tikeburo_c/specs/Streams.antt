@@ -22,7 +22,7 @@ use Rattle.tikeburo_c.specs.declared.clients.FaultFields.{FaultFields}
 use Rattle.tikeburo_c.specs.declared.failure.Failure.{Failure}
 use Rattle.tikeburo_c.specs.declared.failure.Failure.TheVariants.{Memory, NoHandle, Numbers, Short, Unreadable, WrongKind}
 use Rattle.tikeburo_c.specs.declared.kept.Kept.{Kept}
-use Rattle.tikeburo_c.specs.declared.kept.Kept.TheVariants.{Surface, Viewer, Client}
+use Rattle.tikeburo_c.specs.declared.kept.Kept.TheVariants.{Surface, Viewer, Client, Lines}
 use Rattle.tikeburo_c.specs.declared.widths.ChosenWidths.{ChosenWidths}
 
 -- ---- answers
@@ -70,6 +70,8 @@ AnswersIn bytes (Some (Viewer f), old) outcome new =
     Refused WrongKind (Some (Viewer f), old) outcome new
 AnswersIn bytes (Some (Client c), old) outcome new =
     Refused WrongKind (Some (Client c), old) outcome new
+AnswersIn bytes (Some (Lines l), old) outcome new =
+    Refused WrongKind (Some (Lines l), old) outcome new
 AnswersIn bytes (None, old) outcome new = Refused NoHandle (None, old) outcome new
 
 -- ---- clients
@@ -139,6 +141,8 @@ FeedsIn piece (Some (Surface s), old) outcome new =
     Refused WrongKind (Some (Surface s), old) outcome new
 FeedsIn piece (Some (Viewer f), old) outcome new =
     Refused WrongKind (Some (Viewer f), old) outcome new
+FeedsIn piece (Some (Lines l), old) outcome new =
+    Refused WrongKind (Some (Lines l), old) outcome new
 FeedsIn piece (None, old) outcome new = Refused NoHandle (None, old) outcome new
 
 -- an ask that names no source has no number
@@ -154,6 +158,7 @@ abbrev pub GivesAsk : Option Kept → Buffer → Outcome → Buffer → Type 0
 GivesAsk (Some (Client c)) = OrNoMemory (GivesOne (named_ask (ask_of c)))
 GivesAsk (Some (Surface s)) = Refused WrongKind
 GivesAsk (Some (Viewer f)) = Refused WrongKind
+GivesAsk (Some (Lines l)) = Refused WrongKind
 GivesAsk None = Refused NoHandle
 
 -- the client is ready for the bytes of a new stream, and shows what it showed
@@ -182,6 +187,7 @@ ShowsAsBefore (Some (Surface s)) (Some (Surface t)) = full_of t.surface ≡ full
 ShowsAsBefore (Some (Surface s)) _ = ⊥
 ShowsAsBefore (Some (Viewer f)) new = new ≡ Some (Viewer f)
 ShowsAsBefore (Some (Client c)) new = new ≡ Some (Client c)
+ShowsAsBefore (Some (Lines l)) new = new ≡ Some (Lines l)
 ShowsAsBefore None new = new ≡ None
 
 -- these are the bytes of an answer of the surface to what the client asks by

@@ -1,13 +1,15 @@
 -- What is read of texts: how they are cut and measured.
+use Rattle.std.specs.Borrow.{Bor}
 use Rattle.std.specs.Prelude.{ℕ, true, List, [], ◌∷◌, Option, Some, None, Result, Ok, Err, length}
 use Rattle.termwiz_cell.specs.Width.{columns_of}
 use Rattle.termwiz_text.specs.{graphemes}
 use Rattle.tikeburo_c.specs.Lists.{text_in}
 use Rattle.tikeburo_c.specs.Outcomes.{Outcome}
 use Rattle.tikeburo_c.specs.Results.{Refused, Returns}
-use Rattle.tikeburo_c.specs.Widths.{columns_by}
+use Rattle.tikeburo_c.specs.Widths.{AreBy, columns_by}
 use Rattle.tikeburo_c.specs.declared.failure.Failure.{Failure}
 use Rattle.tikeburo_c.specs.declared.failure.Failure.TheVariants.{Range}
+use Rattle.tikeburo_c.specs.declared.tables.WidthRange.{WidthRange}
 use Rattle.tikeburo_c.specs.declared.widths.ChosenWidths.{ChosenWidths}
 
 -- the call returned this value of the text that the bytes are, if they are one
@@ -22,6 +24,11 @@ ReadsText {B} read bytes = of_text (text_in bytes)
 abbrev pub MeasuresText : Option ChosenWidths → List ℕ → ℕ → Outcome → ℕ → Type 0
 MeasuresText (Some widths) bytes = ReadsText (columns_of (columns_by widths)) bytes
 MeasuresText None bytes = Refused Range
+
+-- the same by a table of widths, if the ranges are one
+abbrev pub MeasuresTextBy : Bor (List WidthRange) → List ℕ → ℕ → Outcome → ℕ → Type 0
+MeasuresTextBy ranges bytes old outcome new =
+    (widths : Option ChosenWidths) × AreBy ranges widths × MeasuresText widths bytes old outcome new
 
 -- how many bytes the first grapheme of a text has: none where the text is empty
 abbrev pub first_length : List ℕ → ℕ

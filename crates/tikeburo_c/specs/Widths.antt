@@ -1,18 +1,43 @@
--- How wide texts are by each choice, and the choice of each number.
-use Rattle.std.specs.Prelude.{ℕ, List, Option, Some, None, ◌==◌, if◌then◌else◌}
+-- How wide texts are by each choice, the choice of each number, and that of a table.
+use Rattle.std.specs.Borrow.{Bor}
+use Rattle.std.specs.Prelude.{◌≡◌, ℕ, List, Option, Some, None, true, false, ◌==◌, if◌then◌else◌}
 use Rattle.termwiz_cell.specs.Width.{unicode_columns, variation}
 use Rattle.termwiz_cell.specs.declared.emoji.Presentation.{Presentation}
 use Rattle.termwiz_cell.specs.declared.emoji.Presentation.TheVariants.{Text}
+use Rattle.tikeburo_c.specs.WidthRanges.{columns_in, is_table}
+use Rattle.tikeburo_c.specs.declared.tables.WidthRange.{WidthRange}
+use Rattle.tikeburo_c.specs.declared.tables.WidthTable.{WidthTable}
+use Rattle.tikeburo_c.specs.declared.widths.Choice.{Choice}
+use Rattle.tikeburo_c.specs.declared.widths.Choice.TheVariants.{Unicode, OneColumn, Table}
 use Rattle.tikeburo_c.specs.declared.widths.ChosenWidths.{ChosenWidths}
-use Rattle.tikeburo_c.specs.declared.widths.ChosenWidths.TheVariants.{Unicode, OneColumn}
+
+abbrev pub columns_of_choice : Choice WidthTable → List ℕ → ℕ
+columns_of_choice Unicode text = unicode_columns text
+columns_of_choice OneColumn text = 1
+columns_of_choice (Table table) text = columns_in table.ranges.now text
 
 abbrev pub columns_by : ChosenWidths → List ℕ → ℕ
-columns_by Unicode text = unicode_columns text
-columns_by OneColumn text = 1
+columns_by widths = columns_of_choice widths.choice
 
 abbrev pub presentation_by : ChosenWidths → List ℕ → Presentation × Option Presentation
-presentation_by Unicode text = (Text, variation text)
-presentation_by OneColumn text = (Text, None)
+presentation_by widths text = of_choice widths.choice
+  where
+    of_choice : Choice WidthTable → Presentation × Option Presentation
+    of_choice OneColumn = (Text, None)
+    of_choice _ = (Text, variation text)
+
+abbrev pub choice_at : ℕ → Option (Choice WidthTable)
+choice_at n = if n == 0 then Some Unicode else if n == 1 then Some OneColumn else None
 
 abbrev pub widths_at : ℕ → Option ChosenWidths
-widths_at n = if n == 0 then Some Unicode else if n == 1 then Some OneColumn else None
+widths_at n =
+    if n == 0 then Some (record { choice = Unicode })
+    else if n == 1 then Some (record { choice = OneColumn })
+    else None
+
+-- the widths are by these ranges, or there are none, as the ranges are no table
+abbrev pub AreBy : Bor (List WidthRange) → Option ChosenWidths → Type 0
+AreBy ranges (Some widths) =
+    (rises : is_table ranges.now ≡ true) ×
+    (widths ≡ record { choice = Table (record { ranges = ranges; rises = rises }) })
+AreBy ranges None = is_table ranges.now ≡ false

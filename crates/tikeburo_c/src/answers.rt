@@ -71,7 +71,7 @@ pub extern "C" fn tk_respond(
         Some(mut kept) => {
             let outcome = match &mut *kept {
                 Kept::Surface(surface) => answer_bytes(alloc, surface, ask, room, len),
-                Kept::Viewer(_) | Kept::Client(_) => Err(Failure::WrongKind),
+                Kept::Viewer(_) | Kept::Client(_) | Kept::Lines(_) => Err(Failure::WrongKind),
             };
             handle.put(alloc, kept);
             outcome

@@ -14,6 +14,7 @@ use crate::buffers::give;
 use crate::failure::{Failure, status};
 use crate::fields::{CellFields, cell_fields};
 use crate::handle::Handle;
+use crate::kept::Kept;
 use crate::widths::ChosenWidths;
 use std::alloc::Global;
 use termwiz_screen::full::attribute_of;
@@ -28,7 +29,10 @@ fn give_line(line: &Line, room: &mut [u8], len: &mut usize) -> Result<(), Failur
 }
 
 /// The row at this index from the top, if there is one.
-pub(crate) fn line_at(surface: &Surface<ChosenWidths>, row: usize) -> Result<&Line, Failure>
+pub(crate) fn line_at<'a>(
+    surface: &'a Surface<ChosenWidths>,
+    row: usize,
+) -> Result<&'a Line, Failure>
     ensures found { IfOk result (λ line.
         slice_get surface.now.lines row ≡ Some line.now.cells) }
     ensures missing { IfErr result (λ failure.
@@ -74,13 +78,10 @@ pub extern "C" fn tk_row_text(
     status(outcome)
 }
 
-fn read_attribute(
-    surface: &Surface<ChosenWidths>,
-    row: usize,
-    attribute: &mut u8,
-) -> Result<(), Failure>
-    ensures { ReadsLine row surface.now attribute.old result attribute.new }
+fn read_attribute(kept: &Kept, row: usize, attribute: &mut u8) -> Result<(), Failure>
+    ensures { Reads (λ s. ReadsLine row s) (Some kept.now) attribute.old result attribute.new }
 {
+    let surface = kept.shown()?;
     let line = line_at(surface, row)?;
     *attribute = attribute_of(line).number();
     Ok(())
@@ -100,7 +101,7 @@ pub extern "C" fn tk_line_attribute(
 {
     let outcome = match handle.take(alloc) {
         Some(kept) => {
-            let outcome = read_attribute(kept.shown(), row, attribute);
+            let outcome = read_attribute(&kept, row, attribute);
             handle.put(alloc, kept);
             outcome
         }
@@ -149,17 +150,18 @@ pub(crate) fn cell_at<'a>(
 }
 
 fn read_cell(
-    surface: &Surface<ChosenWidths>,
+    kept: &Kept,
     column: usize,
     row: usize,
     fields: &mut CellFields,
     room: &mut [u8],
     len: &mut usize,
 ) -> Result<(), Failure>
-    ensures { GivesCell (cell_in column row surface.now)
+    ensures { Reads {B = CellPlace} (λ s. GivesCell (cell_in column row s)) (Some kept.now)
         (fields.old, (room.old, len.old)) result (fields.new, (room.new, len.new)) }
 {
     let blank = Cell::blank();
+    let surface = kept.shown()?;
     let cell = cell_at(surface, column, row, &blank)?;
     give_cell(cell, fields, room, len)
 }
@@ -183,7 +185,7 @@ pub extern "C" fn tk_cell_at(
 {
     let outcome = match handle.take(alloc) {
         Some(kept) => {
-            let outcome = read_cell(kept.shown(), column, row, fields, room, len);
+            let outcome = read_cell(&kept, column, row, fields, room, len);
             handle.put(alloc, kept);
             outcome
         }

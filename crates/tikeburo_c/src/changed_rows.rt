@@ -1,24 +1,17 @@
 //! Which rows may have changed since a surface had a number.
-ghost use Rattle.std.specs.Prelude.{◌≡◌, IfOk};
+ghost use Rattle.std.specs.Prelude.{◌≡◌, IfOk, Some};
 ghost use Rattle.tikeburo_c.specs.ChangedRows as specs_of;
-ghost use Rattle.tikeburo_c.specs.ChangedRows.{changed_byte};
 ghost use Rattle.tikeburo_c.specs.Handles.{kept_of};
 ghost use Rattle.tikeburo_c.specs.Outcomes.{Reports};
 ghost use Rattle.tikeburo_c.specs.Results.{Gives, OrNoMemory, Reads};
 
-use crate::access::fill;
 use crate::buffers::give;
 use crate::failure::{Failure, status};
 use crate::handle::Handle;
+use crate::kept::Kept;
 use crate::widths::ChosenWidths;
 use std::alloc::{AllocError, Global};
 use termwiz_surface::Surface;
-
-fn changed_byte(since: usize, number: usize) -> u8
-    ensures { result ≡ changed_byte since number }
-{
-    u8::from(since == 0 || number > since)
-}
 
 fn changed_rows(
     alloc: Global,
@@ -27,10 +20,10 @@ fn changed_rows(
 ) -> Result<Vec<u8>, AllocError>
     ensures { IfOk result (λ rows. rows.items ≡ specs_of.changed_rows since surface.now) }
 {
-    let numbers = surface.row_seqnos();
-    let mut rows = Vec::with_capacity(alloc, numbers.len())?;
-    for number in numbers {
-        rows.push(changed_byte(since, *number))?;
+    let (_, height) = surface.dimensions();
+    let mut rows = Vec::with_capacity(alloc, height)?;
+    for row in 0..height {
+        rows.push(u8::from(surface.row_changed_since(row, since)))?;
     }
     Ok(rows)
 }
@@ -49,6 +42,20 @@ fn give_changed(
     give(&rows, room, len)
 }
 
+fn give_changed_of(
+    alloc: Global,
+    kept: &Kept,
+    since: usize,
+    room: &mut [u8],
+    len: &mut usize,
+) -> Result<(), Failure>
+    ensures { Reads (λ s. OrNoMemory (Gives (specs_of.changed_rows since s))) (Some kept.now)
+        (room.old, len.old) result (room.new, len.new) }
+{
+    let surface = kept.shown()?;
+    give_changed(alloc, surface, since, room, len)
+}
+
 /// For each row from the top 1 if it may differ from what it was when the surface had the number
 /// `since`, and 0 if it doesn't; 1 for all rows where that is 0.
 #[unsafe(no_mangle)]
@@ -64,8 +71,13 @@ pub extern "C" fn tk_changed_rows(
         (kept_of handle.old) (room.old, len.old) outcome (room.new, len.new)) }
     ensures same { kept_of handle.new ≡ kept_of handle.old }
 {
-    let outcome = fill(alloc, handle, room, len, |surface, room, len| {
-        give_changed(alloc, surface, since, room, len)
-    });
+    let outcome = match handle.take(alloc) {
+        Some(kept) => {
+            let outcome = give_changed_of(alloc, &kept, since, room, len);
+            handle.put(alloc, kept);
+            outcome
+        }
+        None => Err(Failure::NoHandle),
+    };
     status(outcome)
 }

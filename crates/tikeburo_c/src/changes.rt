@@ -19,7 +19,7 @@ use termwiz_wire::decode_changes;
 
 // The list of changes that the bytes encode, with nothing after it.
 fn only_changes(alloc: Global, widths: ChosenWidths, bytes: &[u8]) -> Result<Vec<Change>, Failure>
-    ensures { IsOnlyList (columns_by widths) bytes.now result }
+    ensures { IsOnlyList (columns_by widths.entry) bytes.now result }
 {
     let (changes, taken) = decode_changes(alloc, &widths, bytes)?;
     if taken < bytes.len() {

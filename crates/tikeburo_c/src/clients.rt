@@ -1,7 +1,8 @@
 //! Clients: how they are made, ask, and are fed.
 ghost use Rattle.std.specs.Prelude.{◌≡◌, ◌<◌, IfErr, IfOk};
 ghost use Rattle.tikeburo_c.specs.Handles.{kept_of};
-ghost use Rattle.tikeburo_c.specs.Making.{MakesClient, blank_client, widths_within};
+ghost use Rattle.tikeburo_c.specs.Making.{MakesClient, MakesClientBy, blank_client, limited};
+ghost use Rattle.tikeburo_c.specs.Making.{widths_within};
 ghost use Rattle.tikeburo_c.specs.Outcomes.{Reports};
 ghost use Rattle.tikeburo_c.specs.Results.{OnClient, OrNoMemory};
 ghost use Rattle.tikeburo_c.specs.Streams.{FeedsBytes, FeedsIn, GivesAsk, GivesOne, Reaches};
@@ -15,6 +16,7 @@ use crate::buffers::give;
 use crate::failure::{Failure, status};
 use crate::handle::Handle;
 use crate::kept::Kept;
+use crate::tables::WidthRange;
 use crate::widths::ChosenWidths;
 use cbor::FaultKind;
 use std::alloc::Global;
@@ -31,9 +33,14 @@ pub struct FaultFields {
     pub change: usize,
 }
 
-fn blank_client(alloc: Global, widths: ChosenWidths, limits: Limits) -> Result<Box<Kept>, Failure>
+fn blank_client(
+    alloc: Global,
+    widths: ChosenWidths<'static>,
+    limits: Limits,
+) -> Result<Box<Kept>, Failure>
     requires some { 0 < limits.bytes }
-    ensures made { IfOk result (λ kept. kept.value ≡ kinds.Client (blank_client widths limits)) }
+    ensures made { IfOk result (λ kept.
+        kept.value ≡ kinds.Client (blank_client widths.entry limits)) }
     ensures memory { IfErr result (λ failure. failure ≡ Memory) }
 {
     let client = Client::new(alloc, widths, limits)?;
@@ -44,16 +51,16 @@ fn blank_client(alloc: Global, widths: ChosenWidths, limits: Limits) -> Result<B
 fn make_client(
     alloc: Global,
     handle: &mut Handle,
-    widths: u8,
+    widths: Option<ChosenWidths<'static>>,
     limits: Limits,
 ) -> Result<(), Failure>
-    ensures { MakesClient (widths_within limits.bytes widths) limits
+    ensures { MakesClient (limited limits.bytes widths.entry) limits
         (kept_of handle.old) result (kept_of handle.new) }
 {
     if limits.bytes == 0 {
         return Err(Failure::Range);
     }
-    let Some(widths) = ChosenWidths::at(widths) else {
+    let Some(widths) = widths else {
         return Err(Failure::Range);
     };
     let kept = blank_client(alloc, widths, limits)?;
@@ -76,6 +83,27 @@ pub extern "C" fn tk_client_new(
         (kept_of handle.old) outcome (kept_of handle.new)) }
 {
     let limits = Limits { cells, bytes };
+    let widths = ChosenWidths::at(widths);
+    let outcome = make_client(alloc, handle, widths, limits);
+    status(outcome)
+}
+
+/// Makes such a client that measures by a table. The ranges stay as they are as long as the program
+/// runs.
+#[unsafe(no_mangle)]
+pub extern "C" fn tk_client_new_by(
+    alloc: Global,
+    handle: &mut Handle,
+    ranges: &'static [WidthRange],
+    cells: usize,
+    bytes: usize,
+) -> i32
+    ensures { Reports result (λ outcome. MakesClientBy ranges.entry
+        (record { cells = cells; bytes = bytes })
+        (kept_of handle.old) outcome (kept_of handle.new)) }
+{
+    let limits = Limits { cells, bytes };
+    let widths = ChosenWidths::by(ranges);
     let outcome = make_client(alloc, handle, widths, limits);
     status(outcome)
 }
@@ -151,7 +179,7 @@ pub extern "C" fn tk_client_feed(
         Some(mut kept) => {
             let outcome = match &mut *kept {
                 Kept::Client(client) => feed(client, bytes, fault),
-                Kept::Surface(_) | Kept::Viewer(_) => Err(Failure::WrongKind),
+                Kept::Surface(_) | Kept::Viewer(_) | Kept::Lines(_) => Err(Failure::WrongKind),
             };
             handle.put(alloc, kept);
             outcome
@@ -199,7 +227,7 @@ fn give_kept_ask(
 {
     match kept {
         Kept::Client(client) => give_ask(alloc, client, room, len),
-        Kept::Surface(_) | Kept::Viewer(_) => Err(Failure::WrongKind),
+        Kept::Surface(_) | Kept::Viewer(_) | Kept::Lines(_) => Err(Failure::WrongKind),
     }
 }
 
@@ -243,7 +271,7 @@ pub extern "C" fn tk_client_reset(alloc: Global, handle: &mut Handle) -> i32
         Some(mut kept) => {
             let outcome = match &mut *kept {
                 Kept::Client(client) => reset(client),
-                Kept::Surface(_) | Kept::Viewer(_) => Err(Failure::WrongKind),
+                Kept::Surface(_) | Kept::Viewer(_) | Kept::Lines(_) => Err(Failure::WrongKind),
             };
             handle.put(alloc, kept);
             outcome

@@ -11,6 +11,7 @@ ghost use Rattle.tikeburo_c.specs.Results.{OrNoMemory, Reads};
 use crate::failure::{Failure, status};
 use crate::getting::{ListCounts, give_all};
 use crate::handle::Handle;
+use crate::kept::Kept;
 use crate::lists::ChangeFields;
 use crate::widths::ChosenWidths;
 use std::alloc::{AllocError, Global};
@@ -58,6 +59,24 @@ fn give_diff(
     give_all(alloc, &changes, 0, list, texts, counts)
 }
 
+fn give_diff_of(
+    alloc: Global,
+    kept: &Kept,
+    other: &Surface<ChosenWidths>,
+    region: Option<Region>,
+    list: &mut [ChangeFields],
+    texts: &mut [u8],
+    counts: &mut ListCounts,
+) -> Result<(), Failure>
+    ensures { Reads {B = ListPlace}
+        (λ s. OrNoMemory (GivesDiff (option_map region_value region) s other.now))
+        (Some kept.now) (list_place list.old texts.old counts.old)
+        result (list_place list.new texts.new counts.new) }
+{
+    let surface = kept.shown()?;
+    give_diff(alloc, surface, other, region, list, texts, counts)
+}
+
 fn diff_from(
     alloc: Global,
     handle: &mut Handle,
@@ -76,9 +95,28 @@ fn diff_from(
     let Some(kept) = handle.take(alloc) else {
         return Err(Failure::NoHandle);
     };
-    let outcome = give_diff(alloc, kept.shown(), other, region, list, texts, counts);
+    let outcome = give_diff_of(alloc, &kept, other, region, list, texts, counts);
     handle.put(alloc, kept);
     outcome
+}
+
+fn diff_kept(
+    alloc: Global,
+    handle: &mut Handle,
+    other: &Kept,
+    region: Option<Region>,
+    list: &mut [ChangeFields],
+    texts: &mut [u8],
+    counts: &mut ListCounts,
+) -> Result<(), Failure>
+    ensures read { ReadsBoth {B = ListPlace}
+        (λ s t. OrNoMemory (GivesDiff (option_map region_value region) s t))
+        (kept_of handle.old) (Some other.now) (list_place list.old texts.old counts.old)
+        result (list_place list.new texts.new counts.new) }
+    ensures same { kept_of handle.new ≡ kept_of handle.old }
+{
+    let shown = other.shown()?;
+    diff_from(alloc, handle, shown, region, list, texts, counts)
 }
 
 fn diff_both(
@@ -100,7 +138,7 @@ fn diff_both(
     let Some(kept) = other.take(alloc) else {
         return Err(Failure::NoHandle);
     };
-    let outcome = diff_from(alloc, handle, kept.shown(), region, list, texts, counts);
+    let outcome = diff_kept(alloc, handle, &kept, region, list, texts, counts);
     other.put(alloc, kept);
     outcome
 }

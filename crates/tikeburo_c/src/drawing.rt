@@ -1,5 +1,5 @@
 //! Surfaces drawn on others, and regions copied within one.
-ghost use Rattle.std.specs.Prelude.{◌≡◌};
+ghost use Rattle.std.specs.Prelude.{◌≡◌, Some};
 ghost use Rattle.tikeburo_c.specs.Drawing.{Copies, Draws, DrawsRegion, DrawsSource};
 ghost use Rattle.tikeburo_c.specs.Handles.{kept_of};
 ghost use Rattle.tikeburo_c.specs.Outcomes.{Reports};
@@ -8,14 +8,15 @@ ghost use Rattle.tikeburo_c.specs.Results.{OnSurface};
 use crate::access::on_surface;
 use crate::failure::{Failure, status};
 use crate::handle::Handle;
+use crate::kept::Kept;
 use crate::widths::ChosenWidths;
 use std::alloc::Global;
 use termwiz_share::Source;
 use termwiz_surface::Surface;
 
-fn draw_on(
-    surface: &mut Source<ChosenWidths>,
-    source: &Surface<ChosenWidths>,
+fn draw_on<'t>(
+    surface: &mut Source<ChosenWidths<'t>>,
+    source: &Surface<ChosenWidths<'t>>,
     column: usize,
     row: usize,
 ) -> Result<(), Failure>
@@ -23,6 +24,42 @@ fn draw_on(
 {
     surface.draw_from_screen(source, column, row)?;
     Ok(())
+}
+
+// No closure lends what is shown, since nothing would be known of its call then.
+fn draw_shown(
+    alloc: Global,
+    handle: &mut Handle,
+    shown: &Surface<ChosenWidths<'static>>,
+    column: usize,
+    row: usize,
+) -> Result<(), Failure>
+    ensures { OnSurface (Draws shown.now column row)
+        (kept_of handle.old) result (kept_of handle.new) }
+{
+    let Some(mut kept) = handle.take(alloc) else {
+        return Err(Failure::NoHandle);
+    };
+    let outcome = match &mut *kept {
+        Kept::Surface(surface) => draw_on(surface, shown, column, row),
+        Kept::Viewer(_) | Kept::Client(_) | Kept::Lines(_) => Err(Failure::WrongKind),
+    };
+    handle.put(alloc, kept);
+    outcome
+}
+
+fn draw_kept(
+    alloc: Global,
+    handle: &mut Handle,
+    source: &Kept,
+    column: usize,
+    row: usize,
+) -> Result<(), Failure>
+    ensures { DrawsSource (Some source.now) column row
+        (kept_of handle.old) result (kept_of handle.new) }
+{
+    let shown = source.shown()?;
+    draw_shown(alloc, handle, shown, column, row)
 }
 
 /// Draws what the source shows from this column and row on.
@@ -40,10 +77,7 @@ pub extern "C" fn tk_draw_distinct(
 {
     let outcome = match source.take(alloc) {
         Some(kept) => {
-            let shown = kept.shown();
-            let outcome = on_surface(alloc, handle, |surface| {
-                draw_on(surface, shown, column, row)
-            });
+            let outcome = draw_kept(alloc, handle, &kept, column, row);
             source.put(alloc, kept);
             outcome
         }

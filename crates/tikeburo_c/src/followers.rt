@@ -15,7 +15,7 @@ use termwiz_surface::{Surface, SurfaceError, Viewer};
 /// it logs.
 #[derive(Drop)]
 pub struct Follower {
-    viewer: Viewer<ChosenWidths>,
+    viewer: Viewer<ChosenWidths<'static>>,
     source: usize,
 }
 
@@ -23,7 +23,7 @@ impl Follower {
     /// A blank viewer for the surface of this number.
     pub(crate) fn new(
         alloc: Global,
-        surface: &Surface<ChosenWidths>,
+        surface: &Surface<ChosenWidths<'static>>,
         source: usize,
     ) -> Result<Follower, AllocError>
         ensures { IfOk result (HasViewer source surface.now) }
@@ -33,7 +33,7 @@ impl Follower {
     }
 
     /// What the viewer shows.
-    pub(crate) fn surface(&self) -> &Surface<ChosenWidths>
+    pub(crate) fn surface(&self) -> &Surface<ChosenWidths<'static>>
         ensures { result.now ≡ self.now.viewer.surface }
     {
         self.viewer.surface()
@@ -62,7 +62,7 @@ impl Follower {
     pub(crate) fn follow(
         &mut self,
         alloc: Global,
-        surface: &Surface<ChosenWidths>,
+        surface: &Surface<ChosenWidths<'static>>,
         source: usize,
     ) -> Result<(), Failure>
         ensures { OrNoMemory (FollowsOne source surface.now) self.old result self.new }
@@ -72,24 +72,27 @@ impl Follower {
         Ok(())
     }
 
-    // Begins from blank, unless it follows the surface of this number.
+    // Begins from blank, unless it follows the surface of this number. The numbers of what it shows
+    // go on, so that each row has changed.
     fn turn_to(
         &mut self,
         alloc: Global,
-        surface: &Surface<ChosenWidths>,
+        surface: &Surface<ChosenWidths<'static>>,
         source: usize,
     ) -> Result<(), AllocError>
         ensures turned { OnOk result (HasTurned source surface.now self.old self.new) }
         ensures same { OnErr result (self.new ≡ self.old) }
     {
         if source == 0 || source != self.source {
-            *self = Follower::new(alloc, surface, source)?;
+            let number = self.viewer.surface().current_seqno().saturating_add(1);
+            let viewer = Viewer::new_from(alloc, surface, number)?;
+            *self = Follower { viewer, source };
         }
         Ok(())
     }
 
     // Shows what the surface shows, and forgets what it made.
-    fn step(&mut self, surface: &Surface<ChosenWidths>) -> Result<usize, SurfaceError>
+    fn step(&mut self, surface: &Surface<ChosenWidths<'static>>) -> Result<usize, SurfaceError>
         ensures { StepsTo surface.now self.old result self.new }
     {
         let number = self.viewer.follow(surface);

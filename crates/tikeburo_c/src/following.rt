@@ -1,9 +1,11 @@
 //! Viewers: how they are made, and follow.
 ghost use Rattle.std.specs.Prelude.{◌≡◌, IfErr, IfOk, OnOk, Some};
 ghost use Rattle.termwiz_surface.specs.Following.{Follows, blank_viewer};
-ghost use Rattle.tikeburo_c.specs.Following.{FollowsSource, MakesViewer, blank_follower};
+ghost use Rattle.tikeburo_c.specs.Following.{FollowsOne, FollowsSource, MakesViewer};
+ghost use Rattle.tikeburo_c.specs.Following.{blank_follower};
 ghost use Rattle.tikeburo_c.specs.Handles.{kept_of};
 ghost use Rattle.tikeburo_c.specs.Outcomes.{Reports};
+ghost use Rattle.tikeburo_c.specs.Results.{OnViewer, OrNoMemory};
 ghost use Rattle.tikeburo_c.specs.Widths.{columns_by};
 ghost use Rattle.tikeburo_c.specs.declared.failure.Failure.TheVariants.{Memory};
 ghost use Rattle.tikeburo_c.specs.declared.kept.Kept.TheVariants as kinds;
@@ -18,7 +20,7 @@ use termwiz_surface::Surface;
 
 fn blank_viewer(
     alloc: Global,
-    surface: &Surface<ChosenWidths>,
+    surface: &Surface<ChosenWidths<'static>>,
     source: usize,
 ) -> Result<Box<Kept>, Failure>
     ensures made { IfOk result (λ kept.
@@ -31,6 +33,15 @@ fn blank_viewer(
     Ok(kept)
 }
 
+fn make_viewer_of(alloc: Global, viewer: &mut Handle, source: &Kept) -> Result<(), Failure>
+    ensures { MakesViewer (Some source.now) (kept_of viewer.old) result (kept_of viewer.new) }
+{
+    let surface = source.shown()?;
+    let made = blank_viewer(alloc, surface, source.number())?;
+    viewer.put(alloc, made);
+    Ok(())
+}
+
 fn make_viewer(alloc: Global, viewer: &mut Handle, source: &mut Handle) -> Result<(), Failure>
     ensures made { MakesViewer (kept_of source.old)
         (kept_of viewer.old) result (kept_of viewer.new) }
@@ -39,11 +50,9 @@ fn make_viewer(alloc: Global, viewer: &mut Handle, source: &mut Handle) -> Resul
     let Some(kept) = source.take(alloc) else {
         return Err(Failure::NoHandle);
     };
-    let made = blank_viewer(alloc, kept.shown(), kept.number());
+    let outcome = make_viewer_of(alloc, viewer, &kept);
     source.put(alloc, kept);
-    let made = made?;
-    viewer.put(alloc, made);
-    Ok(())
+    outcome
 }
 
 /// Makes a viewer for what the source shows, which shows nothing yet.
@@ -61,18 +70,31 @@ pub extern "C" fn tk_viewer_new_distinct(
     status(outcome)
 }
 
-fn follow_kept(alloc: Global, handle: &mut Handle, source: &Kept) -> Result<(), Failure>
-    ensures { FollowsSource (Some source.now) (kept_of handle.old) result (kept_of handle.new) }
+fn follow_shown(
+    alloc: Global,
+    handle: &mut Handle,
+    shown: &Surface<ChosenWidths<'static>>,
+    number: usize,
+) -> Result<(), Failure>
+    ensures { OnViewer (OrNoMemory (FollowsOne number shown.now))
+        (kept_of handle.old) result (kept_of handle.new) }
 {
     let Some(mut kept) = handle.take(alloc) else {
         return Err(Failure::NoHandle);
     };
     let outcome = match &mut *kept {
-        Kept::Viewer(follower) => follower.follow(alloc, source.shown(), source.number()),
-        Kept::Surface(_) | Kept::Client(_) => Err(Failure::WrongKind),
+        Kept::Viewer(follower) => follower.follow(alloc, shown, number),
+        Kept::Surface(_) | Kept::Client(_) | Kept::Lines(_) => Err(Failure::WrongKind),
     };
     handle.put(alloc, kept);
     outcome
+}
+
+fn follow_kept(alloc: Global, handle: &mut Handle, source: &Kept) -> Result<(), Failure>
+    ensures { FollowsSource (Some source.now) (kept_of handle.old) result (kept_of handle.new) }
+{
+    let shown = source.shown()?;
+    follow_shown(alloc, handle, shown, source.number())
 }
 
 /// The viewer shows what the source shows.

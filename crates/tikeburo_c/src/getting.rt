@@ -1,5 +1,5 @@
 //! The changes that a viewer lacks, as a list of structs.
-ghost use Rattle.std.specs.Prelude.{◌≡◌, IfOk, map};
+ghost use Rattle.std.specs.Prelude.{◌≡◌, IfOk, Some, map};
 ghost use Rattle.termwiz_surface.specs.{change_value, next_number, stream_of};
 ghost use Rattle.tikeburo_c.specs.Getting as getting;
 ghost use Rattle.tikeburo_c.specs.Getting.{GivesAll, GivesChanges, GivesList, ListPlace};
@@ -10,6 +10,7 @@ ghost use Rattle.tikeburo_c.specs.Results.{OrNoMemory, Reads};
 
 use crate::failure::{Failure, status};
 use crate::handle::Handle;
+use crate::kept::Kept;
 use crate::listing::{ChangeList, list_of};
 use crate::lists::ChangeFields;
 use crate::rows::put_front;
@@ -52,10 +53,10 @@ fn give_list(
 }
 
 // What a viewer with this number lacks, and the number that it leads to.
-fn changes_since(
-    surface: &Surface<ChosenWidths>,
+fn changes_since<'a>(
+    surface: &'a Surface<ChosenWidths>,
     since: usize,
-) -> Result<(usize, CowSlice<'_, Change>), AllocError>
+) -> Result<(usize, CowSlice<'a, Change>), AllocError>
     ensures number { IfOk result (λ answer. answer.0 ≡ next_number surface.now.log) }
     ensures changes { IfOk result (λ answer.
         stream_of answer.1 ≡ getting.changes_since surface.now since) }
@@ -96,6 +97,22 @@ fn give_changes(
     give_all(alloc, &changes, number, list, texts, counts)
 }
 
+fn give_changes_of(
+    alloc: Global,
+    kept: &Kept,
+    since: usize,
+    list: &mut [ChangeFields],
+    texts: &mut [u8],
+    counts: &mut ListCounts,
+) -> Result<(), Failure>
+    ensures { Reads {B = ListPlace} (λ s. OrNoMemory (GivesChanges since s)) (Some kept.now)
+        (list_place list.old texts.old counts.old) result
+        (list_place list.new texts.new counts.new) }
+{
+    let surface = kept.shown()?;
+    give_changes(alloc, surface, since, list, texts, counts)
+}
+
 /// The changes that a viewer lacks that was last given this number, as `tk_add_changes` takes them,
 /// or a repaint. A link has its uri alone, and a pen no link to an empty one.
 #[unsafe(no_mangle)]
@@ -115,7 +132,7 @@ pub extern "C" fn tk_get_changes(
 {
     let outcome = match handle.take(alloc) {
         Some(kept) => {
-            let outcome = give_changes(alloc, kept.shown(), since, list, texts, counts);
+            let outcome = give_changes_of(alloc, &kept, since, list, texts, counts);
             handle.put(alloc, kept);
             outcome
         }

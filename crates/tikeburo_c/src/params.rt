@@ -1,5 +1,5 @@
 //! The params of links, one by one.
-ghost use Rattle.std.specs.Prelude.{◌≡◌, option_map, slice_get};
+ghost use Rattle.std.specs.Prelude.{◌≡◌, Some, option_map, slice_get};
 ghost use Rattle.tikeburo_c.specs.Cells.{cell_in};
 ghost use Rattle.tikeburo_c.specs.Handles.{kept_of};
 ghost use Rattle.tikeburo_c.specs.Outcomes.{Reports};
@@ -11,10 +11,10 @@ ghost use Rattle.tikeburo_c.specs.Results.{Reads};
 use crate::cells::cell_at;
 use crate::failure::{Failure, status};
 use crate::handle::Handle;
+use crate::kept::Kept;
 use crate::rows::put_front;
-use crate::widths::ChosenWidths;
 use std::alloc::Global;
-use termwiz_surface::{Cell, CellAttributes, Hyperlink, Surface};
+use termwiz_surface::{Cell, CellAttributes, Hyperlink};
 
 fn param_in(link: &Hyperlink, index: usize) -> Option<(&str, &str)>
     ensures { option_map lent_param result ≡ slice_get link.now.params index }
@@ -75,6 +75,22 @@ fn give_param(
     }
 }
 
+fn give_pen_param(
+    kept: &Kept,
+    index: usize,
+    key: &mut [u8],
+    key_len: &mut usize,
+    value: &mut [u8],
+    value_len: &mut usize,
+) -> Result<(), Failure>
+    ensures { Reads {B = ParamPlace} (λ s. GivesParam (params.param_at index s.pen.hyperlink))
+        (Some kept.now) ((key.old, key_len.old), (value.old, value_len.old)) result
+        ((key.new, key_len.new), (value.new, value_len.new)) }
+{
+    let surface = kept.shown()?;
+    give_param(surface.pen(), index, key, key_len, value, value_len)
+}
+
 /// A param of the pen's link: its key and its value.
 #[unsafe(no_mangle)]
 pub extern "C" fn tk_pen_link_param(
@@ -94,8 +110,7 @@ pub extern "C" fn tk_pen_link_param(
 {
     let outcome = match handle.take(alloc) {
         Some(kept) => {
-            let pen = kept.shown().pen();
-            let outcome = give_param(pen, index, key, key_len, value, value_len);
+            let outcome = give_pen_param(&kept, index, key, key_len, value, value_len);
             handle.put(alloc, kept);
             outcome
         }
@@ -105,7 +120,7 @@ pub extern "C" fn tk_pen_link_param(
 }
 
 fn give_cell_param(
-    surface: &Surface<ChosenWidths>,
+    kept: &Kept,
     column: usize,
     row: usize,
     index: usize,
@@ -114,11 +129,12 @@ fn give_cell_param(
     value: &mut [u8],
     value_len: &mut usize,
 ) -> Result<(), Failure>
-    ensures { GivesCellParam index (cell_in column row surface.now)
-        ((key.old, key_len.old), (value.old, value_len.old)) result
+    ensures { Reads {B = ParamPlace} (λ s. GivesCellParam index (cell_in column row s))
+        (Some kept.now) ((key.old, key_len.old), (value.old, value_len.old)) result
         ((key.new, key_len.new), (value.new, value_len.new)) }
 {
     let blank = Cell::blank();
+    let surface = kept.shown()?;
     let cell = cell_at(surface, column, row, &blank)?;
     give_param(cell.attrs(), index, key, key_len, value, value_len)
 }
@@ -144,9 +160,8 @@ pub extern "C" fn tk_link_param_at(
 {
     let outcome = match handle.take(alloc) {
         Some(kept) => {
-            let surface = kept.shown();
             let outcome = give_cell_param(
-                surface, column, row, index, key, key_len, value, value_len,
+                &kept, column, row, index, key, key_len, value, value_len,
             );
             handle.put(alloc, kept);
             outcome

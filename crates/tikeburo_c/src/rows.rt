@@ -15,6 +15,7 @@ ghost use Rattle.tikeburo_c.specs.declared.failure.Failure.TheVariants.{Range};
 use crate::failure::{Failure, status};
 use crate::fields::AttributeFields;
 use crate::handle::Handle;
+use crate::kept::Kept;
 use crate::row_parts::{RowCellFields, RowCounts, count_parts, have_room, write_parts};
 use crate::shown_cells::ShownCells;
 use crate::widths::ChosenWidths;
@@ -82,7 +83,8 @@ fn give_parts(
     give_counted(needed, shown, cells, attributes, text, counts)
 }
 
-fn give_stored(
+/// Gives the visible ones of these stored cells.
+pub(crate) fn give_stored(
     stored: &[Cell],
     cells: &mut [RowCellFields],
     attributes: &mut [AttributeFields],
@@ -121,7 +123,7 @@ fn give_filled(
 }
 
 // The stored cells of the row at this index from the top, if there is one.
-fn stored_at(surface: &Surface<ChosenWidths>, row: usize) -> Result<&[Cell], Failure>
+fn stored_at<'a>(surface: &'a Surface<ChosenWidths>, row: usize) -> Result<&'a [Cell], Failure>
     ensures found { IfOk result (λ stored. slice_get surface.now.lines row ≡ Some stored.now) }
     ensures missing { IfErr result (λ failure.
         (failure ≡ Range) × (slice_get surface.now.lines row ≡ None)) }
@@ -133,17 +135,18 @@ fn stored_at(surface: &Surface<ChosenWidths>, row: usize) -> Result<&[Cell], Fai
 }
 
 fn give_cells(
-    surface: &Surface<ChosenWidths>,
+    kept: &Kept,
     row: usize,
     cells: &mut [RowCellFields],
     attributes: &mut [AttributeFields],
     text: &mut [u8],
     counts: &mut RowCounts,
 ) -> Result<(), Failure>
-    ensures { GivesCells row surface.now
+    ensures { Reads {B = RowPlace} (GivesCells row) (Some kept.now)
         (rows.row_place cells.old attributes.old text.old counts.old) result
         (rows.row_place cells.new attributes.new text.new counts.new) }
 {
+    let surface = kept.shown()?;
     let stored = stored_at(surface, row)?;
     give_stored(stored, cells, attributes, text, counts)
 }
@@ -166,6 +169,22 @@ fn give_shown(
     give_filled(stored, width, cells, attributes, text, counts)
 }
 
+fn give_shown_of(
+    kept: &Kept,
+    row: usize,
+    cells: &mut [RowCellFields],
+    attributes: &mut [AttributeFields],
+    text: &mut [u8],
+    counts: &mut RowCounts,
+) -> Result<(), Failure>
+    ensures { Reads {B = RowPlace} (GivesShown row) (Some kept.now)
+        (rows.row_place cells.old attributes.old text.old counts.old) result
+        (rows.row_place cells.new attributes.new text.new counts.new) }
+{
+    let surface = kept.shown()?;
+    give_shown(surface, row, cells, attributes, text, counts)
+}
+
 /// The visible cells of a row within its stored length, the attributes of each run of cells that
 /// have the same ones, and the texts behind one another.
 #[unsafe(no_mangle)]
@@ -186,7 +205,7 @@ pub extern "C" fn tk_row_cells(
 {
     let outcome = match handle.take(alloc) {
         Some(kept) => {
-            let outcome = give_cells(kept.shown(), row, cells, attributes, text, counts);
+            let outcome = give_cells(&kept, row, cells, attributes, text, counts);
             handle.put(alloc, kept);
             outcome
         }
@@ -215,7 +234,7 @@ pub extern "C" fn tk_shown_cells(
 {
     let outcome = match handle.take(alloc) {
         Some(kept) => {
-            let outcome = give_shown(kept.shown(), row, cells, attributes, text, counts);
+            let outcome = give_shown_of(&kept, row, cells, attributes, text, counts);
             handle.put(alloc, kept);
             outcome
         }

@@ -1,5 +1,5 @@
 //! What is set beside the rows.
-ghost use Rattle.std.specs.Prelude.{◌≡◌};
+ghost use Rattle.std.specs.Prelude.{◌≡◌, Some};
 ghost use Rattle.tikeburo_c.specs.Cells.{uri_of};
 ghost use Rattle.tikeburo_c.specs.Handles.{kept_of};
 ghost use Rattle.tikeburo_c.specs.Outcomes.{Reports};
@@ -14,8 +14,10 @@ use crate::failure::{Failure, status};
 use crate::fields::{AttributeFields, ColorFields, attribute_fields, color_fields};
 use crate::handle::Handle;
 use crate::kept::Kept;
+use crate::widths::ChosenWidths;
 use std::alloc::Global;
 use termwiz_screen::full::shape_or_default;
+use termwiz_surface::Surface;
 
 /// What is set beside the rows, and what is shown: the state of this number of this surface.
 #[repr(C)]
@@ -30,10 +32,9 @@ pub struct StateFields {
     pub pen: AttributeFields,
 }
 
-fn state_fields(kept: &Kept) -> StateFields
-    ensures { result ≡ specs_of.state_fields kept.now }
+fn state_fields(kept: &Kept, surface: &Surface<ChosenWidths>) -> StateFields
+    ensures { result ≡ specs_of.state_fields kept.now surface.now }
 {
-    let surface = kept.shown();
     let pen = surface.pen();
     StateFields {
         source: kept.source(),
@@ -46,6 +47,14 @@ fn state_fields(kept: &Kept) -> StateFields
     }
 }
 
+fn read_state(kept: &Kept, state: &mut StateFields) -> Result<(), Failure>
+    ensures { ReadsKept specs_of.state_fields (Some kept.now) state.old result state.new }
+{
+    let surface = kept.shown()?;
+    *state = state_fields(kept, surface);
+    Ok(())
+}
+
 /// What is set beside the rows: the pen, and the cursor's shape and colour.
 #[unsafe(no_mangle)]
 pub extern "C" fn tk_state(alloc: Global, handle: &mut Handle, state: &mut StateFields) -> i32
@@ -55,9 +64,9 @@ pub extern "C" fn tk_state(alloc: Global, handle: &mut Handle, state: &mut State
 {
     let outcome = match handle.take(alloc) {
         Some(kept) => {
-            *state = state_fields(&kept);
+            let outcome = read_state(&kept, state);
             handle.put(alloc, kept);
-            Ok(())
+            outcome
         }
         None => Err(Failure::NoHandle),
     };

@@ -2,8 +2,8 @@
 ghost use Rattle.std.specs.Prelude.{◌≡◌, IfErr, IfOk, IsTrue, None, ◌<◌};
 ghost use Rattle.termwiz_surface.specs.Surface.{IsSurfaceSize};
 ghost use Rattle.tikeburo_c.specs.Handles.{kept_of};
-ghost use Rattle.tikeburo_c.specs.Making.{MakesSurface, ResizesIn, TakesSize, blank_source};
-ghost use Rattle.tikeburo_c.specs.Making.{is_size, widths_for};
+ghost use Rattle.tikeburo_c.specs.Making.{MakesSurface, MakesSurfaceBy, ResizesIn, TakesSize};
+ghost use Rattle.tikeburo_c.specs.Making.{blank_source, is_size, widths_for, widths_where};
 ghost use Rattle.tikeburo_c.specs.Outcomes.{Reports};
 ghost use Rattle.tikeburo_c.specs.declared.failure.Failure.TheVariants.{Memory};
 ghost use Rattle.tikeburo_c.specs.declared.kept.Kept.TheVariants as kinds;
@@ -12,6 +12,7 @@ use crate::access::on_surface;
 use crate::failure::{Failure, status};
 use crate::handle::Handle;
 use crate::kept::Kept;
+use crate::tables::WidthRange;
 use crate::widths::ChosenWidths;
 use std::alloc::Global;
 use termwiz_share::Source;
@@ -29,13 +30,13 @@ fn blank_surface(
     alloc: Global,
     width: usize,
     height: usize,
-    widths: ChosenWidths,
+    widths: ChosenWidths<'static>,
     source: usize,
 ) -> Result<Box<Kept>, Failure>
     requires size { IsSurfaceSize width height }
     requires source { 0 < source }
     ensures made { IfOk result (λ kept.
-        kept.value ≡ kinds.Surface (blank_source widths width height source)) }
+        kept.value ≡ kinds.Surface (blank_source widths.entry width height source)) }
     ensures memory { IfErr result (λ failure. failure ≡ Memory) }
 {
     let surface = Source::new(alloc, source, width, height, widths)?;
@@ -48,16 +49,16 @@ fn make_surface(
     handle: &mut Handle,
     width: usize,
     height: usize,
-    widths: u8,
+    widths: Option<ChosenWidths<'static>>,
     source: usize,
 ) -> Result<(), Failure>
-    ensures { MakesSurface width height source (widths_for width height source widths)
+    ensures { MakesSurface width height source (widths_where width height source widths.entry)
         (kept_of handle.old) result (kept_of handle.new) }
 {
     if source == 0 || !is_size(width, height) {
         return Err(Failure::Range);
     }
-    let Some(widths) = ChosenWidths::at(widths) else {
+    let Some(widths) = widths else {
         return Err(Failure::Range);
     };
     let kept = blank_surface(alloc, width, height, widths, source)?;
@@ -79,6 +80,26 @@ pub extern "C" fn tk_surface_new(
         (widths_for width height source widths)
         (kept_of handle.old) outcome (kept_of handle.new)) }
 {
+    let widths = ChosenWidths::at(widths);
+    let outcome = make_surface(alloc, handle, width, height, widths, source);
+    status(outcome)
+}
+
+/// Makes a blank surface that measures by a table, with this number as a source. The ranges stay as
+/// they are as long as the program runs.
+#[unsafe(no_mangle)]
+pub extern "C" fn tk_surface_new_by(
+    alloc: Global,
+    handle: &mut Handle,
+    width: usize,
+    height: usize,
+    ranges: &'static [WidthRange],
+    source: usize,
+) -> i32
+    ensures { Reports result (λ outcome. MakesSurfaceBy width height source ranges.entry
+        (kept_of handle.old) outcome (kept_of handle.new)) }
+{
+    let widths = ChosenWidths::by(ranges);
     let outcome = make_surface(alloc, handle, width, height, widths, source);
     status(outcome)
 }

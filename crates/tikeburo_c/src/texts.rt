@@ -1,19 +1,20 @@
 //! Texts, as surfaces cut and measure them.
 ghost use Rattle.std.specs.Prelude.{◌≡◌};
 ghost use Rattle.tikeburo_c.specs.Outcomes.{Reports};
-ghost use Rattle.tikeburo_c.specs.Texts.{MeasuresText, ReadsText, first_length};
+ghost use Rattle.tikeburo_c.specs.Texts.{MeasuresText, MeasuresTextBy, ReadsText, first_length};
 ghost use Rattle.tikeburo_c.specs.Widths.{widths_at};
 
 use crate::failure::{Failure, status};
 use crate::lists::text_in;
+use crate::tables::WidthRange;
 use crate::widths::ChosenWidths;
 use termwiz_surface::emoji::unicode_column_width;
 use termwiz_text::split_first_grapheme;
 
-fn measure(text: &[u8], widths: u8, columns: &mut usize) -> Result<(), Failure>
-    ensures { MeasuresText (widths_at widths) text.now columns.old result columns.new }
+fn measure(text: &[u8], widths: Option<ChosenWidths>, columns: &mut usize) -> Result<(), Failure>
+    ensures { MeasuresText widths.entry text.now columns.old result columns.new }
 {
-    let Some(widths) = ChosenWidths::at(widths) else {
+    let Some(widths) = widths else {
         return Err(Failure::Range);
     };
     let text = text_in(text)?;
@@ -27,6 +28,18 @@ pub extern "C" fn tk_text_width(text: &[u8], widths: u8, columns: &mut usize) ->
     ensures { Reports result (λ outcome.
         MeasuresText (widths_at widths) text.now columns.old outcome columns.new) }
 {
+    let widths = ChosenWidths::at(widths);
+    let outcome = measure(text, widths, columns);
+    status(outcome)
+}
+
+/// The columns of a text by a table of widths.
+#[unsafe(no_mangle)]
+pub extern "C" fn tk_text_width_by(text: &[u8], ranges: &[WidthRange], columns: &mut usize) -> i32
+    ensures { Reports result (λ outcome.
+        MeasuresTextBy ranges.entry text.now columns.old outcome columns.new) }
+{
+    let widths = ChosenWidths::by(ranges);
     let outcome = measure(text, widths, columns);
     status(outcome)
 }

@@ -14,9 +14,9 @@ use types.Run.{stop, fld, of_opd, no_more, and_then, returns, enter}
 use types.ByLocal.{alloc_all, pass_all, free_all, look_at, get, get_in, sets, lands_as}
 use types.Part.{agg, sub, whole}
 use contract.Monad.{fact, fact_i}
-use contract.BorrowLft.{◌⊑◌, ⊑_static}
+use contract.BorrowLft.{◌⊑◌, ⊑_static, ⊑_refl}
 use contract.Running.{tables, within}
-use denote.Exit.{no, yes}
+use denote.Exit.{no}
 use denote.RattleType.{RattleType, owns, Valss}
 use denote.Signature.{types_at, plain}
 use denote.RawPtr.{Ptr, block_ptr, null_ptr, ptr_val, in_a_block}
@@ -28,6 +28,7 @@ use denote.Param.Laws.{Laws, arg_laws}
 use denote.Param.NoDrop as no_drop
 use denote.Triple.Clauses.{Lasts, lasts, at_exit, Ended}
 use denote.Triple.Spec.{triple_of}
+use denote.Triple.Table.{widened}
 use denote.Triple.Call.{calls_at}
 use denote.Triple.Walked.{Stays, stay_dropped, walk_of, Goes-dropped, Fit}
 use Rattle.core.proofs.alloc.Calls.{handle_tells}
@@ -53,7 +54,7 @@ use Rattle.tikeburo_c.proofs.tikeburo_c++kept++Kept+Destruct.drop.Symbol as glue
 use denote.Struct.Struct.{within as ins}
 use denote.Struct.Owning.{shape, fields, to}
 use borrow.Fn.Glue.{glue_by, glue_ps}
-use borrow.Fn.Impl.{via_longer, method_Known}
+use borrow.Fn.Impl.{via_longer}
 use borrow.Fn.Kinds.{ended_of, stays, r_unit}
 use borrow.Fn.Run.{Over}
 use denote.Triple.Carry.{AllWithin}
@@ -88,28 +89,28 @@ abbrev Boxed : RattleType
 Boxed = boxed.the_row kept.the_row heap.the_row ghosts
 
 abbrev gone : Ended
-gone = ended_of 0 glue_kinds.ps glue_kinds.r
+gone = ended_of 1 glue_kinds.ps glue_kinds.r
 
 pub of_spec : {M : Type 1} → statement M
 unfolding Rattle.tikeburo_c.proofs.Destruct++none.drop.Code.code
 of_spec {M} 𝓤 𝓛 𝓜 𝓡 w =
     let 𝓡' = within 𝓤 𝓛.H 𝓜 𝓡 𝓡.env in
     let glued = glue_by X X-laws (record { M = M; 𝓤 = 𝓤; 𝓛 = 𝓛; 𝓜 = 𝓜; 𝓡 = 𝓡 }) glue-of 𝓡.env
-    (λ κs a. Lasts gone tt a) (λ κs a. lasts gone tt a) (λ κs a x ws. Fit gone (stays glue_kinds.ps) tt a ws × glue_reads.Learnt tt a x (at_exit gone tt a ws))
-    (λ κs a. AllWithin 1 (κs.0, tt) (X.lives, tt) × Unit {0}) 0 tt (λ κs a h. ((h, tt), tt))
+    (λ κs a. Lasts gone ([], tt) a) (λ κs a. lasts gone ([], tt) a) (λ κs a x ws. Fit gone (stays glue_kinds.ps) ([], tt) a ws × glue_reads.Learnt ([], tt) a x (at_exit gone ([], tt) a ws))
+    (λ κs a. AllWithin 1 (κs.0, tt) (X.lives, tt) × Unit {0}) 1 ((0, tt), tt) (λ κs a h. ((h, tt), tt))
     (via_longer 𝓛 (Over 𝓛 𝓜 𝓡 𝓡.env) 1 (glue_ps X X-laws) r_unit
-    (λ κs a. Lasts gone tt a) (λ κs a. lasts gone tt a) (λ κs a x ws. Fit gone (stays glue_kinds.ps) tt a ws × glue_reads.Learnt tt a x (at_exit gone tt a ws))
-    (λ κs a. AllWithin 1 (κs.0, tt) (X.lives, tt) × Unit {0}) (method glue-of 0 no_args) 0 tt (λ κs. tt) (λ κs a. glue_reads.Asked tt a) (λ κs a p. (tt, tt))
-    (λ κs bd within a vss qs. method_Known 0 glue_kinds.ps glue_kinds.r glue_reads.requires glue_reads.ensures glue_reads.Asked glue_reads.Learnt glue_reads.known
-    (record { M = M; 𝓤 = 𝓤; 𝓛 = 𝓛; 𝓜 = 𝓜; 𝓡 = 𝓡 }) glue_symbol.name (method glue-of 0 no_args)
+    (λ κs a. Lasts gone ([], tt) a) (λ κs a. lasts gone ([], tt) a) (λ κs a x ws. Fit gone (stays glue_kinds.ps) ([], tt) a ws × glue_reads.Learnt ([], tt) a x (at_exit gone ([], tt) a ws))
+    (λ κs a. AllWithin 1 (κs.0, tt) (X.lives, tt) × Unit {0}) (method glue-of 0 no_args) 1 ((0, tt), tt) (λ κs. ([], tt)) (λ κs a. glue_reads.Asked ([], tt) a) (λ κs a p. ((⊑_static κs.0, tt), tt))
+    (λ κs bd within a vss qs. glue_reads.known (record { M = M; 𝓤 = 𝓤; 𝓛 = 𝓛; 𝓜 = 𝓜; 𝓡 = 𝓡 }) 𝓡.env (method glue-of 0 no_args) (𝓡.env (method glue-of 0 no_args)) refl
+    (widened 𝓤 𝓛.H _ 𝓜 𝓡 𝓡.env (𝓡.env glue_symbol.name) (𝓡.env (method glue-of 0 no_args))
     (glue_symbol.as_method 𝓡.env (code.calls-tikeburo_c::tikeburo_c++kept++Kept+Destruct::drop 𝓡.env w) (method glue-of 0 no_args) refl)
-    (glue_met.met 𝓤 𝓛 𝓜 𝓡 (code.calls-tikeburo_c::tikeburo_c++kept++Kept+Destruct::drop 𝓡.env w)) ((tt, qs, tt, a, vss), tt))) in
+    (glue_met.met 𝓤 𝓛 𝓜 𝓡 (code.calls-tikeburo_c::tikeburo_c++kept++Kept+Destruct::drop 𝓡.env w))) ((([], tt), qs, (⊑_refl [], tt), a, vss), tt))) in
     let known = met 𝓤 𝓛 𝓜 𝓡' (code.calls-std::boxed::Box::into_raw_with_allocator 𝓡.env w) X A X-laws A-laws ghosts dict drops glue-of
     (heap_met.passed 𝓡.env (code.calls-std_heap::GlobalAllocator::allocate 𝓡.env w) (code.calls-std_heap::GlobalAllocator::deallocate 𝓡.env w) (code.calls-std_heap::GlobalAllocator::grow 𝓡.env w) (code.calls-std_heap::GlobalAllocator::shrink 𝓡.env w) M 𝓤 𝓛 𝓜 𝓡)
     (no_drop.glues "tikeburo_c::Destruct++none::drop" 𝓡.env (code.calls-tikeburo_c::Destruct++none::drop 𝓡.env w) A A-laws M 𝓤 𝓛 𝓜 𝓡) glued in
     let H = 𝓛.H in let 𝓣 = tables 𝓤 H 𝓜 𝓡 𝓡.env in let c = clauses 𝓛 𝓜.mem 𝓡.returns in let fn = code.function in
-    let hs : Stays ended.signature.params ended.kept = (stay_dropped (plain (λ _. Boxed)) yes, tt) in
-    proved_at 𝓛 ended hs c 𝓜 𝓡 (Goes-dropped 𝓛 0 (plain (λ _. Boxed)) yes (λ κs x f. refl), tt) #self fn (code.unfolded 𝓤 H 𝓜 𝓡 w) (λ z are.
+    let hs : Stays ended.signature.params ended.kept = (stay_dropped (plain (λ _. Boxed)) no, tt) in
+    proved_at 𝓛 ended hs c 𝓜 𝓡 (Goes-dropped 𝓛 0 (plain (λ _. Boxed)) no (λ κs x f. refl), tt) #self fn (code.unfolded 𝓤 H 𝓜 𝓡 w) (λ z are.
     let κs = z.0.0 in let v = z.0.3.0 in let a = v.alloc in let Post : Val → SProp 𝓤 = (walk_of 𝓛 ended hs c).post z in let Run : List Val → SProp 𝓤 = λ ws. WpFn 𝓤 H 𝓣.C 𝓣.Λ fn ws Post in
     qed 𝓛 ((‵ ftrue ⊛ ‵ (owns (types_at ended.signature.params κs) z.0.3 z.0.4)) ∷ raw ((c κs z.0.3).requires z.1) ∷ []) ∵ split ! $ move ! (1 ∷ []) $ fsplit ! $
     box_out E ! v z.0.4.0 (λ b o h e ws fits. box_in E ! v b o v.value e refl $

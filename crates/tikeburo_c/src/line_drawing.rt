@@ -1,0 +1,113 @@
+//! Lines drawn on rows of surfaces.
+ghost use Rattle.std.specs.Prelude.{◌≡◌, IfOk, Some, map};
+ghost use Rattle.termwiz_cell.specs.ChangeValue.{change_value};
+ghost use Rattle.termwiz_screen.specs.Diff.{restoring};
+ghost use Rattle.tikeburo_c.specs.Handles.{kept_of};
+ghost use Rattle.tikeburo_c.specs.LineDrawing.{DrawsFrom, DrawsLine, DrawsOne, IsDrawing};
+ghost use Rattle.tikeburo_c.specs.Outcomes.{Reports};
+
+use crate::access::on_surface;
+use crate::changes::add_list;
+use crate::failure::{Failure, status};
+use crate::handle::Handle;
+use crate::kept::Kept;
+use crate::line_list::LineList;
+use crate::widths::ChosenWidths;
+use std::alloc::{AllocError, Global};
+use termwiz_share::Source;
+use termwiz_surface::{CellAttributes, Change, Line, Position, Surface};
+
+// The changes, followed, where there are any, by a move and a pen that restore the cursor and the
+// pen.
+fn restored(
+    mut changes: Vec<Change>,
+    cursor: (usize, usize),
+    pen: &CellAttributes,
+) -> Result<Vec<Change>, AllocError>
+    ensures { IfOk result (λ l. map change_value l.items
+        ≡ restoring cursor.0 cursor.1 pen.now (map change_value changes.items)) }
+{
+    if changes.is_empty() {
+        return Ok(changes);
+    }
+    changes.push(Change::CursorPosition {
+        x: Position::Absolute(cursor.0),
+        y: Position::Absolute(cursor.1),
+    })?;
+    changes.push(Change::AllAttributes(pen.clone()?))?;
+    Ok(changes)
+}
+
+// The changes that draw a line on a row.
+fn line_drawing(
+    surface: &Surface<ChosenWidths>,
+    row: usize,
+    line: &Line,
+) -> Result<Vec<Change>, AllocError>
+    ensures { IfOk result (λ l.
+        IsDrawing surface.now row line.now.cells (map change_value l.items)) }
+{
+    // Every surface is valid.
+    let _size = surface.dimensions();
+    let printed = surface.diff_against_numbered_line(row, line)?;
+    restored(printed, surface.cursor_position(), surface.pen())
+}
+
+fn draw_line(surface: &mut Source<ChosenWidths>, row: usize, line: &Line) -> Result<(), Failure>
+    ensures { DrawsLine row line.now.cells surface.old result surface.new }
+{
+    let changes = line_drawing(surface.surface(), row, line)?;
+    add_list(surface, changes)
+}
+
+fn draw_line_at(
+    surface: &mut Source<ChosenWidths>,
+    row: usize,
+    list: &LineList,
+    index: usize,
+) -> Result<(), Failure>
+    ensures { DrawsOne row index list.now surface.old result surface.new }
+{
+    let line = list.line_at(index)?;
+    draw_line(surface, row, line)
+}
+
+fn draw_kept(
+    alloc: Global,
+    handle: &mut Handle,
+    row: usize,
+    lines: &Kept,
+    index: usize,
+) -> Result<(), Failure>
+    ensures { DrawsFrom (Some lines.now) row index
+        (kept_of handle.old) result (kept_of handle.new) }
+{
+    let list = lines.lines()?;
+    on_surface(alloc, handle, |surface| {
+        draw_line_at(surface, row, list, index)
+    })
+}
+
+/// Draws a line on a row of a surface.
+#[unsafe(no_mangle)]
+pub extern "C" fn tk_draw_line_distinct(
+    alloc: Global,
+    handle: &mut Handle,
+    row: usize,
+    lines: &mut Handle,
+    index: usize,
+) -> i32
+    ensures draws { Reports result (λ outcome. DrawsFrom (kept_of lines.old) row index
+        (kept_of handle.old) outcome (kept_of handle.new)) }
+    ensures lines { kept_of lines.new ≡ kept_of lines.old }
+{
+    let outcome = match lines.take(alloc) {
+        Some(kept) => {
+            let outcome = draw_kept(alloc, handle, row, &kept, index);
+            lines.put(alloc, kept);
+            outcome
+        }
+        None => Err(Failure::NoHandle),
+    };
+    status(outcome)
+}

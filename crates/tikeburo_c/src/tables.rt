@@ -1,0 +1,19 @@
+//! Tables of widths, as C has them.
+ghost use Rattle.std.specs.Prelude.{◌≡◌, true};
+ghost use Rattle.tikeburo_c.specs.WidthRanges.{is_table};
+
+/// The characters from the first to the last, each of so many columns.
+#[repr(C)]
+#[derive(Clone, Copy)]
+pub struct WidthRange {
+    pub first: u32,
+    pub last: u32,
+    pub columns: u8,
+}
+
+/// Ranges of the caller's that rise, of columns that a terminal gives.
+#[derive(Clone, Copy)]
+pub struct WidthTable<'t> {
+    pub(crate) ranges: &'t [WidthRange],
+    ghost rises: { is_table ranges.now ≡ true },
+}

@@ -19,6 +19,9 @@ static inline void check(bool holds, const char *what, int line) {
 
 #define CHECK(what) check(what, #what, __LINE__)
 
+/* How many elements an array has. */
+#define COUNT(array) (sizeof(array) / sizeof *(array))
+
 /* A surface with a number of its own. */
 static inline tk_handle made(size_t width, size_t height) {
     static size_t source = 0;
@@ -63,6 +66,19 @@ static inline tk_status feed(tk_handle *client, const bytes *answer) {
 
 static inline tk_status print(tk_handle *surface, const char *text) {
     return tk_print(surface, text, strlen(text));
+}
+
+/* A row, or a line of a list, as one call reads it. */
+typedef struct row {
+    tk_row_cell cells[16];
+    tk_attributes attributes[16];
+    char text[64];
+    tk_row_counts counts;
+} row;
+
+static inline tk_status read_row(tk_handle *handle, size_t number, row *read) {
+    return tk_row_cells(handle, number, read->cells, COUNT(read->cells), read->attributes,
+                        COUNT(read->attributes), read->text, sizeof read->text, &read->counts);
 }
 
 /* Whether a text that a call gave is this one. */

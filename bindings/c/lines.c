@@ -11,22 +11,7 @@
 #include <stdio.h>
 #include <string.h>
 
-#define COUNT(list) (sizeof(list) / sizeof *(list))
-
-/* A row or a line as one call reads it. */
-typedef struct line {
-    tk_row_cell cells[16];
-    tk_attributes attributes[16];
-    char text[64];
-    tk_row_counts counts;
-} line;
-
-static tk_status read_row(tk_handle *handle, size_t row, line *read) {
-    return tk_row_cells(handle, row, read->cells, COUNT(read->cells), read->attributes,
-                        COUNT(read->attributes), read->text, sizeof read->text, &read->counts);
-}
-
-static tk_status read_line(tk_handle *lines, size_t index, line *read) {
+static tk_status read_line(tk_handle *lines, size_t index, row *read) {
     return tk_line_cells(lines, index, read->cells, COUNT(read->cells), read->attributes,
                          COUNT(read->attributes), read->text, sizeof read->text, &read->counts);
 }
@@ -43,18 +28,18 @@ static bool count_is(tk_handle *lines, size_t wanted) {
 }
 
 static bool line_is(tk_handle *lines, size_t index, const char *wanted) {
-    line read;
+    row read;
     tk_status status = read_line(lines, index, &read);
     return is(status, read.text, status == TK_DONE ? trim(read.text, read.counts.text) : 0, wanted);
 }
 
 /* The line has the row's very cells, pens and texts. */
-static bool line_is_row(tk_handle *lines, size_t index, tk_handle *surface, size_t row) {
-    line one, other;
+static bool line_is_row(tk_handle *lines, size_t index, tk_handle *surface, size_t number) {
+    row one, other;
     memset(&one, 0, sizeof one);
     memset(&other, 0, sizeof other);
     tk_status status = read_line(lines, index, &one);
-    return status == TK_DONE && read_row(surface, row, &other) == TK_DONE &&
+    return status == TK_DONE && read_row(surface, number, &other) == TK_DONE &&
            memcmp(&one, &other, sizeof one) == 0;
 }
 
@@ -117,12 +102,12 @@ static void test_short_lines(void) {
     tk_handle surface = made_rows(), lines = made_lines();
     CHECK(tk_lines_push_row(&lines, &surface, 0) == TK_DONE);
     for (int compressed = 0; compressed < 2; compressed++) {
-        line read;
+        row read;
         CHECK(read_line(&lines, 0, &read) == TK_DONE);
         tk_row_counts needed = read.counts;
         for (int which = 0; which < 3; which++) {
             size_t rooms[] = {needed.cells, needed.attributes, needed.text};
-            line kept;
+            row kept;
             memset(&read, 0xee, sizeof read);
             memcpy(&kept, &read, sizeof kept);
             rooms[which]--;
@@ -177,7 +162,7 @@ static void test_removed(void) {
 
 /* The attributes of a line's last cell. */
 static tk_attributes last_of(tk_handle *lines, size_t index) {
-    line read;
+    row read;
     CHECK(read_line(lines, index, &read) == TK_DONE && read.counts.cells > 0);
     return read.attributes[read.cells[read.counts.cells - 1].run];
 }
@@ -242,7 +227,7 @@ static void test_kinds(void) {
     tk_settings settings;
     tk_list_counts counts;
     tk_change change;
-    line read;
+    row read;
     char text[8];
     uint8_t ask[20];
     size_t number = 77, other = 77, len = 77;

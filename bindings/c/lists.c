@@ -6,8 +6,6 @@
 #include <stdio.h>
 #include <string.h>
 
-#define COUNT(list) (sizeof(list) / sizeof *(list))
-
 /* Makes these changes, whose texts are this one. */
 static tk_status make(tk_handle *surface, const tk_change *list, size_t count, const char *texts) {
     return tk_add_changes(surface, list, count, texts, strlen(texts));

@@ -6,8 +6,6 @@
 #include <stdio.h>
 #include <string.h>
 
-#define COUNT(list) (sizeof(list) / sizeof *(list))
-
 /* A list of changes that was read. */
 typedef struct changes {
     tk_change list[64];

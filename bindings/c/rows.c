@@ -6,22 +6,7 @@
 #include <stdio.h>
 #include <string.h>
 
-#define COUNT(list) (sizeof(list) / sizeof *(list))
-
-/* A row as one call reads it. */
-typedef struct row {
-    tk_row_cell cells[16];
-    tk_attributes attributes[16];
-    char text[64];
-    tk_row_counts counts;
-} row;
-
-static tk_status read_row(tk_handle *handle, size_t number, row *read) {
-    return tk_row_cells(handle, number, read->cells, COUNT(read->cells), read->attributes,
-                        COUNT(read->attributes), read->text, sizeof read->text, &read->counts);
-}
-
-/* The same with the blanks that stand behind the stored cells. */
+/* Reads a row with the blanks that stand behind its stored cells. */
 static tk_status read_shown(tk_handle *handle, size_t number, row *read) {
     return tk_shown_cells(handle, number, read->cells, COUNT(read->cells), read->attributes,
                           COUNT(read->attributes), read->text, sizeof read->text, &read->counts);

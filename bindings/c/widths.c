@@ -10,8 +10,6 @@
 #include <string.h>
 #include <wchar.h>
 
-#define COUNT(table) (sizeof(table) / sizeof(table)[0])
-
 static const tk_width_range RANGES[] = {
     {'a', 'z', 1}, {0x300, 0x36f, 0}, {0x2026, 0x2026, 2}, {0x1f1e6, 0x1f1ff, 1}};
 

@@ -9,6 +9,7 @@ use crate::scene::{
 use crate::stop::{Stop, holds, made, refused};
 use std::alloc::Global;
 use termwiz_cell::change::{Change, SequenceNo};
+use termwiz_surface::Line;
 use termwiz_surface::surface::{LentChange, SurfaceError};
 
 /// A call on a surface or its viewer.
@@ -18,6 +19,8 @@ enum Turn {
     PrintUnlogged,
     Follow,
     Scroll,
+    KeepLogged,
+    KeepUnlogged,
     Draw,
     DrawRegion,
     Copy,
@@ -28,11 +31,13 @@ enum Turn {
 }
 
 // One behind another.
-const TURNS: [Turn; 12] = [
+const TURNS: [Turn; 14] = [
     Turn::Print,
     Turn::Follow,
     Turn::PrintUnlogged,
     Turn::Scroll,
+    Turn::KeepLogged,
+    Turn::KeepUnlogged,
     Turn::Draw,
     Turn::DrawRegion,
     Turn::Copy,
@@ -80,6 +85,8 @@ fn take(alloc: Global, scene: &mut Scene, turn: Turn) -> Result<(), Stop> {
         Turn::Print => added("add_changes of texts", texts(alloc, scene.kind)?, scene),
         Turn::PrintUnlogged => added_unlogged(scene),
         Turn::Scroll => added("add_changes of a scroll", scroll(alloc)?, scene),
+        Turn::KeepLogged => kept_logged(alloc, scene),
+        Turn::KeepUnlogged => kept_unlogged(alloc, scene),
         Turn::Follow => followed(scene),
         Turn::Draw => drawn(sprite(alloc)?, scene),
         Turn::DrawRegion => region_drawn(scene),
@@ -116,6 +123,40 @@ fn added_unlogged(scene: &mut Scene) -> Result<(), Stop> {
         LentChange::Title("a title"),
     ]);
     added_to("add_unlogged", answer, before, scene)
+}
+
+// Two lines, where lines that scroll off are kept behind them.
+fn old_lines(alloc: Global) -> Result<Vec<Line>, Stop> {
+    let mut lines = Vec::new(alloc);
+    lines.push(Line::with_width(alloc, 5, 1)?)?;
+    lines.push(Line::with_width(alloc, 6, 1)?)?;
+    Ok(lines)
+}
+
+fn keeps_old(lines: &[Line]) -> bool {
+    match lines {
+        [first, second, ..] => first.len() == 5 && second.len() == 6,
+        _ => false,
+    }
+}
+
+fn kept_logged(alloc: Global, scene: &mut Scene) -> Result<(), Stop> {
+    let mut lines = old_lines(alloc)?;
+    let mut changes = texts(alloc, scene.kind)?;
+    changes.append(&mut scroll(alloc)?)?;
+    let before = frame_of(&scene.surface);
+    let answer = scene.surface.add_changes_scrolling(changes, &mut lines);
+    holds("add_changes_scrolling", keeps_old(&lines))?;
+    added_to("add_changes_scrolling", answer, before, scene)
+}
+
+fn kept_unlogged(alloc: Global, scene: &mut Scene) -> Result<(), Stop> {
+    let mut lines = old_lines(alloc)?;
+    let before = frame_of(&scene.surface);
+    let text = LentChange::Text("w00t\r\nかfoo\r\nbar");
+    let answer = scene.surface.add_unlogged_scrolling(&[text], &mut lines);
+    holds("add_unlogged_scrolling", keeps_old(&lines))?;
+    added_to("add_unlogged_scrolling", answer, before, scene)
 }
 
 // After a refusal the surface stands as after a list.

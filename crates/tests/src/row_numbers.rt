@@ -61,6 +61,10 @@ fn assert_changed(
 ) {
     for row in 0..HEIGHT {
         assert_eq!(rt; canvas.surface().row_changed_since(row, since), rows[row]);
+        assert_eq!(rt;
+            since == 0 || canvas.surface().row_seqno(row) > since,
+            rows[row]
+        );
     }
     assert!(rt; !canvas.surface().row_changed_since(HEIGHT, since));
 }

@@ -4,8 +4,10 @@ use std::alloc::Global;
 use std::process::Abort;
 use termwiz_cell::change::Change;
 use termwiz_cell::emoji::UnicodeWidths;
+use termwiz_share::Source;
 use termwiz_surface::Line;
 use termwiz_surface::surface::{LentChange, Surface};
+use uses::scrollback::print_and_keep;
 
 // What is printed on a 4x2 in turn, the lines that scroll off, and the rows that are left.
 const TEXTS: [([&str; 2], &[&str], &str); 6] = [
@@ -27,10 +29,6 @@ const SCROLLS: [((usize, usize, usize), &[&str]); 4] = [
     ((0, 0, 1), &[]),
 ];
 
-fn blank(rt: &impl Abort, alloc: Global, height: usize) -> Surface<UnicodeWidths> {
-    Surface::with_size(alloc, 4, height, UnicodeWidths).expect(rt, "a surface")
-}
-
 fn assert_lines(rt: &impl Abort, lines: &[Line], texts: &[&str]) {
     assert_eq!(rt; lines.len(), texts.len());
     for i in 0..lines.len() {
@@ -49,23 +47,22 @@ fn texts_scroll_lines_off(rt: HostRuntime) {
     let alloc = rt.alloc();
     let texts = TEXTS;
     for (printed, left, rows) in &texts[..] {
-        let (mut logged, mut unlogged) = (blank(&rt, alloc, 2), blank(&rt, alloc, 2));
+        let mut source = Source::new(alloc, 1, 4, 2, UnicodeWidths).expect(&rt, "a source");
+        let mut surface = Surface::new(alloc, 4, 2, UnicodeWidths).expect(&rt, "a surface");
         let (mut lines, mut others) = (Vec::new(alloc), Vec::new(alloc));
         for text in printed {
             let mut changes = Vec::new(alloc);
             let step = Step::Print(*text).change(&rt, alloc);
             changes.push(step).expect(&rt, "a list");
-            logged
+            source
                 .add_changes_scrolling(changes, &mut lines)
                 .expect(&rt, "a text");
-            unlogged
-                .add_unlogged_scrolling(&[LentChange::Text(*text)], &mut others)
-                .expect(&rt, "a text");
+            print_and_keep(&mut surface, *text, &mut others).expect(&rt, "a text");
         }
         assert_lines(&rt, &lines, left);
         assert_lines(&rt, &others, left);
-        assert_rows(&rt, &logged, rows);
-        assert_rows(&rt, &unlogged, rows);
+        assert_rows(&rt, source.surface(), rows);
+        assert_rows(&rt, &surface, rows);
     }
 }
 
@@ -75,14 +72,14 @@ fn scrolls_of_a_region_from_row_0_on_scroll_lines_off(rt: HostRuntime) {
     let scrolls = SCROLLS;
     for (region, left) in &scrolls[..] {
         let (first_row, region_size, scroll_count) = *region;
-        let mut surface = blank(&rt, alloc, 3);
+        let mut source = Source::new(alloc, 1, 4, 3, UnicodeWidths).expect(&rt, "a source");
         let mut lines = Vec::new(alloc);
         let scroll = LentChange::Owned(Change::ScrollRegionUp {
             first_row,
             region_size,
             scroll_count,
         });
-        surface
+        source
             .add_unlogged_scrolling(&[LentChange::Text("a\r\nb\r\nc"), scroll], &mut lines)
             .expect(&rt, "a scroll");
         assert_lines(&rt, &lines, left);

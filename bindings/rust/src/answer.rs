@@ -4,11 +4,11 @@ use crate::change::SequenceNo;
 use crate::error::Error;
 use crate::ffi::{self, tk_head};
 
-/// What an answer of [`Surface::respond`](crate::Surface::respond) says before its changes: whose it
-/// is, from what state of the screen it leads to what state, and how large the screen is.
+/// What an answer of [`Surface::respond`](crate::Surface::respond) says before its changes: whose
+/// it is, from what state of the screen it leads to what state, and how large the screen is.
 ///
-/// A server that passes answers on needs no more: an answer takes on each client that shows `source`
-/// at `base`, and a repaint any client.
+/// A server that passes answers on needs no more: an answer takes on each client that shows
+/// `source` at `base`, and a repaint any client.
 ///
 /// ```
 /// use tikeburo::{AnswerHead, Client, Error, Surface};

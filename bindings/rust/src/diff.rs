@@ -47,11 +47,11 @@ impl Screen {
         Ok(changes)
     }
 
-    /// As [`Screen::diff_screens`], of the region of this screen from column `x` and row `y` on, and
-    /// of the region of another one, or of this one too, from `other_x` and `other_y` on. Both have
-    /// `width` columns and `height` rows, and are cut to what fits in both screens. Where one begins
-    /// outside, there are no changes. A wide grapheme that crosses an edge of its region is printed
-    /// whole.
+    /// As [`Screen::diff_screens`], of the region of this screen from column `x` and row `y` on,
+    /// and of the region of another one, or of this one too, from `other_x` and `other_y` on. Both
+    /// have `width` columns and `height` rows, and are cut to what fits in both screens. Where one
+    /// begins outside, there are no changes. A wide grapheme that crosses an edge of its region is
+    /// printed whole.
     ///
     /// # Errors
     ///

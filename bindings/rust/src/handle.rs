@@ -87,8 +87,8 @@ pub(crate) fn text(write: impl FnMut(*mut u8, usize, *mut usize) -> i32) -> Resu
 }
 
 /// The params of a link, each of which this call writes by its index, its key and its value as
-/// `text` has one, until it has no more. The call is passed the index, and for the two a buffer, its
-/// room, and where it writes their length.
+/// `text` has one, until it has no more. The call is passed the index, and for the two a buffer,
+/// its room, and where it writes their length.
 pub(crate) fn params(
     mut write: impl FnMut(usize, *mut u8, usize, *mut usize, *mut u8, usize, *mut usize) -> i32,
 ) -> Result<Vec<(String, String)>, Error> {

@@ -255,7 +255,8 @@ impl Parser {
 }
 
 /// How many bytes stand before the first control character: eight at once, of which the high bits
-/// say whether they are below 32 or 127. What is carried over changes bytes behind such a one alone.
+/// say whether they are below 32 or 127. What is carried over changes bytes behind such a one
+/// alone.
 fn text_length(bytes: &[u8]) -> usize {
     let each = |byte: u8| u64::from_ne_bytes([byte; 8]);
     let mut length = 0;

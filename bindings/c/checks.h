@@ -102,7 +102,7 @@ static inline size_t trim(char *text, size_t len) {
 static inline bool row_is(tk_handle *handle, size_t row, const char *wanted) {
     char text[256];
     size_t len = 0;
-    tk_status status = tk_row_text(handle, row, text, sizeof text, &len);
+    tk_status status = tk_row_text(handle, row, false, text, sizeof text, &len);
     return is(status, text, trim(text, len), wanted);
 }
 

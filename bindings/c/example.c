@@ -82,10 +82,10 @@ static tk_status print_rows(tk_handle *client, buffer *text) {
     size_t width, height;
     TRY(tk_size(client, &width, &height));
     for (size_t row = 0; row < height; row++) {
-        tk_status status = tk_row_text(client, row, text->at, text->room, &text->len);
+        tk_status status = tk_row_text(client, row, false, text->at, text->room, &text->len);
         if (status == TK_SHORT) {
             TRY(grow(text, text->len));
-            status = tk_row_text(client, row, text->at, text->room, &text->len);
+            status = tk_row_text(client, row, false, text->at, text->room, &text->len);
         }
         TRY(status);
         printf("|%.*s|\n", (int)text->len, (const char *)text->at);

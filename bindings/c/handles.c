@@ -14,6 +14,12 @@ static tk_status view(tk_handle *handle) { return tk_viewer_new(handle, handle);
 static tk_status follow(tk_handle *handle) { return tk_follow(handle, handle); }
 static tk_status push(tk_handle *handle) { return tk_lines_push_row(handle, handle, 0); }
 static tk_status draw_line(tk_handle *handle) { return tk_draw_line(handle, 0, handle, 0); }
+static tk_status add(tk_handle *handle) {
+    return tk_add_changes_scrolling(handle, NULL, 0, NULL, 0, handle);
+}
+static tk_status add_unlogged(tk_handle *handle) {
+    return tk_add_unlogged_scrolling(handle, NULL, 0, NULL, 0, handle);
+}
 static tk_status diff_screens(tk_handle *handle) {
     return tk_diff_screens(handle, handle, &change, 1, &text, 1, &counts);
 }
@@ -30,6 +36,8 @@ static const struct {
              {"tk_follow", follow},
              {"tk_lines_push_row", push},
              {"tk_draw_line", draw_line},
+             {"tk_add_changes_scrolling", add},
+             {"tk_add_unlogged_scrolling", add_unlogged},
              {"tk_diff_screens", diff_screens},
              {"tk_diff_region", diff_region}};
 

@@ -192,7 +192,7 @@ static tk_attributes random_attributes(void) {
 }
 
 /* A list of structs, each of some kind and with any numbers, and any bytes as their texts. */
-static tk_status add_random_structs(tk_handle *surface) {
+static tk_status add_random_structs(tk_handle *surface, tk_handle *lines) {
     tk_change list[4];
     uint8_t texts[16];
     size_t count = below(5), len = fill(texts, sizeof texts), left = len;
@@ -206,9 +206,28 @@ static tk_status add_random_structs(tk_handle *surface) {
     }
     memset(texts, 'a', below(2) * sizeof texts);
     len -= left * below(2);
-    if (below(4) == 0)
+    switch (below(6)) {
+    case 0:
         return tk_add_unlogged(surface, list, count, (const char *)texts, len);
-    return tk_add_changes(surface, list, count, (const char *)texts, len);
+    case 1:
+        return tk_add_unlogged_scrolling(surface, list, count, (const char *)texts, len, lines);
+    case 2:
+        return tk_add_changes_scrolling(surface, list, count, (const char *)texts, len, lines);
+    default:
+        return tk_add_changes(surface, list, count, (const char *)texts, len);
+    }
+}
+
+/* A list of changes is made or refused, and adds no line where it is refused. */
+static void random_structs(tk_handle *surface, tk_handle *lines) {
+    size_t before = 0, after = 0;
+    EXPECT(tk_lines_count(lines, &before) == TK_DONE);
+    tk_status status = add_random_structs(surface, lines);
+    EXPECT(is_answered(status) || status == TK_RANGE);
+    EXPECT(tk_lines_count(lines, &after) == TK_DONE);
+    EXPECT(status == TK_DONE ? after >= before : after == before);
+    if (after > 64)
+        EXPECT(tk_lines_remove(lines, 0, after) == TK_DONE);
 }
 
 /* Bytes of any kind are a text, which is cut and measured, or refused. */
@@ -228,6 +247,8 @@ static void cut_random_bytes(void) {
 static void random_bytes(tk_handle *surface, tk_handle *client, size_t rounds) {
     uint8_t bytes[64], answer[1024];
     size_t answer_len;
+    tk_handle lines = TK_NONE;
+    EXPECT(tk_lines_new(&lines) == TK_DONE);
     for (size_t round = 0; round < rounds; round++) {
         size_t len = fill(bytes, sizeof bytes);
         EXPECT(is_answered(feed(client, bytes, len)));
@@ -238,11 +259,11 @@ static void random_bytes(tk_handle *surface, tk_handle *client, size_t rounds) {
         EXPECT(is_answered(feed(client, bytes, len)));
         EXPECT(is_answered(tk_add_encoded(surface, bytes + 7, len - 7)));
         cut_random_bytes();
-        status = add_random_structs(surface);
-        EXPECT(is_answered(status) || status == TK_RANGE);
+        random_structs(surface, &lines);
         if (round % 64 == 0)
             deliver(surface, client);
     }
+    tk_free(&lines);
 }
 
 /* Each front of an answer, and the answer with each of its bytes at each value. */
@@ -453,6 +474,8 @@ static void give_twice(tk_handle *handle) {
     EXPECT(tk_follow(handle, handle) == TK_NO_HANDLE);
     EXPECT(tk_lines_push_row(handle, handle, row) == TK_NO_HANDLE);
     EXPECT(tk_draw_line(handle, row, handle, column) == TK_NO_HANDLE);
+    EXPECT(tk_add_changes_scrolling(handle, &change, 0, &text, 0, handle) == TK_NO_HANDLE);
+    EXPECT(tk_add_unlogged_scrolling(handle, &change, 0, &text, 0, handle) == TK_NO_HANDLE);
     EXPECT(tk_diff_screens(handle, handle, &change, 1, &text, 1, &counts) == TK_NO_HANDLE);
     EXPECT(tk_diff_region(handle, column, row, 9, 9, handle, row, column, &change, 1, &text, 1,
                           &counts) == TK_NO_HANDLE);

@@ -251,7 +251,7 @@ static void test_kinds(void) {
     CHECK(print(&lines, "x") == TK_WRONG_KIND && tk_resize(&lines, 2, 2) == TK_WRONG_KIND);
     CHECK(tk_size(&lines, &number, &other) == TK_WRONG_KIND && number == 77 && other == 77);
     CHECK(tk_title(&lines, text, sizeof text, &len) == TK_WRONG_KIND && len == 77);
-    CHECK(tk_row_text(&lines, 0, text, sizeof text, &len) == TK_WRONG_KIND && len == 77);
+    CHECK(tk_row_text(&lines, 0, false, text, sizeof text, &len) == TK_WRONG_KIND && len == 77);
     CHECK(tk_state(&lines, &settings) == TK_WRONG_KIND);
     CHECK(read_row(&lines, 0, &read) == TK_WRONG_KIND);
     CHECK(tk_get_changes(&lines, 0, &change, 0, text, 0, &counts) == TK_WRONG_KIND);
@@ -270,23 +270,96 @@ static void test_kinds(void) {
     tk_free(&lines);
 }
 
+/* A call that makes a list of changes, and moves the rows that it scrolls off to lines. */
+typedef tk_status (*scrolling)(tk_handle *surface, const tk_change *changes, size_t count,
+                               const char *texts, size_t len, tk_handle *lines);
+static const scrolling SCROLLINGS[] = {tk_add_changes_scrolling, tk_add_unlogged_scrolling};
+
+/* The rows come behind the old lines, in the order in which they leave, and viewers go on. */
+static void test_scrolled_off(scrolling add) {
+    static const char texts[] = "xか\r\none\r\ntwo\r\nthree\r\nfour";
+    const tk_change list[] = {
+        {.kind = TK_CHANGE_TEXT, .first = 3 + 1},
+        {.kind = TK_CHANGE_TEXT, .first = 23},
+        {.kind = TK_CHANGE_SCROLL_UP, .first = 1, .second = 2, .third = 1}, /* not from row 0 on */
+        {.kind = TK_CHANGE_SCROLL_UP, .first = 0, .second = 2, .third = 7},
+        {.kind = TK_CHANGE_SCROLL_DOWN, .first = 0, .second = 3, .third = 1},
+    };
+    tk_handle surface = made(8, 3), twin = made_rows(), lines = made_lines(), viewer = TK_NONE;
+    CHECK(tk_viewer_new(&viewer, &surface) == TK_DONE);
+    CHECK(tk_lines_push_row(&lines, &surface, 0) == TK_DONE);
+    CHECK(add(&surface, list, COUNT(list), texts, strlen(texts), &lines) == TK_DONE);
+    CHECK(number_is(&surface, COUNT(list)) && count_is(&lines, 5));
+    static const char *const wanted[] = {"", "xか", "one", "two", "four"};
+    for (size_t k = 0; k < COUNT(wanted); k++)
+        CHECK(line_is(&lines, k, wanted[k]));
+    CHECK(screen_is(&surface, "\n\n\n"));
+    CHECK(tk_follow(&viewer, &surface) == TK_DONE && screen_is(&viewer, "\n\n\n"));
+    /* Lines have pens, links and wide cells, and a list that scrolls nothing adds none. */
+    const tk_change scroll = {.kind = TK_CHANGE_SCROLL_UP, .second = 3, .third = 2};
+    const tk_change title = {.kind = TK_CHANGE_TITLE, .first = 1};
+    tk_free(&surface);
+    surface = made_rows();
+    CHECK(add(&surface, &scroll, 1, "", 0, &lines) == TK_DONE && count_is(&lines, 7));
+    CHECK(line_is_row(&lines, 5, &twin, 0) && line_is_row(&lines, 6, &twin, 1));
+    CHECK(add(&surface, &title, 1, "t", 1, &lines) == TK_DONE && count_is(&lines, 7));
+    CHECK(add(&surface, NULL, 0, NULL, 0, &lines) == TK_DONE && count_is(&lines, 7));
+    tk_free(&surface);
+    tk_free(&twin);
+    tk_free(&viewer);
+    tk_free(&lines);
+}
+
+/* After an error no line is added, and the surface shows what it did. */
+static void test_nothing_scrolls_off(scrolling add) {
+    const tk_change list[] = {
+        {.kind = TK_CHANGE_TEXT, .first = 8},
+        {.kind = TK_CHANGE_SCROLL_UP, .first = 0, .second = 4, .third = 1},
+        {.kind = 99},
+    };
+    const char *texts = "\r\n\r\n\r\n\r\n";
+    tk_handle surface = made_rows(), lines = made_lines(), viewer = TK_NONE, none = TK_NONE;
+    tk_handle client = made_client();
+    CHECK(tk_viewer_new(&viewer, &surface) == TK_DONE);
+    CHECK(add(&surface, list, 2, texts, 8, &lines) == TK_REGION);
+    CHECK(add(&surface, list, 3, texts, 8, &lines) == TK_RANGE);
+    CHECK(add(&surface, list, 1, texts, 7, &lines) == TK_RANGE);
+    CHECK(add(&surface, list, 1, "\n\n\n\n\n\n\n\xff", 8, &lines) == TK_UNREADABLE);
+    CHECK(add(&none, list, 1, texts, 8, &lines) == TK_NO_HANDLE);
+    CHECK(add(&surface, list, 1, texts, 8, &none) == TK_NO_HANDLE);
+    CHECK(add(&surface, list, 1, texts, 8, &surface) == TK_NO_HANDLE);
+    CHECK(add(&lines, list, 1, texts, 8, &lines) == TK_NO_HANDLE);
+    tk_handle *const others[] = {&viewer, &client};
+    for (size_t k = 0; k < COUNT(others); k++) {
+        CHECK(add(others[k], list, 1, texts, 8, &lines) == TK_WRONG_KIND);
+        CHECK(add(&surface, list, 1, texts, 8, others[k]) == TK_WRONG_KIND);
+    }
+    CHECK(add(&lines, list, 1, texts, 8, &surface) == TK_WRONG_KIND);
+    CHECK(count_is(&lines, 0) && number_is(&surface, 7) && row_is(&surface, 1, "one two"));
+    tk_free(&surface);
+    tk_free(&viewer);
+    tk_free(&client);
+    tk_free(&lines);
+}
+
 /* Ends with the status that `lines kept` has for this error. */
 static int failed(tk_status status) {
     fprintf(stderr, "%s\n", status == TK_MEMORY ? "out of memory" : tk_strerror(status));
     return status == TK_MEMORY ? 3 : 1;
 }
 
-/* Keeps the top row before each text, and shows the lines on another surface, wrapped. */
+/* Keeps the rows that texts scroll off, and the last one, and makes a surface to show them on. */
 static tk_status keep(tk_handle *surface, tk_handle *lines, tk_handle *view) {
     static const char *const texts[] = {"one か", " and a text that is longer\r\n", "three\r\n"};
     tk_status status = tk_surface_new(surface, 12, 2, TK_WIDTHS_UNICODE, 1);
     if (status == TK_DONE)
         status = tk_lines_new(lines);
     for (size_t k = 0; status == TK_DONE && k < COUNT(texts); k++) {
-        status = print(surface, texts[k]);
-        if (status == TK_DONE)
-            status = tk_lines_push_row(lines, surface, 0);
+        const tk_change text = {.kind = TK_CHANGE_TEXT, .first = strlen(texts[k])};
+        status = SCROLLINGS[k % 2](surface, &text, 1, texts[k], text.first, lines);
     }
+    if (status == TK_DONE)
+        status = tk_lines_push_row(lines, surface, 0);
     if (status == TK_DONE)
         status = tk_lines_compress(lines, 0, 2);
     if (status == TK_DONE)
@@ -326,6 +399,10 @@ int main(int count, char **words) {
     test_wrapped();
     test_drawn();
     test_kinds();
+    for (size_t k = 0; k < COUNT(SCROLLINGS); k++) {
+        test_scrolled_off(SCROLLINGS[k]);
+        test_nothing_scrolls_off(SCROLLINGS[k]);
+    }
     printf("%d checks\n", checks);
     return failures != 0;
 }

@@ -6,6 +6,8 @@
  *     measure unlogged COUNT  the same list, which isn't logged
  *     measure cells COUNT     the cells of a coloured 80x24, each by a call
  *     measure rows COUNT      the same, a row by a call
+ *     measure quiet COUNT     the line of plain, which isn't logged
+ *     measure kept COUNT      the same, and what scrolls off is kept in a list of lines
  *
  * The program keeps no time: run it under callgrind at two counts, and take the difference. Beside
  * `plain` of the bench stands the first, and beside `answer-repaint` and `encode-repaint` together
@@ -19,12 +21,35 @@ static tk_status print(tk_handle *surface, const char *text) {
     return tk_print(surface, text, strlen(text));
 }
 
+static const char LINE[] = "The quick brown fox jumps over the lazy dog; 0123456789 and then some "
+                           "more text.\r\n";
+
 static tk_status plain(tk_handle *surface, long count, size_t *result) {
     tk_status status = TK_DONE;
     for (long i = 0; i < count && status == TK_DONE; i++)
-        status = print(surface, "The quick brown fox jumps over the lazy dog; 0123456789 and then "
-                                "some more text.\r\n");
+        status = print(surface, LINE);
     return status != TK_DONE ? status : tk_number(surface, result);
+}
+
+static const tk_change TEXT = {.kind = TK_CHANGE_TEXT, .first = sizeof LINE - 1};
+
+static tk_status quiet(tk_handle *surface, long count, size_t *result) {
+    tk_status status = TK_DONE;
+    for (long i = 0; i < count && status == TK_DONE; i++)
+        status = tk_add_unlogged(surface, &TEXT, 1, LINE, TEXT.first);
+    return status != TK_DONE ? status : tk_number(surface, result);
+}
+
+/* How many lines there are in the end. */
+static tk_status kept(tk_handle *surface, long count, size_t *result) {
+    tk_handle lines = TK_NONE;
+    tk_status status = tk_lines_new(&lines);
+    for (long i = 0; i < count && status == TK_DONE; i++)
+        status = tk_add_unlogged_scrolling(surface, &TEXT, 1, LINE, TEXT.first, &lines);
+    if (status == TK_DONE)
+        status = tk_lines_count(&lines, result);
+    tk_free(&lines);
+    return status;
 }
 
 /* One of ten colours for every 8 columns. */
@@ -56,7 +81,8 @@ static tk_status add_list(tk_handle *surface, long count, bool is_logged, size_t
     for (size_t i = 0; i < 100; i++) {
         list[3 * i].kind = TK_CHANGE_PEN;
         list[3 * i].attributes.foreground = (tk_color){.kind = TK_COLOR_PALETTE, .index = i % 10};
-        list[3 * i + 1] = (tk_change){.kind = TK_CHANGE_MOVE, .first = i % 10 * 8, .second = i / 10};
+        list[3 * i + 1] =
+            (tk_change){.kind = TK_CHANGE_MOVE, .first = i % 10 * 8, .second = i / 10};
         list[3 * i + 2] = (tk_change){.kind = TK_CHANGE_TEXT, .first = 8};
     }
     tk_status status = TK_DONE;
@@ -111,13 +137,13 @@ int main(int words, char **word) {
     static const struct {
         const char *name;
         workload *run;
-    } all[] = {{"plain", plain},       {"answer", answer}, {"logged", logged},
-               {"unlogged", unlogged}, {"cells", cells},   {"rows", rows}};
+    } all[] = {{"plain", plain}, {"answer", answer}, {"logged", logged}, {"unlogged", unlogged},
+               {"cells", cells}, {"rows", rows},     {"quiet", quiet},   {"kept", kept}};
     size_t which = 0, kinds = sizeof all / sizeof *all;
     while (words == 3 && which < kinds && strcmp(word[1], all[which].name) != 0)
         which++;
     if (words != 3 || which == kinds) {
-        fputs("usage: measure plain|answer|logged|unlogged|cells|rows COUNT\n", stderr);
+        fputs("usage: measure plain|answer|logged|unlogged|cells|rows|quiet|kept COUNT\n", stderr);
         return 2;
     }
     long count = strtol(word[2], NULL, 10);

@@ -331,14 +331,25 @@ static void test_reads(void) {
     CHECK(tk_cell_at(&surface, 0, 2, &cell, text, sizeof text, &len) == TK_RANGE);
     CHECK(tk_cell_at(&surface, SIZE_MAX, SIZE_MAX, &cell, text, sizeof text, &len) == TK_RANGE);
     CHECK(tk_cell_at(&none, 0, 0, &cell, text, sizeof text, &len) == TK_NO_HANDLE);
-    CHECK(tk_row_text(&surface, 0, text, 6, &len) == TK_SHORT && len == 7);
-    CHECK(tk_row_text(&surface, 0, text, 0, &len) == TK_SHORT && len == 7);
-    CHECK(tk_row_text(&surface, 2, text, sizeof text, &len) == TK_RANGE);
-    CHECK(tk_row_text(&none, 0, text, sizeof text, &len) == TK_NO_HANDLE);
+    CHECK(tk_row_text(&surface, 0, false, text, 6, &len) == TK_SHORT && len == 7);
+    CHECK(tk_row_text(&surface, 0, false, text, 0, &len) == TK_SHORT && len == 7);
+    CHECK(tk_row_text(&surface, 2, false, text, sizeof text, &len) == TK_RANGE);
+    CHECK(tk_row_text(&none, 0, false, text, sizeof text, &len) == TK_NO_HANDLE);
     CHECK(tk_screen_text(&surface, text, 12, &len) == TK_SHORT && len == 13);
     CHECK(tk_screen_text(&none, text, sizeof text, &len) == TK_NO_HANDLE && len == 13);
     CHECK(strcmp(text, "untouched") == 0);
-    CHECK(tk_row_text(&surface, 0, text, 7, &len) == TK_DONE && text[7] == 'e'); /* just enough */
+    /* Just enough room. */
+    CHECK(tk_row_text(&surface, 0, false, text, 7, &len) == TK_DONE && text[7] == 'e');
+    /* What is cleared is stored no longer, and shown as blanks. */
+    CHECK(tk_clear_to_end_of_line(&surface, &NO_COLOR) == TK_DONE);
+    CHECK(tk_row_text(&surface, 0, false, text, sizeof text, &len) == TK_DONE && len == 6);
+    CHECK(tk_row_text(&surface, 0, true, text, 6, &len) == TK_SHORT && len == 7);
+    CHECK(tk_row_text(&surface, 0, true, text, 7, &len) == TK_DONE && len == 7);
+    CHECK(memcmp(text, "か\u0301! ", 7) == 0);
+    CHECK(tk_row_text(&surface, 1, true, text, sizeof text, &len) == TK_DONE && len == 4);
+    CHECK(memcmp(text, "    ", 4) == 0);
+    CHECK(tk_row_text(&surface, 2, true, text, sizeof text, &len) == TK_RANGE && len == 4);
+    CHECK(tk_row_text(&none, 0, true, text, sizeof text, &len) == TK_NO_HANDLE && len == 4);
     CHECK(tk_title(&surface, text, 0, &len) == TK_DONE && len == 0);
     CHECK(tk_title(&none, text, 0, &len) == TK_NO_HANDLE);
     CHECK(tk_size(&none, &number, &len) == TK_NO_HANDLE && number == 7);

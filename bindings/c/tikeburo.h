@@ -171,8 +171,8 @@ typedef struct tk_cell {
     tk_attributes attributes;
 } tk_cell;
 
-/* What is set beside the rows. `source` is the number of the surface, or of the one that a viewer or
- * a client shows, and `number` that of its coming change when it was as it is shown: 0 where it
+/* What is set beside the rows. `source` is the number of the surface, or of the one that a viewer
+ * or a client shows, and `number` that of its coming change when it was as it is shown: 0 where it
  * isn't shown yet. Both are 0 where none is shown that has a number. */
 typedef struct tk_settings {
     size_t source;
@@ -260,8 +260,8 @@ tk_status tk_pen_link_param(tk_handle *handle, size_t index, char *key, size_t k
                             size_t *key_len, char *value, size_t value_room, size_t *value_len);
 
 /* For each row from the top 1 if it may differ from what it was when what is shown had the number
- * since (tk_number), in its cells or in how large it is shown, and 0 if it doesn't: *count rows. Each
- * row may differ where since is 0. TK_SHORT. */
+ * since (tk_number), in its cells or in how large it is shown, and 0 if it doesn't: *count rows.
+ * Each row may differ where since is 0. TK_SHORT. */
 tk_status tk_changed_rows(tk_handle *handle, size_t since, uint8_t *rows, size_t room,
                           size_t *count);
 
@@ -269,8 +269,11 @@ tk_status tk_changed_rows(tk_handle *handle, size_t since, uint8_t *rows, size_t
  * row. TK_SHORT. */
 tk_status tk_screen_text(tk_handle *handle, char *text, size_t room, size_t *len);
 
-/* The texts of a row's visible cells within its stored length. TK_RANGE: the row. TK_SHORT. */
-tk_status tk_row_text(tk_handle *handle, size_t row, char *text, size_t room, size_t *len);
+/* The texts of a row's visible cells: with `filled` of all that the row shows, up to the width, and
+ * else of those within its stored length, behind which it shows default blanks. TK_RANGE: the row.
+ * TK_SHORT. */
+tk_status tk_row_text(tk_handle *handle, size_t row, bool filled, char *text, size_t room,
+                      size_t *len);
 
 /* How large a row is shown: TK_LINE_DOUBLE_HEIGHT_TOP_HALF .. TK_RANGE: the row. */
 tk_status tk_line_attribute(tk_handle *handle, size_t row, uint8_t *attribute);
@@ -455,13 +458,13 @@ tk_status tk_diff_screens_distinct(tk_handle *handle, tk_handle *other, tk_chang
                                    size_t change_room, char *texts, size_t room,
                                    tk_list_counts *counts);
 
-/* The changes that turn what the first handle shows into what the other one shows, as tk_get_changes
- * writes changes: each handle has a surface, or a viewer or a client that shows one. They are moves,
- * pens and texts alone, and print each cell that differs once. Made by a surface that shows what the
- * first one shows and has the widths of the other one, they give it the other one's rows, in which
- * links have their uris alone. There are none where the rows are equal. Where the sizes differ, what
- * fits in both is compared. Cursor, title, and what else is set beside the rows, are not compared.
- * counts->number is 0. TK_SHORT: as above. */
+/* The changes that turn what the first handle shows into what the other one shows, as
+ * tk_get_changes writes changes: each handle has a surface, or a viewer or a client that shows one.
+ * They are moves, pens and texts alone, and print each cell that differs once. Made by a surface
+ * that shows what the first one shows and has the widths of the other one, they give it the other
+ * one's rows, in which links have their uris alone. There are none where the rows are equal. Where
+ * the sizes differ, what fits in both is compared. Cursor, title, and what else is set beside the
+ * rows, are not compared. counts->number is 0. TK_SHORT: as above. */
 static inline tk_status tk_diff_screens(tk_handle *handle, tk_handle *other, tk_change *changes,
                                         size_t change_room, char *texts, size_t room,
                                         tk_list_counts *counts) {
@@ -675,6 +678,36 @@ tk_status tk_lines_push_row_distinct(tk_handle *lines, tk_handle *source, size_t
  * the row may show more default blanks. TK_RANGE: the row. */
 static inline tk_status tk_lines_push_row(tk_handle *lines, tk_handle *source, size_t row) {
     return lines == source ? TK_NO_HANDLE : tk_lines_push_row_distinct(lines, source, row);
+}
+
+tk_status tk_add_changes_scrolling_distinct(tk_handle *surface, const tk_change *changes,
+                                            size_t count, const char *texts, size_t len,
+                                            tk_handle *lines);
+
+tk_status tk_add_unlogged_scrolling_distinct(tk_handle *surface, const tk_change *changes,
+                                             size_t count, const char *texts, size_t len,
+                                             tk_handle *lines);
+
+/* Makes a list of changes, as tk_add_changes does, and moves the rows that they scroll off the top
+ * of the surface to the end of the lines, the first one first. A text scrolls rows off, and a
+ * scroll up of a region that begins with row 0. After an error no line is added, except that after
+ * TK_MEMORY the lines of some rows may be. */
+static inline tk_status tk_add_changes_scrolling(tk_handle *surface, const tk_change *changes,
+                                                 size_t count, const char *texts, size_t len,
+                                                 tk_handle *lines) {
+    if (surface == lines)
+        return TK_NO_HANDLE;
+    return tk_add_changes_scrolling_distinct(surface, changes, count, texts, len, lines);
+}
+
+/* Makes a list of changes and logs none of them, as tk_add_unlogged does, and moves the rows that
+ * they scroll off to the end of the lines, as above. */
+static inline tk_status tk_add_unlogged_scrolling(tk_handle *surface, const tk_change *changes,
+                                                  size_t count, const char *texts, size_t len,
+                                                  tk_handle *lines) {
+    if (surface == lines)
+        return TK_NO_HANDLE;
+    return tk_add_unlogged_scrolling_distinct(surface, changes, count, texts, len, lines);
 }
 
 /* Removes so many lines from the one of index `first` on. TK_RANGE: there are not so many. */

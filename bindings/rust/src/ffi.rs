@@ -205,6 +205,7 @@ extern "C" {
     pub fn tk_row_text(
         handle: *mut tk_handle,
         row: usize,
+        filled: bool,
         text: *mut u8,
         room: usize,
         len: *mut usize,
@@ -352,6 +353,22 @@ extern "C" {
         lines: *mut tk_handle,
         source: *mut tk_handle,
         row: usize,
+    ) -> i32;
+    pub fn tk_add_changes_scrolling_distinct(
+        surface: *mut tk_handle,
+        changes: *const tk_change,
+        count: usize,
+        texts: *const u8,
+        len: usize,
+        lines: *mut tk_handle,
+    ) -> i32;
+    pub fn tk_add_unlogged_scrolling_distinct(
+        surface: *mut tk_handle,
+        changes: *const tk_change,
+        count: usize,
+        texts: *const u8,
+        len: usize,
+        lines: *mut tk_handle,
     ) -> i32;
     pub fn tk_lines_remove(lines: *mut tk_handle, first: usize, count: usize) -> i32;
     pub fn tk_line_cells(

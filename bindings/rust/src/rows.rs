@@ -72,10 +72,23 @@ impl<'a> Row<'a> {
     ///
     /// [`Error::Range`]: the screen has no such row. [`Error::Memory`].
     pub fn text(&self) -> Result<String, Error> {
+        self.text_of(false)
+    }
+
+    /// The texts of all that it shows, as [`Row::read_shown`] reads it: with the blanks at its end.
+    ///
+    /// # Errors
+    ///
+    /// Those of [`Row::text`].
+    pub fn shown_text(&self) -> Result<String, Error> {
+        self.text_of(true)
+    }
+
+    fn text_of(&self, filled: bool) -> Result<String, Error> {
         let handle = self.screen.handle.get();
         // Safety: the handle is live, and the buffer has the room that is named.
         handle::text(|text, room, len| unsafe {
-            ffi::tk_row_text(handle, self.number, text, room, len)
+            ffi::tk_row_text(handle, self.number, filled, text, room, len)
         })
     }
 
@@ -170,8 +183,8 @@ impl<'a> Row<'a> {
         Ok(Hyperlink::new(uri))
     }
 
-    /// The params of the link that the cell at this column has, each a key and a value, in the order
-    /// of their keys: none where it has no link. A [`Hyperlink`] has its uri alone.
+    /// The params of the link that the cell at this column has, each a key and a value, in the
+    /// order of their keys: none where it has no link. A [`Hyperlink`] has its uri alone.
     ///
     /// # Errors
     ///

@@ -119,9 +119,9 @@ impl Surface {
         })
     }
 
-    /// A surface that shows the rows that another screen shows now, as a copy to be drawn later, and
-    /// measures texts by Unicode. Cursor, pen and title are those of a new one. There is no `Clone`,
-    /// since that can't fail.
+    /// A surface that shows the rows that another screen shows now, as a copy to be drawn later,
+    /// and measures texts by Unicode. Cursor, pen and title are those of a new one. There is no
+    /// `Clone`, since that can't fail.
     ///
     /// # Errors
     ///
@@ -147,9 +147,9 @@ impl Surface {
         Ok(surface)
     }
 
-    /// Whether the surface keeps the changes that are added to it, as a new one does, for viewers and
-    /// clients that lack some of them. One that keeps none copies no text, and answers by the whole
-    /// screen whoever lacks a change. Draws and copies are kept either way.
+    /// Whether the surface keeps the changes that are added to it, as a new one does, for viewers
+    /// and clients that lack some of them. One that keeps none copies no text, and answers by the
+    /// whole screen whoever lacks a change. Draws and copies are kept either way.
     ///
     /// ```
     /// use tikeburo::{Client, Error, Surface};
@@ -247,6 +247,59 @@ impl Surface {
         Ok(number)
     }
 
+    /// Makes a list of changes in order, as [`Surface::add`] does, and moves the rows that they
+    /// scroll off the top of the surface to the end of `lines`, the first one first. A text scrolls
+    /// rows off, and a scroll up of a region that begins with row 0.
+    ///
+    /// # Errors
+    ///
+    /// Those of [`Surface::add_changes`]. No line is added then, except that after
+    /// [`Error::Memory`] the lines of some rows may be.
+    ///
+    /// # Examples
+    ///
+    /// ```
+    /// use tikeburo::{Changes, Error, Lines, RowBuffer, Surface};
+    ///
+    /// let mut surface = Surface::new(12, 2)?;
+    /// let mut scrollback = Lines::new()?;
+    /// let mut changes = Changes::new();
+    /// changes.text("one\r\ntwo\r\nthree");
+    /// surface.add_scrolling(&changes, &mut scrollback)?;
+    /// assert_eq!(surface.row(0).text()?.trim_end(), "two");
+    ///
+    /// let mut line = RowBuffer::new();
+    /// scrollback.read(0, &mut line)?;
+    /// assert_eq!((scrollback.len(), line.text().trim_end()), (1, "one"));
+    /// # Ok::<(), Error>(())
+    /// ```
+    pub fn add_scrolling(
+        &mut self,
+        changes: &Changes,
+        lines: &mut Lines,
+    ) -> Result<SequenceNo, Error> {
+        let number = self.current_seqno();
+        let (list, texts) = changes.as_parts();
+        let add = if self.keeps_changes {
+            ffi::tk_add_changes_scrolling_distinct
+        } else {
+            ffi::tk_add_unlogged_scrolling_distinct
+        };
+        // Safety: both handles are live, and they are two, since both are borrowed alone. The list
+        // and its texts are only read.
+        Error::check(unsafe {
+            add(
+                self.handle.get(),
+                list.as_ptr(),
+                list.len(),
+                texts.as_ptr(),
+                texts.len(),
+                lines.handle.get(),
+            )
+        })?;
+        Ok(number.saturating_sub(1) + changes.len())
+    }
+
     fn make(&mut self, list: &[tk_change], texts: &str) -> Result<(), Error> {
         let (handle, bytes) = (self.handle.get(), texts.as_bytes());
         let add = if self.keeps_changes {
@@ -340,8 +393,8 @@ impl Surface {
         number.saturating_sub(1) + (self.current_seqno() - number)
     }
 
-    /// Copies a region as [`Surface::copy_region`] does, and leaves cursor and pen as before. Returns
-    /// the number of the last change that this takes.
+    /// Copies a region as [`Surface::copy_region`] does, and leaves cursor and pen as before.
+    /// Returns the number of the last change that this takes.
     ///
     /// # Errors
     ///

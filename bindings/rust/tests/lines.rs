@@ -1,7 +1,8 @@
 //! Rows are kept as lines, which show the same wherever they are.
 
 use tikeburo::{
-    AttributeChange, Change, Client, Error, Intensity, Lines, RowBuffer, Screen, Surface, Viewer,
+    AttributeChange, Change, Changes, Client, Error, Intensity, Lines, RowBuffer, Screen, Surface,
+    Viewer,
 };
 
 fn printed(width: usize, height: usize, text: &str) -> Surface {
@@ -72,6 +73,35 @@ fn rows_are_those_of_any_screen() {
     assert_eq!(texts(&lines), ["one", "one", "one"]);
     assert_eq!(lines.push_row(&surface, 1), Err(Error::Range));
     assert_eq!(lines.len(), 3);
+}
+
+#[test]
+fn what_scrolls_off_is_kept() {
+    for keeps_changes in [true, false] {
+        let mut surface = printed(8, 2, "one か");
+        surface.keep_changes(keeps_changes);
+        let mut viewer = Viewer::new(&surface).unwrap();
+        viewer.follow(&surface).unwrap();
+        let mut lines = Lines::new().unwrap();
+        let mut changes = Changes::new();
+        let number = surface.current_seqno();
+        changes.text("\r\ntwo\r\nthree\r\nfour");
+        assert_eq!(surface.add_scrolling(&changes, &mut lines), Ok(number));
+        assert_eq!(texts(&lines), ["one か", "two"]);
+        viewer.follow(&surface).unwrap();
+        assert_eq!(viewer.screen().to_string(), surface.to_string());
+        assert_eq!(surface.row(0).text().unwrap().trim_end(), "three");
+        // A list with a fault keeps nothing.
+        changes.push(&Change::ScrollRegionUp {
+            first_row: 1,
+            region_size: 2,
+            scroll_count: 1,
+        });
+        let refused = surface.add_scrolling(&changes, &mut lines);
+        assert_eq!(refused, Err(Error::ScrollRegion));
+        assert_eq!(texts(&lines), ["one か", "two"]);
+        assert_eq!(surface.row(0).text().unwrap().trim_end(), "three");
+    }
 }
 
 #[test]

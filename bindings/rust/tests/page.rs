@@ -138,6 +138,9 @@ fn rows() -> Outcome {
     let index = 0;
     let mut lines = Lines::new()?;
     lines.push_row(&surface, y)?;
+    let mut changes = Changes::new();
+    changes.text("row\r\n");
+    surface.add_scrolling(&changes, &mut lines)?;
     lines.wrap(width)?;
     lines.compress(0..lines.len())?;
     surface.draw_line(y, &lines, index)?;

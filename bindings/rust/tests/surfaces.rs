@@ -83,13 +83,16 @@ fn a_row_is_read_with_its_blanks_or_without_them() {
     let mut buffer = RowBuffer::new();
     surface.row(0).read(&mut buffer).unwrap();
     assert_eq!(buffer.text(), "aか");
+    assert_eq!(surface.row(0).text().unwrap(), "aか");
     surface.row(0).read_shown(&mut buffer).unwrap();
     assert_eq!(buffer.text(), "aか     ");
+    assert_eq!(surface.row(0).shown_text().unwrap(), "aか     ");
     assert_eq!(buffer.cells().map(|cell| cell.width()).sum::<usize>(), 8);
     for (read, cell) in buffer.cells().zip(surface.row(0).cells()) {
         let cell = cell.unwrap();
         assert_eq!((read.str(), read.attrs()), (cell.str(), cell.attrs()));
     }
+    assert_eq!(surface.row(2).shown_text(), Err(Error::Range));
     assert_eq!(surface.row(2).read_shown(&mut buffer), Err(Error::Range));
     assert_eq!(buffer.cells().len(), 0);
 }

@@ -6,7 +6,7 @@ mod parser;
 mod terminal;
 
 use terminal::Terminal;
-use tikeburo::{Attributes, ColorAttribute, CursorVisibility, Intensity};
+use tikeburo::{Attributes, ColorAttribute, CursorVisibility, Intensity, Lines, RowBuffer};
 
 /// Bytes, the rows that a terminal of 6 columns and 3 rows has then, without the blanks at their
 /// ends, and its cursor.
@@ -126,5 +126,25 @@ fn titles_and_the_cursor_are_set() {
         assert_eq!(surface.title().unwrap(), "notes か");
         assert_eq!(surface.cursor_visibility(), CursorVisibility::Hidden);
         assert_eq!(surface.cursor_position(), (1, 0));
+    }
+}
+
+#[test]
+fn what_scrolls_off_is_kept() {
+    for size in [1, 5, 64] {
+        let mut terminal = Terminal::new(6, 3).unwrap();
+        terminal.scrollback = Some(Lines::new().unwrap());
+        let bytes = "1\r\n2 か\r\n3\r\nabcdefgh\r\n\x1b[2S".as_bytes();
+        for chunk in bytes.chunks(size) {
+            terminal.feed(chunk).unwrap();
+        }
+        let lines = terminal.scrollback.unwrap();
+        let mut line = RowBuffer::new();
+        let read = |index| {
+            lines.read(index, &mut line).unwrap();
+            line.text().trim_end().to_string()
+        };
+        let texts: Vec<_> = (0..lines.len()).map(read).collect();
+        assert_eq!(texts, ["1", "2 か", "3", "abcdef", "gh"]);
     }
 }

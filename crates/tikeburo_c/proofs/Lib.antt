@@ -10,6 +10,7 @@ pub mod Listed
 pub mod ReadBack
 pub mod RowNeeds
 pub mod RowParts
+pub mod RowTexts
 pub mod ShownRow
 pub mod Since
 pub mod WidthTables

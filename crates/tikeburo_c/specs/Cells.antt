@@ -1,10 +1,10 @@
 -- What is read of rows and their cells.
-use Rattle.std.specs.Prelude.{◌≡◌, ℕ, Option, Some, None, List, [], OnOk, OnErr, nat_lt, slice_get, if◌then◌else◌}
+use Rattle.std.specs.Prelude.{◌≡◌, ℕ, Bool, Option, Some, None, List, [], OnOk, OnErr, nat_lt, slice_get, if◌then◌else◌}
 use Rattle.termwiz_cell.specs.CellValue.{CellValue}
 use Rattle.termwiz_cell.specs.Link.{Link}
 use Rattle.termwiz_cell.specs.{line_number}
 use Rattle.termwiz_surface.specs.{LineFlags, line_attribute, stored, texts_of, visible}
-use Rattle.termwiz_surface.specs.Surface.{SurfaceValue}
+use Rattle.termwiz_surface.specs.Surface.{SurfaceValue, screen_of}
 use Rattle.tikeburo_c.specs.Fields.{cell_fields}
 use Rattle.tikeburo_c.specs.Outcomes.{Outcome}
 use Rattle.tikeburo_c.specs.Results.{Buffer, Gives, OrNoMemory, Refused, Returns}
@@ -12,9 +12,13 @@ use Rattle.tikeburo_c.specs.declared.failure.Failure.TheVariants.{Range}
 use Rattle.tikeburo_c.specs.declared.fields.CellFields.{CellFields}
 use Rattle.tikeburo_c.specs.declared.widths.ChosenWidths.{ChosenWidths}
 
--- of a row that there is, the texts of the visible cells within its stored length
-abbrev pub GivesRow : ℕ → SurfaceValue ChosenWidths → Buffer → Outcome → Buffer → Type 0
-GivesRow row s = of_row (slice_get s.lines row)
+-- the cells of a row, if there is one: of the screen's row, or those within its stored length
+abbrev pub row_in : Bool → ℕ → SurfaceValue ChosenWidths → Option (List CellValue)
+row_in filled row s = slice_get (if filled then (screen_of s).rows else s.lines) row
+
+-- of a row that there is, the texts of the visible cells
+abbrev pub GivesRow : Bool → ℕ → SurfaceValue ChosenWidths → Buffer → Outcome → Buffer → Type 0
+GivesRow filled row s = of_row (row_in filled row s)
   where
     of_row : Option (List CellValue) → Buffer → Outcome → Buffer → Type 0
     of_row (Some cells) = OrNoMemory (Gives (texts_of (visible cells)))

@@ -22,6 +22,7 @@ pub mod Params
 pub mod Reading
 pub mod Results
 pub mod Rows
+pub mod Scrolling
 pub mod States
 pub mod Streams
 pub mod Texts

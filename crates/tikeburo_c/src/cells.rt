@@ -1,5 +1,5 @@
 //! Rows and their cells, one by one.
-ghost use Rattle.std.specs.Prelude.{◌≡◌, ◌⊎◌, IfErr, IfOk, None, Some, slice_get};
+ghost use Rattle.std.specs.Prelude.{◌≡◌, ◌⊎◌, IfErr, IfOk, None, Some, false, slice_get, true};
 ghost use Rattle.termwiz_cell.specs.CellValue as cell_value;
 ghost use Rattle.termwiz_surface.specs.{texts_of, visible};
 ghost use Rattle.tikeburo_c.specs.Cells.{CellPlace, GivesCell, GivesLink, GivesRow, cell_in};
@@ -18,6 +18,7 @@ use crate::kept::Kept;
 use crate::widths::ChosenWidths;
 use std::alloc::Global;
 use termwiz_screen::full::attribute_of;
+use termwiz_surface::change::SEQ_ZERO;
 use termwiz_surface::{Cell, CellAttributes, Line, Surface};
 
 fn give_line(line: &Line, room: &mut [u8], len: &mut usize) -> Result<(), Failure>
@@ -47,33 +48,70 @@ pub(crate) fn line_at<'a>(
     }
 }
 
-fn give_row(
+// Gives the texts of a row's visible cells within its stored length.
+fn give_stored(
     surface: &Surface<ChosenWidths>,
     row: usize,
     room: &mut [u8],
     len: &mut usize,
 ) -> Result<(), Failure>
-    ensures { OrNoMemory (GivesRow row surface.now) (room.old, len.old) result (room.new, len.new) }
+    ensures { OrNoMemory (GivesRow false row surface.now)
+        (room.old, len.old) result (room.new, len.new) }
 {
     let line = line_at(surface, row)?;
     give_line(line, room, len)
 }
 
-/// The texts of a row's visible cells within its stored length.
+// Gives the texts of the visible cells that a row shows in all columns of the width.
+fn give_filled(
+    surface: &Surface<ChosenWidths>,
+    row: usize,
+    room: &mut [u8],
+    len: &mut usize,
+) -> Result<(), Failure>
+    ensures { OrNoMemory (GivesRow true row surface.now)
+        (room.old, len.old) result (room.new, len.new) }
+{
+    let (width, _) = surface.dimensions();
+    let line = line_at(surface, row)?;
+    let filled = line.resized(width, SEQ_ZERO)?;
+    give_line(&filled, room, len)
+}
+
+fn give_row(
+    surface: &Surface<ChosenWidths>,
+    row: usize,
+    filled: bool,
+    room: &mut [u8],
+    len: &mut usize,
+) -> Result<(), Failure>
+    ensures { OrNoMemory (GivesRow filled row surface.now)
+        (room.old, len.old) result (room.new, len.new) }
+{
+    if filled {
+        give_filled(surface, row, room, len)
+    } else {
+        give_stored(surface, row, room, len)
+    }
+}
+
+/// The texts of a row's visible cells within its stored length, or, where it is to be filled, in
+/// all columns of the width.
 #[unsafe(no_mangle)]
 pub extern "C" fn tk_row_text(
     alloc: Global,
     handle: &mut Handle,
     row: usize,
+    filled: bool,
     room: &mut [u8],
     len: &mut usize,
 ) -> i32
-    ensures read { Reports result (λ outcome. Reads (λ s. OrNoMemory (GivesRow row s))
+    ensures read { Reports result (λ outcome. Reads (λ s. OrNoMemory (GivesRow filled row s))
         (kept_of handle.old) (room.old, len.old) outcome (room.new, len.new)) }
     ensures same { kept_of handle.new ≡ kept_of handle.old }
 {
     let outcome = fill(alloc, handle, room, len, |surface, room, len| {
-        give_row(surface, row, room, len)
+        give_row(surface, row, filled, room, len)
     });
     status(outcome)
 }

@@ -31,6 +31,7 @@ mod params;
 mod reading;
 mod row_parts;
 mod rows;
+mod scrolling;
 mod shown_cells;
 mod states;
 mod surfaces;

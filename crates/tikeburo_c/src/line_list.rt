@@ -15,7 +15,7 @@ use termwiz_surface::change::SEQ_ZERO;
 /// A list of lines, the oldest one first.
 #[derive(Drop)]
 pub struct LineList {
-    lines: Vec<Line>,
+    pub(crate) lines: Vec<Line>,
 }
 
 impl Model for LineList {

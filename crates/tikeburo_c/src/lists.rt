@@ -329,9 +329,14 @@ fn push_first<'a>(
     Ok(others)
 }
 
-// The changes of a list, whose texts are behind one another.
+/// The changes of a list, whose texts are behind one another.
+#[inline(always)]
 #[tactic(auto, using(crate::proofs::Listed::from_first))]
-fn listed_in(alloc: Global, list: &[ChangeFields], texts: &[u8]) -> Result<Vec<Change>, Failure>
+pub(crate) fn listed_in(
+    alloc: Global,
+    list: &[ChangeFields],
+    texts: &[u8],
+) -> Result<Vec<Change>, Failure>
     ensures found { IfOk result (λ changes.
         listed.listed_in list.now texts.now ≡ Ok (map change_value changes.items)) }
     ensures missing { IfErr result (λ failure. (failure ≡ Memory)

@@ -17,7 +17,7 @@ fn is_width_range(range: &WidthRange) -> bool
     (range.first <= range.last && range.last <= 0x10FFFF) && (range.columns <= 2 && is_narrow)
 }
 
-/// Whether the ranges rise, and are some.
+/// Whether each range is one that a table may have, and begins behind the one before it.
 pub(crate) fn is_table(ranges: &[WidthRange]) -> bool
     ensures { result ≡ is_table ranges.now }
 {
@@ -93,6 +93,7 @@ impl<'t> WidthTable<'t> {
             UnicodeWidths.width(text, None)
         }
     }
+
     // Printable ASCII is in no range that gives it another width.
     #[tactic(auto, using(crate::proofs::WidthTables::narrow_by_table))]
     pub(crate) fn has_narrow_ascii(&self) -> bool

@@ -11,7 +11,7 @@ pub struct WidthRange {
     pub columns: u8,
 }
 
-/// Ranges of the caller's that rise, of columns that a terminal gives.
+/// Ranges of the caller's, which `is_table` accepts.
 #[derive(Clone, Copy)]
 pub struct WidthTable<'t> {
     pub(crate) ranges: &'t [WidthRange],

@@ -62,9 +62,9 @@ fn first_lent_in<'a>(
     Ok((change, others))
 }
 
-// The changes of a list, which borrow their texts.
+/// The changes of a list, which borrow their texts.
 #[tactic(auto, using(crate::proofs::Listed::from_first))]
-fn listed_lent_in<'a>(
+pub(crate) fn listed_lent_in<'a>(
     alloc: Global,
     list: &[ChangeFields],
     texts: &'a [u8],

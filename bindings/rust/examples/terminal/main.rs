@@ -1,6 +1,7 @@
 //! A small terminal: the bytes that a program writes become changes of a surface, which are made in
 //! place. It prints the screen that its input leaves, and says how long that took. With `log`
-//! behind the size the surface keeps its changes, as for viewers.
+//! behind the size the surface keeps its changes, as for viewers, and with `keep` the terminal
+//! keeps the rows that scroll off, and says how many lines it has then.
 //! `python3 examples/terminal/frames.py 100 | cargo run --release --example terminal -- 80 24`
 
 mod parser;
@@ -10,6 +11,7 @@ use std::error::Error;
 use std::io::{self, Read};
 use std::{env, time::Instant};
 use terminal::Terminal;
+use tikeburo::Lines;
 
 fn main() -> Result<(), Box<dyn Error>> {
     let words: Vec<_> = env::args().skip(1).collect();
@@ -19,13 +21,19 @@ fn main() -> Result<(), Box<dyn Error>> {
     let mut bytes = Vec::new();
     io::stdin().read_to_end(&mut bytes)?;
     let mut terminal = Terminal::new(width, height)?;
-    let is_logged = words.get(2).map(String::as_str) == Some("log");
-    terminal.surface.keep_changes(is_logged);
+    let has_word = |word| words.iter().skip(2).any(|it| it == word);
+    terminal.surface.keep_changes(has_word("log"));
+    if has_word("keep") {
+        terminal.scrollback = Some(Lines::new()?);
+    }
     let begin = Instant::now();
     for chunk in bytes.chunks(4096) {
         terminal.feed(chunk)?;
     }
     eprintln!("{} bytes in {:?}", bytes.len(), begin.elapsed());
+    if let Some(lines) = &terminal.scrollback {
+        eprintln!("{} lines are kept", lines.len());
+    }
     print!("{}", terminal.surface);
     Ok(())
 }

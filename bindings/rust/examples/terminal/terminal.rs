@@ -4,7 +4,12 @@ use super::parser::{Params, Parser, Token, LINE_END};
 use std::mem;
 use std::ops::Range;
 use tikeburo::{graphemes, Attributes, Changes, ColorAttribute, CursorVisibility};
-use tikeburo::{Error, Surface, Widths};
+use tikeburo::{Error, Lines, Surface, Widths};
+
+/// How many lines a scrollback keeps at least, once it has so many. Some more are removed at a
+/// time, since all others move then.
+const KEPT_LINES: usize = 10_000;
+const REMOVED_LINES: usize = 1_000;
 
 /// Where and how coming texts are printed. The column is the width where a wrap is pending.
 #[derive(Clone, Default)]
@@ -18,6 +23,7 @@ struct Cursor {
 /// change needs them.
 pub struct Terminal {
     pub surface: Surface,
+    pub scrollback: Option<Lines>, // where rows that scroll off are kept
     width: usize,
     height: usize,
     cursor: Cursor,
@@ -29,12 +35,23 @@ pub struct Terminal {
     parser: Parser,
 }
 
+/// Makes the changes, and keeps the rows that they scroll off.
+fn keep(surface: &mut Surface, changes: &Changes, lines: &mut Lines) -> Result<(), Error> {
+    surface.add_scrolling(changes, lines)?;
+    let len = lines.len();
+    if len >= KEPT_LINES + REMOVED_LINES {
+        lines.remove_first(len - KEPT_LINES)?;
+    }
+    Ok(())
+}
+
 impl Terminal {
     pub fn new(width: usize, height: usize) -> Result<Terminal, Error> {
         let mut surface = Surface::new(width, height)?;
         surface.keep_changes(false); // nobody follows it
         Ok(Terminal {
             surface,
+            scrollback: None,
             width,
             height,
             cursor: Cursor::default(),
@@ -83,13 +100,18 @@ impl Terminal {
     }
 
     fn make(&mut self) -> Result<(), Error> {
-        self.surface.add(&self.changes)?;
+        match &mut self.scrollback {
+            Some(lines) => keep(&mut self.surface, &self.changes, lines)?,
+            None => {
+                self.surface.add(&self.changes)?;
+            }
+        }
         self.changes.clear();
         Ok(())
     }
 
-    /// Prints a text, which may begin with a line end. Where the surface goes to the next row as the
-    /// terminal does, both are one text.
+    /// Prints a text, which may begin with a line end. Where the surface goes to the next row as
+    /// the terminal does, both are one text.
     fn print(&mut self, text: &str, is_ascii: bool) -> Result<(), Error> {
         let line = text.strip_prefix(LINE_END);
         if !is_ascii || !self.rows_are_plain() || line == Some("") {

@@ -385,6 +385,44 @@ static void test_streams(void) {
     tk_free(&surface);
 }
 
+/* Brings the surface's answer to a client by this buffer, over a connection that is new. */
+static tk_status carry(tk_handle *surface, tk_handle *client, uint8_t *room, size_t len,
+                       tk_fault *fault) {
+    uint8_t ask[20];
+    size_t ask_len;
+    tk_status status = tk_client_reset(client);
+    if (status == TK_DONE)
+        status = tk_client_ask(client, ask, sizeof ask, &ask_len);
+    if (status == TK_DONE)
+        status = tk_respond(surface, ask, ask_len, room, len, &len);
+    return status != TK_DONE ? status : tk_client_feed(client, room, len, fault);
+}
+
+static void test_carried_answers(void) {
+    tk_handle surface = TK_NONE, client = TK_NONE;
+    tk_fault fault = {.kind = 99};
+    uint8_t room[200];
+    CHECK(carry(&surface, &client, room, sizeof room, &fault) == TK_NO_HANDLE);
+    surface = made(6, 2);
+    CHECK(carry(&surface, &client, room, sizeof room, &fault) == TK_NO_HANDLE);
+    /* The screen is past the client's limits. */
+    CHECK(tk_client_new(&client, TK_WIDTHS_UNICODE, 11, 200) == TK_DONE);
+    CHECK(carry(&surface, &client, room, sizeof room, &fault) == TK_UNREADABLE);
+    CHECK(fault.kind == TK_FAULT_LIMIT && size_is(&client, 1, 1));
+    CHECK(tk_client_new(&client, TK_WIDTHS_UNICODE, 12, 200) == TK_DONE);
+    CHECK(carry(&surface, &client, room, sizeof room, &fault) == TK_DONE);
+    CHECK(size_is(&client, 6, 2));
+    /* A buffer that is too short leaves the client as it is, for the next one. */
+    CHECK(tk_resize(&surface, 4, 3) == TK_DONE);
+    CHECK(carry(&surface, &client, room, 3, &fault) == TK_SHORT && size_is(&client, 6, 2));
+    CHECK(carry(&surface, &client, room, sizeof room, &fault) == TK_DONE);
+    CHECK(size_is(&client, 4, 3));
+    /* A client carries nothing. */
+    CHECK(carry(&client, &surface, room, sizeof room, &fault) == TK_WRONG_KIND);
+    tk_free(&client);
+    tk_free(&surface);
+}
+
 /* Two surfaces of the same history but for their texts. */
 static void test_other_surface(void) {
     tk_handle first = made(6, 1), second = made(6, 1);
@@ -589,6 +627,7 @@ int main(void) {
     test_draws();
     test_reads();
     test_streams();
+    test_carried_answers();
     test_other_surface();
     test_asks();
     test_faults();

@@ -53,13 +53,4 @@ impl Handle {
         let Handle { loose, is_live: _ } = std::mem::replace(self, full);
         loose.end();
     }
-
-    /// The handle is let go, and has nothing.
-    #[cfg(test)]
-    pub(crate) fn end(self)
-        requires { self.loose.value ≡ None }
-    {
-        let Handle { loose, is_live: _ } = self;
-        loose.end();
-    }
 }

@@ -277,13 +277,14 @@ static const scrolling SCROLLINGS[] = {tk_add_changes_scrolling, tk_add_unlogged
 
 /* The rows come behind the old lines, in the order in which they leave, and viewers go on. */
 static void test_scrolled_off(scrolling add) {
-    static const char texts[] = "xか\r\none\r\ntwo\r\nthree\r\nfour";
+    static const char texts[] = "xか\r\none\r\ntwo\r\nthree\r\nfourend";
     const tk_change list[] = {
         {.kind = TK_CHANGE_TEXT, .first = 3 + 1},
         {.kind = TK_CHANGE_TEXT, .first = 23},
         {.kind = TK_CHANGE_SCROLL_UP, .first = 1, .second = 2, .third = 1}, /* not from row 0 on */
         {.kind = TK_CHANGE_SCROLL_UP, .first = 0, .second = 2, .third = 7},
         {.kind = TK_CHANGE_SCROLL_DOWN, .first = 0, .second = 3, .third = 1},
+        {.kind = TK_CHANGE_TEXT, .first = 3},
     };
     tk_handle surface = made(8, 3), twin = made_rows(), lines = made_lines(), viewer = TK_NONE;
     CHECK(tk_viewer_new(&viewer, &surface) == TK_DONE);
@@ -293,8 +294,8 @@ static void test_scrolled_off(scrolling add) {
     static const char *const wanted[] = {"", "xか", "one", "two", "four"};
     for (size_t k = 0; k < COUNT(wanted); k++)
         CHECK(line_is(&lines, k, wanted[k]));
-    CHECK(screen_is(&surface, "\n\n\n"));
-    CHECK(tk_follow(&viewer, &surface) == TK_DONE && screen_is(&viewer, "\n\n\n"));
+    CHECK(screen_is(&surface, "\n\n    end\n"));
+    CHECK(tk_follow(&viewer, &surface) == TK_DONE && screen_is(&viewer, "\n\n    end\n"));
     /* Lines have pens, links and wide cells, and a list that scrolls nothing adds none. */
     const tk_change scroll = {.kind = TK_CHANGE_SCROLL_UP, .second = 3, .third = 2};
     const tk_change title = {.kind = TK_CHANGE_TITLE, .first = 1};

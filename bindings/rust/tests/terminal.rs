@@ -148,3 +148,17 @@ fn what_scrolls_off_is_kept() {
         assert_eq!(texts, ["1", "2 か", "3", "abcdef", "gh"]);
     }
 }
+
+#[test]
+fn the_oldest_lines_of_a_scrollback_go() {
+    let mut terminal = Terminal::new(6, 3).unwrap();
+    terminal.scrollback = Some(Lines::new().unwrap());
+    for number in 0..11_500 {
+        terminal.feed(format!("{number}\r\n").as_bytes()).unwrap();
+    }
+    // 11,498 rows have scrolled off, and the first 1,000 of 11,000 were removed.
+    let lines = terminal.scrollback.unwrap();
+    let mut line = RowBuffer::new();
+    lines.read(0, &mut line).unwrap();
+    assert_eq!((lines.len(), line.text().trim_end()), (10_498, "1000"));
+}

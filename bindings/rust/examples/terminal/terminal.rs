@@ -6,8 +6,8 @@ use std::ops::Range;
 use tikeburo::{graphemes, Attributes, Changes, ColorAttribute, CursorVisibility};
 use tikeburo::{Error, Lines, Surface, Widths};
 
-/// How many lines a scrollback keeps at least, once it has so many. Some more are removed at a
-/// time, since all others move then.
+/// How many lines a scrollback keeps when its oldest ones are removed, and how many go at a time:
+/// all others move then.
 const KEPT_LINES: usize = 10_000;
 const REMOVED_LINES: usize = 1_000;
 

@@ -19,7 +19,7 @@ from sources import TOP, cited, crate, dedent, find, indent_of, resolve, write
 PAGE = TOP / "docs" / "API.md"
 ROOT = "termwiz_surface"
 STREAMS = ("termwiz_wire", "termwiz_share")
-ORDER = "surface view line cellcluster cell change color hyperlink emoji laws".split()
+ORDER = "surface scrollback view line cellcluster cell change color hyperlink emoji laws".split()
 KINDS = ("struct", "enum", "trait")
 INTRODUCTION = """# Calls
 

@@ -9,8 +9,8 @@ use crate::scene::{
 use crate::stop::{Stop, holds, made, refused};
 use std::alloc::Global;
 use termwiz_cell::change::{Change, SequenceNo};
-use termwiz_surface::Line;
 use termwiz_surface::surface::{LentChange, SurfaceError};
+use termwiz_surface::{Line, Scrollback};
 
 /// A call on a surface or its viewer.
 #[derive(Clone, Copy)]
@@ -125,37 +125,45 @@ fn added_unlogged(scene: &mut Scene) -> Result<(), Stop> {
     added_to("add_unlogged", answer, before, scene)
 }
 
-// Two lines, where lines that scroll off are kept behind them.
-fn old_lines(alloc: Global) -> Result<Vec<Line>, Stop> {
-    let mut lines = Vec::new(alloc);
-    lines.push(Line::with_width(alloc, 5, 1)?)?;
-    lines.push(Line::with_width(alloc, 6, 1)?)?;
-    Ok(lines)
+// Two lines, behind which lines that scroll off are kept. A third one was removed, so that a row
+// takes its memory.
+fn old_lines(alloc: Global) -> Result<Scrollback, Stop> {
+    let mut scrollback = Scrollback::new(alloc);
+    for width in 4..7 {
+        let line = Line::with_width(alloc, width, 1)?;
+        scrollback.lines.push_back(line)?;
+    }
+    scrollback.remove_first(1);
+    Ok(scrollback)
 }
 
-fn keeps_old(lines: &[Line]) -> bool {
-    match lines {
-        [first, second, ..] => first.len() == 5 && second.len() == 6,
+fn keeps_old(scrollback: &Scrollback) -> bool {
+    match (scrollback.lines.get(0), scrollback.lines.get(1)) {
+        (Some(first), Some(second)) => first.len() == 5 && second.len() == 6,
         _ => false,
     }
 }
 
 fn kept_logged(alloc: Global, scene: &mut Scene) -> Result<(), Stop> {
-    let mut lines = old_lines(alloc)?;
+    let mut scrollback = old_lines(alloc)?;
     let mut changes = texts(alloc, scene.kind)?;
     changes.append(&mut scroll(alloc)?)?;
     let before = frame_of(&scene.surface);
-    let answer = scene.surface.add_changes_scrolling(changes, &mut lines);
-    holds("add_changes_scrolling", keeps_old(&lines))?;
+    let answer = scene
+        .surface
+        .add_changes_scrolling(changes, &mut scrollback);
+    holds("add_changes_scrolling", keeps_old(&scrollback))?;
     added_to("add_changes_scrolling", answer, before, scene)
 }
 
 fn kept_unlogged(alloc: Global, scene: &mut Scene) -> Result<(), Stop> {
-    let mut lines = old_lines(alloc)?;
+    let mut scrollback = old_lines(alloc)?;
     let before = frame_of(&scene.surface);
     let text = LentChange::Text("w00t\r\nかfoo\r\nbar");
-    let answer = scene.surface.add_unlogged_scrolling(&[text], &mut lines);
-    holds("add_unlogged_scrolling", keeps_old(&lines))?;
+    let answer = scene
+        .surface
+        .add_unlogged_scrolling(&[text], &mut scrollback);
+    holds("add_unlogged_scrolling", keeps_old(&scrollback))?;
     added_to("add_unlogged_scrolling", answer, before, scene)
 }
 

@@ -2,7 +2,8 @@
 ghost use Rattle.std.specs.Prelude.{◌≡◌, ◌≢◌, ◌+◌, ◌-◌, ◌<◌, ◌^◌, ◌∷◌, ◌++◌, [], Err, IfOk, List};
 ghost use Rattle.std.specs.Prelude.{OnErr, OnOk, ℕ, min, vec_len};
 ghost use Rattle.termwiz_share.specs.{Adds, AddsScrolledOff, AddsUnlogged, Answers, ClientValue};
-ghost use Rattle.termwiz_share.specs.{HasCopied, HasDrawn, IsCopied, IsDrawn, IsRegionDrawn, IsResponse};
+ghost use Rattle.termwiz_share.specs.{HasCopied, HasDrawn, IsCopied, IsDrawn, IsRegionDrawn};
+ghost use Rattle.termwiz_share.specs.{IsResponse};
 ghost use Rattle.termwiz_share.specs.{IsSurfaceSize, KeepsClients, KeepsViewers, NumbersRows};
 ghost use Rattle.termwiz_share.specs.{Resizes, Responds, ScrollRegion, Serves, SourceValue};
 ghost use Rattle.termwiz_share.specs.{blank_surface, lent_value};
@@ -14,7 +15,7 @@ use std::alloc::{AllocError, Global};
 use std::marker::Model;
 use termwiz_cell::change::{Change, SEQ_ZERO, SequenceNo};
 use termwiz_cell::emoji::Widths;
-use termwiz_surface::{Answer, LentChange, Line, Surface, SurfaceError};
+use termwiz_surface::{Answer, LentChange, Scrollback, Surface, SurfaceError};
 use termwiz_wire::{Ask, SourceNo, encode_answer, encoded_len};
 
 /// A full surface that clients show, with a number that names it among all sources that a client
@@ -115,11 +116,11 @@ impl<W: Widths> Source<W> {
     }
 
     /// Makes the changes in order, and moves the lines that they scroll off the top of the screen
-    /// to the end of `scrolled_off`, as `Surface::add_changes_scrolling` does.
+    /// to the end of a scrollback, as `Surface::add_changes_scrolling` does.
     pub fn add_changes_scrolling(
         &mut self,
         changes: Vec<Change>,
-        scrolled_off: &mut Vec<Line>,
+        scrollback: &mut Scrollback,
     ) -> Result<SequenceNo, SurfaceError>
         ensures adds { Adds (measure W.width_of self.old.surface.widths)
             (trimmed self.old.surface) (map change_value changes.items)
@@ -129,7 +130,7 @@ impl<W: Widths> Source<W> {
         ensures scrolled { AddsScrolledOff self.old.surface.width
             (rows_scrolled_off (measure W.width_of self.old.surface.widths)
             (screen_of self.old.surface) (map change_value changes.items))
-            result scrolled_off.old.items scrolled_off.new.items }
+            result scrollback.old.lines.items scrollback.new.lines.items }
         ensures number { self.new.number ≡ self.old.number }
         ensures serves { KeepsClients (measure W.width_of) self.old self.new }
         // Each viewer that follows the surface still follows it, even after an error.
@@ -138,7 +139,7 @@ impl<W: Widths> Source<W> {
         ensures numbered { NumbersRows self.old.surface self.new.surface }
     {
         self.surface.forget_unneeded();
-        self.surface.add_changes_scrolling(changes, scrolled_off)
+        self.surface.add_changes_scrolling(changes, scrollback)
     }
 
     /// Makes copies of the changes in order, as `Surface::add_lent_changes` does.
@@ -175,12 +176,12 @@ impl<W: Widths> Source<W> {
     }
 
     /// Makes the changes in order without logging them, and moves the lines that they scroll off
-    /// the top of the screen to the end of `scrolled_off`, as `Surface::add_unlogged_scrolling`
+    /// the top of the screen to the end of a scrollback, as `Surface::add_unlogged_scrolling`
     /// does.
     pub fn add_unlogged_scrolling(
         &mut self,
         changes: &[LentChange<'_>],
-        scrolled_off: &mut Vec<Line>,
+        scrollback: &mut Scrollback,
     ) -> Result<SequenceNo, SurfaceError>
         ensures adds { AddsUnlogged (measure W.width_of self.old.surface.widths)
             self.old.surface (map lent_value changes.now)
@@ -190,7 +191,7 @@ impl<W: Widths> Source<W> {
         ensures scrolled { AddsScrolledOff self.old.surface.width
             (rows_scrolled_off (measure W.width_of self.old.surface.widths)
             (screen_of self.old.surface) (map lent_value changes.now))
-            result scrolled_off.old.items scrolled_off.new.items }
+            result scrollback.old.lines.items scrollback.new.lines.items }
         ensures number { self.new.number ≡ self.old.number }
         ensures serves { KeepsClients (measure W.width_of) self.old self.new }
         // Each viewer that follows the surface still follows it, even after an error.
@@ -198,7 +199,7 @@ impl<W: Widths> Source<W> {
         // A row whose number isn't above one that the surface had is as it was then.
         ensures numbered { NumbersRows self.old.surface self.new.surface }
     {
-        self.surface.add_unlogged_scrolling(changes, scrolled_off)
+        self.surface.add_unlogged_scrolling(changes, scrollback)
     }
 
     /// Draws another surface from this column and this row on, as `Surface::draw_from_screen` does.

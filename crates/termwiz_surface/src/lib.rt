@@ -25,9 +25,11 @@
 #![tactic(auto)]
 
 pub mod laws;
+pub mod scrollback;
 pub mod surface;
 pub mod view;
 
+pub use scrollback::Scrollback;
 pub use surface::{Answer, FullScreen, LentChange, NewSurfaceError, Screen, Surface, SurfaceError};
 pub use termwiz_cell::cell::{AttributeChange, Cell, CellAttributes};
 pub use termwiz_cell::change::{

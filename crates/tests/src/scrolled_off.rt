@@ -5,9 +5,9 @@ use std::process::Abort;
 use termwiz_cell::change::Change;
 use termwiz_cell::emoji::UnicodeWidths;
 use termwiz_share::Source;
-use termwiz_surface::Line;
+use termwiz_surface::Scrollback;
 use termwiz_surface::surface::{LentChange, Surface};
-use uses::scrollback::print_and_keep;
+use uses::scrollback::{keep_newest, print_and_keep};
 
 // What is printed on a 4x2 in turn, the lines that scroll off, and the rows that are left.
 const TEXTS: [([&str; 2], &[&str], &str); 6] = [
@@ -20,8 +20,8 @@ const TEXTS: [([&str; 2], &[&str], &str); 6] = [
     (["かかかか", "か"], &["かか"], "かか\nか  \n"),
 ];
 
-// Scrolls of the rows `a`, `b` and `c`: the first row, the size and the count of each, and the lines
-// that scroll off.
+// Scrolls of the rows `a`, `b` and `c`: the first row, the size and the count of each, and the
+// lines that scroll off.
 const SCROLLS: [((usize, usize, usize), &[&str]); 4] = [
     ((0, 3, 2), &["a", "b"]),
     ((0, 2, 5), &["a", "b"]),
@@ -29,7 +29,8 @@ const SCROLLS: [((usize, usize, usize), &[&str]); 4] = [
     ((0, 0, 1), &[]),
 ];
 
-fn assert_lines(rt: &impl Abort, lines: &[Line], texts: &[&str]) {
+fn assert_lines(rt: &impl Abort, scrollback: &Scrollback, texts: &[&str]) {
+    let lines = &scrollback.lines;
     assert_eq!(rt; lines.len(), texts.len());
     for i in 0..lines.len() {
         let text = lines[i].columns_as_str(0..4).expect(rt, "a text");
@@ -49,7 +50,7 @@ fn texts_scroll_lines_off(rt: HostRuntime) {
     for (printed, left, rows) in &texts[..] {
         let mut source = Source::new(alloc, 1, 4, 2, UnicodeWidths).expect(&rt, "a source");
         let mut surface = Surface::new(alloc, 4, 2, UnicodeWidths).expect(&rt, "a surface");
-        let (mut lines, mut others) = (Vec::new(alloc), Vec::new(alloc));
+        let (mut lines, mut others) = (Scrollback::new(alloc), Scrollback::new(alloc));
         for text in printed {
             let mut changes = Vec::new(alloc);
             let step = Step::Print(*text).change(&rt, alloc);
@@ -63,6 +64,10 @@ fn texts_scroll_lines_off(rt: HostRuntime) {
         assert_lines(&rt, &others, left);
         assert_rows(&rt, source.surface(), rows);
         assert_rows(&rt, &surface, rows);
+        // A row that takes the memory of a line that was removed is blank.
+        keep_newest(&mut others, 1);
+        print_and_keep(&mut surface, "\r\nx\r\ny", &mut others).expect(&rt, "a text");
+        assert_rows(&rt, &surface, "x   \ny   \n");
     }
 }
 
@@ -73,7 +78,7 @@ fn scrolls_of_a_region_from_row_0_on_scroll_lines_off(rt: HostRuntime) {
     for (region, left) in &scrolls[..] {
         let (first_row, region_size, scroll_count) = *region;
         let mut source = Source::new(alloc, 1, 4, 3, UnicodeWidths).expect(&rt, "a source");
-        let mut lines = Vec::new(alloc);
+        let mut lines = Scrollback::new(alloc);
         let scroll = LentChange::Owned(Change::ScrollRegionUp {
             first_row,
             region_size,

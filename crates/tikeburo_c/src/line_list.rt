@@ -1,6 +1,7 @@
 //! Lists of lines, which know of no surface: a program's scrollback.
 ghost use Rattle.std.specs.Prelude.{◌≡◌, ◌+◌, ◌≤◌, [], ◌∷◌, ◌++◌, IfErr, IfOk, None};
 ghost use Rattle.std.specs.Prelude.{OnErr, OnOk, Some, length, map, slice_get};
+ghost use Rattle.std.specs.VecDeque.{deque_len};
 ghost use Rattle.termwiz_line.specs.{line_contents};
 ghost use Rattle.tikeburo_c.specs.LineLists.{AreCompressed, AreWrapped, Compresses, Removes};
 ghost use Rattle.tikeburo_c.specs.LineLists.{Wraps, has_lines};
@@ -8,14 +9,15 @@ ghost use Rattle.tikeburo_c.specs.declared.failure.Failure.TheVariants.{Range};
 
 use crate::failure::Failure;
 use std::alloc::{AllocError, Global};
+use std::collections::VecDeque;
 use std::marker::Model;
-use termwiz_surface::Line;
 use termwiz_surface::change::SEQ_ZERO;
+use termwiz_surface::{Line, Scrollback};
 
 /// A list of lines, the oldest one first.
 #[derive(Drop)]
 pub struct LineList {
-    pub(crate) lines: Vec<Line>,
+    pub(crate) scrollback: Scrollback,
 }
 
 impl Model for LineList {
@@ -24,7 +26,7 @@ impl Model for LineList {
 
     ghost Value = { List LineValue };
 
-    ghost view = { λ l. l.lines.items };
+    ghost view = { λ l. l.scrollback.lines.items };
 }
 
 impl LineList {
@@ -33,7 +35,7 @@ impl LineList {
         ensures { result ≡ [] }
     {
         LineList {
-            lines: Vec::new(alloc),
+            scrollback: Scrollback::new(alloc),
         }
     }
 
@@ -41,7 +43,7 @@ impl LineList {
     pub(crate) fn count(&self) -> usize
         ensures { result ≡ length self.now }
     {
-        self.lines.len()
+        self.scrollback.len()
     }
 
     /// The line at this index, if there is one.
@@ -50,7 +52,7 @@ impl LineList {
         ensures missing { IfErr result (λ failure.
             (failure ≡ Range) × (slice_get self.now index ≡ None)) }
     {
-        match self.lines.get(index) {
+        match self.scrollback.lines.get(index) {
             Some(line) => Ok(line),
             None => Err(Failure::Range),
         }
@@ -61,18 +63,22 @@ impl LineList {
         ensures ok { OnOk result (self.new ≡ self.old ++ line ∷ []) }
         ensures err { OnErr result (self.new ≡ self.old) }
     {
-        self.lines.push(line)?;
+        self.scrollback.lines.push_back(line)?;
         Ok(())
     }
 
-    /// Removes so many lines from this one on.
+    /// Removes so many lines from this one on. The memory of the first ones serves new rows.
     pub(crate) fn remove(&mut self, first: usize, count: usize) -> Result<(), Failure>
         ensures { Removes first count self.old result self.new }
     {
         if !self.has(first, count) {
             return Err(Failure::Range);
         }
-        drop(self.lines.drain(first..first + count));
+        if first == 0 {
+            self.scrollback.remove_first(count);
+        } else {
+            drop(self.scrollback.lines.drain(first..first + count));
+        }
         Ok(())
     }
 
@@ -80,7 +86,7 @@ impl LineList {
     fn has(&self, first: usize, count: usize) -> bool
         ensures { result ≡ has_lines first count self.now }
     {
-        let len = self.lines.len();
+        let len = self.scrollback.len();
         first <= len && count <= len - first
     }
 
@@ -91,7 +97,7 @@ impl LineList {
         if !self.has(first, count) {
             return Err(Failure::Range);
         }
-        compress_all(&mut self.lines, first, first + count)?;
+        compress_all(&mut self.scrollback.lines, first, first + count)?;
         Ok(())
     }
 
@@ -99,31 +105,35 @@ impl LineList {
     pub(crate) fn wrap(&mut self, alloc: Global, width: usize) -> Result<(), Failure>
         ensures { Wraps width self.old result self.new }
     {
-        let lines = wrap_all(alloc, &self.lines, width)?;
-        self.lines = lines;
+        let lines = wrap_all(alloc, &self.scrollback.lines, width)?;
+        self.scrollback.lines = lines;
         Ok(())
     }
 }
 
 // The lines that each line is wrapped into, one line's after another's.
-fn wrap_all(alloc: Global, lines: &[Line], width: usize) -> Result<Vec<Line>, AllocError>
-    ensures { IfOk result (λ wrapped. AreWrapped width lines.now wrapped.items) }
+fn wrap_all(
+    alloc: Global,
+    lines: &VecDeque<Line>,
+    width: usize,
+) -> Result<VecDeque<Line>, AllocError>
+    ensures { IfOk result (λ wrapped. AreWrapped width lines.now.items wrapped.items) }
 {
     let mut wrapped = Vec::new(alloc);
-    for line in lines {
-        let copy = line.clone()?;
+    for i in 0..lines.len() {
+        let copy = lines[i].clone()?;
         let mut pieces = copy.wrap(width, SEQ_ZERO)?;
         wrapped.append(&mut pieces)?;
     }
-    Ok(wrapped)
+    Ok(VecDeque::from_vec(wrapped))
 }
 
 // Stores the lines from one on up to another one as texts, where they may be.
-fn compress_all(lines: &mut [Line], first: usize, end: usize) -> Result<(), AllocError>
+fn compress_all(lines: &mut VecDeque<Line>, first: usize, end: usize) -> Result<(), AllocError>
     requires ordered { first ≤ end }
-    requires inside { end ≤ length lines.old }
-    ensures ok { OnOk result (AreCompressed first end lines.old lines.new) }
-    ensures same { map line_contents lines.new ≡ map line_contents lines.old }
+    requires inside { end ≤ deque_len lines.old }
+    ensures ok { OnOk result (AreCompressed first end lines.old.items lines.new.items) }
+    ensures same { map line_contents lines.new.items ≡ map line_contents lines.old.items }
 {
     for i in first..end {
         lines[i].compress_for_scrollback()?;

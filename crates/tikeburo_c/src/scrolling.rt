@@ -31,7 +31,7 @@ fn add_list(
         (rows_off surface.old.surface (map change_value changes.items))
         lines.old result lines.new }
 {
-    surface.add_changes_scrolling(changes, &mut lines.lines)?;
+    surface.add_changes_scrolling(changes, &mut lines.scrollback)?;
     Ok(())
 }
 
@@ -44,7 +44,7 @@ fn add_list_unlogged(
     ensures lines { AddsRows surface.old.surface.width
         (rows_off surface.old.surface (map lent_value changes.now)) lines.old result lines.new }
 {
-    surface.add_unlogged_scrolling(changes, &mut lines.lines)?;
+    surface.add_unlogged_scrolling(changes, &mut lines.scrollback)?;
     Ok(())
 }
 

@@ -1,13 +1,15 @@
 //! A scrollback: lines that have left the screen, each stored as one text where that can be.
-ghost use Rattle.std.specs.Prelude.{◌≡◌, ◌↔◌, ◌+◌, ◌-◌, IfOk, List, OnErr, OnOk, false, length, map};
-ghost use Rattle.std.specs.Prelude.{true};
+ghost use Rattle.std.specs.Prelude.{◌≡◌, ◌↔◌, ◌+◌, ◌-◌, ◌≤◌, IfOk, List, OnErr, OnOk, drop, false};
+ghost use Rattle.std.specs.Prelude.{length, map, true};
 ghost use Rattle.uses.specs.{AddsScrolledOff, AddsUnlogged, measure, next_number, printed_text};
 ghost use Rattle.uses.specs.{rows_scrolled_off, screen_of};
 ghost use Rattle.uses.specs.{IsWhole, IsWrapped, LineValue, line_contents, line_eq, visible};
 
 use std::alloc::AllocError;
 use termwiz_surface::laws::{cut_laws, edit_laws, storage_laws};
-use termwiz_surface::{LentChange, Line, SEQ_ZERO, SequenceNo, Surface, SurfaceError, Widths};
+use termwiz_surface::{
+    LentChange, Line, SEQ_ZERO, Scrollback, SequenceNo, Surface, SurfaceError, Widths,
+};
 
 /// Prints what a program wrote, and moves the rows that it scrolls off the top of the screen to the
 /// end of the kept lines.
@@ -17,7 +19,7 @@ use termwiz_surface::{LentChange, Line, SEQ_ZERO, SequenceNo, Surface, SurfaceEr
 pub fn print_and_keep<W: Widths>(
     surface: &mut Surface<W>,
     output: &str,
-    kept: &mut Vec<Line>,
+    kept: &mut Scrollback,
 ) -> Result<SequenceNo, SurfaceError>
     ensures adds { AddsUnlogged (measure W.width_of surface.old.widths)
         surface.old (printed_text output.now) (next_number surface.old.log - 1 + 1)
@@ -25,12 +27,23 @@ pub fn print_and_keep<W: Widths>(
     // Behind the old lines there are those that show the rows, and no others.
     ensures keeps { AddsScrolledOff surface.old.width
         (rows_scrolled_off (measure W.width_of surface.old.widths) (screen_of surface.old)
-        (printed_text output.now)) result kept.old.items kept.new.items }
-    ensures count { OnOk result (length kept.new.items ≡ length kept.old.items + length
+        (printed_text output.now)) result kept.old.lines.items kept.new.lines.items }
+    ensures count { OnOk result (length kept.new.lines.items
+        ≡ length kept.old.lines.items + length
         (rows_scrolled_off (measure W.width_of surface.old.widths) (screen_of surface.old)
         (printed_text output.now))) }
 {
     surface.add_unlogged_scrolling(&[LentChange::Text(output)], kept)
+}
+
+/// Removes the oldest lines, so that no more than `limit` are kept.
+pub fn keep_newest(kept: &mut Scrollback, limit: usize)
+    ensures newest { kept.new.lines.items
+        ≡ drop (length kept.old.lines.items - limit) kept.old.lines.items }
+    ensures limited { length kept.new.lines.items ≤ limit }
+{
+    let count = kept.len();
+    kept.remove_first(count.saturating_sub(limit));
 }
 
 /// Stores a line that leaves the screen, as one text where that can be. It is equal to what it was,

@@ -14,16 +14,16 @@ ghost use Rattle.termwiz_surface.specs.{step_kept, topped, true};
 
 use super::unlogged::LentChange;
 use super::{Surface, SurfaceError, number_for};
+use crate::scrollback::Scrollback;
 use std::alloc::AllocError;
 use std::mem;
-use termwiz_cell::change::{Change, SEQ_ZERO, SequenceNo};
+use termwiz_cell::change::{Change, SequenceNo};
 use termwiz_cell::emoji::Widths;
-use termwiz_line::line::line::Line;
-use termwiz_text::split_first_grapheme;
+use termwiz_text::{after_line_end, split_first_grapheme};
 
 impl<W: Widths> Surface<W> {
-    // Moves a row to the end of the lines, and leaves a row of default blanks in its place.
-    fn take_row(&mut self, row: usize, lines: &mut Vec<Line>) -> Result<(), AllocError>
+    // Moves a row to the end of a scrollback, and leaves a row of default blanks in its place.
+    fn take_row(&mut self, row: usize, scrollback: &mut Scrollback) -> Result<(), AllocError>
         requires { row < self.old.height }
         ensures ok { OnOk result (let s = screen_of self.old in let k = kept_of self.old in
             Becomes self.old
@@ -33,23 +33,24 @@ impl<W: Widths> Surface<W> {
               flags = slice_set k.flags row no_flags;
             }) self.new) }
         ensures moves { OnOk result (ScrollsOff self.old.width
-            (row_at (screen_of self.old).rows row ∷ []) lines.old.items lines.new.items) }
+            (row_at (screen_of self.old).rows row ∷ [])
+            scrollback.old.lines.items scrollback.new.lines.items) }
         ensures err { OnErr result (self.new ≡ self.old) }
-        ensures kept { OnErr result (lines.new.items ≡ lines.old.items) }
+        ensures kept { OnErr result (scrollback.new.lines.items ≡ scrollback.old.lines.items) }
         ensures sound { OnOk result (IsSound (measure W.width_of self.old.widths) self.old) }
     {
         // Once there is room for the row, nothing fails.
-        lines.reserve(1)?;
-        let blank = Line::with_width(self.alloc, self.width, SEQ_ZERO)?;
+        scrollback.lines.reserve(1)?;
+        let blank = scrollback.blank_row(self.alloc, self.width)?;
         let line = mem::replace(&mut self.rows[row], blank);
         self.numbers.mark_row(row, self.mark);
-        lines.push_reserved(line);
+        scrollback.lines.push_back_reserved(line);
         Ok(())
     }
 
-    // Moves the first `count` rows to the end of the lines, and leaves rows of default blanks in
+    // Moves the first `count` rows to the end of a scrollback, and leaves rows of default blanks in
     // their place.
-    fn take_rows(&mut self, count: usize, lines: &mut Vec<Line>) -> Result<(), AllocError>
+    fn take_rows(&mut self, count: usize, scrollback: &mut Scrollback) -> Result<(), AllocError>
         requires { count ≤ self.old.height }
         ensures ok { OnOk result (let s = screen_of self.old in let k = kept_of self.old in
             Becomes self.old
@@ -59,12 +60,14 @@ impl<W: Widths> Surface<W> {
               flags = topped no_flags count k.flags;
             }) self.new) }
         ensures moves { OnOk result (ScrollsOff self.old.width
-            (take count (screen_of self.old).rows) lines.old.items lines.new.items) }
+            (take count (screen_of self.old).rows)
+            scrollback.old.lines.items scrollback.new.lines.items) }
         ensures err { OnErr result (SameFrame self.old self.new) }
-        ensures kept { OnErr result (KeepsLines lines.old.items lines.new.items) }
+        ensures kept { OnErr result (
+            KeepsLines scrollback.old.lines.items scrollback.new.lines.items) }
     {
         for row in 0..count {
-            self.take_row(row, lines)?;
+            self.take_row(row, scrollback)?;
         }
         Ok(())
     }
@@ -94,6 +97,9 @@ impl<W: Widths> Surface<W> {
         if text.as_bytes()[0] >= b' ' {
             return self.x >= self.width;
         }
+        if after_line_end(text).is_some() {
+            return true;
+        }
         match split_first_grapheme(text) {
             Some((grapheme, _)) => self.moves_down(grapheme),
             None => unreachable!(),
@@ -101,11 +107,11 @@ impl<W: Widths> Surface<W> {
     }
 
     // Prints what the text begins with, and returns the rest. Where this scrolls row 0 off, that
-    // row is moved to the end of the lines.
+    // row is moved to the end of the scrollback.
     fn print_first_scrolling<'a>(
         &mut self,
         text: &'a str,
-        lines: &mut Vec<Line>,
+        scrollback: &mut Scrollback,
     ) -> Result<&'a str, AllocError>
         requires { 0 < length text.now }
         ensures ok { IfOk result (λ rest. PrintsFirst (measure W.width_of self.old.widths)
@@ -114,9 +120,10 @@ impl<W: Widths> Surface<W> {
             LeavesRows self.old.width
             (left_by f (screen_of self.old) (graphemes true text.now))
             (left_by f (screen_of self.new) (graphemes true rest.now))
-            lines.old.items lines.new.items) }
+            scrollback.old.lines.items scrollback.new.lines.items) }
         ensures err { OnErr result (SameFrame self.old self.new) }
-        ensures kept { OnErr result (KeepsLines lines.old.items lines.new.items) }
+        ensures kept { OnErr result (
+            KeepsLines scrollback.old.lines.items scrollback.new.lines.items) }
     {
         // A surface has a row 0.
         let _ = &self.rows;
@@ -125,36 +132,42 @@ impl<W: Widths> Surface<W> {
             return Ok(rest);
         }
         // The row that is printed below is moved up over this one.
-        self.take_row(0, lines)?;
+        self.take_row(0, scrollback)?;
         let rest = self.print_first(text)?;
         Ok(rest)
     }
 
-    fn print_text_scrolling(&mut self, text: &str, lines: &mut Vec<Line>) -> Result<(), AllocError>
+    fn print_text_scrolling(
+        &mut self,
+        text: &str,
+        scrollback: &mut Scrollback,
+    ) -> Result<(), AllocError>
         ensures ok { OnOk result (let f = measure W.width_of self.old.widths in
             let s = screen_of self.old in
             Becomes self.old (print f s text.now)
             (print_kept f s text.now (kept_of self.old)) self.new) }
         ensures scrolls { OnOk result (ScrollsOff self.old.width
             (left_by (measure W.width_of self.old.widths) (screen_of self.old)
-            (graphemes true text.now)) lines.old.items lines.new.items) }
+            (graphemes true text.now))
+            scrollback.old.lines.items scrollback.new.lines.items) }
         ensures err { OnErr result (SameFrame self.old self.new) }
-        ensures kept { OnErr result (KeepsLines lines.old.items lines.new.items) }
+        ensures kept { OnErr result (
+            KeepsLines scrollback.old.lines.items scrollback.new.lines.items) }
     {
         let mut rest = text;
         'pieces: while !rest.is_empty() {
-            rest = self.print_first_scrolling(rest, lines)?;
+            rest = self.print_first_scrolling(rest, scrollback)?;
         }
         Ok(())
     }
 
-    // Scrolls rows up inside a region, and moves those that leave row 0 to the end of the lines.
+    // Scrolls rows up inside a region, and moves those that leave row 0 to the end of a scrollback.
     fn scroll_region_up_scrolling(
         &mut self,
         first: usize,
         size: usize,
         count: usize,
-        lines: &mut Vec<Line>,
+        scrollback: &mut Scrollback,
     ) -> Result<(), AllocError>
         requires { first + size ≤ self.old.height }
         ensures ok { OnOk result (let s = screen_of self.old in let k = kept_of self.old in
@@ -166,20 +179,25 @@ impl<W: Widths> Surface<W> {
             }) self.new) }
         ensures scrolls { OnOk result (ScrollsOff self.old.width
             (if first == 0 then take (min count size) (screen_of self.old).rows else [])
-            lines.old.items lines.new.items) }
+            scrollback.old.lines.items scrollback.new.lines.items) }
         ensures err { OnErr result (SameFrame self.old self.new) }
-        ensures kept { OnErr result (KeepsLines lines.old.items lines.new.items) }
+        ensures kept { OnErr result (
+            KeepsLines scrollback.old.lines.items scrollback.new.lines.items) }
     {
         if first > 0 {
             self.scroll_region_up(first, size, count)?;
             return Ok(());
         }
-        self.take_rows(count.min(size), lines)?;
+        self.take_rows(count.min(size), scrollback)?;
         self.scroll_region_up(0, size, count)?;
         Ok(())
     }
 
-    fn apply_scrolling(&mut self, change: &Change, lines: &mut Vec<Line>) -> Result<(), AllocError>
+    fn apply_scrolling(
+        &mut self,
+        change: &Change,
+        scrollback: &mut Scrollback,
+    ) -> Result<(), AllocError>
         requires { region_fits self.old.height (change_value change.now) ≡ true }
         ensures ok { OnOk result (let f = measure W.width_of self.old.widths in
             let s = screen_of self.old in
@@ -187,18 +205,25 @@ impl<W: Widths> Surface<W> {
             (step_kept f s (kept_of self.old) (change_value change.now)) self.new) }
         ensures scrolls { OnOk result (ScrollsOff self.old.width
             (left_step (measure W.width_of self.old.widths) (screen_of self.old)
-            (change_value change.now)) lines.old.items lines.new.items) }
+            (change_value change.now))
+            scrollback.old.lines.items scrollback.new.lines.items) }
         ensures err { OnErr result (SameFrame self.old self.new) }
-        ensures kept { OnErr result (KeepsLines lines.old.items lines.new.items) }
+        ensures kept { OnErr result (
+            KeepsLines scrollback.old.lines.items scrollback.new.lines.items) }
     {
         match change {
-            Change::Text(text) => self.print_text_scrolling(text.as_str(), lines)?,
+            Change::Text(text) => self.print_text_scrolling(text.as_str(), scrollback)?,
             Change::ScrollRegionUp {
                 first_row,
                 region_size,
                 scroll_count,
             } => {
-                self.scroll_region_up_scrolling(*first_row, *region_size, *scroll_count, lines)?;
+                self.scroll_region_up_scrolling(
+                    *first_row,
+                    *region_size,
+                    *scroll_count,
+                    scrollback,
+                )?;
             }
             _ => self.apply(change)?,
         }
@@ -208,7 +233,7 @@ impl<W: Widths> Surface<W> {
     fn apply_lent_scrolling(
         &mut self,
         change: &LentChange<'_>,
-        lines: &mut Vec<Line>,
+        scrollback: &mut Scrollback,
     ) -> Result<(), AllocError>
         requires { region_fits self.old.height (lent_value change.now) ≡ true }
         ensures ok { OnOk result (let f = measure W.width_of self.old.widths in
@@ -217,14 +242,16 @@ impl<W: Widths> Surface<W> {
             (step_kept f s (kept_of self.old) (lent_value change.now)) self.new) }
         ensures scrolls { OnOk result (ScrollsOff self.old.width
             (left_step (measure W.width_of self.old.widths) (screen_of self.old)
-            (lent_value change.now)) lines.old.items lines.new.items) }
+            (lent_value change.now))
+            scrollback.old.lines.items scrollback.new.lines.items) }
         ensures err { OnErr result (SameFrame self.old self.new) }
-        ensures kept { OnErr result (KeepsLines lines.old.items lines.new.items) }
+        ensures kept { OnErr result (
+            KeepsLines scrollback.old.lines.items scrollback.new.lines.items) }
     {
         match change {
-            LentChange::Text(text) => self.print_text_scrolling(text, lines)?,
+            LentChange::Text(text) => self.print_text_scrolling(text, scrollback)?,
             LentChange::Title(title) => self.set_title(title)?,
-            LentChange::Owned(change) => self.apply_scrolling(change, lines)?,
+            LentChange::Owned(change) => self.apply_scrolling(change, scrollback)?,
         }
         Ok(())
     }
@@ -232,7 +259,7 @@ impl<W: Widths> Surface<W> {
     fn apply_all_lent_scrolling(
         &mut self,
         changes: &[LentChange<'_>],
-        lines: &mut Vec<Line>,
+        scrollback: &mut Scrollback,
     ) -> Result<(), AllocError>
         requires { regions_fit self.old.height (map lent_value changes.now) ≡ true }
         ensures ok { OnOk result (let f = measure W.width_of self.old.widths in
@@ -241,14 +268,16 @@ impl<W: Widths> Surface<W> {
             (replay_kept f s (kept_of self.old) (map lent_value changes.now)) self.new) }
         ensures scrolls { OnOk result (ScrollsOff self.old.width
             (rows_scrolled_off (measure W.width_of self.old.widths) (screen_of self.old)
-            (map lent_value changes.now)) lines.old.items lines.new.items) }
+            (map lent_value changes.now))
+            scrollback.old.lines.items scrollback.new.lines.items) }
         ensures err { OnErr result (SameFrame self.old self.new) }
-        ensures kept { OnErr result (KeepsLines lines.old.items lines.new.items) }
+        ensures kept { OnErr result (
+            KeepsLines scrollback.old.lines.items scrollback.new.lines.items) }
         ensures empty { OnErr result (0 < length changes.now) }
         ensures none { length changes.now ≡ 0 → self.new ≡ self.old }
     {
         for change in changes {
-            self.apply_lent_scrolling(change, lines)?;
+            self.apply_lent_scrolling(change, scrollback)?;
         }
         Ok(())
     }
@@ -257,7 +286,7 @@ impl<W: Widths> Surface<W> {
     fn make_unlogged_scrolling(
         &mut self,
         changes: &[LentChange<'_>],
-        lines: &mut Vec<Line>,
+        scrollback: &mut Scrollback,
     ) -> Result<(), AllocError>
         requires fits { regions_fit self.old.height (map lent_value changes.now) ≡ true }
         requires numbers { next_number self.old.log + length changes.now < 2 ^ 64 }
@@ -265,29 +294,31 @@ impl<W: Widths> Surface<W> {
             self.old (map lent_value changes.now) self.new) }
         ensures scrolls { OnOk result (ScrollsOff self.old.width
             (rows_scrolled_off (measure W.width_of self.old.widths) (screen_of self.old)
-            (map lent_value changes.now)) lines.old.items lines.new.items) }
+            (map lent_value changes.now))
+            scrollback.old.lines.items scrollback.new.lines.items) }
         ensures err { OnErr result (SameFrame self.old self.new) }
-        ensures kept { OnErr result (KeepsLines lines.old.items lines.new.items) }
+        ensures kept { OnErr result (
+            KeepsLines scrollback.old.lines.items scrollback.new.lines.items) }
         ensures some { OnErr result (0 < length changes.now) }
         ensures none { length changes.now ≡ 0 → NumbersRows self.old self.new }
     {
         self.mark = self.log.next_number() + changes.len();
-        self.apply_all_lent_scrolling(changes, lines)?;
+        self.apply_all_lent_scrolling(changes, scrollback)?;
         self.log.pass(changes.len());
         Ok(())
     }
 
     /// Applies the changes in order without logging them, as `add_unlogged` does, and moves the
-    /// lines that they scroll off the top of the screen to the end of `scrolled_off`, the first one
+    /// lines that they scroll off the top of the screen to the end of a scrollback, the first one
     /// first. Texts scroll lines off, and `ScrollRegionUp` does where its region begins at row 0.
     ///
-    /// Returns what `add_unlogged` returns. `ScrollRegion`, `Numbers`: `scrolled_off` is unchanged
-    /// too. `Memory`: `scrolled_off` keeps its old lines, and may have lines of changes that were
+    /// Returns what `add_unlogged` returns. `ScrollRegion`, `Numbers`: the scrollback is unchanged
+    /// too. `Memory`: the scrollback keeps its old lines, and may have lines of changes that were
     /// applied behind them.
     pub fn add_unlogged_scrolling(
         &mut self,
         changes: &[LentChange<'_>],
-        scrolled_off: &mut Vec<Line>,
+        scrollback: &mut Scrollback,
     ) -> Result<SequenceNo, SurfaceError>
         ensures adds { AddsUnlogged (measure W.width_of self.old.widths)
             self.old (map lent_value changes.now)
@@ -295,7 +326,8 @@ impl<W: Widths> Surface<W> {
         // The lines that scroll off are added, and the old ones stay, even after an error.
         ensures scrolled { AddsScrolledOff self.old.width
             (rows_scrolled_off (measure W.width_of self.old.widths) (screen_of self.old)
-            (map lent_value changes.now)) result scrolled_off.old.items scrolled_off.new.items }
+            (map lent_value changes.now))
+            result scrollback.old.lines.items scrollback.new.lines.items }
         ensures empty { length changes.now ≡ 0 → IsOk result }
         ensures unlogged { OnOk result (self.new.log ≡ passed self.old.log (length changes.now)) }
         // Whoever asks by another number than the surface's gets a repaint.
@@ -310,7 +342,7 @@ impl<W: Widths> Surface<W> {
     {
         self.refuse_lent(changes)?;
         let number = number_for(self.log.next_number(), changes.len());
-        if self.make_unlogged_scrolling(changes, scrolled_off).is_err() {
+        if self.make_unlogged_scrolling(changes, scrollback).is_err() {
             self.restart();
             return Err(SurfaceError::Memory);
         }
@@ -320,7 +352,7 @@ impl<W: Widths> Surface<W> {
     fn apply_all_scrolling(
         &mut self,
         changes: &[Change],
-        lines: &mut Vec<Line>,
+        scrollback: &mut Scrollback,
     ) -> Result<(), AllocError>
         requires { regions_fit self.old.height (map change_value changes.now) ≡ true }
         ensures ok { OnOk result (let f = measure W.width_of self.old.widths in
@@ -329,14 +361,16 @@ impl<W: Widths> Surface<W> {
             (replay_kept f s (kept_of self.old) (map change_value changes.now)) self.new) }
         ensures scrolls { OnOk result (ScrollsOff self.old.width
             (rows_scrolled_off (measure W.width_of self.old.widths) (screen_of self.old)
-            (map change_value changes.now)) lines.old.items lines.new.items) }
+            (map change_value changes.now))
+            scrollback.old.lines.items scrollback.new.lines.items) }
         ensures err { OnErr result (SameFrame self.old self.new) }
-        ensures kept { OnErr result (KeepsLines lines.old.items lines.new.items) }
+        ensures kept { OnErr result (
+            KeepsLines scrollback.old.lines.items scrollback.new.lines.items) }
         ensures empty { OnErr result (0 < length changes.now) }
         ensures none { length changes.now ≡ 0 → self.new ≡ self.old }
     {
         for change in changes {
-            self.apply_scrolling(change, lines)?;
+            self.apply_scrolling(change, scrollback)?;
         }
         Ok(())
     }
@@ -345,7 +379,7 @@ impl<W: Widths> Surface<W> {
     fn make_all_scrolling(
         &mut self,
         changes: Vec<Change>,
-        lines: &mut Vec<Line>,
+        scrollback: &mut Scrollback,
     ) -> Result<(), AllocError>
         requires fits { regions_fit self.old.height (map change_value changes.items) ≡ true }
         requires numbers { next_number self.old.log + vec_len changes < 2 ^ 64 }
@@ -353,30 +387,32 @@ impl<W: Widths> Surface<W> {
             self.old (map change_value changes.items) self.new) }
         ensures scrolls { OnOk result (ScrollsOff self.old.width
             (rows_scrolled_off (measure W.width_of self.old.widths) (screen_of self.old)
-            (map change_value changes.items)) lines.old.items lines.new.items) }
+            (map change_value changes.items))
+            scrollback.old.lines.items scrollback.new.lines.items) }
         ensures err { OnErr result (SameFrame self.old self.new) }
-        ensures kept { OnErr result (KeepsLines lines.old.items lines.new.items) }
+        ensures kept { OnErr result (
+            KeepsLines scrollback.old.lines.items scrollback.new.lines.items) }
         ensures some { OnErr result (0 < vec_len changes) }
         ensures none { vec_len changes ≡ 0 → NumbersRows self.old self.new }
     {
         self.log.reserve(changes.len())?;
         self.mark = self.log.next_number() + changes.len();
-        self.apply_all_scrolling(changes.as_slice(), lines)?;
+        self.apply_all_scrolling(changes.as_slice(), scrollback)?;
         self.log.append(changes)?;
         Ok(())
     }
 
     /// Applies the changes in order, as `add_changes` does, and moves the lines that they scroll
-    /// off the top of the screen to the end of `scrolled_off`, the first one first. Texts scroll
+    /// off the top of the screen to the end of a scrollback, the first one first. Texts scroll
     /// lines off, and `ScrollRegionUp` does where its region begins at row 0.
     ///
-    /// Returns what `add_changes` returns. `ScrollRegion`, `Numbers`: `scrolled_off` is unchanged
-    /// too. `Memory`: `scrolled_off` keeps its old lines, and may have lines of changes that were
+    /// Returns what `add_changes` returns. `ScrollRegion`, `Numbers`: the scrollback is unchanged
+    /// too. `Memory`: the scrollback keeps its old lines, and may have lines of changes that were
     /// applied behind them.
     pub fn add_changes_scrolling(
         &mut self,
         changes: Vec<Change>,
-        scrolled_off: &mut Vec<Line>,
+        scrollback: &mut Scrollback,
     ) -> Result<SequenceNo, SurfaceError>
         ensures adds { Adds (measure W.width_of self.old.widths)
             self.old (map change_value changes.items)
@@ -384,8 +420,8 @@ impl<W: Widths> Surface<W> {
         // The lines that scroll off are added, and the old ones stay, even after an error.
         ensures scrolled { AddsScrolledOff self.old.width
             (rows_scrolled_off (measure W.width_of self.old.widths) (screen_of self.old)
-            (map change_value changes.items)) result scrolled_off.old.items
-            scrolled_off.new.items }
+            (map change_value changes.items))
+            result scrollback.old.lines.items scrollback.new.lines.items }
         ensures empty { vec_len changes ≡ 0 → IsOk result }
         // Each viewer that follows the surface still follows it, even after an error.
         ensures followed { KeepsViewers (measure W.width_of) self.old self.new }
@@ -396,7 +432,7 @@ impl<W: Widths> Surface<W> {
     {
         self.refuse(changes.as_slice())?;
         let number = number_for(self.log.next_number(), changes.len());
-        if self.make_all_scrolling(changes, scrolled_off).is_err() {
+        if self.make_all_scrolling(changes, scrollback).is_err() {
             self.restart();
             return Err(SurfaceError::Memory);
         }

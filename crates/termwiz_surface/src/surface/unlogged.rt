@@ -3,7 +3,8 @@ ghost use Rattle.std.specs.Prelude.{◌≡◌, ◌≢◌, ◌+◌, ◌-◌, ◌<
 ghost use Rattle.termwiz_surface.specs.{AddsUnlogged, KeepsNames, KeepsViewers, MakesUnlogged};
 ghost use Rattle.termwiz_surface.specs.{Becomes, IsOk, OnOk, Refuses, SameFrame, false, kept_of};
 ghost use Rattle.termwiz_surface.specs.{knows, lent_value, map, measure, next_number, region_fits};
-ghost use Rattle.termwiz_surface.specs.{regions_fit, replay, replay_kept, screen_of, step, step_kept};
+ghost use Rattle.termwiz_surface.specs.{regions_fit, replay, replay_kept, screen_of, step};
+ghost use Rattle.termwiz_surface.specs.{step_kept};
 ghost use Rattle.termwiz_surface.specs.{NumbersRows, passed, true, with_log};
 
 use super::{Surface, SurfaceError, number_for};

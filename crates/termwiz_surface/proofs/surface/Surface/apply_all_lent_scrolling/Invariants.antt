@@ -6,6 +6,6 @@ use Rattle.termwiz_surface.proofs.surface.Surface.apply_all_lent_scrolling.Given
 
 abbrev pub invariant-loop-change : goal.invariant-loop-change
 invariant-loop-change g l = record {
-  part : AppliesPart (measure g.W.Widths.width_of l.fn.self.widths) l.fn.self (map lent_value l.changes) (map lent_value (drop l.change-index l.changes)) l.fn.lines.items l.self l.lines.items;
+  part : AppliesPart (measure g.W.Widths.width_of l.fn.self.widths) l.fn.self (map lent_value l.changes) (map lent_value (drop l.change-index l.changes)) l.fn.scrollback.lines.items l.self l.scrollback.lines.items;
   none : l.change-index ≡ 0 → l.self ≡ l.fn.self;
 }

@@ -12,7 +12,7 @@ use Rattle.termwiz_surface.proofs.surface.Surface.apply_all_scrolling.Goals as g
 
 pub loop-change-init : goal.loop-change-init
 loop-change-init g c = record {
-  part = part-none (measure g.W.Widths.width_of c.args.self.now.widths) c.args.self.now (map change_value c.args.changes.now) c.args.lines.now.items c.requires;
+  part = part-none (measure g.W.Widths.width_of c.args.self.now.widths) c.args.self.now (map change_value c.args.changes.now) c.args.scrollback.now.lines.items c.requires;
   none = λ e. refl;
 }
 
@@ -23,13 +23,13 @@ apply_scrolling-requires g c =
     let i : ℕ = c.loop-change.change-index in
     let inside : i < length c.args.changes.now = omega arith in
     let next = mapped-next change_value c.args.changes.now i c.change-item.result inside c.change-item.is in
-    part-fits f c.args.self.now all c.args.lines.now.items (change_value c.change-item.result) (map change_value (drop (i + 1) c.args.changes.now)) c.loop-change.self c.loop-change.lines.items
-    (subst (λ (cs : List ChangeValue). AppliesPart f c.args.self.now all cs c.args.lines.now.items c.loop-change.self c.loop-change.lines.items) next c.loop-change.invariant.part)
+    part-fits f c.args.self.now all c.args.scrollback.now.lines.items (change_value c.change-item.result) (map change_value (drop (i + 1) c.args.changes.now)) c.loop-change.self c.loop-change.scrollback.lines.items
+    (subst (λ (cs : List ChangeValue). AppliesPart f c.args.self.now all cs c.args.scrollback.now.lines.items c.loop-change.self c.loop-change.scrollback.lines.items) next c.loop-change.invariant.part)
 
 pub returns-in_err-apply_scrolling-clause-kept : goal.returns-in_err-apply_scrolling-clause-kept
 returns-in_err-apply_scrolling-clause-kept g c =
     let before = c.loop-change.invariant.part in
-    on_err _ (keeps-then c.args.lines.now.items c.loop-change.lines.items c.apply_scrolling.new.lines.items (keeps-leaves c.args.self.now.width _ _ c.args.lines.now.items c.loop-change.lines.items before.leaves) c.in_err-apply_scrolling.ensures.kept)
+    on_err _ (keeps-then c.args.scrollback.now.lines.items c.loop-change.scrollback.lines.items c.apply_scrolling.new.scrollback.lines.items (keeps-leaves c.args.self.now.width _ _ c.args.scrollback.now.lines.items c.loop-change.scrollback.lines.items before.leaves) c.in_err-apply_scrolling.ensures.kept)
 
 pub loop-change-preserved : goal.loop-change-preserved
 loop-change-preserved g c =
@@ -39,15 +39,15 @@ loop-change-preserved g c =
     let s : SurfaceValue _ = c.loop-change.self in
     let change : ChangeValue = change_value c.change-item.result in
     let left : List ChangeValue = map change_value (drop (i + 1) c.args.changes.now) in
-    let u : List LineValue = c.args.lines.now.items in
-    let v : List LineValue = c.loop-change.lines.items in
+    let u : List LineValue = c.args.scrollback.now.lines.items in
+    let v : List LineValue = c.loop-change.scrollback.lines.items in
     let inside : i < length c.args.changes.now = omega arith in
     let next = mapped-next change_value c.args.changes.now i c.change-item.result inside c.change-item.is in
     let before : AppliesPart f c.args.self.now all (change ∷ left) u s v = subst (λ (cs : List ChangeValue). AppliesPart f c.args.self.now all cs u s v) next c.loop-change.invariant.part in
     let becomes = subst (λ (w : _). Becomes s (step (measure g.W.Widths.width_of w) (screen_of s) change) (step_kept (measure g.W.Widths.width_of w) (screen_of s) (kept_of s) change) c.apply_scrolling.new.self) before.frame.widths c.in_ok-apply_scrolling.ensures.ok in
-    let off = subst (λ (w : _). ScrollsOff s.width (left_step (measure g.W.Widths.width_of w) (screen_of s) change) v c.apply_scrolling.new.lines.items) before.frame.widths c.in_ok-apply_scrolling.ensures.scrolls in
+    let off = subst (λ (w : _). ScrollsOff s.width (left_step (measure g.W.Widths.width_of w) (screen_of s) change) v c.apply_scrolling.new.scrollback.lines.items) before.frame.widths c.in_ok-apply_scrolling.ensures.scrolls in
     record {
-      part = part-more f c.args.self.now all u change left s v before c.apply_scrolling.new.self c.apply_scrolling.new.lines.items becomes off;
+      part = part-more f c.args.self.now all u change left s v before c.apply_scrolling.new.self c.apply_scrolling.new.scrollback.lines.items becomes off;
       none = λ e. absurd (omega arith);
     }
 
@@ -56,13 +56,13 @@ returns-clause-ok g c =
     let f : List ℕ → ℕ = measure g.W.Widths.width_of c.args.self.now.widths in
     let all : List ChangeValue = map change_value c.args.changes.now in
     let none_left : map change_value (drop c.loop-change.change-index c.args.changes.now) ≡ [] = ap (map change_value) (drop_all c.loop-change.change-index c.args.changes.now (omega arith)) in
-    part-all f c.args.self.now all c.args.lines.now.items c.loop-change.self c.loop-change.lines.items
-    (subst (λ (cs : List ChangeValue). AppliesPart f c.args.self.now all cs c.args.lines.now.items c.loop-change.self c.loop-change.lines.items) none_left c.loop-change.invariant.part)
+    part-all f c.args.self.now all c.args.scrollback.now.lines.items c.loop-change.self c.loop-change.scrollback.lines.items
+    (subst (λ (cs : List ChangeValue). AppliesPart f c.args.self.now all cs c.args.scrollback.now.lines.items c.loop-change.self c.loop-change.scrollback.lines.items) none_left c.loop-change.invariant.part)
 
 pub returns-clause-scrolls : goal.returns-clause-scrolls
 returns-clause-scrolls g c =
     let f : List ℕ → ℕ = measure g.W.Widths.width_of c.args.self.now.widths in
     let all : List ChangeValue = map change_value c.args.changes.now in
     let none_left : map change_value (drop c.loop-change.change-index c.args.changes.now) ≡ [] = ap (map change_value) (drop_all c.loop-change.change-index c.args.changes.now (omega arith)) in
-    part-off f c.args.self.now all c.args.lines.now.items c.loop-change.self c.loop-change.lines.items
-    (subst (λ (cs : List ChangeValue). AppliesPart f c.args.self.now all cs c.args.lines.now.items c.loop-change.self c.loop-change.lines.items) none_left c.loop-change.invariant.part)
+    part-off f c.args.self.now all c.args.scrollback.now.lines.items c.loop-change.self c.loop-change.scrollback.lines.items
+    (subst (λ (cs : List ChangeValue). AppliesPart f c.args.self.now all cs c.args.scrollback.now.lines.items c.loop-change.self c.loop-change.scrollback.lines.items) none_left c.loop-change.invariant.part)

@@ -45,5 +45,5 @@ returns-clause-none g c = λ none.
 pub returns-clause-scrolls : goal.returns-clause-scrolls
 returns-clause-scrolls g c =
     let f = λ (s : SurfaceValue _). measure g.W.Widths.width_of s.widths in
-    let scrolls = subst (λ (s : SurfaceValue _). ScrollsOff s.width (rows_scrolled_off (f s) (screen_of s) (map change_value c.as_slice.result.now)) c.args.lines.now.items c.apply_all_scrolling.new.lines.items) c.self.view_is c.in_ok-apply_all_scrolling.ensures.scrolls in
+    let scrolls = subst (λ (s : SurfaceValue _). ScrollsOff s.width (rows_scrolled_off (f s) (screen_of s) (map change_value c.as_slice.result.now)) c.args.scrollback.now.lines.items c.apply_all_scrolling.new.scrollback.lines.items) c.self.view_is c.in_ok-apply_all_scrolling.ensures.scrolls in
     rw c.as_slice.ensures.value at scrolls

@@ -53,4 +53,4 @@ returns-clause-none g c = λ none.
 
 pub returns-clause-scrolls : goal.returns-clause-scrolls
 returns-clause-scrolls g c =
-    subst (λ (s : SurfaceValue _). ScrollsOff s.width (rows_scrolled_off (measure g.W.Widths.width_of s.widths) (screen_of s) (map lent_value c.args.changes.now)) c.args.lines.now.items c.apply_all_lent_scrolling.new.lines.items) c.self.view_is c.in_ok-apply_all_lent_scrolling.ensures.scrolls
+    subst (λ (s : SurfaceValue _). ScrollsOff s.width (rows_scrolled_off (measure g.W.Widths.width_of s.widths) (screen_of s) (map lent_value c.args.changes.now)) c.args.scrollback.now.lines.items c.apply_all_lent_scrolling.new.scrollback.lines.items) c.self.view_is c.in_ok-apply_all_lent_scrolling.ensures.scrolls

@@ -10,7 +10,7 @@ use Rattle.termwiz_surface.proofs.surface.Surface.print_first_scrolling.Goals as
 
 pub returns-then-not-first_leaves-clause-scrolls : goal.returns-then-not-first_leaves-clause-scrolls
 returns-then-not-first_leaves-clause-scrolls g c =
-    leaves-none (measure g.W.Widths.width_of c.args.self.now.widths) (screen_of c.args.self.now) (screen_of c.print_first.new.self) (graphemes true c.args.text.now) (graphemes true c.in_ok-rest.rest.now) c.args.lines.now.items
+    leaves-none (measure g.W.Widths.width_of c.args.self.now.widths) (screen_of c.args.self.now) (screen_of c.print_first.new.self) (graphemes true c.args.text.now) (graphemes true c.in_ok-rest.rest.now) c.args.scrollback.now.lines.items
     (sym c.first_leaves.ensures ∙ c.if-not-first_leaves.true) c.in_ok-rest.ensures.scrolls
 
 pub take_row-requires : goal.take_row-requires
@@ -37,4 +37,4 @@ returns-clause-scrolls g c =
     let once : left_behind_first f (screen_of c.take_row.new.self) gs ≡ left_by f t hs =
     subst (λ (w : _). left_behind_first (measure g.W.Widths.width_of w) (screen_of c.take_row.new.self) gs ≡ left_by (measure g.W.Widths.width_of w) t hs) d.widths c.in_ok-rest-2.ensures.scrolls in
     let over : left_behind_first f (blanked s) gs ≡ left_by f t hs = sym (ap (λ (z : Screen). left_behind_first f z gs) d.screen_is) ∙ once in
-    leaves-top f s t gs hs c.args.lines.now.items c.take_row.new.lines.items leaves over c.in_ok-take_row.ensures.moves
+    leaves-top f s t gs hs c.args.scrollback.now.lines.items c.take_row.new.scrollback.lines.items leaves over c.in_ok-take_row.ensures.moves

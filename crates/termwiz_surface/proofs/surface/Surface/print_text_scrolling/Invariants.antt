@@ -18,7 +18,7 @@ invariant-pieces g l =
       rows : MarksRows l.fn.self l.self;
       screen : fold (print_one f) (screen_of l.self) (graphemes true l.rest) ≡ print f (screen_of l.fn.self) l.text;
       kept : kept_after f (screen_of l.self) (kept_of l.self) (graphemes true l.rest) ≡ print_kept f (screen_of l.fn.self) l.text (kept_of l.fn.self);
-      leaves : LeavesRows l.fn.self.width (left_by f (screen_of l.fn.self) (graphemes true l.text)) (left_by f (screen_of l.self) (graphemes true l.rest)) l.fn.lines.items l.lines.items;
+      leaves : LeavesRows l.fn.self.width (left_by f (screen_of l.fn.self) (graphemes true l.text)) (left_by f (screen_of l.self) (graphemes true l.rest)) l.fn.scrollback.lines.items l.scrollback.lines.items;
     }
 
 abbrev pub decreases-pieces : goal.decreases-pieces

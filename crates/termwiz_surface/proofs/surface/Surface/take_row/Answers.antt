@@ -22,7 +22,7 @@ invariant_of-self g c =
     let items : List LineValue = c.self.inside.rows.items in
     let row : List CellValue = replicate c.self.inside.width blank in
     let inside : c.args.row < c.self.inside.height = subst (λ (s : SurfaceValue _). c.args.row < s.height) (sym c.self.view_is) c.requires in
-    let blank_is : c.replace-line.new.dest ≡ numberless row = c.replace-line.ensures.after ∙ c.in_ok-blank.ensures in
+    let blank_is : c.replace-line.new.dest ≡ numberless row = c.replace-line.ensures.after ∙ c.in_ok-blank.ensures.made in
     let flags : row_flags (set items c.args.row (numberless row)) ≡ set (row_flags items) c.args.row no_flags = map-set (λ (l : LineValue). l.flags) items c.args.row (numberless row) in (
       rw (blank_is, cells-set items c.args.row (numberless row), flags) (IsSound-taken (measure g.W.Widths.width_of c.self.inside.widths) _ (record { space = g.met.W.Widths.space_has_one c.self.inside.widths None }) c.self.invariant.0 c.args.row inside _),
       rw blank_is (vectors-set items c.args.row (numberless row) refl c.self.invariant.1),
@@ -33,7 +33,7 @@ pub returns-clause-ok : goal.returns-clause-ok
 returns-clause-ok g c =
     let items : List LineValue = c.self.inside.rows.items in
     let row : List CellValue = replicate c.self.inside.width blank in
-    let blank_is : c.replace-line.new.dest ≡ numberless row = c.replace-line.ensures.after ∙ c.in_ok-blank.ensures in
+    let blank_is : c.replace-line.new.dest ≡ numberless row = c.replace-line.ensures.after ∙ c.in_ok-blank.ensures.made in
     let flags : row_flags (set items c.args.row (numberless row)) ≡ set (row_flags items) c.args.row no_flags = map-set (λ (l : LineValue). l.flags) items c.args.row (numberless row) in
     rw (← c.self.view_is, blank_is, cells-set items c.args.row (numberless row), flags) (record {
       widths = refl;
@@ -60,10 +60,11 @@ returns-clause-moves g c =
     let items : List LineValue = c.self.inside.rows.items in
     let w : ℕ = c.self.inside.width in
     let inside : c.args.row < c.self.inside.height = subst (λ (s : SurfaceValue _). c.args.row < s.height) (sym c.self.view_is) c.requires in
+    let old_lines : c.blank_row.new.self.lines.items ≡ c.args.scrollback.now.lines.items = (λ i. (c.in_ok-blank.ensures.kept i).items) ∙ c.reserve.ensures.items in
     let there : c.args.row < length items = omega (arith, inside, c.self.inside.rows.ok.0, c.self.invariant.0.full, length-cells_of items) in
-    subst (λ (s : SurfaceValue _). ScrollsOff s.width (row_at (screen_of s).rows c.args.row ∷ []) c.args.lines.now.items c.push_reserved.new.self.items) c.self.view_is (record {
+    subst (λ (s : SurfaceValue _). ScrollsOff s.width (row_at (screen_of s).rows c.args.row ∷ []) c.args.scrollback.now.lines.items c.push_back_reserved.new.self.items) c.self.view_is (record {
       lines = c.replace-line.result ∷ [];
-      behind = c.push_reserved.ensures.items ∙ ap (λ (ls : List LineValue). ls ++ c.replace-line.result ∷ []) c.reserve.ensures.items;
+      behind = c.push_back_reserved.ensures.items ∙ ap (λ (ls : List LineValue). ls ++ c.replace-line.result ∷ []) old_lines;
       rows_are = ap (λ (l : LineValue). row_of w l.cells ∷ []) c.replace-line.ensures.value ∙ ap (λ (r : List CellValue). r ∷ []) (sym (row-read w items c.args.row c.index_mut.result.now there c.index_mut.ensures.value));
     })
 

@@ -11,5 +11,5 @@ loop-row-preserved g c =
     let inside : c.loop-row.row < c.loop-row.self.height = omega (arith, before.taken.height) in
     record {
       taken = taken-more f c.args.self.now c.loop-row.self c.take_row.new.self c.loop-row.row row.sound inside before.taken row.ok;
-      lines = taken-lines f c.args.self.now c.loop-row.self c.take_row.new.self c.loop-row.row row.sound inside before.taken c.args.lines.now.items c.loop-row.lines.items c.take_row.new.lines.items before.lines row.moves;
+      lines = taken-lines f c.args.self.now c.loop-row.self c.take_row.new.self c.loop-row.row row.sound inside before.taken c.args.scrollback.now.lines.items c.loop-row.scrollback.lines.items c.take_row.new.scrollback.lines.items before.lines row.moves;
     }

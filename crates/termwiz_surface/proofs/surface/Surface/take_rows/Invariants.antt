@@ -12,5 +12,5 @@ invariant-loop-row g l =
     let k = kept_of l.fn.self in
     record {
       taken : Becomes l.fn.self (record s { rows = topped (replicate s.width blank) l.row s.rows }) (record k { lengths = topped s.width l.row k.lengths; flags = topped no_flags l.row k.flags }) l.self;
-      lines : ScrollsOff l.fn.self.width (take l.row s.rows) l.fn.lines.items l.lines.items;
+      lines : ScrollsOff l.fn.self.width (take l.row s.rows) l.fn.scrollback.lines.items l.scrollback.lines.items;
     }

@@ -1,0 +1,80 @@
+//! Lines outside of a screen.
+ghost use Rattle.std.specs.Prelude.{◌≡◌, IfOk, [], drop, length, replicate};
+ghost use Rattle.termwiz_screen.specs.{numberless};
+ghost use Rattle.termwiz_surface.specs.{blank};
+
+use std::alloc::{AllocError, Global};
+use std::collections::VecDeque;
+use termwiz_cell::change::SEQ_ZERO;
+use termwiz_line::line::line::Line;
+
+/// Lines outside of a screen, as a program's scrollback: `add_changes_scrolling` and
+/// `add_unlogged_scrolling` move the lines that scroll off a surface to its end.
+///
+/// A row that takes the place of such a line is given the memory of a line that was removed, if
+/// there is one. So a scrollback that loses a line for each new one asks for no memory.
+#[derive(Drop, Debug)]
+pub struct Scrollback {
+    /// The lines, the oldest one first.
+    pub lines: VecDeque<Line>,
+    // Lines that were removed, whose memory new rows take.
+    spare: Vec<Line>,
+}
+
+impl Scrollback {
+    /// A scrollback of no lines.
+    pub fn new(alloc: Global) -> Scrollback
+        ensures { result.lines.items ≡ [] }
+    {
+        Scrollback {
+            lines: VecDeque::new(alloc),
+            spare: Vec::new(alloc),
+        }
+    }
+
+    /// How many lines there are.
+    pub fn len(&self) -> usize
+        ensures { result ≡ length self.now.lines.items }
+    {
+        self.lines.len()
+    }
+
+    /// Removes the first `count` lines, which are the oldest, or all where there are fewer. Their
+    /// memory is kept for new rows, but never that of more lines than are left.
+    pub fn remove_first(&mut self, count: usize)
+        ensures { self.new.lines.items ≡ drop count self.old.lines.items }
+    {
+        let removed = count.min(self.lines.len());
+        let left = self.lines.len() - removed;
+        self.spare.truncate(left);
+        for _line in 0..removed {
+            self.remove_oldest(left);
+        }
+    }
+
+    // Removes the oldest line, and keeps its memory, where that of fewer than `most` lines is kept.
+    fn remove_oldest(&mut self, most: usize)
+        ensures { self.new.lines.items ≡ drop 1 self.old.lines.items }
+    {
+        let Some(line) = self.lines.pop_front() else {
+            return;
+        };
+        // A text has no memory for the cells of a row.
+        if self.spare.len() < most && line.stored_cells().is_some() {
+            // Where memory is refused, the line goes.
+            let _ = self.spare.push(line);
+        }
+    }
+
+    // A row of default blanks, in the memory of a spare line where there is one.
+    pub(crate) fn blank_row(&mut self, alloc: Global, width: usize) -> Result<Line, AllocError>
+        ensures made { IfOk result (λ line. line ≡ numberless (replicate width blank)) }
+        ensures kept { self.new.lines ≡ self.old.lines }
+    {
+        let Some(mut line) = self.spare.pop() else {
+            return Line::with_width(alloc, width, SEQ_ZERO);
+        };
+        line.blank_out(width, SEQ_ZERO)?;
+        Ok(line)
+    }
+}

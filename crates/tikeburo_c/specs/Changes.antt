@@ -8,6 +8,7 @@ use Rattle.termwiz_share.specs.Serving.{KeepsClients}
 use Rattle.termwiz_share.specs.Source.{SourceValue, trimmed}
 use Rattle.termwiz_surface.specs.Adding.{Adds}
 use Rattle.termwiz_surface.specs.Following.{KeepsViewers}
+use Rattle.termwiz_surface.specs.RowNumbers.{NumbersRows}
 use Rattle.termwiz_surface.specs.Unlogged.{AddsUnlogged}
 use Rattle.termwiz_surface.specs.declared.surface.SurfaceError.{SurfaceError}
 use Rattle.termwiz_wire.specs.Answers.{changes_at}
@@ -21,11 +22,12 @@ use Rattle.tikeburo_c.specs.declared.failure.Failure.TheVariants.{Memory}
 use Rattle.tikeburo_c.specs.declared.widths.ChosenWidths.{ChosenWidths}
 
 -- what stays with each change, whatever comes of it: the number, the clients that show the surface,
--- and the viewers that follow it
+-- the viewers that follow it, and what rows' numbers say of its rows
 pub record GoesOn (old new : SourceValue ChosenWidths) : Type 0 where
   pub number : new.number ≡ old.number
   pub serves : KeepsClients columns_by old new
   pub followed : KeepsViewers columns_by old.surface new.surface
+  pub numbered : NumbersRows old.surface new.surface
 
 -- the list of changes is added as the library adds it, whatever number that returns
 abbrev pub AddsList :

@@ -4,6 +4,7 @@ use Rattle.termwiz_screen.specs.Log.{flushed, next_number}
 use Rattle.termwiz_surface.specs.Showing.{HasCaughtUp}
 use Rattle.termwiz_surface.specs.Adding.{with_log}
 use Rattle.termwiz_surface.specs.Following.{Follows, FollowsTo, ViewerValue, blank_viewer, blank_viewer_from}
+use Rattle.termwiz_surface.specs.RowNumbers.{NumbersRows}
 use Rattle.termwiz_surface.specs.Surface.{SurfaceValue, full_of}
 use Rattle.termwiz_surface.specs.declared.surface.SurfaceError.{SurfaceError}
 use Rattle.tikeburo_c.specs.Kept.{number_of, shown_of}
@@ -67,6 +68,7 @@ pub record StepsTo (s : SurfaceValue ChosenWidths) (old : Follower) (result : Re
       OnOk result (full_of new.viewer.surface ≡ full_of s)
   pub follows : Follows columns_by old.viewer s → Follows columns_by new.viewer s
   pub failed : OnErr result (new.viewer.last ≡ 0)
+  pub numbered : NumbersRows old.viewer.surface new.viewer.surface
 
 -- the viewer follows the surface of this number, whomever it followed before
 pub record FollowsAs (number : ℕ) (s : SurfaceValue ChosenWidths) (old : Follower)

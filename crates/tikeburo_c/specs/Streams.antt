@@ -10,6 +10,7 @@ use Rattle.termwiz_share.specs.Source.{IsResponse, SourceValue, trimmed}
 use Rattle.termwiz_share.specs.declared.error.ClientError.{ClientError}
 use Rattle.termwiz_share.specs.declared.error.ClientError.TheVariants as errors
 use Rattle.termwiz_screen.specs.FullScreen.{FullScreen}
+use Rattle.termwiz_surface.specs.RowNumbers.{NumbersRows}
 use Rattle.termwiz_surface.specs.Surface.{full_of}
 use Rattle.termwiz_wire.specs.Answers.{ask_at}
 use Rattle.termwiz_wire.specs.Sent.{IsAsk, ask}
@@ -121,6 +122,7 @@ pub record FeedsAs (piece : List ℕ) (old : ClientValue ChosenWidths)
   pub serves :
       (s : SourceValue ChosenWidths) → Serves columns_by s old → IsReady old →
       IsResponse columns_by s (ask_of old) piece → Serves columns_by s new
+  pub numbered : NumbersRows old.surface new.surface
 
 -- a client, and a caller's struct for a fault
 abbrev pub Feeding : Type 0

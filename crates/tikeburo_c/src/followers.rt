@@ -9,6 +9,7 @@ ghost use Rattle.tikeburo_c.specs.declared.kept.Kept.TheVariants as kinds;
 use crate::failure::Failure;
 use crate::widths::ChosenWidths;
 use std::alloc::{AllocError, Global};
+use termwiz_surface::laws::row_number_laws;
 use termwiz_surface::{Surface, SurfaceError, Viewer};
 
 /// A viewer, and the number of the surface that it follows, or 0. Nobody follows the viewer by what
@@ -98,6 +99,8 @@ impl Follower {
         let number = self.viewer.follow(surface);
         let made = self.viewer.surface().current_seqno();
         self.viewer.flush_changes_older_than(made);
+        // Both calls keep what the numbers of rows say.
+        row_number_laws::<ChosenWidths>();
         number
     }
 }

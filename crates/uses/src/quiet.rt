@@ -33,8 +33,8 @@ pub fn show_output<W: Widths>(
     surface.add_unlogged(&[LentChange::Text(output), LentChange::Title(title)])
 }
 
-/// Shows these columns of a row, as a heading or a line of state, in another row too. Cursor and pen
-/// are as before, a pending wrap too.
+/// Shows these columns of a row, as a heading or a line of state, in another row too. Cursor and
+/// pen are as before, a pending wrap too.
 ///
 /// `Numbers`: the surface is unchanged. `Memory`: the surface is unchanged, or the other row may be
 /// drawn in part; the surface has its old size, and its log is empty.

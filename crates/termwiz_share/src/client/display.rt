@@ -1,6 +1,7 @@
 //! What a client shows, and how it takes an answer.
 ghost use Rattle.std.specs.Prelude.{◌≡◌, ◌<◌, [], IfOk, false};
-ghost use Rattle.termwiz_share.specs.{DisplayValue, IsSurfaceSize, NumbersRows, Takes, blank_surface};
+ghost use Rattle.termwiz_share.specs.{DisplayValue, IsSurfaceSize, NumbersRows, Takes};
+ghost use Rattle.termwiz_share.specs.{blank_surface};
 ghost use Rattle.termwiz_share.specs.{fits, is_repaint, lent_answer, measure, nameless, shown_on};
 ghost use Rattle.termwiz_share.specs.{size_place, suits, true};
 
@@ -82,7 +83,8 @@ impl<W: Widths> Display<W> {
     pub(super) fn take(&mut self, answer: LentAnswer<'_>) -> Result<(), ClientError>
         requires named { 0 < answer.source }
         requires sized { IsSurfaceSize answer.width answer.height }
-        ensures takes { Takes (measure W.width_of) self.old (lent_answer answer.entry) result self.new }
+        ensures takes { Takes (measure W.width_of)
+            self.old (lent_answer answer.entry) result self.new }
         ensures numbered { NumbersRows self.old.surface self.new.surface }
     {
         if answer.base == 0 {
@@ -104,7 +106,8 @@ impl<W: Widths> Display<W> {
         requires some { 0 < answer.source }
         requires sized { IsSurfaceSize answer.width answer.height }
         requires repaint { is_repaint (lent_answer answer).answer ≡ true }
-        ensures takes { Takes (measure W.width_of) self.old (lent_answer answer.entry) result self.new }
+        ensures takes { Takes (measure W.width_of)
+            self.old (lent_answer answer.entry) result self.new }
         ensures numbered { NumbersRows self.old.surface self.new.surface }
     {
         let number = self.surface.current_seqno();
@@ -130,7 +133,8 @@ impl<W: Widths> Display<W> {
         requires fits { fits (shown_on self.old) (lent_answer answer) ≡ true }
         requires size { suits self.old.surface.width self.old.surface.height
             (lent_answer answer).answer ≡ true }
-        ensures takes { Takes (measure W.width_of) self.old (lent_answer answer.entry) result self.new }
+        ensures takes { Takes (measure W.width_of)
+            self.old (lent_answer answer.entry) result self.new }
         ensures numbered { NumbersRows self.old.surface self.new.surface }
     {
         if answer.changes.len() > usize::MAX - self.surface.current_seqno() {

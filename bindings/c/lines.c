@@ -311,6 +311,35 @@ static void test_scrolled_off(scrolling add) {
     tk_free(&lines);
 }
 
+/* Rows that take the memory of removed lines are blank, whatever those had, and as wide as the
+ * surface. */
+static void test_full_scrollback(scrolling add) {
+    static const char texts[] = "\r\nか x\r\n";
+    const tk_change list[] = {{.kind = TK_CHANGE_TEXT, .first = 9}};
+    const tk_change up[] = {{.kind = TK_CHANGE_SCROLL_UP, .second = 2, .third = 2}};
+    tk_handle surface = made_rows(), other = made(5, 2), lines = made_lines();
+    for (size_t turn = 0; turn < 12; turn++) {
+        tk_handle *screen = turn % 3 < 2 ? &surface : &other;
+        size_t before, count;
+        CHECK(tk_lines_count(&lines, &before) == TK_DONE);
+        if (turn % 4 == 3)
+            CHECK(tk_lines_compress(&lines, 0, before / 2) == TK_DONE);
+        CHECK(add(screen, list, 1, texts, 9, &lines) == TK_DONE);
+        CHECK(add(screen, up, 1, "", 0, &lines) == TK_DONE);
+        CHECK(row_is(screen, 0, "") && row_is(screen, 1, ""));
+        CHECK(tk_lines_count(&lines, &count) == TK_DONE && count >= before + 2);
+        CHECK(tk_lines_remove(&lines, 0, count > 3 ? count - 3 : 0) == TK_DONE);
+        CHECK(count_is(&lines, count > 3 ? 3 : count));
+    }
+    CHECK(line_is(&lines, 1, "か x"));
+    CHECK(tk_lines_remove(&lines, 0, 3) == TK_DONE && count_is(&lines, 0));
+    CHECK(add(&other, up, 1, "", 0, &lines) == TK_DONE && count_is(&lines, 2));
+    CHECK(line_is(&lines, 0, "") && line_is(&lines, 1, ""));
+    tk_free(&surface);
+    tk_free(&other);
+    tk_free(&lines);
+}
+
 /* After an error no line is added, and the surface shows what it did. */
 static void test_nothing_scrolls_off(scrolling add) {
     const tk_change list[] = {
@@ -402,6 +431,7 @@ int main(int count, char **words) {
     test_kinds();
     for (size_t k = 0; k < COUNT(SCROLLINGS); k++) {
         test_scrolled_off(SCROLLINGS[k]);
+        test_full_scrollback(SCROLLINGS[k]);
         test_nothing_scrolls_off(SCROLLINGS[k]);
     }
     printf("%d checks\n", checks);

@@ -8,6 +8,7 @@
  *     measure rows COUNT      the same, a row by a call
  *     measure quiet COUNT     the line of plain, which isn't logged
  *     measure kept COUNT      the same, and what scrolls off is kept in a list of lines
+ *     measure full COUNT      the same, where the oldest line goes for each new one after 100
  *
  * The program keeps no time: run it under callgrind at two counts, and take the difference. Beside
  * `plain` of the bench stands the first, and beside `answer-repaint` and `encode-repaint` together
@@ -40,16 +41,28 @@ static tk_status quiet(tk_handle *surface, long count, size_t *result) {
     return status != TK_DONE ? status : tk_number(surface, result);
 }
 
-/* How many lines there are in the end. */
-static tk_status kept(tk_handle *surface, long count, size_t *result) {
+/* Prints so many lines, from the one at `limit` on with the oldest one removed for each. How many
+ * there are in the end. */
+static tk_status keep(tk_handle *surface, long count, long limit, size_t *result) {
     tk_handle lines = TK_NONE;
     tk_status status = tk_lines_new(&lines);
-    for (long i = 0; i < count && status == TK_DONE; i++)
+    for (long i = 0; i < count && status == TK_DONE; i++) {
         status = tk_add_unlogged_scrolling(surface, &TEXT, 1, LINE, TEXT.first, &lines);
+        if (i >= limit && status == TK_DONE)
+            status = tk_lines_remove(&lines, 0, 1);
+    }
     if (status == TK_DONE)
         status = tk_lines_count(&lines, result);
     tk_free(&lines);
     return status;
+}
+
+static tk_status kept(tk_handle *surface, long count, size_t *result) {
+    return keep(surface, count, count, result);
+}
+
+static tk_status full(tk_handle *surface, long count, size_t *result) {
+    return keep(surface, count, 123, result); /* when 100 lines have scrolled off */
 }
 
 /* One of ten colours for every 8 columns. */
@@ -137,13 +150,15 @@ int main(int words, char **word) {
     static const struct {
         const char *name;
         workload *run;
-    } all[] = {{"plain", plain}, {"answer", answer}, {"logged", logged}, {"unlogged", unlogged},
-               {"cells", cells}, {"rows", rows},     {"quiet", quiet},   {"kept", kept}};
+    } all[] = {{"plain", plain}, {"answer", answer}, {"logged", logged},
+               {"cells", cells}, {"rows", rows},     {"unlogged", unlogged},
+               {"quiet", quiet}, {"kept", kept},     {"full", full}};
     size_t which = 0, kinds = sizeof all / sizeof *all;
     while (words == 3 && which < kinds && strcmp(word[1], all[which].name) != 0)
         which++;
     if (words != 3 || which == kinds) {
-        fputs("usage: measure plain|answer|logged|unlogged|cells|rows|quiet|kept COUNT\n", stderr);
+        fputs("usage: measure plain|answer|logged|unlogged|cells|rows|quiet|kept|full COUNT\n",
+              stderr);
         return 2;
     }
     long count = strtol(word[2], NULL, 10);

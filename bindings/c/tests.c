@@ -1,6 +1,6 @@
 /* Calls the functions of tikeburo.h that no other program of tests here calls: what each does, and
- * each error that it names and that can be brought about. It ends with `N checks`, and with status 1
- * where any of them failed.
+ * each error that it names and that can be brought about. It ends with `N checks`, and with status
+ * 1 where any of them failed.
  *
  * Not brought about are TK_NUMBERS, for which 2^64 changes would be needed, and TK_MEMORY, which
  * example.c meets where its memory is refused. */

@@ -710,7 +710,9 @@ static inline tk_status tk_add_unlogged_scrolling(tk_handle *surface, const tk_c
     return tk_add_unlogged_scrolling_distinct(surface, changes, count, texts, len, lines);
 }
 
-/* Removes so many lines from the one of index `first` on. TK_RANGE: there are not so many. */
+/* Removes so many lines from the one of index `first` on. Of the first lines the memory of as many
+ * as there are lines left is kept, for rows that scroll in when others scroll off to this list.
+ * TK_RANGE: there are not so many. */
 tk_status tk_lines_remove(tk_handle *lines, size_t first, size_t count);
 
 /* Reads a line, as tk_row_cells reads a row. A compressed line is read from a copy, which takes

@@ -66,7 +66,10 @@ impl Lines {
         })
     }
 
-    /// Removes the first lines, which are the oldest.
+    /// Removes the first lines, which are the oldest. The memory of as many as there are lines left
+    /// is kept, for rows that scroll in at [`Surface::add_scrolling`].
+    ///
+    /// [`Surface::add_scrolling`]: crate::Surface::add_scrolling
     ///
     /// # Errors
     ///

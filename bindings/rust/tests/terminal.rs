@@ -5,8 +5,8 @@ mod parser;
 #[path = "../examples/terminal/terminal.rs"]
 mod terminal;
 
-use terminal::Terminal;
-use tikeburo::{Attributes, ColorAttribute, CursorVisibility, Intensity, Lines, RowBuffer};
+use terminal::{Scrollback, Terminal};
+use tikeburo::{Attributes, ColorAttribute, CursorVisibility, Intensity, RowBuffer};
 
 /// Bytes, the rows that a terminal of 6 columns and 3 rows has then, without the blanks at their
 /// ends, and its cursor.
@@ -133,12 +133,12 @@ fn titles_and_the_cursor_are_set() {
 fn what_scrolls_off_is_kept() {
     for size in [1, 5, 64] {
         let mut terminal = Terminal::new(6, 3).unwrap();
-        terminal.scrollback = Some(Lines::new().unwrap());
+        terminal.scrollback = Some(Scrollback::new(9).unwrap());
         let bytes = "1\r\n2 か\r\n3\r\nabcdefgh\r\n\x1b[2S".as_bytes();
         for chunk in bytes.chunks(size) {
             terminal.feed(chunk).unwrap();
         }
-        let lines = terminal.scrollback.unwrap();
+        let lines = terminal.scrollback.unwrap().lines;
         let mut line = RowBuffer::new();
         let read = |index| {
             lines.read(index, &mut line).unwrap();
@@ -152,13 +152,23 @@ fn what_scrolls_off_is_kept() {
 #[test]
 fn the_oldest_lines_of_a_scrollback_go() {
     let mut terminal = Terminal::new(6, 3).unwrap();
-    terminal.scrollback = Some(Lines::new().unwrap());
-    for number in 0..11_500 {
-        terminal.feed(format!("{number}\r\n").as_bytes()).unwrap();
+    terminal.scrollback = Some(Scrollback::new(10).unwrap());
+    for number in 0..100 {
+        // A short row takes the memory of a longer line that went.
+        let end = if number % 2 == 0 { "--" } else { "" };
+        let bytes = format!("{number}{end}\r\n");
+        terminal.feed(bytes.as_bytes()).unwrap();
     }
-    // 11,498 rows have scrolled off, and the first 1,000 of 11,000 were removed.
-    let lines = terminal.scrollback.unwrap();
+    let rows = terminal.surface.rows().map(|row| row.text().unwrap());
+    let rows: Vec<_> = rows.map(|row| row.trim_end().to_string()).collect();
+    assert_eq!(rows, ["98--", "99", ""]);
+    // 98 rows have scrolled off.
+    let lines = terminal.scrollback.unwrap().lines;
     let mut line = RowBuffer::new();
-    lines.read(0, &mut line).unwrap();
-    assert_eq!((lines.len(), line.text().trim_end()), (10_498, "1000"));
+    let mut read = |index| {
+        lines.read(index, &mut line).unwrap();
+        line.text().trim_end().to_string()
+    };
+    assert_eq!([read(0), read(9)], ["88--", "97"]);
+    assert_eq!(lines.len(), 10);
 }

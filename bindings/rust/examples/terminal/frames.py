@@ -1,6 +1,6 @@
 #!/usr/bin/env python3
-"""Writes what a program with a full screen writes to a terminal of 80 columns and 24 rows: frames in
-which a log scrolls between a heading and a status line. The same for each run.
+"""Writes what a program with a full screen writes to a terminal of 80 columns and 24 rows: frames
+in which a log scrolls between a heading and a status line. The same for each run.
 
     frames.py COUNT
 """

@@ -6,11 +6,6 @@ use std::ops::Range;
 use tikeburo::{graphemes, Attributes, Changes, ColorAttribute, CursorVisibility};
 use tikeburo::{Error, Lines, Surface, Widths};
 
-/// How many lines a scrollback keeps when its oldest ones are removed, and how many go at a time:
-/// all others move then.
-const KEPT_LINES: usize = 10_000;
-const REMOVED_LINES: usize = 1_000;
-
 /// Where and how coming texts are printed. The column is the width where a wrap is pending.
 #[derive(Clone, Default)]
 struct Cursor {
@@ -23,7 +18,7 @@ struct Cursor {
 /// change needs them.
 pub struct Terminal {
     pub surface: Surface,
-    pub scrollback: Option<Lines>, // where rows that scroll off are kept
+    pub scrollback: Option<Scrollback>,
     width: usize,
     height: usize,
     cursor: Cursor,
@@ -35,14 +30,24 @@ pub struct Terminal {
     parser: Parser,
 }
 
-/// Makes the changes, and keeps the rows that they scroll off.
-fn keep(surface: &mut Surface, changes: &Changes, lines: &mut Lines) -> Result<(), Error> {
-    surface.add_scrolling(changes, lines)?;
-    let len = lines.len();
-    if len >= KEPT_LINES + REMOVED_LINES {
-        lines.remove_first(len - KEPT_LINES)?;
+/// The rows that scroll off: the last ones, up to a limit.
+pub struct Scrollback {
+    pub lines: Lines,
+    limit: usize,
+}
+
+impl Scrollback {
+    pub fn new(limit: usize) -> Result<Scrollback, Error> {
+        let lines = Lines::new()?;
+        Ok(Scrollback { lines, limit })
     }
-    Ok(())
+
+    /// Makes the changes, and keeps the rows that they scroll off.
+    fn make(&mut self, surface: &mut Surface, changes: &Changes) -> Result<(), Error> {
+        surface.add_scrolling(changes, &mut self.lines)?;
+        let len = self.lines.len();
+        self.lines.remove_first(len.saturating_sub(self.limit))
+    }
 }
 
 impl Terminal {
@@ -101,7 +106,7 @@ impl Terminal {
 
     fn make(&mut self) -> Result<(), Error> {
         match &mut self.scrollback {
-            Some(lines) => keep(&mut self.surface, &self.changes, lines)?,
+            Some(scrollback) => scrollback.make(&mut self.surface, &self.changes)?,
             None => {
                 self.surface.add(&self.changes)?;
             }

@@ -58,8 +58,7 @@ impl Stage {
 
     // What each command does that is no change.
     fn command(&mut self, line: &str) -> Result<String, PlayError> {
-        let alloc = self.alloc;
-        let words: Vec<&str> = line.split(' ').collect(alloc)?;
+        let words: Vec<&str> = line.split(' ').collect(self.alloc)?;
         match words.as_slice() {
             ["new", size @ ..] => self.make(size),
             ["new-full", size @ ..] => self.make_full(size),
@@ -77,6 +76,15 @@ impl Stage {
             ["lead", number, seq] => self.lead(number, seq),
             ["follow", number] => self.follow(given(number)?),
             ["goto", x, y] => self.goto(x, y),
+            ["consume"] => self.consume(),
+            words => self.ask(words),
+        }
+    }
+
+    // What each command answers that changes nothing.
+    fn ask(&self, words: &[&str]) -> Result<String, PlayError> {
+        let alloc = self.alloc;
+        match words {
             ["rows"] => answers::rows(alloc, self.own()?),
             ["number"] => answers::number(alloc, self.own()?),
             ["kept"] => answers::kept(alloc, self.own()?),
@@ -97,7 +105,6 @@ impl Stage {
             ["diff-line", row, text] => answers::line_diff(alloc, self.own()?, row, text),
             ["diff-lines", texts @ ..] => answers::lines_diff(alloc, self.own()?, texts),
             ["place"] => self.place(),
-            ["consume"] => self.consume(),
             ["cell", words @ ..] => answers::cell(alloc, words),
             ["refusals"] => answers::refusals(alloc),
             ["sequence-refusals"] => sequence_refusals(alloc),

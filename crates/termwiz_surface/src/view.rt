@@ -1,6 +1,7 @@
 //! Runs of events on a surface.
 ghost use Rattle.termwiz_surface.specs.{IsFullSchedule, IsSchedule, IsScheduleOf, IsSurfaceSize};
-ghost use Rattle.termwiz_surface.specs.{All, IfOk, IsInRange, measure};
+ghost use Rattle.termwiz_surface.specs.{All, Follows, IfOk, IsInRange, measure};
+ghost use Rattle.termwiz_surface.specs.Schedule.{Runs};
 
 mod many;
 mod serving;
@@ -113,10 +114,25 @@ fn run_on<W: Widths>(
 {
     let mut surface = Surface::blank(alloc, width, height, widths, full, SEQ_ZERO)?;
     let mut viewer = Viewer::new(alloc, &surface)?;
+    serve_all(alloc, &mut surface, &mut viewer, events)
+}
+
+// Runs the events on a surface and its viewer, and returns one outcome for each.
+fn serve_all<W: Widths>(
+    alloc: Global,
+    surface: &mut Surface<W>,
+    viewer: &mut Viewer<W>,
+    events: Vec<Event<W>>,
+) -> Result<Vec<Outcome>, AllocError>
+    requires follows { Follows (measure W.width_of) viewer.old surface.old }
+    requires sizes { All IsInRange events.items }
+    ensures { IfOk result (λ outcomes. Runs (measure W.width_of) surface.old viewer.old
+        events.items outcomes.items surface.new viewer.new) }
+{
     let mut outcomes = Vec::new(alloc);
     let mut waiting = Waiting::new(events);
     while let Some(event) = waiting.next() {
-        outcomes.push(serve(alloc, &mut surface, &mut viewer, event)?)?;
+        outcomes.push(serve(alloc, surface, viewer, event)?)?;
     }
     Ok(outcomes)
 }

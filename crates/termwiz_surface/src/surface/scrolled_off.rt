@@ -212,22 +212,19 @@ impl<W: Widths> Surface<W> {
             KeepsLines scrollback.old.lines.items scrollback.new.lines.items) }
     {
         match change {
-            Change::Text(text) => self.print_text_scrolling(text.as_str(), scrollback)?,
+            Change::Text(text) => self.print_text_scrolling(text.as_str(), scrollback),
             Change::ScrollRegionUp {
                 first_row,
                 region_size,
                 scroll_count,
-            } => {
-                self.scroll_region_up_scrolling(
-                    *first_row,
-                    *region_size,
-                    *scroll_count,
-                    scrollback,
-                )?;
-            }
-            _ => self.apply(change)?,
+            } => self.scroll_region_up_scrolling(
+                *first_row,
+                *region_size,
+                *scroll_count,
+                scrollback,
+            ),
+            _ => self.apply(change),
         }
-        Ok(())
     }
 
     fn apply_lent_scrolling(
@@ -249,11 +246,10 @@ impl<W: Widths> Surface<W> {
             KeepsLines scrollback.old.lines.items scrollback.new.lines.items) }
     {
         match change {
-            LentChange::Text(text) => self.print_text_scrolling(text, scrollback)?,
-            LentChange::Title(title) => self.set_title(title)?,
-            LentChange::Owned(change) => self.apply_scrolling(change, scrollback)?,
+            LentChange::Text(text) => self.print_text_scrolling(text, scrollback),
+            LentChange::Title(title) => self.set_title(title),
+            LentChange::Owned(change) => self.apply_scrolling(change, scrollback),
         }
-        Ok(())
     }
 
     fn apply_all_lent_scrolling(

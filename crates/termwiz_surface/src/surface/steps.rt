@@ -91,8 +91,7 @@ impl<W: Widths> Surface<W> {
             (kept_of self.old) self.new) }
         ensures err { OnErr result (self.new ≡ self.old) }
     {
-        self.pen.apply_change(self.alloc, change)?;
-        Ok(())
+        self.pen.apply_change(self.alloc, change)
     }
 
     pub(super) fn place_cursor(&mut self, x: Position, y: Position)
@@ -178,12 +177,12 @@ impl<W: Widths> Surface<W> {
         ensures err { OnErr result (SameFrame self.old self.new) }
     {
         match change {
-            Change::Attribute(change) => self.change_pen(change)?,
+            Change::Attribute(change) => return self.change_pen(change),
             Change::AllAttributes(attrs) => self.pen = attrs.clone()?,
-            Change::Text(text) => self.print_text(text.as_str())?,
-            Change::ClearScreen(color) => self.clear_screen(color)?,
-            Change::ClearToEndOfLine(color) => self.clear_to_end_of_line(color)?,
-            Change::ClearToEndOfScreen(color) => self.clear_to_end_of_screen(color)?,
+            Change::Text(text) => return self.print_text(text.as_str()),
+            Change::ClearScreen(color) => return self.clear_screen(color),
+            Change::ClearToEndOfLine(color) => return self.clear_to_end_of_line(color),
+            Change::ClearToEndOfScreen(color) => return self.clear_to_end_of_screen(color),
             Change::CursorPosition { x, y } => self.place_cursor(*x, *y),
             Change::CursorColor(color) => self.color = *color,
             Change::CursorShape(shape) => self.shape = Some(*shape),
@@ -192,13 +191,13 @@ impl<W: Widths> Surface<W> {
                 first_row,
                 region_size,
                 scroll_count,
-            } => self.scroll_region_up(*first_row, *region_size, *scroll_count)?,
+            } => return self.scroll_region_up(*first_row, *region_size, *scroll_count),
             Change::ScrollRegionDown {
                 first_row,
                 region_size,
                 scroll_count,
-            } => self.scroll_region_down(*first_row, *region_size, *scroll_count)?,
-            Change::Title(title) => self.set_title(title.as_str())?,
+            } => return self.scroll_region_down(*first_row, *region_size, *scroll_count),
+            Change::Title(title) => return self.set_title(title.as_str()),
             Change::LineAttribute(attribute) => self.set_line_attribute(*attribute),
         }
         Ok(())

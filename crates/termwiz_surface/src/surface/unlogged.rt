@@ -69,11 +69,10 @@ impl<W: Widths> Surface<W> {
         ensures err { OnErr result (SameFrame self.old self.new) }
     {
         match change {
-            LentChange::Text(text) => self.print_text(text)?,
-            LentChange::Title(title) => self.set_title(title)?,
-            LentChange::Owned(change) => self.apply(change)?,
+            LentChange::Text(text) => self.print_text(text),
+            LentChange::Title(title) => self.set_title(title),
+            LentChange::Owned(change) => self.apply(change),
         }
-        Ok(())
     }
 
     fn apply_all_lent(&mut self, changes: &[LentChange<'_>]) -> Result<(), AllocError>

@@ -1,8 +1,10 @@
 //! Runs of events on one surface and several viewers.
-ghost use Rattle.std.specs.Prelude.{◌≡◌, IfOk, List, replicate};
+ghost use Rattle.std.specs.Prelude.{◌≡◌, IfOk, List, [], replicate};
 ghost use Rattle.termwiz_surface.specs.{All, AnswersTo, DeliversTo, Held, IsManyInRange};
 ghost use Rattle.termwiz_surface.specs.{IsManySchedule, IsSurfaceSize, Remembers, ResizesAs};
 ghost use Rattle.termwiz_surface.specs.{Serves, blank_viewer, measure};
+ghost use Rattle.termwiz_surface.specs.ManySchedule.{ManyState, RunsMany};
+ghost use Rattle.termwiz_surface.specs.ManySteps.{many_state};
 
 use super::serving::act;
 use super::waiting::Waiting;
@@ -65,11 +67,26 @@ pub fn run_many<W: Widths>(
 {
     let mut surface = Surface::new(alloc, width, height, widths)?;
     let mut seats = blank_viewers(alloc, &surface, viewers)?;
+    serve_all(alloc, &mut surface, &mut seats, events)
+}
+
+// Runs the events on a surface and its viewers, and returns one outcome for each.
+fn serve_all<W: Widths>(
+    alloc: Global,
+    surface: &mut Surface<W>,
+    viewers: &mut Vec<Viewer<W>>,
+    events: Vec<ManyEvent<W>>,
+) -> Result<Vec<ManyOutcome>, AllocError>
+    requires remembers { Remembers (measure W.width_of) surface.old viewers.old.items [] [] }
+    requires sizes { All IsManyInRange events.items }
+    ensures { IfOk result (λ outcomes. (end : ManyState W) × RunsMany (measure W.width_of)
+        (many_state surface.old viewers.old.items []) events.items outcomes.items end) }
+{
     let mut answers = Vec::new(alloc);
     let mut outcomes = Vec::new(alloc);
     let mut waiting = Waiting::new(events);
     while let Some(event) = waiting.next() {
-        outcomes.push(serve(alloc, &mut surface, &mut seats, &mut answers, event)?)?;
+        outcomes.push(serve(alloc, surface, viewers, &mut answers, event)?)?;
     }
     Ok(outcomes)
 }

@@ -1,7 +1,7 @@
 //! Changes.
-ghost use Rattle.std.specs.Prelude.{◌≡◌, ◌++◌, ◌+◌, ◌-◌, ◌≤◌, [], IfOk, List, None, ℕ};
+ghost use Rattle.std.specs.Prelude.{◌≡◌, ◌≢◌, ◌++◌, ◌+◌, ◌-◌, ◌≤◌, [], IfOk, List, None, ℕ};
 ghost use Rattle.std.specs.Prelude.{drop, length};
-ghost use Rattle.std.specs.Prelude.{map, true};
+ghost use Rattle.std.specs.Prelude.{false, map, true};
 ghost use Rattle.cbor.specs.Decoding.{Gives, allowed, ok};
 ghost use Rattle.termwiz_cell.specs.ChangeValue as changed;
 ghost use Rattle.termwiz_cell.specs.ChangeValue.{ChangeValue, change_value};
@@ -28,6 +28,7 @@ use crate::pieces::needed_runs;
 use cbor::{ReadError, Reader};
 use std::alloc::{AllocError, Global};
 use termwiz_cell::change::{Change, CursorShape, LineAttribute};
+use termwiz_cell::color::ColorAttribute;
 use termwiz_cell::emoji::Widths;
 use termwiz_surface::LentChange;
 
@@ -179,7 +180,10 @@ pub(super) fn change_of<'a, W: Widths>(
 {
     let count = count_of(reader)?;
     let kind = kind_of(reader, count)?;
-    values_of(alloc, widths, rows, count, kind, reader)
+    if kind == 2 {
+        return printed_of(alloc, widths, count, reader);
+    }
+    values_of(alloc, rows, kind, reader)
 }
 
 // How many items a change has: two to four.
@@ -227,39 +231,48 @@ fn has_count(kind: usize, count: usize) -> bool
     kind < 14 && (count == change_count(kind) || kind == 2 && count == 3)
 }
 
-// The change of this kind.
-fn values_of<'a, W: Widths>(
+// The change of this kind, which is no text.
+fn values_of<'a>(
     alloc: Global,
-    widths: &W,
     rows: Option<usize>,
-    count: usize,
     kind: usize,
     reader: &mut Reader<'a>,
 ) -> Result<LentChange<'a>, ReadError>
-    ensures value { Gives (allowed reader.new.room reader.new.bytes.now)
+    requires { kind ≢ 2 }
+    ensures value { (measure : List ℕ → ℕ) (count : ℕ) →
+        Gives (allowed reader.new.room reader.new.bytes.now)
         (λ x. (lent_value x, reader.new.bytes.now)) result
-        (change_by (measure W.width_of widths.now)
-        reader.old.room rows count kind reader.old.bytes.now) }
+        (change_by measure reader.old.room rows count kind reader.old.bytes.now) }
     ensures room { reader.new.room ≡ reader.old.room }
 {
     let change = match kind {
         0 => Change::Attribute(attribute_change_of(alloc, reader)?),
         1 => Change::AllAttributes(attributes_of(alloc, reader)?),
-        2 => return Ok(LentChange::Text(printed_of(alloc, widths, count, reader)?)),
-        3 => Change::ClearScreen(color_of(reader)?),
-        4 => Change::ClearToEndOfLine(color_of(reader)?),
-        5 => Change::ClearToEndOfScreen(color_of(reader)?),
-        6 => place_of(reader)?,
-        7 => Change::CursorColor(color_of(reader)?),
+        3 | 4 | 5 | 7 => colored(kind, color_of(reader)?),
+        6 => return place_of(reader),
         8 => Change::CursorShape(CursorShape::try_from(reader.below(7)? as u8).unwrap()),
         9 => Change::CursorVisibility(visibility_of(reader.boolean()?)),
-        10 => scroll_up_of(reader, rows)?,
-        11 => scroll_down_of(reader, rows)?,
+        10 | 11 => return scroll_of(reader, rows, kind == 10),
         12 => return Ok(LentChange::Title(reader.text()?)),
         13 => Change::LineAttribute(LineAttribute::try_from(reader.below(4)? as u8).unwrap()),
         _ => return Err(ReadError::Type),
     };
     Ok(LentChange::Owned(change))
+}
+
+// The change of this kind that has a colour.
+fn colored(kind: usize, color: ColorAttribute) -> Change
+    ensures screen { kind ≡ 3 → change_value result ≡ changed.ClearScreen color }
+    ensures line { kind ≡ 4 → change_value result ≡ changed.ClearToEndOfLine color }
+    ensures rest { kind ≡ 5 → change_value result ≡ changed.ClearToEndOfScreen color }
+    ensures cursor { kind ≡ 7 → change_value result ≡ changed.CursorColor color }
+{
+    match kind {
+        3 => Change::ClearScreen(color),
+        4 => Change::ClearToEndOfLine(color),
+        5 => Change::ClearToEndOfScreen(color),
+        _ => Change::CursorColor(color),
+    }
 }
 
 /// The change, with a text of its own.
@@ -281,16 +294,16 @@ fn printed_of<'a, W: Widths>(
     widths: &W,
     count: usize,
     reader: &mut Reader<'a>,
-) -> Result<&'a str, ReadError>
+) -> Result<LentChange<'a>, ReadError>
     ensures value { Gives (allowed reader.new.room reader.new.bytes.now)
-        (λ x. (changed.Text x.now, reader.new.bytes.now)) result
+        (λ x. (lent_value x, reader.new.bytes.now)) result
         (printed_at (measure W.width_of widths.now) reader.old.room count reader.old.bytes.now) }
     ensures room { reader.new.room ≡ reader.old.room }
 {
     let start = reader.bytes;
     let text = reader.text()?;
     pieces_of(alloc, widths, count, text, start, reader)?;
-    Ok(text)
+    Ok(LentChange::Text(text))
 }
 
 // The pieces of a text, if they come as a third item. The text has its own fault where it begins.
@@ -367,15 +380,15 @@ fn others_of<'a>(
 }
 
 #[tactic(auto, unfolding(crate::specs::Decoding::place_at))]
-fn place_of(reader: &mut Reader<'_>) -> Result<Change, ReadError>
+fn place_of<'a>(reader: &mut Reader<'a>) -> Result<LentChange<'a>, ReadError>
     ensures value { Gives (allowed reader.new.room reader.new.bytes.now)
-        (λ x. (change_value x, reader.new.bytes.now)) result
+        (λ x. (lent_value x, reader.new.bytes.now)) result
         (place_at reader.old.room reader.old.bytes.now) }
     ensures room { reader.new.room ≡ reader.old.room }
 {
     let x = position_of(reader)?;
     let y = position_of(reader)?;
-    Ok(Change::CursorPosition { x, y })
+    Ok(LentChange::Owned(Change::CursorPosition { x, y }))
 }
 
 // How many rows a region has that begins at row `first`.
@@ -410,36 +423,36 @@ fn is_on(rows: Option<usize>, first: usize, size: usize) -> bool
     }
 }
 
+// A scroll, up or down.
 #[tactic(auto, unfolding(crate::specs::Decoding::scroll_at))]
-fn scroll_up_of(reader: &mut Reader<'_>, rows: Option<usize>) -> Result<Change, ReadError>
-    ensures value { Gives (allowed reader.new.room reader.new.bytes.now)
-        (λ x. (change_value x, reader.new.bytes.now)) result
+fn scroll_of<'a>(
+    reader: &mut Reader<'a>,
+    rows: Option<usize>,
+    up: bool,
+) -> Result<LentChange<'a>, ReadError>
+    ensures up { up ≡ true → Gives (allowed reader.new.room reader.new.bytes.now)
+        (λ x. (lent_value x, reader.new.bytes.now)) result
         (scroll_at reader.old.room rows changed.ScrollRegionUp reader.old.bytes.now) }
-    ensures room { reader.new.room ≡ reader.old.room }
-{
-    let first_row = reader.unsigned()?;
-    let region_size = region_size_of(reader, rows, first_row)?;
-    let scroll_count = reader.unsigned()?;
-    Ok(Change::ScrollRegionUp {
-        first_row,
-        region_size,
-        scroll_count,
-    })
-}
-
-#[tactic(auto, unfolding(crate::specs::Decoding::scroll_at))]
-fn scroll_down_of(reader: &mut Reader<'_>, rows: Option<usize>) -> Result<Change, ReadError>
-    ensures value { Gives (allowed reader.new.room reader.new.bytes.now)
-        (λ x. (change_value x, reader.new.bytes.now)) result
+    ensures down { up ≡ false → Gives (allowed reader.new.room reader.new.bytes.now)
+        (λ x. (lent_value x, reader.new.bytes.now)) result
         (scroll_at reader.old.room rows changed.ScrollRegionDown reader.old.bytes.now) }
     ensures room { reader.new.room ≡ reader.old.room }
 {
     let first_row = reader.unsigned()?;
     let region_size = region_size_of(reader, rows, first_row)?;
     let scroll_count = reader.unsigned()?;
-    Ok(Change::ScrollRegionDown {
-        first_row,
-        region_size,
-        scroll_count,
-    })
+    let change = if up {
+        Change::ScrollRegionUp {
+            first_row,
+            region_size,
+            scroll_count,
+        }
+    } else {
+        Change::ScrollRegionDown {
+            first_row,
+            region_size,
+            scroll_count,
+        }
+    };
+    Ok(LentChange::Owned(change))
 }

@@ -1,44 +1,13 @@
-use Rattle.std.proofs.Common.{[], ◌∷◌, ◌++◌, refl, sym, ◌∙◌, ap, subst}
-use Rattle.std.proofs.lemmas.List.{append_assoc, append-nil}
-use Rattle.std.proofs.lemmas.List.Elements.{All-head, All-tail}
-use Rattle.std.specs.List.{All}
+use Rattle.std.proofs.Common.{false, refl}
 use Rattle.termwiz_cell.specs.Measure.{measure}
-use Rattle.termwiz_surface.specs.ManySchedule.{IsManyInRange, first_many, Ended}
-use Rattle.termwiz_surface.specs.ManySteps.{many_state}
-use Rattle.termwiz_surface.proofs.ManyRuns.{RunsMany-push, remembers-blank}
+use Rattle.termwiz_surface.specs.Surface.{blank_surface}
+use Rattle.termwiz_surface.proofs.ManyRuns.{remembers-blank}
 use Rattle.termwiz_surface.proofs.view.many.run_many.Goals as goal
 
-pub loop-event-init : goal.loop-event-init
-loop-event-init g c =
-    rw (c.in_ok-seats.ensures, c.in_ok-surface.ensures, c.new-outcomes.ensures.items, c.new-answers.ensures.items, c.new-waiting.ensures) (
-      [],
-      refl,
-      c.requires.sizes,
-      [],
-      remembers-blank (measure g.W.Widths.width_of) _ c.args.viewers refl,
-      Ended (first_many c.args.widths c.args.width c.args.height c.args.viewers),
-    )
-
-pub serve-requires : goal.serve-requires
-serve-requires g c =
-    let (done, all, in_range, held, remembers, run) = c.loop-event.invariant in
-    All-head IsManyInRange c.in-Some.event _ (subst (All IsManyInRange) c.in-Some.ensures in_range)
-
-pub loop-event-preserved : goal.loop-event-preserved
-loop-event-preserved g c =
-    let (done, all, in_range, held, remembers, run) = c.loop-event.invariant in
-    let event = c.in-Some.event in
-    let served = c.in_ok-serve.ensures held remembers in (
-      done ++ event ∷ [],
-      append_assoc done (event ∷ []) _ ∙ ap (λ waiting. done ++ waiting) (sym c.in-Some.ensures) ∙ all,
-      All-tail IsManyInRange event _ (subst (All IsManyInRange) c.in-Some.ensures in_range),
-      served.later,
-      served.remembers,
-      rw c.in_ok-push.ensures.items (RunsMany-push event c.in_ok-serve.field-0 (many_state c.serve.new.surface c.serve.new.viewers.items served.later) run served.allows),
-    )
+pub serve_all-requires-clause-remembers : goal.serve_all-requires-clause-remembers
+serve_all-requires-clause-remembers g c =
+    let first = blank_surface c.args.widths c.args.width c.args.height false in
+    rw (c.in_ok-seats.ensures, c.in_ok-surface.ensures) (remembers-blank (measure g.W.Widths.width_of) first c.args.viewers refl)
 
 pub returns : goal.returns
-returns g c =
-    let (done, all, in_range, held, remembers, run) = c.loop-event.invariant in
-    let whole = sym (append-nil done) ∙ ap (λ waiting. done ++ waiting) (sym c.in_default.ensures) ∙ all in
-    (many_state c.loop-event.surface c.loop-event.seats.items held, rw (← whole) run)
+returns g c = rw (c.in_ok-seats.ensures, c.in_ok-surface.ensures) at c.serve_all.ensures
